@@ -1,0 +1,57 @@
+//! Paragraphs and their fields.
+
+ghost use Rattle.std.specs.Prelude.{◌≡◌};
+ghost use Rattle.std.specs.List.{find};
+ghost use Rattle.std.specs.Option.{option_map};
+ghost use Rattle.std.specs.Str.{str_eq_ignore_ascii_case};
+
+use crate::line::is_same_name;
+use std::marker::Model;
+
+/// A field of a paragraph, in slices of the text that it was read from.
+#[derive(Debug, Drop)]
+pub struct Field<'a> {
+    pub name: &'a str,
+    /// The first line of the value.
+    pub first: &'a str,
+    /// The lines that go on with it, each without the blank before it.
+    pub more: Vec<&'a str>,
+}
+
+/// A paragraph: its fields in the order of the text.
+#[derive(Debug, Drop)]
+pub struct Paragraph<'a> {
+    pub(crate) fields: Vec<Field<'a>>,
+}
+
+fn find_field<'s, 'a>(fields: &'s [Field<'a>], name: &str) -> Option<&'s Field<'a>>
+    ensures { option_map (λ field. field.now) result ≡ find (λ field. str_eq_ignore_ascii_case field.name.now name.now) fields.now }
+{
+    fields.iter().find(|field| is_same_name(field.name, name))
+}
+
+impl<'a> Model for Paragraph<'a> {
+    ghost use Rattle.std.specs.Prelude.{List};
+    ghost use Rattle.para.specs.Field.{FieldValue, field_values};
+
+    ghost Value = { List FieldValue };
+
+    ghost view = { λ p. field_values p.fields.items };
+}
+
+impl<'a> Paragraph<'a> {
+    ghost use Rattle.para.specs.Field.{field_value, field_values};
+
+    pub fn fields(&self) -> &[Field<'a>]
+        ensures { field_values result.now ≡ self.now }
+    {
+        &self.fields
+    }
+
+    /// The field of that name, ASCII case ignored.
+    pub fn get(&self, name: &str) -> Option<&Field<'a>>
+        ensures { option_map (λ f. field_value f.now) result ≡ find (λ f. str_eq_ignore_ascii_case f.name name.now) self.now }
+    {
+        find_field(&self.fields, name)
+    }
+}

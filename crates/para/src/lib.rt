@@ -1,0 +1,24 @@
+//! Control paragraphs: the format of Debian's control files (Debian Policy 5.1).
+#![tactic(auto)]
+
+mod blanks;
+mod fault;
+mod field;
+mod laws;
+mod line;
+mod print;
+mod read;
+mod reader;
+mod text;
+mod value;
+
+pub use fault::ParaFault;
+pub use field::{Field, Paragraph};
+pub use laws::{one_reading, printed_again};
+pub use print::write;
+pub use read::{read_many, read_one};
+pub use text::{Listed, Text};
+pub use value::{fold, simple};
+
+#[cfg(test)]
+mod tests;

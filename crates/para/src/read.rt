@@ -1,0 +1,86 @@
+//! Paragraphs from a text.
+
+ghost use Rattle.std.specs.Prelude.{◌≡◌, ◌≢◌, ◌≤◌, List, [], ◌∷◌, MatchResult, IfOk, IfSome, length, Ok, ◌<◌, ℕ};
+ghost use Rattle.std.specs.Option.{option_map};
+ghost use Rattle.para.specs.declared.fault.ParaFault.TheVariants.{OutOfMemory};
+ghost use Rattle.para.specs.Field.{FieldValue};
+ghost use Rattle.para.specs.Fault.{many_fault, one_fault, IsJudged};
+ghost use Rattle.para.specs.Grammar.{lines, Spells};
+ghost use Rattle.para.specs.Reading.{reading, start, lines_of};
+ghost use Rattle.para.specs.ReaderState.{IsRefused};
+
+use crate::fault::ParaFault;
+use crate::field::Paragraph;
+use crate::reader::Reader;
+use std::alloc::Global;
+use std::str;
+
+/// The first line of a text, and what stands behind its newline, if it has one.
+fn split_line(text: &str) -> (&str, Option<&str>)
+    ensures lines { lines text.now ≡ result.0.now ∷ lines_of (option_map (λ rest. rest.now) result.1) }
+    ensures shorter { IfSome result.1 (λ rest. length rest.now < length text.now) }
+{
+    match text.split_once('\n') {
+        Some((line, rest)) => (line, Some(rest)),
+        None => (text, None),
+    }
+}
+
+fn read_lines<'a>(alloc: Global, text: &'a str) -> Result<Vec<Paragraph<'a>>, ParaFault>
+    ensures { MatchResult result (λ found. reading start 0 (lines text.now) ≡ Ok found.items) (λ fault. IsRefused fault (reading start 0 (lines text.now))) }
+{
+    let mut reader = Reader::new(alloc);
+    let mut rest = Some(text);
+    let mut number = 0;
+    while let Some(here) = rest {
+        let (line, behind) = split_line(here);
+        number += 1;
+        reader.line(number, line)?;
+        rest = behind;
+    }
+    Ok(reader.finish()?)
+}
+
+/// The paragraphs of a text, one or more.
+pub fn read_many<'a>(
+    alloc: Global,
+    text: &'a [u8],
+    limit: usize,
+) -> Result<Vec<Paragraph<'a>>, ParaFault>
+    // What is read is what the text spells.
+    ensures spelled { IfOk result (λ found. (length text.now ≤ limit) × (found.items ≢ []) × Spells text.now found.items) }
+    // No text spells two lists of paragraphs, and one that spells some is read unless memory runs out.
+    ensures only { (ps : List (List FieldValue)) → length text.now ≤ limit → ps ≢ [] → Spells text.now ps →
+        MatchResult result (λ found. found.items ≡ ps) (λ fault. fault ≡ OutOfMemory) }
+    // Which fault it is.
+    ensures judged { IsJudged result (many_fault text.now limit) }
+{
+    if text.len() > limit {
+        return Err(ParaFault::TooLong);
+    }
+    let Ok(text) = str::from_utf8(text) else {
+        return Err(ParaFault::NotUtf8);
+    };
+    let paragraphs = read_lines(alloc, text)?;
+    if paragraphs.is_empty() {
+        return Err(ParaFault::NoParagraph);
+    }
+    Ok(paragraphs)
+}
+
+/// The paragraph of a text, exactly one.
+pub fn read_one<'a>(alloc: Global, text: &'a [u8], limit: usize) -> Result<Paragraph<'a>, ParaFault>
+    // What is read is what the text spells.
+    ensures spelled { IfOk result (λ found. (length text.now ≤ limit) × Spells text.now (found ∷ [])) }
+    // No text spells two paragraphs in place of one, and one that spells one is read unless memory runs out.
+    ensures only { (p : List FieldValue) → length text.now ≤ limit → Spells text.now (p ∷ []) →
+        MatchResult result (λ found. found ≡ p) (λ fault. fault ≡ OutOfMemory) }
+    // Which fault it is.
+    ensures judged { IsJudged result (one_fault text.now limit) }
+{
+    let mut paragraphs = read_many(alloc, text, limit)?;
+    if paragraphs.len() > 1 {
+        return Err(ParaFault::SeveralParagraphs);
+    }
+    Ok(paragraphs.remove(0))
+}
