@@ -1,12 +1,12 @@
 -- Reading from the front gives what reading from the back gives.
-use Rattle.std.proofs.Common.{◌≡◌, ℕ, ◌+◌, ◌-◌, Bool, true, false, not, List, [], ◌∷◌, ◌++◌, length, drop, map, filter, reverse, Option, Some, None, Result, Ok, refl, sym, ◌∙◌, ap, arith, if◌then◌else◌, cond}
-use Rattle.std.proofs.lemmas.List.{append-nil, append_assoc, map-append, reverse-append, drop_all, drop-append-le, length_push}
+use Rattle.std.proofs.Common.{◌≡◌, ℕ, ◌+◌, ◌-◌, Bool, true, false, not, List, [], ◌∷◌, ◌++◌, length, drop, get_or, slice_get, map, filter, filter_map, reverse, Option, Some, None, Result, Ok, refl, sym, ◌∙◌, ap, arith, if◌then◌else◌, cond}
+use Rattle.std.proofs.lemmas.List.{append-nil, append_assoc, map-append, reverse-append, take_at, get_or_at, drop_all, drop-append-le, length_push}
 use Rattle.std.proofs.lemmas.List.Elements.{filter-append}
-use Rattle.std.specs.List.{after_last, prefix_len}
+use Rattle.std.specs.List.{after_last, prefix_len, range_with_len, cons_option}
 use Rattle.para.specs.declared.fault.ParaFault.{ParaFault}
 use Rattle.para.specs.Bytes.{Line, is_empty, begins_with_blank, is_field_line, name_part}
 use Rattle.para.specs.Field.{FieldValue}
-use Rattle.para.specs.Fault.{line_fault, or_else, first_fault, names_before}
+use Rattle.para.specs.Fault.{line_fault, or_else, fault_at, first_fault, names_before}
 use Rattle.para.specs.Reading.{State, tail, value_part, trimmed, ended, with_paragraph, finished, names_of, continued, after_line, unless, reading}
 
 -- What lines give: the ones that go on with a field before them, the fields behind those, and the paragraphs behind these.
@@ -134,13 +134,27 @@ names_before-push before line = ap (λ ls. map name_part (filter is_field_line l
     by_kind false true p q = ap (map name_part) (filter-append is_field_line (after_last is_empty before) (line ∷ []) ∙ (rw (p, q) (append-nil (filter is_field_line (after_last is_empty before)))))
     by_kind false false p q = ap (map name_part) (filter-append is_field_line (after_last is_empty before) (line ∷ []) ∙ (rw (p, q) refl)) ∙ map-append name_part (filter is_field_line (after_last is_empty before)) (line ∷ [])
 
-first_fault-from : (before ls : List Line) → first_fault before ls ≡ faults_from (names_before before) (length before) ls
+first_found : (fault : Option ParaFault) (faults : List ParaFault) → slice_get (cons_option fault faults) 0 ≡ or_else fault (slice_get faults 0)
+first_found None faults = refl
+first_found (Some f) faults = refl
+
+fault_at-here : (before : List Line) (line : Line) (ls : List Line) → fault_at (before ++ line ∷ ls) (length before) ≡ line_fault (names_before before) (length before + 1) line
+fault_at-here before line ls =
+    ap (λ x. line_fault (names_before x) (length before + 1) (get_or (before ++ line ∷ ls) (length before) [])) (take_at before (line ∷ ls) (length before) refl)
+    ∙ ap (line_fault (names_before before) (length before + 1)) (get_or_at before line ls [] (length before) refl)
+
+first_fault-from : (before ls : List Line) → slice_get (filter_map (fault_at (before ++ ls)) (range_with_len (length before) (length ls))) 0 ≡ faults_from (names_before before) (length before) ls
 first_fault-from before [] = refl
-first_fault-from before (line ∷ ls) = ap (or_else (line_fault (names_before before) (length before + 1) line))
-    (first_fault-from (before ++ line ∷ []) ls
+first_fault-from before (line ∷ ls) =
+    first_found (fault_at (before ++ line ∷ ls) (length before)) (filter_map (fault_at (before ++ line ∷ ls)) (range_with_len (length before + 1) (length ls)))
+    ∙ ap (λ x. or_else x (slice_get (filter_map (fault_at (before ++ line ∷ ls)) (range_with_len (length before + 1) (length ls))) 0)) (fault_at-here before line ls)
+    ∙ ap (or_else (line_fault (names_before before) (length before + 1) line))
+    (ap (λ x. slice_get (filter_map (fault_at x) (range_with_len (length before + 1) (length ls))) 0) (sym (append_assoc before (line ∷ []) ls))
+    ∙ ap (λ x. slice_get (filter_map (fault_at ((before ++ line ∷ []) ++ ls)) (range_with_len x (length ls))) 0) (sym (length_push before line))
+    ∙ first_fault-from (before ++ line ∷ []) ls
     ∙ ap (λ x. faults_from x (length (before ++ line ∷ [])) ls) (names_before-push before line)
     ∙ ap (λ x. faults_from (names_after (names_before before) line) x ls) (length_push before line))
 
 -- the first fault of lines is the one that reading meets
-pub first_fault-is : (ls : List Line) → first_fault [] ls ≡ faults_from [] 0 ls
+pub first_fault-is : (ls : List Line) → first_fault ls ≡ faults_from [] 0 ls
 first_fault-is ls = first_fault-from [] ls

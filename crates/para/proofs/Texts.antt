@@ -1,20 +1,22 @@
 -- What reading a text gives, and what its fault is.
-use Rattle.std.proofs.Common.{◌≡◌, ◌≢◌, ◌<◌, ◌≤◌, ℕ, suc, ◌+◌, Bool, true, false, not, ◌&&◌, ◌||◌, List, [], ◌∷◌, length, get_or, filter, Option, Some, None, Ok, Err, refl, sym, ◌∙◌, ap, subst, arith, cond, if◌then◌else◌, nat_lt}
+use Rattle.std.proofs.Common.{◌≡◌, ◌≢◌, ◌<◌, ◌≤◌, ℕ, suc, ◌+◌, Bool, true, false, not, ◌&&◌, ◌||◌, List, [], ◌∷◌, length, map, take, get_or, filter, take_while, Option, Some, None, Ok, Err, refl, sym, ◌∙◌, ap, subst, arith, cond, if◌then◌else◌, nat_lt}
 use Rattle.std.proofs.lemmas.Bool.Decides.{nat_tests}
 use Rattle.std.proofs.lemmas.Str.{IsUtf8-from_is_utf8, is_utf8-from_IsUtf8}
-use Rattle.std.specs.List.{list_any, slice_split, onto_first, AllByRecursion}
+use Rattle.std.proofs.lemmas.List.{length-map}
+use Rattle.std.specs.List.{list_any, slice_split, onto_first, prefix_len, AllByRecursion}
 use Rattle.std.specs.Str.{IsUtf8, is_utf8}
 use Rattle.para.specs.declared.fault.ParaFault.{ParaFault}
 use Rattle.para.specs.declared.fault.ParaFault.TheVariants.{OutOfMemory, NotUtf8, RefusedByte, BadName, NoColon, NoField, BlankLine, FieldTwice, NoParagraph, SeveralParagraphs, TooLong}
-use Rattle.para.specs.Bytes.{Line, is_nil, is_empty, is_newline, is_refused}
+use Rattle.para.specs.Bytes.{Line, is_nil, is_empty, is_newline, is_refused, begins_with_blank, name_part}
 use Rattle.para.specs.Field.{FieldValue}
 use Rattle.para.specs.Fault.{line_fault, or_else, groups, many_fault, one_fault, IsRefusal}
 use Rattle.para.specs.ReaderState.{IsRefused}
 use Rattle.para.specs.Grammar.{lines, Spells}
-use Rattle.para.specs.Reading.{unless, reading, start}
+use Rattle.para.specs.Reading.{unless, reading, start, tail, value_part, trimmed}
+use Rattle.para.specs.Fields.{field_of, fields_of}
 use Rattle.para.proofs.Lines.{or_false}
 use Rattle.para.proofs.Rest.{Rest, put, before_rest, rest_of, values_of, names_after, faults_from, reading-rest, first_fault-is}
-use Rattle.para.proofs.LineKinds.{Kind, gap, goes_on, starts, passes, kind, or_else_none}
+use Rattle.para.proofs.LineKinds.{Kind, GoesOn, Begins, gap, goes_on, starts, passes, kind, or_else_none}
 use Rattle.para.proofs.FoundLines.{found, spelled_lem, before-gap, before-goes_on, before-begins}
 use Rattle.para.proofs.SpelledLines.{AreAllowed, reads_all}
 
@@ -60,36 +62,67 @@ record Grouped (ls : List Line) (r : Rest) : Type 0 where
   first : List Line
   others : List (List Line)
   splits : slice_split is_empty ls ≡ first ∷ others
-  count : length (filter some_lines others) ≡ length r.paragraphs
+  paragraphs : map fields_of (filter some_lines others) ≡ r.paragraphs
+  fields : fields_of first ≡ r.fields
+  more : map tail (take_while begins_with_blank first) ≡ r.more
   nil : is_nil first ≡ (is_nil r.more && is_nil r.fields)
 
-counted : (first : List Line) (others : List (List Line)) (fields : List FieldValue) (ps : List (List FieldValue)) → is_nil first ≡ is_nil fields → length (filter some_lines others) ≡ length ps
-    → length (filter some_lines (first ∷ others)) ≡ length (put fields ps)
-counted [] others [] ps e h = h
-counted [] others (f ∷ fs) ps e h = absurd (cc)
-counted (x ∷ xs) others [] ps e h = absurd (cc)
-counted (x ∷ xs) others (f ∷ fs) ps e h = ap suc h
+-- the first of the groups, if it is one, with those behind it
+with_first : (first : List Line) (others : List (List Line)) (fields : List FieldValue) (ps : List (List FieldValue)) → is_nil first ≡ is_nil fields → fields_of first ≡ fields → map fields_of (filter some_lines others) ≡ ps
+    → map fields_of (filter some_lines (first ∷ others)) ≡ put fields ps
+with_first [] others [] ps e f h = h
+with_first [] others (f ∷ fs) ps e k h = absurd (cc)
+with_first (x ∷ xs) others [] ps e k h = absurd (cc)
+with_first (x ∷ xs) others (f ∷ fs) ps e k h = ap (λ x. x ∷ map fields_of (filter some_lines others)) k ∙ ap (λ x. (f ∷ fs) ∷ x) h
+
+take_while_on : (line : Line) (ls : List Line) → begins_with_blank line ≡ true → take_while begins_with_blank (line ∷ ls) ≡ line ∷ take_while begins_with_blank ls
+take_while_on line ls e = ap (λ t. take (cond t (1 + prefix_len begins_with_blank ls) 0) (line ∷ ls)) e
+    ∙ (let k : 1 + prefix_len begins_with_blank ls ≡ suc (prefix_len begins_with_blank ls) = omega arith in ap (λ n. take n (line ∷ ls)) k)
+
+take_while_end : (line : Line) (ls : List Line) → begins_with_blank line ≡ false → take_while begins_with_blank (line ∷ ls) ≡ []
+take_while_end line ls e = ap (λ t. take (cond t (1 + prefix_len begins_with_blank ls) 0) (line ∷ ls)) e
 
 grouped-gap : (line : Line) (ls : List Line) (r : Rest) → is_empty line ≡ true → r.more ≡ [] → Grouped ls r → Grouped (line ∷ ls) (record { more = []; fields = []; paragraphs = put r.fields r.paragraphs })
 grouped-gap line ls r e m g = record {
   first = [];
   others = g.first ∷ g.others;
   splits = ap (λ t. cond t ([] ∷ slice_split is_empty ls) (onto_first line (slice_split is_empty ls))) e ∙ ap (λ x. [] ∷ x) g.splits;
-  count = counted g.first g.others r.fields r.paragraphs (g.nil ∙ ap (λ x. is_nil x && is_nil r.fields) m) g.count;
+  paragraphs = with_first g.first g.others r.fields r.paragraphs (g.nil ∙ ap (λ x. is_nil x && is_nil r.fields) m) g.fields g.paragraphs;
+  fields = refl;
+  more = refl;
   nil = refl;
 }
 
-grouped-onto : (line : Line) (ls : List Line) (r s : Rest) → is_empty line ≡ false → s.paragraphs ≡ r.paragraphs → (is_nil s.more && is_nil s.fields) ≡ false → Grouped ls r → Grouped (line ∷ ls) s
-grouped-onto line ls r s e p f g = record {
+onto-splits : (line : Line) (ls : List Line) (first : List Line) (others : List (List Line)) → is_empty line ≡ false → slice_split is_empty ls ≡ first ∷ others → slice_split is_empty (line ∷ ls) ≡ (line ∷ first) ∷ others
+onto-splits line ls first others e h = ap (λ t. cond t ([] ∷ slice_split is_empty ls) (onto_first line (slice_split is_empty ls))) e ∙ ap (onto_first line) h
+
+grouped-goes_on : (names : List (List ℕ)) (line : Line) (ls : List Line) (r : Rest) → GoesOn names line → Grouped ls r → Grouped (line ∷ ls) (record { more = tail line ∷ r.more; fields = r.fields; paragraphs = r.paragraphs })
+grouped-goes_on names line ls r k g = record {
   first = line ∷ g.first;
   others = g.others;
-  splits = ap (λ t. cond t ([] ∷ slice_split is_empty ls) (onto_first line (slice_split is_empty ls))) e ∙ ap (onto_first line) g.splits;
-  count = g.count ∙ sym (ap length p);
-  nil = sym f;
+  splits = onto-splits line ls g.first g.others k.filled g.splits;
+  paragraphs = g.paragraphs;
+  fields = ap (λ t. if t then fields_of g.first else field_of line g.first ∷ fields_of g.first) k.begins ∙ g.fields;
+  more = ap (map tail) (take_while_on line g.first k.begins) ∙ ap (λ x. tail line ∷ x) g.more;
+  nil = refl;
+}
+
+grouped-begins : (names : List (List ℕ)) (line : Line) (ls : List Line) (r : Rest) → Begins names line → Grouped ls r
+    → Grouped (line ∷ ls) (record { more = []; fields = trimmed (record { name = name_part line; first = value_part line; more = r.more }) ∷ r.fields; paragraphs = r.paragraphs })
+grouped-begins names line ls r k g = record {
+  first = line ∷ g.first;
+  others = g.others;
+  splits = onto-splits line ls g.first g.others k.filled g.splits;
+  paragraphs = g.paragraphs;
+  fields = ap (λ t. if t then fields_of g.first else field_of line g.first ∷ fields_of g.first) k.begins
+      ∙ ap (λ m. trimmed (record { name = name_part line; first = value_part line; more = m }) ∷ fields_of g.first) g.more
+      ∙ ap (λ fs. trimmed (record { name = name_part line; first = value_part line; more = r.more }) ∷ fs) g.fields;
+  more = ap (map tail) (take_while_end line g.first k.begins);
+  nil = refl;
 }
 
 grouped : (names : List (List ℕ)) (n : ℕ) (ls : List Line) → faults_from names n ls ≡ None → Grouped ls (rest_of ls)
-grouped names n [] h = record { first = []; others = []; splits = refl; count = refl; nil = refl }
+grouped names n [] h = record { first = []; others = []; splits = refl; paragraphs = refl; fields = refl; more = refl; nil = refl }
 grouped names n (line ∷ ls) h =
     let r = or_else_none (line_fault names (n + 1) line) (faults_from (names_after names line) (n + 1) ls) h in
     by_kind (kind names line (passes names (n + 1) line r.0)) r.1 (grouped (names_after names line) (n + 1) ls r.1)
@@ -100,17 +133,25 @@ grouped names n (line ∷ ls) h =
         let P : List (List ℕ) → Type 0 = λ x. faults_from x (n + 1) ls ≡ None in
         let Q : Rest → Type 0 = λ x. Grouped (line ∷ ls) x in
         subst Q (sym e.1) (grouped-gap line ls (rest_of ls) k.empty ((found [] (n + 1) ls (subst P e.0 h1)).behind refl) rec)
-    by_kind (goes_on k) h1 rec = let e = before-goes_on names line (rest_of ls) k in grouped-onto line ls (rest_of ls) (before_rest line (rest_of ls)) k.filled (ap (λ x. x.paragraphs) e.1) (ap (λ x. is_nil x.more && is_nil x.fields) e.1) rec
-    by_kind (starts k) h1 rec = let e = before-begins names line (rest_of ls) k in grouped-onto line ls (rest_of ls) (before_rest line (rest_of ls)) k.filled (ap (λ x. x.paragraphs) e.1) (ap (λ x. is_nil x.more && is_nil x.fields) e.1) rec
+    by_kind (goes_on k) h1 rec =
+        let Q : Rest → Type 0 = λ x. Grouped (line ∷ ls) x in
+        subst Q (sym (before-goes_on names line (rest_of ls) k).1) (grouped-goes_on names line ls (rest_of ls) k rec)
+    by_kind (starts k) h1 rec =
+        let Q : Rest → Type 0 = λ x. Grouped (line ∷ ls) x in
+        subst Q (sym (before-begins names line (rest_of ls) k).1) (grouped-begins names line ls (rest_of ls) k rec)
+
+-- The groups of lines are the paragraphs that are read.
+groups_values : (ls : List Line) → faults_from [] 0 ls ≡ None → map fields_of (groups ls) ≡ values_of ls
+groups_values ls h =
+    let g = grouped [] 0 ls h in
+    ap (λ x. map fields_of (filter some_lines x)) g.splits
+    ∙ with_first g.first g.others (rest_of ls).fields (rest_of ls).paragraphs (g.nil ∙ ap (λ x. is_nil x && is_nil (rest_of ls).fields) ((found [] 0 ls h).behind refl)) g.fields g.paragraphs
 
 groups_count : (ls : List Line) → faults_from [] 0 ls ≡ None → length (groups ls) ≡ length (values_of ls)
-groups_count ls h =
-    let g = grouped [] 0 ls h in
-    ap (λ x. length (filter some_lines x)) g.splits
-    ∙ counted g.first g.others (rest_of ls).fields (rest_of ls).paragraphs (g.nil ∙ ap (λ x. is_nil x && is_nil (rest_of ls).fields) ((found [] 0 ls h).behind refl)) g.count
+groups_count ls h = sym (length-map (groups ls) fields_of) ∙ ap length (groups_values ls h)
 
 -- ---- texts
-reading-start : (ls : List Line) → reading start 0 ls ≡ unless (faults_from [] 0 ls) (Ok (values_of ls))
+pub reading-start : (ls : List Line) → reading start 0 ls ≡ unless (faults_from [] 0 ls) (Ok (values_of ls))
 reading-start ls = reading-rest start 0 ls
 
 ok_unless : (fault : Option ParaFault) (ps qs : List (List FieldValue)) → unless fault (Ok ps) ≡ Ok qs → (fault ≡ None) × (ps ≡ qs)
@@ -165,7 +206,7 @@ same_nil (x ∷ xs) (y ∷ ys) h = refl
 -- What is read is spelled, and this is the fault.
 pub record ReadText (text : List ℕ) (limit : ℕ) (ps : List (List FieldValue)) : Type 0 where
   pub spelled : Spells text ps
-  pub count : length (groups (lines text)) ≡ length ps
+  pub values : map fields_of (groups (lines text)) ≡ ps
   pub fault : many_fault text limit ≡ (if is_nil ps then Some NoParagraph else None)
 
 pub read_text : (text : List ℕ) (limit : ℕ) (ps : List (List FieldValue)) → length text ≤ limit → IsUtf8 text → reading start 0 (lines text) ≡ Ok ps → ReadText text limit ps
@@ -173,11 +214,11 @@ read_text text limit ps h u e =
     let r = ok_unless (faults_from [] 0 (lines text)) (values_of (lines text)) ps (sym (reading-start (lines text)) ∙ e) in
     let s = spelled_lem 0 (lines text) r.0 in
     let P : List (List FieldValue) → Type 0 = λ x. Spells text x in
-    let count : length (groups (lines text)) ≡ length ps = groups_count (lines text) r.0 ∙ ap length r.1 in
+    let values : map fields_of (groups (lines text)) ≡ ps = groups_values (lines text) r.0 ∙ r.1 in
     record {
       spelled = subst P r.1 (record { utf8 = u; allowed = lines-allowed text (no_fault-allowed [] 0 (lines text) r.0); paragraphs = s.all; spelled = s.paragraphs });
-      count = count;
-      fault = judged text limit h u ∙ ap (λ x. or_else x (if is_nil (groups (lines text)) then Some NoParagraph else None)) r.0 ∙ ap (λ t. if t then Some NoParagraph else None) (same_nil (groups (lines text)) ps count);
+      values = values;
+      fault = judged text limit h u ∙ ap (λ x. or_else x (if is_nil (groups (lines text)) then Some NoParagraph else None)) r.0 ∙ ap (λ t. if t then Some NoParagraph else None) (same_nil (groups (lines text)) ps (sym (length-map (groups (lines text)) fields_of) ∙ ap length values));
     }
 
 pub refused_text : (text : List ℕ) (limit : ℕ) (e : ParaFault) → length text ≤ limit → IsUtf8 text → reading start 0 (lines text) ≡ Err e → many_fault text limit ≡ Some e

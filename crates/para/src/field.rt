@@ -11,6 +11,7 @@ use std::marker::Model;
 /// A field of a paragraph, in slices of the text that it was read from.
 #[derive(Debug, Drop)]
 pub struct Field<'a> {
+    /// The name, as it is spelled.
     pub name: &'a str,
     /// The first line of the value.
     pub first: &'a str,
@@ -41,16 +42,18 @@ impl<'a> Model for Paragraph<'a> {
 
 impl<'a> Paragraph<'a> {
     ghost use Rattle.para.specs.Field.{field_value, field_values};
+    ghost use Rattle.para.specs.Fields.{field_named};
 
+    /// The fields, in the order of the text.
     pub fn fields(&self) -> &[Field<'a>]
         ensures { field_values result.now ≡ self.now }
     {
         &self.fields
     }
 
-    /// The field of that name, ASCII case ignored.
+    /// The field of that name, ASCII case ignored, if there is one (Debian Policy 5.1).
     pub fn get(&self, name: &str) -> Option<&Field<'a>>
-        ensures { option_map (λ f. field_value f.now) result ≡ find (λ f. str_eq_ignore_ascii_case f.name name.now) self.now }
+        ensures { option_map (λ f. field_value f.now) result ≡ field_named name.now self.now }
     {
         find_field(&self.fields, name)
     }

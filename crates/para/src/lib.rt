@@ -14,8 +14,8 @@ mod value;
 
 pub use fault::ParaFault;
 pub use field::{Field, Paragraph};
-pub use laws::{one_reading, printed_again};
-pub use print::write;
+pub use laws::{one_paragraph, one_reading, printed_again, several_paragraphs};
+pub use print::{write, write_field, write_line};
 pub use read::{read_many, read_one};
 pub use text::{Listed, Text};
 pub use value::{fold, simple};

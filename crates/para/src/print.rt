@@ -1,26 +1,16 @@
 //! The text of a paragraph.
 
-ghost use Rattle.std.specs.Prelude.{◌≡◌, ◌++◌, OnOk, IfErr, length, take, map};
+ghost use Rattle.std.specs.Prelude.{◌≡◌, ◌≤◌, [], ◌∷◌, ◌++◌, OnOk, IfErr, Ok, length, take, map};
 ghost use Rattle.std.specs.List.{flat_map};
 ghost use Rattle.para.specs.declared.fault.ParaFault.TheVariants.{OutOfMemory};
-ghost use Rattle.para.specs.Field.{field_value, field_values};
-ghost use Rattle.para.specs.Printing.{first_text, more_text, head_text, field_text, paragraph_text};
+ghost use Rattle.para.specs.Field.{field_values};
+ghost use Rattle.para.specs.Printing.{first_text, more_text, field_text, paragraph_text};
 
 use crate::fault::ParaFault;
 use crate::field::{Field, Paragraph};
 use std::alloc::AllocError;
 
-fn write_more(lines: &[&str], out: &mut Vec<u8>) -> Result<(), AllocError>
-    ensures ok { OnOk result (out.new.items ≡ out.old.items ++ flat_map more_text (map (λ line. line.now) lines.now)) }
-    ensures front { take (length out.old.items) out.new.items ≡ out.old.items }
-{
-    for line in lines {
-        write_line(line, out)?;
-    }
-    Ok(())
-}
-
-fn write_line(line: &str, out: &mut Vec<u8>) -> Result<(), AllocError>
+fn push_line(line: &str, out: &mut Vec<u8>) -> Result<(), AllocError>
     ensures ok { OnOk result (out.new.items ≡ out.old.items ++ more_text line.now) }
     ensures front { take (length out.old.items) out.new.items ≡ out.old.items }
 {
@@ -30,7 +20,17 @@ fn write_line(line: &str, out: &mut Vec<u8>) -> Result<(), AllocError>
     Ok(())
 }
 
-fn write_first(line: &str, out: &mut Vec<u8>) -> Result<(), AllocError>
+fn push_lines(lines: &[&str], out: &mut Vec<u8>) -> Result<(), AllocError>
+    ensures ok { OnOk result (out.new.items ≡ out.old.items ++ flat_map more_text (map (λ line. line.now) lines.now)) }
+    ensures front { take (length out.old.items) out.new.items ≡ out.old.items }
+{
+    for line in lines {
+        push_line(line, out)?;
+    }
+    Ok(())
+}
+
+fn push_first(line: &str, out: &mut Vec<u8>) -> Result<(), AllocError>
     ensures ok { OnOk result (out.new.items ≡ out.old.items ++ first_text line.now) }
     ensures front { take (length out.old.items) out.new.items ≡ out.old.items }
 {
@@ -41,44 +41,86 @@ fn write_first(line: &str, out: &mut Vec<u8>) -> Result<(), AllocError>
     Ok(())
 }
 
-fn write_head(field: &Field<'_>, out: &mut Vec<u8>) -> Result<(), AllocError>
-    ensures ok { OnOk result (out.new.items ≡ out.old.items ++ head_text (field_value field.now)) }
+fn push_head(name: &str, first: &str, out: &mut Vec<u8>) -> Result<(), AllocError>
+    ensures ok { OnOk result (out.new.items ≡ out.old.items ++ (name.now ++ (58 ∷ (first_text first.now ++ 10 ∷ [])))) }
     ensures front { take (length out.old.items) out.new.items ≡ out.old.items }
 {
-    out.extend_from_slice(field.name.as_bytes())?;
+    out.extend_from_slice(name.as_bytes())?;
     out.push(b':')?;
-    write_first(field.first, out)?;
+    push_first(first, out)?;
     out.push(b'\n')?;
     Ok(())
 }
 
-fn write_field(field: &Field<'_>, out: &mut Vec<u8>) -> Result<(), AllocError>
-    ensures ok { OnOk result (out.new.items ≡ out.old.items ++ field_text (field_value field.now)) }
+fn push_field(name: &str, first: &str, more: &[&str], out: &mut Vec<u8>) -> Result<(), AllocError>
+    ensures ok { OnOk result (out.new.items ≡ out.old.items ++ field_text (record { name = name.now; first = first.now; more = map (λ line. line.now) more.now })) }
     ensures front { take (length out.old.items) out.new.items ≡ out.old.items }
 {
-    write_head(field, out)?;
-    write_more(&field.more, out)
+    push_head(name, first, out)?;
+    push_lines(more, out)
 }
 
-fn write_fields(fields: &[Field<'_>], out: &mut Vec<u8>) -> Result<(), AllocError>
+fn push_fields(fields: &[Field<'_>], out: &mut Vec<u8>) -> Result<(), AllocError>
     ensures ok { OnOk result (out.new.items ≡ out.old.items ++ paragraph_text (field_values fields.now)) }
     ensures front { take (length out.old.items) out.new.items ≡ out.old.items }
 {
     for field in fields {
-        write_field(field, out)?;
+        push_field(field.name, field.first, &field.more, out)?;
     }
     Ok(())
 }
 
-/// Appends the text of a paragraph.
+/// Takes back what stands behind the first `len` bytes, where not all was written.
+fn cut_unless_written(
+    written: Result<(), AllocError>,
+    len: usize,
+    out: &mut Vec<u8>,
+) -> Result<(), ParaFault>
+    requires { len ≤ length out.old.items }
+    ensures ok { OnOk result ((written ≡ Ok tt) × (out.new.items ≡ out.old.items)) }
+    ensures err { IfErr result (λ fault. (fault ≡ OutOfMemory) × (out.new.items ≡ take len out.old.items)) }
+{
+    if written.is_err() {
+        out.truncate(len);
+    }
+    Ok(written?)
+}
+
+/// Appends a line that goes on with a field: a space, the line and a newline (own rule of this
+/// archive). It is refused for want of memory alone, and the output is then as before.
+pub fn write_line(line: &str, out: &mut Vec<u8>) -> Result<(), ParaFault>
+    ensures ok { OnOk result (out.new.items ≡ out.old.items ++ more_text line.now) }
+    ensures err { IfErr result (λ fault. (fault ≡ OutOfMemory) × (out.new.items ≡ out.old.items)) }
+{
+    let len = out.len();
+    let written = push_line(line, out);
+    cut_unless_written(written, len, out)
+}
+
+/// Appends a field: its name, a colon, the first line of its value behind a space if it is not
+/// empty, a newline, and the lines that go on with it (own rule of this archive). It is refused for
+/// want of memory alone, and the output is then as before.
+pub fn write_field(
+    name: &str,
+    first: &str,
+    more: &[&str],
+    out: &mut Vec<u8>,
+) -> Result<(), ParaFault>
+    ensures ok { OnOk result (out.new.items ≡ out.old.items ++ field_text (record { name = name.now; first = first.now; more = map (λ line. line.now) more.now })) }
+    ensures err { IfErr result (λ fault. (fault ≡ OutOfMemory) × (out.new.items ≡ out.old.items)) }
+{
+    let len = out.len();
+    let written = push_field(name, first, more, out);
+    cut_unless_written(written, len, out)
+}
+
+/// Appends the fields of a paragraph, one after the other. It is refused for want of memory alone,
+/// and the output is then as before.
 pub fn write(paragraph: &Paragraph<'_>, out: &mut Vec<u8>) -> Result<(), ParaFault>
     ensures ok { OnOk result (out.new.items ≡ out.old.items ++ paragraph_text paragraph.now) }
     ensures err { IfErr result (λ fault. (fault ≡ OutOfMemory) × (out.new.items ≡ out.old.items)) }
 {
     let len = out.len();
-    let written = write_fields(&paragraph.fields, out);
-    if written.is_err() {
-        out.truncate(len);
-    }
-    Ok(written?)
+    let written = push_fields(&paragraph.fields, out);
+    cut_unless_written(written, len, out)
 }

@@ -1,9 +1,10 @@
 //! Paragraphs from a text.
 
-ghost use Rattle.std.specs.Prelude.{◌≡◌, ◌≢◌, ◌≤◌, List, [], ◌∷◌, MatchResult, IfOk, IfSome, length, Ok, ◌<◌, ℕ};
+ghost use Rattle.std.specs.Prelude.{◌≡◌, ◌≢◌, ◌≤◌, ◌⊎◌, List, [], ◌∷◌, MatchResult, IfOk, IfErr, IfSome, length, Ok, Err, ◌<◌, ℕ};
 ghost use Rattle.std.specs.Option.{option_map};
 ghost use Rattle.para.specs.declared.fault.ParaFault.TheVariants.{OutOfMemory};
 ghost use Rattle.para.specs.Field.{FieldValue};
+ghost use Rattle.para.specs.Fields.{paragraphs_in, fields_in};
 ghost use Rattle.para.specs.Fault.{many_fault, one_fault, IsJudged};
 ghost use Rattle.para.specs.Grammar.{lines, Spells};
 ghost use Rattle.para.specs.Reading.{reading, start, lines_of};
@@ -41,7 +42,12 @@ fn read_lines<'a>(alloc: Global, text: &'a str) -> Result<Vec<Paragraph<'a>>, Pa
     Ok(reader.finish()?)
 }
 
-/// The paragraphs of a text, one or more.
+/// The paragraphs of a text, one or more (Debian Policy 5.1). Names and lines are slices of it.
+///
+/// A text longer than `limit` bytes is refused first (P10), then one that is not UTF-8 (P1), then
+/// one with a line at fault (P2 to P7, with the number of the first such line), then one without a
+/// paragraph (P8). Own rules of this archive: more than one empty line may part two paragraphs, and
+/// a line of blanks alone and a control character are refused.
 pub fn read_many<'a>(
     alloc: Global,
     text: &'a [u8],
@@ -54,6 +60,9 @@ pub fn read_many<'a>(
         MatchResult result (λ found. found.items ≡ ps) (λ fault. fault ≡ OutOfMemory) }
     // Which fault it is.
     ensures judged { IsJudged result (many_fault text.now limit) }
+    // The same, by what the text gives.
+    ensures read { IfOk result (λ found. paragraphs_in text.now limit ≡ Ok found.items) }
+    ensures refused { IfErr result (λ e. (e ≡ OutOfMemory) ⊎ (paragraphs_in text.now limit ≡ Err e)) }
 {
     if text.len() > limit {
         return Err(ParaFault::TooLong);
@@ -68,7 +77,9 @@ pub fn read_many<'a>(
     Ok(paragraphs)
 }
 
-/// The paragraph of a text, exactly one.
+/// The paragraph of a text, exactly one (Debian Policy 5.1). Names and lines are slices of it.
+///
+/// A text is refused as by `read_many`, and last where it has more than one paragraph (P9).
 pub fn read_one<'a>(alloc: Global, text: &'a [u8], limit: usize) -> Result<Paragraph<'a>, ParaFault>
     // What is read is what the text spells.
     ensures spelled { IfOk result (λ found. (length text.now ≤ limit) × Spells text.now (found ∷ [])) }
@@ -77,6 +88,9 @@ pub fn read_one<'a>(alloc: Global, text: &'a [u8], limit: usize) -> Result<Parag
         MatchResult result (λ found. found ≡ p) (λ fault. fault ≡ OutOfMemory) }
     // Which fault it is.
     ensures judged { IsJudged result (one_fault text.now limit) }
+    // The same, by what the text gives.
+    ensures read { IfOk result (λ found. fields_in text.now limit ≡ Ok found) }
+    ensures refused { IfErr result (λ e. (e ≡ OutOfMemory) ⊎ (fields_in text.now limit ≡ Err e)) }
 {
     let mut paragraphs = read_many(alloc, text, limit)?;
     if paragraphs.len() > 1 {

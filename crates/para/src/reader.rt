@@ -2,7 +2,6 @@
 
 ghost use Rattle.std.specs.Prelude.{◌≡◌, IfOk, OnOk, true, false};
 ghost use Rattle.std.specs.List.{list_any};
-ghost use Rattle.std.specs.Str.{str_eq_ignore_ascii_case};
 ghost use Rattle.para.specs.Bytes.{is_refused, is_empty, begins_with_blank};
 ghost use Rattle.para.specs.Field.{field_value};
 ghost use Rattle.para.specs.Fault.{line_fault, IsJudged};
@@ -11,8 +10,9 @@ ghost use Rattle.para.specs.Reading.{trimmed, start, names_of, finished, IsStart
 use crate::blanks::{trim_end_blanks, trim_start_blanks, without_blank};
 use crate::fault::ParaFault;
 use crate::field::{Field, Paragraph};
-use crate::line::{has_content, has_refused_byte, is_name, is_same_name, split_name};
+use crate::line::{has_content, has_refused_byte, is_name, split_name};
 use std::alloc::{AllocError, Global};
+use std::collections::BTreeSet;
 use std::mem;
 
 /// What is read so far.
@@ -25,6 +25,8 @@ pub struct Reader<'a> {
     fields: Vec<Field<'a>>,
     /// The field that did not, with the blanks behind its last line.
     current: Option<Field<'a>>,
+    /// The names of them all, in lower case.
+    names: BTreeSet<String>,
 }
 
 /// Drops the blanks behind the last line of a value.
@@ -39,32 +41,29 @@ fn trim_last_line(field: &mut Field<'_>)
     }
 }
 
-/// Whether one of the fields has that name, ASCII case ignored.
-fn has_field(fields: &[Field<'_>], name: &str) -> bool
-    ensures { result ≡ list_any (λ field. str_eq_ignore_ascii_case field.name.now name.now) fields.now }
-{
-    fields.iter().any(|field| is_same_name(field.name, name))
-}
-
 impl<'a> Reader<'a> {
-    ghost use Rattle.para.specs.ReaderState.{state};
+    ghost use Rattle.para.specs.ReaderState.{state, HasNames};
 
     pub fn new(alloc: Global) -> Reader<'a>
-        ensures { state result ≡ start }
+        ensures start { state result ≡ start }
+        ensures names { HasNames result }
     {
         Reader {
             alloc,
             paragraphs: Vec::new(alloc),
             fields: Vec::new(alloc),
             current: None,
+            names: BTreeSet::new(alloc),
         }
     }
 
     /// Takes the next line.
     pub fn line(&mut self, number: usize, line: &'a str) -> Result<(), ParaFault>
-        requires { IsStarted (state self.old) }
+        requires started { IsStarted (state self.old) }
+        requires names { HasNames self.old }
         ensures judged { IsJudged result (line_fault (names_of (state self.old)) number line.now) }
         ensures ok { OnOk result (state self.new ≡ after_line (state self.old) line.now) }
+        ensures names { OnOk result (HasNames self.new) }
     {
         if has_refused_byte(line) {
             return Err(ParaFault::RefusedByte(number));
@@ -89,8 +88,10 @@ impl<'a> Reader<'a> {
         requires allowed { list_any is_refused line.now ≡ false }
         requires filled { is_empty line.now ≡ false }
         requires begins { begins_with_blank line.now ≡ false }
+        requires names { HasNames self.old }
         ensures judged { IsJudged result (line_fault (names_of (state self.old)) number line.now) }
         ensures ok { OnOk result (state self.new ≡ after_line (state self.old) line.now) }
+        ensures names { OnOk result (HasNames self.new) }
     {
         let (name, value) = split_name(line);
         if !is_name(name) {
@@ -100,7 +101,8 @@ impl<'a> Reader<'a> {
             return Err(ParaFault::NoColon(number));
         };
         self.end_field()?;
-        if has_field(&self.fields, name) {
+        let is_new = self.names.insert(name.to_ascii_lowercase(self.alloc)?)?;
+        if !is_new {
             return Err(ParaFault::FieldTwice(number));
         }
         self.current = Some(Field {
@@ -115,8 +117,10 @@ impl<'a> Reader<'a> {
         requires allowed { list_any is_refused line.now ≡ false }
         requires goes_on { begins_with_blank line.now ≡ true }
         requires started { IsStarted (state self.old) }
+        requires names { HasNames self.old }
         ensures judged { IsJudged result (line_fault (names_of (state self.old)) number line.now) }
         ensures ok { OnOk result (state self.new ≡ after_line (state self.old) line.now) }
+        ensures names { OnOk result (HasNames self.new) }
     {
         if !has_content(line) {
             return Err(ParaFault::BlankLine(number));
@@ -131,7 +135,8 @@ impl<'a> Reader<'a> {
     }
 
     fn end_field(&mut self) -> Result<(), AllocError>
-        ensures { OnOk result (state self.new ≡ after_field (state self.old)) }
+        ensures ok { OnOk result (state self.new ≡ after_field (state self.old)) }
+        ensures names { self.new.names ≡ self.old.names }
     {
         if let Some(mut field) = self.current.take() {
             trim_last_line(&mut field);
@@ -141,9 +146,11 @@ impl<'a> Reader<'a> {
     }
 
     fn end_paragraph(&mut self) -> Result<(), AllocError>
-        ensures { OnOk result (state self.new ≡ after_paragraph (state self.old)) }
+        ensures ok { OnOk result (state self.new ≡ after_paragraph (state self.old)) }
+        ensures names { OnOk result (HasNames self.new) }
     {
         self.end_field()?;
+        self.names.clear();
         if !self.fields.is_empty() {
             let fields = mem::replace(&mut self.fields, Vec::new(self.alloc));
             self.paragraphs.push(Paragraph { fields })?;

@@ -20,7 +20,7 @@ impl Model for Text {
 }
 
 impl Text {
-    /// A copy of a text.
+    /// A copy of a text. It is refused for want of memory alone.
     pub fn new(alloc: Global, text: &str) -> Result<Text, AllocError>
         ensures { IfOk result (λ copy. copy ≡ text.now) }
     {
@@ -43,13 +43,14 @@ impl Text {
         text
     }
 
+    /// The text.
     pub fn as_str(&self) -> &str
         ensures { result.now ≡ self.now }
     {
         self.text.as_str()
     }
 
-    /// Another copy of the text.
+    /// Another copy of the text. It is refused for want of memory alone.
     pub fn try_clone(&self) -> Result<Text, AllocError>
         ensures { IfOk result (λ copy. copy ≡ self.now) }
     {
@@ -89,6 +90,7 @@ impl<T> Listed<T> {
         items
     }
 
+    /// The items.
     pub fn as_slice(&self) -> &[T]
         ensures { result.now ≡ self.now }
     {

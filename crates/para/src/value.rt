@@ -11,7 +11,7 @@ use crate::fault::ParaFault;
 use crate::field::Field;
 use std::alloc::{AllocError, Global};
 
-/// The value of a field that has one line.
+/// The value of a field that has one line, and nothing where it has more (Debian Policy 5.1).
 pub fn simple<'a>(field: &Field<'a>) -> Option<&'a str>
     ensures { option_map (λ value. value.now) result ≡ simple_value (field_value field.now) }
 {
@@ -34,7 +34,8 @@ fn push_words<'a>(found: &mut Vec<&'a str>, line: &'a str) -> Result<(), AllocEr
     Ok(())
 }
 
-/// The words of a field's value, on all its lines.
+/// The words of a field's value, the pieces between blanks on all its lines (Debian Policy 5.1).
+/// It is refused for want of memory alone.
 pub fn fold<'a>(alloc: Global, field: &Field<'a>) -> Result<Vec<&'a str>, ParaFault>
     ensures ok { IfOk result (λ found. map (λ word. word.now) found.items ≡ folded_value (field_value field.now)) }
     ensures err { IfErr result (λ fault. fault ≡ OutOfMemory) }

@@ -1,9 +1,10 @@
-use Rattle.std.proofs.Common.{◌≡◌, ◌≢◌, ◌<◌, List, [], ◌∷◌, length, get_or, ◌∙◌, ap, subst, arith}
+use Rattle.std.proofs.Common.{◌≡◌, ◌≢◌, ◌<◌, List, [], ◌∷◌, length, inr, get_or, ◌∙◌, ap, subst, arith}
 use Rattle.std.proofs.lemmas.Result.{err_from_is_err_and}
-use Rattle.para.specs.declared.fault.ParaFault.TheVariants.{OutOfMemory}
+use Rattle.para.specs.declared.fault.ParaFault.TheVariants.{OutOfMemory, SeveralParagraphs}
 use Rattle.para.specs.Field.{FieldValue}
 use Rattle.para.specs.Grammar.{Spells}
 use Rattle.para.proofs.Texts.{refusal_one, several, only_one, one_item, some_length}
+use Rattle.para.proofs.InText.{fields_spelled, fault_fields, refused_fields}
 use Rattle.para.proofs.read.read_one.Goals as goal
 
 one_is_some : (p : List FieldValue) → p ∷ [] ≢ []
@@ -41,3 +42,20 @@ returns-clause-judged c =
     let same : c.in_ok-paragraphs.paragraphs.items ≡ c.remove.result ∷ [] = one_item c.in_ok-paragraphs.paragraphs.items c.remove.result one c.remove.ensures.value in
     let P : List (List FieldValue) → Type 0 = λ ps. Spells c.args.text.now ps in
     only_one c.args.text.now c.args.limit c.remove.result (subst P same c.in_ok-paragraphs.ensures.spelled.2) c.in_ok-paragraphs.ensures.judged
+
+pub returns-in_err-paragraphs-clause-refused : goal.returns-in_err-paragraphs-clause-refused
+returns-in_err-paragraphs-clause-refused c =
+    let q = err_from_is_err_and c.from_residual.result c.from_residual.ensures.1 in
+    rw (q.1, q.2) (refused_fields c.args.text.now c.args.limit c.in_err-paragraphs.field-0.0 (refusal_one c.args.text.now c.args.limit c.in_err-paragraphs.field-0.0 c.in_err-paragraphs.ensures.judged))
+
+pub returns-then-len-gt1-clause-refused : goal.returns-then-len-gt1-clause-refused
+returns-then-len-gt1-clause-refused c = inr (fault_fields c.args.text.now c.args.limit SeveralParagraphs (several c.args.text.now c.args.limit c.in_ok-paragraphs.paragraphs.items c.in_ok-paragraphs.ensures.spelled.2
+    (omega (arith, c.in_ok-paragraphs.paragraphs.ok.0, c.len.ensures)) c.in_ok-paragraphs.ensures.judged))
+
+pub returns-clause-read : goal.returns-clause-read
+returns-clause-read c =
+    let some : 0 < length c.in_ok-paragraphs.paragraphs.items = some_length c.in_ok-paragraphs.paragraphs.items c.in_ok-paragraphs.ensures.spelled.1 in
+    let one : length c.in_ok-paragraphs.paragraphs.items ≡ 1 = omega (arith, c.in_ok-paragraphs.paragraphs.ok.0, c.len.ensures, some) in
+    let same : c.in_ok-paragraphs.paragraphs.items ≡ c.remove.result ∷ [] = one_item c.in_ok-paragraphs.paragraphs.items c.remove.result one c.remove.ensures.value in
+    let P : List (List FieldValue) → Type 0 = λ ps. Spells c.args.text.now ps in
+    fields_spelled c.args.text.now c.args.limit c.remove.result (c.in_ok-paragraphs.ensures.spelled.0, subst P same c.in_ok-paragraphs.ensures.spelled.2)

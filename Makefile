@@ -1,0 +1,18 @@
+# try: the main job on stored files; build: prove and build the program; install: copy it to PREFIX/bin; test: the gate.
+PREFIX ?= /usr/local
+STORED = crates/archive/data
+PROGRAM = crates/archive/out/archive
+
+.PHONY: try build install test
+
+try:
+	@cd crates/archive && rt try -- try data/hello_1.0-1_amd64.changes data/hello_1.0-1_amd64.deb data/hello_1.0-1_amd64.control 2>/dev/null
+
+build:
+	cd crates/archive && rt run -- compare 1.0-1 1.0-2
+
+install: build
+	install -D -m 755 $(PROGRAM) $(PREFIX)/bin/archive
+
+test:
+	rt ci

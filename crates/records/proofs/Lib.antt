@@ -1,0 +1,5 @@
+pub mod Different
+pub mod FirstFault
+pub mod FromFields
+pub mod Checked
+pub mod Made

@@ -1,0 +1,201 @@
+//! A .changes (Debian Policy 5.5).
+
+ghost use Rattle.std.specs.Prelude.{◌≡◌, ◌⊎◌, Some, None, Ok, Err, IfOk, IfErr, MatchResult};
+ghost use Rattle.records.specs.Records.{changes_in, changes_fault, changes_of, changes_formats, unknown_format, bad_source, bad_distribution, first_of_words, person_of, value, words};
+
+use crate::checks::{check_required, check_simple, is_there, value_of};
+use crate::fault::RecordFault;
+use crate::field_name::FieldName;
+use crate::names::is_plain;
+use crate::parts::{architectures_of, files_of, source_of, version_of, words_of};
+use para::{Listed, Paragraph, Text, read_one};
+use std::alloc::Global;
+use std::marker::Model;
+use sums::{Entry, ListKind};
+use vers::Version;
+
+/// A .changes: which files an upload has, for which distribution and from whom.
+#[derive(Debug, Drop)]
+pub struct Changes {
+    source: Text,
+    version: Version,
+    architectures: Listed<Text>,
+    distribution: Text,
+    person: Text,
+    entries: Listed<Entry>,
+}
+
+impl Model for Changes {
+    ghost use Rattle.records.specs.Values.{ChangesValue};
+
+    ghost Value = { ChangesValue };
+
+    ghost view = { λ c. record {
+      source = c.source;
+      version = c.version;
+      architectures = c.architectures;
+      distribution = c.distribution;
+      person = c.person;
+      entries = c.entries;
+    } };
+}
+
+/// The longest text that is read (own rule of this archive).
+const LIMIT: usize = 1_048_576;
+
+/// The required fields, in the order in which the first that is missing is named.
+const REQUIRED: [FieldName; 11] = [
+    FieldName::Format,
+    FieldName::Date,
+    FieldName::Source,
+    FieldName::Version,
+    FieldName::Architecture,
+    FieldName::Distribution,
+    FieldName::Maintainer,
+    FieldName::Changes,
+    FieldName::ChecksumsSha1,
+    FieldName::ChecksumsSha256,
+    FieldName::Files,
+];
+
+/// The fields that have one line.
+const SIMPLE: [FieldName; 8] = [
+    FieldName::Format,
+    FieldName::Date,
+    FieldName::Source,
+    FieldName::Version,
+    FieldName::Architecture,
+    FieldName::Distribution,
+    FieldName::Maintainer,
+    FieldName::ChangedBy,
+];
+
+/// Refuses another format than 1.8 (Debian Policy 5.6.15).
+#[tactic(auto, unfolding(crate::specs::Records::unknown_format))]
+fn check_format(paragraph: &Paragraph<'_>) -> Result<(), RecordFault>
+    ensures { MatchResult result (λ _. unknown_format changes_formats paragraph.now ≡ None)
+        (λ e. unknown_format changes_formats paragraph.now ≡ Some e) }
+{
+    if value_of(paragraph, FieldName::Format) == "1.8" {
+        return Ok(());
+    }
+    Err(RecordFault::Format)
+}
+
+/// The source name of the paragraph.
+fn source_in(alloc: Global, paragraph: &Paragraph<'_>) -> Result<Text, RecordFault>
+    ensures found { IfOk result (λ name. name ≡ first_of_words (words FieldName.Source paragraph.now)) }
+    ensures only { IfOk result (λ _. bad_source (words FieldName.Source paragraph.now) ≡ None) }
+    ensures refused { IfErr result
+        (λ e. (e ≡ RecordFault.OutOfMemory) ⊎ (bad_source (words FieldName.Source paragraph.now) ≡ Some e)) }
+{
+    let words = words_of(alloc, paragraph, FieldName::Source)?;
+    Ok(Text::new(alloc, source_of(&words)?)?)
+}
+
+/// The distribution of the paragraph, which is exactly one.
+#[tactic(auto, unfolding(crate::specs::Records::bad_distribution))]
+fn distribution_of<'a>(paragraph: &Paragraph<'a>) -> Result<&'a str, RecordFault>
+    ensures found { IfOk result (λ name. name.now ≡ value FieldName.Distribution paragraph.now) }
+    ensures judged { MatchResult result (λ _. bad_distribution paragraph.now ≡ None)
+        (λ e. bad_distribution paragraph.now ≡ Some e) }
+{
+    let name = value_of(paragraph, FieldName::Distribution);
+    if is_plain(name) {
+        return Ok(name);
+    }
+    Err(RecordFault::Distribution)
+}
+
+/// Who is responsible for the upload: Changed-By, else Maintainer (Debian Policy 5.6.4).
+#[tactic(auto, unfolding(crate::specs::Records::person_of))]
+fn responsible_person<'a>(paragraph: &Paragraph<'a>) -> &'a str
+    ensures { result.now ≡ person_of paragraph.now }
+{
+    if is_there(paragraph, FieldName::ChangedBy) {
+        value_of(paragraph, FieldName::ChangedBy)
+    } else {
+        value_of(paragraph, FieldName::Maintainer)
+    }
+}
+
+/// The .changes that a paragraph is.
+fn changes_from(alloc: Global, paragraph: &Paragraph<'_>) -> Result<Changes, RecordFault>
+    ensures only { IfOk result (λ _. changes_fault paragraph.now ≡ None) }
+    ensures read { IfOk result (λ c. c ≡ changes_of paragraph.now) }
+    ensures refused { IfErr result
+        (λ e. (e ≡ RecordFault.OutOfMemory) ⊎ (changes_fault paragraph.now ≡ Some e)) }
+{
+    check_required(paragraph, &REQUIRED)?;
+    check_simple(paragraph, &SIMPLE)?;
+    check_format(paragraph)?;
+    let source = source_in(alloc, paragraph)?;
+    let version = version_of(alloc, paragraph)?;
+    let architectures = architectures_of(alloc, paragraph)?;
+    let distribution = distribution_of(paragraph)?;
+    let entries = files_of(alloc, paragraph, ListKind::Changes)?;
+    Ok(Changes {
+        source,
+        version,
+        architectures,
+        distribution: Text::new(alloc, distribution)?,
+        person: Text::new(alloc, responsible_person(paragraph))?,
+        entries,
+    })
+}
+
+impl Changes {
+    /// Reads a .changes (Debian Policy 5.5): one paragraph of at most 1,048,576 bytes, in format 1.8, with the fields
+    /// Format, Date, Source, Version, Architecture, Distribution, Maintainer, Changes, Checksums-Sha1, Checksums-Sha256
+    /// and Files, and one distribution. Of several faults the one of lowest number is answered.
+    pub fn read(alloc: Global, text: &[u8]) -> Result<Changes, RecordFault>
+        ensures read { IfOk result (λ c. changes_in text.now ≡ Ok c) }
+        ensures refused { IfErr result
+            (λ e. (e ≡ RecordFault.OutOfMemory) ⊎ (changes_in text.now ≡ Err e)) }
+    {
+        let paragraph = read_one(alloc, text, LIMIT)?;
+        changes_from(alloc, &paragraph)
+    }
+
+    /// The name of the source package.
+    pub fn source(&self) -> &str
+        ensures { result.now ≡ self.now.source }
+    {
+        self.source.as_str()
+    }
+
+    /// The version of the source package.
+    pub fn version(&self) -> &Version
+        ensures { result.now ≡ self.now.version }
+    {
+        &self.version
+    }
+
+    /// The architectures, `all` and `source` among them.
+    pub fn architectures(&self) -> &[Text]
+        ensures { result.now ≡ self.now.architectures }
+    {
+        self.architectures.as_slice()
+    }
+
+    /// The distribution that the upload is for.
+    pub fn distribution(&self) -> &str
+        ensures { result.now ≡ self.now.distribution }
+    {
+        self.distribution.as_str()
+    }
+
+    /// Who is responsible for the upload: its Changed-By, or its Maintainer where it has no such field.
+    pub fn person(&self) -> &str
+        ensures { result.now ≡ self.now.person }
+    {
+        self.person.as_str()
+    }
+
+    /// The listed files, in the order of the field Files.
+    pub fn entries(&self) -> &[Entry]
+        ensures { result.now ≡ self.now.entries }
+    {
+        self.entries.as_slice()
+    }
+}

@@ -1,0 +1,132 @@
+//! Why a text is no record.
+
+ghost use Rattle.std.specs.Prelude.{◌≡◌, Some};
+ghost use Rattle.records.specs.declared.fault.RecordFault.TheVariants.{OutOfMemory};
+ghost use Rattle.records.specs.Fault.{fault_number, fault_text, of_paragraph, of_version, of_lists};
+
+use crate::field_name::FieldName;
+use para::ParaFault;
+use std::alloc::{AllocError, AllocFailed};
+use std::error::Error;
+use std::fmt;
+use sums::ListFault;
+use vers::VersionFault;
+
+/// Why a text is no record. Of several faults the first of these is answered.
+#[derive(Clone, Copy, Debug, PartialEq, Eq)]
+pub enum RecordFault {
+    /// No memory was left.
+    OutOfMemory,
+    /// The text is not one control paragraph within its limit (Debian Policy 5.1).
+    Paragraph(ParaFault),
+    /// A required field is absent or empty; of several the first of the record's list.
+    Missing(FieldName),
+    /// A field that has one line by its definition goes on behind it.
+    NotOneLine,
+    /// The format is none that this archive reads (Debian Policy 5.6.15, 5.6.16).
+    Format,
+    /// A source or package name is not spelled as one (Debian Policy 5.6.1, 5.6.7).
+    Name,
+    /// The version is none (Debian Policy 5.6.12).
+    Version(VersionFault),
+    /// An architecture is not spelled as one, stands twice, or is not allowed here (Debian Policy 5.6.8).
+    Architecture,
+    /// There is not exactly one distribution, a plain name (Debian Policy 5.6.14).
+    Distribution,
+    /// The lists of files are refused (Debian Policy 5.6.21, 5.6.24).
+    Lists(ListFault),
+    /// A field is there that the archive writes itself (own rule of this archive).
+    OwnField,
+}
+
+impl RecordFault {
+    /// The number of the fault, from 0 to 10.
+    pub fn number(self) -> u8
+        ensures { result ≡ fault_number self }
+    {
+        match self {
+            RecordFault::OutOfMemory => 0,
+            RecordFault::Paragraph(_) => 1,
+            RecordFault::Missing(_) => 2,
+            RecordFault::NotOneLine => 3,
+            RecordFault::Format => 4,
+            RecordFault::Name => 5,
+            RecordFault::Version(_) => 6,
+            RecordFault::Architecture => 7,
+            RecordFault::Distribution => 8,
+            RecordFault::Lists(_) => 9,
+            RecordFault::OwnField => 10,
+        }
+    }
+}
+
+impl fmt::Display for RecordFault {
+    ghost output = { λ fault. Some (fault_text fault) };
+
+    fn fmt<W: fmt::Write>(&self, f: &mut fmt::Formatter<W>) -> fmt::Result {
+        match self {
+            RecordFault::OutOfMemory => write!(f, "C0"),
+            RecordFault::Paragraph(fault) => write!(f, "C1 {fault}"),
+            RecordFault::Missing(name) => write!(f, "C2 {}", name.name()),
+            RecordFault::NotOneLine => write!(f, "C3"),
+            RecordFault::Format => write!(f, "C4"),
+            RecordFault::Name => write!(f, "C5"),
+            RecordFault::Version(fault) => write!(f, "C6 {fault}"),
+            RecordFault::Architecture => write!(f, "C7"),
+            RecordFault::Distribution => write!(f, "C8"),
+            RecordFault::Lists(fault) => write!(f, "C9 {fault}"),
+            RecordFault::OwnField => write!(f, "C10"),
+        }
+    }
+}
+
+impl Error for RecordFault {}
+
+impl From<ParaFault> for RecordFault {
+    ghost from_gives = { λ fault e. e ≡ of_paragraph fault };
+
+    fn from(fault: ParaFault) -> RecordFault {
+        match fault {
+            ParaFault::OutOfMemory => RecordFault::OutOfMemory,
+            fault => RecordFault::Paragraph(fault),
+        }
+    }
+}
+
+impl From<VersionFault> for RecordFault {
+    ghost from_gives = { λ fault e. e ≡ of_version fault };
+
+    fn from(fault: VersionFault) -> RecordFault {
+        match fault {
+            VersionFault::OutOfMemory => RecordFault::OutOfMemory,
+            fault => RecordFault::Version(fault),
+        }
+    }
+}
+
+impl From<ListFault> for RecordFault {
+    ghost from_gives = { λ fault e. e ≡ of_lists fault };
+
+    fn from(fault: ListFault) -> RecordFault {
+        match fault {
+            ListFault::OutOfMemory => RecordFault::OutOfMemory,
+            fault => RecordFault::Lists(fault),
+        }
+    }
+}
+
+impl From<AllocError> for RecordFault {
+    ghost from_gives = { λ _ e. e ≡ OutOfMemory };
+
+    fn from(_error: AllocError) -> RecordFault {
+        RecordFault::OutOfMemory
+    }
+}
+
+impl<T: Drop> From<AllocFailed<T>> for RecordFault {
+    ghost from_gives = { λ _ e. e ≡ OutOfMemory };
+
+    fn from(_error: AllocFailed<T>) -> RecordFault {
+        RecordFault::OutOfMemory
+    }
+}

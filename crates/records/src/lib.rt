@@ -1,0 +1,23 @@
+//! The records of an upload: .changes, .dsc, and the sidecar of a package file (Debian Policy 5.3 to 5.6).
+#![tactic(auto)]
+
+mod changes;
+mod checks;
+mod dsc;
+mod fault;
+mod field_name;
+mod laws;
+mod names;
+mod parts;
+mod sidecar;
+#[cfg(test)]
+mod tests;
+
+pub use changes::Changes;
+pub use dsc::Dsc;
+pub use fault::RecordFault;
+pub use field_name::FieldName;
+pub use laws::{changes_are_read, dscs_are_read, sidecars_are_read};
+pub use names::{is_architecture, is_package, is_plain};
+pub use parts::all_differ;
+pub use sidecar::Sidecar;

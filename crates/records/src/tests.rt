@@ -1,0 +1,90 @@
+use super::*;
+use std::alloc::Global;
+use std::process::Abort;
+use std::test::Fail;
+
+mod changes;
+mod dsc;
+mod names;
+mod sidecar;
+
+/// The text of an answer: of a refusal its fault, else `read`.
+fn answer_text<T: Drop>(
+    alloc: Global,
+    answer: Result<T, RecordFault>,
+) -> Result<String, Fail> {
+    match answer {
+        Ok(_) => Ok(String::from_str(alloc, "read")?),
+        Err(fault) => Ok(format!(in alloc; "{fault}")?),
+    }
+}
+
+/// Which record a text is read as.
+#[derive(Clone, Copy)]
+enum Record {
+    Changes,
+    Dsc,
+    Sidecar,
+}
+
+fn answer(alloc: Global, record: Record, text: &[u8]) -> Result<String, Fail> {
+    match record {
+        Record::Changes => answer_text(alloc, Changes::read(alloc, text)),
+        Record::Dsc => answer_text(alloc, Dsc::read(alloc, text)),
+        Record::Sidecar => answer_text(alloc, Sidecar::read(alloc, text)),
+    }
+}
+
+/// A text in which each `old` is replaced, and its answer.
+#[derive(Clone, Copy)]
+struct Row {
+    old: &'static str,
+    new: &'static str,
+    wanted: &'static str,
+}
+
+/// Reads the text once for each row, edited as the row says.
+fn expect_rows(
+    rt: &impl Abort,
+    alloc: Global,
+    record: Record,
+    text: &str,
+    rows: &[Row],
+) -> Result<(), Fail> {
+    for row in rows {
+        assert!(rt; text.contains(row.old), "no {}", row.old);
+        let edited = text.replace(alloc, row.old, row.new)?;
+        let found = answer(alloc, record, edited.as_bytes())?;
+        assert_eq!(rt; found.as_str(), row.wanted, "{} for {}", row.new, row.old);
+    }
+    Ok(())
+}
+
+/// A text with one more field, which no record knows, that makes it so many bytes long.
+fn filled(alloc: Global, text: &str, length: usize) -> Result<String, Fail> {
+    let mut filled = String::from_str(alloc, text)?;
+    filled.push_str("Fill: ")?;
+    let more = "x".repeat(alloc, length.saturating_sub(filled.len()))?;
+    filled.push_str(&more)?;
+    Ok(filled)
+}
+
+#[test]
+fn faults_have_numbers(rt: HostRuntime) {
+    let rows = [
+        (RecordFault::OutOfMemory, 0),
+        (RecordFault::Paragraph(para::ParaFault::NoParagraph), 1),
+        (RecordFault::Missing(FieldName::Date), 2),
+        (RecordFault::NotOneLine, 3),
+        (RecordFault::Format, 4),
+        (RecordFault::Name, 5),
+        (RecordFault::Version(vers::VersionFault::BadEpoch), 6),
+        (RecordFault::Architecture, 7),
+        (RecordFault::Distribution, 8),
+        (RecordFault::Lists(sums::ListFault::ListsDisagree), 9),
+        (RecordFault::OwnField, 10),
+    ];
+    for (fault, wanted) in rows {
+        assert_eq!(rt; fault.number(), wanted);
+    }
+}

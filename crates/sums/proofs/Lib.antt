@@ -1,0 +1,13 @@
+pub mod Words
+pub mod Digits
+pub mod Files
+pub mod Sizes
+pub mod Digests
+pub mod Members
+pub mod Agree
+pub mod Spelled
+pub mod Faultless
+pub mod Reading
+pub mod Listing
+pub mod ListedRead
+pub mod Refusals

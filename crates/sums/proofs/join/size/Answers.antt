@@ -1,0 +1,10 @@
+use Rattle.std.proofs.Common.{◌≡◌, ◌∙◌, sym, ap, Ok}
+use Rattle.std.specs.Result.{is_ok}
+use Rattle.sums.proofs.Sizes.{size_parsed}
+use Rattle.sums.proofs.join.size.Goals as goal
+
+pub unwrap-requires : goal.unwrap-requires
+unwrap-requires c = ap is_ok (size_parsed c.args.word.now c.parse.result c.requires c.parse.ensures.value.0)
+
+pub returns : goal.returns
+returns c = cc (sym c.unwrap.ensures ∙ size_parsed c.args.word.now c.parse.result c.requires c.parse.ensures.value.0)

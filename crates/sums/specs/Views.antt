@@ -1,0 +1,49 @@
+-- What the private types of this crate stand for, and the faults that single functions look for.
+use Rattle.std.specs.Prelude.{◌≡◌, ℕ, Bool, false, List, [], ◌∷◌, map, drop, Option}
+use Rattle.std.specs.List.{list_any, find}
+use Rattle.std.specs.Str.{bytes_eq}
+use Rattle.sums.specs.Lines.{LineForm, has_bad_words, has_bad_digest, has_bad_size, has_bad_name}
+use Rattle.para.specs.Field.{FieldValue}
+use Rattle.sums.specs.Lists.{Lines, NameAndSize, lines_of, applies_to_lines, faults, fault}
+use Rattle.sums.specs.declared.fault.ListFault.{ListFault}
+use Rattle.sums.specs.declared.lines.Form.{Form}
+use Rattle.sums.specs.declared.lines.Check.{Check}
+use Rattle.sums.specs.declared.lines.Check.TheVariants.{Words, Digest, Size, Name}
+use Rattle.sums.specs.declared.entries.ListKind.{ListKind}
+use Rattle.sums.specs.declared.names.SizedName.{SizedName}
+use Rattle.sums.specs.declared.join.Lists.{Lists}
+
+abbrev pub line_form : Form → LineForm
+line_form f = record { words = f.words; digest = f.digest }
+
+abbrev pub lines_in : Lists → Lines
+lines_in l = record { sha1 = map (λ line. line.now) l.sha1.now; sha256 = map (λ line. line.now) l.sha256.now; files = map (λ line. line.now) l.files.now }
+
+abbrev pub in_names : SizedName → NameAndSize
+in_names s = record { name = s.name.now; size = s.size.now }
+
+-- a line fails a check
+abbrev pub fails : Check → LineForm → List ℕ → Bool
+fails Words = has_bad_words
+fails Digest = has_bad_digest
+fails Size = has_bad_size
+fails Name = has_bad_name
+
+-- the lowest fault from the words of the lines on
+abbrev pub fault_of_lines : ListKind → Lines → Option ListFault
+fault_of_lines kind lines = find (applies_to_lines kind lines) (drop 2 faults)
+
+-- the lowest fault from the names of the lists on
+abbrev pub fault_of_names : ListKind → Lines → Option ListFault
+fault_of_names kind lines = find (applies_to_lines kind lines) (drop 6 faults)
+
+-- the first name of a list stands in the rest of it
+abbrev pub name_stands_later : List NameAndSize → Bool
+name_stands_later [] = false
+name_stands_later (x ∷ xs) = list_any (λ y. bytes_eq x.name y.name) xs
+
+-- the three lists of a paragraph, each there with nothing behind its colon
+pub record AreLists (kind : ListKind) (paragraph : List FieldValue) (lists : Lists) : Type 0 where
+  pub same_kind : lists.kind ≡ kind
+  pub lines : lines_in lists ≡ lines_of paragraph
+  pub rest : fault kind paragraph ≡ fault_of_lines kind (lines_of paragraph)

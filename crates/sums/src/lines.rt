@@ -1,0 +1,171 @@
+//! A line of a list: its words, and what each has to be.
+
+ghost use Rattle.std.specs.Prelude.{◌≡◌, ◌==◌, ◌<◌, ◌&&◌, nat_lt, nat_le, slice_index, true, length, map};
+ghost use Rattle.std.specs.Char.{is_ascii_digit};
+ghost use Rattle.std.specs.List.{list_any, list_all};
+ghost use Rattle.sums.specs.Lines.{word, words, has_words, is_lower_hex, is_digest, is_size, is_name_character, is_file_name, is_tab, most_size};
+ghost use Rattle.sums.specs.Views.{line_form, fails};
+ghost use Rattle.std.specs.Str.Parse.{digits_value};
+
+const MOST_SIZE: u32 = 4194304;
+
+const MOST_NAME: usize = 200;
+
+/// What the lines of a list are like.
+#[derive(Clone, Copy)]
+pub struct Form {
+    /// How many words a line has.
+    pub words: usize,
+    /// How many bytes the digest has.
+    pub digest: usize,
+}
+
+/// What is asked of a line.
+#[derive(Clone, Copy)]
+pub enum Check {
+    Words,
+    Digest,
+    Size,
+    Name,
+}
+
+/// A word of a line, or nothing where it has fewer.
+pub fn word(line: &str, index: usize) -> &str
+    ensures { result.now ≡ word line.now index }
+{
+    line.split(' ').nth(index).unwrap_or("")
+}
+
+fn count_words(line: &str) -> usize
+    ensures { result ≡ length (words line.now) }
+{
+    line.split(' ').count()
+}
+
+fn has_empty_word(line: &str) -> bool
+    ensures { result ≡ list_any (λ w. length w == 0) (words line.now) }
+{
+    line.split(' ').any(|w| w.is_empty())
+}
+
+fn has_tab(line: &str) -> bool
+    ensures { result ≡ list_any is_tab line.now }
+{
+    line.bytes().any(|c| c == b'\t')
+}
+
+fn has_words(form: Form, line: &str) -> bool
+    ensures { result ≡ has_words (line_form form) line.now }
+{
+    let count = count_words(line);
+    let empty = has_empty_word(line);
+    let tab = has_tab(line);
+    count == form.words && !empty && !tab
+}
+
+fn is_lower_hex(c: u8) -> bool
+    ensures { result ≡ is_lower_hex c }
+{
+    c.is_ascii_digit() || (b'a'..=b'f').contains(&c)
+}
+
+/// Whether a word is a digest of so many bytes.
+fn is_digest(bytes: usize, word: &str) -> bool
+    ensures { result ≡ is_digest bytes word.now }
+{
+    let lower_hex = is_lower_hex_text(word);
+    let length = word.len();
+    length / 2 == bytes && length % 2 == 0 && lower_hex
+}
+
+fn is_lower_hex_text(word: &str) -> bool
+    ensures { result ≡ list_all is_lower_hex word.now }
+{
+    word.bytes().all(is_lower_hex)
+}
+
+fn is_digits(word: &str) -> bool
+    ensures { result ≡ list_all is_ascii_digit word.now }
+{
+    word.bytes().all(|c| c.is_ascii_digit())
+}
+
+/// Whether the size of a file is at most the largest.
+fn is_small(digits: &str) -> bool
+    requires { list_all is_ascii_digit digits.now ≡ true }
+    ensures { result ≡ (nat_lt 0 (length digits.now) && nat_le (digits_value 10 digits.now) most_size) }
+{
+    match digits.parse::<u32>() {
+        Ok(size) => size <= MOST_SIZE,
+        Err(_) => false,
+    }
+}
+
+fn begins_with_zero(digits: &str) -> bool
+    ensures { result ≡ (slice_index digits.now 0 == 48) }
+{
+    match digits.as_bytes().first() {
+        Some(first) => *first == b'0',
+        None => false,
+    }
+}
+
+/// Whether a word is the size of a file.
+fn is_size(word: &str) -> bool
+    ensures { result ≡ is_size word.now }
+{
+    if !is_digits(word) {
+        return false;
+    }
+    let small = is_small(word);
+    let zero = begins_with_zero(word);
+    (word.len() == 1 || !zero) && small
+}
+
+fn is_name_character(c: u8) -> bool
+    ensures { result ≡ is_name_character c }
+{
+    c.is_ascii_alphanumeric() || c == b'.' || c == b'+' || c == b'~' || c == b'_' || c == b'-'
+}
+
+/// Whether a word is the name of a file: 1 to 200 letters, digits and `. + ~ _ -`, the first a letter or digit (own rule of
+/// this archive).
+pub fn is_file_name(word: &str) -> bool
+    ensures { result ≡ is_file_name word.now }
+{
+    match word.as_bytes().split_first() {
+        None => false,
+        Some((first, rest)) => {
+            let begins = first.is_ascii_alphanumeric();
+            let goes_on = are_name_characters(rest);
+            rest.len() < MOST_NAME && begins && goes_on
+        }
+    }
+}
+
+fn are_name_characters(bytes: &[u8]) -> bool
+    ensures { result ≡ list_all is_name_character bytes.now }
+{
+    bytes.iter().all(|c| is_name_character(*c))
+}
+
+/// Whether a line fails a check.
+fn fails(check: Check, form: Form, line: &str) -> bool
+    requires { 0 < form.words }
+    ensures { result ≡ fails check (line_form form) line.now }
+{
+    match check {
+        Check::Words => !has_words(form, line),
+        Check::Digest => !is_digest(form.digest, word(line, 0)),
+        Check::Size => !is_size(word(line, 1)),
+        Check::Name => !is_file_name(word(line, form.words - 1)),
+    }
+}
+
+/// Whether some of these lines fails a check.
+pub fn some_fails(check: Check, form: Form, lines: &[&str]) -> bool
+    requires { 0 < form.words }
+    ensures { result ≡ list_any (fails check (line_form form)) (map (λ line. line.now) lines.now) }
+{
+    lines.iter().any(|line| fails(check, form, line))
+}

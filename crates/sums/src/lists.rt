@@ -1,0 +1,113 @@
+//! The three lists of files of a record, `Checksums-Sha1`, `Checksums-Sha256` and `Files`.
+
+ghost use Rattle.std.specs.Prelude.{◌≡◌, ◌⊎◌, ◌||◌, nat_lt, Ok, Err, Some, None, IfOk, IfErr, MatchResult, length};
+ghost use Rattle.sums.specs.Lists.{ListedIn, lists_in, some_line};
+ghost use Rattle.sums.specs.Views.{AreLists, lines_in, fails, fault_of_lines, fault_of_names};
+
+use crate::entries::{Entry, ListKind};
+use crate::fault::ListFault;
+use crate::join::{Lists, SHA1_FORM, SHA256_FORM, entries, files_form};
+use crate::lines::{Check, some_fails};
+use crate::names::{disagree, has_twice, sized_lines};
+use para::{Field, Paragraph};
+use std::alloc::Global;
+
+const MOST_FILES: usize = 256;
+
+/// Whether some line of some list fails a check.
+fn some_line_fails(lists: Lists<'_>, check: Check) -> bool
+    ensures { result ≡ some_line (fails check) lists.entry.kind (lines_in lists.entry) }
+{
+    some_fails(check, SHA1_FORM, lists.sha1)
+        || some_fails(check, SHA256_FORM, lists.sha256)
+        || some_fails(check, files_form(lists.kind), lists.files)
+}
+
+/// What is wrong with the lists from the words of their lines on.
+fn check_lines(alloc: Global, lists: Lists<'_>) -> Result<(), ListFault>
+    ensures { MatchResult result (λ _. fault_of_lines lists.entry.kind (lines_in lists.entry) ≡ None) (λ e. (e ≡ ListFault.OutOfMemory) ⊎ (fault_of_lines lists.entry.kind (lines_in lists.entry) ≡ Some e)) }
+{
+    if some_line_fails(lists, Check::Words) {
+        return Err(ListFault::BadWords);
+    }
+    if some_line_fails(lists, Check::Digest) {
+        return Err(ListFault::BadDigest);
+    }
+    if some_line_fails(lists, Check::Size) {
+        return Err(ListFault::BadSize);
+    }
+    if some_line_fails(lists, Check::Name) {
+        return Err(ListFault::BadName);
+    }
+    check_names(alloc, lists)
+}
+
+/// What is wrong with the lists from the names of their files on.
+fn check_names(alloc: Global, lists: Lists<'_>) -> Result<(), ListFault>
+    ensures { MatchResult result (λ _. fault_of_names lists.entry.kind (lines_in lists.entry) ≡ None) (λ e. (e ≡ ListFault.OutOfMemory) ⊎ (fault_of_names lists.entry.kind (lines_in lists.entry) ≡ Some e)) }
+{
+    let sha1 = sized_lines(alloc, SHA1_FORM, lists.sha1)?;
+    let sha256 = sized_lines(alloc, SHA256_FORM, lists.sha256)?;
+    let files = sized_lines(alloc, files_form(lists.kind), lists.files)?;
+    if has_twice(&sha1) || has_twice(&sha256) || has_twice(&files) {
+        return Err(ListFault::NameTwice);
+    }
+    if disagree(&sha1, &files) || disagree(&sha256, &files) {
+        return Err(ListFault::ListsDisagree);
+    }
+    if files.is_empty() || files.len() > MOST_FILES {
+        return Err(ListFault::BadCount);
+    }
+    Ok(())
+}
+
+/// Whether text stands behind the colon of one of the lists.
+fn has_text(sha1: &Field<'_>, sha256: &Field<'_>, files: &Field<'_>) -> bool
+    ensures { result ≡ (nat_lt 0 (length sha1.now.first.now) || nat_lt 0 (length sha256.now.first.now) || nat_lt 0 (length files.now.first.now)) }
+{
+    !sha1.first.is_empty() || !sha256.first.is_empty() || !files.first.is_empty()
+}
+
+/// The lines of the three lists.
+fn find_lists<'p>(paragraph: &'p Paragraph<'p>, kind: ListKind) -> Result<Lists<'p>, ListFault>
+    ensures { MatchResult result (λ lists. AreLists kind paragraph.now lists) (λ e. lists_in kind paragraph.now ≡ Err e) }
+{
+    let Some(sha1) = paragraph.get("Checksums-Sha1") else {
+        return Err(ListFault::ListAbsent);
+    };
+    let Some(sha256) = paragraph.get("Checksums-Sha256") else {
+        return Err(ListFault::ListAbsent);
+    };
+    let Some(files) = paragraph.get("Files") else {
+        return Err(ListFault::ListAbsent);
+    };
+    if has_text(sha1, sha256, files) {
+        return Err(ListFault::TextOnFirstLine);
+    }
+    Ok(Lists {
+        sha1: sha1.more.as_slice(),
+        sha256: sha256.more.as_slice(),
+        files: files.more.as_slice(),
+        kind,
+    })
+}
+
+/// The entries of the three lists of a record (Debian Policy 5.6.21, 5.6.24), in the order of `Files`.
+///
+/// A list has nothing behind the colon of its name and then a line a file: digest, size and name, in the `Files` of a
+/// .changes MD5, size, section, priority and name. Own rules of this archive: single spaces and no tab, digests in lower-case
+/// hexadecimal of full length, sizes decimal without leading zeros and of at most 4194304, 1 to 256 files, each once in each
+/// list and with the same size in all. Of the faults that apply the one of lowest number is answered.
+pub fn read_lists(
+    alloc: Global,
+    paragraph: &Paragraph<'_>,
+    kind: ListKind,
+) -> Result<Vec<Entry>, ListFault>
+    ensures read { IfOk result (λ entries. lists_in kind paragraph.now ≡ Ok entries.items) }
+    ensures listed { IfOk result (λ entries. ListedIn paragraph.now kind entries.items) }
+    ensures refused { IfErr result (λ e. (e ≡ ListFault.OutOfMemory) ⊎ (lists_in kind paragraph.now ≡ Err e)) }
+{
+    let lists = find_lists(paragraph, kind)?;
+    check_lines(alloc, lists)?;
+    entries(alloc, lists)
+}
