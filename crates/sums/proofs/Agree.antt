@@ -6,16 +6,8 @@ use Rattle.std.specs.List.{list_any}
 use Rattle.std.specs.Prelude.{Contains, AllPairs, All}
 use Rattle.std.specs.Str.{bytes_eq}
 use Rattle.sums.specs.Lists.{NameAndSize, has_twice, same_file, lacks}
-use Rattle.sums.proofs.Digits.{both}
 use Rattle.sums.proofs.Members.{here, contains_map, from_map, any_true, any_false, any_none, any_some, all_at, all_from, pairs_head, pairs_tail}
-
-pub neither : (a b : Bool) → (a || b) ≡ false → (a ≡ false) × (b ≡ false)
-neither true b h = cc
-neither false b h = (refl, h)
-
-pub passed : (b : Bool) → not b ≡ false → b ≡ true
-passed true h = refl
-passed false h = cc
+use Rattle.sums.proofs.Booleans.{both, neither, passed}
 
 pub same_bytes : (a b : List ℕ) → bytes_eq a b ≡ true → a ≡ b
 same_bytes a b h = (bytes_eq-Decides a b).0 h

@@ -11,7 +11,7 @@ use Rattle.hex.specs.declared.error.FromHexError.{FromHexError}
 use Rattle.sums.specs.Lines.{is_lower_hex, is_digest}
 use Rattle.std.specs.Prelude.{All}
 use Rattle.sums.specs.Lists.{hex_value, unhexed, IsDigest}
-use Rattle.sums.proofs.Digits.{both}
+use Rattle.sums.proofs.Booleans.{both}
 
 -- the value of a lower-case digit
 abbrev value : ℕ → ℕ

@@ -9,8 +9,9 @@ use Rattle.sums.specs.Views.{fault_of_lines}
 use Rattle.sums.specs.declared.fault.ListFault.{ListFault}
 use Rattle.sums.specs.declared.fault.ListFault.TheVariants.{BadWords, BadDigest, BadSize, BadName, NameTwice, ListsDisagree, BadCount}
 use Rattle.sums.specs.declared.entries.ListKind.{ListKind}
-use Rattle.sums.proofs.Agree.{neither, passed, once, not_twice, in_other, none_lacks}
+use Rattle.sums.proofs.Agree.{once, not_twice, in_other, none_lacks}
 use Rattle.sums.proofs.Members.{any_false, any_none}
+use Rattle.sums.proofs.Booleans.{neither, passed, none_of, three, passes}
 
 -- nothing is wrong with a line
 pub record IsGood (form : LineForm) (line : List ℕ) : Type 0 where
@@ -40,10 +41,6 @@ pub record Faultless (kind : ListKind) (lines : Lines) : Type 0 where
   pub sha1_agrees : Agree sha1_form lines.sha1 (files_form kind) lines.files
   pub sha256_agrees : Agree sha256_form lines.sha256 (files_form kind) lines.files
   pub count : (0 < length lines.files) × (length lines.files ≤ 256)
-
-none_of : {X : Type 0} (b : Bool) (x : X) (y : Option X) → cond b (Some x) y ≡ None → (b ≡ false) × (y ≡ None)
-none_of true x y h = cc
-none_of false x y h = (refl, h)
 
 -- no line of three lists is bad
 record Pass (is_bad : LineForm → List ℕ → Bool) (kind : ListKind) (lines : Lines) : Type 0 where
@@ -123,12 +120,6 @@ none_disagrees form lines other others a =
 
 count_test : (n : ℕ) → 0 < n → n ≤ 256 → (eqb n 0 || ltb 256 n) ≡ false
 count_test n h k = let a : eqb n 0 ≡ false = grind (arith, nat_tests) in let b : ltb 256 n ≡ false = grind (arith, nat_tests) in rw (a, b) refl
-
-three : (a b c : Bool) → a ≡ false → b ≡ false → c ≡ false → (a || b || c) ≡ false
-three a b c p q r = rw (p, q, r) refl
-
-passes : {X : Type 0} (b : Bool) (x : X) (y : Option X) → b ≡ false → y ≡ None → cond b (Some x) y ≡ None
-passes b x y p q = rw p q
 
 pub no_fault : (kind : ListKind) (lines : Lines) → Faultless kind lines → fault_of_lines kind lines ≡ None
 no_fault kind lines f =

@@ -1,3 +1,4 @@
+pub mod Booleans
 pub mod Words
 pub mod Digits
 pub mod Files
@@ -11,3 +12,4 @@ pub mod Reading
 pub mod Listing
 pub mod ListedRead
 pub mod Refusals
+pub mod SizesByName

@@ -9,10 +9,10 @@ use Rattle.sums.specs.declared.fault.ListFault.{ListFault}
 use Rattle.sums.specs.declared.fault.ListFault.TheVariants.{ListAbsent, TextOnFirstLine}
 use Rattle.sums.specs.declared.entries.Entry.{Entry}
 use Rattle.sums.specs.declared.entries.ListKind.{ListKind}
-use Rattle.sums.proofs.Agree.{neither}
 use Rattle.sums.proofs.Faultless.{faultless, no_fault}
 use Rattle.sums.proofs.Listing.{lists_faultless, listed_read}
 use Rattle.sums.proofs.Reading.{reads_listed}
+use Rattle.sums.proofs.Booleans.{neither, none_of, three, passes}
 
 nothing : (xs : List ℕ) → ltb 0 (length xs) ≡ false → xs ≡ []
 nothing [] h = refl
@@ -26,10 +26,6 @@ tests_of (Some f) h = (refl, ap (λ xs. ltb 0 (length xs)) h)
 list_of : (o : Option FieldValue) → is_none o ≡ false → unwrap_or (option_map (λ f. ltb 0 (length f.first)) o) false ≡ false → IsList o
 list_of None h k = cc
 list_of (Some f) h k = nothing f.first k
-
-none_of : {X : Type 0} (b : Bool) (x : X) (y : Option X) → cond b (Some x) y ≡ None → (b ≡ false) × (y ≡ None)
-none_of true x y h = cc
-none_of false x y h = (refl, h)
 
 -- no fault applies where the lists are there and their lines have none
 pub record NoFault (kind : ListKind) (p : List FieldValue) : Type 0 where
@@ -52,12 +48,6 @@ none_applies kind p h =
       files = list_of (field_named files_name p) c.1 e.1;
       lines = b.1;
     }
-
-three : (a b c : Bool) → a ≡ false → b ≡ false → c ≡ false → (a || b || c) ≡ false
-three a b c p q r = rw (p, q, r) refl
-
-passes : {X : Type 0} (b : Bool) (x : X) (y : Option X) → b ≡ false → y ≡ None → cond b (Some x) y ≡ None
-passes b x y p q = rw p q
 
 applies_none : (kind : ListKind) (p : List FieldValue) → NoFault kind p → fault kind p ≡ None
 applies_none kind p h =

@@ -18,13 +18,12 @@ use Rattle.sums.specs.declared.entries.ListKind.{ListKind}
 use Rattle.sums.specs.declared.entries.ListKind.TheVariants.{Dsc, Changes}
 use Rattle.sums.proofs.Agree.{same_bytes, bytes_same}
 use Rattle.sums.proofs.Digests.{digest_text, digest_is}
-use Rattle.sums.proofs.Digits.{both}
 use Rattle.sums.proofs.Faultless.{IsGood, IsGoodList, Agree, HasFile, Faultless}
 use Rattle.sums.proofs.Files.{map-map}
 use Rattle.std.proofs.lemmas.List.{get_or_default}
-use Rattle.sums.proofs.Spelled.{denied}
 use Rattle.sums.proofs.Members.{here, there, contains_map, from_map, any_false, all_from, all_true, find_one, by_name, map_same, pairs_head, pairs_tail}
 use Rattle.sums.proofs.Sizes.{size_text, size_written}
+use Rattle.sums.proofs.Booleans.{both, denied}
 
 -- the form of a list of three words
 abbrev pub three_words : ℕ → LineForm

@@ -9,7 +9,8 @@ use Rattle.std.specs.Fmt.{decimal}
 use Rattle.std.specs.List.{list_all}
 use Rattle.std.specs.Str.Parse.{digits_value, AllDigits, ParsesUnsigned}
 use Rattle.sums.specs.Lines.{is_size, most_size}
-use Rattle.sums.proofs.Digits.{both, all_digits}
+use Rattle.sums.proofs.Digits.{all_digits}
+use Rattle.sums.proofs.Booleans.{both, or_true}
 
 -- what a size's text is
 pub record IsSizeText (text : List ℕ) : Type 0 where
@@ -63,10 +64,6 @@ unled n h = elim (cases_lt 0 n) [
       let zero_text : decimal n ≡ (48 + n) ∷ [] = decimal_digit n (omega arith) in
       rw zero_text refl
 ]
-  where
-    or_true : (b : Bool) → (b || true) ≡ true
-    or_true true = refl
-    or_true false = refl
 
 pub size_decimal : (n : ℕ) → n ≤ most_size → (is_size (decimal n) ≡ true) × (digits_value 10 (decimal n) ≡ n)
 size_decimal n h =

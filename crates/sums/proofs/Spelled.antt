@@ -7,15 +7,10 @@ use Rattle.std.specs.List.{list_any, list_all}
 use Rattle.std.specs.Prelude.{Contains, All}
 use Rattle.sums.specs.Lines.{LineForm, words, is_word, is_tab, is_space, has_words, is_lower_hex, is_name_character, is_file_name, is_digest, is_size}
 use Rattle.sums.specs.Lists.{spelled}
-use Rattle.sums.proofs.Agree.{neither}
-use Rattle.sums.proofs.Digits.{both}
 use Rattle.sums.proofs.Members.{any_false, any_none, all_from, all_true}
 use Rattle.sums.proofs.Sizes.{size_text}
 use Rattle.std.specs.Char.{is_ascii_digit, is_ascii_alphanumeric}
-
-pub denied : (b : Bool) → not b ≡ true → b ≡ false
-denied true h = cc
-denied false h = refl
+use Rattle.sums.proofs.Booleans.{both, neither, denied}
 
 -- no byte of a word is a space or a tab
 plain : (w : List ℕ) (c : ℕ) → is_word w ≡ true → Contains w c → (is_space c ≡ false) × (is_tab c ≡ false)

@@ -1,16 +1,22 @@
 -- What the private types of this crate stand for, and the faults that single functions look for.
-use Rattle.std.specs.Prelude.{◌≡◌, ℕ, Bool, false, List, [], ◌∷◌, map, drop, Option}
-use Rattle.std.specs.List.{list_any, find}
+use Rattle.std.specs.Prelude.{◌≡◌, ℕ, Bool, false, if◌then◌else◌, List, [], ◌∷◌, map, drop, Option, Some, None}
+use Rattle.std.specs.BTreeMap.{BTreeMap, get_by}
+use Rattle.std.specs.Cmp.Lexicographic.{slice_cmp}
+use Rattle.std.specs.List.{find}
+use Rattle.std.specs.Option.{option_map}
+use Rattle.std.specs.Ordering.{nat_cmp}
 use Rattle.std.specs.Str.{bytes_eq}
 use Rattle.sums.specs.Lines.{LineForm, has_bad_words, has_bad_digest, has_bad_size, has_bad_name}
 use Rattle.para.specs.Field.{FieldValue}
-use Rattle.sums.specs.Lists.{Lines, NameAndSize, lines_of, applies_to_lines, faults, fault}
+use Rattle.sums.specs.Lists.{Lines, NameAndSize, has_twice, lines_of, applies_to_lines, faults, fault}
 use Rattle.sums.specs.declared.fault.ListFault.{ListFault}
 use Rattle.sums.specs.declared.lines.Form.{Form}
 use Rattle.sums.specs.declared.lines.Check.{Check}
 use Rattle.sums.specs.declared.lines.Check.TheVariants.{Words, Digest, Size, Name}
 use Rattle.sums.specs.declared.entries.ListKind.{ListKind}
+use Rattle.sums.specs.declared.names.FileList.{FileList}
 use Rattle.sums.specs.declared.names.SizedName.{SizedName}
+use denote.Ref.{Bor}
 use Rattle.sums.specs.declared.join.Lists.{Lists}
 
 abbrev pub line_form : Form → LineForm
@@ -37,10 +43,27 @@ fault_of_lines kind lines = find (applies_to_lines kind lines) (drop 2 faults)
 abbrev pub fault_of_names : ListKind → Lines → Option ListFault
 fault_of_names kind lines = find (applies_to_lines kind lines) (drop 6 faults)
 
--- the first name of a list stands in the rest of it
-abbrev pub name_stands_later : List NameAndSize → Bool
-name_stands_later [] = false
-name_stands_later (x ∷ xs) = list_any (λ y. bytes_eq x.name y.name) xs
+-- the size at a name
+abbrev pub size_in : BTreeMap (Bor (List ℕ)) (Bor (List ℕ)) → List ℕ → Option (List ℕ)
+size_in sizes name = option_map (λ size. size.now) (get_by (λ k. slice_cmp nat_cmp name k.now) sizes)
+
+-- the size of the first file of a name
+abbrev pub size_named : List NameAndSize → List ℕ → Option (List ℕ)
+size_named [] name = None
+size_named (f ∷ fs) name = if bytes_eq name f.name then Some f.size else size_named fs name
+
+abbrev pub is_size_of : NameAndSize → Option (List ℕ) → Bool
+is_size_of file None = false
+is_size_of file (Some size) = bytes_eq file.size size
+
+-- the sizes of files of which no two have one name
+pub record AreSizes (sizes : BTreeMap (Bor (List ℕ)) (Bor (List ℕ))) (files : List NameAndSize) : Type 0 where
+  pub once : has_twice files ≡ false
+  pub each : (name : List ℕ) → size_in sizes name ≡ size_named files name
+
+pub record IsFileList (list : FileList) (files : List NameAndSize) : Type 0 where
+  pub files_are : map in_names list.files.items ≡ files
+  pub sizes_are : AreSizes list.sizes files
 
 -- the three lists of a paragraph, each there with nothing behind its colon
 pub record AreLists (kind : ListKind) (paragraph : List FieldValue) (lists : Lists) : Type 0 where

@@ -8,7 +8,7 @@ use crate::entries::{Entry, ListKind};
 use crate::fault::ListFault;
 use crate::join::{Lists, SHA1_FORM, SHA256_FORM, entries, files_form};
 use crate::lines::{Check, some_fails};
-use crate::names::{disagree, has_twice, sized_lines};
+use crate::names::{disagree, file_list};
 use para::{Field, Paragraph};
 use std::alloc::Global;
 
@@ -46,16 +46,19 @@ fn check_lines(alloc: Global, lists: Lists<'_>) -> Result<(), ListFault>
 fn check_names(alloc: Global, lists: Lists<'_>) -> Result<(), ListFault>
     ensures { MatchResult result (λ _. fault_of_names lists.entry.kind (lines_in lists.entry) ≡ None) (λ e. (e ≡ ListFault.OutOfMemory) ⊎ (fault_of_names lists.entry.kind (lines_in lists.entry) ≡ Some e)) }
 {
-    let sha1 = sized_lines(alloc, SHA1_FORM, lists.sha1)?;
-    let sha256 = sized_lines(alloc, SHA256_FORM, lists.sha256)?;
-    let files = sized_lines(alloc, files_form(lists.kind), lists.files)?;
-    if has_twice(&sha1) || has_twice(&sha256) || has_twice(&files) {
+    let Some(sha1) = file_list(alloc, SHA1_FORM, lists.sha1)? else {
         return Err(ListFault::NameTwice);
-    }
+    };
+    let Some(sha256) = file_list(alloc, SHA256_FORM, lists.sha256)? else {
+        return Err(ListFault::NameTwice);
+    };
+    let Some(files) = file_list(alloc, files_form(lists.kind), lists.files)? else {
+        return Err(ListFault::NameTwice);
+    };
     if disagree(&sha1, &files) || disagree(&sha256, &files) {
         return Err(ListFault::ListsDisagree);
     }
-    if files.is_empty() || files.len() > MOST_FILES {
+    if lists.files.is_empty() || lists.files.len() > MOST_FILES {
         return Err(ListFault::BadCount);
     }
     Ok(())

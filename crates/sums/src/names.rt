@@ -1,19 +1,26 @@
 //! Names and sizes of the files of a list.
 
-ghost use Rattle.std.specs.Prelude.{◌≡◌, ◌<◌, IfOk, length, map, drop};
+ghost use Rattle.std.specs.Prelude.{◌≡◌, ◌<◌, List, IfOk, MatchOption, true, not, map};
 ghost use Rattle.std.specs.List.{list_any};
-ghost use Rattle.std.specs.Str.{bytes_eq};
-ghost use Rattle.sums.specs.Lists.{name_and_size, has_twice, same_file, lacks, disagree};
-ghost use Rattle.sums.specs.Views.{line_form, in_names, name_stands_later};
+ghost use Rattle.sums.specs.Lists.{NameAndSize, name_and_size, has_twice, disagree};
+ghost use Rattle.sums.specs.Views.{AreSizes, IsFileList, line_form, in_names, size_in, is_size_of};
 
 use crate::lines::{Form, word};
 use std::alloc::{AllocError, Global};
+use std::collections::BTreeMap;
+
+/// The files of a list, and their sizes by name.
+#[derive(Drop)]
+pub struct FileList<'a> {
+    files: Vec<SizedName<'a>>,
+    sizes: BTreeMap<&'a str, &'a str>,
+}
 
 /// What the lists have in common of a file: its name, and its size as it is written.
 #[derive(Clone, Copy)]
-pub struct SizedName<'a> {
-    pub name: &'a str,
-    pub size: &'a str,
+struct SizedName<'a> {
+    name: &'a str,
+    size: &'a str,
 }
 
 fn sized_name<'a>(form: Form, line: &'a str) -> SizedName<'a>
@@ -27,7 +34,7 @@ fn sized_name<'a>(form: Form, line: &'a str) -> SizedName<'a>
 }
 
 /// The names and sizes of the lines of a list.
-pub fn sized_lines<'a>(
+fn sized_lines<'a>(
     alloc: Global,
     form: Form,
     lines: &[&'a str],
@@ -41,58 +48,59 @@ pub fn sized_lines<'a>(
         .collect(alloc)
 }
 
-fn has_name(files: &[SizedName<'_>], name: &str) -> bool
-    ensures { result ≡ list_any (λ y. bytes_eq name.now y.name) (map in_names files.now) }
+/// The sizes of the files by their names, or nothing where a name stands twice.
+fn sizes_by_name<'a>(
+    alloc: Global,
+    files: &[SizedName<'a>],
+) -> Result<Option<BTreeMap<&'a str, &'a str>>, AllocError>
+    ensures { IfOk result (λ found. MatchOption found (has_twice (map in_names files.now) ≡ true) (λ sizes. AreSizes sizes (map in_names files.now))) }
 {
-    files.iter().any(|file| name == file.name)
+    let mut sizes = BTreeMap::new(alloc);
+    for file in files {
+        if sizes.insert(file.name, file.size)?.is_some() {
+            return Ok(None);
+        }
+    }
+    Ok(Some(sizes))
 }
 
-/// Whether the name of a file stands behind it too.
-fn stands_later(files: &[SizedName<'_>], index: usize) -> bool
-    requires { index < length files.now }
-    ensures { result ≡ name_stands_later (drop index (map in_names files.now)) }
+/// The files of the lines of a list, or nothing where a name stands twice.
+pub fn file_list<'a>(
+    alloc: Global,
+    form: Form,
+    lines: &[&'a str],
+) -> Result<Option<FileList<'a>>, AllocError>
+    requires { 0 < form.words }
+    ensures { IfOk result (λ found. MatchOption found (has_twice (map (name_and_size (line_form form)) (map (λ line. line.now) lines.now)) ≡ true)
+        (λ list. IsFileList list (map (name_and_size (line_form form)) (map (λ line. line.now) lines.now)))) }
 {
-    let (_, behind) = files.split_at(index);
-    match behind.split_first() {
-        Some((first, rest)) => has_name(rest, first.name),
+    let files = sized_lines(alloc, form, lines)?;
+    match sizes_by_name(alloc, &files)? {
+        Some(sizes) => Ok(Some(FileList { files, sizes })),
+        None => Ok(None),
+    }
+}
+
+/// Whether that is the size of the file.
+fn has_size(sizes: &BTreeMap<&str, &str>, file: &SizedName<'_>) -> bool
+    ensures { result ≡ is_size_of (in_names file.now) (size_in sizes.now file.now.name.now) }
+{
+    match sizes.get(file.name) {
+        Some(size) => file.size == *size,
         None => false,
     }
 }
 
-/// Whether some name stands twice in a list.
-pub fn has_twice(files: &[SizedName<'_>]) -> bool
-    ensures { result ≡ has_twice (map in_names files.now) }
+/// Whether some file has another size there, or none.
+fn lacks(files: &[SizedName<'_>], sizes: &BTreeMap<&str, &str>) -> bool
+    ensures { result ≡ list_any (λ file. not (is_size_of file (size_in sizes.now file.name))) (map in_names files.now) }
 {
-    for i in 0..files.len() {
-        if stands_later(files, i) {
-            return true;
-        }
-    }
-    false
-}
-
-fn same_file(left: &SizedName<'_>, right: &SizedName<'_>) -> bool
-    ensures { result ≡ same_file (in_names left.now) (in_names right.now) }
-{
-    left.name == right.name && left.size == right.size
-}
-
-fn has_file(file: &SizedName<'_>, files: &[SizedName<'_>]) -> bool
-    ensures { result ≡ list_any (same_file (in_names file.now)) (map in_names files.now) }
-{
-    files.iter().any(|other| same_file(file, other))
-}
-
-/// Whether some file of the first list does not stand in the second with that size.
-fn lacks(left: &[SizedName<'_>], right: &[SizedName<'_>]) -> bool
-    ensures { result ≡ lacks (map in_names left.now) (map in_names right.now) }
-{
-    left.iter().any(|file| !has_file(file, right))
+    files.iter().any(|file| !has_size(sizes, file))
 }
 
 /// Whether one of two lists has a file that the other has not with that size.
-pub fn disagree(left: &[SizedName<'_>], right: &[SizedName<'_>]) -> bool
-    ensures { result ≡ disagree (map in_names left.now) (map in_names right.now) }
+pub fn disagree(left: &FileList<'_>, right: &FileList<'_>) -> bool
+    ensures { (xs ys : List NameAndSize) → IsFileList left.now xs → IsFileList right.now ys → result ≡ disagree xs ys }
 {
-    lacks(left, right) || lacks(right, left)
+    lacks(&left.files, &right.sizes) || lacks(&right.files, &left.sizes)
 }

@@ -1,0 +1,75 @@
+-- A text and the configuration that it is.
+use Rattle.std.proofs.Common.{◌≡◌, ◌≢◌, ◌≤◌, ◌⊎◌, inl, inr, ℕ, List, [], length, map, Option, Some, None, Result, Ok, Err, refl, sym, ap, ◌∙◌}
+use Rattle.para.specs.Fields.{Fields, paragraphs_in}
+use Rattle.para.specs.declared.fault.ParaFault.{ParaFault}
+use Rattle.para.specs.declared.fault.ParaFault.TheVariants as para_faults
+use Rattle.para.proofs.InText.{spelled_paragraphs, paragraphs_spelled}
+use Rattle.rules.specs.Fault.{of_paragraph}
+use Rattle.rules.specs.Paragraphs.{suite_of}
+use Rattle.rules.specs.Values.{ConfigValue}
+use Rattle.rules.specs.Configuration.{config_fault, config_of, config_limit, unless, of_paragraphs, config_in, IsConfig}
+use Rattle.rules.specs.declared.suite.Suite.{Suite}
+use Rattle.rules.specs.declared.fault.ConfigFault.{ConfigFault}
+use Rattle.rules.specs.declared.fault.ConfigFault.TheVariants as faults
+
+of_paragraph_is : (f : ParaFault) → (of_paragraph f ≡ faults.OutOfMemory) ⊎ (of_paragraph f ≡ faults.Paragraph f)
+of_paragraph_is para_faults.OutOfMemory = inl refl
+of_paragraph_is _ = inr refl
+
+-- a text that gives no paragraphs
+pub refused_text : (text : List ℕ) (f : ParaFault) → (f ≡ para_faults.OutOfMemory) ⊎ (paragraphs_in text config_limit ≡ Err f)
+    → (of_paragraph f ≡ faults.OutOfMemory) ⊎ (config_in text ≡ Err (of_paragraph f))
+unfolding config_in
+refused_text text f (inl q) = inl (ap of_paragraph q)
+refused_text text f (inr q) = elim (of_paragraph_is f) [
+  | inl p ↦ inl p
+  | inr p ↦ inr (ap (of_paragraphs text) q ∙ ap Err (sym p))
+]
+
+-- a text whose paragraphs have a fault
+pub refused_paragraphs : (text : List ℕ) (ps : List Fields) (e : ConfigFault) → paragraphs_in text config_limit ≡ Ok ps
+    → (e ≡ faults.OutOfMemory) ⊎ (config_fault ps ≡ Some e) → (e ≡ faults.OutOfMemory) ⊎ (config_in text ≡ Err e)
+unfolding config_in
+refused_paragraphs text ps e found (inl memory) = inl memory
+refused_paragraphs text ps e found (inr bad) = inr (ap (of_paragraphs text) found ∙ ap (λ f. unless f (config_of text ps)) bad)
+
+-- the configuration of a text whose paragraphs have none
+pub configured : (text bytes : List ℕ) (ps : List Fields) (suites : List Suite) → paragraphs_in text config_limit ≡ Ok ps → config_fault ps ≡ None
+    → bytes ≡ text → suites ≡ map suite_of ps → config_in text ≡ Ok (record { text = bytes; suites = suites })
+unfolding config_in
+configured text bytes ps suites found none copied made =
+    ap (of_paragraphs text) found ∙ ap (λ f. unless f (config_of text ps)) none
+    ∙ (λ i. Ok (record { text = sym copied i; suites = sym made i }))
+
+-- the same of a copy of the text
+pub configured_copy : (text bytes : List ℕ) (ps : List Fields) (suites : List Suite) → paragraphs_in text config_limit ≡ Ok ps → config_fault ps ≡ None
+    → bytes ≡ text → suites ≡ map suite_of ps → config_in bytes ≡ Ok (record { text = bytes; suites = suites })
+configured_copy text bytes ps suites found none copied made = ap config_in copied ∙ configured text bytes ps suites found none copied made
+
+unless_ok : (f : Option ConfigFault) (c d : ConfigValue) → unless f c ≡ Ok d → (f ≡ None) × (c ≡ d)
+unless_ok None c d h = (refl, cc)
+unless_ok (Some e) c d h = cc
+
+of_paragraphs_ok : (text : List ℕ) (config : ConfigValue) (r : Result (List Fields) ParaFault) → paragraphs_in text config_limit ≡ r
+    → of_paragraphs text r ≡ Ok config → IsConfig text config
+of_paragraphs_ok text config (Ok ps) e h =
+    let s = spelled_paragraphs text config_limit ps e in
+    let u = unless_ok (config_fault ps) (config_of text ps) config h in
+    record { paragraphs = ps; within = s.0; some = s.1; spelled = s.2; faultless = u.0; value = sym u.1 }
+of_paragraphs_ok text config (Err f) e h = cc
+
+pub is_config : (text : List ℕ) (config : ConfigValue) → config_in text ≡ Ok config → IsConfig text config
+unfolding config_in
+is_config text config h = of_paragraphs_ok text config (paragraphs_in text config_limit) refl h
+
+pub config_is_in : (text : List ℕ) (config : ConfigValue) → IsConfig text config → config_in text ≡ Ok config
+unfolding config_in
+config_is_in text config h =
+    ap (of_paragraphs text) (paragraphs_spelled text config_limit h.paragraphs (h.within, h.some, h.spelled))
+    ∙ ap (λ f. unless f (config_of text h.paragraphs)) h.faultless ∙ ap Ok (sym h.value)
+
+pub none_is_config : (text : List ℕ) (e : ConfigFault) (config : ConfigValue) → config_in text ≡ Err e → ¬ IsConfig text config
+none_is_config text e config h k = let both = sym (config_is_in text config k) ∙ h in cc
+
+pub one_config : (text : List ℕ) (c d : ConfigValue) → IsConfig text c → IsConfig text d → c ≡ d
+one_config text c d h k = let both = sym (config_is_in text c h) ∙ config_is_in text d k in cc

@@ -1,0 +1,29 @@
+use Rattle.std.proofs.Common.{◌≡◌, ◌∙◌, sym, ap, rules, ℕ, List, map, Ok}
+use Rattle.std.proofs.lemmas.Result.{err_from_is_err_and}
+use Rattle.para.specs.Fields.{Fields}
+use Rattle.rules.specs.Paragraphs.{suite_of}
+use Rattle.rules.specs.Configuration.{config_fault}
+use Rattle.rules.proofs.Configs.{refused_text, refused_paragraphs, configured, configured_copy}
+use Rattle.rules.proofs.config.Config.read.Goals as goal
+
+pub returns-in_err-paragraphs-clause-refused : goal.returns-in_err-paragraphs-clause-refused
+returns-in_err-paragraphs-clause-refused c =
+    let p = err_from_is_err_and c.from_residual.result c.from_residual.ensures.1 in
+    rw (p.1, p.2) (refused_text c.args.text.now _ c.in_err-paragraphs.ensures.refused)
+
+pub returns-in_err-check-clause-refused : goal.returns-in_err-check-clause-refused
+returns-in_err-check-clause-refused c =
+    let p = err_from_is_err_and c.from_residual-in_err-check.result c.from_residual-in_err-check.ensures.1 in
+    rw (p.1, p.2) (refused_paragraphs c.args.text.now c.deref.result.now _ (c.in_ok-paragraphs.ensures.read ∙ ap Ok (sym c.deref.ensures.value)) c.in_err-check.ensures.refused)
+
+pub invariant_of-result : goal.invariant_of-result
+invariant_of-result c =
+    let copied : c.in_ok-text.text.items ≡ c.args.text.now = search rules in
+    configured_copy c.args.text.now c.in_ok-text.text.items c.in_ok-paragraphs.paragraphs.items c.in_ok-suites.suites c.in_ok-paragraphs.ensures.read
+    (ap config_fault (sym c.deref.ensures.value) ∙ c.in_ok-check.ensures.accepted) copied (c.in_ok-suites.ensures.found ∙ ap (λ ps. map suite_of ps) c.deref-2.ensures.value)
+
+pub returns-clause-read : goal.returns-clause-read
+returns-clause-read c =
+    let copied : c.in_ok-text.text.items ≡ c.args.text.now = search rules in
+    configured c.args.text.now c.in_ok-text.text.items c.in_ok-paragraphs.paragraphs.items c.in_ok-suites.suites c.in_ok-paragraphs.ensures.read
+    (ap config_fault (sym c.deref.ensures.value) ∙ c.in_ok-check.ensures.accepted) copied (c.in_ok-suites.ensures.found ∙ ap (λ ps. map suite_of ps) c.deref-2.ensures.value)

@@ -1,0 +1,64 @@
+-- Which configuration a text is, one paragraph a suite, and the first fault of a text that is none.
+use Rattle.std.specs.Prelude.{◌≡◌, ◌≢◌, ◌≤◌, ℕ, ◌++◌, nat_lt, Bool, false, ◌||◌, List, [], ◌∷◌, length, map, Option, Some, None, Result, Ok, Err}
+use Rattle.std.specs.List.{find, list_any}
+use Rattle.para.specs.Fields.{Fields, paragraphs_in}
+use Rattle.para.specs.Grammar.{Spells}
+use Rattle.para.specs.declared.fault.ParaFault.{ParaFault}
+use Rattle.records.specs.Records.{is_among}
+use Rattle.rules.specs.Paragraphs.{suite_of, names_claimed, lacks_field, has_bad_value, has_bad_rule, is_over_limits}
+use Rattle.rules.specs.Values.{ConfigValue}
+use Rattle.rules.specs.declared.fault.ConfigFault.{ConfigFault}
+use Rattle.rules.specs.declared.fault.ConfigFault.TheVariants as faults
+
+-- of the names that suites claim, one suite after the other: some suite claims a name that one before it claims, or
+-- that is among those claimed already
+abbrev pub claims_again : List (List ℕ) → List (List (List ℕ)) → Bool
+claims_again claimed [] = false
+claims_again claimed (names ∷ rest) = list_any (is_among claimed) names || claims_again (claimed ++ names) rest
+
+-- when each fault applies to the paragraphs of a text, whatever the others do
+abbrev pub applies : List Fields → ConfigFault → Bool
+applies ps faults.Missing = list_any lacks_field ps
+applies ps faults.BadValue = list_any has_bad_value ps
+applies ps faults.ClaimedTwice = claims_again [] (map names_claimed ps)
+applies ps faults.BadRule = list_any has_bad_rule ps
+applies ps faults.Limits = nat_lt 16 (length ps) || list_any is_over_limits ps
+applies ps _ = false
+
+-- the faults of paragraphs, in the order of their numbers
+abbrev pub config_faults : List ConfigFault
+config_faults = faults.Missing ∷ faults.BadValue ∷ faults.ClaimedTwice ∷ faults.BadRule ∷ faults.Limits ∷ []
+
+-- the fault of lowest number that applies to paragraphs
+unfoldable pub config_fault : List Fields → Option ConfigFault
+config_fault ps = find (applies ps) config_faults
+
+abbrev pub config_of : List ℕ → List Fields → ConfigValue
+config_of text ps = record { text = text; suites = map suite_of ps }
+
+-- the fault, or the configuration where there is none
+abbrev pub unless : Option ConfigFault → ConfigValue → Result ConfigValue ConfigFault
+unless None config = Ok config
+unless (Some fault) config = Err fault
+
+-- of a text that spells no paragraphs its fault, else what is made of the paragraphs
+abbrev pub of_paragraphs : List ℕ → Result (List Fields) ParaFault → Result ConfigValue ConfigFault
+of_paragraphs text (Ok ps) = unless (config_fault ps) (config_of text ps)
+of_paragraphs text (Err fault) = Err (faults.Paragraph fault)
+
+abbrev pub config_limit : ℕ
+config_limit = 1_048_576
+
+-- the configuration that a text is, or the fault of lowest number
+unfoldable pub config_in : List ℕ → Result ConfigValue ConfigFault
+config_in text = of_paragraphs text (paragraphs_in text config_limit)
+
+-- The text is within the limit, spells one or more paragraphs to which no fault applies, and the configuration is
+-- that text and a suite for each of them.
+pub record IsConfig (text : List ℕ) (config : ConfigValue) : Type 0 where
+  pub paragraphs : List Fields
+  pub within : length text ≤ config_limit
+  pub some : paragraphs ≢ []
+  pub spelled : Spells text paragraphs
+  pub faultless : config_fault paragraphs ≡ None
+  pub value : config ≡ config_of text paragraphs

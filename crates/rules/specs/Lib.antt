@@ -1,0 +1,9 @@
+pub mod Values
+pub mod Suites
+pub mod Verdicts
+pub mod Judgement
+pub mod Uploaders
+pub mod Paragraphs
+pub mod Fault
+pub mod Configuration
+pub mod Claimed

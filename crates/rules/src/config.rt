@@ -1,0 +1,89 @@
+//! The configuration of an archive.
+
+ghost use Rattle.std.specs.Prelude.{◌≡◌, ◌⊎◌, Ok, Err, IfOk, IfErr};
+ghost use Rattle.rules.specs.Suites.{claiming};
+ghost use Rattle.rules.specs.Configuration.{config_in};
+
+use crate::checks::check;
+use crate::fault::ConfigFault;
+use crate::paragraph::suites_of;
+use crate::suite::Suite;
+use para::{Listed, read_many};
+use std::alloc::Global;
+use std::marker::Model;
+
+/// The longest text that is read.
+const LIMIT: usize = 1_048_576;
+
+/// The configuration of an archive: the text that it was read from, and its suites in the order of the text.
+#[derive(Debug, Drop)]
+pub struct Config {
+    text: Vec<u8>,
+    suites: Listed<Suite>,
+}
+
+impl Model for Config {
+    ghost use Rattle.std.specs.Prelude.{◌≡◌, Ok};
+    ghost use Rattle.rules.specs.Values.{ConfigValue};
+    ghost use Rattle.rules.specs.Configuration.{config_in};
+
+    ghost Value = { ConfigValue };
+
+    ghost view = { λ c. record { text = c.text.items; suites = c.suites } };
+
+    ghost invariant = { λ c. config_in c.text.items ≡ Ok (record { text = c.text.items; suites = c.suites }) };
+}
+
+impl Config {
+    /// Reads a configuration, of which it keeps a copy of the text (own rules of this archive): at most 1,048,576 bytes,
+    /// one control paragraph (Debian Policy 5.1) for each suite.
+    ///
+    /// Of these refusals the first that applies, anywhere in the text, is the answer:
+    /// - `Paragraph`: the text is too long, or is not one or more paragraphs;
+    /// - `Missing`: a Codename, Architectures or Components is absent or without a word;
+    /// - `BadValue`: a Codename or Suite is not one line with a plain name; an Origin, Label or Description is not one
+    ///   line, or is empty; the words of Architectures are not architecture names other than `all`, or one stands twice;
+    ///   those of Components are not plain names, or one stands twice; those of an AlsoAcceptFor are not one plain name
+    ///   or more;
+    /// - `ClaimedTwice`: two suites claim one distribution name, as Codename, as Suite or in AlsoAcceptFor;
+    /// - `BadRule`: an Uploaders has text on its first line, or a line that is not `SOURCE by PERSON`;
+    /// - `Limits`: there are more than 16 suites, or a suite has more than 16 architectures, 8 components or 256
+    ///   uploader lines.
+    ///
+    /// `OutOfMemory` may come in place of any other answer where memory is short.
+    pub fn read(alloc: Global, text: &[u8]) -> Result<Config, ConfigFault>
+        ensures read { IfOk result (λ c. config_in text.now ≡ Ok c) }
+        ensures refused { IfErr result (λ e. (e ≡ ConfigFault.OutOfMemory) ⊎ (config_in text.now ≡ Err e)) }
+    {
+        let paragraphs = read_many(alloc, text, LIMIT)?;
+        check(alloc, &paragraphs)?;
+        let suites = suites_of(alloc, &paragraphs)?;
+        let text = text.to_vec(alloc)?;
+        Ok(Config { text, suites })
+    }
+
+    /// The bytes that were read.
+    pub fn text(&self) -> &[u8]
+        ensures text { result.now ≡ self.now.text }
+        ensures read { config_in self.now.text ≡ Ok self.now }
+    {
+        self.text.as_slice()
+    }
+
+    /// The suites, in the order of the text.
+    pub fn suites(&self) -> &[Suite]
+        ensures { result.now ≡ self.now.suites }
+    {
+        self.suites.as_slice()
+    }
+
+    /// The position of the suite that claims the distribution name as its Codename, its Suite or a word of its
+    /// AlsoAcceptFor; no two suites claim one name. No memory is taken.
+    pub fn suite_for(&self, distribution: &str) -> Option<usize>
+        ensures { result ≡ claiming distribution.now self.now.suites }
+    {
+        self.suites()
+            .iter()
+            .position(|suite| suite.claims(distribution))
+    }
+}

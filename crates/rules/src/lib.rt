@@ -1,0 +1,23 @@
+//! The configuration of an archive, and what it says of an upload.
+#![tactic(auto)]
+
+mod checks;
+mod config;
+mod fault;
+mod judgement;
+mod laws;
+mod names;
+mod paragraph;
+mod suite;
+#[cfg(test)]
+mod tests;
+mod uploader;
+mod verdict;
+
+pub use config::Config;
+pub use fault::ConfigFault;
+pub use judgement::{Place, judge};
+pub use laws::{configurations_are_read, one_configuration};
+pub use suite::{Suite, component_of_section};
+pub use uploader::{Rule, SourcePattern};
+pub use verdict::Verdict;

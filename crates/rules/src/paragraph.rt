@@ -1,0 +1,137 @@
+//! The suite that a paragraph of the configuration describes.
+
+ghost use Rattle.std.specs.Prelude.{◌≡◌, IfOk, IfErr, map, unwrap_or, codes};
+ghost use Rattle.std.specs.Option.{option_map};
+ghost use Rattle.rules.specs.Paragraphs.{first_line, words, lines_behind, suite_of, names_claimed};
+ghost use Rattle.rules.specs.Uploaders.{rules_in};
+
+use crate::fault::ConfigFault;
+use crate::names::texts_of;
+use crate::suite::Suite;
+use crate::uploader::{Rule, rules_of};
+use para::{Listed, Paragraph, Text, fold};
+use std::alloc::{AllocError, Global};
+
+/// The first line of the field, if it is there.
+#[tactic(auto, unfolding(crate::specs::Paragraphs::first_line))]
+fn first_line<'a>(paragraph: &Paragraph<'a>, name: &str) -> Option<&'a str>
+    ensures { option_map (λ line. line.now) result ≡ first_line name.now paragraph.now }
+{
+    match paragraph.get(name) {
+        Some(field) => Some(field.first),
+        None => None,
+    }
+}
+
+/// The words of the field; of an absent one none.
+#[tactic(auto, unfolding(crate::specs::Paragraphs::words))]
+pub fn words_of<'a>(
+    alloc: Global,
+    paragraph: &Paragraph<'a>,
+    name: &str,
+) -> Result<Vec<&'a str>, ConfigFault>
+    ensures found { IfOk result (λ found. map (λ word. word.now) found.items ≡ words name.now paragraph.now) }
+    ensures refused { IfErr result (λ e. e ≡ ConfigFault.OutOfMemory) }
+{
+    match paragraph.get(name) {
+        Some(field) => Ok(fold(alloc, field)?),
+        None => Ok(Vec::new(alloc)),
+    }
+}
+
+/// A copy of the first line of the field, if it is there.
+fn text_of(
+    alloc: Global,
+    paragraph: &Paragraph<'_>,
+    name: &str,
+) -> Result<Option<Text>, AllocError>
+    ensures { IfOk result (λ text. text ≡ first_line name.now paragraph.now) }
+{
+    match first_line(paragraph, name) {
+        Some(line) => Ok(Some(Text::new(alloc, line)?)),
+        None => Ok(None),
+    }
+}
+
+/// The codename of a suite.
+fn codename<'a>(paragraph: &Paragraph<'a>) -> &'a str
+    ensures { result.now ≡ (suite_of paragraph.now).codename }
+{
+    first_line(paragraph, "Codename").unwrap_or("")
+}
+
+/// The uploader lines of a suite, if it has the field.
+#[tactic(auto, unfolding(crate::specs::Paragraphs::lines_behind))]
+fn uploaders_of(
+    alloc: Global,
+    paragraph: &Paragraph<'_>,
+) -> Result<Option<Listed<Rule>>, AllocError>
+    ensures { IfOk result (λ rules. rules ≡ (suite_of paragraph.now).uploaders) }
+{
+    match paragraph.get("Uploaders") {
+        Some(field) => Ok(Some(rules_of(alloc, &field.more)?)),
+        None => Ok(None),
+    }
+}
+
+/// The distribution names that a suite claims.
+#[tactic(auto, unfolding(crate::specs::Paragraphs::names_claimed))]
+pub fn claimed_names<'a>(
+    alloc: Global,
+    paragraph: &Paragraph<'a>,
+) -> Result<Vec<&'a str>, ConfigFault>
+    ensures found { IfOk result (λ found. map (λ name. name.now) found.items ≡ names_claimed paragraph.now) }
+    ensures refused { IfErr result (λ e. e ≡ ConfigFault.OutOfMemory) }
+{
+    let mut names = words_of(alloc, paragraph, "AlsoAcceptFor")?;
+    if let Some(suite) = first_line(paragraph, "Suite") {
+        names.insert(0, suite)?;
+    }
+    names.insert(0, codename(paragraph))?;
+    Ok(names)
+}
+
+/// The words of the field, copied.
+fn names_of(
+    alloc: Global,
+    paragraph: &Paragraph<'_>,
+    name: &str,
+) -> Result<Listed<Text>, ConfigFault>
+    ensures found { IfOk result (λ names. names ≡ words name.now paragraph.now) }
+    ensures refused { IfErr result (λ e. e ≡ ConfigFault.OutOfMemory) }
+{
+    Ok(texts_of(alloc, &words_of(alloc, paragraph, name)?)?)
+}
+
+/// The suite of a paragraph.
+pub fn suite_of(alloc: Global, paragraph: &Paragraph<'_>) -> Result<Suite, ConfigFault>
+    ensures found { IfOk result (λ suite. suite ≡ suite_of paragraph.now) }
+    ensures refused { IfErr result (λ e. e ≡ ConfigFault.OutOfMemory) }
+{
+    Ok(Suite {
+        codename: Text::new(alloc, codename(paragraph))?,
+        suite: text_of(alloc, paragraph, "Suite")?,
+        origin: text_of(alloc, paragraph, "Origin")?,
+        label: text_of(alloc, paragraph, "Label")?,
+        description: text_of(alloc, paragraph, "Description")?,
+        architectures: names_of(alloc, paragraph, "Architectures")?,
+        components: names_of(alloc, paragraph, "Components")?,
+        also_accept_for: names_of(alloc, paragraph, "AlsoAcceptFor")?,
+        uploaders: uploaders_of(alloc, paragraph)?,
+    })
+}
+
+/// The suites of paragraphs.
+pub fn suites_of(
+    alloc: Global,
+    paragraphs: &[Paragraph<'_>],
+) -> Result<Listed<Suite>, ConfigFault>
+    ensures found { IfOk result (λ suites. suites ≡ map suite_of paragraphs.now) }
+    ensures refused { IfErr result (λ e. e ≡ ConfigFault.OutOfMemory) }
+{
+    let mut suites = Vec::new(alloc);
+    for paragraph in paragraphs {
+        suites.push(suite_of(alloc, paragraph)?)?;
+    }
+    Ok(Listed::from_vec(suites))
+}

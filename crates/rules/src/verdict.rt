@@ -1,0 +1,49 @@
+//! What becomes of an upload.
+
+ghost use Rattle.std.specs.Prelude.{◌≡◌};
+ghost use Rattle.rules.specs.Verdicts.{number_of};
+
+/// What becomes of an upload; the lowest that applies is given (own rules of this archive).
+#[derive(Clone, Copy, Debug, PartialEq, Eq)]
+pub enum Verdict {
+    /// None of the others applies.
+    Accepted,
+    /// No suite claims the distribution.
+    Unclaimed,
+    /// The suite does not keep an architecture of the .changes.
+    ForeignArchitecture,
+    /// No uploader line of the suite allows source and person.
+    NotAllowed,
+    /// The components of the entries differ, or the suite does not have it.
+    ForeignComponent,
+    /// The listed files are not those that an upload has.
+    BadListing,
+    /// The .dsc is refused, or does not fit the .changes.
+    BadDsc,
+    /// A sidecar is refused, or does not fit the .changes.
+    BadSidecar,
+    /// A file of the .dsc is neither in the upload nor in the pool.
+    NotInPool,
+    /// The pool holds other contents at a path of the upload.
+    OtherContents,
+}
+
+impl Verdict {
+    /// The number of the verdict, 0 to 9.
+    pub fn number(self) -> u8
+        ensures { result ≡ number_of self }
+    {
+        match self {
+            Verdict::Accepted => 0,
+            Verdict::Unclaimed => 1,
+            Verdict::ForeignArchitecture => 2,
+            Verdict::NotAllowed => 3,
+            Verdict::ForeignComponent => 4,
+            Verdict::BadListing => 5,
+            Verdict::BadDsc => 6,
+            Verdict::BadSidecar => 7,
+            Verdict::NotInPool => 8,
+            Verdict::OtherContents => 9,
+        }
+    }
+}

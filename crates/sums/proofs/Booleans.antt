@@ -1,0 +1,33 @@
+-- Tests that are put together.
+use Rattle.std.proofs.Common.{◌≡◌, ◌||◌, ◌&&◌, Bool, true, false, cond, not, Option, Some, None, refl}
+
+pub both : (a b : Bool) → (a && b) ≡ true → (a ≡ true) × (b ≡ true)
+both true b h = (refl, h)
+both false b h = cc
+
+pub neither : (a b : Bool) → (a || b) ≡ false → (a ≡ false) × (b ≡ false)
+neither true b h = cc
+neither false b h = (refl, h)
+
+pub three : (a b c : Bool) → a ≡ false → b ≡ false → c ≡ false → (a || b || c) ≡ false
+three a b c p q r = rw (p, q, r) refl
+
+pub or_true : (b : Bool) → (b || true) ≡ true
+or_true true = refl
+or_true false = refl
+
+pub passed : (b : Bool) → not b ≡ false → b ≡ true
+passed true h = refl
+passed false h = cc
+
+pub denied : (b : Bool) → not b ≡ true → b ≡ false
+denied true h = cc
+denied false h = refl
+
+-- the first of several faults is none where its test fails and the rest has none
+pub none_of : {X : Type 0} (b : Bool) (x : X) (y : Option X) → cond b (Some x) y ≡ None → (b ≡ false) × (y ≡ None)
+none_of true x y h = cc
+none_of false x y h = (refl, h)
+
+pub passes : {X : Type 0} (b : Bool) (x : X) (y : Option X) → b ≡ false → y ≡ None → cond b (Some x) y ≡ None
+passes b x y p q = rw p q
