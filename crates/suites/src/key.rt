@@ -1,0 +1,108 @@
+//! Where an item stands: its suite, and within it one shelf for each kind, package and architecture.
+
+ghost use Rattle.std.specs.Prelude.{◌≡◌};
+ghost use Rattle.std.specs.Ordering.{as_partial_cmp, eq_by_cmp};
+
+use para::Text;
+use std::alloc::AllocError;
+use std::cmp::Ordering;
+
+/// What an item is.
+#[derive(Debug, Clone, Copy, PartialEq, Eq)]
+pub enum Kind {
+    Source,
+    Binary,
+}
+
+impl Kind {
+    ghost use Rattle.suites.specs.Keys.{kind_number};
+
+    fn number(self) -> u8
+        ensures { result ≡ kind_number self }
+    {
+        match self {
+            Kind::Source => 0,
+            Kind::Binary => 1,
+        }
+    }
+}
+
+/// Where an item stands: one item a key is shown.
+#[derive(Drop)]
+pub struct ShelfKey {
+    pub suite: usize,
+    pub kind: Kind,
+    pub package: Text,
+    pub architecture: Text,
+}
+
+impl ShelfKey {
+    /// Another copy of the key.
+    pub fn try_clone(&self) -> Result<ShelfKey, AllocError> {
+        Ok(ShelfKey {
+            suite: self.suite,
+            kind: self.kind,
+            package: self.package.try_clone()?,
+            architecture: self.architecture.try_clone()?,
+        })
+    }
+}
+
+impl Ord for ShelfKey {
+    ghost use Rattle.suites.specs.Keys.{key_order};
+    ghost use Rattle.suites.specs.KeyLemmas.{key_order_total};
+    ghost use Rattle.std.specs.Prelude.{refl};
+
+    ghost cmp = { key_order };
+
+    ghost total = { key_order_total };
+
+    ghost matches_partial_cmp = { λ x y. refl };
+
+    ghost matches_eq = { λ x y. refl };
+
+    #[tactic(auto, unfolding(crate::specs::Keys::key_order))]
+    fn cmp(&self, other: &ShelfKey) -> Ordering {
+        self.suite
+            .cmp(&other.suite)
+            .then(self.kind.number().cmp(&other.kind.number()))
+            .then(self.package.as_str().cmp(other.package.as_str()))
+            .then(self.architecture.as_str().cmp(other.architecture.as_str()))
+    }
+}
+
+impl PartialOrd for ShelfKey {
+    ghost use Rattle.suites.specs.Keys.{key_order};
+    ghost use Rattle.suites.specs.KeyLemmas.{key_order_total};
+    ghost use Rattle.std.specs.Cmp.{partial_order_from_total};
+
+    ghost partial_cmp = { as_partial_cmp key_order };
+
+    ghost laws = { partial_order_from_total key_order_total };
+
+    fn partial_cmp(&self, other: &ShelfKey) -> Option<Ordering> {
+        Some(self.cmp(other))
+    }
+}
+
+impl PartialEq for ShelfKey {
+    ghost use Rattle.suites.specs.Keys.{key_order};
+    ghost use Rattle.suites.specs.KeyLemmas.{key_order_total};
+    ghost use Rattle.std.specs.Cmp.{eq_by_cmp_equiv, partial_equiv_from_equiv};
+
+    ghost eq = { eq_by_cmp key_order };
+
+    ghost laws = { partial_equiv_from_equiv (eq_by_cmp_equiv key_order_total) };
+
+    fn eq(&self, other: &ShelfKey) -> bool {
+        self.cmp(other) == Ordering::Equal
+    }
+}
+
+impl Eq for ShelfKey {
+    ghost use Rattle.suites.specs.Keys.{key_order};
+    ghost use Rattle.suites.specs.KeyLemmas.{key_order_total};
+    ghost use Rattle.std.specs.Cmp.{eq_by_cmp_equiv};
+
+    ghost laws = { eq_by_cmp_equiv key_order_total };
+}
