@@ -1,0 +1,37 @@
+//! What a change makes of what is kept.
+
+use para::{Listed, Text};
+use rules::Verdict;
+use suites::Plan;
+use sums::Print;
+
+/// A judged upload: the name and the print of its .changes, and its verdict.
+#[derive(Drop)]
+pub struct Judgement {
+    pub name: Text,
+    pub print: Print,
+    pub verdict: Verdict,
+}
+
+/// One step of a change: a plan, made for what the steps before it leave, and the judgement that it comes of, where it is
+/// that of an upload.
+#[derive(Drop)]
+pub struct Step {
+    pub judgement: Option<Judgement>,
+    pub plan: Plan,
+}
+
+/// A change, made whole or not at all: its steps in order. The moment, in seconds since 1970-01-01 00:00:00 UTC, becomes
+/// the date of each suite whose shown items change.
+#[derive(Drop)]
+pub struct Change {
+    pub moment: u64,
+    pub steps: Listed<Step>,
+}
+
+/// An upload without a verdict: the name of its .changes, and how many of the entries that it lists have not arrived.
+#[derive(Drop)]
+pub struct Waiting {
+    pub name: Text,
+    pub missing: usize,
+}

@@ -1,0 +1,13 @@
+//! What keeps an archive between calls: the trait of keepers, and a plain one in memory.
+#![tactic(auto)]
+
+mod change;
+mod fault;
+mod keeper;
+mod plain;
+mod scan;
+
+pub use change::{Change, Judgement, Step, Waiting};
+pub use fault::KeepFault;
+pub use keeper::{Keeper, LATEST};
+pub use plain::PlainKeeper;

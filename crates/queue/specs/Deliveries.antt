@@ -1,0 +1,47 @@
+-- Which deliveries are refused, whatever the archive holds.
+use Rattle.std.specs.Prelude.{ℕ, Bool, not, nat_eq, nat_lt, if◌then◌else◌, List, length, codes, Option, Some, None, Result, Ok, Err}
+use Rattle.std.specs.List.{ends_with}
+use Rattle.sums.specs.Lines.{is_file_name}
+use Rattle.records.specs.Records.{changes_in}
+use Rattle.records.specs.Values.{ChangesValue}
+use Rattle.records.specs.declared.fault.RecordFault.{RecordFault}
+use Rattle.queue.specs.declared.fault.Fault.{Fault}
+use Rattle.queue.specs.declared.fault.Fault.TheVariants.{OutOfMemory, BadName, TooLarge, Record, Keeper, Moment}
+
+-- the last moment that may be handed in, 2099-12-31 23:59:59 UTC
+abbrev pub latest : ℕ
+latest = 4102444799
+
+-- the most bytes of a delivered body
+abbrev pub most_bytes : ℕ
+most_bytes = 4194304
+
+-- the name of a .changes
+unfoldable pub is_changes_name : List ℕ → Bool
+is_changes_name name = ends_with nat_eq name (codes ".changes")
+
+abbrev pub fault_of_read : Result ChangesValue RecordFault → Option Fault
+fault_of_read (Ok changes) = None
+fault_of_read (Err fault) = Some (Record fault)
+
+-- the body of a .changes has to be one
+unfoldable pub record_fault : List ℕ → List ℕ → Option Fault
+record_fault name body = if is_changes_name name then fault_of_read (changes_in body) else None
+
+abbrev pub or_else : Option Fault → Option Fault → Option Fault
+or_else None other = other
+or_else (Some fault) other = Some fault
+
+-- Why a delivery is refused by its name, its body and its moment alone, the lowest that applies: the name is no file name,
+-- the body is too large, the body of a .changes is none, the moment is too late.
+unfoldable pub delivery_fault : List ℕ → List ℕ → ℕ → Option Fault
+delivery_fault name body moment =
+    if not (is_file_name name) then Some BadName
+    else (if nat_lt most_bytes (length body) then Some TooLarge
+    else or_else (record_fault name body) (if nat_lt latest moment then Some Moment else None))
+
+-- The refusal is the keeper's own: want of memory, or a disk or size that failed.
+abbrev pub IsKeepers : Fault → Type 0
+IsKeepers OutOfMemory = Unit {0}
+IsKeepers (Keeper fault) = Unit {0}
+IsKeepers fault = ⊥

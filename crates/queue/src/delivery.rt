@@ -1,0 +1,52 @@
+//! Which deliveries are refused, whatever the archive holds.
+
+ghost use Rattle.std.specs.Prelude.{◌≡◌, ◌⊎◌, ◌≤◌, Some, None, MatchResult, OnOk};
+ghost use Rattle.queue.specs.Deliveries.{delivery_fault, record_fault, is_changes_name};
+
+use crate::fault::Fault;
+use keep::LATEST;
+use records::Changes;
+use std::alloc::Global;
+use sums::is_file_name;
+
+/// The most bytes of a delivered body.
+const MOST_BYTES: usize = 4_194_304;
+
+#[tactic(auto, unfolding(crate::specs::Deliveries::is_changes_name))]
+fn is_changes_name(name: &str) -> bool
+    ensures { result ≡ is_changes_name name.now }
+{
+    name.as_bytes().ends_with(b".changes")
+}
+
+/// Refuses the body of a .changes that is none.
+#[tactic(auto, unfolding(crate::specs::Deliveries::record_fault))]
+fn check_record(alloc: Global, name: &str, body: &[u8]) -> Result<(), Fault>
+    ensures { MatchResult result (λ _. record_fault name.now body.now ≡ None)
+        (λ e. (e ≡ Fault.OutOfMemory) ⊎ (record_fault name.now body.now ≡ Some e)) }
+{
+    if is_changes_name(name) {
+        Changes::read(alloc, body)?;
+    }
+    Ok(())
+}
+
+/// Refuses a delivery by its name, its body and its moment alone, for the lowest fault that applies.
+#[tactic(auto, unfolding(crate::specs::Deliveries::delivery_fault))]
+pub fn check_delivery(alloc: Global, name: &str, body: &[u8], moment: u64) -> Result<(), Fault>
+    ensures judged { MatchResult result (λ _. delivery_fault name.now body.now moment ≡ None)
+        (λ e. (e ≡ Fault.OutOfMemory) ⊎ (delivery_fault name.now body.now moment ≡ Some e)) }
+    ensures in_time { OnOk result (moment ≤ LATEST) }
+{
+    if !is_file_name(name) {
+        return Err(Fault::BadName);
+    }
+    if body.len() > MOST_BYTES {
+        return Err(Fault::TooLarge);
+    }
+    check_record(alloc, name, body)?;
+    if moment > LATEST {
+        return Err(Fault::Moment);
+    }
+    Ok(())
+}
