@@ -66,11 +66,7 @@ fn judged_after(
 }
 
 /// What the suites show after the steps.
-fn shelves_after(
-    alloc: Global,
-    shelves: &Shelves,
-    steps: &[Step],
-) -> Result<Shelves, AllocError> {
+fn shelves_after(alloc: Global, shelves: &Shelves, steps: &[Step]) -> Result<Shelves, AllocError> {
     let mut after = shelves.try_clone(alloc)?;
     for step in steps {
         after.apply(alloc, &step.plan)?;
@@ -80,8 +76,18 @@ fn shelves_after(
 
 /// Whether a step changes what the suite shows.
 fn changes_suite(step: &Step, suite: usize) -> bool {
-    let put = step.plan.put.as_slice().iter().any(|entry| entry.0.suite == suite);
-    let dropped = step.plan.dropped.as_slice().iter().any(|entry| entry.0.suite == suite);
+    let put = step
+        .plan
+        .put
+        .as_slice()
+        .iter()
+        .any(|entry| entry.0.suite == suite);
+    let dropped = step
+        .plan
+        .dropped
+        .as_slice()
+        .iter()
+        .any(|entry| entry.0.suite == suite);
     put || dropped
 }
 

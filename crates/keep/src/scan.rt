@@ -43,9 +43,7 @@ pub fn copied(alloc: Global, bytes: &[u8]) -> Result<Listed<u8>, AllocError> {
 pub fn arrival_position(arrivals: &[Arrival], name: &str, print: Print) -> Option<usize>
     ensures { IfSome result (λ position. position < length arrivals.now) }
 {
-    arrivals
-        .iter()
-        .position(|arrival| arrival.name.as_str() == name && arrival.print == print)
+    arrivals.iter().position(|arrival| arrival.name.as_str() == name && arrival.print == print)
 }
 
 /// Whether the listed file has arrived.
@@ -63,9 +61,8 @@ pub fn missing_count(arrivals: &[Arrival], entries: &[Entry]) -> usize {
 
 /// Whether the .changes has a verdict.
 fn is_judged(judged: &[Judgement], changes: &Arrival) -> bool {
-    judged
-        .iter()
-        .any(|one| one.name.as_str() == changes.name.as_str() && one.print == changes.print)
+    judged.iter().any(|one| one.name.as_str() == changes.name.as_str()
+        && one.print == changes.print)
 }
 
 /// The record that a text is, or nothing where it is none.
@@ -107,11 +104,7 @@ pub fn candidates<'a>(
 }
 
 /// The text that an upload keeps of a listed file: the body that arrived, of a .dsc or a sidecar.
-fn kept_text(
-    alloc: Global,
-    arrivals: &[Arrival],
-    entry: &Entry,
-) -> Result<Listed<u8>, AllocError> {
+fn kept_text(alloc: Global, arrivals: &[Arrival], entry: &Entry) -> Result<Listed<u8>, AllocError> {
     if !has_text(entry.name.as_str()) {
         return Ok(Listed::from_vec(Vec::new(alloc)));
     }
@@ -132,12 +125,7 @@ pub fn upload_of(
     for entry in changes.entries() {
         texts.push(kept_text(alloc, arrivals, entry)?)?;
     }
-    Ok(Upload::new(
-        arrival.name.try_clone()?,
-        arrival.print,
-        changes,
-        texts,
-    ))
+    Ok(Upload::new(arrival.name.try_clone()?, arrival.print, changes, texts))
 }
 
 /// The body of a file of the pool: the one that the pool has at the path, or else one that arrived.

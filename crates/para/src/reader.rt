@@ -10,7 +10,7 @@ ghost use Rattle.para.specs.Reading.{trimmed, start, names_of, finished, IsStart
 use crate::blanks::{trim_end_blanks, trim_start_blanks, without_blank};
 use crate::fault::ParaFault;
 use crate::field::{Field, Paragraph};
-use crate::line::{has_content, has_refused_byte, is_name, split_name};
+use crate::line::{has_content, has_refused_byte, is_name, lower_name, split_name};
 use std::alloc::{AllocError, Global};
 use std::collections::BTreeSet;
 use std::mem;
@@ -101,7 +101,7 @@ impl<'a> Reader<'a> {
             return Err(ParaFault::NoColon(number));
         };
         self.end_field()?;
-        let is_new = self.names.insert(name.to_ascii_lowercase(self.alloc)?)?;
+        let is_new = self.names.insert(lower_name(self.alloc, name)?)?;
         if !is_new {
             return Err(ParaFault::FieldTwice(number));
         }

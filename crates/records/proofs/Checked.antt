@@ -182,15 +182,16 @@ architectures p h =
     record {
       some = is_nil-some names s.0;
       each = AllPass-from_list_all is_architecture_name names s.1;
-      differ = AllPairs-from_IsDistinct bytes_eq-Decides names (are_different-IsDistinct names s.2) }
+      differ = AllPairs-from_IsDistinct bytes_eq-Decides names (are_different-IsDistinct names s.2);
+    }
 
 pub are_architectures : (p : Fields) → AreArchitectures (records.words field.Architecture p) → records.bad_architectures p ≡ None
 unfolding records.bad_architectures records.are_architectures
 are_architectures p h =
     let names : List (List ℕ) = records.words field.Architecture p in
     pass _ faults.Architecture (and3_from (not (is_nil names)) (list_all is_architecture_name names) (are_different names)
-      (some-is_nil names h.some) (list_all-from_AllPass is_architecture_name names h.each)
-      (IsDistinct-are_different names (IsDistinct-from_AllPairs bytes_eq-Decides names h.differ)))
+    (some-is_nil names h.some) (list_all-from_AllPass is_architecture_name names h.each)
+    (IsDistinct-are_different names (IsDistinct-from_AllPairs bytes_eq-Decides names h.differ)))
 
 pub architecture : (p : Fields) → records.bad_architecture p ≡ None →
     (is_architecture_name (records.value field.Architecture p) ≡ true) × (records.value field.Architecture p ≢ codes "source")

@@ -3,3 +3,4 @@ pub mod FirstFault
 pub mod FromFields
 pub mod Checked
 pub mod Made
+pub mod RecordRead

@@ -48,17 +48,32 @@ changes_made p c h =
       distribution = refl;
       is_distribution = distribution p n.1.1.1.1.1.1.0;
       person = refl;
-      entries = listed kinds.Changes p n.1.1.1.1.1.1.1.0 })
+      entries = listed kinds.Changes p n.1.1.1.1.1.1.1.0;
+    })
 
 pub made_changes : (p : Fields) (c : ChangesValue) → MakesChanges p c → unless (records.changes_fault p) (records.changes_of p) ≡ Ok c
 made_changes p c m =
     let source = named_source (words field.Source p) c.source m.source in
     let entries = is_listed kinds.Changes p c.entries m.entries in
-    let none : records.changes_fault p ≡ None = none_applies (records.changes_checks p)
-          (none_missing records.changes_required p m.required, (all_simple records.changes_simple p m.simple,
-          (format_known records.changes_formats p m.format, (source.0, (versioned p (subst IsVersion m.version m.is_version),
-          (are_architectures p (subst AreArchitectures m.architectures m.are_architectures),
-          (is_distribution p (ap is_plain_name (sym m.distribution) ∙ m.is_distribution), (entries.0, tt)))))))) in
+    let none : records.changes_fault p ≡ None = none_applies (records.changes_checks p) (
+      none_missing records.changes_required p m.required,
+      (
+        all_simple records.changes_simple p m.simple,
+        (
+          format_known records.changes_formats p m.format,
+          (
+            source.0,
+            (
+              versioned p (subst IsVersion m.version m.is_version),
+              (
+                are_architectures p (subst AreArchitectures m.architectures m.are_architectures),
+                (is_distribution p (ap is_plain_name (sym m.distribution) ∙ m.is_distribution), (entries.0, tt)),
+              ),
+            ),
+          ),
+        ),
+      ),
+    ) in
     ap (λ f. unless f (records.changes_of p)) none
     ∙ ap Ok (same_changes c _ _ _ _ _ _ source.1 (sym m.version) (sym m.architectures) (sym m.distribution) (sym m.person) entries.1)
 
@@ -84,15 +99,25 @@ dsc_made p d h =
       version = refl;
       is_version = is_version p n.1.1.1.1.0;
       entries = listed kinds.Dsc p n.1.1.1.1.1.0;
-      own = own_absent records.dsc_own p n.1.1.1.1.1.1.0 })
+      own = own_absent records.dsc_own p n.1.1.1.1.1.1.0;
+    })
 
 pub made_dsc : (p : Fields) (d : DscValue) → MakesDsc p d → unless (records.dsc_fault p) (records.dsc_of p) ≡ Ok d
 made_dsc p d m =
     let entries = is_listed kinds.Dsc p d.entries m.entries in
-    let none : records.dsc_fault p ≡ None = none_applies (records.dsc_checks p)
-          (none_missing records.dsc_required p m.required, (all_simple records.dsc_simple p m.simple,
-          (format_known records.dsc_formats p m.format, (named _ (ap is_package_name (sym m.source) ∙ m.is_source),
-          (versioned p (subst IsVersion m.version m.is_version), (entries.0, (none_own records.dsc_own p m.own, tt))))))) in
+    let none : records.dsc_fault p ≡ None = none_applies (records.dsc_checks p) (
+      none_missing records.dsc_required p m.required,
+      (
+        all_simple records.dsc_simple p m.simple,
+        (
+          format_known records.dsc_formats p m.format,
+          (
+            named _ (ap is_package_name (sym m.source) ∙ m.is_source),
+            (versioned p (subst IsVersion m.version m.is_version), (entries.0, (none_own records.dsc_own p m.own, tt))),
+          ),
+        ),
+      ),
+    ) in
     ap (λ f. unless f (records.dsc_of p)) none ∙ ap Ok (same_dsc d _ _ _ (sym m.source) (sym m.version) entries.1)
 
 -- ---- a sidecar
@@ -119,16 +144,31 @@ sidecar_made p c h =
       is_version = is_version p n.1.1.1.1.0;
       architecture = refl;
       is_architecture = architecture p n.1.1.1.1.1.0;
-      own = own_absent records.sidecar_own p n.1.1.1.1.1.1.0 })
+      own = own_absent records.sidecar_own p n.1.1.1.1.1.1.0;
+    })
 
 pub made_sidecar : (p : Fields) (c : SidecarValue) → MakesSidecar p c → unless (records.sidecar_fault p) (records.sidecar_of p) ≡ Ok c
 made_sidecar p c m =
     let source = named_source (records.sidecar_source p) c.source m.source in
-    let none : records.sidecar_fault p ≡ None = none_applies (records.sidecar_checks p)
-          (none_missing records.sidecar_required p m.required, (all_simple records.sidecar_simple p m.simple,
-          (named _ (ap is_package_name (sym m.name) ∙ m.is_name), (source.0, (versioned p (subst IsVersion m.version m.is_version),
-          (is_architecture p (ap is_architecture_name (sym m.architecture) ∙ m.is_architecture.0) (λ e. m.is_architecture.1 (m.architecture ∙ e)),
-          (none_own records.sidecar_own p m.own, tt))))))) in
+    let none : records.sidecar_fault p ≡ None = none_applies (records.sidecar_checks p) (
+      none_missing records.sidecar_required p m.required,
+      (
+        all_simple records.sidecar_simple p m.simple,
+        (
+          named _ (ap is_package_name (sym m.name) ∙ m.is_name),
+          (
+            source.0,
+            (
+              versioned p (subst IsVersion m.version m.is_version),
+              (
+                is_architecture p (ap is_architecture_name (sym m.architecture) ∙ m.is_architecture.0) (λ e. m.is_architecture.1 (m.architecture ∙ e)),
+                (none_own records.sidecar_own p m.own, tt),
+              ),
+            ),
+          ),
+        ),
+      ),
+    ) in
     ap (λ f. unless f (records.sidecar_of p)) none ∙ ap Ok (same_sidecar c _ _ _ _ (sym m.name) (sym m.version) (sym m.architecture) source.1)
 
 -- ---- texts

@@ -18,8 +18,10 @@ fn is_lower_or_digit_byte(byte: u8) -> bool
 fn has_package_bytes(name: &str) -> bool
     ensures { result ≡ list_all is_package_byte name.now }
 {
-    name.bytes()
-        .all(|byte| is_lower_or_digit_byte(byte) || byte == b'+' || byte == b'-' || byte == b'.')
+    name.bytes().all(|byte| is_lower_or_digit_byte(byte)
+        || byte == b'+'
+        || byte == b'-'
+        || byte == b'.')
 }
 
 fn has_architecture_bytes(name: &str) -> bool

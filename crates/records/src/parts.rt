@@ -73,10 +73,7 @@ pub fn version_of(alloc: Global, paragraph: &Paragraph<'_>) -> Result<Version, R
     ensures refused { IfErr result
         (λ e. (e ≡ RecordFault.OutOfMemory) ⊎ (bad_version paragraph.now ≡ Some e)) }
 {
-    Ok(Version::parse(
-        alloc,
-        value_of(paragraph, FieldName::Version),
-    )?)
+    Ok(Version::parse(alloc, value_of(paragraph, FieldName::Version))?)
 }
 
 fn all_are_architectures(words: &[&str]) -> bool

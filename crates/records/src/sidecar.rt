@@ -67,10 +67,7 @@ const OWN: [FieldName; 5] = [
 
 /// The words that name the source, the package's name where there is no field Source (Debian Policy 5.6.1).
 #[tactic(auto, unfolding(crate::specs::Records::sidecar_source))]
-fn source_words<'a>(
-    alloc: Global,
-    paragraph: &Paragraph<'a>,
-) -> Result<Vec<&'a str>, RecordFault>
+fn source_words<'a>(alloc: Global, paragraph: &Paragraph<'a>) -> Result<Vec<&'a str>, RecordFault>
     ensures found { IfOk result (λ found. map (λ word. word.now) found.items ≡ sidecar_source paragraph.now) }
     ensures refused { IfErr result (λ e. e ≡ RecordFault.OutOfMemory) }
 {

@@ -9,10 +9,7 @@ mod names;
 mod sidecar;
 
 /// The text of an answer: of a refusal its fault, else `read`.
-fn answer_text<T: Drop>(
-    alloc: Global,
-    answer: Result<T, RecordFault>,
-) -> Result<String, Fail> {
+fn answer_text<T: Drop>(alloc: Global, answer: Result<T, RecordFault>) -> Result<String, Fail> {
     match answer {
         Ok(_) => Ok(String::from_str(alloc, "read")?),
         Err(fault) => Ok(format!(in alloc; "{fault}")?),
@@ -35,27 +32,19 @@ fn answer(alloc: Global, record: Record, text: &[u8]) -> Result<String, Fail> {
     }
 }
 
-/// A text in which each `old` is replaced, and its answer.
-#[derive(Clone, Copy)]
-struct Row {
-    old: &'static str,
-    new: &'static str,
-    wanted: &'static str,
-}
-
-/// Reads the text once for each row, edited as the row says.
+/// Reads the text once for each row, which is what is replaced in it, by what, and the wanted answer.
 fn expect_rows(
     rt: &impl Abort,
     alloc: Global,
     record: Record,
     text: &str,
-    rows: &[Row],
+    rows: &[(&str, &str, &str)],
 ) -> Result<(), Fail> {
-    for row in rows {
-        assert!(rt; text.contains(row.old), "no {}", row.old);
-        let edited = text.replace(alloc, row.old, row.new)?;
+    for (old, new, wanted) in rows {
+        assert!(rt; text.contains(*old), "no {old}");
+        let edited = text.replace(alloc, *old, new)?;
         let found = answer(alloc, record, edited.as_bytes())?;
-        assert_eq!(rt; found.as_str(), row.wanted, "{} for {}", row.new, row.old);
+        assert_eq!(rt; found.as_str(), *wanted, "{new} for {old}");
     }
     Ok(())
 }

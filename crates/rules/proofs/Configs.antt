@@ -3,7 +3,9 @@ use Rattle.std.proofs.Common.{◌≡◌, ◌≢◌, ◌≤◌, ◌⊎◌, inl, i
 use Rattle.para.specs.Fields.{Fields, paragraphs_in}
 use Rattle.para.specs.declared.fault.ParaFault.{ParaFault}
 use Rattle.para.specs.declared.fault.ParaFault.TheVariants as para_faults
-use Rattle.para.proofs.InText.{spelled_paragraphs, paragraphs_spelled}
+use Rattle.para.proofs.InText.{spelled_paragraphs, paragraphs_spelled, fault_paragraphs}
+use Rattle.para.specs.Fault.{many_fault}
+use Rattle.para.specs.Grammar.{Spells}
 use Rattle.rules.specs.Fault.{of_paragraph}
 use Rattle.rules.specs.Paragraphs.{suite_of}
 use Rattle.rules.specs.Values.{ConfigValue}
@@ -73,3 +75,11 @@ none_is_config text e config h k = let both = sym (config_is_in text config k) �
 
 pub one_config : (text : List ℕ) (c d : ConfigValue) → IsConfig text c → IsConfig text d → c ≡ d
 one_config text c d h k = let both = sym (config_is_in text c h) ∙ config_is_in text d k in cc
+
+pub unspelled : (text : List ℕ) (f : ParaFault) → many_fault text config_limit ≡ Some f → config_in text ≡ Err (faults.Paragraph f)
+unfolding config_in
+unspelled text f h = ap (of_paragraphs text) (fault_paragraphs text config_limit f h)
+
+pub faulty : (text : List ℕ) (ps : List Fields) (e : ConfigFault) → (length text ≤ config_limit) × (ps ≢ []) × Spells text ps → config_fault ps ≡ Some e → config_in text ≡ Err e
+unfolding config_in
+faulty text ps e spelled h = ap (of_paragraphs text) (paragraphs_spelled text config_limit ps spelled) ∙ ap (λ f. unless f (config_of text ps)) h

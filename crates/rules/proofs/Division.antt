@@ -4,7 +4,6 @@ use Rattle.std.specs.Prelude.{codes, nat_eq, MatchOption}
 use Rattle.std.specs.Option.{option_map}
 use Rattle.std.specs.List.{starts_with, ends_with}
 use Rattle.std.specs.Str.Pattern.{FindsText, LacksTextAt}
-use Rattle.std.proofs.lemmas.Bool.{cases_Bool}
 use Rattle.std.proofs.lemmas.Bool.Decides.{Decides-eqb}
 use Rattle.std.proofs.lemmas.Slice.Eq.{starts_is, ends_is}
 use Rattle.std.proofs.Math.Seq.{take-append_seam}

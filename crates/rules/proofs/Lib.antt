@@ -1,5 +1,6 @@
 pub mod JudgeLemmas
-pub mod Different
 pub mod Division
 pub mod Claims
 pub mod Configs
+pub mod Apart
+pub mod Faults

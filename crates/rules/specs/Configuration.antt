@@ -1,12 +1,14 @@
 -- Which configuration a text is, one paragraph a suite, and the first fault of a text that is none.
-use Rattle.std.specs.Prelude.{◌≡◌, ◌≢◌, ◌≤◌, ℕ, ◌++◌, nat_lt, Bool, false, ◌||◌, List, [], ◌∷◌, length, map, Option, Some, None, Result, Ok, Err}
-use Rattle.std.specs.List.{find, list_any}
+use Rattle.std.specs.Prelude.{◌≡◌, ◌≢◌, ◌≤◌, ℕ, ◌++◌, nat_lt, Bool, true, false, ◌||◌, List, [], ◌∷◌, length, map, Option, Some, None, Result, Ok, Err}
+use Rattle.std.specs.List.{find, list_any, AllPairs}
 use Rattle.para.specs.Fields.{Fields, paragraphs_in}
 use Rattle.para.specs.Grammar.{Spells}
 use Rattle.para.specs.declared.fault.ParaFault.{ParaFault}
 use Rattle.records.specs.Records.{is_among}
 use Rattle.rules.specs.Paragraphs.{suite_of, names_claimed, lacks_field, has_bad_value, has_bad_rule, is_over_limits}
+use Rattle.rules.specs.Suites.{claims}
 use Rattle.rules.specs.Values.{ConfigValue}
+use Rattle.rules.specs.declared.suite.Suite.{Suite}
 use Rattle.rules.specs.declared.fault.ConfigFault.{ConfigFault}
 use Rattle.rules.specs.declared.fault.ConfigFault.TheVariants as faults
 
@@ -62,3 +64,7 @@ pub record IsConfig (text : List ℕ) (config : ConfigValue) : Type 0 where
   pub spelled : Spells text paragraphs
   pub faultless : config_fault paragraphs ≡ None
   pub value : config ≡ config_of text paragraphs
+
+-- No two suites claim one distribution name.
+abbrev pub ClaimApart : List Suite → Type 0
+ClaimApart suites = AllPairs (λ s t. (name : List ℕ) → claims name s ≡ true → claims name t ≡ true → ⊥) suites

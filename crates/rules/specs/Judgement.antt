@@ -1,16 +1,14 @@
 -- The verdicts that follow from the configuration and the .changes alone, and the place in the
 -- configuration where an upload goes.
-use Rattle.std.specs.Prelude.{◌≡◌, ℕ, Bool, true, false, not, ◌||◌, List, [], ◌∷◌, ◌++◌, bytes_eq, Option, Some, None, Result, Ok, Err, find, position, is_none, option_map, option_and_then, slice_get, take}
+use Rattle.std.specs.Prelude.{◌≡◌, ℕ, Bool, not, ◌||◌, List, [], ◌∷◌, bytes_eq, Option, Some, position, is_none, option_and_then, slice_get}
 use Rattle.std.specs.Option.{option_map_or}
-use Rattle.std.specs.List.{list_any, list_all}
+use Rattle.std.specs.List.{list_any}
 use Rattle.records.specs.Values.{ChangesValue}
-use Rattle.sums.specs.declared.entries.Entry.{Entry}
-use Rattle.rules.specs.Suites.{claims, claiming, keeps_architecture, keeps_component, allows, component_of}
-use Rattle.rules.specs.Verdicts.{Row, first_row}
+use Rattle.rules.specs.Suites.{claiming, keeps_architecture, keeps_component, allows, component_of}
+use Rattle.rules.specs.Verdicts.{Row}
 use Rattle.rules.specs.Values.{ConfigValue}
 use Rattle.rules.specs.declared.suite.Suite.{Suite}
 use Rattle.rules.specs.declared.judgement.Place.{Place}
-use Rattle.rules.specs.declared.verdict.Verdict.{Verdict}
 use Rattle.rules.specs.declared.verdict.Verdict.TheVariants as verdict
 
 -- the suite that claims the distribution of the .changes

@@ -1,7 +1,7 @@
 -- The paragraph of a suite: its fields, and what each of them may be.
-use Rattle.std.specs.Prelude.{◌≡◌, ℕ, nat_lt, Bool, true, false, ◌&&◌, ◌||◌, not, List, [], ◌∷◌, ◌++◌, length, codes, bytes_eq, Option, Some, None, unwrap_or}
+use Rattle.std.specs.Prelude.{ℕ, nat_lt, Bool, true, ◌&&◌, ◌||◌, not, List, [], length, codes, bytes_eq, Option, unwrap_or}
 use Rattle.std.specs.Option.{option_map, option_map_or}
-use Rattle.std.specs.List.{list_any, list_all}
+use Rattle.std.specs.List.{list_all}
 use Rattle.para.specs.Bytes.{is_nil}
 use Rattle.para.specs.Field.{FieldValue}
 use Rattle.para.specs.Fields.{Fields, field_named}

@@ -1,5 +1,5 @@
 -- An uploader line, `SOURCE by PERSON` (a rule of this archive).
-use Rattle.std.specs.Prelude.{ℕ, ◌-◌, Bool, true, false, ◌&&◌, ◌||◌, not, if◌then◌else◌, List, [], ◌∷◌, length, take, drop, codes, nat_eq, Option, Some, None, is_some}
+use Rattle.std.specs.Prelude.{ℕ, ◌-◌, Bool, true, ◌&&◌, ◌||◌, not, if◌then◌else◌, List, [], ◌∷◌, length, take, drop, codes, nat_eq, Option, Some, None, is_some}
 use Rattle.std.specs.Option.{option_map, option_and_then}
 use Rattle.std.specs.List.{list_all, starts_with, ends_with, filter_map}
 use Rattle.para.specs.Bytes.{is_nil, begins_with_blank}

@@ -10,11 +10,11 @@ ghost use Rattle.records.specs.Records.{is_among};
 ghost use Rattle.rules.specs.Claimed.{holds};
 
 use crate::fault::ConfigFault;
-use crate::names::{all_differ, are_listed_architectures, are_plain};
+use crate::names::{are_listed_architectures, are_plain};
 use crate::paragraph::{claimed_names, words_of};
 use crate::uploader::are_rule_lines;
 use para::{Field, Paragraph, fold};
-use records::is_plain;
+use records::{all_differ, is_plain};
 use std::alloc::{AllocError, Global};
 use std::collections::BTreeSet;
 
@@ -227,10 +227,20 @@ fn some_has_bad_rule(paragraphs: &[Paragraph<'_>]) -> bool
     paragraphs.iter().any(has_bad_rule)
 }
 
-fn some_is_over_limits(alloc: Global, paragraphs: &[Paragraph<'_>]) -> Result<bool, ConfigFault>
-    ensures found { IfOk result (λ some. some ≡ list_any is_over_limits paragraphs.now) }
+fn are_too_many(paragraphs: &[Paragraph<'_>]) -> bool
+    ensures { result ≡ nat_lt 16 (length paragraphs.now) }
+{
+    paragraphs.len() > MOST_SUITES
+}
+
+/// Whether there are too many suites, or one of them is over its limits.
+fn are_over_limits(alloc: Global, paragraphs: &[Paragraph<'_>]) -> Result<bool, ConfigFault>
+    ensures found { IfOk result (λ over. over ≡ (nat_lt 16 (length paragraphs.now) || list_any is_over_limits paragraphs.now)) }
     ensures refused { IfErr result (λ e. e ≡ ConfigFault.OutOfMemory) }
 {
+    if are_too_many(paragraphs) {
+        return Ok(true);
+    }
     for paragraph in paragraphs {
         if is_over_limits(alloc, paragraph)? {
             return Ok(true);
@@ -295,10 +305,7 @@ pub fn check(alloc: Global, paragraphs: &[Paragraph<'_>]) -> Result<(), ConfigFa
     if some_has_bad_rule(paragraphs) {
         return Err(ConfigFault::BadRule);
     }
-    if paragraphs.len() > MOST_SUITES {
-        return Err(ConfigFault::Limits);
-    }
-    if some_is_over_limits(alloc, paragraphs)? {
+    if are_over_limits(alloc, paragraphs)? {
         return Err(ConfigFault::Limits);
     }
     Ok(())

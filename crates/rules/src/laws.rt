@@ -1,7 +1,11 @@
 //! Laws of configurations.
 
-ghost use Rattle.std.specs.Prelude.{◌≡◌, ◌↔◌, ℕ, List, Ok, Err};
-ghost use Rattle.rules.specs.Configuration.{config_in, IsConfig};
+ghost use Rattle.std.specs.Prelude.{◌≡◌, ◌≢◌, ◌≤◌, ◌↔◌, ℕ, List, [], length, Ok, Err, Some};
+ghost use Rattle.para.specs.Fault.{many_fault};
+ghost use Rattle.para.specs.Fields.{Fields};
+ghost use Rattle.para.specs.Grammar.{Spells};
+ghost use Rattle.para.specs.declared.fault.ParaFault.{ParaFault};
+ghost use Rattle.rules.specs.Configuration.{config_in, config_fault, config_limit, IsConfig, ClaimApart};
 ghost use Rattle.rules.specs.Values.{ConfigValue};
 ghost use Rattle.rules.specs.declared.fault.ConfigFault.{ConfigFault};
 
@@ -10,6 +14,18 @@ ghost use Rattle.rules.specs.declared.fault.ConfigFault.{ConfigFault};
 pub fn configurations_are_read()
     ensures read { (text : List ℕ) (config : ConfigValue) → (config_in text ≡ Ok config) ↔ IsConfig text config }
     ensures refused { (text : List ℕ) (e : ConfigFault) (config : ConfigValue) → config_in text ≡ Err e → ¬ IsConfig text config }
+{}
+
+/// Of a text that is no configuration the fault is that of its paragraphs as such, or else of lowest number of those that
+/// apply to the paragraphs that it spells. Nothing is done: the law is the contract.
+pub fn faults_are_lowest()
+    ensures paragraphs { (text : List ℕ) (fault : ParaFault) → many_fault text config_limit ≡ Some fault → config_in text ≡ Err (ConfigFault.Paragraph fault) }
+    ensures suites { (text : List ℕ) (ps : List Fields) (fault : ConfigFault) → (length text ≤ config_limit) × (ps ≢ []) × Spells text ps → config_fault ps ≡ Some fault → config_in text ≡ Err fault }
+{}
+
+/// No two suites of a configuration claim one distribution name. Nothing is done: the law is the contract.
+pub fn suites_claim_apart()
+    ensures { (text : List ℕ) (config : ConfigValue) → config_in text ≡ Ok config → ClaimApart config.suites }
 {}
 
 /// A text is at most one configuration. Nothing is done: the law is the contract.

@@ -17,7 +17,7 @@ mod verdict;
 pub use config::Config;
 pub use fault::ConfigFault;
 pub use judgement::{Place, judge};
-pub use laws::{configurations_are_read, one_configuration};
+pub use laws::{configurations_are_read, faults_are_lowest, one_configuration, suites_claim_apart};
 pub use suite::{Suite, component_of_section};
 pub use uploader::{Rule, SourcePattern};
 pub use verdict::Verdict;

@@ -3,13 +3,12 @@
 ghost use Rattle.std.specs.Prelude.{◌≡◌, ◌||◌, IfOk, OnOk, map, ℕ, List};
 ghost use Rattle.std.specs.List.{list_all, list_any};
 ghost use Rattle.records.specs.Names.{is_plain_name};
-ghost use Rattle.records.specs.Records.{is_among, are_different};
+ghost use Rattle.records.specs.Records.{is_among};
 ghost use Rattle.rules.specs.Paragraphs.{is_listed_architecture};
 
 use para::{Listed, Text};
 use records::{is_architecture, is_plain};
 use std::alloc::{AllocError, Global};
-use std::collections::BTreeSet;
 
 /// Whether the name is one of the names.
 pub fn is_one_of(names: &[Text], name: &str) -> bool
@@ -38,19 +37,6 @@ pub fn are_listed_architectures(words: &[&str]) -> bool
     ensures { result ≡ list_all is_listed_architecture (map (λ word. word.now) words.now) }
 {
     words.iter().all(|word| is_listed_architecture(word))
-}
-
-/// Whether no word stands twice.
-pub fn all_differ(alloc: Global, words: &[&str]) -> Result<bool, AllocError>
-    ensures { IfOk result (λ differ. differ ≡ are_different (map (λ word. word.now) words.now)) }
-{
-    let mut seen = BTreeSet::new(alloc);
-    for word in words {
-        if !seen.insert(*word)? {
-            return Ok(false);
-        }
-    }
-    Ok(true)
 }
 
 /// Copies of the words.

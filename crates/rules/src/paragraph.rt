@@ -40,11 +40,7 @@ pub fn words_of<'a>(
 }
 
 /// A copy of the first line of the field, if it is there.
-fn text_of(
-    alloc: Global,
-    paragraph: &Paragraph<'_>,
-    name: &str,
-) -> Result<Option<Text>, AllocError>
+fn text_of(alloc: Global, paragraph: &Paragraph<'_>, name: &str) -> Result<Option<Text>, AllocError>
     ensures { IfOk result (λ text. text ≡ first_line name.now paragraph.now) }
 {
     match first_line(paragraph, name) {
@@ -122,10 +118,7 @@ pub fn suite_of(alloc: Global, paragraph: &Paragraph<'_>) -> Result<Suite, Confi
 }
 
 /// The suites of paragraphs.
-pub fn suites_of(
-    alloc: Global,
-    paragraphs: &[Paragraph<'_>],
-) -> Result<Listed<Suite>, ConfigFault>
+pub fn suites_of(alloc: Global, paragraphs: &[Paragraph<'_>]) -> Result<Listed<Suite>, ConfigFault>
     ensures found { IfOk result (λ suites. suites ≡ map suite_of paragraphs.now) }
     ensures refused { IfErr result (λ e. e ≡ ConfigFault.OutOfMemory) }
 {

@@ -44,7 +44,6 @@ fn pool_file(
     })
 }
 
-
 /// The item of a source: its files are the .dsc and all that the .dsc lists, in its order.
 pub fn source_item(
     alloc: Global,

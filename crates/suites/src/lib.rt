@@ -15,7 +15,7 @@ mod verdict;
 
 pub use item::{Item, PoolFile};
 pub use key::{Kind, ShelfKey};
-pub use plan::{Plan, Reference, plan_upload};
 pub use paths::directory;
+pub use plan::{Plan, Reference, plan_upload};
 pub use shelves::{SharedFile, Shelves};
 pub use upload::{Upload, has_text};

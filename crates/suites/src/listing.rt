@@ -79,7 +79,10 @@ pub fn has_bad_listing(changes: &Changes) -> bool {
     if !are_paired(entries, ".deb", ".control") || !are_paired(entries, ".control", ".deb") {
         return true;
     }
-    !source && entries.iter().any(|entry| !is_package_part(entry.name.as_str()))
+    !source
+        && entries
+            .iter()
+            .any(|entry| !is_package_part(entry.name.as_str()))
 }
 
 /// Whether the entries have a file of that name and that print.

@@ -68,10 +68,7 @@ impl Plan {
 }
 
 /// The references that items have to their files.
-fn references(
-    alloc: Global,
-    entries: &[(ShelfKey, Item)],
-) -> Result<Vec<Reference>, AllocError> {
+fn references(alloc: Global, entries: &[(ShelfKey, Item)]) -> Result<Vec<Reference>, AllocError> {
     let mut references = Vec::new(alloc);
     for (key, item) in entries {
         for (index, file) in item.files.as_slice().iter().enumerate() {
@@ -119,8 +116,12 @@ fn plan_between(
 ) -> Result<Plan, AllocError> {
     let references_put = references(alloc, &put)?;
     let references_dropped = references(alloc, &dropped)?;
-    let FileChange { added, removed } =
-        pool_changes(alloc, shelves, &references_put, &references_dropped)?;
+    let FileChange { added, removed } = pool_changes(
+        alloc,
+        shelves,
+        &references_put,
+        &references_dropped,
+    )?;
     Ok(Plan {
         verdict: Verdict::Accepted,
         put: Listed::from_vec(put),

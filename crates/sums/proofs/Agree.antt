@@ -1,12 +1,12 @@
 -- Names that stand twice, and lists that disagree.
-use Rattle.std.proofs.Common.{◌≡◌, ◌≢◌, ℕ, ◌<◌, ◌||◌, ◌&&◌, Bool, true, false, not, List, [], ◌∷◌, map, length, refl, sym, ap, subst, ◌∙◌, arith}
+use Rattle.std.proofs.Common.{◌≡◌, ◌≢◌, ℕ, Bool, true, false, not, List, [], ◌∷◌, map, refl, sym, ap, ◌∙◌, arith}
 use Rattle.std.proofs.lemmas.List.Kept.{AllPairs-cons}
 use Rattle.std.proofs.lemmas.Slice.Eq.{bytes_eq-Decides}
 use Rattle.std.specs.List.{list_any}
 use Rattle.std.specs.Prelude.{Contains, AllPairs, All}
 use Rattle.std.specs.Str.{bytes_eq}
 use Rattle.sums.specs.Lists.{NameAndSize, has_twice, same_file, lacks}
-use Rattle.sums.proofs.Members.{here, contains_map, from_map, any_true, any_false, any_none, any_some, all_at, all_from, pairs_head, pairs_tail}
+use Rattle.sums.proofs.Members.{contains_map, from_map, any_true, any_false, any_none, any_some, all_at, all_from, pairs_head, pairs_tail}
 use Rattle.sums.proofs.Booleans.{both, neither, passed}
 
 pub same_bytes : (a b : List ℕ) → bytes_eq a b ≡ true → a ≡ b

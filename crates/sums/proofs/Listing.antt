@@ -1,13 +1,13 @@
 -- Lists of entries have no fault, and read as these entries.
-use Rattle.std.proofs.Common.{◌≡◌, ◌≢◌, ◌↔◌, ℕ, ◌-◌, ◌<◌, ◌≤◌, ◌||◌, ◌&&◌, Bool, true, false, cond, not, List, [], ◌∷◌, map, Option, Some, None, unwrap_or, length, get_or, refl, sym, ap, subst, ◌∙◌, arith}
+use Rattle.std.proofs.Common.{◌≡◌, ◌≢◌, ◌↔◌, ℕ, ◌<◌, ◌≤◌, true, List, [], ◌∷◌, map, Some, unwrap_or, length, get_or, refl, sym, ap, subst, ◌∙◌, arith}
 use Rattle.std.specs.Fmt.{decimal}
 use Rattle.std.specs.List.{list_all, find}
 use Rattle.std.specs.Prelude.{Contains, AllPairs}
 use Rattle.std.specs.Str.{bytes_eq}
 use Rattle.std.specs.Str.Parse.{digits_value}
 use Rattle.hex.specs.Hex.{encode_lower}
-use Rattle.sums.specs.Lines.{LineForm, words, word, is_word, is_digest, is_size, is_file_name, digest_word, size_word, name_word, most_size}
-use Rattle.sums.specs.Lists.{Lines, Listed, IsFile, IsDigest, spelled, unhexed, digest_named, entry_of_line, entries_of, files_line, sha1_line, sha256_line, files_form, section_word, priority_word}
+use Rattle.sums.specs.Lines.{LineForm, word, is_word, is_digest, is_size, is_file_name, digest_word, size_word, name_word, most_size}
+use Rattle.sums.specs.Lists.{Lines, Listed, IsFile, IsDigest, unhexed, digest_named, entry_of_line, entries_of, files_line, sha1_line, sha256_line, files_form, section_word, priority_word}
 use Rattle.sums.specs.declared.entries.Entry.{Entry}
 use Rattle.sums.specs.declared.entries.ListKind.{ListKind}
 use Rattle.sums.specs.declared.entries.ListKind.TheVariants.{Dsc, Changes}
@@ -140,7 +140,7 @@ all_said kind lines entries h = record {
   sha1 = said (three_words 20) kind entries lines.sha1 sha1_line (λ e. e.print.sha1) (λ e k. let f = file e k in three_says 20 e.print.sha1 e.print.size e.name (omega arith) f.sha1 f.size f.name) h.sha1;
   sha256 = said (three_words 32) kind entries lines.sha256 sha256_line (λ e. e.print.sha256) (λ e k. let f = file e k in three_says 32 e.print.sha256 e.print.size e.name (omega arith) f.sha256 f.size f.name) h.sha256;
   files = said (files_form kind) kind entries lines.files (files_line kind) (λ e. e.print.md5) (λ e k. (files_say kind e (file e k)).says)
-    (λ line. (λ k. subst (λ xs. Contains xs line) h.files k, λ k. subst (λ xs. Contains xs line) (sym h.files) k));
+      (λ line. (λ k. subst (λ xs. Contains xs line) h.files k, λ k. subst (λ xs. Contains xs line) (sym h.files) k));
 }
   where
     file : (e : Entry) → Contains entries e → IsFile kind e

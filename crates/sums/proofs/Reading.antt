@@ -1,5 +1,5 @@
 -- Lists without a fault list the entries that are read.
-use Rattle.std.proofs.Common.{◌≡◌, ◌≢◌, ◌↔◌, ℕ, zero, suc, ◌-◌, ◌<◌, ◌≤◌, ◌||◌, ◌&&◌, Bool, true, false, cond, not, List, [], ◌∷◌, map, Option, Some, None, unwrap_or, length, get_or, eqb, ltb, refl, sym, ap, subst, ◌∙◌, arith}
+use Rattle.std.proofs.Common.{◌≡◌, ◌≢◌, ◌↔◌, ℕ, suc, ◌<◌, ◌||◌, ◌&&◌, Bool, true, false, cond, not, List, [], ◌∷◌, map, Some, unwrap_or, length, get_or, eqb, ltb, refl, sym, ap, subst, ◌∙◌, arith}
 use Rattle.std.proofs.Common.{eqb-true}
 use Rattle.std.proofs.lemmas.Bool.Decides.{nat_tests}
 use Rattle.std.proofs.lemmas.List.Elements.{All-map}
@@ -7,18 +7,17 @@ use Rattle.std.proofs.lemmas.List.Kept.{AllPairs-cons}
 use Rattle.std.proofs.lemmas.List.Splits.{join_with_byte-slice_split}
 use Rattle.std.specs.Fmt.{decimal}
 use Rattle.std.specs.List.{list_any, list_all, find, onto_first, slice_split}
-use Rattle.std.specs.Prelude.{Contains, AllPairs, All}
+use Rattle.std.specs.Prelude.{Contains, AllPairs}
 use Rattle.std.specs.Str.{bytes_eq}
 use Rattle.std.specs.Str.Parse.{digits_value}
 use Rattle.hex.specs.Hex.{encode_lower}
 use Rattle.sums.specs.Lines.{LineForm, words, word, is_word, is_space, is_tab, has_words, is_digest, is_size, digest_word, size_word, name_word}
-use Rattle.sums.specs.Lists.{Lines, Listed, IsFile, IsDigest, HasSection, spelled, unhexed, digest_named, entry_of_line, entries_of, files_line, sha1_line, sha256_line, files_form, sha1_form, sha256_form}
-use Rattle.sums.specs.declared.entries.Entry.{Entry}
+use Rattle.sums.specs.Lists.{Lines, Listed, IsFile, IsDigest, HasSection, spelled, unhexed, digest_named, entry_of_line, entries_of, files_line, sha1_line, sha256_line, files_form}
 use Rattle.sums.specs.declared.entries.ListKind.{ListKind}
 use Rattle.sums.specs.declared.entries.ListKind.TheVariants.{Dsc, Changes}
 use Rattle.sums.proofs.Agree.{same_bytes, bytes_same}
 use Rattle.sums.proofs.Digests.{digest_text, digest_is}
-use Rattle.sums.proofs.Faultless.{IsGood, IsGoodList, Agree, HasFile, Faultless}
+use Rattle.sums.proofs.Faultless.{IsGood, IsGoodList, Agree, Faultless}
 use Rattle.sums.proofs.Files.{map-map}
 use Rattle.std.proofs.lemmas.List.{get_or_default}
 use Rattle.sums.proofs.Members.{here, there, contains_map, from_map, any_false, all_from, all_true, find_one, by_name, map_same, pairs_head, pairs_tail}
@@ -125,15 +124,17 @@ joined n form files others l g a k =
     let found : find (λ line. bytes_eq (word line 2) (name_word form l)) others ≡ Some h.0 =
     find_one (λ line. bytes_eq (word line 2) (name_word form l)) others h.0 h.1 (bytes_same (word h.0 2) (name_word form l) h.2)
     (λ z m e. by_name (λ line. word line 2) others z h.0 g.once m h.1 (same_bytes (word z 2) (name_word form l) e ∙ sym h.2)) in
-    let same : digest_named (three_words n) others (name_word form l) ≡ unhexed (digest_word h.0) = ap (λ o. unhexed (digest_word (unwrap_or o []))) found in
-    (h.0, record {
-      listed = h.1;
-      named = h.2;
-      found = found;
-      good = good;
-      line = (λ i. three_line (same i) (digits_value 10 (size_word l)) (name_word form l)) ∙ line_again n h.0 (size_word l) (name_word form l) good h.3 h.2;
-      digest = subst (λ d. IsDigest n d) (sym same) (digest_is n (digest_word h.0) good.digest);
-    })
+    let same : digest_named (three_words n) others (name_word form l) ≡ unhexed (digest_word h.0) = ap (λ o. unhexed (digest_word (unwrap_or o []))) found in (
+      h.0,
+      record {
+        listed = h.1;
+        named = h.2;
+        found = found;
+        good = good;
+        line = (λ i. three_line (same i) (digits_value 10 (size_word l)) (name_word form l)) ∙ line_again n h.0 (size_word l) (name_word form l) good h.3 h.2;
+        digest = subst (λ d. IsDigest n d) (sym same) (digest_is n (digest_word h.0) good.digest);
+      },
+    )
 
 -- so the first line of its name has a digest
 pub named_digest : (n : ℕ) (form : LineForm) (files others : List (List ℕ)) (l : List ℕ) → IsGoodList (three_words n) others → Agree (three_words n) others form files → Contains files l
@@ -189,10 +190,10 @@ pub reads_listed : (kind : ListKind) (lines : Lines) → Faultless kind lines �
 reads_listed kind lines f = record {
   files = sym (map-map (files_line kind) (entry_of_line kind lines) lines.files) ∙ map_same (λ l. files_line kind (entry_of_line kind lines l)) lines.files (λ l k. files_again kind lines l (f.files.each l k));
   sha1 = λ line. subst (λ xs. Contains xs line ↔ Contains lines.sha1 line) (map-map sha1_line (entry_of_line kind lines) lines.files)
-    (same_members 20 (files_form kind) lines.files lines.sha1 (λ l. sha1_line (entry_of_line kind lines l)) f.sha1 f.sha1_agrees (λ l. refl) line);
+      (same_members 20 (files_form kind) lines.files lines.sha1 (λ l. sha1_line (entry_of_line kind lines l)) f.sha1 f.sha1_agrees (λ l. refl) line);
   sha1_once = f.sha1.once;
   sha256 = λ line. subst (λ xs. Contains xs line ↔ Contains lines.sha256 line) (map-map sha256_line (entry_of_line kind lines) lines.files)
-    (same_members 32 (files_form kind) lines.files lines.sha256 (λ l. sha256_line (entry_of_line kind lines l)) f.sha256 f.sha256_agrees (λ l. refl) line);
+      (same_members 32 (files_form kind) lines.files lines.sha256 (λ l. sha256_line (entry_of_line kind lines l)) f.sha256 f.sha256_agrees (λ l. refl) line);
   sha256_once = f.sha256.once;
   names = pairs_map (λ a b. a.name ≢ b.name) (entry_of_line kind lines) lines.files f.files.once;
   each = All-map (IsFile kind) (entry_of_line kind lines) lines.files (all_from (λ l. IsFile kind (entry_of_line kind lines l)) lines.files (λ l k. is_file kind lines l f k));

@@ -1,8 +1,8 @@
 -- What is read of a paragraph, by its tests.
-use Rattle.std.proofs.Common.{◌≡◌, ℕ, ◌||◌, Bool, true, false, List, [], Option, Some, None, Result, Ok, Err, is_none, unwrap_or, length, ltb, refl, sym, ap, subst, ◌∙◌}
+use Rattle.std.proofs.Common.{◌≡◌, ℕ, ◌||◌, Bool, true, false, List, [], Option, Some, None, Ok, Err, is_none, unwrap_or, length, ltb, refl, sym, ap, ◌∙◌}
 use Rattle.std.specs.Option.{option_map}
 use Rattle.para.specs.Field.{FieldValue}
-use Rattle.sums.specs.Lists.{Lines, lists_in, lines_of, entries_of, refused_or, fault, field_named, sha1_name, sha256_name, files_name, is_absent, has_first}
+use Rattle.sums.specs.Lists.{lists_in, lines_of, entries_of, refused_or, fault, field_named, sha1_name, sha256_name, files_name, is_absent, has_first}
 use Rattle.sums.specs.Views.{AreLists, lines_in, fault_of_lines}
 use Rattle.sums.specs.declared.fault.ListFault.{ListFault}
 use Rattle.sums.specs.declared.fault.ListFault.TheVariants.{ListAbsent, TextOnFirstLine}

@@ -1,5 +1,5 @@
 -- A size and what its text is.
-use Rattle.std.proofs.Common.{inl, inr, ◌⊎◌, ◌≡◌, ℕ, ◌+◌, ◌<◌, ◌≤◌, ◌^◌, ◌&&◌, ◌||◌, Bool, true, false, not, List, [], ◌∷◌, length, get_or, eqb, ltb, leb, Result, Ok, refl, arith, rules}
+use Rattle.std.proofs.Common.{inl, inr, ◌≡◌, ℕ, ◌+◌, ◌<◌, ◌≤◌, ◌^◌, ◌||◌, true, false, not, List, [], ◌∷◌, length, get_or, eqb, ltb, leb, Result, Ok, refl, arith, rules}
 use Rattle.std.proofs.lemmas.Str.Parse.{IsNumeralModel, parse_gives}
 use Rattle.std.proofs.lemmas.Bool.Decides.{nat_tests}
 use Rattle.std.proofs.lemmas.Bool.{cases_lt}

@@ -1,10 +1,10 @@
 -- Sizes of files by their names.
-use Rattle.std.proofs.Common.{◌≡◌, ℕ, ◌+◌, ◌<◌, ◌||◌, ◌&&◌, Bool, true, false, cond, not, List, [], ◌∷◌, ◌++◌, map, take, drop, get_or, length, Option, Some, None, refl, sym, ap, subst, ◌∙◌, arith}
+use Rattle.std.proofs.Common.{◌≡◌, ℕ, ◌+◌, ◌<◌, ◌||◌, ◌&&◌, Bool, true, false, cond, not, List, [], ◌∷◌, ◌++◌, map, take, drop, get_or, length, Option, Some, None, refl, sym, ap, subst, ◌∙◌}
 use Rattle.std.proofs.lemmas.List.{map-append, take-append-drop, take_more, drop_more}
 use Rattle.std.proofs.lemmas.List.Folds.{list_any-append}
 use Rattle.std.specs.List.{list_any}
 use Rattle.std.specs.Str.{bytes_eq}
-use Rattle.sums.specs.Lists.{NameAndSize, has_twice, same_file, lacks, disagree}
+use Rattle.sums.specs.Lists.{NameAndSize, has_twice, same_file, lacks}
 use Rattle.std.specs.BTreeMap.{BTreeMap, get_by}
 use Rattle.std.specs.Cmp.Lexicographic.{slice_cmp}
 use Rattle.std.specs.Option.{option_map, is_some}
@@ -123,7 +123,7 @@ sizes_more files i sizes new None a h e t u =
     subst (λ zs. AreSizes new zs) (sym more) (record {
       once = once_push front (in_names x) a.once none;
       each = λ name. ap (option_map (λ size. size.now)) (u name) ∙ (now_cond (bytes_eq x.name.now name) x.size (get_by (λ k. slice_cmp nat_cmp name k.now) sizes)
-        ∙ (ap (λ o. cond (bytes_eq x.name.now name) (Some x.size.now) o) (a.each name) ∙ sym (named_push front (in_names x) name none)));
+          ∙ (ap (λ o. cond (bytes_eq x.name.now name) (Some x.size.now) o) (a.each name) ∙ sym (named_push front (in_names x) name none)));
     })
 
 -- ---- lists that disagree

@@ -124,39 +124,62 @@ fn faults_of_fields(rt: HostRuntime) -> Result<(), Fail> {
     Ok(())
 }
 
+/// The lines of `Checksums-Sha1`, of `Checksums-Sha256` and of `Files` in a .changes, and the answer.
+const LINES: [(&str, &str, &str, &str); 18] = [
+    (" SHA1 3 a\n", " SHA256 3 a\n", " MD5 3 u o a\n", "read"),
+    (" SHA1 3  a\n", " SHA256 3 a\n", " MD5 3 u o a\n", "S3"),
+    (" SHA1 3\ta\n", " SHA256 3 a\n", " MD5 3 u o a\n", "S3"),
+    (" SHA1 3 a\n", " SHA256 3 a\n", " MD5 3 u\tx o a\n", "S3"),
+    (" SHA1 3 a\n", " SHA256 3 a\n", " MD5 3 a\n", "S3"),
+    (" DIGEST 3 a\n", " SHA256 3 a\n", " MD5 3 u o a\n", "S4"),
+    (" SHA1f 3 a\n", " SHA256 3 a\n", " MD5 3 u o a\n", "S4"),
+    (
+        " A9993E364706816aba3e25717850c26c9cd0d89d 3 a\n",
+        " SHA256 3 a\n",
+        " MD5 3 u o a\n",
+        "S4",
+    ),
+    (
+        " SHA1 4194304 a\n",
+        " SHA256 4194304 a\n",
+        " MD5 4194304 u o a\n",
+        "read",
+    ),
+    (
+        " SHA1 4194305 a\n",
+        " SHA256 4194305 a\n",
+        " MD5 4194305 u o a\n",
+        "S5",
+    ),
+    (" SHA1 03 a\n", " SHA256 03 a\n", " MD5 03 u o a\n", "S5"),
+    (
+        " SHA1 3 ../x\n",
+        " SHA256 3 ../x\n",
+        " MD5 3 u o ../x\n",
+        "S6",
+    ),
+    (
+        " SHA1 3 a\n SHA1 3 a\n",
+        " SHA256 3 a\n SHA256 3 a\n",
+        " MD5 3 u o a\n MD5 3 u o a\n",
+        "S7",
+    ),
+    (" SHA1 4 a\n", " SHA256 3 a\n", " MD5 3 u o a\n", "S8"),
+    (" SHA1 3 b\n", " SHA256 3 a\n", " MD5 3 u o a\n", "S8"),
+    (
+        " SHA1 3 a\n SHA1 3 b\n",
+        " SHA256 3 a\n",
+        " MD5 3 u o a\n",
+        "S8",
+    ),
+    ("", " SHA256 3 a\n", " MD5 3 u o a\n", "S8"),
+    ("", "", "", "S9"),
+];
+
 #[test]
 fn faults_of_lines(rt: HostRuntime) -> Result<(), Fail> {
     let alloc = rt.alloc();
-    for (sha1, sha256, files, expected) in [
-        (" SHA1 3 a\n", " SHA256 3 a\n", " MD5 3 u o a\n", "read"),
-        (" SHA1 3  a\n", " SHA256 3 a\n", " MD5 3 u o a\n", "S3"),
-        (" SHA1 3\ta\n", " SHA256 3 a\n", " MD5 3 u o a\n", "S3"),
-        (" SHA1 3 a\n", " SHA256 3 a\n", " MD5 3 u o\ta\n", "S3"),
-        (" SHA1 3 a\n", " SHA256 3 a\n", " MD5 3 a\n", "S3"),
-        (" DIGEST 3 a\n", " SHA256 3 a\n", " MD5 3 u o a\n", "S4"),
-        (" SHA1f 3 a\n", " SHA256 3 a\n", " MD5 3 u o a\n", "S4"),
-        (
-            " A9993E364706816aba3e25717850c26c9cd0d89d 3 a\n",
-            " SHA256 3 a\n",
-            " MD5 3 u o a\n",
-            "S4",
-        ),
-        (" SHA1 4194304 a\n", " SHA256 4194304 a\n", " MD5 4194304 u o a\n", "read"),
-        (" SHA1 4194305 a\n", " SHA256 4194305 a\n", " MD5 4194305 u o a\n", "S5"),
-        (" SHA1 03 a\n", " SHA256 03 a\n", " MD5 03 u o a\n", "S5"),
-        (" SHA1 3 ../x\n", " SHA256 3 ../x\n", " MD5 3 u o ../x\n", "S6"),
-        (
-            " SHA1 3 a\n SHA1 3 a\n",
-            " SHA256 3 a\n SHA256 3 a\n",
-            " MD5 3 u o a\n MD5 3 u o a\n",
-            "S7",
-        ),
-        (" SHA1 4 a\n", " SHA256 3 a\n", " MD5 3 u o a\n", "S8"),
-        (" SHA1 3 b\n", " SHA256 3 a\n", " MD5 3 u o a\n", "S8"),
-        (" SHA1 3 a\n SHA1 3 b\n", " SHA256 3 a\n", " MD5 3 u o a\n", "S8"),
-        ("", " SHA256 3 a\n", " MD5 3 u o a\n", "S8"),
-        ("", "", "", "S9"),
-    ] {
+    for (sha1, sha256, files, expected) in LINES {
         let text = lists_text(alloc, [sha1, sha256, files])?;
         let found = answer(alloc, text.as_str(), ListKind::Changes)?;
         assert_eq!(rt; found.as_str(), expected);
@@ -200,7 +223,12 @@ fn two_files(alloc: Global, words: &str) -> Result<String, Fail> {
 fn lists_are_joined_by_name(rt: HostRuntime) -> Result<(), Fail> {
     let alloc = rt.alloc();
     for (kind, words, sections, priorities) in [
-        (ListKind::Changes, " utils optional", ["utils", "admin"], ["optional", "extra"]),
+        (
+            ListKind::Changes,
+            " utils optional",
+            ["utils", "admin"],
+            ["optional", "extra"],
+        ),
         (ListKind::Dsc, "", ["", ""], ["", ""]),
     ] {
         let text = two_files(alloc, words)?;

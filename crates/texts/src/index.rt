@@ -3,8 +3,8 @@
 ghost use Rattle.std.specs.Prelude.{◌≤◌, All};
 
 use crate::binary_index::packages;
-use crate::suite_release::release;
 use crate::source_index::sources;
+use crate::suite_release::release;
 use para::Text;
 use rules::Config;
 use std::alloc::{AllocError, Global};
@@ -80,7 +80,15 @@ pub fn rendered_index(
     if architecture_name(config, suite, architecture) == "source" {
         sources(alloc, config, shelves, suite, component, &mut text)?;
     } else {
-        packages(alloc, config, shelves, suite, component, architecture, &mut text)?;
+        packages(
+            alloc,
+            config,
+            shelves,
+            suite,
+            component,
+            architecture,
+            &mut text,
+        )?;
     }
     Ok(text)
 }

@@ -1,9 +1,7 @@
 //! Sources: what the source packages of a component are.
 
 use crate::index::component_name;
-use crate::stanza::{
-    Digest, memory, paragraph_in, write_line_field, write_list_line,
-};
+use crate::stanza::{Digest, memory, paragraph_in, write_line_field, write_list_line};
 use para::{Field, write_field};
 use rules::Config;
 use std::alloc::{AllocError, Global};
@@ -55,7 +53,13 @@ fn write_list(
 ) -> Result<(), AllocError> {
     write_line_field(name, "", out)?;
     for file in files {
-        write_list_line(alloc, digest, &file.print, file_name(file.path.as_str()), out)?;
+        write_list_line(
+            alloc,
+            digest,
+            &file.print,
+            file_name(file.path.as_str()),
+            out,
+        )?;
     }
     Ok(())
 }

@@ -1,4 +1,4 @@
-use super::{Record, Row, answer, expect_rows, filled};
+use super::{Record, answer, expect_rows, filled};
 use crate::Changes;
 use std::alloc::Global;
 use std::test::Fail;
@@ -26,6 +26,8 @@ Files:
  4ee3c5e6649092348b7f34d1cb6296c0 104 utils optional hello_1.0-1_amd64.control
 ";
 
+const CHANGES_FIELD: &str = "Changes:\n hello (1.0-1) box; urgency=low\n .\n   * First.\n";
+
 const LIMIT: usize = 1_048_576;
 
 #[test]
@@ -35,17 +37,27 @@ fn hello_is_read(rt: HostRuntime) -> Result<(), Fail> {
     assert_eq!(rt; changes.version().text(), "1.0-1");
     assert_eq!(rt; changes.distribution(), "box");
     assert_eq!(rt; changes.person(), "Ann <ann@example.org>");
+    Ok(())
+}
+
+#[test]
+fn architectures_of_hello(rt: HostRuntime) -> Result<(), Fail> {
+    let changes = Changes::read(rt.alloc(), CHANGES.as_bytes())?;
     assert_eq!(rt; changes.architectures().len(), 1);
     for architecture in changes.architectures() {
         assert_eq!(rt; architecture.as_str(), "amd64");
     }
-    assert_eq!(rt; changes.entries().len(), 2);
-    for entry in changes.entries() {
-        assert_eq!(rt; entry.section.as_str(), "utils");
-        assert_eq!(rt; entry.priority.as_str(), "optional");
-    }
-    let control = &changes.entries()[1];
+    Ok(())
+}
+
+#[test]
+fn files_of_hello(rt: HostRuntime) -> Result<(), Fail> {
+    let changes = Changes::read(rt.alloc(), CHANGES.as_bytes())?;
+    let entries = changes.entries();
+    assert_eq!(rt; entries.len(), 2);
+    let control = &entries[1];
     assert_eq!(rt; control.name.as_str(), "hello_1.0-1_amd64.control");
+    assert_eq!(rt; control.section.as_str(), "utils");
     assert_eq!(rt; control.print.size, 104);
     Ok(())
 }
@@ -68,91 +80,110 @@ fn source_names_and_persons(rt: HostRuntime) -> Result<(), Fail> {
     Ok(())
 }
 
+const MISSING: [(&str, &str, &str); 20] = [
+    ("Format: 1.8\n", "", "C2 Format"),
+    ("Date: Sat, 02 Jul 2016 05:00:00 +0000\n", "", "C2 Date"),
+    ("Source: hello\n", "", "C2 Source"),
+    ("Version: 1.0-1\n", "", "C2 Version"),
+    ("Architecture: amd64\n", "", "C2 Architecture"),
+    ("Distribution: box\n", "", "C2 Distribution"),
+    ("Maintainer: Ann <ann@example.org>\n", "", "C2 Maintainer"),
+    (CHANGES_FIELD, "", "C2 Changes"),
+    ("Checksums-Sha1:", "Sha1:", "C2 Checksums-Sha1"),
+    ("Checksums-Sha256:", "Sha256:", "C2 Checksums-Sha256"),
+    ("Files:", "List:", "C2 Files"),
+    ("Format: 1.8", "Format:", "C2 Format"),
+    ("Date: Sat, 02 Jul 2016 05:00:00 +0000", "Date:", "C2 Date"),
+    ("Source: hello", "Source:", "C2 Source"),
+    ("Version: 1.0-1", "Version: ", "C2 Version"),
+    ("Architecture: amd64", "Architecture:\t", "C2 Architecture"),
+    ("Distribution: box", "Distribution:", "C2 Distribution"),
+    (
+        "Maintainer: Ann <ann@example.org>",
+        "Maintainer:",
+        "C2 Maintainer",
+    ),
+    (CHANGES_FIELD, "Changes:\n", "C2 Changes"),
+    (
+        "Maintainer: Ann <ann@example.org>",
+        "MAINTAINER: Ann",
+        "read",
+    ),
+];
+
 #[test]
 fn missing_fields(rt: HostRuntime) -> Result<(), Fail> {
-    let changes = "Changes:\n hello (1.0-1) box; urgency=low\n .\n   * First.\n";
-    let rows = [
-        Row { old: "Format: 1.8\n", new: "", wanted: "C2 Format" },
-        Row { old: "Date: Sat, 02 Jul 2016 05:00:00 +0000\n", new: "", wanted: "C2 Date" },
-        Row { old: "Source: hello\n", new: "", wanted: "C2 Source" },
-        Row { old: "Version: 1.0-1\n", new: "", wanted: "C2 Version" },
-        Row { old: "Architecture: amd64\n", new: "", wanted: "C2 Architecture" },
-        Row { old: "Distribution: box\n", new: "", wanted: "C2 Distribution" },
-        Row { old: "Maintainer: Ann <ann@example.org>\n", new: "", wanted: "C2 Maintainer" },
-        Row { old: changes, new: "", wanted: "C2 Changes" },
-        Row { old: "Checksums-Sha1:", new: "Sha1:", wanted: "C2 Checksums-Sha1" },
-        Row { old: "Checksums-Sha256:", new: "Sha256:", wanted: "C2 Checksums-Sha256" },
-        Row { old: "Files:", new: "List:", wanted: "C2 Files" },
-        Row { old: "Format: 1.8", new: "Format:", wanted: "C2 Format" },
-        Row { old: "Date: Sat, 02 Jul 2016 05:00:00 +0000", new: "Date:", wanted: "C2 Date" },
-        Row { old: "Source: hello", new: "Source:", wanted: "C2 Source" },
-        Row { old: "Version: 1.0-1", new: "Version: ", wanted: "C2 Version" },
-        Row { old: "Architecture: amd64", new: "Architecture:\t", wanted: "C2 Architecture" },
-        Row { old: "Distribution: box", new: "Distribution:", wanted: "C2 Distribution" },
-        Row { old: "Maintainer: Ann <ann@example.org>", new: "Maintainer:", wanted: "C2 Maintainer" },
-        Row { old: changes, new: "Changes:\n", wanted: "C2 Changes" },
-        Row { old: "Maintainer: Ann <ann@example.org>", new: "MAINTAINER: Ann", wanted: "read" },
-    ];
-    expect_rows(&rt, rt.alloc(), Record::Changes, CHANGES, &rows)
+    expect_rows(&rt, rt.alloc(), Record::Changes, CHANGES, &MISSING)
 }
+
+const FOLDED: [(&str, &str, &str); 10] = [
+    ("Format: 1.8", "Format:\n 1.8", "C3"),
+    ("Date: Sat,", "Date: Sat,\n", "C3"),
+    ("Source: hello", "Source: hello\n (1.0)", "C3"),
+    ("Version: 1.0-1", "Version:\n 1.0-1", "C3"),
+    ("Architecture: amd64", "Architecture: amd64\n all", "C3"),
+    ("Distribution: box", "Distribution: box\n .", "C3"),
+    ("Maintainer: Ann", "Maintainer: Ann\n", "C3"),
+    ("Date:", "Changed-By: Bob\n Ann\nDate:", "C3"),
+    ("Format: 1.8", "Format:\n 1.7", "C3"),
+    ("Date:", "Binary: hello\n hi\nDate:", "read"),
+];
 
 #[test]
 fn folded_fields(rt: HostRuntime) -> Result<(), Fail> {
-    let rows = [
-        Row { old: "Format: 1.8", new: "Format:\n 1.8", wanted: "C3" },
-        Row { old: "Date: Sat,", new: "Date: Sat,\n", wanted: "C3" },
-        Row { old: "Source: hello", new: "Source: hello\n (1.0)", wanted: "C3" },
-        Row { old: "Version: 1.0-1", new: "Version:\n 1.0-1", wanted: "C3" },
-        Row { old: "Architecture: amd64", new: "Architecture: amd64\n all", wanted: "C3" },
-        Row { old: "Distribution: box", new: "Distribution: box\n .", wanted: "C3" },
-        Row { old: "Maintainer: Ann", new: "Maintainer: Ann\n", wanted: "C3" },
-        Row { old: "Date:", new: "Changed-By: Bob\n Ann\nDate:", wanted: "C3" },
-        Row { old: "Format: 1.8", new: "Format:\n 1.7", wanted: "C3" },
-        Row { old: "Date:", new: "Binary: hello\n hi\nDate:", wanted: "read" },
-    ];
-    expect_rows(&rt, rt.alloc(), Record::Changes, CHANGES, &rows)
+    expect_rows(&rt, rt.alloc(), Record::Changes, CHANGES, &FOLDED)
 }
+
+const VALUES: [(&str, &str, &str); 19] = [
+    ("Format: 1.8", "Format: 1.7", "C4"),
+    ("Format: 1.8", "Format: 1.8 1.8", "C4"),
+    ("Source: hello", "Source: hello ()", "C5"),
+    ("Source: hello", "Source: hello 1.0", "C5"),
+    ("Source: hello", "Source: hello (1.0", "C5"),
+    ("Source: hello", "Source: hello 1.0)", "C5"),
+    ("Source: hello", "Source: hello (1.0) x", "C5"),
+    ("Source: hello", "Source: Hello", "C5"),
+    ("Source: hello", "Source: h", "C5"),
+    ("Version: 1.0-1", "Version: :1", "C6 N2"),
+    ("Version: 1.0-1", "Version: a1", "C6 N3"),
+    ("Version: 1.0-1", "Version: 1.0 1", "C6 N4"),
+    (
+        "Architecture: amd64",
+        "Architecture: amd64 all source",
+        "read",
+    ),
+    ("Architecture: amd64", "Architecture: amd64 any", "C7"),
+    ("Architecture: amd64", "Architecture: all amd64 all", "C7"),
+    ("Architecture: amd64", "Architecture: amd64,all", "C7"),
+    ("Distribution: box", "Distribution: box lab", "C8"),
+    ("Distribution: box", "Distribution: box/x", "C8"),
+    ("Distribution: box", "Distribution: -box", "C8"),
+];
 
 #[test]
 fn faults_of_values(rt: HostRuntime) -> Result<(), Fail> {
-    let rows = [
-        Row { old: "Format: 1.8", new: "Format: 1.7", wanted: "C4" },
-        Row { old: "Format: 1.8", new: "Format: 1.8 1.8", wanted: "C4" },
-        Row { old: "Source: hello", new: "Source: hello ()", wanted: "C5" },
-        Row { old: "Source: hello", new: "Source: hello 1.0", wanted: "C5" },
-        Row { old: "Source: hello", new: "Source: hello (1.0", wanted: "C5" },
-        Row { old: "Source: hello", new: "Source: hello 1.0)", wanted: "C5" },
-        Row { old: "Source: hello", new: "Source: hello (1.0) x", wanted: "C5" },
-        Row { old: "Source: hello", new: "Source: Hello", wanted: "C5" },
-        Row { old: "Source: hello", new: "Source: h", wanted: "C5" },
-        Row { old: "Version: 1.0-1", new: "Version: :1", wanted: "C6 N2" },
-        Row { old: "Version: 1.0-1", new: "Version: a1", wanted: "C6 N3" },
-        Row { old: "Version: 1.0-1", new: "Version: 1.0 1", wanted: "C6 N4" },
-        Row { old: "Architecture: amd64", new: "Architecture: amd64 all source", wanted: "read" },
-        Row { old: "Architecture: amd64", new: "Architecture: amd64 any", wanted: "C7" },
-        Row { old: "Architecture: amd64", new: "Architecture: all amd64 all", wanted: "C7" },
-        Row { old: "Architecture: amd64", new: "Architecture: amd64,all", wanted: "C7" },
-        Row { old: "Distribution: box", new: "Distribution: box lab", wanted: "C8" },
-        Row { old: "Distribution: box", new: "Distribution: box/x", wanted: "C8" },
-        Row { old: "Distribution: box", new: "Distribution: -box", wanted: "C8" },
-    ];
-    expect_rows(&rt, rt.alloc(), Record::Changes, CHANGES, &rows)
+    expect_rows(&rt, rt.alloc(), Record::Changes, CHANGES, &VALUES)
 }
+
+const LISTS: [(&str, &str, &str); 9] = [
+    ("Files:", "Files: x", "C9 S2"),
+    (" 3 hello", "  3 hello", "C9 S3"),
+    (" 3 hello", "\t3 hello", "C9 S3"),
+    ("a9993e", "A9993e", "C9 S4"),
+    (" 3 ", " 03 ", "C9 S5"),
+    (" 3 ", " 4194305 ", "C9 S5"),
+    ("hello_1.0-1_amd64.deb", "../x", "C9 S6"),
+    (
+        "hello_1.0-1_amd64.control",
+        "hello_1.0-1_amd64.deb",
+        "C9 S7",
+    ),
+    ("d89d 3 ", "d89d 4 ", "C9 S8"),
+];
 
 #[test]
 fn faults_of_lists(rt: HostRuntime) -> Result<(), Fail> {
-    let rows = [
-        Row { old: "Files:", new: "Files: x", wanted: "C9 S2" },
-        Row { old: " 3 hello", new: "  3 hello", wanted: "C9 S3" },
-        Row { old: " 3 hello", new: "\t3 hello", wanted: "C9 S3" },
-        Row { old: "a9993e", new: "A9993e", wanted: "C9 S4" },
-        Row { old: " 3 ", new: " 03 ", wanted: "C9 S5" },
-        Row { old: " 3 ", new: " 4194305 ", wanted: "C9 S5" },
-        Row { old: "hello_1.0-1_amd64.deb", new: "../x", wanted: "C9 S6" },
-        Row { old: "hello_1.0-1_amd64.control", new: "hello_1.0-1_amd64.deb", wanted: "C9 S7" },
-        Row { old: "d89d 3 ", new: "d89d 4 ", wanted: "C9 S8" },
-    ];
-    expect_rows(&rt, rt.alloc(), Record::Changes, CHANGES, &rows)
+    expect_rows(&rt, rt.alloc(), Record::Changes, CHANGES, &LISTS)
 }
 
 /// The text with so many files in place of its own.
@@ -194,19 +225,20 @@ fn counts_of_files(rt: HostRuntime) -> Result<(), Fail> {
     Ok(())
 }
 
+const PARAGRAPHS: [(&str, &str, &str); 4] = [
+    (
+        "Format: 1.8",
+        "-----BEGIN PGP SIGNED MESSAGE-----\n\nFormat: 1.8",
+        "C1 P3:1",
+    ),
+    ("Date:", "\nDate:", "C1 P9"),
+    ("Date:", "format: 1.8\nDate:", "C1 P7:2"),
+    (" .\n", " \n", "C1 P6:10"),
+];
+
 #[test]
 fn faults_of_paragraphs(rt: HostRuntime) -> Result<(), Fail> {
-    let rows = [
-        Row {
-            old: "Format: 1.8",
-            new: "-----BEGIN PGP SIGNED MESSAGE-----\n\nFormat: 1.8",
-            wanted: "C1 P3:1",
-        },
-        Row { old: "Date:", new: "\nDate:", wanted: "C1 P9" },
-        Row { old: "Date:", new: "format: 1.8\nDate:", wanted: "C1 P7:2" },
-        Row { old: " .\n", new: " \n", wanted: "C1 P6:10" },
-    ];
-    expect_rows(&rt, rt.alloc(), Record::Changes, CHANGES, &rows)
+    expect_rows(&rt, rt.alloc(), Record::Changes, CHANGES, &PARAGRAPHS)
 }
 
 #[test]

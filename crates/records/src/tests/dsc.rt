@@ -1,4 +1,4 @@
-use super::{Record, Row, answer, expect_rows, filled};
+use super::{Record, answer, expect_rows, filled};
 use crate::Dsc;
 use std::test::Fail;
 
@@ -32,45 +32,51 @@ fn hello_is_read(rt: HostRuntime) -> Result<(), Fail> {
     Ok(())
 }
 
+const FIELDS: [(&str, &str, &str); 13] = [
+    ("Format: 3.0 (quilt)\n", "", "C2 Format"),
+    ("Source: hello\n", "", "C2 Source"),
+    ("Version: 1.0-1\n", "", "C2 Version"),
+    ("Maintainer: Ann <ann@example.org>\n", "", "C2 Maintainer"),
+    ("Checksums-Sha1:", "Sha1:", "C2 Checksums-Sha1"),
+    ("Checksums-Sha256:", "Sha256:", "C2 Checksums-Sha256"),
+    ("Files:", "List:", "C2 Files"),
+    ("Source: hello", "Source:", "C2 Source"),
+    ("Format: 3.0 (quilt)", "Format: 3.0\n (quilt)", "C3"),
+    ("Source: hello", "Source:\n hello", "C3"),
+    ("Version: 1.0-1", "Version: 1.0-1\n .", "C3"),
+    ("Maintainer: Ann", "Maintainer: Ann\n", "C3"),
+    ("Binary: hello", "Binary: hello\n hi", "read"),
+];
+
 #[test]
 fn missing_and_folded_fields(rt: HostRuntime) -> Result<(), Fail> {
-    let rows = [
-        Row { old: "Format: 3.0 (quilt)\n", new: "", wanted: "C2 Format" },
-        Row { old: "Source: hello\n", new: "", wanted: "C2 Source" },
-        Row { old: "Version: 1.0-1\n", new: "", wanted: "C2 Version" },
-        Row { old: "Maintainer: Ann <ann@example.org>\n", new: "", wanted: "C2 Maintainer" },
-        Row { old: "Checksums-Sha1:", new: "Sha1:", wanted: "C2 Checksums-Sha1" },
-        Row { old: "Checksums-Sha256:", new: "Sha256:", wanted: "C2 Checksums-Sha256" },
-        Row { old: "Files:", new: "List:", wanted: "C2 Files" },
-        Row { old: "Source: hello", new: "Source:", wanted: "C2 Source" },
-        Row { old: "Format: 3.0 (quilt)", new: "Format: 3.0\n (quilt)", wanted: "C3" },
-        Row { old: "Source: hello", new: "Source:\n hello", wanted: "C3" },
-        Row { old: "Version: 1.0-1", new: "Version: 1.0-1\n .", wanted: "C3" },
-        Row { old: "Maintainer: Ann", new: "Maintainer: Ann\n", wanted: "C3" },
-        Row { old: "Binary: hello", new: "Binary: hello\n hi", wanted: "read" },
-    ];
-    expect_rows(&rt, rt.alloc(), Record::Dsc, DSC, &rows)
+    expect_rows(&rt, rt.alloc(), Record::Dsc, DSC, &FIELDS)
 }
+
+const VALUES: [(&str, &str, &str); 14] = [
+    ("3.0 (quilt)", "1.0", "read"),
+    ("3.0 (quilt)", "3.0 (native)", "read"),
+    ("3.0 (quilt)", "3.0 (git)", "C4"),
+    ("3.0 (quilt)", "3.0", "C4"),
+    ("3.0 (quilt)", "3.0  (quilt)", "C4"),
+    ("Source: hello", "Source: hello (1.0)", "C5"),
+    ("Version: 1.0-1", "Version: 1.0-", "C6 N5"),
+    (" 3 hello", " 3 utils optional hello", "C9 S3"),
+    (" 3 ", " 03 ", "C9 S5"),
+    ("d89d 3 ", "d89d 4 ", "C9 S8"),
+    ("Binary:", "Directory: pool\nBinary:", "C10"),
+    ("Binary:", "package: hello\nBinary:", "C10"),
+    (
+        "Binary: hello\nVersion: 1",
+        "Directory:\nVersion: a",
+        "C6 N3",
+    ),
+    ("Binary: hello\n", "\n", "C1 P9"),
+];
 
 #[test]
 fn faults_of_values(rt: HostRuntime) -> Result<(), Fail> {
-    let rows = [
-        Row { old: "3.0 (quilt)", new: "1.0", wanted: "read" },
-        Row { old: "3.0 (quilt)", new: "3.0 (native)", wanted: "read" },
-        Row { old: "3.0 (quilt)", new: "3.0 (git)", wanted: "C4" },
-        Row { old: "3.0 (quilt)", new: "3.0", wanted: "C4" },
-        Row { old: "3.0 (quilt)", new: "3.0  (quilt)", wanted: "C4" },
-        Row { old: "Source: hello", new: "Source: hello (1.0)", wanted: "C5" },
-        Row { old: "Version: 1.0-1", new: "Version: 1.0-", wanted: "C6 N5" },
-        Row { old: " 3 hello", new: " 3 utils optional hello", wanted: "C9 S3" },
-        Row { old: " 3 ", new: " 03 ", wanted: "C9 S5" },
-        Row { old: "d89d 3 ", new: "d89d 4 ", wanted: "C9 S8" },
-        Row { old: "Binary:", new: "Directory: pool\nBinary:", wanted: "C10" },
-        Row { old: "Binary:", new: "package: hello\nBinary:", wanted: "C10" },
-        Row { old: "Binary: hello\nVersion: 1", new: "Directory:\nVersion: a", wanted: "C6 N3" },
-        Row { old: "Binary: hello\n", new: "\n", wanted: "C1 P9" },
-    ];
-    expect_rows(&rt, rt.alloc(), Record::Dsc, DSC, &rows)
+    expect_rows(&rt, rt.alloc(), Record::Dsc, DSC, &VALUES)
 }
 
 #[test]

@@ -1,4 +1,4 @@
-use super::{Record, Row, answer, expect_rows, filled};
+use super::{Record, answer, expect_rows, filled};
 use crate::Sidecar;
 use std::test::Fail;
 
@@ -39,47 +39,49 @@ fn source_names(rt: HostRuntime) -> Result<(), Fail> {
     Ok(())
 }
 
+const FIELDS: [(&str, &str, &str); 12] = [
+    ("Package: hello\n", "", "C2 Package"),
+    ("Version: 1.0-1\n", "", "C2 Version"),
+    ("Architecture: amd64\n", "", "C2 Architecture"),
+    ("Maintainer: Ann <ann@example.org>\n", "", "C2 Maintainer"),
+    ("Description: greets\n", "", "C2 Description"),
+    ("Description: greets", "Description:", "C2 Description"),
+    ("Description: greets", "Description:\n greets", "read"),
+    ("Package: hello", "Package:\n hello", "C3"),
+    ("Package: hello", "Package: hello\nSource: a\n b", "C3"),
+    ("Version: 1.0-1", "Version: 1.0-1\n .", "C3"),
+    ("Architecture: amd64", "Architecture: amd64\n all", "C3"),
+    ("Maintainer: Ann", "Maintainer: Ann\n", "C3"),
+];
+
 #[test]
 fn missing_and_folded_fields(rt: HostRuntime) -> Result<(), Fail> {
-    let rows = [
-        Row { old: "Package: hello\n", new: "", wanted: "C2 Package" },
-        Row { old: "Version: 1.0-1\n", new: "", wanted: "C2 Version" },
-        Row { old: "Architecture: amd64\n", new: "", wanted: "C2 Architecture" },
-        Row { old: "Maintainer: Ann <ann@example.org>\n", new: "", wanted: "C2 Maintainer" },
-        Row { old: "Description: greets\n", new: "", wanted: "C2 Description" },
-        Row { old: "Description: greets", new: "Description:", wanted: "C2 Description" },
-        Row { old: "Description: greets", new: "Description:\n greets", wanted: "read" },
-        Row { old: "Package: hello", new: "Package:\n hello", wanted: "C3" },
-        Row { old: "Package: hello", new: "Package: hello\nSource: a\n b", wanted: "C3" },
-        Row { old: "Version: 1.0-1", new: "Version: 1.0-1\n .", wanted: "C3" },
-        Row { old: "Architecture: amd64", new: "Architecture: amd64\n all", wanted: "C3" },
-        Row { old: "Maintainer: Ann", new: "Maintainer: Ann\n", wanted: "C3" },
-    ];
-    expect_rows(&rt, rt.alloc(), Record::Sidecar, CONTROL, &rows)
+    expect_rows(&rt, rt.alloc(), Record::Sidecar, CONTROL, &FIELDS)
 }
+
+const VALUES: [(&str, &str, &str); 17] = [
+    ("Package: hello", "Package: h", "C5"),
+    ("Package: hello", "Package: hello (1.0)", "C5"),
+    ("Package: hello", "Package: hello\nSource:", "C5"),
+    ("Package: hello", "Package: hello\nSource: ()", "C5"),
+    ("Package: hello", "Package: Hello\nSource: hello", "C5"),
+    ("Version: 1.0-1", "Version: 1:2:3", "C6 N4"),
+    ("Architecture: amd64", "Architecture: source", "C7"),
+    ("Architecture: amd64", "Architecture: any", "C7"),
+    ("Architecture: amd64", "Architecture: amd64 all", "C7"),
+    ("Architecture: amd64", "Architecture: all", "read"),
+    ("Description:", "Filename: x\nDescription:", "C10"),
+    ("Description:", "Size: 3\nDescription:", "C10"),
+    ("Description:", "MD5sum: x\nDescription:", "C10"),
+    ("Description:", "SHA1: x\nDescription:", "C10"),
+    ("Description:", "sha256: x\nDescription:", "C10"),
+    ("amd64\n", "source\nSize: 3\n", "C7"),
+    ("Package: hello", "Package", "C1 P4:1"),
+];
 
 #[test]
 fn faults_of_values(rt: HostRuntime) -> Result<(), Fail> {
-    let rows = [
-        Row { old: "Package: hello", new: "Package: h", wanted: "C5" },
-        Row { old: "Package: hello", new: "Package: hello (1.0)", wanted: "C5" },
-        Row { old: "Package: hello", new: "Package: hello\nSource:", wanted: "C5" },
-        Row { old: "Package: hello", new: "Package: hello\nSource: ()", wanted: "C5" },
-        Row { old: "Package: hello", new: "Package: Hello\nSource: hello", wanted: "C5" },
-        Row { old: "Version: 1.0-1", new: "Version: 1:2:3", wanted: "C6 N4" },
-        Row { old: "Architecture: amd64", new: "Architecture: source", wanted: "C7" },
-        Row { old: "Architecture: amd64", new: "Architecture: any", wanted: "C7" },
-        Row { old: "Architecture: amd64", new: "Architecture: amd64 all", wanted: "C7" },
-        Row { old: "Architecture: amd64", new: "Architecture: all", wanted: "read" },
-        Row { old: "Description:", new: "Filename: x\nDescription:", wanted: "C10" },
-        Row { old: "Description:", new: "Size: 3\nDescription:", wanted: "C10" },
-        Row { old: "Description:", new: "MD5sum: x\nDescription:", wanted: "C10" },
-        Row { old: "Description:", new: "SHA1: x\nDescription:", wanted: "C10" },
-        Row { old: "Description:", new: "sha256: x\nDescription:", wanted: "C10" },
-        Row { old: "amd64\n", new: "source\nSize: 3\n", wanted: "C7" },
-        Row { old: "Package: hello", new: "Package", wanted: "C1 P4:1" },
-    ];
-    expect_rows(&rt, rt.alloc(), Record::Sidecar, CONTROL, &rows)
+    expect_rows(&rt, rt.alloc(), Record::Sidecar, CONTROL, &VALUES)
 }
 
 #[test]

@@ -11,14 +11,38 @@ fn texts_are_read_or_refused(rt: HostRuntime) -> Result<(), Fail> {
         ("Codename: box\n \nArchitectures: amd64\n", "F1 P6:2"),
         ("Codename: box\nArchitectures: amd64\n", "F2"),
         ("Codename: box\nArchitectures: amd64\nComponents:\n", "F2"),
-        ("Codename:\n box\nArchitectures: amd64\nComponents: main\n", "F3"),
-        ("Codename: box\nArchitectures: all\nComponents: main\n", "F3"),
-        ("Codename: box\nArchitectures: amd64 amd64\nComponents: main\n", "F3"),
-        ("Codename: box\nArchitectures: amd64\nComponents: a/b\n", "F3"),
-        ("Codename: box\nArchitectures:\n amd64\n arm64\nComponents: main\n", "read"),
-        ("Codename: box\nLabel:\nArchitectures: amd64\nComponents: main\n", "F3"),
-        ("Codename: box\nAlsoAcceptFor:\nArchitectures: amd64\nComponents: main\n", "F3"),
-        ("codename: box\nSection: x\narchitectures: amd64\ncomponents: main\n", "read"),
+        (
+            "Codename:\n box\nArchitectures: amd64\nComponents: main\n",
+            "F3",
+        ),
+        (
+            "Codename: box\nArchitectures: all\nComponents: main\n",
+            "F3",
+        ),
+        (
+            "Codename: box\nArchitectures: amd64 amd64\nComponents: main\n",
+            "F3",
+        ),
+        (
+            "Codename: box\nArchitectures: amd64\nComponents: a/b\n",
+            "F3",
+        ),
+        (
+            "Codename: box\nArchitectures:\n amd64\n arm64\nComponents: main\n",
+            "read",
+        ),
+        (
+            "Codename: box\nLabel:\nArchitectures: amd64\nComponents: main\n",
+            "F3",
+        ),
+        (
+            "Codename: box\nAlsoAcceptFor:\nArchitectures: amd64\nComponents: main\n",
+            "F3",
+        ),
+        (
+            "codename: box\nSection: x\narchitectures: amd64\ncomponents: main\n",
+            "read",
+        ),
         (
             "Codename: box\nArchitectures: amd64\nComponents: main\n\nCodename: lab\nArchitectures: amd64\nComponents: main\nAlsoAcceptFor: box\n",
             "F4",
@@ -55,7 +79,11 @@ fn uploader_lines_are_read_or_refused(rt: HostRuntime) -> Result<(), Fail> {
         (" by Bob", "F5"),
     ] {
         let text = format!(in rt.alloc(); "{BOX}Uploaders:\n{line}\n")?;
-        assert_eq!(rt; answer_to(rt.alloc(), text.as_str())?.as_str(), expected, "{line}");
+        assert_eq!(rt;
+            answer_to(rt.alloc(), text.as_str())?.as_str(),
+            expected,
+            "{line}"
+        );
     }
     Ok(())
 }
@@ -65,15 +93,25 @@ fn limits_hold(rt: HostRuntime) -> Result<(), Fail> {
     for (count, expected) in [(256, "read"), (257, "F6")] {
         let front = format!(in rt.alloc(); "{BOX}Uploaders:\n")?;
         let text = repeated(rt.alloc(), front.as_str(), " * by anybody\n", count)?;
-        assert_eq!(rt; answer_to(rt.alloc(), text.as_str())?.as_str(), expected, "{count}");
+        assert_eq!(rt;
+            answer_to(rt.alloc(), text.as_str())?.as_str(),
+            expected,
+            "{count}"
+        );
     }
     for (count, expected) in [(16, "read"), (17, "F6")] {
         let mut text = String::new(rt.alloc());
         for i in 0..count {
-            let suite = format!(in rt.alloc(); "Codename: s{i}\nArchitectures: amd64\nComponents: main\n\n")?;
+            let suite = format!(in rt.alloc();
+                "Codename: s{i}\nArchitectures: amd64\nComponents: main\n\n"
+            )?;
             text.push_str(suite.as_str())?;
         }
-        assert_eq!(rt; answer_to(rt.alloc(), text.as_str())?.as_str(), expected, "{count}");
+        assert_eq!(rt;
+            answer_to(rt.alloc(), text.as_str())?.as_str(),
+            expected,
+            "{count}"
+        );
     }
     let long = repeated(rt.alloc(), BOX, "\n", 1_048_577)?;
     assert_eq!(rt; answer_to(rt.alloc(), long.as_str())?.as_str(), "F1 P10");
@@ -82,7 +120,8 @@ fn limits_hold(rt: HostRuntime) -> Result<(), Fail> {
 
 #[test]
 fn a_configuration_has_its_text_and_suites(rt: HostRuntime) -> Result<(), Fail> {
-    let text = "Codename: box\nSuite: stable\nArchitectures: amd64\nComponents: main\n\nCodename: lab\nArchitectures: source\nComponents: main\nAlsoAcceptFor: try\n";
+    let text =
+        "Codename: box\nSuite: stable\nArchitectures: amd64\nComponents: main\n\nCodename: lab\nArchitectures: source\nComponents: main\nAlsoAcceptFor: try\n";
     let config = Config::read(rt.alloc(), text.as_bytes())?;
     assert!(rt; config.text() == text.as_bytes());
     assert_eq!(rt; config.suites().len(), 2);

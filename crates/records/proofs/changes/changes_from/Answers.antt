@@ -38,9 +38,9 @@ pub returns-in_err-distribution-clause-refused : goal.returns-in_err-distributio
 returns-in_err-distribution-clause-refused c =
     let p = err_from_is_err_and c.from_residual-in_err-distribution.result c.from_residual-in_err-distribution.ensures.1 in
     rw (p.1, p.2) (inr (
-          behind _ _ c.in_ok-check_required.ensures ∙ behind _ _ c.in_ok-check_simple.ensures ∙ behind _ _ c.in_ok-check_format.ensures
-          ∙ behind _ _ c.in_ok-source.ensures.only ∙ behind _ _ c.in_ok-version.ensures.only
-          ∙ behind _ _ c.in_ok-architectures.ensures.only ∙ here _ _ _ c.in_err-distribution.ensures.judged))
+    behind _ _ c.in_ok-check_required.ensures ∙ behind _ _ c.in_ok-check_simple.ensures ∙ behind _ _ c.in_ok-check_format.ensures
+    ∙ behind _ _ c.in_ok-source.ensures.only ∙ behind _ _ c.in_ok-version.ensures.only
+    ∙ behind _ _ c.in_ok-architectures.ensures.only ∙ here _ _ _ c.in_err-distribution.ensures.judged))
 
 pub returns-in_err-entries-clause-refused : goal.returns-in_err-entries-clause-refused
 returns-in_err-entries-clause-refused c =

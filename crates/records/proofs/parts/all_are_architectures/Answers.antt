@@ -8,5 +8,5 @@ use Rattle.records.proofs.parts.all_are_architectures.Goals as goal
 pub returns : goal.returns
 returns c =
     all_from_yields_List (λ (w : Bor (List ℕ)). is_architecture_name w.now) _ _ _ c.all.ensures.ran
-      (YieldsList-from_slice c.args.words.now c.iter.ensures.rest) (λ x b q k. search rules)
+    (YieldsList-from_slice c.args.words.now c.iter.ensures.rest) (λ x b q k. search rules)
     ∙ sym (list_all-map is_architecture_name (λ (w : Bor (List ℕ)). w.now) c.args.words.now)

@@ -21,24 +21,26 @@ seen_or_same a b x y p q = cond_or a x ∙ ap (λ t. t || x) p ∙ ap (λ t. b |
 pub loop-word-init : goal.loop-word-init
 loop-word-init c = record {
   seen = λ q. ap (λ (ks : List (Bor (List ℕ))). list_any (is_at (λ k. slice_cmp nat_cmp q.now k.now)) ks) c.new-seen.ensures.empty;
-  different = refl }
+  different = refl;
+}
 
 pub returns-then-not-branch : goal.returns-then-not-branch
 returns-then-not-branch c =
     let word : Bor (List ℕ) = get_or c.args.words.now c.loop-word.word-index (record { ref_ptr = (0, 0); now = [] }) in
     let seen : is_among (texts (take c.loop-word.word-index c.args.words.now)) word.now ≡ true =
-          sym (c.loop-word.invariant.seen word) ∙ not-false _ (sym c.in_ok-insert.ensures.added ∙ c.if-not-branch.true) in
+    sym (c.loop-word.invariant.seen word) ∙ not-false _ (sym c.in_ok-insert.ensures.added ∙ c.if-not-branch.true) in
     sym (twice_before_end c.args.words.now (c.loop-word.word-index + 1)
-      (different_more c.args.words.now c.loop-word.word-index _ (omega arith) ∙ and_right _ _ (ap not seen)))
+    (different_more c.args.words.now c.loop-word.word-index _ (omega arith) ∙ and_right _ _ (ap not seen)))
 
 pub loop-word-preserved : goal.loop-word-preserved
 loop-word-preserved c =
     let word : Bor (List ℕ) = get_or c.args.words.now c.loop-word.word-index (record { ref_ptr = (0, 0); now = [] }) in
     let new : is_among (texts (take c.loop-word.word-index c.args.words.now)) word.now ≡ false =
-          sym (c.loop-word.invariant.seen word) ∙ not-true _ (sym c.in_ok-insert.ensures.added ∙ c.if-not-branch.false) in
+    sym (c.loop-word.invariant.seen word) ∙ not-true _ (sym c.in_ok-insert.ensures.added ∙ c.if-not-branch.false) in
     record {
       seen = λ q. c.in_ok-insert.ensures.updates.0 q
           ∙ seen_or_same _ (bytes_eq word.now q.now) _ _ (is_eq-slice_cmp word.now q.now) (c.loop-word.invariant.seen q)
           ∙ sym (seen_more c.args.words.now c.loop-word.word-index _ q.now (omega arith));
       different = different_more c.args.words.now c.loop-word.word-index _ (omega arith)
-          ∙ and_from _ _ c.loop-word.invariant.different (ap not new) }
+          ∙ and_from _ _ c.loop-word.invariant.different (ap not new);
+    }

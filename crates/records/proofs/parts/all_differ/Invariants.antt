@@ -10,4 +10,5 @@ use Rattle.records.proofs.parts.all_differ.Given as goal
 abbrev pub invariant-loop-word : goal.invariant-loop-word
 invariant-loop-word l = record {
   seen : (q : Bor (List ℕ)) → contains_by (λ k. slice_cmp nat_cmp q.now k.now) l.seen ≡ is_among (texts (take l.word-index l.words)) q.now;
-  different : are_different (texts (take l.word-index l.words)) ≡ true }
+  different : are_different (texts (take l.word-index l.words)) ≡ true;
+}

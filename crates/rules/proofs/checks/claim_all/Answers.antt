@@ -1,9 +1,9 @@
-use Rattle.std.proofs.Common.{◌≡◌, ◌||◌, sym, ap, ◌∙◌, ℕ, ◌+◌, ◌<◌, Bool, true, false, cond, refl, List, [], length, take, get_or, Bor, arith}
+use Rattle.std.proofs.Common.{◌≡◌, ◌||◌, sym, ap, ◌∙◌, ℕ, Bool, true, false, cond, refl, List, [], take, get_or, Bor, arith}
 use Rattle.std.specs.Str.{bytes_eq}
 use Rattle.std.proofs.lemmas.Map.Text.{is_eq-slice_cmp}
 use Rattle.records.specs.Records.{is_among}
 use Rattle.rules.specs.Claimed.{holds}
-use Rattle.rules.proofs.Different.{texts, seen_more}
+use Rattle.records.proofs.Different.{texts, seen_more}
 use Rattle.rules.proofs.checks.claim_all.Goals as goal
 
 or_false : (a : Bool) → a ≡ (a || false)

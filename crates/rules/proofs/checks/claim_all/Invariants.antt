@@ -1,7 +1,7 @@
 use Rattle.std.proofs.Common.{◌≡◌, ◌||◌, ℕ, List, take}
 use Rattle.records.specs.Records.{is_among}
 use Rattle.rules.specs.Claimed.{holds}
-use Rattle.rules.proofs.Different.{texts}
+use Rattle.records.proofs.Different.{texts}
 use Rattle.rules.proofs.checks.claim_all.Given as goal
 
 -- The set has what it had, and the names before this one.

@@ -1,8 +1,8 @@
-use Rattle.std.proofs.Common.{◌≡◌, ◌||◌, sym, ap, ◌∙◌, ℕ, ◌+◌, ◌<◌, Bool, true, false, List, [], length, drop, get_or, Bor, arith, rules}
+use Rattle.std.proofs.Common.{◌≡◌, ◌||◌, sym, ap, ◌∙◌, ℕ, ◌+◌, ◌<◌, Bool, List, [], length, drop, get_or, Bor, arith}
 use Rattle.std.specs.List.{list_any}
 use Rattle.std.proofs.lemmas.List.{drop_more}
 use Rattle.rules.specs.Claimed.{holds}
-use Rattle.rules.proofs.Different.{texts}
+use Rattle.records.proofs.Different.{texts}
 use Rattle.rules.proofs.checks.is_any_claimed.Goals as goal
 
 any_step : (p : List ℕ → Bool) (ws : List (Bor (List ℕ))) (i : ℕ) (d : Bor (List ℕ)) → i < length ws

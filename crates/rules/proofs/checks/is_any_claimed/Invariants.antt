@@ -1,7 +1,7 @@
 use Rattle.std.proofs.Common.{◌≡◌, drop}
 use Rattle.std.specs.List.{list_any}
 use Rattle.rules.specs.Claimed.{holds}
-use Rattle.rules.proofs.Different.{texts}
+use Rattle.records.proofs.Different.{texts}
 use Rattle.rules.proofs.checks.is_any_claimed.Given as goal
 
 -- the names that have not been looked at decide

@@ -1,4 +1,4 @@
-use Rattle.std.proofs.Common.{◌≡◌, map, ℕ, List, Bor, take}
+use Rattle.std.proofs.Common.{◌≡◌, map, take}
 use Rattle.rules.proofs.names.texts_of.Given as goal
 
 abbrev pub invariant-loop-word : goal.invariant-loop-word

@@ -1,11 +1,11 @@
-use Rattle.std.proofs.Common.{rules, ◌≡◌, ap, ◌∙◌, sym, ℕ, ◌+◌, ◌<◌, List, [], ◌∷◌, ◌++◌, length, map, take, get_or, Option, Some, None, Bor, Vec, Global, arith}
-use Rattle.std.specs.List.{filter_map, cons_option}
+use Rattle.std.proofs.Common.{◌≡◌, ap, ◌∙◌, sym, ℕ, ◌+◌, ◌<◌, List, [], ◌∷◌, ◌++◌, length, take, get_or, Option, Some, None, Bor, Vec, Global, arith}
+use Rattle.std.specs.List.{cons_option}
 use Rattle.std.specs.Option.{option_map}
 use Rattle.std.proofs.lemmas.List.{take_more, map-append, append-nil}
 use Rattle.std.proofs.lemmas.List.Elements.{filter_map-append}
 use Rattle.rules.specs.Uploaders.{rule_parts, rule_of, rules_in}
 use Rattle.rules.specs.declared.uploader.Rule.{Rule}
-use Rattle.rules.proofs.Different.{texts}
+use Rattle.records.proofs.Different.{texts}
 use Rattle.rules.proofs.uploader.rules_of.Goals as goal
 use Rattle.rules.proofs.uploader.rules_of.Goals.{in-Some+in_ok-rule_of+in_ok-push, in_default}
 

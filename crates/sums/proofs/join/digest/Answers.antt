@@ -1,4 +1,4 @@
-use Rattle.std.proofs.Common.{◌≡◌, ◌∙◌, sym, ap, Ok}
+use Rattle.std.proofs.Common.{◌∙◌, sym, ap}
 use Rattle.std.specs.Result.{is_ok}
 use Rattle.sums.proofs.Digests.{digest_read}
 use Rattle.sums.proofs.join.digest.Goals as goal

@@ -1,4 +1,4 @@
-use Rattle.std.proofs.Common.{◌≡◌, ◌∙◌, ◌<◌, ℕ, List, [], true, ap, sym, subst, unwrap_or, arith, map}
+use Rattle.std.proofs.Common.{◌≡◌, ◌∙◌, [], true, ap, sym, subst, unwrap_or, arith, map}
 use Rattle.std.specs.List.{find}
 use Rattle.std.specs.Str.{bytes_eq}
 use Rattle.sums.specs.Lines.{is_digest, is_size, digest_word, word, name_word}
@@ -24,10 +24,12 @@ digest_named-requires c =
     let form = files_form c.args.lists.kind in
     let name : c.word-name.result.now ≡ name_word form c.args.line.now = c.word-name.ensures ∙ ap (λ f. name_word f c.args.line.now) c.files_form.ensures in
     let others = map (λ line. line.now) c.args.lists.sha1.now in (
-      omega arith, (
       omega arith,
-      subst (λ n. is_digest 20 (digest_word (unwrap_or (find (λ line. bytes_eq (word line 2) n) others) [])) ≡ true) (sym name)
-      (named_digest 20 form (lines_in c.args.lists).files others c.args.line.now fine.sha1 fine.sha1_agrees c.requires.listed)),
+      (
+        omega arith,
+        subst (λ n. is_digest 20 (digest_word (unwrap_or (find (λ line. bytes_eq (word line 2) n) others) [])) ≡ true) (sym name)
+            (named_digest 20 form (lines_in c.args.lists).files others c.args.line.now fine.sha1 fine.sha1_agrees c.requires.listed),
+      ),
     )
 
 pub digest_named-requires-2 : goal.digest_named-requires-2
@@ -36,8 +38,10 @@ digest_named-requires-2 c =
     let form = files_form c.args.lists.kind in
     let name : c.word-name.result.now ≡ name_word form c.args.line.now = c.word-name.ensures ∙ ap (λ f. name_word f c.args.line.now) c.files_form.ensures in
     let others = map (λ line. line.now) c.args.lists.sha256.now in (
-      omega arith, (
       omega arith,
-      subst (λ n. is_digest 32 (digest_word (unwrap_or (find (λ line. bytes_eq (word line 2) n) others) [])) ≡ true) (sym name)
-      (named_digest 32 form (lines_in c.args.lists).files others c.args.line.now fine.sha256 fine.sha256_agrees c.requires.listed)),
+      (
+        omega arith,
+        subst (λ n. is_digest 32 (digest_word (unwrap_or (find (λ line. bytes_eq (word line 2) n) others) [])) ≡ true) (sym name)
+            (named_digest 32 form (lines_in c.args.lists).files others c.args.line.now fine.sha256 fine.sha256_agrees c.requires.listed),
+      ),
     )

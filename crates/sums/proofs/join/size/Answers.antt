@@ -1,4 +1,4 @@
-use Rattle.std.proofs.Common.{◌≡◌, ◌∙◌, sym, ap, Ok}
+use Rattle.std.proofs.Common.{◌∙◌, sym, ap}
 use Rattle.std.specs.Result.{is_ok}
 use Rattle.sums.proofs.Sizes.{size_parsed}
 use Rattle.sums.proofs.join.size.Goals as goal

@@ -1,4 +1,4 @@
-use Rattle.std.proofs.Common.{◌≡◌, ◌∙◌, sym, map}
+use Rattle.std.proofs.Common.{◌∙◌, sym, map}
 use Rattle.para.specs.Field.{field_value}
 use Rattle.sums.proofs.Refusals.{Three, no_sha1, no_sha256, no_files, has_text, rest, lines_are}
 use Rattle.sums.proofs.lists.find_lists.Goals as goal

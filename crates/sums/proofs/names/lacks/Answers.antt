@@ -1,4 +1,4 @@
-use Rattle.std.proofs.Common.{◌∙◌, sym, not, map, rules}
+use Rattle.std.proofs.Common.{◌∙◌, sym, not, rules}
 use Rattle.std.proofs.lemmas.Iterator.{YieldsList-from_slice}
 use Rattle.std.proofs.lemmas.Iterator.Search.{any_from_yields_List}
 use Rattle.sums.specs.Views.{in_names, size_in, is_size_of}

@@ -1,4 +1,4 @@
-use Rattle.std.proofs.Common.{◌≡◌, ◌∙◌, sym, get_or, Some}
+use Rattle.std.proofs.Common.{◌∙◌, sym, get_or, Some}
 use Rattle.std.proofs.lemmas.Map.Text.{btree_map_updates_str}
 use Rattle.sums.proofs.SizesByName.{no_file, twice_at, sizes_more}
 use Rattle.sums.proofs.names.sizes_by_name.Goals as goal

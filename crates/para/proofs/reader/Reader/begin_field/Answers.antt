@@ -57,7 +57,7 @@ returns-then-not-is_new-clause-judged c =
     let name : is_name (name_part line) ≡ true = ap is_name (sym c.split_name.ensures.name) ∙ sym c.is_name.ensures ∙ c.if-not-is_name.false in
     let colon : list_any is_colon line ≡ true = (at_some c.split_name.result.1 _ _ c.in-Some.value c.in-Some.is c.split_name.ensures.value).0 in
     let names : List (List ℕ) = names_of (state c.args.self.now) in
-    let there = found c.end_field.new.self.names c.in_ok-to_ascii_lowercase.field-0 (name_part line) names (c.in_ok-to_ascii_lowercase.ensures.ok ∙ ap str_to_ascii_lowercase c.split_name.ensures.name)
+    let there = found c.end_field.new.self.names c.in_ok-lower_name.field-0 (name_part line) names (c.in_ok-lower_name.ensures ∙ ap str_to_ascii_lowercase c.split_name.ensures.name)
     (ap (λ s. contains_text s (str_to_ascii_lowercase (name_part line))) c.in_ok-end_field.ensures.names ∙ c.requires.names (name_part line)) in
     fault-twice names c.args.number line (record { allowed = c.requires.allowed; filled = c.requires.filled; begins = c.requires.begins }) name colon
     (sym there ∙ not_false _ (sym c.in_ok-is_new.ensures.added ∙ c.if-not-is_new.true))
@@ -68,7 +68,7 @@ returns-clause-judged c =
     let name : is_name (name_part line) ≡ true = ap is_name (sym c.split_name.ensures.name) ∙ sym c.is_name.ensures ∙ c.if-not-is_name.false in
     let colon : list_any is_colon line ≡ true = (at_some c.split_name.result.1 _ _ c.in-Some.value c.in-Some.is c.split_name.ensures.value).0 in
     let names : List (List ℕ) = names_of (state c.args.self.now) in
-    let there = found c.end_field.new.self.names c.in_ok-to_ascii_lowercase.field-0 (name_part line) names (c.in_ok-to_ascii_lowercase.ensures.ok ∙ ap str_to_ascii_lowercase c.split_name.ensures.name)
+    let there = found c.end_field.new.self.names c.in_ok-lower_name.field-0 (name_part line) names (c.in_ok-lower_name.ensures ∙ ap str_to_ascii_lowercase c.split_name.ensures.name)
     (ap (λ s. contains_text s (str_to_ascii_lowercase (name_part line))) c.in_ok-end_field.ensures.names ∙ c.requires.names (name_part line)) in
     fault-none names c.args.number line (record { allowed = c.requires.allowed; filled = c.requires.filled; begins = c.requires.begins }) name colon
     (sym there ∙ not_true _ (sym c.in_ok-is_new.ensures.added ∙ c.if-not-is_new.false))
@@ -76,7 +76,7 @@ returns-clause-judged c =
 pub returns-clause-names : goal.returns-clause-names
 returns-clause-names c = λ q.
     let names : List (List ℕ) = names_of (state c.args.self.now) in
-    one_more c.end_field.new.self.names c.insert.new.self c.in_ok-to_ascii_lowercase.field-0 c.split_name.result.0.now q names c.in_ok-to_ascii_lowercase.ensures.ok c.in_ok-is_new.ensures.updates
+    one_more c.end_field.new.self.names c.insert.new.self c.in_ok-lower_name.field-0 c.split_name.result.0.now q names c.in_ok-lower_name.ensures c.in_ok-is_new.ensures.updates
     (ap (λ s. contains_text s (str_to_ascii_lowercase q)) c.in_ok-end_field.ensures.names ∙ c.requires.names q)
     ∙ ap (λ (s : State). is_taken (map (λ (f : FieldValue). f.name) s.fields ++ c.split_name.result.0.now ∷ []) q) (sym c.in_ok-end_field.ensures.ok)
     ∙ ap (λ ns. is_taken ns q) (sym (map-append (λ (f : FieldValue). f.name) (state c.end_field.new.self).fields (trimmed (record { name = c.split_name.result.0.now; first = c.trim_start_blanks.result.now; more = map (λ l. l.now) c.new.result.items }) ∷ [])))

@@ -15,12 +15,12 @@ pub returns-clause-read : goal.returns-clause-read
 unfolding changes_in
 returns-clause-read c =
     read_from c.changes_from.result (changes_fault c.in_ok-paragraph.paragraph) (changes_of c.in_ok-paragraph.paragraph) (changes_in c.args.text.now)
-      (ap (of_fields (λ f. unless (changes_fault f) (changes_of f))) c.in_ok-paragraph.ensures.read)
-      c.changes_from.ensures.only c.changes_from.ensures.read
+    (ap (of_fields (λ f. unless (changes_fault f) (changes_of f))) c.in_ok-paragraph.ensures.read)
+    c.changes_from.ensures.only c.changes_from.ensures.read
 
 pub returns-clause-refused : goal.returns-clause-refused
 unfolding changes_in
 returns-clause-refused c =
     refused_from c.changes_from.result (changes_fault c.in_ok-paragraph.paragraph) (changes_of c.in_ok-paragraph.paragraph) (changes_in c.args.text.now)
-      (ap (of_fields (λ f. unless (changes_fault f) (changes_of f))) c.in_ok-paragraph.ensures.read)
-      c.changes_from.ensures.refused
+    (ap (of_fields (λ f. unless (changes_fault f) (changes_of f))) c.in_ok-paragraph.ensures.read)
+    c.changes_from.ensures.refused

@@ -15,12 +15,12 @@ pub returns-clause-read : goal.returns-clause-read
 unfolding dsc_in
 returns-clause-read c =
     read_from c.dsc_from.result (dsc_fault c.in_ok-paragraph.paragraph) (dsc_of c.in_ok-paragraph.paragraph) (dsc_in c.args.text.now)
-      (ap (of_fields (λ f. unless (dsc_fault f) (dsc_of f))) c.in_ok-paragraph.ensures.read)
-      c.dsc_from.ensures.only c.dsc_from.ensures.read
+    (ap (of_fields (λ f. unless (dsc_fault f) (dsc_of f))) c.in_ok-paragraph.ensures.read)
+    c.dsc_from.ensures.only c.dsc_from.ensures.read
 
 pub returns-clause-refused : goal.returns-clause-refused
 unfolding dsc_in
 returns-clause-refused c =
     refused_from c.dsc_from.result (dsc_fault c.in_ok-paragraph.paragraph) (dsc_of c.in_ok-paragraph.paragraph) (dsc_in c.args.text.now)
-      (ap (of_fields (λ f. unless (dsc_fault f) (dsc_of f))) c.in_ok-paragraph.ensures.read)
-      c.dsc_from.ensures.refused
+    (ap (of_fields (λ f. unless (dsc_fault f) (dsc_of f))) c.in_ok-paragraph.ensures.read)
+    c.dsc_from.ensures.refused

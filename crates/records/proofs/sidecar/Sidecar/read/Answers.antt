@@ -15,12 +15,12 @@ pub returns-clause-read : goal.returns-clause-read
 unfolding sidecar_in
 returns-clause-read c =
     read_from c.sidecar_from.result (sidecar_fault c.in_ok-paragraph.paragraph) (sidecar_of c.in_ok-paragraph.paragraph) (sidecar_in c.args.text.now)
-      (ap (of_fields (λ f. unless (sidecar_fault f) (sidecar_of f))) c.in_ok-paragraph.ensures.read)
-      c.sidecar_from.ensures.only c.sidecar_from.ensures.read
+    (ap (of_fields (λ f. unless (sidecar_fault f) (sidecar_of f))) c.in_ok-paragraph.ensures.read)
+    c.sidecar_from.ensures.only c.sidecar_from.ensures.read
 
 pub returns-clause-refused : goal.returns-clause-refused
 unfolding sidecar_in
 returns-clause-refused c =
     refused_from c.sidecar_from.result (sidecar_fault c.in_ok-paragraph.paragraph) (sidecar_of c.in_ok-paragraph.paragraph) (sidecar_in c.args.text.now)
-      (ap (of_fields (λ f. unless (sidecar_fault f) (sidecar_of f))) c.in_ok-paragraph.ensures.read)
-      c.sidecar_from.ensures.refused
+    (ap (of_fields (λ f. unless (sidecar_fault f) (sidecar_of f))) c.in_ok-paragraph.ensures.read)
+    c.sidecar_from.ensures.refused

@@ -1,6 +1,5 @@
-use Rattle.std.proofs.Common.{◌≡◌, ◌∙◌, sym, ap, rules, ℕ, List, map, Ok}
+use Rattle.std.proofs.Common.{◌≡◌, ◌∙◌, sym, ap, rules, map, Ok}
 use Rattle.std.proofs.lemmas.Result.{err_from_is_err_and}
-use Rattle.para.specs.Fields.{Fields}
 use Rattle.rules.specs.Paragraphs.{suite_of}
 use Rattle.rules.specs.Configuration.{config_fault}
 use Rattle.rules.proofs.Configs.{refused_text, refused_paragraphs, configured, configured_copy}

@@ -1,0 +1,3 @@
+pub mod CommandLines
+pub mod Fault
+pub mod Shape

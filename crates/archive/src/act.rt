@@ -1,0 +1,126 @@
+//! What the program does for a line.
+
+use crate::fault::Stop;
+use crate::parsed::CommandLine;
+use keep::PlainKeeper;
+use queue::{Archive, Fault};
+use rules::Config;
+use std::alloc::Global;
+use std::cmp::Ordering;
+use std::fs::File;
+use std::io::{self, Read, Write};
+use std::rt::Files;
+use vers::Version;
+
+/// The configuration of the archive that `try` makes.
+const BOX: &[u8] = b"Codename: box\nArchitectures: amd64 source\nComponents: main\n";
+
+/// The index that `try` prints.
+const BOX_PACKAGES: &str = "dists/box/main/binary-amd64/Packages";
+
+/// One byte more than a delivered body may have, so that a longer file is refused as one.
+const MOST_READ: u64 = 4_194_305;
+
+/// The text behind a path's last slash.
+fn file_name(path: &str) -> &str {
+    match path.rsplit_once('/') {
+        Some((_, name)) => name,
+        None => path,
+    }
+}
+
+fn read_file<R: Files + AllocGlobal>(rt: &R, path: &str) -> io::Result<Vec<u8>> {
+    let mut body = Vec::new(rt.alloc());
+    File::open(rt, path)?
+        .take(MOST_READ)
+        .read_to_end(&mut body)?;
+    Ok(body)
+}
+
+/// A file to deliver.
+fn body_of<'a, R: Files + AllocGlobal>(rt: &R, path: &'a str) -> Result<Vec<u8>, Stop<'a>> {
+    match read_file(rt, path) {
+        Ok(body) => Ok(body),
+        Err(error) if error.kind() == io::ErrorKind::OutOfMemory => {
+            Err(Stop::Refused(Fault::OutOfMemory))
+        }
+        Err(_) => Err(Stop::Unreadable(path)),
+    }
+}
+
+/// An archive of its own, with the configuration that `try` has.
+fn box_archive(alloc: Global) -> Result<Archive<PlainKeeper>, Fault> {
+    match Config::read(alloc, BOX) {
+        Ok(config) => Ok(Archive::new(PlainKeeper::new(alloc, config, 0)?)),
+        Err(_) => Err(Fault::OutOfMemory),
+    }
+}
+
+/// Delivers the files to an archive of their own, runs its queue, and prints the Packages of what was accepted.
+fn try_upload<'a, R: Files + AllocGlobal, W: Write>(
+    rt: &R,
+    paths: &[&'a str],
+    out: &mut W,
+) -> Result<(), Stop<'a>> {
+    let alloc = rt.alloc();
+    let mut archive = box_archive(alloc)?;
+    for path in paths {
+        let body = body_of(rt, path)?;
+        archive.deliver(alloc, file_name(path), &body, 0)?;
+    }
+    archive.run(alloc, 0)?;
+    if let Some(text) = archive.fetch(alloc, BOX_PACKAGES)? {
+        out.write_all(&text)?;
+    }
+    Ok(())
+}
+
+/// Prints how two versions compare.
+fn compare<'a, W: Write>(
+    alloc: Global,
+    left: &str,
+    right: &str,
+    out: &mut W,
+) -> Result<(), Stop<'a>> {
+    let left = Version::parse(alloc, left)?;
+    let right = Version::parse(alloc, right)?;
+    let word: &[u8] = match left.order(&right) {
+        Ordering::Less => b"less\n",
+        Ordering::Equal => b"equal\n",
+        Ordering::Greater => b"greater\n",
+    };
+    out.write_all(word)?;
+    Ok(())
+}
+
+fn done<'a, R: Files + AllocGlobal, W: Write>(
+    rt: &R,
+    line: &CommandLine<'a>,
+    out: &mut W,
+) -> Result<(), Stop<'a>> {
+    match line {
+        CommandLine::Try { paths } => try_upload(rt, paths, out)?,
+        CommandLine::Compare { left, right } => compare(rt.alloc(), left, right, out)?,
+    }
+    out.flush()?;
+    Ok(())
+}
+
+/// Does a line, and answers the exit status: 0 where it is done, 1 where something is refused or a file can't be read, 3
+/// where memory runs out or an output fails. What was refused is a line on `err`; where an output fails nothing more is
+/// printed.
+pub fn act<R: Files + AllocGlobal, W: Write, E: Write>(
+    rt: &R,
+    line: &CommandLine<'_>,
+    out: &mut W,
+    err: &mut E,
+) -> u8 {
+    match done(rt, line, out) {
+        Ok(()) => 0,
+        Err(Stop::Unwritten) => 3,
+        Err(stop) => match writeln!(err, "{stop}") {
+            Ok(()) => stop.status(),
+            Err(_) => 3,
+        },
+    }
+}
