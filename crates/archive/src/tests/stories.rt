@@ -32,6 +32,35 @@ fn hello_is_accepted(rt: HostRuntime) -> Result<(), Fail> {
     expect_bytes(&rt, alloc, &mut archive, POOL_FILE, b"abc")
 }
 
+/// Release has the prints of the other indices, and the moment at which what the suite shows last changed.
+#[test]
+fn release_follows_the_indices(rt: HostRuntime) -> Result<(), Fail> {
+    let alloc = rt.alloc();
+    let mut archive = fresh(alloc)?;
+    let changes = changes(alloc, ABC)?;
+    expect_bytes(&rt, alloc, &mut archive, RELEASE, EMPTY_RELEASE)?;
+    expect_bytes(&rt, alloc, &mut archive, SOURCES, b"")?;
+    deliver(
+        &rt,
+        alloc,
+        &mut archive,
+        CHANGES_NAME,
+        changes.as_bytes(),
+        New,
+    )?;
+    deliver(&rt, alloc, &mut archive, DEB_NAME, b"abc", New)?;
+    deliver(&rt, alloc, &mut archive, CONTROL_NAME, CONTROL, New)?;
+    expect_run(
+        &rt,
+        alloc,
+        &mut archive,
+        &["accepted hello_1.0-1_amd64.changes"],
+    )?;
+    expect_bytes(&rt, alloc, &mut archive, RELEASE, HELLO_RELEASE)?;
+    archive.run(alloc, 1_467_436_851)?;
+    expect_bytes(&rt, alloc, &mut archive, RELEASE, HELLO_RELEASE)
+}
+
 /// The order of the files and how often each comes make no difference.
 #[test]
 fn reverse_order_twice(rt: HostRuntime) -> Result<(), Fail> {
