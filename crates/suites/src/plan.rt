@@ -60,11 +60,6 @@ impl Plan {
             .binary_search_by(|entry| entry.0.cmp(key))
             .is_ok()
     }
-
-    /// Whether the plan changes what some suite shows.
-    pub fn changes_something(&self) -> bool {
-        !self.put.as_slice().is_empty() || !self.dropped.as_slice().is_empty()
-    }
 }
 
 /// The references that items have to their files.
