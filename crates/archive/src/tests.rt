@@ -2,4 +2,7 @@
 
 mod fixtures;
 mod program;
+mod sources;
 mod stories;
+mod uploads;
+mod verdicts;

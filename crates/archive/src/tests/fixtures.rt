@@ -1,5 +1,6 @@
 //! Files of small uploads, and an archive to hand them to.
 
+use super::uploads::File;
 use keep::PlainKeeper;
 use queue::{Archive, Arrived};
 use rules::Config;
@@ -76,10 +77,32 @@ pub fn changes(alloc: Global, deb: Deb<'_>) -> Result<String, Fail> {
     )?)
 }
 
+/// An archive of a configuration, made at 0.
+pub fn archive_of(alloc: Global, config: &[u8]) -> Result<Archive<PlainKeeper>, Fail> {
+    let config = Config::read(alloc, config)?;
+    Ok(Archive::new(PlainKeeper::new(alloc, config, 0)?))
+}
+
 /// An archive with one suite, `box`, made at 0.
 pub fn fresh(alloc: Global) -> Result<Archive<PlainKeeper>, Fail> {
-    let config = Config::read(alloc, BOX)?;
-    Ok(Archive::new(PlainKeeper::new(alloc, config, 0)?))
+    archive_of(alloc, BOX)
+}
+
+/// Delivers the files of an upload, the first of which is its .changes; under another name, where one is given.
+pub fn deliver_all(
+    alloc: Global,
+    archive: &mut Archive<PlainKeeper>,
+    files: &[File],
+    changes_name: Option<&str>,
+) -> Result<(), Fail> {
+    for file in files {
+        let name = match changes_name {
+            Some(name) if file.name.ends_with(".changes") => name,
+            _ => file.name,
+        };
+        archive.deliver(alloc, name, file.body, 0)?;
+    }
+    Ok(())
 }
 
 /// Delivers a file, and checks whether it was new.
