@@ -1,2 +1,15 @@
+pub mod Held
 pub mod Keys
 pub mod KeyLemmas
+pub mod Change
+pub mod Items
+pub mod Pool
+pub mod Shelves
+pub mod Counts
+pub mod Upload
+pub mod Verdict
+pub mod Judging
+pub mod Plan
+pub mod Applying
+pub mod Admission
+pub mod PoolChange

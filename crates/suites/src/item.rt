@@ -1,5 +1,7 @@
 //! What a suite shows: sources and packages, with their files.
 
+ghost use Rattle.std.specs.Prelude.{◌≡◌, IfOk};
+
 use crate::key::{Kind, ShelfKey};
 use para::{Listed, Text};
 use std::alloc::{AllocError, Global};
@@ -28,7 +30,9 @@ pub struct Item {
 
 impl PoolFile {
     /// Another copy of the file's path and print.
-    pub fn try_clone(&self) -> Result<PoolFile, AllocError> {
+    pub fn try_clone(&self) -> Result<PoolFile, AllocError>
+        ensures { IfOk result (λ copy. copy ≡ self.now) }
+    {
         Ok(PoolFile {
             path: self.path.try_clone()?,
             print: self.print,
@@ -36,7 +40,9 @@ impl PoolFile {
     }
 }
 
-fn copied_files(alloc: Global, files: &[PoolFile]) -> Result<Listed<PoolFile>, AllocError> {
+fn copied_files(alloc: Global, files: &[PoolFile]) -> Result<Listed<PoolFile>, AllocError>
+    ensures { IfOk result (λ copies. copies ≡ files.now) }
+{
     let mut copies = Vec::new(alloc);
     for file in files {
         copies.push(file.try_clone()?)?;
@@ -46,7 +52,9 @@ fn copied_files(alloc: Global, files: &[PoolFile]) -> Result<Listed<PoolFile>, A
 
 impl Item {
     /// Another copy of the item.
-    pub fn try_clone(&self, alloc: Global) -> Result<Item, AllocError> {
+    pub fn try_clone(&self, alloc: Global) -> Result<Item, AllocError>
+        ensures { IfOk result (λ copy. copy ≡ self.now) }
+    {
         Ok(Item {
             kind: self.kind,
             package: self.package.try_clone()?,
@@ -60,7 +68,9 @@ impl Item {
     }
 
     /// The shelf where the item stands in a suite, which is a position in the configuration.
-    pub fn shelf(&self, suite: usize) -> Result<ShelfKey, AllocError> {
+    pub fn shelf(&self, suite: usize) -> Result<ShelfKey, AllocError>
+        ensures { IfOk result (λ key. key ≡ record { suite = suite; kind = self.now.kind; «package» = self.now.«package»; architecture = self.now.architecture }) }
+    {
         Ok(ShelfKey {
             suite,
             kind: self.kind,

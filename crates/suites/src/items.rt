@@ -1,5 +1,12 @@
 //! The items that an upload gives.
 
+ghost use Rattle.std.specs.Prelude.{◌≡◌, ◌∷◌, Ok, IfOk, map, option_to_list};
+ghost use Rattle.std.specs.Str.{IsUtf8};
+ghost use Rattle.records.specs.Records.{dsc_in, sidecar_in};
+ghost use Rattle.suites.specs.Items.{file_of, item_of};
+ghost use Rattle.suites.specs.Judging.{part_of};
+ghost use Rattle.suites.specs.Upload.{file_at, package_file as package_file_of, source_item as source_given, binary_item as binary_given};
+
 use crate::item::{Item, PoolFile};
 use crate::key::Kind;
 use crate::listing::package_file;
@@ -26,7 +33,10 @@ pub struct BinaryPart<'a> {
 }
 
 /// The text of a paragraph that was read.
-fn paragraph(alloc: Global, text: &[u8]) -> Result<Text, AllocError> {
+fn paragraph(alloc: Global, text: &[u8]) -> Result<Text, AllocError>
+    requires { IsUtf8 text.now }
+    ensures { IfOk result (λ paragraph. paragraph ≡ text.now) }
+{
     Text::new(alloc, str::from_utf8(text).unwrap_or(""))
 }
 
@@ -34,14 +44,34 @@ fn paragraph(alloc: Global, text: &[u8]) -> Result<Text, AllocError> {
 fn pool_file(
     alloc: Global,
     component: &str,
-    source: &str,
+    changes: &Changes,
     entry: &Entry,
-) -> Result<PoolFile, AllocError> {
-    let path = pool_path(alloc, component, source, entry.name.as_str())?;
+) -> Result<PoolFile, AllocError>
+    ensures { IfOk result (λ file. file ≡ file_of (file_at (λ e. e.print) changes.now component.now entry.now)) }
+{
+    let path = pool_path(alloc, component, changes.source(), entry.name.as_str())?;
     Ok(PoolFile {
         path: Text::from_string(path),
         print: entry.print,
     })
+}
+
+/// The files of a source: the .dsc and all that it lists, in its order.
+fn source_files(
+    alloc: Global,
+    component: &str,
+    changes: &Changes,
+    dsc: &Entry,
+    entries: &[Entry],
+) -> Result<Listed<PoolFile>, AllocError>
+    ensures { IfOk result (λ files. files ≡ map file_of (map (file_at (λ e. e.print) changes.now component.now) (dsc.now ∷ entries.now))) }
+{
+    let mut files = Vec::new(alloc);
+    files.push(pool_file(alloc, component, changes, dsc)?)?;
+    for entry in entries {
+        files.push(pool_file(alloc, component, changes, entry)?)?;
+    }
+    Ok(Listed::from_vec(files))
 }
 
 /// The item of a source: its files are the .dsc and all that the .dsc lists, in its order.
@@ -50,13 +80,11 @@ pub fn source_item(
     component: &str,
     changes: &Changes,
     source: &SourcePart<'_>,
-) -> Result<Item, AllocError> {
+) -> Result<Item, AllocError>
+    requires { dsc_in source.now.part.text.now ≡ Ok source.now.dsc }
+    ensures { IfOk result (λ item. item ≡ item_of (source_given (λ e. e.print) changes.now component.now (part_of source.now.part) source.now.dsc)) }
+{
     let name = changes.source();
-    let mut files = Vec::new(alloc);
-    files.push(pool_file(alloc, component, name, source.part.entry)?)?;
-    for entry in source.dsc.entries() {
-        files.push(pool_file(alloc, component, name, entry)?)?;
-    }
     Ok(Item {
         kind: Kind::Source,
         package: Text::new(alloc, name)?,
@@ -65,7 +93,13 @@ pub fn source_item(
         component: Text::new(alloc, component)?,
         source: Text::new(alloc, name)?,
         paragraph: paragraph(alloc, source.part.text)?,
-        files: Listed::from_vec(files),
+        files: source_files(
+            alloc,
+            component,
+            changes,
+            source.part.entry,
+            source.dsc.entries(),
+        )?,
     })
 }
 
@@ -75,10 +109,12 @@ fn package_files(
     component: &str,
     changes: &Changes,
     sidecar: &str,
-) -> Result<Listed<PoolFile>, AllocError> {
+) -> Result<Listed<PoolFile>, AllocError>
+    ensures { IfOk result (λ files. files ≡ map file_of (map (file_at (λ e. e.print) changes.now component.now) (option_to_list (package_file_of changes.now.entries sidecar.now)))) }
+{
     let mut files = Vec::new(alloc);
     if let Some(entry) = package_file(changes.entries(), sidecar) {
-        files.push(pool_file(alloc, component, changes.source(), entry)?)?;
+        files.push(pool_file(alloc, component, changes, entry)?)?;
     }
     Ok(Listed::from_vec(files))
 }
@@ -89,7 +125,10 @@ pub fn binary_item(
     component: &str,
     changes: &Changes,
     binary: &BinaryPart<'_>,
-) -> Result<Item, AllocError> {
+) -> Result<Item, AllocError>
+    requires { sidecar_in binary.now.part.text.now ≡ Ok binary.now.sidecar }
+    ensures { IfOk result (λ item. item ≡ item_of (binary_given (λ e. e.print) changes.now component.now (part_of binary.now.part) binary.now.sidecar)) }
+{
     let sidecar = &binary.sidecar;
     let name = binary.part.entry.name.as_str();
     Ok(Item {

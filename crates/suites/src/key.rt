@@ -1,6 +1,6 @@
 //! Where an item stands: its suite, and within it one shelf for each kind, package and architecture.
 
-ghost use Rattle.std.specs.Prelude.{◌≡◌};
+ghost use Rattle.std.specs.Prelude.{◌≡◌, IfOk};
 ghost use Rattle.std.specs.Ordering.{as_partial_cmp, eq_by_cmp};
 
 use para::Text;
@@ -38,7 +38,9 @@ pub struct ShelfKey {
 
 impl ShelfKey {
     /// Another copy of the key.
-    pub fn try_clone(&self) -> Result<ShelfKey, AllocError> {
+    pub fn try_clone(&self) -> Result<ShelfKey, AllocError>
+        ensures { IfOk result (λ copy. copy ≡ self.now) }
+    {
         Ok(ShelfKey {
             suite: self.suite,
             kind: self.kind,

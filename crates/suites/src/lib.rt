@@ -1,6 +1,8 @@
 //! What the suites show, and what an upload changes of it: verdicts, items, the pool, and the plan of a change.
 #![tactic(auto)]
 
+mod admission;
+mod copy_plan;
 mod item;
 mod items;
 mod key;
@@ -11,11 +13,14 @@ mod pool;
 mod shelves;
 mod source;
 mod upload;
+mod upload_plan;
 mod verdict;
 
+pub use copy_plan::plan_copy;
 pub use item::{Item, PoolFile};
 pub use key::{Kind, ShelfKey};
 pub use paths::directory;
-pub use plan::{Plan, Reference, plan_upload};
+pub use plan::{Plan, Reference};
 pub use shelves::{SharedFile, Shelves};
 pub use upload::{Upload, has_text};
+pub use upload_plan::plan_upload;

@@ -1,75 +1,119 @@
 //! What a .changes may list.
 
-use crate::upload::entry_named;
+ghost use Rattle.std.specs.Prelude.{◌≡◌, ◌&&◌, ◌||◌, not, length, bytes_eq, option_copied};
+ghost use Rattle.std.specs.List.{list_all};
+ghost use Rattle.records.specs.Records.{is_among};
+ghost use Rattle.suites.specs.Upload.{has_suffix as ends_in, stem as stem_of, package_file as file_of_package};
+ghost use Rattle.suites.specs.Verdict.{names_with, names_of, stems, are_among, has_source, is_package_part, has_bad_listing, has_entry};
+
+use crate::upload::{entry_named, has_suffix};
 use records::Changes;
 use sums::Entry;
 
-/// A name without its ending, if it has that ending.
-fn stem<'a>(name: &'a str, ending: &str) -> Option<&'a str> {
-    name.strip_suffix(ending)
+/// A name without its ending.
+fn stem<'a>(name: &'a str, ending: &str) -> &'a [u8]
+    ensures { result.now ≡ stem_of ending.now name.now }
+{
+    let bytes = name.as_bytes();
+    &bytes[..bytes.len().saturating_sub(ending.len())]
 }
 
-/// Whether a name is the stem and then the ending.
-fn is_joined(name: &str, stem: &str, ending: &str) -> bool {
-    match name.strip_suffix(ending) {
-        Some(front) => front == stem,
-        None => false,
-    }
+/// Whether a name is this front and then the ending.
+fn is_joined(name: &str, front: &[u8], ending: &str) -> bool
+    ensures { result ≡ (ends_in ending.now name.now && bytes_eq front.now (stem_of ending.now name.now)) }
+{
+    has_suffix(name, ending) && front == stem(name, ending)
 }
 
-fn has_joined(entries: &[Entry], stem: &str, ending: &str) -> bool {
+/// Whether a listed name is this front and then the ending.
+fn has_joined(entries: &[Entry], front: &[u8], ending: &str) -> bool
+    ensures { result ≡ is_among (stems ending.now entries.now) front.now }
+{
     entries
         .iter()
-        .any(|entry| is_joined(entry.name.as_str(), stem, ending))
+        .any(|entry| is_joined(entry.name.as_str(), front, ending))
 }
 
 /// The package file of a sidecar: the listed file of the same stem that ends in `.deb`.
-pub fn package_file<'a>(entries: &'a [Entry], sidecar: &str) -> Option<&'a Entry> {
-    let stem = stem(sidecar, ".control")?;
+#[tactic(auto, unfolding(crate::specs::Upload::package_file))]
+pub fn package_file<'a>(entries: &'a [Entry], sidecar: &str) -> Option<&'a Entry>
+    ensures { option_copied result ≡ file_of_package entries.now sidecar.now }
+{
+    let front = stem(sidecar, ".control");
     entries
         .iter()
-        .find(|entry| is_joined(entry.name.as_str(), stem, ".deb"))
+        .find(|entry| is_joined(entry.name.as_str(), front, ".deb"))
+}
+
+/// Whether a name that has the first ending has a listed one of the same stem with the second.
+fn is_paired(entries: &[Entry], name: &str, ending: &str, other: &str) -> bool
+    ensures { result ≡ (not (ends_in ending.now name.now) || is_among (stems other.now entries.now) (stem_of ending.now name.now)) }
+{
+    !has_suffix(name, ending) || has_joined(entries, stem(name, ending), other)
 }
 
 /// Whether each listed name with the first ending has one of the same stem with the second.
-fn are_paired(entries: &[Entry], ending: &str, other: &str) -> bool {
-    for entry in entries {
-        if let Some(stem) = stem(entry.name.as_str(), ending) {
-            if !has_joined(entries, stem, other) {
-                return false;
-            }
-        }
-    }
-    true
+fn are_paired(entries: &[Entry], ending: &str, other: &str) -> bool
+    ensures { result ≡ are_among (stems ending.now entries.now) (stems other.now entries.now) }
+{
+    entries.iter().all(|entry| is_paired(entries, entry.name.as_str(), ending, other))
 }
 
 /// Whether a name is that of no source file: it ends in `.dsc`, `.deb`, `.control` or `.changes`.
-pub fn is_package_part(name: &str) -> bool {
-    name.ends_with(".dsc")
-        || name.ends_with(".deb")
-        || name.ends_with(".control")
-        || name.ends_with(".changes")
+#[tactic(auto, unfolding(crate::specs::Verdict::is_package_part))]
+pub fn is_package_part(name: &str) -> bool
+    ensures { result ≡ is_package_part name.now }
+{
+    has_suffix(name, ".dsc")
+        || has_suffix(name, ".deb")
+        || has_suffix(name, ".control")
+        || has_suffix(name, ".changes")
 }
 
 /// Whether `source` is among the architectures of a .changes.
-fn has_source(changes: &Changes) -> bool {
+#[tactic(auto, unfolding(crate::specs::Verdict::has_source))]
+fn has_source(changes: &Changes) -> bool
+    ensures { result ≡ has_source changes.now }
+{
+    has_architecture(changes, "source")
+}
+
+/// Whether an architecture is one of the .changes.
+pub fn has_architecture(changes: &Changes, architecture: &str) -> bool
+    ensures { result ≡ is_among changes.now.architectures architecture.now }
+{
     changes
         .architectures()
         .iter()
-        .any(|name| name.as_str() == "source")
+        .any(|name| architecture == name.as_str())
 }
 
-fn count_with(entries: &[Entry], ending: &str) -> usize {
+/// How many listed names have the ending.
+fn count_with(entries: &[Entry], ending: &str) -> usize
+    ensures { result ≡ length (names_with ending.now entries.now) }
+{
     entries
         .iter()
-        .filter(|entry| entry.name.as_str().ends_with(ending))
+        .filter(|entry| has_suffix(entry.name.as_str(), ending))
         .count()
+}
+
+/// Whether no listed file is a source file.
+fn has_package_parts_only(entries: &[Entry]) -> bool
+    ensures { result ≡ list_all is_package_part (names_of entries.now) }
+{
+    entries
+        .iter()
+        .all(|entry| is_package_part(entry.name.as_str()))
 }
 
 /// Whether a .changes lists what it may not: a .changes; more or fewer than one .dsc where `source` is among its
 /// architectures, or one where it is not; a package file without its sidecar or the reverse; or, without `source`, a
 /// source file.
-pub fn has_bad_listing(changes: &Changes) -> bool {
+#[tactic(auto, unfolding(crate::specs::Verdict::has_bad_listing))]
+pub fn has_bad_listing(changes: &Changes) -> bool
+    ensures { result ≡ has_bad_listing changes.now }
+{
     let entries = changes.entries();
     let source = has_source(changes);
     let wanted = if source { 1 } else { 0 };
@@ -79,14 +123,14 @@ pub fn has_bad_listing(changes: &Changes) -> bool {
     if !are_paired(entries, ".deb", ".control") || !are_paired(entries, ".control", ".deb") {
         return true;
     }
-    !source
-        && entries
-            .iter()
-            .any(|entry| !is_package_part(entry.name.as_str()))
+    !source && !has_package_parts_only(entries)
 }
 
 /// Whether the entries have a file of that name and that print.
-pub fn lists(entries: &[Entry], wanted: &Entry) -> bool {
+#[tactic(auto, unfolding(crate::specs::Verdict::has_entry))]
+pub fn lists(entries: &[Entry], wanted: &Entry) -> bool
+    ensures { result ≡ has_entry entries.now wanted.now }
+{
     match entry_named(entries, wanted.name.as_str()) {
         Some(entry) => entry.print == wanted.print,
         None => false,

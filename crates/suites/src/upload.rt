@@ -1,8 +1,12 @@
 //! An upload whose listed files have all arrived.
 
+ghost use Rattle.std.specs.Prelude.{◌≡◌, IfOk, map, filter, zip, option_copied};
+ghost use Rattle.suites.specs.Upload.{IsUpload, has_suffix, has_text as keeps_text, entry_named as named_entry, parts_with};
+
 use para::{Listed, Text};
 use records::Changes;
 use std::alloc::{AllocError, Global};
+use std::marker::Model;
 use sums::{Entry, Print};
 
 /// A .changes and what has arrived of the files that it lists. It keeps the bodies of the .dsc and the sidecars; of
@@ -16,6 +20,16 @@ pub struct Upload {
     texts: Listed<Listed<u8>>,
 }
 
+impl Model for Upload {
+    ghost use Rattle.suites.specs.Upload.{UploadValue, IsUpload};
+
+    ghost Value = { UploadValue };
+
+    ghost view = { λ u. record { name = u.name; print = u.print; changes = u.changes; texts = u.texts } };
+
+    ghost invariant = { λ u. IsUpload (record { name = u.name; print = u.print; changes = u.changes; texts = u.texts }) };
+}
+
 /// A listed file of an upload: its entry in the .changes, and its text where it is a .dsc or a sidecar.
 #[derive(Clone, Copy)]
 pub struct Part<'a> {
@@ -26,7 +40,10 @@ pub struct Part<'a> {
 impl Upload {
     /// An upload of a .changes of this name and print, with a text for each of its entries: the body of a .dsc or a
     /// sidecar, and nothing for any other file.
-    pub fn new(name: Text, print: Print, changes: Changes, texts: Vec<Listed<u8>>) -> Upload {
+    pub fn new(name: Text, print: Print, changes: Changes, texts: Vec<Listed<u8>>) -> Upload
+        requires { IsUpload (record { name = name; print = print; changes = changes; texts = texts.items }) }
+        ensures { result ≡ record { name = name; print = print; changes = changes; texts = texts.items } }
+    {
         Upload {
             name,
             print,
@@ -36,53 +53,81 @@ impl Upload {
     }
 
     /// The name of the .changes.
-    pub fn name(&self) -> &str {
+    pub fn name(&self) -> &str
+        ensures { result.now ≡ self.now.name }
+    {
         self.name.as_str()
     }
 
     /// The print of the .changes.
-    pub fn print(&self) -> Print {
+    pub fn print(&self) -> Print
+        ensures { result ≡ self.now.print }
+    {
         self.print
     }
 
-    pub fn changes(&self) -> &Changes {
+    /// Each listed file has its text, and no two have one name. Nothing is done: the law is the contract.
+    pub fn lists_once(&self)
+        ensures { IsUpload self.now }
+    {
+        let _ = &self.texts;
+    }
+
+    pub fn changes(&self) -> &Changes
+        ensures { result.now ≡ self.now.changes }
+    {
         &self.changes
     }
 
-    /// The text of the listed file at a place of the list; nothing where it is neither a .dsc nor a sidecar.
-    fn text(&self, index: usize) -> &[u8] {
-        match self.texts.as_slice().get(index) {
-            Some(text) => text.as_slice(),
-            None => b"",
-        }
-    }
-
     /// The listed files whose names have this ending, with their texts.
-    pub fn parts(&self, alloc: Global, ending: &str) -> Result<Vec<Part<'_>>, AllocError> {
-        let mut parts = Vec::new(alloc);
-        for (index, entry) in self.changes.entries().iter().enumerate() {
-            if entry.name.as_str().ends_with(ending) {
-                parts.push(Part {
-                    entry,
-                    text: self.text(index),
-                })?;
-            }
-        }
-        Ok(parts)
+    pub fn parts(&self, alloc: Global, ending: &str) -> Result<Vec<Part<'_>>, AllocError>
+        ensures { IfOk result (λ parts. map (λ p. (p.entry.now, p.text.now)) parts.items ≡ parts_with ending.now self.now) }
+    {
+        parts_of(alloc, self.changes.entries(), self.texts.as_slice(), ending)
     }
+}
+
+/// The entries whose names have this ending, each with its text.
+fn parts_of<'a>(
+    alloc: Global,
+    entries: &'a [Entry],
+    texts: &'a [Listed<u8>],
+    ending: &str,
+) -> Result<Vec<Part<'a>>, AllocError>
+    ensures { IfOk result (λ parts. map (λ p. (p.entry.now, p.text.now)) parts.items ≡ filter (λ p. has_suffix ending.now p.0.name) (zip entries.now texts.now)) }
+{
+    let mut parts = Vec::new(alloc);
+    for (entry, text) in entries.iter().zip(texts) {
+        if has_suffix(entry.name.as_str(), ending) {
+            parts.push(Part {
+                entry,
+                text: text.as_slice(),
+            })?;
+        }
+    }
+    Ok(parts)
+}
+
+/// Whether a name has this ending.
+#[tactic(auto, unfolding(crate::specs::Upload::has_suffix))]
+pub fn has_suffix(name: &str, ending: &str) -> bool
+    ensures { result ≡ has_suffix ending.now name.now }
+{
+    name.as_bytes().ends_with(ending.as_bytes())
 }
 
 /// Whether a listed file's body is kept with its upload: a .dsc or a sidecar.
-pub fn has_text(name: &str) -> bool {
-    name.ends_with(".dsc") || name.ends_with(".control")
+#[tactic(auto, unfolding(crate::specs::Upload::has_text))]
+pub fn has_text(name: &str) -> bool
+    ensures { result ≡ keeps_text name.now }
+{
+    has_suffix(name, ".dsc") || has_suffix(name, ".control")
 }
 
 /// The entry of a name.
-pub fn entry_named<'a>(entries: &'a [Entry], name: &str) -> Option<&'a Entry> {
-    for entry in entries {
-        if entry.name.as_str() == name {
-            return Some(entry);
-        }
-    }
-    None
+#[tactic(auto, unfolding(crate::specs::Upload::entry_named))]
+pub fn entry_named<'a>(entries: &'a [Entry], name: &str) -> Option<&'a Entry>
+    ensures { option_copied result ≡ named_entry name.now entries.now }
+{
+    entries.iter().find(|entry| entry.name.as_str() == name)
 }

@@ -1,15 +1,27 @@
 //! The verdict on an upload.
 
+ghost use Rattle.std.specs.Prelude.{◌≡◌, true, false, ◌∷◌, [], map, IfOk, MatchOption, MatchResult};
+ghost use Rattle.std.specs.FinMap.{get};
+ghost use Rattle.std.specs.List.{list_any};
+ghost use Rattle.std.specs.Option.{option_map_or};
+ghost use Rattle.std.specs.Result.{result_ok};
+ghost use Rattle.records.specs.Records.{dsc_in as dsc_of_text, sidecar_in as sidecar_of_text};
+ghost use Rattle.rules.specs.Judgement.{component as component_of_upload};
+ghost use Rattle.rules.specs.Verdicts.{first_row};
+ghost use Rattle.suites.specs.Judging.{IsJudged, IsSource, IsSourcePart, IsBinaryPart, AreBinaryParts, AreBinaries, is_bad_dsc, is_bad_sidecar, part_of};
+ghost use Rattle.suites.specs.Shelves.{pool};
+ghost use Rattle.suites.specs.Verdict.{by_print, path_of, has_bad_listing as has_bad_listing_of, has_bad_dsc, has_bad_sidecar, is_same_package as is_same, have_twins as twins, is_missing_file, is_taken as is_taken_by};
+
 use crate::items::{BinaryPart, SourcePart};
 use crate::listing::has_bad_listing;
 use crate::paths::pool_path;
 use crate::shelves::Shelves;
 use crate::source::{differs_from_dsc, differs_from_sidecar, is_same_package};
-use crate::upload::{Part, Upload, entry_named};
+use crate::upload::{Part, Upload, entry_named, has_suffix};
 use records::{Changes, Dsc, RecordFault, Sidecar};
 use rules::Verdict;
 use std::alloc::{AllocError, Global};
-use sums::Entry;
+use sums::{Entry, Print};
 
 /// The records that an accepted upload has beside its .changes.
 #[derive(Drop)]
@@ -26,7 +38,9 @@ pub enum Judged<'a> {
 }
 
 /// The .dsc that a text is, or nothing where it is none.
-fn dsc_in(alloc: Global, text: &[u8]) -> Result<Option<Dsc>, AllocError> {
+fn dsc_in(alloc: Global, text: &[u8]) -> Result<Option<Dsc>, AllocError>
+    ensures { IfOk result (λ found. found ≡ result_ok (dsc_of_text text.now)) }
+{
     match Dsc::read(alloc, text) {
         Ok(dsc) => Ok(Some(dsc)),
         Err(RecordFault::OutOfMemory) => Err(AllocError),
@@ -35,7 +49,9 @@ fn dsc_in(alloc: Global, text: &[u8]) -> Result<Option<Dsc>, AllocError> {
 }
 
 /// The sidecar that a text is, or nothing where it is none.
-fn sidecar_in(alloc: Global, text: &[u8]) -> Result<Option<Sidecar>, AllocError> {
+fn sidecar_in(alloc: Global, text: &[u8]) -> Result<Option<Sidecar>, AllocError>
+    ensures { IfOk result (λ found. found ≡ result_ok (sidecar_of_text text.now)) }
+{
     match Sidecar::read(alloc, text) {
         Ok(sidecar) => Ok(Some(sidecar)),
         Err(RecordFault::OutOfMemory) => Err(AllocError),
@@ -48,7 +64,9 @@ fn source_part<'a>(
     alloc: Global,
     changes: &Changes,
     part: Part<'a>,
-) -> Result<Option<SourcePart<'a>>, AllocError> {
+) -> Result<Option<SourcePart<'a>>, AllocError>
+    ensures { IfOk result (λ found. MatchOption found (is_bad_dsc changes.now (part_of part.entry) ≡ true) (IsSourcePart changes.now (part_of part.entry))) }
+{
     let Some(dsc) = dsc_in(alloc, part.text)? else {
         return Ok(None);
     };
@@ -63,7 +81,9 @@ fn binary_part<'a>(
     alloc: Global,
     changes: &Changes,
     part: Part<'a>,
-) -> Result<Option<BinaryPart<'a>>, AllocError> {
+) -> Result<Option<BinaryPart<'a>>, AllocError>
+    ensures { IfOk result (λ found. MatchOption found (is_bad_sidecar changes.now (part_of part.entry) ≡ true) (IsBinaryPart changes.now (part_of part.entry))) }
+{
     let Some(sidecar) = sidecar_in(alloc, part.text)? else {
         return Ok(None);
     };
@@ -73,14 +93,18 @@ fn binary_part<'a>(
     Ok(Some(BinaryPart { part, sidecar }))
 }
 
-/// The sidecars of the upload, or nothing where one of them is none that the .changes may have.
+/// The sidecars that these parts are, or nothing where one of them is none that the .changes may have.
 fn binary_parts<'a>(
     alloc: Global,
-    upload: &'a Upload,
-) -> Result<Option<Vec<BinaryPart<'a>>>, AllocError> {
+    changes: &Changes,
+    parts: &[Part<'a>],
+) -> Result<Option<Vec<BinaryPart<'a>>>, AllocError>
+    ensures { IfOk result (λ found. MatchOption found (list_any (is_bad_sidecar changes.now) (map part_of parts.now) ≡ true)
+        (λ binaries. AreBinaryParts changes.now (map part_of parts.now) binaries.items)) }
+{
     let mut binaries = Vec::new(alloc);
-    for part in upload.parts(alloc, ".control")? {
-        match binary_part(alloc, upload.changes(), part)? {
+    for part in parts {
+        match binary_part(alloc, changes, *part)? {
             Some(binary) => binaries.push(binary)?,
             None => return Ok(None),
         }
@@ -88,44 +112,112 @@ fn binary_parts<'a>(
     Ok(Some(binaries))
 }
 
+/// Whether one of the others has the same package and architecture.
+fn has_twin(binary: &BinaryPart<'_>, others: &[BinaryPart<'_>]) -> bool
+    ensures { result ≡ list_any (is_same binary.now.sidecar) (map (λ b. b.sidecar) others.now) }
+{
+    others
+        .iter()
+        .any(|other| is_same_package(&binary.sidecar, &other.sidecar))
+}
+
 /// Whether two of the sidecars have the same package and architecture.
-fn have_twins(binaries: &[BinaryPart<'_>]) -> bool {
-    for i in 0..binaries.len() {
-        for j in 0..i {
-            if is_same_package(&binaries[i].sidecar, &binaries[j].sidecar) {
-                return true;
-            }
+fn have_twins(binaries: &[BinaryPart<'_>]) -> bool
+    ensures { result ≡ twins (map (λ b. b.sidecar) binaries.now) }
+{
+    for (index, binary) in binaries.iter().enumerate() {
+        if has_twin(binary, &binaries[index + 1..]) {
+            return true;
         }
     }
     false
 }
 
+/// The .dsc of an upload with a good listing, if it has one; or the verdict by which that is refused.
+fn source_of<'a>(
+    alloc: Global,
+    upload: &'a Upload,
+) -> Result<Result<Option<SourcePart<'a>>, Verdict>, AllocError>
+    requires { has_bad_listing_of upload.now.changes ≡ false }
+    ensures { IfOk result (λ found. MatchResult found (IsSource upload.now)
+        (λ v. (v ≡ Verdict.BadDsc) × (has_bad_dsc upload.now ≡ true))) }
+{
+    let parts = upload.parts(alloc, ".dsc")?;
+    match parts.first() {
+        Some(part) => match source_part(alloc, upload.changes(), *part)? {
+            Some(source) => Ok(Ok(Some(source))),
+            None => Ok(Err(Verdict::BadDsc)),
+        },
+        None => Ok(Ok(None)),
+    }
+}
+
+/// The sidecars of an upload, or the verdict by which one of them is refused.
+fn binaries_of<'a>(
+    alloc: Global,
+    upload: &'a Upload,
+) -> Result<Result<Vec<BinaryPart<'a>>, Verdict>, AllocError>
+    ensures { IfOk result (λ found. MatchResult found (λ binaries. AreBinaries upload.now binaries.items)
+        (λ v. (v ≡ Verdict.BadSidecar) × (has_bad_sidecar upload.now ≡ true))) }
+{
+    let parts = upload.parts(alloc, ".control")?;
+    let Some(binaries) = binary_parts(alloc, upload.changes(), &parts)? else {
+        return Ok(Err(Verdict::BadSidecar));
+    };
+    if have_twins(&binaries) {
+        return Ok(Err(Verdict::BadSidecar));
+    }
+    Ok(Ok(binaries))
+}
+
+/// The print of what the pool holds at the path of an entry's file.
+fn print_in_pool(
+    alloc: Global,
+    component: &str,
+    shelves: &Shelves,
+    changes: &Changes,
+    entry: &Entry,
+) -> Result<Option<Print>, AllocError>
+    requires { component.now ≡ component_of_upload changes.now }
+    ensures { IfOk result (λ found. found ≡ get (pool shelves.now) (path_of changes.now entry.now)) }
+{
+    let path = pool_path(alloc, component, changes.source(), entry.name.as_str())?;
+    Ok(shelves.file(path.as_str()))
+}
+
 /// Whether a file that the .dsc lists is neither in the .changes nor in the pool, at its path with that print.
+#[tactic(auto, unfolding(crate::specs::Verdict::is_missing_file))]
 fn is_missing(
     alloc: Global,
     component: &str,
     shelves: &Shelves,
     changes: &Changes,
     entry: &Entry,
-) -> Result<bool, AllocError> {
+) -> Result<bool, AllocError>
+    requires { component.now ≡ component_of_upload changes.now }
+    ensures { IfOk result (λ missing. missing ≡ is_missing_file by_print (pool shelves.now) changes.now entry.now) }
+{
     if entry_named(changes.entries(), entry.name.as_str()).is_some() {
         return Ok(false);
     }
-    let path = pool_path(alloc, component, changes.source(), entry.name.as_str())?;
-    match shelves.file(path.as_str()) {
+    match print_in_pool(alloc, component, shelves, changes, entry)? {
         Some(print) => Ok(print != entry.print),
         None => Ok(true),
     }
 }
 
+/// Whether some of these files of the .dsc is missing.
 fn lacks_a_file(
     alloc: Global,
     component: &str,
     shelves: &Shelves,
     changes: &Changes,
-    dsc: &Dsc,
-) -> Result<bool, AllocError> {
-    for entry in dsc.entries() {
+    listed: &[Entry],
+) -> Result<bool, AllocError>
+    requires { component.now ≡ component_of_upload changes.now }
+    ensures { IfOk result (λ lacks. lacks ≡ list_any (is_missing_file by_print (pool shelves.now) changes.now) listed.now) }
+{
+    for entry in listed {
         if is_missing(alloc, component, shelves, changes, entry)? {
             return Ok(true);
         }
@@ -134,30 +226,38 @@ fn lacks_a_file(
 }
 
 /// Whether the pool holds other contents at the path of the entry's file.
+#[tactic(auto, unfolding(crate::specs::Verdict::is_taken))]
 fn is_taken(
     alloc: Global,
     component: &str,
     shelves: &Shelves,
     changes: &Changes,
     entry: &Entry,
-) -> Result<bool, AllocError> {
-    if entry.name.as_str().ends_with(".control") {
+) -> Result<bool, AllocError>
+    requires { component.now ≡ component_of_upload changes.now }
+    ensures { IfOk result (λ taken. taken ≡ is_taken_by by_print (pool shelves.now) changes.now entry.now) }
+{
+    if has_suffix(entry.name.as_str(), ".control") {
         return Ok(false);
     }
-    let path = pool_path(alloc, component, changes.source(), entry.name.as_str())?;
-    match shelves.file(path.as_str()) {
+    match print_in_pool(alloc, component, shelves, changes, entry)? {
         Some(print) => Ok(print != entry.print),
         None => Ok(false),
     }
 }
 
+/// Whether the pool holds other contents at the path of some of these entries.
 fn some_path_is_taken(
     alloc: Global,
     component: &str,
     shelves: &Shelves,
     changes: &Changes,
-) -> Result<bool, AllocError> {
-    for entry in changes.entries() {
+    entries: &[Entry],
+) -> Result<bool, AllocError>
+    requires { component.now ≡ component_of_upload changes.now }
+    ensures { IfOk result (λ taken. taken ≡ list_any (is_taken_by by_print (pool shelves.now) changes.now) entries.now) }
+{
+    for entry in entries {
         if is_taken(alloc, component, shelves, changes, entry)? {
             return Ok(true);
         }
@@ -173,13 +273,19 @@ fn pool_verdict(
     shelves: &Shelves,
     changes: &Changes,
     source: &Option<SourcePart<'_>>,
-) -> Result<Verdict, AllocError> {
+) -> Result<Verdict, AllocError>
+    requires { component.now ≡ component_of_upload changes.now }
+    ensures { IfOk result (λ verdict. verdict ≡ first_row (
+        (option_map_or (λ s. list_any (is_missing_file by_print (pool shelves.now) changes.now) s.dsc.entries) source.now false, Verdict.NotInPool)
+        ∷ (list_any (is_taken_by by_print (pool shelves.now) changes.now) changes.now.entries, Verdict.OtherContents)
+        ∷ [])) }
+{
     if let Some(source) = source {
-        if lacks_a_file(alloc, component, shelves, changes, &source.dsc)? {
+        if lacks_a_file(alloc, component, shelves, changes, source.dsc.entries())? {
             return Ok(Verdict::NotInPool);
         }
     }
-    if some_path_is_taken(alloc, component, shelves, changes)? {
+    if some_path_is_taken(alloc, component, shelves, changes, changes.entries())? {
         return Ok(Verdict::OtherContents);
     }
     Ok(Verdict::Accepted)
@@ -191,24 +297,22 @@ pub fn judge_parts<'a>(
     component: &str,
     shelves: &Shelves,
     upload: &'a Upload,
-) -> Result<Judged<'a>, AllocError> {
+) -> Result<Judged<'a>, AllocError>
+    requires { component.now ≡ component_of_upload upload.now.changes }
+    ensures { IfOk result (IsJudged shelves.now upload.now) }
+{
     let changes = upload.changes();
     if has_bad_listing(changes) {
         return Ok(Judged::Refused(Verdict::BadListing));
     }
-    let mut source = None;
-    for part in upload.parts(alloc, ".dsc")? {
-        source = source_part(alloc, changes, part)?;
-        if source.is_none() {
-            return Ok(Judged::Refused(Verdict::BadDsc));
-        }
-    }
-    let Some(binaries) = binary_parts(alloc, upload)? else {
-        return Ok(Judged::Refused(Verdict::BadSidecar));
+    let source = match source_of(alloc, upload)? {
+        Ok(source) => source,
+        Err(verdict) => return Ok(Judged::Refused(verdict)),
     };
-    if have_twins(&binaries) {
-        return Ok(Judged::Refused(Verdict::BadSidecar));
-    }
+    let binaries = match binaries_of(alloc, upload)? {
+        Ok(binaries) => binaries,
+        Err(verdict) => return Ok(Judged::Refused(verdict)),
+    };
     match pool_verdict(alloc, component, shelves, changes, &source)? {
         Verdict::Accepted => Ok(Judged::Accepted(Parts { source, binaries })),
         refused => Ok(Judged::Refused(refused)),
