@@ -1,60 +1,100 @@
 //! Packages: what the binary packages of a component are, for one architecture.
 
-use crate::index::{architecture_name, component_name};
+ghost use Rattle.std.specs.Prelude.{◌≡◌, ◌++◌, ◌<◌, [], ◌∷◌, OnOk, OnErr, IfOk, filter, not, codes, if◌then◌else◌, take, length};
+ghost use Rattle.std.specs.List.{flat_map};
+ghost use Rattle.para.specs.Field.{field_values};
+ghost use Rattle.para.specs.Printing.{paragraph_text};
+ghost use Rattle.texts.specs.Positions.{components_at, architectures_at, component_at, architecture_at};
+ghost use Rattle.texts.specs.Stanzas.{is_named, file_fields, package_fields, package_stanza, fields_of_text, is_binary, is_in_packages, packages_text};
+
+use crate::position::{architecture_name, component_name};
 use crate::stanza::{
-    memory, paragraph_in, write_digest_field, write_line_field, write_number_field,
+    Digest, has_name, paragraph_in, push_digest_field, push_if, push_line_field, push_number_field,
 };
-use para::{Field, write_field};
+use para::Field;
 use rules::Config;
 use std::alloc::{AllocError, Global};
 use suites::{Item, Kind, PoolFile, ShelfKey, Shelves};
 
-/// Appends those fields that have the name, or those that have not.
-fn write_fields(
-    fields: &[Field<'_>],
-    name: &str,
-    wanted: bool,
-    out: &mut Vec<u8>,
-) -> Result<(), AllocError> {
+/// Appends the fields of the name Package.
+fn push_own_name(fields: &[Field<'_>], out: &mut Vec<u8>) -> Result<(), AllocError>
+    ensures { OnOk result (out.new.items ≡ out.old.items ++ paragraph_text (filter (is_named (codes "Package")) (field_values fields.now))) }
+{
     for field in fields {
-        if field.name.eq_ignore_ascii_case(name) == wanted {
-            memory(write_field(field.name, field.first, &field.more, out))?;
-        }
+        push_if(has_name(field, "Package"), field, out)?;
     }
     Ok(())
+}
+
+/// Appends the fields of other names.
+fn push_others(fields: &[Field<'_>], out: &mut Vec<u8>) -> Result<(), AllocError>
+    ensures { OnOk result (out.new.items ≡ out.old.items ++ paragraph_text (filter (λ f. not (is_named (codes "Package") f)) (field_values fields.now))) }
+{
+    for field in fields {
+        push_if(!has_name(field, "Package"), field, out)?;
+    }
+    Ok(())
+}
+
+/// Appends the fields of a control paragraph, Package first.
+#[tactic(auto, unfolding(crate::specs::Stanzas::package_fields))]
+fn push_fields(fields: &[Field<'_>], out: &mut Vec<u8>) -> Result<(), AllocError>
+    ensures { OnOk result (out.new.items ≡ out.old.items ++ paragraph_text (package_fields (field_values fields.now))) }
+{
+    push_own_name(fields, out)?;
+    push_others(fields, out)
+}
+
+/// Appends the fields of the paragraph that a text spells, if it spells one.
+fn push_paragraph(alloc: Global, text: &str, out: &mut Vec<u8>) -> Result<(), AllocError>
+    ensures { OnOk result (out.new.items ≡ out.old.items ++ paragraph_text (package_fields (fields_of_text text.now))) }
+{
+    match paragraph_in(alloc, text)? {
+        Some(paragraph) => push_fields(paragraph.fields(), out),
+        None => push_fields(&[], out),
+    }
 }
 
 /// Appends the fields of a package file.
-fn write_file(alloc: Global, file: &PoolFile, out: &mut Vec<u8>) -> Result<(), AllocError> {
-    write_line_field("Filename", file.path.as_str(), out)?;
-    write_number_field(alloc, "Size", file.print.size, out)?;
-    write_digest_field(alloc, "MD5sum", file.print.md5.as_slice(), out)?;
-    write_digest_field(alloc, "SHA1", file.print.sha1.as_slice(), out)?;
-    write_digest_field(alloc, "SHA256", file.print.sha256.as_slice(), out)
+#[tactic(auto, unfolding(crate::specs::Stanzas::file_fields))]
+fn push_file(alloc: Global, file: &PoolFile, out: &mut Vec<u8>) -> Result<(), AllocError>
+    ensures { OnOk result (out.new.items ≡ out.old.items ++ paragraph_text (file_fields file.now)) }
+{
+    push_line_field("Filename", file.path.as_str(), out)?;
+    push_number_field(alloc, "Size", file.print.size, out)?;
+    push_digest_field(alloc, "MD5sum", Digest::Md5, &file.print, out)?;
+    push_digest_field(alloc, "SHA1", Digest::Sha1, &file.print, out)?;
+    push_digest_field(alloc, "SHA256", Digest::Sha256, &file.print, out)
 }
 
-/// Appends the stanza of a package: its control paragraph with Package first, the fields of its file, an empty line.
-fn write_package(alloc: Global, item: &Item, out: &mut Vec<u8>) -> Result<(), AllocError> {
-    if let Some(paragraph) = paragraph_in(alloc, item.paragraph.as_str())? {
-        write_fields(paragraph.fields(), "Package", true, out)?;
-        write_fields(paragraph.fields(), "Package", false, out)?;
+/// Appends the fields of package files.
+fn push_files(alloc: Global, files: &[PoolFile], out: &mut Vec<u8>) -> Result<(), AllocError>
+    ensures { OnOk result (out.new.items ≡ out.old.items ++ paragraph_text (flat_map file_fields files.now)) }
+{
+    for file in files {
+        push_file(alloc, file, out)?;
     }
-    for file in item.files.as_slice() {
-        write_file(alloc, file, out)?;
-    }
-    out.push(b'\n')?;
     Ok(())
+}
+
+/// The stanza of a package: its control paragraph with Package first, the fields of its file, an empty line.
+#[tactic(auto, unfolding(crate::specs::Stanzas::package_stanza))]
+fn package_stanza(alloc: Global, item: &Item) -> Result<Vec<u8>, AllocError>
+    ensures { IfOk result (λ stanza. stanza.items ≡ package_stanza item.now) }
+{
+    let mut stanza = Vec::new(alloc);
+    push_paragraph(alloc, item.paragraph.as_str(), &mut stanza)?;
+    push_files(alloc, item.files.as_slice(), &mut stanza)?;
+    stanza.push(b'\n')?;
+    Ok(stanza)
 }
 
 /// Whether the index of the architecture lists the item: it is a package of the suite and component, of that
 /// architecture or of all.
-fn is_listed(
-    key: &ShelfKey,
-    item: &Item,
-    suite: usize,
-    component: &str,
-    architecture: &str,
-) -> bool {
+#[tactic(auto, unfolding(crate::specs::Stanzas::is_in_packages))]
+fn is_listed(key: &ShelfKey, item: &Item, suite: usize, component: &str, architecture: &str) -> bool
+    ensures { result ≡ is_in_packages suite component.now architecture.now (key.now, item.now) }
+{
     if key.suite != suite || key.kind != Kind::Binary {
         return false;
     }
@@ -62,18 +102,41 @@ fn is_listed(
     item.component.as_str() == component && (name == architecture || name == "all")
 }
 
-fn write_packages(
+/// Appends the stanza of an item that the index of the architecture lists, of another one nothing.
+fn push_listed(
+    alloc: Global,
+    key: &ShelfKey,
+    item: &Item,
+    suite: usize,
+    component: &str,
+    architecture: &str,
+    out: &mut Vec<u8>,
+) -> Result<(), AllocError>
+    ensures ok { OnOk result (out.new.items ≡ out.old.items ++ (if is_in_packages suite component.now architecture.now (key.now, item.now) then package_stanza item.now else [])) }
+    ensures front { take (length out.old.items) out.new.items ≡ out.old.items }
+{
+    if is_listed(key, item, suite, component, architecture) {
+        let stanza = package_stanza(alloc, item)?;
+        out.extend_from_slice(&stanza)?;
+    }
+    Ok(())
+}
+
+/// Appends the stanzas that the index of the architecture lists.
+#[tactic(auto, unfolding(crate::specs::Stanzas::packages_text))]
+pub fn push_packages(
     alloc: Global,
     shelves: &Shelves,
     suite: usize,
     component: &str,
     architecture: &str,
     out: &mut Vec<u8>,
-) -> Result<(), AllocError> {
+) -> Result<(), AllocError>
+    ensures ok { OnOk result (out.new.items ≡ out.old.items ++ packages_text shelves.now suite component.now architecture.now) }
+    ensures front { take (length out.old.items) out.new.items ≡ out.old.items }
+{
     for (key, item) in shelves.items() {
-        if is_listed(key, item, suite, component, architecture) {
-            write_package(alloc, item, out)?;
-        }
+        push_listed(alloc, key, item, suite, component, architecture, out)?;
     }
     Ok(())
 }
@@ -89,11 +152,16 @@ pub fn packages(
     component: usize,
     architecture: usize,
     out: &mut Vec<u8>,
-) -> Result<(), AllocError> {
+) -> Result<(), AllocError>
+    requires component { component < length (components_at config.now suite) }
+    requires architecture { architecture < length (architectures_at config.now suite) }
+    ensures ok { OnOk result (out.new.items ≡ out.old.items ++ packages_text shelves.now suite (component_at config.now suite component) (architecture_at config.now suite architecture)) }
+    ensures err { OnErr result (out.new.items ≡ out.old.items) }
+{
     let component = component_name(config, suite, component);
     let architecture = architecture_name(config, suite, architecture);
     let len = out.len();
-    let written = write_packages(alloc, shelves, suite, component, architecture, out);
+    let written = push_packages(alloc, shelves, suite, component, architecture, out);
     if written.is_err() {
         out.truncate(len);
     }

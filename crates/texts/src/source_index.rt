@@ -1,59 +1,121 @@
 //! Sources: what the source packages of a component are.
 
-use crate::index::component_name;
-use crate::stanza::{Digest, memory, paragraph_in, write_line_field, write_list_line};
-use para::{Field, write_field};
+ghost use Rattle.std.specs.Prelude.{◌≡◌, ◌++◌, ◌<◌, [], ◌∷◌, OnOk, OnErr, IfOk, filter, map, not, codes, if◌then◌else◌, take, length};
+ghost use Rattle.std.specs.List.{flat_map, list_any};
+ghost use Rattle.para.specs.Field.{field_value, field_values};
+ghost use Rattle.para.specs.Printing.{field_text, more_text, paragraph_text};
+ghost use Rattle.suites.specs.Pool.{directory_of};
+ghost use Rattle.texts.specs.Positions.{components_at, component_at};
+ghost use Rattle.texts.specs.Stanzas.{is_named, is_placed, line_field, as_package, source_fields, fields_of_text, file_name, list_line, list_field, source_lists, source_stanza, is_in_sources, sources_text};
+
+use crate::position::component_name;
+use crate::stanza::{
+    Digest, has_name, paragraph_in, push_field, push_if, push_line_field, push_list_line,
+};
+use para::Field;
 use rules::Config;
 use std::alloc::{AllocError, Global};
 use suites::{Item, Kind, PoolFile, ShelfKey, Shelves, directory};
 
 /// Whether a field has one of the names, ASCII case ignored.
-fn is_among(names: &[&str], field: &Field<'_>) -> bool {
-    names
-        .iter()
-        .any(|name| field.name.eq_ignore_ascii_case(name))
+fn has_one_of(field: &Field<'_>, names: &[&str]) -> bool
+    ensures { result ≡ list_any (λ name. is_named name.now (field_value field.now)) names.now }
+{
+    names.iter().any(|name| has_name(field, name))
+}
+
+/// Whether a stanza has the field in a place of its own: it is the name of the source, or a list of files.
+fn is_placed(field: &Field<'_>) -> bool
+    ensures { result ≡ is_placed (field_value field.now) }
+{
+    has_one_of(
+        field,
+        &["Source", "Files", "Checksums-Sha1", "Checksums-Sha256"],
+    )
+}
+
+/// Appends the field under the name Package if it is wanted.
+fn push_name_if(wanted: bool, field: &Field<'_>, out: &mut Vec<u8>) -> Result<(), AllocError>
+    ensures { OnOk result (out.new.items ≡ out.old.items ++ (if wanted then field_text (as_package (field_value field.now)) else [])) }
+{
+    if wanted {
+        push_field("Package", field.first, &field.more, out)?;
+    }
+    Ok(())
 }
 
 /// Appends the field Source under the name Package.
-fn write_source_name(fields: &[Field<'_>], out: &mut Vec<u8>) -> Result<(), AllocError> {
+fn push_name(fields: &[Field<'_>], out: &mut Vec<u8>) -> Result<(), AllocError>
+    ensures { OnOk result (out.new.items ≡ out.old.items ++ flat_map (λ f. field_text (as_package f)) (filter (is_named (codes "Source")) (field_values fields.now))) }
+{
     for field in fields {
-        if is_among(&["Source"], field) {
-            memory(write_field("Package", field.first, &field.more, out))?;
-        }
+        push_name_if(has_name(field, "Source"), field, out)?;
     }
     Ok(())
 }
 
 /// Appends the other fields of a .dsc, its lists left out.
-fn write_other_fields(fields: &[Field<'_>], out: &mut Vec<u8>) -> Result<(), AllocError> {
-    let written = ["Source", "Files", "Checksums-Sha1", "Checksums-Sha256"];
+fn push_others(fields: &[Field<'_>], out: &mut Vec<u8>) -> Result<(), AllocError>
+    ensures { OnOk result (out.new.items ≡ out.old.items ++ paragraph_text (filter (λ f. not (is_placed f)) (field_values fields.now))) }
+{
     for field in fields {
-        if !is_among(&written, field) {
-            memory(write_field(field.name, field.first, &field.more, out))?;
-        }
+        push_if(!is_placed(field), field, out)?;
     }
     Ok(())
 }
 
+/// Appends the fields of a .dsc, Source first and under the name Package, its lists left out.
+fn push_fields(fields: &[Field<'_>], out: &mut Vec<u8>) -> Result<(), AllocError>
+    ensures { OnOk result (out.new.items ≡ out.old.items ++ paragraph_text (source_fields (field_values fields.now))) }
+{
+    push_name(fields, out)?;
+    push_others(fields, out)
+}
+
+/// Appends the fields of the .dsc that a text spells, if it spells one.
+fn push_paragraph(alloc: Global, text: &str, out: &mut Vec<u8>) -> Result<(), AllocError>
+    ensures { OnOk result (out.new.items ≡ out.old.items ++ paragraph_text (source_fields (fields_of_text text.now))) }
+{
+    match paragraph_in(alloc, text)? {
+        Some(paragraph) => push_fields(paragraph.fields(), out),
+        None => push_fields(&[], out),
+    }
+}
+
+/// Appends where the files of a source are.
+fn push_directory(
+    alloc: Global,
+    component: &str,
+    source: &str,
+    out: &mut Vec<u8>,
+) -> Result<(), AllocError>
+    ensures { OnOk result (out.new.items ≡ out.old.items ++ field_text (line_field (codes "Directory") (directory_of component.now source.now))) }
+{
+    let folder = directory(alloc, component, source)?;
+    push_line_field("Directory", folder.as_str(), out)
+}
+
 /// What follows the last slash of a path.
-fn file_name(path: &str) -> &str {
+fn file_name(path: &str) -> &str
+    ensures { result.now ≡ file_name path.now }
+{
     match path.rsplit_once('/') {
         Some((_, name)) => name,
         None => path,
     }
 }
 
-/// Appends a list of the files of a source.
-fn write_list(
+/// Appends the lines of a list of files.
+fn push_list_lines(
     alloc: Global,
-    name: &str,
     digest: Digest,
     files: &[PoolFile],
     out: &mut Vec<u8>,
-) -> Result<(), AllocError> {
-    write_line_field(name, "", out)?;
+) -> Result<(), AllocError>
+    ensures { OnOk result (out.new.items ≡ out.old.items ++ flat_map (λ f. more_text (list_line digest f.print (file_name f.path))) files.now) }
+{
     for file in files {
-        write_list_line(
+        push_list_line(
             alloc,
             digest,
             &file.print,
@@ -64,38 +126,92 @@ fn write_list(
     Ok(())
 }
 
-/// Appends the stanza of a source: its .dsc with Source first and under the name Package, without its lists; where its
+/// Appends a list of the files of a source.
+fn push_list(
+    alloc: Global,
+    name: &str,
+    digest: Digest,
+    files: &[PoolFile],
+    out: &mut Vec<u8>,
+) -> Result<(), AllocError>
+    ensures { OnOk result (out.new.items ≡ out.old.items ++ field_text (list_field name.now digest files.now)) }
+{
+    push_line_field(name, "", out)?;
+    push_list_lines(alloc, digest, files, out)
+}
+
+/// Appends the lists of the files of a source.
+#[tactic(auto, unfolding(crate::specs::Stanzas::source_lists))]
+fn push_lists(alloc: Global, files: &[PoolFile], out: &mut Vec<u8>) -> Result<(), AllocError>
+    ensures { OnOk result (out.new.items ≡ out.old.items ++ paragraph_text (source_lists files.now)) }
+{
+    push_list(alloc, "Files", Digest::Md5, files, out)?;
+    push_list(alloc, "Checksums-Sha1", Digest::Sha1, files, out)?;
+    push_list(alloc, "Checksums-Sha256", Digest::Sha256, files, out)
+}
+
+/// The stanza of a source: its .dsc with Source first and under the name Package, without its lists; where its
 /// files are; the lists of the .dsc and its files; an empty line.
-fn write_source(alloc: Global, item: &Item, out: &mut Vec<u8>) -> Result<(), AllocError> {
-    if let Some(paragraph) = paragraph_in(alloc, item.paragraph.as_str())? {
-        write_source_name(paragraph.fields(), out)?;
-        write_other_fields(paragraph.fields(), out)?;
+#[tactic(auto, unfolding(crate::specs::Stanzas::source_stanza))]
+fn source_stanza(alloc: Global, item: &Item) -> Result<Vec<u8>, AllocError>
+    ensures { IfOk result (λ stanza. stanza.items ≡ source_stanza item.now) }
+{
+    let mut stanza = Vec::new(alloc);
+    push_paragraph(alloc, item.paragraph.as_str(), &mut stanza)?;
+    push_directory(
+        alloc,
+        item.component.as_str(),
+        item.source.as_str(),
+        &mut stanza,
+    )?;
+    push_lists(alloc, item.files.as_slice(), &mut stanza)?;
+    stanza.push(b'\n')?;
+    Ok(stanza)
+}
+
+/// Whether Sources lists the item: it is a source of the suite and component.
+#[tactic(auto, unfolding(crate::specs::Stanzas::is_in_sources))]
+fn is_listed(key: &ShelfKey, item: &Item, suite: usize, component: &str) -> bool
+    ensures { result ≡ is_in_sources suite component.now (key.now, item.now) }
+{
+    if key.suite != suite || key.kind != Kind::Source {
+        return false;
     }
-    let folder = directory(alloc, item.component.as_str(), item.source.as_str())?;
-    write_line_field("Directory", folder.as_str(), out)?;
-    let files = item.files.as_slice();
-    write_list(alloc, "Files", Digest::Md5, files, out)?;
-    write_list(alloc, "Checksums-Sha1", Digest::Sha1, files, out)?;
-    write_list(alloc, "Checksums-Sha256", Digest::Sha256, files, out)?;
-    out.push(b'\n')?;
+    item.component.as_str() == component
+}
+
+/// Appends the stanza of an item that Sources lists, of another one nothing.
+fn push_listed(
+    alloc: Global,
+    key: &ShelfKey,
+    item: &Item,
+    suite: usize,
+    component: &str,
+    out: &mut Vec<u8>,
+) -> Result<(), AllocError>
+    ensures ok { OnOk result (out.new.items ≡ out.old.items ++ (if is_in_sources suite component.now (key.now, item.now) then source_stanza item.now else [])) }
+    ensures front { take (length out.old.items) out.new.items ≡ out.old.items }
+{
+    if is_listed(key, item, suite, component) {
+        let stanza = source_stanza(alloc, item)?;
+        out.extend_from_slice(&stanza)?;
+    }
     Ok(())
 }
 
-fn is_listed(key: &ShelfKey, item: &Item, suite: usize, component: &str) -> bool {
-    key.suite == suite && key.kind == Kind::Source && item.component.as_str() == component
-}
-
-fn write_sources(
+/// Appends the stanzas that Sources lists.
+pub fn push_sources(
     alloc: Global,
     shelves: &Shelves,
     suite: usize,
     component: &str,
     out: &mut Vec<u8>,
-) -> Result<(), AllocError> {
+) -> Result<(), AllocError>
+    ensures ok { OnOk result (out.new.items ≡ out.old.items ++ sources_text shelves.now suite component.now) }
+    ensures front { take (length out.old.items) out.new.items ≡ out.old.items }
+{
     for (key, item) in shelves.items() {
-        if is_listed(key, item, suite, component) {
-            write_source(alloc, item, out)?;
-        }
+        push_listed(alloc, key, item, suite, component, out)?;
     }
     Ok(())
 }
@@ -109,10 +225,14 @@ pub fn sources(
     suite: usize,
     component: usize,
     out: &mut Vec<u8>,
-) -> Result<(), AllocError> {
+) -> Result<(), AllocError>
+    requires { component < length (components_at config.now suite) }
+    ensures ok { OnOk result (out.new.items ≡ out.old.items ++ sources_text shelves.now suite (component_at config.now suite component)) }
+    ensures err { OnErr result (out.new.items ≡ out.old.items) }
+{
     let component = component_name(config, suite, component);
     let len = out.len();
-    let written = write_sources(alloc, shelves, suite, component, out);
+    let written = push_sources(alloc, shelves, suite, component, out);
     if written.is_err() {
         out.truncate(len);
     }

@@ -1,97 +1,174 @@
 //! Release: what a suite is, when it changed, and the prints of its other indices.
 
-ghost use Rattle.std.specs.Prelude.{◌≤◌};
+ghost use Rattle.std.specs.Prelude.{◌≡◌, ◌≤◌, ◌<◌, ◌++◌, [], ◌∷◌, ◌||◌, not, OnOk, OnErr, IfOk, length, map, codes, string_bytes, if◌then◌else◌};
+ghost use Rattle.std.specs.List.{flat_map, join_with_byte};
+ghost use Rattle.para.specs.Printing.{field_text, more_text, paragraph_text};
+ghost use Rattle.texts.specs.Calendar.{date_text};
+ghost use Rattle.texts.specs.Positions.{release_at};
+ghost use Rattle.texts.specs.Stanzas.{line_field, list_line};
+ghost use Rattle.texts.specs.Release.{optional_field, index_list, is_source, architectures_text, suite_fields, index_lists, release_text};
 
 use crate::date::date_text;
 use crate::index::Index;
-use crate::stanza::{Digest, write_line_field, write_list_line};
+use crate::stanza::{Digest, push_line_field, push_list_line};
 use para::Text;
 use rules::{Config, Suite};
 use std::alloc::{AllocError, Global};
 
 /// Appends the field where the configuration has a value for it.
-fn write_optional(name: &str, value: &Option<Text>, out: &mut Vec<u8>) -> Result<(), AllocError> {
+#[tactic(auto, unfolding(crate::specs::Release::optional_field))]
+fn push_optional(name: &str, value: &Option<Text>, out: &mut Vec<u8>) -> Result<(), AllocError>
+    ensures { OnOk result (out.new.items ≡ out.old.items ++ paragraph_text (optional_field name.now value.now)) }
+{
     match value {
-        Some(value) => write_line_field(name, value.as_str(), out),
+        Some(value) => push_line_field(name, value.as_str(), out),
         None => Ok(()),
     }
 }
 
-fn push_name(joined: &mut String, name: &str) -> Result<(), AllocError> {
-    if !joined.is_empty() {
+/// Appends a name, behind a space if another stands before it.
+fn push_name(joined: &mut String, has_begun: bool, name: &str) -> Result<(), AllocError>
+    ensures { OnOk result (string_bytes joined.new ≡ string_bytes joined.old ++ (if has_begun then 32 ∷ name.now else name.now)) }
+{
+    if has_begun {
         joined.push_str(" ")?;
     }
     joined.push_str(name)
 }
 
+/// Appends a name unless it is `source`, and tells whether some name has been appended.
+fn push_binary(joined: &mut String, has_begun: bool, name: &str) -> Result<bool, AllocError>
+    ensures { IfOk result (λ begun. (begun ≡ (has_begun || not (is_source name.now))) × (string_bytes joined.new ≡ string_bytes joined.old ++ (if is_source name.now then [] else if has_begun then 32 ∷ name.now else name.now))) }
+{
+    if name == "source" {
+        return Ok(has_begun);
+    }
+    push_name(joined, has_begun, name)?;
+    Ok(true)
+}
+
 /// The names with a single space between two.
-fn joined_names(alloc: Global, names: &[Text]) -> Result<String, AllocError> {
+fn joined_names(alloc: Global, names: &[Text]) -> Result<String, AllocError>
+    ensures { IfOk result (λ joined. string_bytes joined ≡ join_with_byte 32 names.now) }
+{
     let mut joined = String::new(alloc);
+    let mut has_begun = false;
     for name in names {
-        push_name(&mut joined, name.as_str())?;
+        push_name(&mut joined, has_begun, name.as_str())?;
+        has_begun = true;
     }
     Ok(joined)
 }
 
 /// The architectures of packages, `source` left out, with a single space between two.
-fn joined_architectures(alloc: Global, names: &[Text]) -> Result<String, AllocError> {
+fn joined_architectures(alloc: Global, names: &[Text]) -> Result<String, AllocError>
+    ensures { IfOk result (λ joined. string_bytes joined ≡ architectures_text names.now) }
+{
     let mut joined = String::new(alloc);
+    let mut has_begun = false;
     for name in names {
-        if name.as_str() != "source" {
-            push_name(&mut joined, name.as_str())?;
-        }
+        has_begun = push_binary(&mut joined, has_begun, name.as_str())?;
     }
     Ok(joined)
 }
 
-fn write_indices(
+/// Appends the lines of a list of indices.
+fn push_list_lines(
+    alloc: Global,
+    digest: Digest,
+    indices: &[Index],
+    out: &mut Vec<u8>,
+) -> Result<(), AllocError>
+    ensures { OnOk result (out.new.items ≡ out.old.items ++ flat_map (λ i. more_text (list_line digest i.print i.path)) indices.now) }
+{
+    for index in indices {
+        push_list_line(alloc, digest, &index.print, index.path.as_str(), out)?;
+    }
+    Ok(())
+}
+
+/// Appends a list of indices.
+fn push_list(
     alloc: Global,
     name: &str,
     digest: Digest,
     indices: &[Index],
     out: &mut Vec<u8>,
-) -> Result<(), AllocError> {
-    write_line_field(name, "", out)?;
-    for index in indices {
-        write_list_line(alloc, digest, &index.print, index.path.as_str(), out)?;
-    }
-    Ok(())
+) -> Result<(), AllocError>
+    ensures { OnOk result (out.new.items ≡ out.old.items ++ field_text (index_list name.now digest indices.now)) }
+{
+    push_line_field(name, "", out)?;
+    push_list_lines(alloc, digest, indices, out)
 }
 
-fn write_names(
+/// Appends the lists of the indices.
+fn push_lists(alloc: Global, indices: &[Index], out: &mut Vec<u8>) -> Result<(), AllocError>
+    ensures { OnOk result (out.new.items ≡ out.old.items ++ paragraph_text (index_lists indices.now)) }
+{
+    push_list(alloc, "MD5Sum", Digest::Md5, indices, out)?;
+    push_list(alloc, "SHA1", Digest::Sha1, indices, out)?;
+    push_list(alloc, "SHA256", Digest::Sha256, indices, out)
+}
+
+/// Appends the field Date.
+fn push_date(alloc: Global, moment: u64, out: &mut Vec<u8>) -> Result<(), AllocError>
+    requires { moment ≤ 4_102_444_799 }
+    ensures { OnOk result (out.new.items ≡ out.old.items ++ field_text (line_field (codes "Date") (date_text moment))) }
+{
+    let date = date_text(alloc, moment)?;
+    push_line_field("Date", date.as_str(), out)
+}
+
+/// Appends the field Architectures.
+fn push_architectures(alloc: Global, names: &[Text], out: &mut Vec<u8>) -> Result<(), AllocError>
+    ensures { OnOk result (out.new.items ≡ out.old.items ++ field_text (line_field (codes "Architectures") (architectures_text names.now))) }
+{
+    let architectures = joined_architectures(alloc, names)?;
+    push_line_field("Architectures", architectures.as_str(), out)
+}
+
+/// Appends the field Components.
+fn push_components(alloc: Global, names: &[Text], out: &mut Vec<u8>) -> Result<(), AllocError>
+    ensures { OnOk result (out.new.items ≡ out.old.items ++ field_text (line_field (codes "Components") (join_with_byte 32 names.now))) }
+{
+    let components = joined_names(alloc, names)?;
+    push_line_field("Components", components.as_str(), out)
+}
+
+/// Appends the fields that say what the suite is, and when it changed.
+fn push_suite(
     alloc: Global,
     suite: &Suite,
     moment: u64,
     out: &mut Vec<u8>,
 ) -> Result<(), AllocError>
     requires { moment ≤ 4_102_444_799 }
+    ensures { OnOk result (out.new.items ≡ out.old.items ++ paragraph_text (suite_fields suite.now moment)) }
 {
-    write_optional("Origin", &suite.origin, out)?;
-    write_optional("Label", &suite.label, out)?;
-    write_optional("Suite", &suite.suite, out)?;
-    write_line_field("Codename", suite.codename.as_str(), out)?;
-    let date = date_text(alloc, moment)?;
-    write_line_field("Date", date.as_str(), out)?;
-    let architectures = joined_architectures(alloc, suite.architectures.as_slice())?;
-    write_line_field("Architectures", architectures.as_str(), out)?;
-    let components = joined_names(alloc, suite.components.as_slice())?;
-    write_line_field("Components", components.as_str(), out)?;
-    write_optional("Description", &suite.description, out)
+    push_optional("Origin", &suite.origin, out)?;
+    push_optional("Label", &suite.label, out)?;
+    push_optional("Suite", &suite.suite, out)?;
+    push_line_field("Codename", suite.codename.as_str(), out)?;
+    push_date(alloc, moment, out)?;
+    push_architectures(alloc, suite.architectures.as_slice(), out)?;
+    push_components(alloc, suite.components.as_slice(), out)?;
+    push_optional("Description", &suite.description, out)
 }
 
-fn write_release(
+/// The Release of a suite.
+pub fn release_text(
     alloc: Global,
     suite: &Suite,
     moment: u64,
     indices: &[Index],
-    out: &mut Vec<u8>,
-) -> Result<(), AllocError>
+) -> Result<Vec<u8>, AllocError>
     requires { moment ≤ 4_102_444_799 }
+    ensures { IfOk result (λ text. text.items ≡ release_text suite.now moment indices.now) }
 {
-    write_names(alloc, suite, moment, out)?;
-    write_indices(alloc, "MD5Sum", Digest::Md5, indices, out)?;
-    write_indices(alloc, "SHA1", Digest::Sha1, indices, out)?;
-    write_indices(alloc, "SHA256", Digest::Sha256, indices, out)
+    let mut text = Vec::new(alloc);
+    push_suite(alloc, suite, moment, &mut text)?;
+    push_lists(alloc, indices, &mut text)?;
+    Ok(text)
 }
 
 /// Appends the Release of a suite, given by its position in the configuration, whose shown items last changed at the
@@ -105,15 +182,11 @@ pub fn release(
     indices: &[Index],
     out: &mut Vec<u8>,
 ) -> Result<(), AllocError>
-    requires { moment ≤ 4_102_444_799 }
+    requires suite { suite < length config.now.suites }
+    requires moment { moment ≤ 4_102_444_799 }
+    ensures ok { OnOk result (out.new.items ≡ out.old.items ++ release_at config.now suite moment indices.now) }
+    ensures err { OnErr result (out.new.items ≡ out.old.items) }
 {
-    let Some(suite) = config.suites().get(suite) else {
-        return Ok(());
-    };
-    let len = out.len();
-    let written = write_release(alloc, suite, moment, indices, out);
-    if written.is_err() {
-        out.truncate(len);
-    }
-    written
+    let text = release_text(alloc, &config.suites()[suite], moment, indices)?;
+    out.extend_from_slice(&text)
 }

@@ -1,0 +1,8 @@
+use Rattle.std.proofs.Common.{◌≡◌, ◌++◌, take, filter, not, codes}
+use Rattle.para.specs.Field.{field_values}
+use Rattle.para.specs.Printing.{paragraph_text}
+use Rattle.texts.specs.Stanzas.{is_named}
+use Rattle.texts.proofs.binary_index.push_others.Given as goal
+
+abbrev pub invariant-loop-field : goal.invariant-loop-field
+invariant-loop-field l = l.out.items ≡ l.fn.out.items ++ paragraph_text (filter (λ f. not (is_named (codes "Package") f)) (field_values (take l.field-index l.fields)))

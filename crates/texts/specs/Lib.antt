@@ -1,0 +1,5 @@
+pub mod Calendar
+pub mod Stanzas
+pub mod Release
+pub mod Positions
+pub mod Indices
