@@ -1,0 +1,10 @@
+pub mod Dates
+pub mod Finds
+pub mod Files
+pub mod Unjudged
+pub mod Prints
+pub mod Arrivals
+pub mod Uploads
+pub mod Amending
+pub mod Kept
+pub mod Signs

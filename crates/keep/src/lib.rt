@@ -1,12 +1,17 @@
 //! What keeps an archive between calls: the trait of keepers, and a plain one in memory.
 #![tactic(auto)]
 
+mod arrival;
+mod candidate;
 mod change;
 mod fault;
 mod keeper;
 mod plain;
+mod pool;
 mod scan;
+mod steps;
 
+pub use arrival::{Arrival, Body};
 pub use change::{Change, Judgement, Step, Waiting};
 pub use fault::KeepFault;
 pub use keeper::{Keeper, LATEST};

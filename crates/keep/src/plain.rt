@@ -2,16 +2,16 @@
 
 ghost use Rattle.std.specs.Prelude.{◌≤◌, All, IfOk};
 
-use crate::change::{Change, Judgement, Step, Waiting};
+use crate::arrival::{Arrival, Body};
+use crate::change::{Change, Judgement, Waiting};
 use crate::fault::KeepFault;
 use crate::keeper::{Keeper, LATEST};
-use crate::scan::{
-    Arrival, PoolBody, arrival_position, candidates, copied, copied_judgement, missing_count,
-    pool_bodies, upload_of,
-};
+use crate::pool::{PoolBody, body_at_path, pool_bodies};
+use crate::scan::{complete_uploads, has_arrival, mark_all, waiting_uploads};
+use crate::steps::{copied_judgements, dates_after, judged_after, shelves_after};
 use para::Text;
 use rules::Config;
-use std::alloc::{AllocError, Global};
+use std::alloc::Global;
 use suites::{Shelves, Upload};
 use sums::print_of;
 use texts::index_text;
@@ -30,10 +30,16 @@ pub struct PlainKeeper {
 }
 
 impl PlainKeeper {
+    ghost use Rattle.std.specs.Prelude.{◌≡◌, IfErr};
+    ghost use Rattle.keep.specs.Plain.{plain_book, fresh_book};
+    ghost use Rattle.keep.specs.declared.fault.KeepFault.TheVariants.{OutOfMemory};
+
     /// An archive of this configuration in which nothing is yet, made at the moment, in seconds since 1970-01-01
     /// 00:00:00 UTC.
     pub fn new(alloc: Global, config: Config, moment: u64) -> Result<PlainKeeper, KeepFault>
         requires { moment ≤ LATEST }
+        ensures made { IfOk result (λ keeper. plain_book keeper ≡ fresh_book config moment) }
+        ensures refused { IfErr result (λ e. e ≡ OutOfMemory) }
     {
         let dates = vec![in alloc; moment; config.suites().len()]?;
         Ok(PlainKeeper {
@@ -47,78 +53,15 @@ impl PlainKeeper {
     }
 }
 
-/// The judgements so far, and those of a change.
-fn judged_after(
-    alloc: Global,
-    judged: &[Judgement],
-    steps: &[Step],
-) -> Result<Vec<Judgement>, AllocError> {
-    let mut all = Vec::new(alloc);
-    for one in judged {
-        all.push(copied_judgement(one)?)?;
-    }
-    for step in steps {
-        if let Some(one) = &step.judgement {
-            all.push(copied_judgement(one)?)?;
-        }
-    }
-    Ok(all)
-}
-
-/// What the suites show after the steps.
-fn shelves_after(alloc: Global, shelves: &Shelves, steps: &[Step]) -> Result<Shelves, AllocError> {
-    let mut after = shelves.try_clone(alloc)?;
-    for step in steps {
-        after.apply(alloc, &step.plan)?;
-    }
-    Ok(after)
-}
-
-/// Whether a step changes what the suite shows.
-fn changes_suite(step: &Step, suite: usize) -> bool {
-    let put = step
-        .plan
-        .put
-        .as_slice()
-        .iter()
-        .any(|entry| entry.0.suite == suite);
-    let dropped = step
-        .plan
-        .dropped
-        .as_slice()
-        .iter()
-        .any(|entry| entry.0.suite == suite);
-    put || dropped
-}
-
-fn some_changes_suite(steps: &[Step], suite: usize) -> bool {
-    steps.iter().any(|step| changes_suite(step, suite))
-}
-
-/// The dates after a change: its moment for each suite whose shown items it changes.
-fn dates_after(
-    alloc: Global,
-    dates: &[u64],
-    steps: &[Step],
-    moment: u64,
-) -> Result<Vec<u64>, AllocError>
-    requires moment { moment ≤ LATEST }
-    requires dates { All (λ date. date ≤ 4_102_444_799) dates.now }
-    ensures { IfOk result (λ after. All (λ date. date ≤ 4_102_444_799) after.items) }
-{
-    let mut after = Vec::new(alloc);
-    for suite in 0..dates.len() {
-        let date = if some_changes_suite(steps, suite) {
-            moment
-        } else {
-            dates[suite]
-        };
-        after.push(date)?;
-    }
-    Ok(after)
-}
-
 impl Keeper for PlainKeeper {
+    ghost use Rattle.std.specs.Prelude.{false};
+    ghost use Rattle.keep.specs.Plain.{plain_book};
+
+    ghost book = { plain_book };
+
+    ghost may_fail = { false };
+
+    #[tactic(auto, unfolding(crate::specs::Plain::plain_book))]
     fn config(&self) -> &Config {
         &self.config
     }
@@ -131,31 +74,25 @@ impl Keeper for PlainKeeper {
         moment: u64,
     ) -> Result<bool, KeepFault> {
         let print = print_of(body);
-        if let Some(position) = arrival_position(&self.arrivals, name, print) {
-            let arrival = &mut self.arrivals[position];
-            arrival.moment = arrival.moment.max(moment);
+        if has_arrival(&self.arrivals, name, print) {
+            mark_all(&mut self.arrivals, name, print, moment);
             return Ok(false);
         }
         self.arrivals.push(Arrival {
             name: Text::new(alloc, name)?,
-            body: copied(alloc, body)?,
-            print,
+            body: Body::new(alloc, body)?,
             moment,
         })?;
         Ok(true)
     }
 
+    #[tactic(auto, unfolding(crate::specs::Plain::plain_book, crate::specs::Book::due, crate::specs::Book::unjudged))]
     fn complete_uploads(&mut self, alloc: Global, moment: u64) -> Result<Vec<Upload>, KeepFault> {
         let _ = moment;
-        let mut uploads = Vec::new(alloc);
-        for candidate in candidates(alloc, &self.arrivals, &self.judged)? {
-            if missing_count(&self.arrivals, candidate.changes.entries()) == 0 {
-                uploads.push(upload_of(alloc, &self.arrivals, candidate)?)?;
-            }
-        }
-        Ok(uploads)
+        Ok(complete_uploads(alloc, &self.arrivals, &self.judged)?)
     }
 
+    #[tactic(auto, unfolding(crate::specs::Plain::plain_book))]
     fn shelves(&mut self, alloc: Global) -> Result<Shelves, KeepFault> {
         Ok(self.shelves.try_clone(alloc)?)
     }
@@ -173,32 +110,24 @@ impl Keeper for PlainKeeper {
         Ok(())
     }
 
+    #[tactic(auto, unfolding(crate::specs::Plain::plain_book))]
     fn file(&mut self, alloc: Global, path: &str) -> Result<Option<Vec<u8>>, KeepFault> {
-        for file in &self.files {
-            if file.path.as_str() == path {
-                return Ok(Some(Vec::from_slice(alloc, file.body.as_slice())?));
-            }
-        }
-        Ok(None)
+        Ok(body_at_path(alloc, &self.files, path)?)
     }
 
+    #[tactic(auto, unfolding(crate::specs::Plain::plain_book))]
     fn text(&mut self, alloc: Global, path: &str) -> Result<Option<Vec<u8>>, KeepFault> {
         Ok(index_text(alloc, &self.config, &self.shelves, &self.dates, path)?)
     }
 
+    #[tactic(auto, unfolding(crate::specs::Plain::plain_book, crate::specs::Book::waiting_list, crate::specs::Book::unjudged))]
     fn waiting(&mut self, alloc: Global, moment: u64) -> Result<Vec<Waiting>, KeepFault> {
         let _ = moment;
-        let mut waiting = Vec::new(alloc);
-        for candidate in candidates(alloc, &self.arrivals, &self.judged)? {
-            waiting.push(Waiting {
-                name: candidate.arrival.name.try_clone()?,
-                missing: missing_count(&self.arrivals, candidate.changes.entries()),
-            })?;
-        }
-        Ok(waiting)
+        Ok(waiting_uploads(alloc, &self.arrivals, &self.judged)?)
     }
 
+    #[tactic(auto, unfolding(crate::specs::Plain::plain_book))]
     fn verdicts(&mut self, alloc: Global) -> Result<Vec<Judgement>, KeepFault> {
-        Ok(judged_after(alloc, &self.judged, &[])?)
+        Ok(copied_judgements(alloc, &self.judged)?)
     }
 }

@@ -1,72 +1,139 @@
 //! The plain keeper's lists, gone over from nothing at each call.
 
-ghost use Rattle.std.specs.Prelude.{◌<◌, IfSome, length};
+ghost use Rattle.std.specs.Prelude.{◌≡◌, ◌≤◌, true, ◌++◌, [], ◌∷◌, length, List, map, filter, find, take, drop, not, is_some, option_copied, IfOk, OnOk, if◌then◌else◌};
+ghost use Rattle.std.specs.List.{list_all, list_any};
+ghost use Rattle.std.specs.Option.{option_map};
+ghost use Rattle.std.specs.Ordering.{is_gt};
+ghost use Rattle.std.specs.Result.{result_ok};
+ghost use Rattle.records.specs.Records.{changes_in as record_in};
+ghost use Rattle.suites.specs.Upload.{has_text as keeps_text};
+ghost use Rattle.keep.specs.Book.{body_for, candidate_of, is_complete, is_there as has_come, judging_order as order_of, put_in_order, upload_of as upload_at};
+ghost use Rattle.keep.specs.declared.arrival.Arrival.{Arrival as ArrivalValue};
+ghost use Rattle.keep.specs.Scan.{candidate_view, has_judgement, is_arrival_of, marked, unjudged_in, waiting_of};
 
-use crate::change::Judgement;
-use para::{Listed, Text};
+use crate::arrival::Arrival;
+use crate::candidate::Candidate;
+use crate::change::{Judgement, Waiting};
+use para::Listed;
 use records::{Changes, RecordFault};
 use std::alloc::{AllocError, Global};
 use std::cmp::Ordering;
-use suites::{Shelves, Upload, has_text};
+use suites::{Upload, has_text};
 use sums::{Entry, Print};
 
-/// A file that arrived: its name, its body and the body's print, and the greatest moment at which it was delivered.
-#[derive(Drop)]
-pub struct Arrival {
-    pub name: Text,
-    pub body: Listed<u8>,
-    pub print: Print,
-    pub moment: u64,
-}
-
-/// A file of the pool.
-#[derive(Drop)]
-pub struct PoolBody {
-    pub path: Text,
-    pub print: Print,
-    pub body: Listed<u8>,
-}
-
-/// A .changes that arrived.
-#[derive(Drop)]
-pub struct Candidate<'a> {
-    pub arrival: &'a Arrival,
-    pub changes: Changes,
-}
-
 /// The bytes of a list in a list of their own.
-pub fn copied(alloc: Global, bytes: &[u8]) -> Result<Listed<u8>, AllocError> {
+pub fn copied(alloc: Global, bytes: &[u8]) -> Result<Listed<u8>, AllocError>
+    ensures { IfOk result (λ copy. copy ≡ bytes.now) }
+{
     Ok(Listed::from_vec(Vec::from_slice(alloc, bytes)?))
 }
 
-/// Where a body of this print arrived under this name.
-pub fn arrival_position(arrivals: &[Arrival], name: &str, print: Print) -> Option<usize>
-    ensures { IfSome result (λ position. position < length arrivals.now) }
+/// Whether the arrival has this name and a body of this print.
+fn is_of(arrival: &Arrival, name: &str, print: Print) -> bool
+    ensures { result ≡ is_arrival_of name.now print arrival.now }
 {
-    arrivals.iter().position(|arrival| arrival.name.as_str() == name && arrival.print == print)
+    let is_named = arrival.name.as_str() == name;
+    let has_print = arrival.body.print() == print;
+    is_named && has_print
 }
 
-/// Whether the listed file has arrived.
-fn is_there(arrivals: &[Arrival], entry: &Entry) -> bool {
-    arrival_position(arrivals, entry.name.as_str(), entry.print).is_some()
+/// The first arrival of this name with a body of this print.
+fn arrival_of<'a>(arrivals: &'a [Arrival], name: &str, print: Print) -> Option<&'a Arrival>
+    ensures { option_copied result ≡ find (is_arrival_of name.now print) arrivals.now }
+{
+    for arrival in arrivals {
+        if is_of(arrival, name, print) {
+            return Some(arrival);
+        }
+    }
+    None
+}
+
+/// Whether a body of this print has arrived under this name.
+pub fn has_arrival(arrivals: &[Arrival], name: &str, print: Print) -> bool
+    ensures { result ≡ list_any (is_arrival_of name.now print) arrivals.now }
+{
+    arrival_of(arrivals, name, print).is_some()
+}
+
+/// Gives the arrival this moment, where it is of this name and print and its own moment is less.
+fn mark(arrival: &mut Arrival, name: &str, print: Print, moment: u64)
+    ensures { arrival.new ≡ marked name.now print moment arrival.old }
+{
+    if is_of(arrival, name, print) {
+        if arrival.moment < moment {
+            arrival.moment = moment;
+        }
+    }
+}
+
+/// Gives the arrivals of this name and print this moment, where theirs is less.
+pub fn mark_all(arrivals: &mut [Arrival], name: &str, print: Print, moment: u64)
+    ensures { arrivals.new ≡ map (marked name.now print moment) arrivals.old }
+{
+    for index in 0..arrivals.len() {
+        mark(&mut arrivals[index], name, print, moment);
+    }
+}
+
+/// Whether a body of the listed file has arrived.
+#[tactic(auto, unfolding(crate::specs::Book::is_there, crate::specs::Book::is_body_of))]
+fn is_there(arrivals: &[Arrival], entry: &Entry) -> bool
+    ensures { result ≡ has_come arrivals.now entry.now }
+{
+    has_arrival(arrivals, entry.name.as_str(), entry.print)
 }
 
 /// How many of the listed files have not arrived.
-pub fn missing_count(arrivals: &[Arrival], entries: &[Entry]) -> usize {
-    entries
-        .iter()
-        .filter(|entry| !is_there(arrivals, entry))
-        .count()
+fn missing_count(arrivals: &[Arrival], entries: &[Entry]) -> usize
+    ensures { result ≡ length (filter (λ e. not (has_come arrivals.now e)) entries.now) }
+{
+    let mut count = 0;
+    for entry in entries {
+        if !is_there(arrivals, entry) {
+            count += 1;
+        }
+    }
+    count
+}
+
+/// Whether each of the listed files has arrived.
+fn are_there(arrivals: &[Arrival], entries: &[Entry]) -> bool
+    ensures { result ≡ list_all (has_come arrivals.now) entries.now }
+{
+    for entry in entries {
+        if !is_there(arrivals, entry) {
+            return false;
+        }
+    }
+    true
+}
+
+/// Whether the judgement is that of the .changes.
+fn is_judgement_of(one: &Judgement, changes: &Arrival) -> bool
+    ensures { result ≡ has_judgement changes.now.name changes.now.body (one.now ∷ []) }
+{
+    let is_named = one.name.as_str() == changes.name.as_str();
+    let has_print = one.print == changes.body.print();
+    is_named && has_print
 }
 
 /// Whether the .changes has a verdict.
-fn is_judged(judged: &[Judgement], changes: &Arrival) -> bool {
-    judged.iter().any(|one| one.name.as_str() == changes.name.as_str()
-        && one.print == changes.print)
+fn is_judged(judged: &[Judgement], changes: &Arrival) -> bool
+    ensures { result ≡ has_judgement changes.now.name changes.now.body judged.now }
+{
+    for one in judged {
+        if is_judgement_of(one, changes) {
+            return true;
+        }
+    }
+    false
 }
 
 /// The record that a text is, or nothing where it is none.
-fn changes_in(alloc: Global, text: &[u8]) -> Result<Option<Changes>, AllocError> {
+fn changes_in(alloc: Global, text: &[u8]) -> Result<Option<Changes>, AllocError>
+    ensures { IfOk result (λ changes. changes ≡ result_ok (record_in text.now)) }
+{
     match Changes::read(alloc, text) {
         Ok(changes) => Ok(Some(changes)),
         Err(RecordFault::OutOfMemory) => Err(AllocError),
@@ -74,104 +141,156 @@ fn changes_in(alloc: Global, text: &[u8]) -> Result<Option<Changes>, AllocError>
     }
 }
 
+/// The .changes that an arrival is, or nothing where it is none.
+#[tactic(auto, unfolding(crate::specs::Book::candidate_of, crate::specs::Book::is_changes_name))]
+fn read_candidate(alloc: Global, arrival: &Arrival) -> Result<Option<Candidate<'_>>, AllocError>
+    ensures { IfOk result (λ found. option_map candidate_view found ≡ candidate_of arrival.now) }
+{
+    if !arrival.name.as_str().as_bytes().ends_with(b".changes") {
+        return Ok(None);
+    }
+    match changes_in(alloc, arrival.body.as_slice())? {
+        Some(changes) => Ok(Some(Candidate { arrival, changes })),
+        None => Ok(None),
+    }
+}
+
 /// The order of judging: by the bytes of the names, then by SHA-256, SHA-1, MD5 and size.
-fn judging_order(a: &Arrival, b: &Arrival) -> Ordering {
-    a.name
+#[tactic(auto, unfolding(crate::specs::Book::judging_order))]
+fn judging_order(a: &Candidate<'_>, b: &Candidate<'_>) -> Ordering
+    ensures { result ≡ order_of (candidate_view a.now) (candidate_view b.now) }
+{
+    let (first, second) = (a.arrival.body.print(), b.arrival.body.print());
+    a.arrival
+        .name
         .as_str()
-        .cmp(b.name.as_str())
-        .then(a.print.sha256.cmp(&b.print.sha256))
-        .then(a.print.sha1.cmp(&b.print.sha1))
-        .then(a.print.md5.cmp(&b.print.md5))
-        .then(a.print.size.cmp(&b.print.size))
+        .cmp(b.arrival.name.as_str())
+        .then(first.sha256.cmp(&second.sha256))
+        .then(first.sha1.cmp(&second.sha1))
+        .then(first.md5.cmp(&second.md5))
+        .then(first.size.cmp(&second.size))
+}
+
+/// Where another .changes stands among these, which are in order: before those that tie with it.
+fn place(found: &[Candidate<'_>], other: &Candidate<'_>) -> usize
+    ensures within { result ≤ length found.now }
+    ensures placed { put_in_order (candidate_view other.now) (map candidate_view found.now)
+        ≡ map candidate_view (take result found.now) ++ candidate_view other.now ∷ map candidate_view (drop result found.now) }
+{
+    for (index, one) in found.iter().enumerate() {
+        if !judging_order(other, one).is_gt() {
+            return index;
+        }
+    }
+    found.len()
+}
+
+/// Adds the .changes that an arrival is, where it is one without a verdict, in its place among those of the arrivals
+/// behind it.
+fn add_unjudged<'a>(
+    alloc: Global,
+    found: &mut Vec<Candidate<'a>>,
+    arrival: &'a Arrival,
+    judged: &[Judgement],
+) -> Result<(), AllocError>
+    ensures { OnOk result ((rest : List ArrivalValue) → map candidate_view found.old.items ≡ unjudged_in rest judged.now
+        → map candidate_view found.new.items ≡ unjudged_in (arrival.now ∷ rest) judged.now) }
+{
+    if is_judged(judged, arrival) {
+        return Ok(());
+    }
+    if let Some(one) = read_candidate(alloc, arrival)? {
+        let place = place(found, &one);
+        found.insert(place, one)?;
+    }
+    Ok(())
 }
 
 /// The uploads without a verdict, in the order of judging.
-pub fn candidates<'a>(
+fn unjudged<'a>(
     alloc: Global,
     arrivals: &'a [Arrival],
     judged: &[Judgement],
-) -> Result<Vec<Candidate<'a>>, AllocError> {
+) -> Result<Vec<Candidate<'a>>, AllocError>
+    ensures { IfOk result (λ found. map candidate_view found.items ≡ unjudged_in arrivals.now judged.now) }
+{
     let mut found = Vec::new(alloc);
-    for arrival in arrivals {
-        if arrival.name.as_str().ends_with(".changes") && !is_judged(judged, arrival) {
-            if let Some(changes) = changes_in(alloc, arrival.body.as_slice())? {
-                found.push(Candidate { arrival, changes })?;
-            }
-        }
+    let mut left = arrivals.len();
+    while left > 0 {
+        left -= 1;
+        add_unjudged(alloc, &mut found, &arrivals[left], judged)?;
     }
-    found.sort_by(|a, b| judging_order(a.arrival, b.arrival))?;
     Ok(found)
 }
 
 /// The text that an upload keeps of a listed file: the body that arrived, of a .dsc or a sidecar.
-fn kept_text(alloc: Global, arrivals: &[Arrival], entry: &Entry) -> Result<Listed<u8>, AllocError> {
+#[tactic(auto, unfolding(crate::specs::Book::body_for, crate::specs::Book::is_body_of))]
+fn kept_text(alloc: Global, arrivals: &[Arrival], entry: &Entry) -> Result<Listed<u8>, AllocError>
+    ensures { IfOk result (λ text. text ≡ (if keeps_text entry.now.name then body_for arrivals.now entry.now else [])) }
+{
     if !has_text(entry.name.as_str()) {
         return Ok(Listed::from_vec(Vec::new(alloc)));
     }
-    match arrival_position(arrivals, entry.name.as_str(), entry.print) {
-        Some(position) => copied(alloc, arrivals[position].body.as_slice()),
+    match arrival_of(arrivals, entry.name.as_str(), entry.print) {
+        Some(arrival) => copied(alloc, arrival.body.as_slice()),
         None => Ok(Listed::from_vec(Vec::new(alloc))),
     }
 }
 
 /// The upload of a .changes all of whose files have arrived.
-pub fn upload_of(
+fn upload_of(
     alloc: Global,
     arrivals: &[Arrival],
     candidate: Candidate<'_>,
-) -> Result<Upload, AllocError> {
+) -> Result<Upload, AllocError>
+    requires { is_complete arrivals.now (candidate_view candidate) ≡ true }
+    ensures { IfOk result (λ upload. upload ≡ upload_at arrivals.now (candidate_view candidate.entry)) }
+{
     let Candidate { arrival, changes } = candidate;
     let mut texts = Vec::new(alloc);
     for entry in changes.entries() {
         texts.push(kept_text(alloc, arrivals, entry)?)?;
     }
-    Ok(Upload::new(arrival.name.try_clone()?, arrival.print, changes, texts))
+    Ok(Upload::new(
+        arrival.name.try_clone()?,
+        arrival.body.print(),
+        changes,
+        texts,
+    ))
 }
 
-/// The body of a file of the pool: the one that the pool has at the path, or else one that arrived.
-fn pool_body(
+/// The uploads without a verdict of whose entries all have arrived, in the order of judging.
+pub fn complete_uploads(
     alloc: Global,
     arrivals: &[Arrival],
-    files: &[PoolBody],
-    path: &str,
-    print: Print,
-) -> Result<Listed<u8>, AllocError> {
-    for file in files {
-        if file.path.as_str() == path && file.print == print {
-            return copied(alloc, file.body.as_slice());
+    judged: &[Judgement],
+) -> Result<Vec<Upload>, AllocError>
+    ensures { IfOk result (λ uploads. uploads.items ≡ map (upload_at arrivals.now) (filter (is_complete arrivals.now) (unjudged_in arrivals.now judged.now))) }
+{
+    let mut uploads = Vec::new(alloc);
+    for candidate in unjudged(alloc, arrivals, judged)? {
+        if are_there(arrivals, candidate.changes.entries()) {
+            uploads.push(upload_of(alloc, arrivals, candidate)?)?;
         }
     }
-    for arrival in arrivals {
-        if arrival.print == print {
-            return copied(alloc, arrival.body.as_slice());
-        }
-    }
-    Ok(Listed::from_vec(Vec::new(alloc)))
+    Ok(uploads)
 }
 
-/// The files of the items that the suites show.
-pub fn pool_bodies(
+/// The uploads without a verdict, in the order of judging, each with the number of its entries that have not arrived.
+pub fn waiting_uploads(
     alloc: Global,
     arrivals: &[Arrival],
-    files: &[PoolBody],
-    shelves: &Shelves,
-) -> Result<Vec<PoolBody>, AllocError> {
-    let mut bodies = Vec::new(alloc);
-    for (path, file) in shelves.files() {
-        bodies.push(PoolBody {
-            path: Text::new(alloc, path.as_str())?,
-            print: file.print,
-            body: pool_body(alloc, arrivals, files, path.as_str(), file.print)?,
+    judged: &[Judgement],
+) -> Result<Vec<Waiting>, AllocError>
+    ensures { IfOk result (λ waiting. waiting.items ≡ map (waiting_of arrivals.now) (unjudged_in arrivals.now judged.now)) }
+{
+    let found = unjudged(alloc, arrivals, judged)?;
+    let mut waiting = Vec::new(alloc);
+    for candidate in &found {
+        waiting.push(Waiting {
+            name: candidate.arrival.name.try_clone()?,
+            missing: missing_count(arrivals, candidate.changes.entries()),
         })?;
     }
-    Ok(bodies)
-}
-
-/// Another copy of a judgement.
-pub fn copied_judgement(one: &Judgement) -> Result<Judgement, AllocError> {
-    Ok(Judgement {
-        name: one.name.try_clone()?,
-        print: one.print,
-        verdict: one.verdict,
-    })
+    Ok(waiting)
 }

@@ -1,0 +1,33 @@
+use Rattle.std.proofs.Common.{◌≤◌, ◌++◌, All, ap, ◌∙◌, sym, subst}
+use Rattle.std.proofs.Props.{props}
+use Rattle.std.proofs.Math.Logic.{∥∥₁_elim}
+use Rattle.suites.specs.Pool.{files_of}
+use Rattle.std.specs.FinMap.{values}
+use Rattle.keep.specs.Book.{dates_past, judgements, shown_past}
+use Rattle.keep.specs.Keeping.{AreSteps}
+use Rattle.keep.specs.Plain.{plain_book}
+use Rattle.keep.specs.Scan.{PoolHas}
+use Rattle.keep.proofs.Amending.{amended_of}
+use Rattle.keep.proofs.Files.{files_kept}
+use Rattle.keep.proofs.plain.PlainKeeperKeeper.apply.Goals as goal
+
+pub shelves_after-requires : goal.shelves_after-requires
+unfolding plain_book
+shelves_after-requires c = subst (AreSteps c.args.self.now.shelves) (sym c.as_slice-steps.ensures) c.requires.plans
+
+pub dates_after-requires-clause-dates : goal.dates_after-requires-clause-dates
+dates_after-requires-clause-dates c = subst (All (λ date. date ≤ 4102444799)) (sym c.deref-2.ensures.value) (λ k d h. ∥∥₁_elim c.args.self.now.in_range (search props) (λ all. all k d h))
+
+pub returns-clause-ok : goal.returns-clause-ok
+unfolding plain_book
+returns-clause-ok c = λ bodies apart has.
+    let self = c.args.self.now in
+    let change = c.args.change.now in
+    let steps = c.as_slice-steps.ensures in
+    amended_of (plain_book self) change c.in_ok-judged.judged.items c.in_ok-shelves.shelves _ c.in_ok-dates.dates.items
+    (c.in_ok-judged.ensures ∙ ap (λ old. old ++ judgements c.as_slice-steps.result.now) c.deref.ensures.value ∙ ap (λ new. self.judged.items ++ judgements new) steps)
+    (c.in_ok-shelves.ensures ∙ ap (shown_past self.shelves) steps)
+    (files_kept self c.in_ok-files.files.items c.in_ok-shelves.shelves
+    (subst (λ arrivals. PoolHas arrivals self.files.items c.in_ok-files.files.items (files_of (values c.in_ok-shelves.shelves))) c.deref-3.ensures.value
+    (subst (λ files. PoolHas c.deref-3.result.now files c.in_ok-files.files.items (files_of (values c.in_ok-shelves.shelves))) c.deref-4.ensures.value c.in_ok-files.ensures)))
+    (c.in_ok-dates.ensures.after ∙ ap (λ old. dates_past change.moment old c.as_slice-steps.result.now) c.deref-2.ensures.value ∙ ap (dates_past change.moment self.dates.items) steps)

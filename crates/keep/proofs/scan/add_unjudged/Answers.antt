@@ -1,0 +1,23 @@
+use Rattle.std.proofs.Common.{◌≡◌, ◌++◌, ◌∷◌, map, take, drop, ap, ◌∙◌, sym, subst}
+use Rattle.std.proofs.lemmas.List.{map-append}
+use Rattle.std.specs.Option.{option_map}
+use Rattle.keep.specs.Book.{put_in_order}
+use Rattle.keep.specs.Scan.{candidate_view, unjudged_in}
+use Rattle.keep.proofs.Unjudged.{unjudged_passed, unjudged_more, with_candidate}
+use Rattle.keep.proofs.scan.add_unjudged.Goals as goal
+
+pub returns-then-is_judged : goal.returns-then-is_judged
+returns-then-is_judged c = λ rest so_far.
+    so_far ∙ sym (unjudged_passed c.args.arrival.now rest c.args.judged.now (sym c.is_judged.ensures ∙ c.if-is_judged.true))
+
+pub returns-in_ok-insert : goal.returns-in_ok-insert
+returns-in_ok-insert c = λ rest so_far.
+    let one = candidate_view c.in-Some.one in
+    let place = c.place-place.result in
+    let found = c.args.found.now.items in
+    ap (map candidate_view) c.in_ok-insert.ensures.items
+    ∙ map-append candidate_view (take place found) (c.in-Some.one ∷ drop place found)
+    ∙ sym (subst (λ xs. put_in_order one (map candidate_view xs) ≡ map candidate_view (take place xs) ++ one ∷ map candidate_view (drop place xs)) c.deref.ensures.value c.place-place.ensures.placed)
+    ∙ ap (put_in_order one) so_far
+    ∙ ap (λ o. with_candidate o (unjudged_in rest c.args.judged.now)) (ap (option_map candidate_view) (sym c.in-Some.is) ∙ c.in_ok-one.ensures)
+    ∙ sym (unjudged_more c.args.arrival.now rest c.args.judged.now (sym c.is_judged.ensures ∙ c.if-is_judged.false))

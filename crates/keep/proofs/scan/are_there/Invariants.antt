@@ -1,0 +1,7 @@
+use Rattle.std.proofs.Common.{◌≡◌, drop}
+use Rattle.std.specs.List.{list_all}
+use Rattle.keep.specs.Book.{is_there}
+use Rattle.keep.proofs.scan.are_there.Given as goal
+
+abbrev pub invariant-loop-entry : goal.invariant-loop-entry
+invariant-loop-entry l = list_all (is_there l.arrivals) (drop l.entry-index l.entries) ≡ list_all (is_there l.arrivals) l.entries

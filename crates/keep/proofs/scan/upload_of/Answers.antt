@@ -1,0 +1,16 @@
+use Rattle.std.proofs.Common.{◌∙◌, sym, subst}
+use Rattle.suites.specs.Upload.{IsUpload}
+use Rattle.keep.specs.Scan.{candidate_view}
+use Rattle.keep.proofs.Uploads.{complete_upload, upload_made}
+use Rattle.keep.proofs.scan.upload_of.Goals as goal
+
+pub new-requires : goal.new-requires
+new-requires c =
+    subst IsUpload
+    (sym (upload_made c.args.arrivals.now (candidate_view c.args.candidate) c.in_ok-try_clone.ensures c.print.ensures c.loop-entry.invariant c.loop-entry-test.false c.entries-entry-items.ensures))
+    (complete_upload c.args.arrivals.now (candidate_view c.args.candidate) c.requires c.args.candidate.read)
+
+pub returns : goal.returns
+returns c =
+    c.new.ensures
+    ∙ upload_made c.args.arrivals.now (candidate_view c.args.candidate) c.in_ok-try_clone.ensures c.print.ensures c.loop-entry.invariant c.loop-entry-test.false c.entries-entry-items.ensures

@@ -1,0 +1,195 @@
+-- What a keeper keeps, as contracts see it: the book.
+use Rattle.std.specs.Prelude.{ℕ, Bool, ◌&&◌, ◌||◌, not, nat_eq, nat_lt, if◌then◌else◌, List, [], ◌∷◌, ◌++◌, map, filter, find, length, codes, bytes_eq, Option, Some, None, option_map, option_and_then, unwrap_or}
+use Rattle.std.specs.Ordering.{ordering_then, nat_cmp, is_gt}
+use Rattle.std.specs.declared.cmp.Ordering.{Ordering}
+use Rattle.std.specs.List.{list_any, list_all, ends_with, filter_map, fold, enumerate_from}
+use Rattle.std.specs.Option.{option_or}
+use Rattle.std.specs.Result.{result_ok}
+use Rattle.std.specs.FinMap.{get}
+use Rattle.records.specs.Values.{ChangesValue}
+use Rattle.records.specs.Records.{changes_in}
+use Rattle.rules.specs.Values.{ConfigValue}
+use Rattle.sums.specs.Prints.{print as print_of, same_print}
+use Rattle.sums.specs.declared.entries.Entry.{Entry}
+use Rattle.sums.specs.declared.print.Print.{Print}
+use Rattle.suites.specs.Keys.{text_order}
+use Rattle.suites.specs.Plan.{applied}
+use Rattle.suites.specs.Shelves.{ShelvesValue, pool}
+use Rattle.suites.specs.Upload.{UploadValue, has_text}
+use Rattle.suites.specs.declared.plan.Plan.{Plan}
+use Rattle.texts.specs.Indices.{index_text}
+use Rattle.keep.specs.declared.arrival.Arrival.{Arrival}
+use Rattle.keep.specs.declared.change.Judgement.{Judgement}
+use Rattle.keep.specs.declared.change.Step.{Step}
+use Rattle.keep.specs.declared.change.Change.{Change}
+use Rattle.keep.specs.declared.change.Waiting.{Waiting}
+
+-- The configuration; what has arrived, each pair of name and body once, in the order of its first delivery; the judged
+-- uploads in order; what the suites show; the pool's bodies by path; for each suite, in the order of the configuration, the
+-- moment at which what it shows last changed.
+pub record Book : Type 0 where
+  pub config : ConfigValue
+  pub arrivals : List Arrival
+  pub judged : List Judgement
+  pub shown : ShelvesValue
+  pub files : List ℕ → Option (List ℕ)
+  pub dates : List ℕ
+
+-- the last moment that may be handed in, 2099-12-31 23:59:59 UTC
+abbrev pub latest : ℕ
+latest = 4102444799
+
+-- ---- arrivals
+
+-- of the same name and body
+unfoldable pub is_same_pair : Arrival → Arrival → Bool
+is_same_pair a b = bytes_eq a.name b.name && bytes_eq a.body b.body
+
+unfoldable pub has_arrival : List Arrival → Arrival → Bool
+has_arrival arrivals a = list_any (is_same_pair a) arrivals
+
+-- the arrival with the greater of its moment and this one
+abbrev pub at_latest : ℕ → Arrival → Arrival
+at_latest moment a =
+    record { name = a.name; body = a.body; moment = if nat_lt a.moment moment then moment else a.moment }
+
+-- A pair that is there already counts once, with the greatest moment at which it was delivered.
+unfoldable pub with_arrival : List Arrival → Arrival → List Arrival
+with_arrival arrivals a =
+    if has_arrival arrivals a then map (λ b. if is_same_pair a b then at_latest a.moment b else b) arrivals
+    else arrivals ++ a ∷ []
+
+abbrev pub with_delivery : Book → Arrival → Book
+with_delivery book a = record book { arrivals = with_arrival book.arrivals a }
+
+-- ---- uploads
+
+-- the name of a .changes
+unfoldable pub is_changes_name : List ℕ → Bool
+is_changes_name name = ends_with nat_eq name (codes ".changes")
+
+-- a .changes that arrived, and the record that it is
+pub record Candidate : Type 0 where
+  pub name : List ℕ
+  pub body : List ℕ
+  pub changes : ChangesValue
+
+unfoldable pub candidate_of : Arrival → Option Candidate
+candidate_of a =
+    if is_changes_name a.name
+    then option_map (λ c. record { name = a.name; body = a.body; changes = c }) (result_ok (changes_in a.body))
+    else None
+
+abbrev pub candidates : List Arrival → List Candidate
+candidates arrivals = filter_map candidate_of arrivals
+
+-- a body of the listed print has arrived under the listed name
+unfoldable pub is_body_of : Entry → Arrival → Bool
+is_body_of entry a = bytes_eq a.name entry.name && same_print (print_of a.body) entry.print
+
+unfoldable pub is_there : List Arrival → Entry → Bool
+is_there arrivals entry = list_any (is_body_of entry) arrivals
+
+-- the entries of which no body has arrived
+unfoldable pub missing : List Arrival → Candidate → List Entry
+missing arrivals c = filter (λ e. not (is_there arrivals e)) c.changes.entries
+
+-- each listed file has arrived
+unfoldable pub is_complete : List Arrival → Candidate → Bool
+is_complete arrivals c = list_all (is_there arrivals) c.changes.entries
+
+-- the upload has a verdict
+unfoldable pub is_judged : List Judgement → Candidate → Bool
+is_judged judged c = list_any (λ j. bytes_eq j.name c.name && same_print j.print (print_of c.body)) judged
+
+-- The order of judging: by the bytes of the name of the .changes, then by its SHA-256, SHA-1, MD5 and size.
+unfoldable pub judging_order : Candidate → Candidate → Ordering
+judging_order a b =
+    ordering_then (text_order a.name b.name)
+    (ordering_then (text_order (print_of a.body).sha256 (print_of b.body).sha256)
+    (ordering_then (text_order (print_of a.body).sha1 (print_of b.body).sha1)
+    (ordering_then (text_order (print_of a.body).md5 (print_of b.body).md5)
+    (nat_cmp (print_of a.body).size (print_of b.body).size))))
+
+-- the list with one more in its place, before those that tie with it
+abbrev pub put_in_order : Candidate → List Candidate → List Candidate
+put_in_order c [] = c ∷ []
+put_in_order c (d ∷ ds) = if is_gt (judging_order c d) then d ∷ put_in_order c ds else c ∷ d ∷ ds
+
+abbrev pub in_order : List Candidate → List Candidate
+in_order [] = []
+in_order (c ∷ cs) = put_in_order c (in_order cs)
+
+-- the uploads without a verdict, in the order of judging
+unfoldable pub unjudged : Book → List Candidate
+unjudged book = in_order (filter (λ c. not (is_judged book.judged c)) (candidates book.arrivals))
+
+-- those of which each listed file has arrived
+unfoldable pub due : Book → List Candidate
+due book = filter (is_complete book.arrivals) (unjudged book)
+
+-- the body that arrived for a listed file
+unfoldable pub body_for : List Arrival → Entry → List ℕ
+body_for arrivals entry = unwrap_or (option_map (λ a. a.body) (find (is_body_of entry) arrivals)) []
+
+-- the upload as it is judged: its record, and the texts of its .dsc and sidecars
+unfoldable pub upload_of : List Arrival → Candidate → UploadValue
+upload_of arrivals c = record {
+  name = c.name;
+  print = print_of c.body;
+  changes = c.changes;
+  texts = map (λ e. if has_text e.name then body_for arrivals e else []) c.changes.entries;
+}
+
+-- each upload without a verdict, with the number of its entries of which no body has arrived
+unfoldable pub waiting_list : Book → List Waiting
+waiting_list book = map (λ c. record { name = c.name; missing = length (missing book.arrivals c) }) (unjudged book)
+
+-- ---- texts
+
+-- the index text at a path
+abbrev pub text_at : Book → List ℕ → Option (List ℕ)
+text_at book path = index_text book.config book.shown book.dates path
+
+-- ---- changes
+
+-- the plan puts or drops an item of the suite
+unfoldable pub touches : ℕ → Plan → Bool
+touches suite plan =
+    list_any (λ e. nat_eq e.0.suite suite) plan.put || list_any (λ e. nat_eq e.0.suite suite) plan.dropped
+
+-- the dates of the suites after a plan is made: its moment for each suite that it touches
+unfoldable pub dates_after : ℕ → List ℕ → Plan → List ℕ
+dates_after moment dates plan =
+    map (λ d. if touches d.0 plan then moment else d.1) (enumerate_from 0 dates)
+
+-- the body of the file at a path: the old one where its print fits, else one that arrived
+unfoldable pub stored_body : Book → List ℕ → Print → Option (List ℕ)
+stored_body book path print =
+    option_or (option_and_then (λ body. if same_print (print_of body) print then Some body else None) (book.files path))
+    (option_map (λ a. a.body) (find (λ a. same_print (print_of a.body) print) book.arrivals))
+
+-- the pool's bodies where the suites show this
+abbrev pub files_showing : Book → ShelvesValue → List ℕ → Option (List ℕ)
+files_showing book shown path = option_and_then (stored_body book path) (get (pool shown) path)
+
+-- what the steps leave shown, and the dates
+abbrev pub shown_past : ShelvesValue → List Step → ShelvesValue
+shown_past shown steps = fold (λ now step. applied now step.plan) shown steps
+
+abbrev pub dates_past : ℕ → List ℕ → List Step → List ℕ
+dates_past moment dates steps = fold (λ now step. dates_after moment now step.plan) dates steps
+
+abbrev pub judgements : List Step → List Judgement
+judgements steps = filter_map (λ step. step.judgement) steps
+
+-- the book after a change
+unfoldable pub amended : Book → Change → Book
+amended book change = record {
+  config = book.config;
+  arrivals = book.arrivals;
+  judged = book.judged ++ judgements change.steps;
+  shown = shown_past book.shown change.steps;
+  files = files_showing book (shown_past book.shown change.steps);
+  dates = dates_past change.moment book.dates change.steps;
+}

@@ -1,0 +1,58 @@
+-- What the calls of a keeper ask and answer.
+use Rattle.std.specs.Prelude.{◌≡◌, ◌≤◌, ℕ, Bool, true, IsTrue, List, [], ◌∷◌, map, take, length, Ok, Contains, ⊤, Some}
+use Rattle.records.specs.Values.{ChangesValue}
+use Rattle.records.specs.Records.{changes_in}
+use Rattle.sums.specs.Lines.{is_file_name}
+use Rattle.sums.specs.Prints.{print as print_of}
+use Rattle.sums.specs.declared.print.Print.{Print}
+use Rattle.suites.specs.Plan.{IsStep, applied}
+use Rattle.suites.specs.Shelves.{ShelvesValue}
+use Rattle.keep.specs.Book.{Book, Candidate, is_changes_name, due, judgements, latest}
+use Rattle.keep.specs.declared.arrival.Arrival.{Arrival}
+use Rattle.keep.specs.declared.change.Step.{Step}
+use Rattle.keep.specs.declared.change.Change.{Change}
+use Rattle.keep.specs.declared.change.Judgement.{Judgement}
+use Rattle.keep.specs.declared.fault.KeepFault.{KeepFault}
+use Rattle.keep.specs.declared.fault.KeepFault.TheVariants.{OutOfMemory, Disk, Size, Tables}
+
+-- Of these bodies no two have the same print.
+abbrev pub NoCollision : List (List ℕ) → Type 0
+NoCollision bodies = (a b : List ℕ) → Contains bodies a → Contains bodies b → print_of a ≡ print_of b → a ≡ b
+
+-- the bodies are those of the book, of its arrivals and its files, and perhaps others
+pub record HasBodies (bodies : List (List ℕ)) (book : Book) : Type 0 where
+  pub arrivals : (a : Arrival) → Contains book.arrivals a → Contains bodies a.body
+  pub files : (path body : List ℕ) → book.files path ≡ Some body → Contains bodies body
+
+-- A delivery that may be kept: a file name, a body of at most 4194304 bytes, and a record where the name is that of a .changes.
+pub record IsDeliverable (name body : List ℕ) : Type 0 where
+  pub file_name : is_file_name name ≡ true
+  pub small : length body ≤ 4194304
+  pub a_record : is_changes_name name ≡ true → (c : ChangesValue) × changes_in body ≡ Ok c
+
+-- each plan is a step from what those before it leave
+abbrev pub AreSteps : ShelvesValue → List Step → Type 0
+AreSteps shown [] = ⊤
+AreSteps shown (step ∷ steps) = ((after : ShelvesValue) × IsStep shown after step.plan) × AreSteps (applied shown step.plan) steps
+
+-- an upload by the name and the print of its .changes
+abbrev pub sign_of : Candidate → List ℕ × Print
+sign_of c = (c.name, print_of c.body)
+
+abbrev pub sign_on : Judgement → List ℕ × Print
+sign_on j = (j.name, j.print)
+
+-- The moment is within its limit, each plan is made for what those before it leave, and the judged uploads are the first
+-- of those that are due.
+pub record IsSound (book : Book) (change : Change) : Type 0 where
+  pub moment : change.moment ≤ latest
+  pub plans : AreSteps book.shown change.steps
+  pub judged : map sign_on (judgements change.steps) ≡ map sign_of (take (length (judgements change.steps)) (due book))
+
+-- Want of memory may always be answered, a fault of the disk or of size only by a keeper that can fail, and that the
+-- tables are not what is needed by no call of a keeper.
+abbrev pub MayAnswer : Bool → KeepFault → Type 0
+MayAnswer may_fail OutOfMemory = ⊤
+MayAnswer may_fail Disk = IsTrue may_fail
+MayAnswer may_fail Size = IsTrue may_fail
+MayAnswer may_fail Tables = ⊥

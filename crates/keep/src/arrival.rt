@@ -1,0 +1,72 @@
+//! What has arrived.
+
+ghost use Rattle.std.specs.Prelude.{◌≡◌, IfOk};
+ghost use Rattle.sums.specs.Prints.{print as print_of_body};
+
+use para::{Listed, Text};
+use std::alloc::{AllocError, Global};
+use std::marker::Model;
+use sums::{Print, print_of};
+
+/// A body, with its print at hand.
+#[derive(Drop)]
+pub struct Body {
+    bytes: Listed<u8>,
+    print: Print,
+}
+
+impl Model for Body {
+    ghost use Rattle.std.specs.Prelude.{◌≡◌, List, ℕ};
+    ghost use Rattle.sums.specs.Prints.{print as print_of_body};
+
+    ghost Value = { List ℕ };
+
+    ghost view = { λ b. b.bytes };
+
+    ghost invariant = { λ b. b.print ≡ print_of_body b.bytes };
+}
+
+impl Body {
+    /// A copy of these bytes, with their print.
+    pub fn new(alloc: Global, bytes: &[u8]) -> Result<Body, AllocError>
+        ensures { IfOk result (λ body. body ≡ bytes.now) }
+    {
+        Ok(Body {
+            bytes: Listed::from_vec(Vec::from_slice(alloc, bytes)?),
+            print: print_of(bytes),
+        })
+    }
+
+    /// The bytes.
+    pub fn as_slice(&self) -> &[u8]
+        ensures { result.now ≡ self.now }
+    {
+        self.bytes.as_slice()
+    }
+
+    /// The print of the bytes.
+    pub fn print(&self) -> Print
+        ensures { result ≡ print_of_body self.now }
+    {
+        self.print
+    }
+
+    /// Another copy of the body.
+    pub fn try_clone(&self, alloc: Global) -> Result<Body, AllocError>
+        ensures { IfOk result (λ body. body ≡ self.now) }
+    {
+        Ok(Body {
+            bytes: Listed::from_vec(Vec::from_slice(alloc, self.bytes.as_slice())?),
+            print: self.print,
+        })
+    }
+}
+
+/// A file that arrived: its name, its body, and the greatest moment at which it was delivered, in seconds since
+/// 1970-01-01 00:00:00 UTC.
+#[derive(Drop)]
+pub struct Arrival {
+    pub name: Text,
+    pub body: Body,
+    pub moment: u64,
+}

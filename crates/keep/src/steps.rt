@@ -1,0 +1,124 @@
+//! What the steps of a change make of the plain keeper's lists.
+
+ghost use Rattle.std.specs.Prelude.{◌≡◌, ◌≤◌, ◌++◌, All, IfOk};
+ghost use Rattle.keep.specs.Book.{dates_past, judgements, shown_past, touches};
+ghost use Rattle.keep.specs.Keeping.{AreSteps};
+ghost use Rattle.keep.specs.Scan.{is_put_in, some_touches};
+
+use crate::change::{Judgement, Step};
+use crate::keeper::LATEST;
+use std::alloc::{AllocError, Global};
+use suites::{Item, ShelfKey, Shelves};
+
+/// Another copy of a judgement.
+fn copied_judgement(one: &Judgement) -> Result<Judgement, AllocError>
+    ensures { IfOk result (λ copy. copy ≡ one.now) }
+{
+    Ok(Judgement {
+        name: one.name.try_clone()?,
+        print: one.print,
+        verdict: one.verdict,
+    })
+}
+
+/// The judgements again.
+pub fn copied_judgements(alloc: Global, judged: &[Judgement]) -> Result<Vec<Judgement>, AllocError>
+    ensures { IfOk result (λ copies. copies.items ≡ judged.now) }
+{
+    let mut copies = Vec::new(alloc);
+    for one in judged {
+        copies.push(copied_judgement(one)?)?;
+    }
+    Ok(copies)
+}
+
+/// The judgements so far, and those of a change.
+pub fn judged_after(
+    alloc: Global,
+    judged: &[Judgement],
+    steps: &[Step],
+) -> Result<Vec<Judgement>, AllocError>
+    ensures { IfOk result (λ all. all.items ≡ judged.now ++ judgements steps.now) }
+{
+    let mut all = copied_judgements(alloc, judged)?;
+    for step in steps {
+        if let Some(one) = &step.judgement {
+            all.push(copied_judgement(one)?)?;
+        }
+    }
+    Ok(all)
+}
+
+/// What the suites show after the steps.
+pub fn shelves_after(
+    alloc: Global,
+    shelves: &Shelves,
+    steps: &[Step],
+) -> Result<Shelves, AllocError>
+    requires { AreSteps shelves.now steps.now }
+    ensures { IfOk result (λ after. after ≡ shown_past shelves.now steps.now) }
+{
+    let mut after = shelves.try_clone(alloc)?;
+    for step in steps {
+        after.apply(alloc, &step.plan)?;
+    }
+    Ok(after)
+}
+
+/// Whether one of the items stands in the suite.
+fn some_in_suite(entries: &[(ShelfKey, Item)], suite: usize) -> bool
+    ensures { result ≡ is_put_in suite entries.now }
+{
+    for entry in entries {
+        if entry.0.suite == suite {
+            return true;
+        }
+    }
+    false
+}
+
+/// Whether a step changes what the suite shows.
+#[tactic(auto, unfolding(crate::specs::Book::touches))]
+fn changes_suite(step: &Step, suite: usize) -> bool
+    ensures { result ≡ touches suite step.now.plan }
+{
+    let puts = some_in_suite(step.plan.put.as_slice(), suite);
+    let drops = some_in_suite(step.plan.dropped.as_slice(), suite);
+    puts || drops
+}
+
+/// Whether one of the steps changes what the suite shows.
+fn some_changes_suite(steps: &[Step], suite: usize) -> bool
+    ensures { result ≡ some_touches suite steps.now }
+{
+    for step in steps {
+        if changes_suite(step, suite) {
+            return true;
+        }
+    }
+    false
+}
+
+/// The dates after a change: its moment for each suite whose shown items it changes.
+pub fn dates_after(
+    alloc: Global,
+    dates: &[u64],
+    steps: &[Step],
+    moment: u64,
+) -> Result<Vec<u64>, AllocError>
+    requires moment { moment ≤ LATEST }
+    requires dates { All (λ date. date ≤ 4_102_444_799) dates.now }
+    ensures in_range { IfOk result (λ after. All (λ date. date ≤ 4_102_444_799) after.items) }
+    ensures after { IfOk result (λ after. after.items ≡ dates_past moment dates.now steps.now) }
+{
+    let mut after = Vec::new(alloc);
+    for suite in 0..dates.len() {
+        let date = if some_changes_suite(steps, suite) {
+            moment
+        } else {
+            dates[suite]
+        };
+        after.push(date)?;
+    }
+    Ok(after)
+}
