@@ -1,24 +1,16 @@
 -- Which deliveries are refused, whatever the archive holds.
 use Rattle.std.specs.Prelude.{ℕ, Bool, not, nat_eq, nat_lt, if◌then◌else◌, List, length, codes, Option, Some, None, Result, Ok, Err}
-use Rattle.std.specs.List.{ends_with}
 use Rattle.sums.specs.Lines.{is_file_name}
+use Rattle.keep.specs.Book.{is_changes_name, latest}
 use Rattle.records.specs.Records.{changes_in}
 use Rattle.records.specs.Values.{ChangesValue}
 use Rattle.records.specs.declared.fault.RecordFault.{RecordFault}
 use Rattle.queue.specs.declared.fault.Fault.{Fault}
 use Rattle.queue.specs.declared.fault.Fault.TheVariants.{OutOfMemory, BadName, TooLarge, Record, Keeper, Moment}
 
--- the last moment that may be handed in, 2099-12-31 23:59:59 UTC
-abbrev pub latest : ℕ
-latest = 4102444799
-
 -- the most bytes of a delivered body
 abbrev pub most_bytes : ℕ
 most_bytes = 4194304
-
--- the name of a .changes
-unfoldable pub is_changes_name : List ℕ → Bool
-is_changes_name name = ends_with nat_eq name (codes ".changes")
 
 abbrev pub fault_of_read : Result ChangesValue RecordFault → Option Fault
 fault_of_read (Ok changes) = None

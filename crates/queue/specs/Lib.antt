@@ -1,2 +1,9 @@
-pub mod Deliveries
 pub mod Fault
+pub mod Deliveries
+pub mod Before
+pub mod Histories
+pub mod Archives
+pub mod Copies
+pub mod Answers
+pub mod Commands
+pub mod Judging

@@ -1,12 +1,20 @@
 //! The archive over a keeper.
 
-ghost use Rattle.std.specs.Prelude.{◌≡◌, ◌⊎◌, ◌<◌, Some, None, Err, IfOk, IfErr};
-ghost use Rattle.queue.specs.Deliveries.{delivery_fault, latest, IsKeepers};
+ghost use Rattle.std.specs.Prelude.{◌≡◌, ◌⊎◌, ◌<◌, ◌∷◌, [], Some, None, Err, IfOk, IfErr};
+ghost use Rattle.queue.specs.Answers.{IsFaithful, IsStep};
+ghost use Rattle.queue.specs.Archives.{Stands};
+ghost use Rattle.queue.specs.Commands.{stored, reported, counted, found};
+ghost use Rattle.queue.specs.Copies.{copy_fault};
+ghost use Rattle.queue.specs.Histories.{History, Delivery, QueueRun, Copying, Lookup, WaitingList, VerdictList};
+ghost use Rattle.keep.specs.Book.{latest};
+ghost use Rattle.queue.specs.Deliveries.{delivery_fault, IsKeepers};
 
 use crate::command::{Arrived, Report};
+use crate::copy::{copy_plan, only_step, two_suites};
 use crate::delivery::check_delivery;
 use crate::fault::Fault;
-use crate::run::{judged_steps, report_line, report_lines, waiting_line};
+use crate::report::{verdict_lines, waiting_lines};
+use crate::run::{judged_steps, report_lines};
 use keep::{Change, Keeper, LATEST};
 use para::Listed;
 use std::alloc::Global;
@@ -14,17 +22,21 @@ use std::alloc::Global;
 /// An archive, over the keeper that keeps it between calls.
 #[derive(Drop)]
 pub struct Archive<K: Keeper> {
-    keeper: K,
+    pub keeper: K,
 }
 
 impl<K: Keeper> Archive<K> {
     /// The archive that a keeper keeps.
-    pub fn new(keeper: K) -> Self {
+    pub fn new(keeper: K) -> Self
+        ensures { result.keeper ≡ keeper }
+    {
         Archive { keeper }
     }
 
     /// The keeper of the archive.
-    pub fn into_keeper(self) -> K {
+    pub fn into_keeper(self) -> K
+        ensures { result ≡ self.keeper }
+    {
         let Archive { keeper } = self;
         keeper
     }
@@ -39,6 +51,8 @@ impl<K: Keeper> Archive<K> {
         body: &[u8],
         moment: u64,
     ) -> Result<Arrived, Fault>
+        ensures step { (h : History) → Stands (K.book self.old.keeper) h → IsFaithful h (Delivery name.now body.now moment ∷ [])
+            → IsStep K.may_fail h (Delivery name.now body.now moment) (stored result) (K.book self.new.keeper) }
         ensures done { IfOk result (λ _. delivery_fault name.now body.now moment ≡ None) }
         // The fault by name, body and moment, or else one of the keeper's own.
         ensures refused { IfErr result (λ e. (delivery_fault name.now body.now moment ≡ Some e) ⊎ IsKeepers e) }
@@ -54,6 +68,8 @@ impl<K: Keeper> Archive<K> {
     /// Judges each upload that is complete and has no verdict, at a moment, in seconds since 1970-01-01 00:00:00 UTC,
     /// and reports a line for each. Refused for a moment after 2099. Where it is refused no upload was judged.
     pub fn run(&mut self, alloc: Global, moment: u64) -> Result<Report, Fault>
+        ensures step { (h : History) → Stands (K.book self.old.keeper) h → IsFaithful h (QueueRun moment ∷ [])
+            → IsStep K.may_fail h (QueueRun moment) (reported result) (K.book self.new.keeper) }
         ensures late { latest < moment → result ≡ Err Fault.Moment }
         ensures refused { IfErr result (λ e. (latest < moment) ⊎ IsKeepers e) }
     {
@@ -72,9 +88,45 @@ impl<K: Keeper> Archive<K> {
         Ok(Report { lines })
     }
 
+    /// Copies the items of a source package that the suite `from` shows and the suite `to` keeps, at a moment, in seconds
+    /// since 1970-01-01 00:00:00 UTC, and says how many items of `to` are new. Suites go by their codenames. It is refused,
+    /// the lowest first, for a moment after 2099, a codename that no suite has, a copy from a suite to itself, and a source
+    /// package of which `from` shows nothing.
+    pub fn copy(
+        &mut self,
+        alloc: Global,
+        from: &str,
+        to: &str,
+        source: &str,
+        moment: u64,
+    ) -> Result<u64, Fault>
+        ensures step { (h : History) → Stands (K.book self.old.keeper) h → IsFaithful h (Copying from.now to.now source.now moment ∷ [])
+            → IsStep K.may_fail h (Copying from.now to.now source.now moment) (counted result) (K.book self.new.keeper) }
+        ensures done { IfOk result (λ _. copy_fault (K.book self.old.keeper) from.now to.now source.now moment ≡ None) }
+        ensures late { latest < moment → result ≡ Err Fault.Moment }
+        // The fault by the moment, the configuration and what is shown, or else one of the keeper's own.
+        ensures refused { IfErr result (λ e. (copy_fault (K.book self.old.keeper) from.now to.now source.now moment ≡ Some e) ⊎ IsKeepers e) }
+    {
+        if moment > LATEST {
+            return Err(Fault::Moment);
+        }
+        let (from, to) = two_suites(self.keeper.config(), from, to)?;
+        let shelves = self.keeper.shelves(alloc)?;
+        let plan = copy_plan(alloc, self.keeper.config(), &shelves, from, to, source)?;
+        let items = plan.put.as_slice().len() as u64;
+        let change = Change {
+            moment,
+            steps: only_step(alloc, plan)?,
+        };
+        self.keeper.apply(alloc, &change)?;
+        Ok(items)
+    }
+
     /// The index text or the file of the pool at a path without a leading slash.
     pub fn fetch(&mut self, alloc: Global, path: &str) -> Result<Option<Vec<u8>>, Fault>
-        ensures { IfErr result IsKeepers }
+        ensures step { (h : History) → Stands (K.book self.old.keeper) h → IsFaithful h (Lookup path.now ∷ [])
+            → IsStep K.may_fail h (Lookup path.now) (found result) (K.book self.new.keeper) }
+        ensures refused { IfErr result IsKeepers }
     {
         match self.keeper.file(alloc, path)? {
             Some(body) => Ok(Some(body)),
@@ -85,27 +137,29 @@ impl<K: Keeper> Archive<K> {
     /// The uploads without a verdict, a line for each: the number of listed files that have not arrived, and the name
     /// of the .changes. Refused for a moment after 2099.
     pub fn waiting(&mut self, alloc: Global, moment: u64) -> Result<Report, Fault>
+        ensures step { (h : History) → Stands (K.book self.old.keeper) h → IsFaithful h (WaitingList moment ∷ [])
+            → IsStep K.may_fail h (WaitingList moment) (reported result) (K.book self.new.keeper) }
         ensures late { latest < moment → result ≡ Err Fault.Moment }
         ensures refused { IfErr result (λ e. (latest < moment) ⊎ IsKeepers e) }
     {
         if moment > LATEST {
             return Err(Fault::Moment);
         }
-        let mut lines = Vec::new(alloc);
-        for upload in self.keeper.waiting(alloc, moment)? {
-            lines.push(waiting_line(alloc, &upload)?)?;
-        }
-        Ok(Report { lines })
+        let uploads = self.keeper.waiting(alloc, moment)?;
+        Ok(Report {
+            lines: waiting_lines(alloc, &uploads)?,
+        })
     }
 
     /// All lines that runs have reported, in the order in which the uploads were judged.
     pub fn verdicts(&mut self, alloc: Global) -> Result<Report, Fault>
-        ensures { IfErr result IsKeepers }
+        ensures step { (h : History) → Stands (K.book self.old.keeper) h → IsFaithful h (VerdictList ∷ [])
+            → IsStep K.may_fail h (VerdictList) (reported result) (K.book self.new.keeper) }
+        ensures refused { IfErr result IsKeepers }
     {
-        let mut lines = Vec::new(alloc);
-        for judgement in self.keeper.verdicts(alloc)? {
-            lines.push(report_line(alloc, &judgement)?)?;
-        }
-        Ok(Report { lines })
+        let judged = self.keeper.verdicts(alloc)?;
+        Ok(Report {
+            lines: verdict_lines(alloc, &judged)?,
+        })
     }
 }

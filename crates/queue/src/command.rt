@@ -1,4 +1,6 @@
-//! What calls of the archive answer.
+//! Commands, and what they answer.
+
+use crate::fault::Fault;
 
 /// Whether a delivery is new.
 #[derive(Clone, Copy, Debug, PartialEq, Eq)]
@@ -13,4 +15,41 @@ pub enum Arrived {
 #[derive(Debug, Drop)]
 pub struct Report {
     pub lines: Vec<String>,
+}
+
+/// A call of the archive, with its arguments. Moments are in seconds since 1970-01-01 00:00:00 UTC.
+#[derive(Debug, Drop)]
+pub enum Command {
+    Deliver {
+        name: String,
+        body: Vec<u8>,
+        moment: u64,
+    },
+    Run {
+        moment: u64,
+    },
+    Copy {
+        from: String,
+        to: String,
+        source: String,
+        moment: u64,
+    },
+    Fetch {
+        path: String,
+    },
+    Waiting {
+        moment: u64,
+    },
+    Verdicts,
+}
+
+/// What a command answered.
+#[derive(Debug, Drop)]
+pub enum Outcome {
+    Deliver(Result<Arrived, Fault>),
+    Run(Result<Report, Fault>),
+    Copy(Result<u64, Fault>),
+    Fetch(Result<Option<Vec<u8>>, Fault>),
+    Waiting(Result<Report, Fault>),
+    Verdicts(Result<Report, Fault>),
 }

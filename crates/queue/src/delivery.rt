@@ -1,7 +1,8 @@
 //! Which deliveries are refused, whatever the archive holds.
 
 ghost use Rattle.std.specs.Prelude.{◌≡◌, ◌⊎◌, ◌≤◌, Some, None, MatchResult, OnOk};
-ghost use Rattle.queue.specs.Deliveries.{delivery_fault, record_fault, is_changes_name};
+ghost use Rattle.keep.specs.Book.{is_changes_name};
+ghost use Rattle.queue.specs.Deliveries.{delivery_fault, record_fault};
 
 use crate::fault::Fault;
 use keep::LATEST;
@@ -12,7 +13,7 @@ use sums::is_file_name;
 /// The most bytes of a delivered body.
 const MOST_BYTES: usize = 4_194_304;
 
-#[tactic(auto, unfolding(crate::specs::Deliveries::is_changes_name))]
+#[tactic(auto, unfolding(keep::specs::Book::is_changes_name))]
 fn is_changes_name(name: &str) -> bool
     ensures { result ≡ is_changes_name name.now }
 {

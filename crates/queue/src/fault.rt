@@ -24,6 +24,12 @@ pub enum Fault {
     Keeper(KeepFault),
     /// The moment is after 2099-12-31 23:59:59 UTC.
     Moment,
+    /// No suite has the codename.
+    UnknownSuite,
+    /// A copy from a suite to itself.
+    SameSuite,
+    /// The suite shows no item of the source package.
+    NothingToCopy,
 }
 
 impl Fault {
@@ -40,6 +46,9 @@ impl Fault {
             Fault::Record(_) => 3,
             Fault::Keeper(_) => 4,
             Fault::Moment => 5,
+            Fault::UnknownSuite => 6,
+            Fault::SameSuite => 7,
+            Fault::NothingToCopy => 8,
         }
     }
 }
@@ -58,6 +67,9 @@ impl fmt::Display for Fault {
             Fault::Record(fault) => write!(f, "Q3 {fault}"),
             Fault::Keeper(fault) => write!(f, "Q4 {fault}"),
             Fault::Moment => write!(f, "Q5"),
+            Fault::UnknownSuite => write!(f, "Q6"),
+            Fault::SameSuite => write!(f, "Q7"),
+            Fault::NothingToCopy => write!(f, "Q8"),
         }
     }
 }

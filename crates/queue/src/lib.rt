@@ -1,12 +1,15 @@
-//! The archive: deliveries, queue runs and look-ups over any keeper.
+//! The archive: deliveries, queue runs, look-ups and lists of commands over any keeper.
 #![tactic(auto)]
 
 mod archive;
 mod command;
+mod copy;
 mod delivery;
+mod drive;
 mod fault;
+mod report;
 mod run;
 
 pub use archive::Archive;
-pub use command::{Arrived, Report};
+pub use command::{Arrived, Command, Outcome, Report};
 pub use fault::Fault;

@@ -1,5 +1,12 @@
 //! The work of a queue run: uploads judged in order, the texts that change, and the lines of its report.
 
+ghost use Rattle.std.specs.Prelude.{◌≡◌, IfOk, OnOk, map, string_bytes};
+ghost use Rattle.keep.specs.Book.{judgements};
+ghost use Rattle.queue.specs.Answers.{report_line, line_on_waiting};
+ghost use Rattle.queue.specs.Judging.{AreJudged, IsJudged, after_uploads};
+ghost use Rattle.suites.specs.Plan.{after_upload};
+ghost use Rattle.suites.specs.Shelves.{AreSound};
+
 use crate::fault::Fault;
 use keep::{Judgement, Step, Waiting};
 use para::Text;
@@ -13,7 +20,10 @@ fn judged_step(
     config: &Config,
     shelves: &mut Shelves,
     upload: &Upload,
-) -> Result<Step, AllocError> {
+) -> Result<Step, AllocError>
+    ensures step { IfOk result (IsJudged config.now shelves.old upload.now) }
+    ensures shelves { OnOk result (shelves.new ≡ after_upload config.now shelves.old upload.now) }
+{
     let plan = plan_upload(alloc, config, shelves, upload)?;
     shelves.apply(alloc, &plan)?;
     Ok(Step {
@@ -32,7 +42,12 @@ pub fn judged_steps(
     config: &Config,
     shelves: &mut Shelves,
     uploads: &[Upload],
-) -> Result<Vec<Step>, AllocError> {
+) -> Result<Vec<Step>, AllocError>
+    ensures steps { IfOk result (λ steps. AreJudged config.now shelves.old uploads.now steps.items) }
+    ensures shelves { OnOk result (shelves.new ≡ after_uploads config.now shelves.old uploads.now) }
+    ensures sound { AreSound shelves.old }
+{
+    shelves.agree();
     let mut steps = Vec::new(alloc);
     for upload in uploads {
         steps.push(judged_step(alloc, config, shelves, upload)?)?;
@@ -41,7 +56,10 @@ pub fn judged_steps(
 }
 
 /// A line of a report: `accepted NAME`, or `refused NUMBER NAME`.
-pub fn report_line(alloc: Global, judgement: &Judgement) -> Result<String, AllocError> {
+#[tactic(auto, unfolding(crate::specs::Answers::report_line))]
+pub fn report_line(alloc: Global, judgement: &Judgement) -> Result<String, AllocError>
+    ensures { IfOk result (λ line. string_bytes line ≡ report_line judgement.now) }
+{
     let name = judgement.name.as_str();
     match judgement.verdict {
         Verdict::Accepted => format!(in alloc; "accepted {name}"),
@@ -53,7 +71,9 @@ pub fn report_line(alloc: Global, judgement: &Judgement) -> Result<String, Alloc
 }
 
 /// The lines of a report on these steps.
-pub fn report_lines(alloc: Global, steps: &[Step]) -> Result<Vec<String>, AllocError> {
+pub fn report_lines(alloc: Global, steps: &[Step]) -> Result<Vec<String>, AllocError>
+    ensures { IfOk result (λ lines. map string_bytes lines.items ≡ map report_line (judgements steps.now)) }
+{
     let mut lines = Vec::new(alloc);
     for step in steps {
         if let Some(judgement) = &step.judgement {
@@ -64,7 +84,9 @@ pub fn report_lines(alloc: Global, steps: &[Step]) -> Result<Vec<String>, AllocE
 }
 
 /// A line on an upload without a verdict: the number of its listed files that have not arrived, and its name.
-pub fn waiting_line(alloc: Global, upload: &Waiting) -> Result<String, AllocError> {
+pub fn waiting_line(alloc: Global, upload: &Waiting) -> Result<String, AllocError>
+    ensures { IfOk result (λ line. string_bytes line ≡ line_on_waiting upload.now) }
+{
     let (missing, name) = (upload.missing, upload.name.as_str());
     format!(in alloc; "{missing} {name}")
 }

@@ -1,0 +1,170 @@
+-- The answers of copies, from what the keeper and the plan say.
+use Rattle.std.proofs.Common.{◌≡◌, ◌<◌, ◌≤◌, ℕ, Bool, true, false, List, [], ◌∷◌, length, Option, Some, None, Ok, Err, refl, sym, ap, subst, ◌∙◌, nat_lt, nat_eq, if◌then◌else◌}
+use Rattle.std.specs.Prelude.{bytes_eq, position}
+use Rattle.std.specs.FinMap.{entries}
+use Rattle.std.specs.List.{list_any}
+use Rattle.std.proofs.lemmas.Bool.{lt-ltb, le-ltb}
+use Rattle.std.proofs.lemmas.List.Quantifiers.{position-Some}
+use Rattle.std.proofs.lemmas.Option.{same_Some}
+use Rattle.rules.specs.Values.{ConfigValue}
+use Rattle.rules.specs.declared.suite.Suite.{Suite}
+use Rattle.suites.specs.Plan as plans
+use Rattle.suites.specs.Shelves.{ShelvesValue}
+use Rattle.suites.specs.declared.plan.Plan.{Plan}
+use Rattle.keep.specs.Book.{Book, amended, latest}
+use Rattle.keep.specs.Keeping.{HasBodies, IsSound, NoCollision}
+use Rattle.keep.specs.declared.change.Step.{Step}
+use Rattle.queue.specs.Answers.{IsAnswer, IsFaithful, IsStep, answer, is_refused}
+use Rattle.queue.specs.Archives.{Stands, archive, book_from, book_of, is_shown_of, shown_by_print, shown_in, suite_named}
+use Rattle.queue.specs.Copies.{AreSuites, IsCopy, copy_fault, is_item_of, shows_source, source_fault, suites_fault}
+use Rattle.queue.specs.Deliveries.{or_else}
+use Rattle.queue.specs.Histories.{Copying, Count, History}
+use Rattle.queue.specs.declared.fault.Fault.{Fault}
+use Rattle.queue.specs.declared.fault.Fault.TheVariants.{Moment, UnknownSuite, SameSuite, NothingToCopy}
+use Rattle.queue.proofs.Known.{apart_with_empty, known}
+use Rattle.queue.proofs.SimulationCopies.{copy_step, copy_step_of, shown_of-printed}
+use Rattle.queue.proofs.StepAnswers.{refused_step}
+
+-- ---- the fault
+
+place_in : {X : Type 0} (p : X → Bool) (xs : List X) (i : ℕ) → position p xs ≡ Some i → i < length xs
+place_in p [] i h = cc
+place_in p (x ∷ xs) i h = (position-Some p (x ∷ xs) i x h).0
+
+-- a suite that is named is one of the configuration
+pub named_place : (config : ConfigValue) (name : List ℕ) (i : ℕ) → suite_named config name ≡ Some i → i < length config.suites
+unfolding suite_named
+named_place config name i h = place_in (λ (s : Suite). bytes_eq s.codename name) config.suites i h
+
+pub late_fault : (book : Book) (from to source : List ℕ) (moment : ℕ) → latest < moment → copy_fault book from to source moment ≡ Some Moment
+unfolding copy_fault
+late_fault book from to source moment late = rw (lt-ltb latest moment late) refl
+
+in_time_fault : (book : Book) (from to source : List ℕ) (moment : ℕ) → moment ≤ latest
+    → copy_fault book from to source moment ≡ or_else (suites_fault (suite_named book.config from) (suite_named book.config to)) (source_fault book.shown (suite_named book.config from) source)
+unfolding copy_fault
+in_time_fault book from to source moment in_time = rw (le-ltb latest moment in_time) refl
+
+pub named_fault : (book : Book) (config : ConfigValue) (from to source : List ℕ) (moment : ℕ) (fault : Fault) → moment ≤ latest → config ≡ book.config
+    → suites_fault (suite_named config from) (suite_named config to) ≡ Some fault → copy_fault book from to source moment ≡ Some fault
+named_fault book config from to source moment fault in_time is_config is =
+    in_time_fault book from to source moment in_time
+    ∙ ap (λ (o : Option Fault). or_else o (source_fault book.shown (suite_named book.config from) source))
+    (subst (λ c. suites_fault (suite_named c from) (suite_named c to) ≡ Some fault) is_config is)
+
+-- where the suites are there it is told by whether the first shows something
+between : (book : Book) (config : ConfigValue) (shelves : ShelvesValue) (from to source : List ℕ) (moment f t : ℕ) (shows : Bool) → moment ≤ latest → config ≡ book.config → shelves ≡ book.shown
+    → AreSuites config from to f t → shows_source shelves f source ≡ shows → copy_fault book from to source moment ≡ (if shows then None else Some NothingToCopy)
+between book config shelves from to source moment f t shows in_time is_config is_shown suites is =
+    let here = subst (λ c. AreSuites c from to f t) is_config suites in
+    let told : shows_source book.shown f source ≡ shows = ap (λ s. shows_source s f source) (sym is_shown) ∙ is in
+    in_time_fault book from to source moment in_time ∙ rw (here.from_named, here.to_named, here.other, told) refl
+
+pub nothing_fault : (book : Book) (config : ConfigValue) (shelves : ShelvesValue) (from to source : List ℕ) (moment f t : ℕ) → moment ≤ latest → config ≡ book.config → shelves ≡ book.shown
+    → AreSuites config from to f t → shows_source shelves f source ≡ false → copy_fault book from to source moment ≡ Some NothingToCopy
+nothing_fault book config shelves from to source moment f t in_time is_config is_shown suites is = between book config shelves from to source moment f t false in_time is_config is_shown suites is
+
+pub no_fault : (book : Book) (config : ConfigValue) (shelves : ShelvesValue) (from to source : List ℕ) (moment f t : ℕ) → moment ≤ latest → config ≡ book.config → shelves ≡ book.shown
+    → AreSuites config from to f t → shows_source shelves f source ≡ true → copy_fault book from to source moment ≡ None
+no_fault book config shelves from to source moment f t in_time is_config is_shown suites is = between book config shelves from to source moment f t true in_time is_config is_shown suites is
+
+-- ---- refusals
+
+shows_in : (h : History) (from : ℕ) (source : List ℕ) → list_any (is_shown_of from source) (entries (shown_in (archive h))) ≡ shows_source (shown_by_print (archive h)) from source
+unfolding shows_source is_item_of
+shows_in h from source = sym (shown_of-printed (archive h) from source)
+
+module _ (may_fail : Bool) (h : History) (from to source : List ℕ) (moment : ℕ) (fault : Fault) where
+  told : (own : Fault) → Some own ≡ Some fault → IsAnswer may_fail h (Copying from to source moment) (Err own) → IsAnswer may_fail h (Copying from to source moment) (Err fault)
+  told own is allowed = subst (λ (f : Fault). IsAnswer may_fail h (Copying from to source moment) (Err f)) (same_Some own fault is) allowed
+
+  by_shows : (f t : ℕ) → nat_lt latest moment ≡ false → suite_named h.opening.config from ≡ Some f → suite_named h.opening.config to ≡ Some t → nat_eq f t ≡ false
+      → (b : Bool) → shows_source (shown_by_print (archive h)) f source ≡ b → (if b then None else Some NothingToCopy) ≡ Some fault → IsAnswer may_fail h (Copying from to source moment) (Err fault)
+  unfolding answer
+  by_shows f t in_time first second other true shows is = cc
+  by_shows f t in_time first second other false shows is =
+      let none = shows_in h f source ∙ shows in
+      told NothingToCopy is (rw (in_time, first, second, other, none) refl)
+
+  by_other : (f t : ℕ) → nat_lt latest moment ≡ false → suite_named h.opening.config from ≡ Some f → suite_named h.opening.config to ≡ Some t
+      → (b : Bool) → nat_eq f t ≡ b → or_else (if b then Some SameSuite else None) (if shows_source (shown_by_print (archive h)) f source then None else Some NothingToCopy) ≡ Some fault
+      → IsAnswer may_fail h (Copying from to source moment) (Err fault)
+  unfolding answer
+  by_other f t in_time first second true same is = told SameSuite is (rw (in_time, first, second, same) refl)
+  by_other f t in_time first second false other is = by_shows f t in_time first second other (shows_source (shown_by_print (archive h)) f source) refl is
+
+  by_suites : nat_lt latest moment ≡ false → (f t : Option ℕ) → suite_named h.opening.config from ≡ f → suite_named h.opening.config to ≡ t
+      → or_else (suites_fault f t) (source_fault (shown_by_print (archive h)) f source) ≡ Some fault → IsAnswer may_fail h (Copying from to source moment) (Err fault)
+  unfolding answer
+  by_suites in_time None t first second is = told UnknownSuite is (rw (in_time, first) refl)
+  by_suites in_time (Some f) None first second is = told UnknownSuite is (rw (in_time, first, second) refl)
+  by_suites in_time (Some f) (Some t) first second is = by_other f t in_time first second (nat_eq f t) refl is
+
+  by_late : (b : Bool) → nat_lt latest moment ≡ b
+      → (if b then Some Moment else or_else (suites_fault (suite_named h.opening.config from) (suite_named h.opening.config to)) (source_fault (shown_by_print (archive h)) (suite_named h.opening.config from) source)) ≡ Some fault
+      → IsAnswer may_fail h (Copying from to source moment) (Err fault)
+  unfolding answer
+  by_late true late is = told Moment is (rw late refl)
+  by_late false in_time is = by_suites in_time (suite_named h.opening.config from) (suite_named h.opening.config to) refl refl is
+
+  -- the fault is the answer
+  fault_answered : copy_fault (book_of h) from to source moment ≡ Some fault → IsAnswer may_fail h (Copying from to source moment) (Err fault)
+  unfolding copy_fault book_of book_from
+  fault_answered is = by_late (nat_lt latest moment) refl is
+
+  -- a copy that is refused for what the book has
+  pub refused_copy : (old new : Book) → Stands old h → new ≡ old → copy_fault old from to source moment ≡ Some fault → IsStep may_fail h (Copying from to source moment) (Err fault) new
+  refused_copy old new stands same is =
+      refused_step may_fail h (Copying from to source moment) fault old new stands same
+      (fault_answered (ap (λ b. copy_fault b from to source moment) (sym stands) ∙ is))
+
+stands_config : (old : Book) (h : History) → Stands old h → old.config ≡ h.opening.config
+unfolding book_of book_from
+stands_config old h stands = ap (λ (b : Book). b.config) stands
+
+-- a copy within its time between two suites is not refused by its arguments and the configuration
+pub free_copy : (h : History) (old : Book) (config : ConfigValue) (from to source : List ℕ) (moment f t : ℕ) → Stands old h → config ≡ old.config → moment ≤ latest → AreSuites config from to f t
+    → is_refused h (Copying from to source moment) ≡ false
+unfolding is_refused
+free_copy h old config from to source moment f t stands is_config in_time suites =
+    let here = subst (λ c. AreSuites c from to f t) (is_config ∙ stands_config old h stands) suites in
+    rw (le-ltb latest moment in_time, here.from_named, here.to_named) here.other
+
+-- ---- a copy that is done
+
+-- the change of a copy is sound
+pub sound_copy : (moment : ℕ) (old now : Book) (config : ConfigValue) (shelves : ShelvesValue) (f t : ℕ) (source : List ℕ) (plan : Plan) (made : List Step)
+    → moment ≤ latest → now ≡ old → shelves ≡ old.shown → made ≡ copy_step_of plan ∷ [] → IsCopy config shelves f t source plan → IsSound now (record { moment = moment; steps = made })
+sound_copy moment old now config shelves f t source plan made in_time same is_shown is_steps copy =
+    let after = plans.after_copy config shelves f t source in
+    subst (λ xs. IsSound now (record { moment = moment; steps = xs })) (sym is_steps)
+    (record {
+      moment = in_time;
+      plans = ((after, subst (λ s. plans.IsStep s after plan) (is_shown ∙ ap (λ (b : Book). b.shown) (sym same)) copy.step), tt);
+      judged = refl;
+    })
+
+copy_on : (old : Book) (config : ConfigValue) (shelves : ShelvesValue) (f t : ℕ) (source : List ℕ) (plan : Plan) → config ≡ old.config → shelves ≡ old.shown → IsCopy config shelves f t source plan
+    → IsCopy old.config old.shown f t source plan
+copy_on old config shelves f t source plan is_config is_shown copy =
+    subst (λ c. IsCopy c old.shown f t source plan) is_config (subst (λ s. IsCopy config s f t source plan) is_shown copy)
+
+-- A copy that is done, where what the keeper says holds for all bodies without collision.
+pub done_copy : (may_fail : Bool) (h : History) (from to source : List ℕ) (moment f t : ℕ) (old now new : Book) (config : ConfigValue) (shelves : ShelvesValue) (plan : Plan) (made : List Step) (items : ℕ)
+    → Stands old h → IsFaithful h (Copying from to source moment ∷ []) → moment ≤ latest → now ≡ old → shelves ≡ old.shown → made ≡ copy_step_of plan ∷ []
+    → AreSuites old.config from to f t → config ≡ now.config → IsCopy config shelves f t source plan
+    → ((bodies : List (List ℕ)) → NoCollision bodies → HasBodies bodies now → new ≡ amended now (record { moment = moment; steps = made }))
+    → items ≡ length plan.put
+    → IsStep may_fail h (Copying from to source moment) (Ok (Count items)) new
+unfolding shows_source is_item_of
+done_copy may_fail h from to source moment f t old now new config shelves plan made items stands faithful in_time same is_shown is_steps suites is_config copied is count =
+    let bodies = [] ∷ faithful.bodies in
+    let apart = apart_with_empty faithful.bodies faithful.apart in
+    let have : HasBodies bodies old = subst (HasBodies bodies) (sym stands) (known h (Copying from to source moment ∷ []) faithful) in
+    let copy = copy_on old config shelves f t source plan (is_config ∙ ap (λ (b : Book). b.config) same) is_shown copied in
+    let is_new : new ≡ amended old (record { moment = moment; steps = copy_step_of plan ∷ [] }) =
+    is bodies apart (subst (HasBodies bodies) (sym same) have)
+    ∙ ap (λ b. amended b (record { moment = moment; steps = made })) same
+    ∙ ap (λ xs. amended old (record { moment = moment; steps = xs })) is_steps in
+    subst (λ n. IsStep may_fail h (Copying from to source moment) (Ok (Count n)) new) (sym count)
+    (copy_step may_fail h from to source moment f t old new plan stands faithful (le-ltb latest moment in_time) copy.sound suites.from_named suites.to_named suites.other copy.shows copy.step is_new)

@@ -1,0 +1,66 @@
+-- What the steps of judged uploads are: sound, signed as the uploads, and the way to the shelves after them.
+use Rattle.std.proofs.Common.{◌≡◌, ℕ, suc, ◌≤◌, List, [], ◌∷◌, ◌++◌, map, take, length, Option, Some, None, refl, sym, ap, subst, ◌∙◌}
+use Rattle.std.specs.Prelude.{⊤}
+use Rattle.std.specs.List.{fold, filter_map, cons_option}
+use Rattle.rules.specs.Values.{ConfigValue}
+use Rattle.suites.specs.Plan.{IsStep, after_upload, applied}
+use Rattle.suites.specs.Shelves.{ShelvesValue}
+use Rattle.suites.specs.Upload.{UploadValue}
+use Rattle.sums.specs.declared.print.Print.{Print}
+use Rattle.keep.specs.Book.{Book, Candidate, due, judgements, latest, shown_past}
+use Rattle.keep.specs.Keeping.{AreSteps, IsSound, sign_of, sign_on}
+use Rattle.keep.specs.declared.change.Change.{Change}
+use Rattle.keep.specs.declared.change.Judgement.{Judgement}
+use Rattle.keep.specs.declared.change.Step.{Step}
+use Rattle.queue.specs.Judging.{AreJudged, IsJudged, after_uploads, judgement_on}
+
+-- one more upload, judged on what the others leave
+pub judged-push : (config : ConfigValue) (shelves : ShelvesValue) (us : List UploadValue) (steps : List Step) (u : UploadValue) (step : Step)
+    → AreJudged config shelves us steps → IsJudged config (after_uploads config shelves us) u step → AreJudged config shelves (us ++ u ∷ []) (steps ++ step ∷ [])
+judged-push config shelves [] [] u step are is = (is, tt)
+judged-push config shelves [] (s ∷ ss) u step are is = absurd are
+judged-push config shelves (v ∷ vs) [] u step are is = absurd are
+judged-push config shelves (v ∷ vs) (s ∷ ss) u step are is = (are.0, judged-push config (after_upload config shelves v) vs ss u step are.1 is)
+
+-- the name and the print of an upload
+abbrev pub sign_in : UploadValue → List ℕ × Print
+sign_in u = (u.name, u.print)
+
+-- the judgements of the steps, where the first is that of an upload
+first_judged : (step : Step) (steps : List Step) (j : Judgement) → step.judgement ≡ Some j → judgements (step ∷ steps) ≡ j ∷ judgements steps
+first_judged step steps j is = ap (λ o. cons_option o (judgements steps)) is
+
+pub steps_are : (config : ConfigValue) (shelves : ShelvesValue) (us : List UploadValue) (steps : List Step) → AreJudged config shelves us steps → AreSteps shelves steps
+steps_are config shelves [] [] are = tt
+steps_are config shelves [] (s ∷ ss) are = absurd are
+steps_are config shelves (u ∷ us) [] are = absurd are
+steps_are config shelves (u ∷ us) (s ∷ ss) are =
+    ((after_upload config shelves u, are.0.plan), subst (λ now. AreSteps now ss) are.0.plan.items.made (steps_are config (after_upload config shelves u) us ss are.1))
+
+pub signs_are : (config : ConfigValue) (shelves : ShelvesValue) (us : List UploadValue) (steps : List Step) → AreJudged config shelves us steps → map sign_on (judgements steps) ≡ map sign_in us
+signs_are config shelves [] [] are = refl
+signs_are config shelves [] (s ∷ ss) are = absurd are
+signs_are config shelves (u ∷ us) [] are = absurd are
+signs_are config shelves (u ∷ us) (s ∷ ss) are =
+    ap (map sign_on) (first_judged s ss (judgement_on config shelves u) are.0.judgement)
+    ∙ ap (λ rest. sign_in u ∷ rest) (signs_are config (after_upload config shelves u) us ss are.1)
+
+map_length : {X Y : Type 0} (f : X → Y) (xs : List X) → length (map f xs) ≡ length xs
+map_length f [] = refl
+map_length f (x ∷ xs) = ap suc (map_length f xs)
+
+take_all : {X : Type 0} (xs : List X) → take (length xs) xs ≡ xs
+take_all [] = refl
+take_all (x ∷ xs) = ap (λ rest. x ∷ rest) (take_all xs)
+
+-- a change of all uploads that are due is sound
+pub is_sound : (book : Book) (moment : ℕ) (us : List UploadValue) (steps : List Step) → moment ≤ latest → AreJudged book.config book.shown us steps
+    → map sign_in us ≡ map sign_of (due book) → IsSound book (record { moment = moment; steps = steps })
+is_sound book moment us steps in_time are signs =
+    let all : map sign_on (judgements steps) ≡ map sign_of (due book) = signs_are book.config book.shown us steps are ∙ signs in
+    let count : length (judgements steps) ≡ length (due book) = sym (map_length sign_on (judgements steps)) ∙ ap length all ∙ map_length sign_of (due book) in
+    record {
+      moment = in_time;
+      plans = steps_are book.config book.shown us steps are;
+      judged = all ∙ ap (map sign_of) (sym (ap (λ n. take n (due book)) count ∙ take_all (due book)));
+    }

@@ -1,0 +1,223 @@
+-- The answers of single calls.
+use Rattle.std.specs.Prelude.{◌≡◌, ℕ, ◌≤◌, ◌<◌, List, [], ◌∷◌, ◌++◌, map, Option, Some, None, is_some, Result, Ok, Err, not, Bool, true, false, IsTrue, ⊤, ◌⊎◌, Contains, nat_lt, decimal, codes, length, if◌then◌else◌, refl}
+use Rattle.std.specs.Option.{option_or}
+use Rattle.std.proofs.Common.{ap, sym, subst, ◌∙◌, inl, inr, arith}
+use Rattle.std.proofs.lemmas.Simd.{map-map}
+use Rattle.std.proofs.lemmas.List.{map-append}
+use Rattle.std.proofs.lemmas.Bool.{lt-ltb, le-ltb, ltb-false}
+use Rattle.std.proofs.lemmas.Grind.{flat_map-append}
+use Rattle.std.proofs.lemmas.List.Elements.{Contains-append_right}
+use Rattle.sums.specs.Lines.{is_file_name}
+use Rattle.records.specs.Records.{changes_in}
+use Rattle.records.specs.Values.{ChangesValue}
+use Rattle.records.specs.declared.fault.RecordFault.{RecordFault}
+use Rattle.keep.specs.Book.{Book, Candidate, has_arrival, is_changes_name, latest, missing, text_at, unjudged, waiting_list, with_delivery}
+use Rattle.keep.specs.Keeping.{HasBodies, IsDeliverable, MayAnswer, NoCollision}
+use Rattle.keep.specs.declared.arrival.Arrival.{Arrival}
+use Rattle.keep.specs.declared.change.Judgement.{Judgement}
+use Rattle.keep.specs.declared.change.Waiting.{Waiting}
+use Rattle.keep.specs.declared.fault.KeepFault.{KeepFault}
+use Rattle.keep.specs.declared.fault.KeepFault.TheVariants as keep_faults
+use Rattle.queue.specs.Answers.{IsAnswer, IsFaithful, IsStep, answer, delivery_answer, found_at, is_refused, line_on_waiting, report_line, unless_late, waiting_line}
+use Rattle.queue.specs.Archives.{Stands, archive, book_of, book_from}
+use Rattle.queue.specs.Deliveries.{delivery_fault, fault_of_read, most_bytes, or_else, record_fault}
+use Rattle.queue.specs.Fault.{of_keeper}
+use Rattle.queue.specs.Histories.{Call, Delivery, QueueRun, Copying, Lookup, WaitingList, VerdictList, Reply, Stored, Lines, Found, Step, History, arrived, bodies_of, bodies_of_call, calls_of, followed, waiting_after}
+use Rattle.queue.specs.declared.fault.Fault.{Fault}
+use Rattle.queue.specs.declared.fault.Fault.TheVariants.{OutOfMemory, BadName, TooLarge, Record, Keeper, Moment, UnknownSuite, SameSuite, NothingToCopy}
+use Rattle.queue.proofs.Judged.{unjudged_faithful}
+use Rattle.queue.proofs.Known.{known, apart_with_empty}
+use Rattle.queue.proofs.Lists.{contains_later}
+use Rattle.queue.proofs.Steps.{book_of-refused, book_of-delivered, book_of-looked_up, book_of-waited, book_of-listed}
+
+-- ---- refusals
+
+-- a call that is refused leaves the book of the history
+pub refused_step : (may_fail : Bool) (h : History) (call : Call) (fault : Fault) (old new : Book) → Stands old h → new ≡ old → IsAnswer may_fail h call (Err fault) → IsStep may_fail h call (Err fault) new
+refused_step may_fail h call fault old new stands same allowed =
+    record { answered = allowed; stands = same ∙ stands ∙ sym (book_of-refused h call fault) }
+
+allowed : (may_fail : Bool) (h : History) (call : Call) (fault : KeepFault) → MayAnswer may_fail fault → is_refused h call ≡ false → IsAnswer may_fail h call (Err (of_keeper fault))
+allowed may_fail h call keep_faults.OutOfMemory may free = tt
+allowed may_fail h call keep_faults.Disk may free = (may, tt, free)
+allowed may_fail h call keep_faults.Size may free = (may, tt, free)
+allowed may_fail h call keep_faults.Tables may free = absurd may
+
+-- where a keeper refuses, the archive's fault may stand in the answer's place
+pub keeper_step : (may_fail : Bool) (h : History) (call : Call) (fault : KeepFault) (told : Fault) (old new : Book) → told ≡ of_keeper fault → Stands old h → new ≡ old → MayAnswer may_fail fault → is_refused h call ≡ false → IsStep may_fail h call (Err told) new
+keeper_step may_fail h call fault told old new is stands same may free =
+    refused_step may_fail h call told old new stands same (subst (λ (f : Fault). IsAnswer may_fail h call (Err f)) (sym is) (allowed may_fail h call fault may free))
+
+-- want of memory may always be answered
+pub memory_step : (may_fail : Bool) (h : History) (call : Call) (told : Fault) (old new : Book) → told ≡ OutOfMemory → Stands old h → new ≡ old → IsStep may_fail h call (Err told) new
+memory_step may_fail h call told old new is stands same =
+    refused_step may_fail h call told old new stands same (subst (λ (f : Fault). IsAnswer may_fail h call (Err f)) (sym is) tt)
+
+-- a fault that is the answer, whichever it is
+answered_fault : (may_fail : Bool) (h : History) (call : Call) (fault : Fault) → answer h call ≡ Err fault → ((own : KeepFault) → fault ≡ Keeper own → ⊥) → IsAnswer may_fail h call (Err fault)
+answered_fault may_fail h call OutOfMemory is none = tt
+answered_fault may_fail h call BadName is none = sym is
+answered_fault may_fail h call TooLarge is none = sym is
+answered_fault may_fail h call (Record own) is none = sym is
+answered_fault may_fail h call (Keeper own) is none = absurd (none own refl)
+answered_fault may_fail h call Moment is none = sym is
+answered_fault may_fail h call UnknownSuite is none = sym is
+answered_fault may_fail h call SameSuite is none = sym is
+answered_fault may_fail h call NothingToCopy is none = sym is
+
+-- ---- deliveries
+
+-- no delivery is refused by its name, body and moment with a fault of the keeper
+faults_apart : (own : KeepFault) (named large late : Bool) (read : Option Fault) → (read ≡ Some (Keeper own) → ⊥)
+    → (if not named then Some BadName else (if large then Some TooLarge else or_else read (if late then Some Moment else None))) ≡ Some (Keeper own) → ⊥
+faults_apart own false large late read apart is = absurd (cc)
+faults_apart own true true late read apart is = absurd (cc)
+faults_apart own true false late (Some fault) apart is = apart is
+faults_apart own true false true None apart is = absurd (cc)
+faults_apart own true false false None apart is = absurd (cc)
+
+record_apart : (own : KeepFault) (named : Bool) (read : Result ChangesValue RecordFault) → (if named then fault_of_read read else None) ≡ Some (Keeper own) → ⊥
+record_apart own true (Ok changes) is = absurd (cc)
+record_apart own true (Err fault) is = absurd (cc)
+record_apart own false read is = absurd (cc)
+
+delivery_apart : (name body : List ℕ) (moment : ℕ) (own : KeepFault) → delivery_fault name body moment ≡ Some (Keeper own) → ⊥
+unfolding delivery_fault record_fault
+delivery_apart name body moment own is =
+    faults_apart own (is_file_name name) (nat_lt most_bytes (length body)) (nat_lt latest moment) (record_fault name body) (record_apart own (is_changes_name name) (changes_in body)) is
+
+-- the fault of a delivery is the answer
+pub refused_delivery : (may_fail : Bool) (h : History) (name body : List ℕ) (moment : ℕ) (fault : Fault) → (fault ≡ OutOfMemory) ⊎ (delivery_fault name body moment ≡ Some fault)
+    → IsAnswer may_fail h (Delivery name body moment) (Err fault)
+unfolding answer
+refused_delivery may_fail h name body moment fault (inl is) = subst (λ (f : Fault). IsAnswer may_fail h (Delivery name body moment) (Err f)) (sym is) tt
+refused_delivery may_fail h name body moment fault (inr is) =
+    answered_fault may_fail h (Delivery name body moment) fault
+    (ap (λ f. delivery_answer f (not (has_arrival (arrived h.opening h.steps) (record { name = name; body = body; moment = moment })))) is)
+    (λ own own_is. delivery_apart name body moment own (is ∙ ap (λ (f : Fault). Some f) own_is))
+
+-- a delivery without a fault is not refused
+pub free_delivery : (h : History) (name body : List ℕ) (moment : ℕ) → delivery_fault name body moment ≡ None → is_refused h (Delivery name body moment) ≡ false
+unfolding is_refused
+free_delivery h name body moment none = ap (λ (f : Option Fault). is_some f) none
+
+none_of : (named large late : Bool) (read : Option Fault)
+    → (if not named then Some BadName else (if large then Some TooLarge else or_else read (if late then Some Moment else None))) ≡ None
+    → (named ≡ true) × (large ≡ false) × (read ≡ None)
+none_of false large late read is = absurd (cc)
+none_of true true late read is = absurd (cc)
+none_of true false late (Some fault) is = absurd (cc)
+none_of true false late None is = (refl, refl, refl)
+
+read_of : (named : Bool) (read : Result ChangesValue RecordFault) → (if named then fault_of_read read else None) ≡ None → named ≡ true → (c : ChangesValue) × read ≡ Ok c
+read_of true (Ok changes) is named = (changes, refl)
+read_of true (Err fault) is named = absurd (cc)
+read_of false read is named = absurd (cc)
+
+-- and may be kept
+pub deliverable : (name body : List ℕ) (moment : ℕ) → delivery_fault name body moment ≡ None → IsDeliverable name body
+unfolding delivery_fault record_fault
+deliverable name body moment none =
+    let parts = none_of (is_file_name name) (nat_lt most_bytes (length body)) (nat_lt latest moment) (record_fault name body) none in
+    record {
+      file_name = parts.0;
+      small = ltb-false most_bytes (length body) parts.1;
+      a_record = read_of (is_changes_name name) (changes_in body) parts.2;
+    }
+
+delivered_last : (h : History) (name body : List ℕ) (moment : ℕ) → Contains (bodies_of (calls_of h.steps ++ Delivery name body moment ∷ [])) body
+unfolding bodies_of_call
+delivered_last h name body moment =
+    subst (λ bodies. Contains bodies body) (sym (flat_map-append bodies_of_call (calls_of h.steps) (Delivery name body moment ∷ [])))
+    (Contains-append_right (bodies_of (calls_of h.steps)) (body ∷ []) body (0, omega arith, refl))
+
+-- a delivery that is done, where what the keeper says holds for all bodies without collision
+pub delivered_step : (may_fail : Bool) (h : History) (name body : List ℕ) (moment : ℕ) (old new : Book) (fresh : Bool)
+    → Stands old h → IsFaithful h (Delivery name body moment ∷ []) → delivery_fault name body moment ≡ None
+    → ((bodies : List (List ℕ)) → NoCollision bodies → HasBodies bodies old → Contains bodies body → fresh ≡ not (has_arrival old.arrivals (record { name = name; body = body; moment = moment })))
+    → ((bodies : List (List ℕ)) → NoCollision bodies → HasBodies bodies old → Contains bodies body → new ≡ with_delivery old (record { name = name; body = body; moment = moment }))
+    → IsStep may_fail h (Delivery name body moment) (Ok (Stored fresh)) new
+unfolding answer book_of book_from
+delivered_step may_fail h name body moment old new fresh stands faithful none told is =
+    let a : Arrival = record { name = name; body = body; moment = moment } in
+    let bodies = [] ∷ faithful.bodies in
+    let apart = apart_with_empty faithful.bodies faithful.apart in
+    let have : HasBodies bodies old = subst (HasBodies bodies) (sym stands) (known h (Delivery name body moment ∷ []) faithful) in
+    let there : Contains bodies body = contains_later [] faithful.bodies body (faithful.delivered body (delivered_last h name body moment)) in
+    record {
+      answered = sym (ap (λ f. delivery_answer f (not (has_arrival (arrived h.opening h.steps) a))) none
+          ∙ ap (λ b. Ok (Stored b)) (sym (told bodies apart have there ∙ ap (λ (b : Book). not (has_arrival b.arrivals a)) stands)));
+      stands = is bodies apart have there ∙ ap (λ b. with_delivery b a) stands ∙ sym (book_of-delivered h name body moment (Stored fresh));
+    }
+
+-- ---- look-ups
+
+pub free_lookup : (h : History) (path : List ℕ) → is_refused h (Lookup path) ≡ false
+unfolding is_refused
+free_lookup h path = refl
+
+-- a look-up that is done
+pub found_step : (may_fail : Bool) (h : History) (path : List ℕ) (old new : Book) (file : Option (List ℕ)) → Stands old h → file ≡ option_or (old.files path) (text_at old path) → new ≡ old
+    → IsStep may_fail h (Lookup path) (Ok (Found file)) new
+unfolding answer found_at book_of book_from
+found_step may_fail h path old new file stands told same =
+    record {
+      answered = ap (λ f. Ok (Found f)) (told ∙ ap (λ b. option_or (b.files path) (text_at b path)) stands);
+      stands = same ∙ stands ∙ sym (book_of-looked_up h path (Ok (Found file)));
+    }
+
+-- ---- lists
+
+pub late_waiting : (may_fail : Bool) (h : History) (moment : ℕ) → latest < moment → IsAnswer may_fail h (WaitingList moment) (Err Moment)
+unfolding answer
+late_waiting may_fail h moment late = rw (lt-ltb latest moment late) refl
+
+pub free_waiting : (h : History) (moment : ℕ) → moment ≤ latest → is_refused h (WaitingList moment) ≡ false
+unfolding is_refused
+free_waiting h moment in_time = le-ltb latest moment in_time
+
+waiting_lines : (book : Book) → map line_on_waiting (waiting_list book) ≡ map (waiting_line book.arrivals) (unjudged book)
+unfolding waiting_list waiting_line
+waiting_lines book = map-map _ _ (unjudged book)
+
+-- the waiting uploads, where what the keeper says holds for all bodies without collision
+pub waiting_step : (may_fail : Bool) (h : History) (moment : ℕ) (old new : Book) (waiting : List Waiting) (lines : List (List ℕ))
+    → Stands old h → IsFaithful h (WaitingList moment ∷ []) → moment ≤ latest
+    → ((bodies : List (List ℕ)) → NoCollision bodies → HasBodies bodies old → waiting ≡ waiting_list old)
+    → lines ≡ map line_on_waiting waiting → new ≡ old
+    → IsStep may_fail h (WaitingList moment) (Ok (Lines lines)) new
+unfolding answer book_of book_from
+waiting_step may_fail h moment old new waiting lines stands faithful in_time told are same =
+    let calls = WaitingList moment ∷ [] in
+    let bodies = [] ∷ faithful.bodies in
+    let have : HasBodies bodies old = subst (HasBodies bodies) (sym stands) (known h calls faithful) in
+    let told_lines : lines ≡ map (waiting_line (arrived h.opening h.steps)) (waiting_after h.opening h.steps) =
+    are ∙ ap (map line_on_waiting) (told bodies (apart_with_empty faithful.bodies faithful.apart) have ∙ ap waiting_list stands)
+    ∙ waiting_lines (book_of h) ∙ ap (map (waiting_line (arrived h.opening h.steps))) (unjudged_faithful h calls faithful) in
+    record {
+      answered = ap (λ ls. Ok (Lines ls)) told_lines ∙ sym (ap (λ b. if b then Err Moment else Ok (Lines (map (waiting_line (arrived h.opening h.steps)) (waiting_after h.opening h.steps)))) (le-ltb latest moment in_time));
+      stands = same ∙ stands ∙ sym (book_of-waited h moment (Ok (Lines lines)));
+    }
+
+pub free_verdicts : (h : History) → is_refused h VerdictList ≡ false
+unfolding is_refused
+free_verdicts h = refl
+
+pub verdicts_step : (may_fail : Bool) (h : History) (old new : Book) (judged : List Judgement) (lines : List (List ℕ))
+    → Stands old h → judged ≡ old.judged → lines ≡ map report_line judged → new ≡ old → IsStep may_fail h VerdictList (Ok (Lines lines)) new
+unfolding answer book_of book_from
+verdicts_step may_fail h old new judged lines stands told are same =
+    record {
+      answered = ap (λ ls. Ok (Lines ls)) (are ∙ ap (map report_line) (told ∙ ap (λ (b : Book). b.judged) stands));
+      stands = same ∙ stands ∙ sym (book_of-listed h (Ok (Lines lines)));
+    }
+
+-- ---- runs
+
+pub late_run : (may_fail : Bool) (h : History) (moment : ℕ) → latest < moment → IsAnswer may_fail h (QueueRun moment) (Err Moment)
+unfolding answer
+late_run may_fail h moment late = rw (lt-ltb latest moment late) refl
+
+pub free_run : (h : History) (moment : ℕ) → moment ≤ latest → is_refused h (QueueRun moment) ≡ false
+unfolding is_refused
+free_run h moment in_time = le-ltb latest moment in_time

@@ -1,0 +1,79 @@
+-- What definitions see of commands and of what they answer.
+use Rattle.std.specs.Prelude.{ℕ, Bool, true, false, List, map, Option, Result, Ok, Err, string_bytes}
+use Rattle.std.specs.Option.{option_map}
+use Rattle.std.specs.declared.vec.Vec.{Vec}
+use Rattle.std.specs.declared.alloc.Global.{Global}
+use Rattle.queue.specs.Histories.{Call, Delivery, QueueRun, Copying, Lookup, WaitingList, VerdictList, Reply, Stored, Lines, Count, Found}
+use Rattle.queue.specs.declared.fault.Fault.{Fault}
+use Rattle.queue.specs.declared.command.Arrived.{Arrived}
+use Rattle.queue.specs.declared.command.Arrived.TheVariants.{New, Again}
+use Rattle.queue.specs.declared.command.Report.{Report}
+use Rattle.queue.specs.declared.command.Command.{Command}
+use Rattle.queue.specs.declared.command.Command.TheVariants as command
+use Rattle.queue.specs.declared.command.Outcome.{Outcome}
+use Rattle.queue.specs.declared.command.Outcome.TheVariants as outcome
+
+abbrev pub is_new : Arrived → Bool
+is_new New = true
+is_new Again = false
+
+abbrev pub lines_of : Report → List (List ℕ)
+lines_of report = map string_bytes report.lines.items
+
+-- what a call answered, without where it lies in memory
+abbrev pub stored : Result Arrived Fault → Result Reply Fault
+stored (Ok arrived) = Ok (Stored (is_new arrived))
+stored (Err fault) = Err fault
+
+abbrev pub reported : Result Report Fault → Result Reply Fault
+reported (Ok report) = Ok (Lines (lines_of report))
+reported (Err fault) = Err fault
+
+abbrev pub counted : Result ℕ Fault → Result Reply Fault
+counted (Ok items) = Ok (Count items)
+counted (Err fault) = Err fault
+
+abbrev pub found : Result (Option (Vec ℕ Global)) Fault → Result Reply Fault
+found (Ok file) = Ok (Found (option_map (λ body. body.items) file))
+found (Err fault) = Err fault
+
+abbrev pub call_of : Command → Call
+call_of (command.Deliver name body moment) = Delivery (string_bytes name) body.items moment
+call_of (command.Run moment) = QueueRun moment
+call_of (command.Copy from to source moment) = Copying (string_bytes from) (string_bytes to) (string_bytes source) moment
+call_of (command.Fetch path) = Lookup (string_bytes path)
+call_of (command.Waiting moment) = WaitingList moment
+call_of command.Verdicts = VerdictList
+
+abbrev pub outcome_of : Outcome → Result Reply Fault
+outcome_of (outcome.Deliver result) = stored result
+outcome_of (outcome.Run result) = reported result
+outcome_of (outcome.Copy result) = counted result
+outcome_of (outcome.Fetch result) = found result
+outcome_of (outcome.Waiting result) = reported result
+outcome_of (outcome.Verdicts result) = reported result
+
+-- which call it is
+pub data Kind : Type 0 where
+  Delivering : Kind
+  Running : Kind
+  CopyingSource : Kind
+  Fetching : Kind
+  ListingWaiting : Kind
+  ListingVerdicts : Kind
+
+abbrev pub kind_of_command : Command → Kind
+kind_of_command (command.Deliver name body moment) = Delivering
+kind_of_command (command.Run moment) = Running
+kind_of_command (command.Copy from to source moment) = CopyingSource
+kind_of_command (command.Fetch path) = Fetching
+kind_of_command (command.Waiting moment) = ListingWaiting
+kind_of_command command.Verdicts = ListingVerdicts
+
+abbrev pub kind_of_outcome : Outcome → Kind
+kind_of_outcome (outcome.Deliver result) = Delivering
+kind_of_outcome (outcome.Run result) = Running
+kind_of_outcome (outcome.Copy result) = CopyingSource
+kind_of_outcome (outcome.Fetch result) = Fetching
+kind_of_outcome (outcome.Waiting result) = ListingWaiting
+kind_of_outcome (outcome.Verdicts result) = ListingVerdicts

@@ -1,0 +1,104 @@
+//! Copies of the items of a source package from suite to suite.
+
+ghost use Rattle.std.specs.Prelude.{◌≡◌, ◌⊎◌, ◌∷◌, ◌<◌, [], false, Some, None, bytes_eq, IfOk, IfErr, length};
+ghost use Rattle.queue.specs.Archives.{suite_named};
+ghost use Rattle.queue.specs.Copies.{is_item_of, shows_source, suites_fault, AreSuites, IsCopy};
+
+use crate::fault::Fault;
+use keep::Step;
+use para::Listed;
+use rules::{Config, Suite};
+use std::alloc::{AllocError, Global};
+use suites::{Item, Plan, ShelfKey, Shelves, plan_copy};
+
+/// Whether the suite has the codename.
+fn has_codename(suite: &Suite, codename: &str) -> bool
+    ensures { result ≡ bytes_eq suite.now.codename codename.now }
+{
+    suite.codename.as_str() == codename
+}
+
+/// The position of the suite with a codename.
+#[tactic(auto, unfolding(crate::specs::Archives::suite_named))]
+fn suite_named(config: &Config, codename: &str) -> Option<usize>
+    ensures { result ≡ suite_named config.now codename.now }
+{
+    config
+        .suites()
+        .iter()
+        .position(|suite| has_codename(suite, codename))
+}
+
+/// The positions of two suites, by their codenames. Refused where there is no such suite, and where they are the same.
+pub fn two_suites(config: &Config, from: &str, to: &str) -> Result<(usize, usize), Fault>
+    ensures suites { IfOk result (λ places. AreSuites config.now from.now to.now places.0 places.1) }
+    ensures refused { IfErr result (λ e. suites_fault (suite_named config.now from.now) (suite_named config.now to.now) ≡ Some e) }
+{
+    let Some(from) = suite_named(config, from) else {
+        return Err(Fault::UnknownSuite);
+    };
+    let Some(to) = suite_named(config, to) else {
+        return Err(Fault::UnknownSuite);
+    };
+    if from == to {
+        return Err(Fault::SameSuite);
+    }
+    Ok((from, to))
+}
+
+/// Whether the item on the shelf is one of the suite and of the source package.
+#[tactic(auto, unfolding(crate::specs::Copies::is_item_of))]
+fn is_item_of(suite: usize, source: &str, key: &ShelfKey, item: &Item) -> bool
+    ensures { result ≡ is_item_of suite source.now (key.now, item.now) }
+{
+    if key.suite != suite {
+        return false;
+    }
+    item.source.as_str() == source
+}
+
+/// Whether a suite shows an item of the source package.
+fn shows_source(shelves: &Shelves, suite: usize, source: &str) -> bool
+    ensures { result ≡ shows_source shelves.now suite source.now }
+{
+    for (key, item) in shelves.items() {
+        if is_item_of(suite, source, key, item) {
+            return true;
+        }
+    }
+    false
+}
+
+/// The plan of a copy of the items of a source package between two suites, by their positions. Refused where the first
+/// shows none.
+pub fn copy_plan(
+    alloc: Global,
+    config: &Config,
+    shelves: &Shelves,
+    from: usize,
+    to: usize,
+    source: &str,
+) -> Result<Plan, Fault>
+    requires from { from < length config.now.suites }
+    requires to { to < length config.now.suites }
+    ensures plan { IfOk result (IsCopy config.now shelves.now from to source.now) }
+    ensures refused { IfErr result (λ e. (e ≡ Fault.OutOfMemory) ⊎ ((e ≡ Fault.NothingToCopy) × (shows_source shelves.now from source.now ≡ false))) }
+{
+    shelves.agree();
+    if !shows_source(shelves, from, source) {
+        return Err(Fault::NothingToCopy);
+    }
+    Ok(plan_copy(alloc, config, shelves, from, to, source)?)
+}
+
+/// A plan as the only step of a change, without a judgement.
+pub fn only_step(alloc: Global, plan: Plan) -> Result<Listed<Step>, AllocError>
+    ensures { IfOk result (λ steps. steps ≡ record { judgement = None; plan = plan } ∷ []) }
+{
+    let mut steps = Vec::new(alloc);
+    steps.push(Step {
+        judgement: None,
+        plan,
+    })?;
+    Ok(Listed::from_vec(steps))
+}
