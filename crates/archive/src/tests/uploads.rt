@@ -275,3 +275,74 @@ pub const CLASH: [File; 3] = [
         body: b"Package: hello\nVersion: 1.0-1\nArchitecture: amd64\nMaintainer: Ann <ann@example.org>\nDescription: greets\n",
     },
 ];
+/// The source hello 1.0-1 and its package, for box.
+pub const HELLO_WITH_SOURCE: [File; 5] = [
+    File {
+        name: "hello_1.0-1_source.changes",
+        body: b"Format: 1.8\nDate: Sat, 02 Jul 2016 05:00:00 +0000\nSource: hello\nVersion: 1.0-1\nArchitecture: source amd64\nDistribution: box\nMaintainer: Ann <ann@example.org>\nChanges:\n hello (1.0-1) box; urgency=low\nChecksums-Sha1:\n 9e041ed30c9e302567fc3c6a949c4d29b6502197 332 hello_1.0-1.dsc\n 9d7d8abbf6c3546d87f51788b3048486bddc7166 17 hello_1.0.orig.tar\n 87b0642e3acc147ddedc2808ffaf51cb8eac5b1d 12 hello_1.0-1_amd64.deb\n baa4e058fbc3cff6d3779abd4dd824488291bd98 104 hello_1.0-1_amd64.control\nChecksums-Sha256:\n 5da2535f093b93517e743cada1090f09103fc1ba41d003fc56cb71ddf8147df9 332 hello_1.0-1.dsc\n 6c724da611154c27e22524c941b5d5fc7e61db0d0b5a07c44b159cb16a160211 17 hello_1.0.orig.tar\n c6be7e90f3c84997ee09759a7ee1515337141d1c13ce1f0354f6ae9b353ff55f 12 hello_1.0-1_amd64.deb\n 577afbfebf762b1e54ff30186e0476751c272a4cc8d9aa441b59eb118ad06b85 104 hello_1.0-1_amd64.control\nFiles:\n 67a963e35e64bc8f05acf0138981581d 332 utils optional hello_1.0-1.dsc\n 4b1bcf4e2033497d64a87272fd6335db 17 utils optional hello_1.0.orig.tar\n 5cecea92aa1f26d804ad706d4eaf1c09 12 utils optional hello_1.0-1_amd64.deb\n 4ee3c5e6649092348b7f34d1cb6296c0 104 utils optional hello_1.0-1_amd64.control\n",
+    },
+    File {
+        name: "hello_1.0-1.dsc",
+        body: b"Format: 3.0 (quilt)\nSource: hello\nVersion: 1.0-1\nMaintainer: Ann <ann@example.org>\nChecksums-Sha1:\n 9d7d8abbf6c3546d87f51788b3048486bddc7166 17 hello_1.0.orig.tar\nChecksums-Sha256:\n 6c724da611154c27e22524c941b5d5fc7e61db0d0b5a07c44b159cb16a160211 17 hello_1.0.orig.tar\nFiles:\n 4b1bcf4e2033497d64a87272fd6335db 17 hello_1.0.orig.tar\n",
+    },
+    File {
+        name: "hello_1.0.orig.tar",
+        body: b"hello source 1.0\n",
+    },
+    File {
+        name: "hello_1.0-1_amd64.deb",
+        body: b"hello 1.0-1\n",
+    },
+    File {
+        name: "hello_1.0-1_amd64.control",
+        body: b"Package: hello\nVersion: 1.0-1\nArchitecture: amd64\nMaintainer: Ann <ann@example.org>\nDescription: greets\n",
+    },
+];
+
+/// The index of a suite that shows the package hello 1.0-1 of that source.
+pub const COPIED_PACKAGES: &[u8] =
+    b"Package: hello\nVersion: 1.0-1\nArchitecture: amd64\nMaintainer: Ann <ann@example.org>\nDescription: greets\nFilename: pool/main/h/hello/hello_1.0-1_amd64.deb\nSize: 12\nMD5sum: 5cecea92aa1f26d804ad706d4eaf1c09\nSHA1: 87b0642e3acc147ddedc2808ffaf51cb8eac5b1d\nSHA256: c6be7e90f3c84997ee09759a7ee1515337141d1c13ce1f0354f6ae9b353ff55f\n\n";
+
+/// The source hello 0.9-1 and its package, for box.
+pub const OLDER_HELLO: [File; 5] = [
+    File {
+        name: "hello_0.9-1_source.changes",
+        body: b"Format: 1.8\nDate: Sat, 02 Jul 2016 05:00:00 +0000\nSource: hello\nVersion: 0.9-1\nArchitecture: source amd64\nDistribution: box\nMaintainer: Ann <ann@example.org>\nChanges:\n hello (0.9-1) box; urgency=low\nChecksums-Sha1:\n 0e8804ebe854df1c70fe07429e13888da7f1975b 332 hello_0.9-1.dsc\n 6ca1b2b8966f320e92eb07aa565b139cc4a62695 17 hello_0.9.orig.tar\n 1487ba605bc960f752cbe9218873bf7c660406c2 12 hello_0.9-1_amd64.deb\n 6011e1db4c46f550b9e3f449669054e3c67a559d 104 hello_0.9-1_amd64.control\nChecksums-Sha256:\n 8f0a9c67a150cb5aa1c04f543e07ce575533a40f6a225cd5445423523c7cf2b7 332 hello_0.9-1.dsc\n 9cbdf9413922d32443a7969db1e63b29350039a58360f653eeb14b8941cc611a 17 hello_0.9.orig.tar\n ee24421255e10ce6e8c5cad1ab1339b38d5321b913b223c8306f4ed2f0572ba7 12 hello_0.9-1_amd64.deb\n 9642c476b3bb9e93e4b5d962649119b0d147cc6aee28390d3fd7b423f5e673f1 104 hello_0.9-1_amd64.control\nFiles:\n b93eb3dde9dbaad0c58142548b3c719a 332 utils optional hello_0.9-1.dsc\n 4a8d35619eb36241753b7c20cb8e6648 17 utils optional hello_0.9.orig.tar\n 3b01bdfe8f5125717216628232e6eba6 12 utils optional hello_0.9-1_amd64.deb\n 3f073690c12bdb34ef88cecea544ced3 104 utils optional hello_0.9-1_amd64.control\n",
+    },
+    File {
+        name: "hello_0.9-1.dsc",
+        body: b"Format: 3.0 (quilt)\nSource: hello\nVersion: 0.9-1\nMaintainer: Ann <ann@example.org>\nChecksums-Sha1:\n 6ca1b2b8966f320e92eb07aa565b139cc4a62695 17 hello_0.9.orig.tar\nChecksums-Sha256:\n 9cbdf9413922d32443a7969db1e63b29350039a58360f653eeb14b8941cc611a 17 hello_0.9.orig.tar\nFiles:\n 4a8d35619eb36241753b7c20cb8e6648 17 hello_0.9.orig.tar\n",
+    },
+    File {
+        name: "hello_0.9.orig.tar",
+        body: b"hello source 0.9\n",
+    },
+    File {
+        name: "hello_0.9-1_amd64.deb",
+        body: b"hello 0.9-1\n",
+    },
+    File {
+        name: "hello_0.9-1_amd64.control",
+        body: b"Package: hello\nVersion: 0.9-1\nArchitecture: amd64\nMaintainer: Ann <ann@example.org>\nDescription: greets\n",
+    },
+];
+
+/// The package hello 1.1-1, for lab.
+pub const NEWER_HELLO: [File; 3] = [
+    File {
+        name: "hello_1.1-1_amd64.changes",
+        body: b"Format: 1.8\nDate: Sat, 02 Jul 2016 05:00:00 +0000\nSource: hello\nVersion: 1.1-1\nArchitecture: amd64\nDistribution: lab\nMaintainer: Ann <ann@example.org>\nChanges:\n hello (1.1-1) lab; urgency=low\nChecksums-Sha1:\n 595f972fb254fb860f62810d57504a511eb0973c 12 hello_1.1-1_amd64.deb\n 524fd2d2df83e89a9906ba0e17f8067468a29416 104 hello_1.1-1_amd64.control\nChecksums-Sha256:\n 081a5f1879759f150cea796bfea639d5bffb6c017a51f13444aec67ec501188e 12 hello_1.1-1_amd64.deb\n 893f3ac478f526662848468c68bfa61d7d12fc84cb6a67ecd387414479591c2e 104 hello_1.1-1_amd64.control\nFiles:\n 4a8f9ddb614d0370e052489be1dcbeb7 12 utils optional hello_1.1-1_amd64.deb\n 3a01490cd53fb6507f2d67543e3f07f5 104 utils optional hello_1.1-1_amd64.control\n",
+    },
+    File {
+        name: "hello_1.1-1_amd64.deb",
+        body: b"hello 1.1-1\n",
+    },
+    File {
+        name: "hello_1.1-1_amd64.control",
+        body: b"Package: hello\nVersion: 1.1-1\nArchitecture: amd64\nMaintainer: Ann <ann@example.org>\nDescription: greets\n",
+    },
+];
+
+/// The index of a suite that shows the package hello 1.1-1.
+pub const NEWER_PACKAGES: &[u8] =
+    b"Package: hello\nVersion: 1.1-1\nArchitecture: amd64\nMaintainer: Ann <ann@example.org>\nDescription: greets\nFilename: pool/main/h/hello/hello_1.1-1_amd64.deb\nSize: 12\nMD5sum: 4a8f9ddb614d0370e052489be1dcbeb7\nSHA1: 595f972fb254fb860f62810d57504a511eb0973c\nSHA256: 081a5f1879759f150cea796bfea639d5bffb6c017a51f13444aec67ec501188e\n\n";

@@ -1,0 +1,85 @@
+//! Uploads of one package each.
+
+use crate::fault::Stop;
+use keep::{Keeper, PlainKeeper};
+use queue::Archive;
+use rules::Config;
+use std::alloc::Global;
+use suites::Upload;
+use sums::print_of;
+
+/// The configuration of the archive.
+pub const BOX: &[u8] = b"Codename: box\nArchitectures: amd64 source\nComponents: main\n";
+
+/// The digests and the size of a body, as a .changes lists them.
+#[derive(Drop)]
+struct Sums {
+    size: u64,
+    md5: String,
+    sha1: String,
+    sha256: String,
+}
+
+fn sums_of(alloc: Global, body: &[u8]) -> Result<Sums, Stop> {
+    let print = print_of(body);
+    Ok(Sums {
+        size: print.size,
+        md5: hex::encode(alloc, print.md5.as_slice())?,
+        sha1: hex::encode(alloc, print.sha1.as_slice())?,
+        sha256: hex::encode(alloc, print.sha256.as_slice())?,
+    })
+}
+
+/// The .changes of a package, with a package file of the bytes of its version and with its sidecar.
+fn changes_text(
+    alloc: Global,
+    source: &str,
+    version: &str,
+    deb: &[u8],
+    sidecar: &[u8],
+) -> Result<String, Stop> {
+    let (deb, sidecar) = (sums_of(alloc, deb)?, sums_of(alloc, sidecar)?);
+    let (deb_size, sidecar_size) = (deb.size, sidecar.size);
+    let (deb_md5, sidecar_md5) = (deb.md5.as_str(), sidecar.md5.as_str());
+    let (deb_sha1, sidecar_sha1) = (deb.sha1.as_str(), sidecar.sha1.as_str());
+    let (deb_sha256, sidecar_sha256) = (deb.sha256.as_str(), sidecar.sha256.as_str());
+    let stem = format!(in alloc; "{source}_{version}_amd64")?;
+    let stem = stem.as_str();
+    let head = format!(in alloc;
+        "Format: 1.8\nDate: Sat, 02 Jul 2016 05:00:00 +0000\nSource: {source}\nVersion: {version}\nArchitecture: amd64\nDistribution: box\nMaintainer: Ann <ann@example.org>\nChanges:\n * Made.\n"
+    )?;
+    let head = head.as_str();
+    Ok(format!(in alloc;
+        "{head}Checksums-Sha1:\n {deb_sha1} {deb_size} {stem}.deb\n {sidecar_sha1} {sidecar_size} {stem}.control\nChecksums-Sha256:\n {deb_sha256} {deb_size} {stem}.deb\n {sidecar_sha256} {sidecar_size} {stem}.control\nFiles:\n {deb_md5} {deb_size} utils optional {stem}.deb\n {sidecar_md5} {sidecar_size} utils optional {stem}.control\n"
+    )?)
+}
+
+/// The upload of the package of a number, in a version, as an archive of its own has it once its files are there.
+pub fn package_upload(alloc: Global, number: u64, version: u64) -> Result<Upload, Stop> {
+    let source = format!(in alloc; "package{number}")?;
+    let version = format!(in alloc; "{version}.0-1")?;
+    let (source, version) = (source.as_str(), version.as_str());
+    let sidecar = format!(in alloc;
+        "Package: {source}\nVersion: {version}\nArchitecture: amd64\nMaintainer: Ann <ann@example.org>\nDescription: greets\n"
+    )?;
+    let text = changes_text(
+        alloc,
+        source,
+        version,
+        version.as_bytes(),
+        sidecar.as_bytes(),
+    )?;
+    let stem = format!(in alloc; "{source}_{version}_amd64")?;
+    let stem = stem.as_str();
+    let changes_name = format!(in alloc; "{stem}.changes")?;
+    let deb_name = format!(in alloc; "{stem}.deb")?;
+    let sidecar_name = format!(in alloc; "{stem}.control")?;
+    let mut archive = Archive::new(PlainKeeper::new(alloc, Config::read(alloc, BOX)?, 0)?);
+    archive.deliver(alloc, changes_name.as_str(), text.as_bytes(), 0)?;
+    archive.deliver(alloc, deb_name.as_str(), version.as_bytes(), 0)?;
+    archive.deliver(alloc, sidecar_name.as_str(), sidecar.as_bytes(), 0)?;
+    match archive.into_keeper().complete_uploads(alloc, 0)?.pop() {
+        Some(upload) => Ok(upload),
+        None => Err(Stop::NoUpload),
+    }
+}
