@@ -24,3 +24,4 @@ pub mod DatesCounts
 pub mod SimulationCopies
 pub mod CopyAnswers
 pub mod Runs
+pub mod Openings

@@ -7,9 +7,11 @@ mod copy;
 mod delivery;
 mod drive;
 mod fault;
+mod laws;
 mod report;
 mod run;
 
 pub use archive::Archive;
 pub use command::{Arrived, Command, Outcome, Report};
 pub use fault::Fault;
+pub use laws::nothing_is_an_opening;
