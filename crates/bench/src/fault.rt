@@ -17,7 +17,7 @@ pub enum Stop {
     Config(ConfigFault),
     #[error("no upload is complete")]
     NoUpload,
-    #[error("admit or render, how many packages, how many times")]
+    #[error("how many packages, and how many times")]
     Words,
 }
 

@@ -1,9 +1,10 @@
-//! A workload on what the suites show: made shelves of so many packages, and then one step so many times.
+//! A workload on what the suites show: shelves are made of so many packages, and then a newer version of one package
+//! after another is judged and admitted, so many times.
 //!
-//!     bench admit PACKAGES TIMES     a newer version of one package after another is judged and admitted
-//!     bench render PACKAGES TIMES    Packages is rendered
+//!     bench PACKAGES TIMES
 //!
-//! Timed from outside, and less a run with no times, it tells what one step costs.
+//! It prints how many packages are shown. Timed from outside, and less a run with no times, it tells what one admission
+//! costs.
 #![tactic(auto)]
 
 mod fault;
@@ -15,7 +16,6 @@ use std::alloc::Global;
 use std::process::ExitCode;
 use std::{env, io};
 use suites::{Shelves, plan_upload};
-use texts::packages;
 use upload::{BOX, package_upload};
 
 /// Judges the package of this number in this version, and admits it.
@@ -53,31 +53,15 @@ fn admit_more(alloc: Global, count: u64, times: u64) -> Result<usize, Stop> {
     Ok(shelves.items().len())
 }
 
-/// Renders Packages so many times, and answers how many bytes it has.
-fn render(alloc: Global, count: u64, times: u64) -> Result<usize, Stop> {
-    let config = Config::read(alloc, BOX)?;
-    let shelves = made_shelves(alloc, &config, count)?;
-    let mut text = Vec::new(alloc);
-    for _ in 0..times {
-        text.clear();
-        packages(alloc, &config, &shelves, 0, 0, 0, &mut text)?;
-    }
-    Ok(text.len())
-}
-
 /// Does what the words ask for, and answers a number to print.
 fn answer(alloc: Global, words: &[String]) -> Result<usize, Stop> {
-    let [what, count, times] = words else {
+    let [count, times] = words else {
         return Err(Stop::Words);
     };
     let (Ok(count), Ok(times)) = (count.parse::<u64>(), times.parse::<u64>()) else {
         return Err(Stop::Words);
     };
-    match what.as_str() {
-        "admit" => admit_more(alloc, count, times),
-        "render" => render(alloc, count, times),
-        _ => Err(Stop::Words),
-    }
+    admit_more(alloc, count, times)
 }
 
 fn run(rt: &HostRuntime) -> io::Result<u8> {
