@@ -15,6 +15,15 @@ abbrev pub with_candidate : Option Candidate → List Candidate → List Candida
 with_candidate None cs = cs
 with_candidate (Some c) cs = put_in_order c cs
 
+-- an arrival of another name than that of a .changes counts for nothing
+pub unjudged_other : (a : Arrival) (arrivals : List Arrival) (judged : List Judgement)
+    → is_changes_name a.name ≡ false → unjudged_in (a ∷ arrivals) judged ≡ unjudged_in arrivals judged
+unfolding candidate_of
+unjudged_other a arrivals judged e =
+    let after : Option Candidate → List Candidate = λ o. in_order (filter (λ c. not (is_judged judged c)) (cons_option o (candidates arrivals))) in
+    let made : ChangesValue → Candidate = λ c. record { name = a.name; body = a.body; changes = c } in
+    ap (λ b. after (if b then option_map made (result_ok (changes_in a.body)) else None)) e
+
 -- an arrival that has a verdict counts for nothing
 pub unjudged_passed : (a : Arrival) (arrivals : List Arrival) (judged : List Judgement)
     → has_judgement a.name a.body judged ≡ true → unjudged_in (a ∷ arrivals) judged ≡ unjudged_in arrivals judged

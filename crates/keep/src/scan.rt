@@ -7,7 +7,7 @@ ghost use Rattle.std.specs.Ordering.{is_gt};
 ghost use Rattle.std.specs.Result.{result_ok};
 ghost use Rattle.records.specs.Records.{changes_in as record_in};
 ghost use Rattle.suites.specs.Upload.{has_text as keeps_text};
-ghost use Rattle.keep.specs.Book.{body_for, candidate_of, is_complete, is_there as has_come, judging_order as order_of, put_in_order, upload_of as upload_at};
+ghost use Rattle.keep.specs.Book.{body_for, candidate_of, is_changes_name, is_complete, is_there as has_come, judging_order as order_of, put_in_order, upload_of as upload_at};
 ghost use Rattle.keep.specs.declared.arrival.Arrival.{Arrival as ArrivalValue};
 ghost use Rattle.keep.specs.Scan.{candidate_view, has_judgement, is_arrival_of, marked, unjudged_in, waiting_of};
 
@@ -32,9 +32,10 @@ pub fn copied(alloc: Global, bytes: &[u8]) -> Result<Listed<u8>, AllocError>
 fn is_of(arrival: &Arrival, name: &str, print: Print) -> bool
     ensures { result ≡ is_arrival_of name.now print arrival.now }
 {
-    let is_named = arrival.name.as_str() == name;
-    let has_print = arrival.body.print() == print;
-    is_named && has_print
+    if arrival.name.as_str() != name {
+        return false;
+    }
+    arrival.body.print() == print
 }
 
 /// The first arrival of this name with a body of this print.
@@ -113,9 +114,10 @@ fn are_there(arrivals: &[Arrival], entries: &[Entry]) -> bool
 fn is_judgement_of(one: &Judgement, changes: &Arrival) -> bool
     ensures { result ≡ has_judgement changes.now.name changes.now.body (one.now ∷ []) }
 {
-    let is_named = one.name.as_str() == changes.name.as_str();
-    let has_print = one.print == changes.body.print();
-    is_named && has_print
+    if one.name.as_str() != changes.name.as_str() {
+        return false;
+    }
+    one.print == changes.body.print()
 }
 
 /// Whether the .changes has a verdict.
@@ -139,6 +141,14 @@ fn changes_in(alloc: Global, text: &[u8]) -> Result<Option<Changes>, AllocError>
         Err(RecordFault::OutOfMemory) => Err(AllocError),
         Err(_) => Ok(None),
     }
+}
+
+/// Whether the arrival has the name of a .changes.
+#[tactic(auto, unfolding(crate::specs::Book::is_changes_name))]
+fn is_changes(arrival: &Arrival) -> bool
+    ensures { result ≡ is_changes_name arrival.now.name }
+{
+    arrival.name.as_str().as_bytes().ends_with(b".changes")
 }
 
 /// The .changes that an arrival is, or nothing where it is none.
@@ -196,6 +206,9 @@ fn add_unjudged<'a>(
     ensures { OnOk result ((rest : List ArrivalValue) → map candidate_view found.old.items ≡ unjudged_in rest judged.now
         → map candidate_view found.new.items ≡ unjudged_in (arrival.now ∷ rest) judged.now) }
 {
+    if !is_changes(arrival) {
+        return Ok(());
+    }
     if is_judged(judged, arrival) {
         return Ok(());
     }

@@ -3,8 +3,12 @@ use Rattle.std.proofs.lemmas.List.{map-append}
 use Rattle.std.specs.Option.{option_map}
 use Rattle.keep.specs.Book.{put_in_order}
 use Rattle.keep.specs.Scan.{candidate_view, unjudged_in}
-use Rattle.keep.proofs.Unjudged.{unjudged_passed, unjudged_more, with_candidate}
+use Rattle.keep.proofs.Unjudged.{unjudged_other, unjudged_passed, unjudged_more, with_candidate}
 use Rattle.keep.proofs.scan.add_unjudged.Goals as goal
+
+pub returns-then-not-is_changes : goal.returns-then-not-is_changes
+returns-then-not-is_changes c = λ rest so_far.
+    so_far ∙ sym (unjudged_other c.args.arrival.now rest c.args.judged.now (sym c.is_changes.ensures ∙ c.if-not-is_changes.true))
 
 pub returns-then-is_judged : goal.returns-then-is_judged
 returns-then-is_judged c = λ rest so_far.
