@@ -1,5 +1,5 @@
 -- What the calls of a keeper ask and answer.
-use Rattle.std.specs.Prelude.{◌≡◌, ◌≤◌, ℕ, Bool, true, IsTrue, List, [], ◌∷◌, map, take, length, Ok, Contains, ⊤, Some}
+use Rattle.std.specs.Prelude.{◌≡◌, ◌≢◌, ◌≤◌, All, AllPairs, ℕ, Bool, true, IsTrue, List, [], ◌∷◌, map, take, length, Ok, Contains, ⊤, ◌⊎◌, Some}
 use Rattle.records.specs.Values.{ChangesValue}
 use Rattle.records.specs.Records.{changes_in}
 use Rattle.sums.specs.Lines.{is_file_name}
@@ -7,10 +7,11 @@ use Rattle.sums.specs.Prints.{print as print_of}
 use Rattle.sums.specs.declared.print.Print.{Print}
 use Rattle.suites.specs.Plan.{IsStep, applied}
 use Rattle.suites.specs.Shelves.{ShelvesValue}
-use Rattle.keep.specs.Book.{Book, Candidate, is_changes_name, due, judgements, latest}
+use Rattle.keep.specs.Book.{Book, Candidate, amended, is_changes_name, due, judgements, text_at}
 use Rattle.keep.specs.declared.arrival.Arrival.{Arrival}
 use Rattle.keep.specs.declared.change.Step.{Step}
 use Rattle.keep.specs.declared.change.Change.{Change}
+use Rattle.keep.specs.declared.change.IndexText.{IndexText}
 use Rattle.keep.specs.declared.change.Judgement.{Judgement}
 use Rattle.keep.specs.declared.fault.KeepFault.{KeepFault}
 use Rattle.keep.specs.declared.fault.KeepFault.TheVariants.{OutOfMemory, Disk, Size, Tables}
@@ -42,12 +43,25 @@ sign_of c = (c.name, print_of c.body)
 abbrev pub sign_on : Judgement → List ℕ × Print
 sign_on j = (j.name, j.print)
 
--- The moment is within its limit, each plan is made for what those before it leave, and the judged uploads are the first
--- of those that are due.
+-- The texts are those after a change of a book, each path once, and are exactly those that differ.
+pub record AreRenewed (old new : Book) (texts : List IndexText) : Type 0 where
+  pub apart : AllPairs (λ t u. t.path ≢ u.path) texts
+  pub named : All (λ t. (text_at new t.path ≡ Some t.text) × (text_at old t.path ≢ Some t.text)) texts
+  pub rest : (path : List ℕ) → Contains (map (λ t. t.path) texts) path ⊎ (text_at old path ≡ text_at new path)
+
+-- Each plan is made for what those before it leave, the judged uploads are the first of those that are due, and the texts
+-- are those that differ after it.
 pub record IsSound (book : Book) (change : Change) : Type 0 where
-  pub moment : change.moment ≤ latest
   pub plans : AreSteps book.shown change.steps
   pub judged : map sign_on (judgements change.steps) ≡ map sign_of (take (length (judgements change.steps)) (due book))
+  pub texts : AreRenewed book (amended book change) change.texts
+
+-- What a call leaves of a store: one that is clean was clean, one that is open was open, and only a keeper that may fail is
+-- ever shut.
+pub record Lasts (may_fail : Bool) (clean_before clean_after open_before open_after : Type 0) : Type 0 where
+  pub clean : clean_after → clean_before
+  pub was_open : clean_after → open_after → open_before
+  pub stays : clean_after → open_before → open_after ⊎ IsTrue may_fail
 
 -- Want of memory may always be answered, a fault of the disk or of size only by a keeper that can fail, and that the
 -- tables are not what is needed by no call of a keeper.

@@ -21,12 +21,20 @@ pub struct Step {
     pub plan: Plan,
 }
 
+/// An index text that a change writes: its path without a leading slash, and the whole text.
+#[derive(Drop)]
+pub struct IndexText {
+    pub path: Text,
+    pub text: Listed<u8>,
+}
+
 /// A change, made whole or not at all: its steps in order. The moment, in seconds since 1970-01-01 00:00:00 UTC, becomes
-/// the date of each suite whose shown items change.
+/// the date of each suite whose shown items change. The texts are those of the indices that are then other than before.
 #[derive(Drop)]
 pub struct Change {
     pub moment: u64,
     pub steps: Listed<Step>,
+    pub texts: Listed<IndexText>,
 }
 
 /// An upload without a verdict: the name of its .changes, and how many of the entries that it lists have not arrived.

@@ -1,9 +1,9 @@
 //! The trait of keepers.
 
-ghost use Rattle.std.specs.Prelude.{◌≡◌, ◌≤◌, ◌∷◌, ℕ, Bool, List, Contains, Option, IfOk, IfErr, OnOk, OnErr, map, not};
+ghost use Rattle.std.specs.Prelude.{◌≡◌, ◌≤◌, ◌∷◌, ◌⊎◌, ℕ, Bool, List, Contains, Option, IfOk, IfErr, OnOk, OnErr, map, not};
 ghost use Rattle.std.specs.Option.{option_map};
 ghost use Rattle.keep.specs.Book.{Book, amended, due, has_arrival, latest, text_at, upload_of, waiting_list, with_delivery};
-ghost use Rattle.keep.specs.Keeping.{HasBodies, IsDeliverable, IsSound, MayAnswer, NoCollision, sign_of};
+ghost use Rattle.keep.specs.Keeping.{HasBodies, IsDeliverable, IsSound, Lasts, MayAnswer, NoCollision, sign_of};
 
 use crate::change::{Change, Judgement, Waiting};
 use crate::fault::KeepFault;
@@ -15,20 +15,31 @@ use suites::{Shelves, Upload};
 pub const LATEST: u64 = 4_102_444_799;
 
 /// What keeps an archive: a configuration, arrivals with their bodies, uploads with their verdicts, what the suites show
-/// with its files, index texts and dates. After a refusal it is as before.
+/// with its files, index texts and dates. After a refusal it is as before, or shut: a keeper that a fault of its disk has
+/// shut refuses every call from then on. What a call answers is said of keepers whose store returns what was written to it.
 pub trait Keeper {
-    /// What is kept, however it is kept.
+    /// The store of the keeper has so far returned whatever was written to it. What a call answers is said of such keepers.
+    ghost is_clean: { Self → Type 0 };
+
+    /// No fault of the disk has shut the keeper. A shut one serves no more and doesn't come back.
+    ghost is_open: { Self → Type 0 };
+
+    /// What is kept, however it is kept. Of a keeper that is shut it says something of the configuration alone.
     ghost book: { Self → Book };
 
     /// Whether the keeper can answer a fault of a disk or of size at all.
     ghost may_fail: { Bool };
+
+    /// What an opening of the store may find after a crash at this moment.
+    ghost may_leave: { Self → Book → Type 0 };
 
     /// The configuration that the archive was made with.
     fn config(&self) -> &Config
         ensures { result.now ≡ (book self.now).config };
 
     /// Takes an arrival, a file name and a body, and says whether it is new. Bodies are told apart by their prints, so
-    /// that this is said of bodies among which no two have one print.
+    /// that this is said of bodies among which no two have one print. A crash leaves what it would have left before, or
+    /// the book with the delivery.
     fn arrive(
         &mut self,
         alloc: Global,
@@ -38,62 +49,103 @@ pub trait Keeper {
     ) -> Result<bool, KeepFault>
         requires in_time { moment ≤ latest }
         requires deliverable { IsDeliverable name.now body.now }
-        ensures new { IfOk result (λ new. (bodies : List (List ℕ)) → NoCollision bodies → HasBodies bodies (book self.old) → Contains bodies body.now
+        ensures lasts { Lasts may_fail (is_clean self.old) (is_clean self.new) (is_open self.old) (is_open self.new) }
+        ensures served { is_clean self.new → OnOk result (is_open self.new) }
+        ensures config { (book self.new).config ≡ (book self.old).config }
+        ensures new { is_clean self.new → IfOk result (λ new. (bodies : List (List ℕ)) → NoCollision bodies → HasBodies bodies (book self.old) → Contains bodies body.now
             → new ≡ not (has_arrival (book self.old).arrivals (record { name = name.now; body = body.now; moment = moment }))) }
-        ensures ok { OnOk result ((bodies : List (List ℕ)) → NoCollision bodies → HasBodies bodies (book self.old) → Contains bodies body.now
+        ensures ok { is_clean self.new → OnOk result ((bodies : List (List ℕ)) → NoCollision bodies → HasBodies bodies (book self.old) → Contains bodies body.now
             → book self.new ≡ with_delivery (book self.old) (record { name = name.now; body = body.now; moment = moment })) }
-        ensures err { OnErr result (book self.new ≡ book self.old) }
-        ensures cause { IfErr result (MayAnswer may_fail) };
+        ensures err { is_clean self.new → is_open self.new → OnErr result (book self.new ≡ book self.old) }
+        ensures cause { IfErr result (MayAnswer may_fail) }
+        ensures crash { is_clean self.new → (left : Book) → may_leave self.new left → may_leave self.old left
+            ⊎ (is_open self.old × ((bodies : List (List ℕ)) → NoCollision bodies → HasBodies bodies (book self.old) → Contains bodies body.now
+            → left ≡ with_delivery (book self.old) (record { name = name.now; body = body.now; moment = moment }))) };
 
     /// The uploads without a verdict of whose entries all have arrived, in the order of the bytes of their names, then of
     /// their SHA-256, SHA-1, MD5 and sizes.
     fn complete_uploads(&mut self, alloc: Global, moment: u64) -> Result<Vec<Upload>, KeepFault>
         requires { moment ≤ latest }
+        ensures lasts { Lasts may_fail (is_clean self.old) (is_clean self.new) (is_open self.old) (is_open self.new) }
+        ensures served { is_clean self.new → OnOk result (is_open self.new) }
+        ensures config { (book self.new).config ≡ (book self.old).config }
         // By their names and prints, of whatever bodies.
-        ensures signs { IfOk result (λ uploads. map (λ u. (u.name, u.print)) uploads.items ≡ map sign_of (due (book self.old))) }
-        ensures uploads { IfOk result (λ uploads. (bodies : List (List ℕ)) → NoCollision bodies → HasBodies bodies (book self.old)
+        ensures signs { is_clean self.new → IfOk result (λ uploads. map (λ u. (u.name, u.print)) uploads.items ≡ map sign_of (due (book self.old))) }
+        ensures uploads { is_clean self.new → IfOk result (λ uploads. (bodies : List (List ℕ)) → NoCollision bodies → HasBodies bodies (book self.old)
             → uploads.items ≡ map (upload_of (book self.old).arrivals) (due (book self.old))) }
-        ensures same { book self.new ≡ book self.old }
-        ensures cause { IfErr result (MayAnswer may_fail) };
+        ensures same { is_clean self.new → is_open self.new → book self.new ≡ book self.old }
+        ensures cause { IfErr result (MayAnswer may_fail) }
+        ensures crash { is_clean self.new → (left : Book) → may_leave self.new left → may_leave self.old left };
 
     /// What the suites show.
     fn shelves(&mut self, alloc: Global) -> Result<Shelves, KeepFault>
-        ensures shelves { IfOk result (λ shelves. shelves ≡ (book self.old).shown) }
-        ensures same { book self.new ≡ book self.old }
-        ensures cause { IfErr result (MayAnswer may_fail) };
+        ensures lasts { Lasts may_fail (is_clean self.old) (is_clean self.new) (is_open self.old) (is_open self.new) }
+        ensures served { is_clean self.new → OnOk result (is_open self.new) }
+        ensures config { (book self.new).config ≡ (book self.old).config }
+        ensures shelves { is_clean self.new → IfOk result (λ shelves. shelves ≡ (book self.old).shown) }
+        ensures same { is_clean self.new → is_open self.new → book self.new ≡ book self.old }
+        ensures cause { IfErr result (MayAnswer may_fail) }
+        ensures crash { is_clean self.new → (left : Book) → may_leave self.new left → may_leave self.old left };
 
-    /// Makes the whole change, or none of it.
+    /// Makes the whole change, or none of it. A crash leaves what it would have left before, or the book with the whole
+    /// change.
     fn apply(&mut self, alloc: Global, change: &Change) -> Result<(), KeepFault>
-        requires { IsSound (book self.old) change.now }
-        ensures ok { OnOk result ((bodies : List (List ℕ)) → NoCollision bodies → HasBodies bodies (book self.old)
+        requires in_time { change.now.moment ≤ latest }
+        requires sound { is_clean self.now → is_open self.now → IsSound (book self.now) change.now }
+        ensures lasts { Lasts may_fail (is_clean self.old) (is_clean self.new) (is_open self.old) (is_open self.new) }
+        ensures served { is_clean self.new → OnOk result (is_open self.new) }
+        ensures config { (book self.new).config ≡ (book self.old).config }
+        ensures ok { is_clean self.new → OnOk result ((bodies : List (List ℕ)) → NoCollision bodies → HasBodies bodies (book self.old)
             → book self.new ≡ amended (book self.old) change.now) }
-        ensures err { OnErr result (book self.new ≡ book self.old) }
-        ensures cause { IfErr result (MayAnswer may_fail) };
+        ensures err { is_clean self.new → is_open self.new → OnErr result (book self.new ≡ book self.old) }
+        ensures cause { IfErr result (MayAnswer may_fail) }
+        ensures crash { is_clean self.new → (left : Book) → may_leave self.new left → may_leave self.old left
+            ⊎ (is_open self.old × ((bodies : List (List ℕ)) → NoCollision bodies → HasBodies bodies (book self.old)
+            → left ≡ amended (book self.old) change.now)) };
 
     /// The file of the pool at a path without a leading slash.
     fn file(&mut self, alloc: Global, path: &str) -> Result<Option<Vec<u8>>, KeepFault>
-        ensures file { IfOk result (λ file. option_map (λ body. body.items) file ≡ (book self.old).files path.now) }
-        ensures same { book self.new ≡ book self.old }
-        ensures cause { IfErr result (MayAnswer may_fail) };
+        ensures lasts { Lasts may_fail (is_clean self.old) (is_clean self.new) (is_open self.old) (is_open self.new) }
+        ensures served { is_clean self.new → OnOk result (is_open self.new) }
+        ensures config { (book self.new).config ≡ (book self.old).config }
+        ensures file { is_clean self.new → IfOk result (λ file. option_map (λ body. body.items) file ≡ (book self.old).files path.now) }
+        ensures same { is_clean self.new → is_open self.new → book self.new ≡ book self.old }
+        ensures cause { IfErr result (MayAnswer may_fail) }
+        ensures crash { is_clean self.new → (left : Book) → may_leave self.new left → may_leave self.old left };
 
     /// The index text at a path without a leading slash.
     fn text(&mut self, alloc: Global, path: &str) -> Result<Option<Vec<u8>>, KeepFault>
-        ensures text { IfOk result (λ text. option_map (λ body. body.items) text ≡ text_at (book self.old) path.now) }
-        ensures same { book self.new ≡ book self.old }
-        ensures cause { IfErr result (MayAnswer may_fail) };
+        ensures lasts { Lasts may_fail (is_clean self.old) (is_clean self.new) (is_open self.old) (is_open self.new) }
+        ensures served { is_clean self.new → OnOk result (is_open self.new) }
+        ensures config { (book self.new).config ≡ (book self.old).config }
+        ensures text { is_clean self.new → IfOk result (λ text. option_map (λ body. body.items) text ≡ text_at (book self.old) path.now) }
+        ensures same { is_clean self.new → is_open self.new → book self.new ≡ book self.old }
+        ensures cause { IfErr result (MayAnswer may_fail) }
+        ensures crash { is_clean self.new → (left : Book) → may_leave self.new left → may_leave self.old left };
 
     /// The uploads without a verdict, in the order of `complete_uploads`, each with the number of its entries that have
     /// not arrived.
     fn waiting(&mut self, alloc: Global, moment: u64) -> Result<Vec<Waiting>, KeepFault>
         requires { moment ≤ latest }
-        ensures waiting { IfOk result (λ waiting. (bodies : List (List ℕ)) → NoCollision bodies → HasBodies bodies (book self.old)
+        ensures lasts { Lasts may_fail (is_clean self.old) (is_clean self.new) (is_open self.old) (is_open self.new) }
+        ensures served { is_clean self.new → OnOk result (is_open self.new) }
+        ensures config { (book self.new).config ≡ (book self.old).config }
+        ensures waiting { is_clean self.new → IfOk result (λ waiting. (bodies : List (List ℕ)) → NoCollision bodies → HasBodies bodies (book self.old)
             → waiting.items ≡ waiting_list (book self.old)) }
-        ensures same { book self.new ≡ book self.old }
-        ensures cause { IfErr result (MayAnswer may_fail) };
+        ensures same { is_clean self.new → is_open self.new → book self.new ≡ book self.old }
+        ensures cause { IfErr result (MayAnswer may_fail) }
+        ensures crash { is_clean self.new → (left : Book) → may_leave self.new left → may_leave self.old left };
 
     /// The judged uploads in the order in which they were judged.
     fn verdicts(&mut self, alloc: Global) -> Result<Vec<Judgement>, KeepFault>
-        ensures verdicts { IfOk result (λ judged. judged.items ≡ (book self.old).judged) }
-        ensures same { book self.new ≡ book self.old }
-        ensures cause { IfErr result (MayAnswer may_fail) };
+        ensures lasts { Lasts may_fail (is_clean self.old) (is_clean self.new) (is_open self.old) (is_open self.new) }
+        ensures served { is_clean self.new → OnOk result (is_open self.new) }
+        ensures config { (book self.new).config ≡ (book self.old).config }
+        ensures verdicts { is_clean self.new → IfOk result (λ judged. judged.items ≡ (book self.old).judged) }
+        ensures same { is_clean self.new → is_open self.new → book self.new ≡ book self.old }
+        ensures cause { IfErr result (MayAnswer may_fail) }
+        ensures crash { is_clean self.new → (left : Book) → may_leave self.new left → may_leave self.old left };
+
+    /// While the keeper is open a crash leaves what is kept, and nothing else.
+    ghost settled: { (k : Self) (b : Book) → is_clean k → is_open k → may_leave k b → b ≡ book k };
 }

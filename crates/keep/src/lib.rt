@@ -12,7 +12,8 @@ mod scan;
 mod steps;
 
 pub use arrival::{Arrival, Body};
-pub use change::{Change, Judgement, Step, Waiting};
+pub use change::{Change, IndexText, Judgement, Step, Waiting};
 pub use fault::KeepFault;
 pub use keeper::{Keeper, LATEST};
 pub use plain::PlainKeeper;
+pub use steps::some_changes_suite;

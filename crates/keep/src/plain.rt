@@ -54,18 +54,26 @@ impl PlainKeeper {
 }
 
 impl Keeper for PlainKeeper {
-    ghost use Rattle.std.specs.Prelude.{false};
+    ghost use Rattle.std.specs.Prelude.{⊤, false};
     ghost use Rattle.keep.specs.Plain.{plain_book};
+
+    ghost is_clean = { λ _. ⊤ };
+
+    ghost is_open = { λ _. ⊤ };
 
     ghost book = { plain_book };
 
     ghost may_fail = { false };
+
+    /// A crash leaves nothing of what is in memory.
+    ghost may_leave = { λ _ _. ⊥ };
 
     #[tactic(auto, unfolding(crate::specs::Plain::plain_book))]
     fn config(&self) -> &Config {
         &self.config
     }
 
+    #[tactic(auto, unfolding(crate::specs::Plain::plain_book))]
     fn arrive(
         &mut self,
         alloc: Global,
@@ -97,6 +105,7 @@ impl Keeper for PlainKeeper {
         Ok(self.shelves.try_clone(alloc)?)
     }
 
+    #[tactic(auto, unfolding(crate::specs::Plain::plain_book))]
     fn apply(&mut self, alloc: Global, change: &Change) -> Result<(), KeepFault> {
         let steps = change.steps.as_slice();
         let judged = judged_after(alloc, &self.judged, steps)?;
@@ -130,4 +139,6 @@ impl Keeper for PlainKeeper {
     fn verdicts(&mut self, alloc: Global) -> Result<Vec<Judgement>, KeepFault> {
         Ok(copied_judgements(alloc, &self.judged)?)
     }
+
+    ghost settled = { λ k b clean up none. absurd none };
 }

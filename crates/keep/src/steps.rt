@@ -87,8 +87,8 @@ fn changes_suite(step: &Step, suite: usize) -> bool
     puts || drops
 }
 
-/// Whether one of the steps changes what the suite shows.
-fn some_changes_suite(steps: &[Step], suite: usize) -> bool
+/// Whether one of the steps puts or drops an item of the suite, which is a position in the configuration.
+pub fn some_changes_suite(steps: &[Step], suite: usize) -> bool
     ensures { result ≡ some_touches suite steps.now }
 {
     for step in steps {

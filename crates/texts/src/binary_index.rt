@@ -92,7 +92,7 @@ fn package_stanza(alloc: Global, item: &Item) -> Result<Vec<u8>, AllocError>
 /// Whether the index of the architecture lists the item: it is a package of the suite and component, of that
 /// architecture or of all.
 #[tactic(auto, unfolding(crate::specs::Stanzas::is_in_packages))]
-fn is_listed(key: &ShelfKey, item: &Item, suite: usize, component: &str, architecture: &str) -> bool
+pub fn lists_package(key: &ShelfKey, item: &Item, suite: usize, component: &str, architecture: &str) -> bool
     ensures { result ≡ is_in_packages suite component.now architecture.now (key.now, item.now) }
 {
     if key.suite != suite || key.kind != Kind::Binary {
@@ -115,7 +115,7 @@ fn push_listed(
     ensures ok { OnOk result (out.new.items ≡ out.old.items ++ (if is_in_packages suite component.now architecture.now (key.now, item.now) then package_stanza item.now else [])) }
     ensures front { take (length out.old.items) out.new.items ≡ out.old.items }
 {
-    if is_listed(key, item, suite, component, architecture) {
+    if lists_package(key, item, suite, component, architecture) {
         let stanza = package_stanza(alloc, item)?;
         out.extend_from_slice(&stanza)?;
     }

@@ -38,7 +38,7 @@ pub fn index_path(alloc: Global, component: &str, architecture: &str) -> Result<
 
 /// The text of an index other than Release, of the suite at a position.
 #[tactic(auto, unfolding(crate::specs::Release::listed_text))]
-fn listed_text(
+pub fn listed_text(
     alloc: Global,
     shelves: &Shelves,
     suite: usize,

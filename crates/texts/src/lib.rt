@@ -9,9 +9,9 @@ mod source_index;
 mod stanza;
 mod suite_release;
 
-pub use binary_index::packages;
-pub use index::{Index, index_path, index_text, indices_of, rendered_index};
-pub use source_index::sources;
+pub use binary_index::{lists_package, packages};
+pub use index::{Index, index_path, index_text, indices_of, listed_text, rendered_index};
+pub use source_index::{lists_source, sources};
 pub use suite_release::release;
 
 #[cfg(test)]

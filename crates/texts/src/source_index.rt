@@ -171,7 +171,7 @@ fn source_stanza(alloc: Global, item: &Item) -> Result<Vec<u8>, AllocError>
 
 /// Whether Sources lists the item: it is a source of the suite and component.
 #[tactic(auto, unfolding(crate::specs::Stanzas::is_in_sources))]
-fn is_listed(key: &ShelfKey, item: &Item, suite: usize, component: &str) -> bool
+pub fn lists_source(key: &ShelfKey, item: &Item, suite: usize, component: &str) -> bool
     ensures { result ≡ is_in_sources suite component.now (key.now, item.now) }
 {
     if key.suite != suite || key.kind != Kind::Source {
@@ -192,7 +192,7 @@ fn push_listed(
     ensures ok { OnOk result (out.new.items ≡ out.old.items ++ (if is_in_sources suite component.now (key.now, item.now) then source_stanza item.now else [])) }
     ensures front { take (length out.old.items) out.new.items ≡ out.old.items }
 {
-    if is_listed(key, item, suite, component) {
+    if lists_source(key, item, suite, component) {
         let stanza = source_stanza(alloc, item)?;
         out.extend_from_slice(&stanza)?;
     }

@@ -13,14 +13,14 @@ use Rattle.keep.proofs.plain.PlainKeeperKeeper.apply.Goals as goal
 
 pub shelves_after-requires : goal.shelves_after-requires
 unfolding plain_book
-shelves_after-requires c = subst (AreSteps c.args.self.now.shelves) (sym c.as_slice-steps.ensures) c.requires.plans
+shelves_after-requires c = subst (AreSteps c.args.self.now.shelves) (sym c.as_slice-steps.ensures) (c.requires.sound tt tt).plans
 
 pub dates_after-requires-clause-dates : goal.dates_after-requires-clause-dates
 dates_after-requires-clause-dates c = subst (All (λ date. date ≤ 4102444799)) (sym c.deref-2.ensures.value) (λ k d h. ∥∥₁_elim c.args.self.now.in_range (search props) (λ all. all k d h))
 
 pub returns-clause-ok : goal.returns-clause-ok
 unfolding plain_book
-returns-clause-ok c = λ bodies apart has.
+returns-clause-ok c = λ clean bodies apart has.
     let self = c.args.self.now in
     let change = c.args.change.now in
     let steps = c.as_slice-steps.ensures in

@@ -13,14 +13,14 @@ on_err (Err e) p = p
 
 pub returns-then-has_arrival-clause-new : goal.returns-then-has_arrival-clause-new
 unfolding plain_book
-returns-then-has_arrival-clause-new c = λ bodies apart has body.
+returns-then-has_arrival-clause-new c = λ clean bodies apart has body.
     let a : Arrival = record { name = c.args.name.now; body = c.args.body.now; moment = c.args.moment } in
     let told : Apart c.args.self.now.arrivals.items a = record { bodies = bodies; apart = apart; arrived = has.arrivals; body = body } in
     ap not (sym (by_print a c.has_arrival.ensures c.print_of-print.ensures c.deref.ensures.value c.if-has_arrival.true) ∙ has_arrival_by_print c.args.self.now.arrivals.items a told)
 
 pub returns-then-has_arrival-clause-ok : goal.returns-then-has_arrival-clause-ok
 unfolding plain_book
-returns-then-has_arrival-clause-ok c = λ bodies apart has body.
+returns-then-has_arrival-clause-ok c = λ clean bodies apart has body.
     let a : Arrival = record { name = c.args.name.now; body = c.args.body.now; moment = c.args.moment } in
     let told : Apart c.args.self.now.arrivals.items a = record { bodies = bodies; apart = apart; arrived = has.arrivals; body = body } in
     let with : List Arrival → Book = λ xs. record (plain_book c.args.self.now) { arrivals = xs } in
@@ -35,18 +35,18 @@ pub returns-in_err-push-clause-err : goal.returns-in_err-push-clause-err
 unfolding plain_book
 returns-in_err-push-clause-err c =
     let with : List Arrival → Book = λ xs. record (plain_book c.args.self.now) { arrivals = xs } in
-    on_err c.from_residual-in_err-push.result (ap with c.in_err-push.ensures.items)
+    λ clean up. on_err c.from_residual-in_err-push.result (ap with c.in_err-push.ensures.items)
 
 pub returns-clause-new : goal.returns-clause-new
 unfolding plain_book
-returns-clause-new c = λ bodies apart has body.
+returns-clause-new c = λ clean bodies apart has body.
     let a : Arrival = record { name = c.args.name.now; body = c.args.body.now; moment = c.args.moment } in
     let told : Apart c.args.self.now.arrivals.items a = record { bodies = bodies; apart = apart; arrived = has.arrivals; body = body } in
     ap not (sym (by_print a c.has_arrival.ensures c.print_of-print.ensures c.deref.ensures.value c.if-has_arrival.false) ∙ has_arrival_by_print c.args.self.now.arrivals.items a told)
 
 pub returns-clause-ok : goal.returns-clause-ok
 unfolding plain_book
-returns-clause-ok c = λ bodies apart has body.
+returns-clause-ok c = λ clean bodies apart has body.
     let a : Arrival = record { name = c.args.name.now; body = c.args.body.now; moment = c.args.moment } in
     let told : Apart c.args.self.now.arrivals.items a = record { bodies = bodies; apart = apart; arrived = has.arrivals; body = body } in
     let with : List Arrival → Book = λ xs. record (plain_book c.args.self.now) { arrivals = xs } in

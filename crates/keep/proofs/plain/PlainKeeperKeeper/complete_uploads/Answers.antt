@@ -7,7 +7,7 @@ use Rattle.keep.proofs.plain.PlainKeeperKeeper.complete_uploads.Goals as goal
 
 pub returns-clause-signs : goal.returns-clause-signs
 unfolding plain_book due unjudged
-returns-clause-signs c =
+returns-clause-signs c = λ clean.
     ap (map (λ u. (u.name, u.print)))
     (c.in_ok-complete_uploads.ensures
     ∙ ap (λ arrivals. map (upload_of arrivals) (filter (is_complete arrivals) (unjudged_in arrivals c.deref-2.result.now))) c.deref.ensures.value
