@@ -17,7 +17,7 @@ pub enum Stop {
     Config(ConfigFault),
     #[error("no upload is complete")]
     NoUpload,
-    #[error("how many packages, and how many times")]
+    #[error("the words are no workload")]
     Words,
 }
 

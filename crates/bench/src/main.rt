@@ -1,10 +1,14 @@
-//! A workload on what the suites show: shelves are made of so many packages, and then a newer version of one package
-//! after another is judged and admitted, so many times.
+//! Two workloads.
 //!
-//!     bench PACKAGES TIMES
+//!     bench shelves PACKAGES ADMISSIONS PATH RENDERINGS
+//!     bench uploads COUNT once|each
 //!
-//! It prints how many packages are shown. Timed from outside, and less a run with no times, it tells what one admission
-//! costs.
+//! The first is on what the suites show: shelves are made of so many packages, a newer version of one package after
+//! another is judged and admitted, so many times, and then the index at a path is rendered, so many times. It prints how
+//! many packages are shown, and how many bytes the index has where it was rendered. Timed from outside, and less a run
+//! with no admissions and no renderings, it tells what one of them costs. The second is on the whole archive over the
+//! plain keeper: so many uploads are delivered, with one run of the queue at the end or a run after each. It prints how
+//! many lines the runs report.
 #![tactic(auto)]
 
 mod fault;
@@ -16,7 +20,8 @@ use std::alloc::Global;
 use std::process::ExitCode;
 use std::{env, io};
 use suites::{Shelves, plan_upload};
-use upload::{BOX, package_upload};
+use texts::index_text;
+use upload::{BOX, handed_over, package_upload};
 
 /// Judges the package of this number in this version, and admits it.
 fn admit(
@@ -41,27 +46,86 @@ fn made_shelves(alloc: Global, config: &Config, count: u64) -> Result<Shelves, S
     Ok(shelves)
 }
 
-/// Admits a newer version of one package after another, so many times, and answers how many packages are shown.
-fn admit_more(alloc: Global, count: u64, times: u64) -> Result<usize, Stop> {
-    let config = Config::read(alloc, BOX)?;
-    let mut shelves = made_shelves(alloc, &config, count)?;
+/// Admits a newer version of one package after another, so many times.
+fn admit_more(
+    alloc: Global,
+    config: &Config,
+    shelves: &mut Shelves,
+    count: u64,
+    times: u64,
+) -> Result<(), Stop> {
     for time in 0..times {
         if let Some(number) = time.checked_rem(count) {
-            admit(alloc, &config, &mut shelves, number, time.saturating_add(2))?;
+            admit(alloc, config, shelves, number, time.saturating_add(2))?;
         }
     }
-    Ok(shelves.items().len())
+    Ok(())
 }
 
-/// Does what the words ask for, and answers a number to print.
-fn answer(alloc: Global, words: &[String]) -> Result<usize, Stop> {
-    let [count, times] = words else {
-        return Err(Stop::Words);
-    };
-    let (Ok(count), Ok(times)) = (count.parse::<u64>(), times.parse::<u64>()) else {
-        return Err(Stop::Words);
-    };
-    admit_more(alloc, count, times)
+/// Renders the index at a path so many times, and answers how many bytes it has.
+fn render(
+    alloc: Global,
+    config: &Config,
+    shelves: &Shelves,
+    path: &str,
+    times: u64,
+) -> Result<usize, Stop> {
+    let mut bytes = 0;
+    for _ in 0..times {
+        if let Some(text) = index_text(alloc, config, shelves, &[0], path)? {
+            bytes = text.len();
+        }
+    }
+    Ok(bytes)
+}
+
+/// The first workload: how many packages are shown, and how many bytes the index has.
+fn shelves(
+    alloc: Global,
+    count: u64,
+    admissions: u64,
+    path: &str,
+    renderings: u64,
+) -> Result<String, Stop> {
+    let config = Config::read(alloc, BOX)?;
+    let mut shelves = made_shelves(alloc, &config, count)?;
+    admit_more(alloc, &config, &mut shelves, count, admissions)?;
+    let bytes = render(alloc, &config, &shelves, path, renderings)?;
+    let packages = shelves.items().len();
+    Ok(format!(in alloc; "{packages} {bytes}")?)
+}
+
+/// The second workload: how many lines the runs report.
+fn uploads(alloc: Global, count: u64, each: bool) -> Result<String, Stop> {
+    let lines = handed_over(alloc, count, each)?;
+    Ok(format!(in alloc; "{lines}")?)
+}
+
+/// A number that a word is.
+fn number(word: &str) -> Result<u64, Stop> {
+    match word.parse::<u64>() {
+        Ok(number) => Ok(number),
+        Err(_) => Err(Stop::Words),
+    }
+}
+
+/// Does what the words ask for, and answers the line to print.
+fn answer(alloc: Global, words: &[String]) -> Result<String, Stop> {
+    match words {
+        [name, count, admissions, path, renderings] if name.as_str() == "shelves" => shelves(
+            alloc,
+            number(count.as_str())?,
+            number(admissions.as_str())?,
+            path.as_str(),
+            number(renderings.as_str())?,
+        ),
+        [name, count, runs] if name.as_str() == "uploads" => match runs.as_str() {
+            "once" => uploads(alloc, number(count.as_str())?, false),
+            "each" => uploads(alloc, number(count.as_str())?, true),
+            _ => Err(Stop::Words),
+        },
+        _ => Err(Stop::Words),
+    }
 }
 
 fn run(rt: &HostRuntime) -> io::Result<u8> {
@@ -71,8 +135,8 @@ fn run(rt: &HostRuntime) -> io::Result<u8> {
         words.push(word)?;
     }
     match answer(alloc, &words) {
-        Ok(number) => {
-            rt.println(format_args!("{number}"))?;
+        Ok(line) => {
+            rt.println(format_args!("{line}"))?;
             Ok(0)
         }
         Err(stop) => {

@@ -54,15 +54,26 @@ fn changes_text(
     )?)
 }
 
-/// The upload of the package of a number, in a version, as an archive of its own has it once its files are there.
-pub fn package_upload(alloc: Global, number: u64, version: u64) -> Result<Upload, Stop> {
+/// The three files of an upload of one package, by their names.
+#[derive(Drop)]
+pub struct Files {
+    changes_name: String,
+    changes: String,
+    deb_name: String,
+    deb: String,
+    sidecar_name: String,
+    sidecar: String,
+}
+
+/// The files of the package of a number, in a version; the package file has the bytes of its version.
+pub fn package_files(alloc: Global, number: u64, version: u64) -> Result<Files, Stop> {
     let source = format!(in alloc; "package{number}")?;
-    let version = format!(in alloc; "{version}.0-1")?;
-    let (source, version) = (source.as_str(), version.as_str());
+    let deb = format!(in alloc; "{version}.0-1")?;
+    let (source, version) = (source.as_str(), deb.as_str());
     let sidecar = format!(in alloc;
         "Package: {source}\nVersion: {version}\nArchitecture: amd64\nMaintainer: Ann <ann@example.org>\nDescription: greets\n"
     )?;
-    let text = changes_text(
+    let changes = changes_text(
         alloc,
         source,
         version,
@@ -71,15 +82,54 @@ pub fn package_upload(alloc: Global, number: u64, version: u64) -> Result<Upload
     )?;
     let stem = format!(in alloc; "{source}_{version}_amd64")?;
     let stem = stem.as_str();
-    let changes_name = format!(in alloc; "{stem}.changes")?;
-    let deb_name = format!(in alloc; "{stem}.deb")?;
-    let sidecar_name = format!(in alloc; "{stem}.control")?;
-    let mut archive = Archive::new(PlainKeeper::new(alloc, Config::read(alloc, BOX)?, 0)?);
-    archive.deliver(alloc, changes_name.as_str(), text.as_bytes(), 0)?;
-    archive.deliver(alloc, deb_name.as_str(), version.as_bytes(), 0)?;
-    archive.deliver(alloc, sidecar_name.as_str(), sidecar.as_bytes(), 0)?;
+    Ok(Files {
+        changes_name: format!(in alloc; "{stem}.changes")?,
+        changes,
+        deb_name: format!(in alloc; "{stem}.deb")?,
+        deb,
+        sidecar_name: format!(in alloc; "{stem}.control")?,
+        sidecar,
+    })
+}
+
+/// An archive in which nothing is yet.
+pub fn empty_archive(alloc: Global) -> Result<Archive<PlainKeeper>, Stop> {
+    Ok(Archive::new(PlainKeeper::new(alloc, Config::read(alloc, BOX)?, 0)?))
+}
+
+/// Delivers the files of an upload.
+pub fn deliver(
+    alloc: Global,
+    archive: &mut Archive<PlainKeeper>,
+    files: &Files,
+) -> Result<(), Stop> {
+    let (changes, deb, sidecar) = (&files.changes, &files.deb, &files.sidecar);
+    archive.deliver(alloc, files.changes_name.as_str(), changes.as_bytes(), 0)?;
+    archive.deliver(alloc, files.deb_name.as_str(), deb.as_bytes(), 0)?;
+    archive.deliver(alloc, files.sidecar_name.as_str(), sidecar.as_bytes(), 0)?;
+    Ok(())
+}
+
+/// The upload of the package of a number, in a version, as an archive of its own has it once its files are there.
+pub fn package_upload(alloc: Global, number: u64, version: u64) -> Result<Upload, Stop> {
+    let mut archive = empty_archive(alloc)?;
+    deliver(alloc, &mut archive, &package_files(alloc, number, version)?)?;
     match archive.into_keeper().complete_uploads(alloc, 0)?.pop() {
         Some(upload) => Ok(upload),
         None => Err(Stop::NoUpload),
     }
+}
+
+/// Delivers so many uploads of different packages to an archive, with a run of the queue after each or one at the end,
+/// and answers how many lines the runs report.
+pub fn handed_over(alloc: Global, count: u64, each: bool) -> Result<usize, Stop> {
+    let mut archive = empty_archive(alloc)?;
+    let mut lines = 0usize;
+    for number in 0..count {
+        deliver(alloc, &mut archive, &package_files(alloc, number, 1)?)?;
+        if each {
+            lines = lines.saturating_add(archive.run(alloc, number)?.lines.len());
+        }
+    }
+    Ok(lines.saturating_add(archive.run(alloc, count)?.lines.len()))
 }

@@ -1,5 +1,5 @@
 -- The answers of copies, from what the keeper and the plan say.
-use Rattle.std.proofs.Common.{◌≡◌, ◌<◌, ◌≤◌, ℕ, Bool, true, false, List, [], ◌∷◌, length, Option, Some, None, Ok, Err, refl, sym, ap, subst, ◌∙◌, nat_lt, nat_eq, if◌then◌else◌}
+use Rattle.std.proofs.Common.{◌≡◌, ◌<◌, ◌≤◌, ℕ, Bool, true, false, List, [], ◌∷◌, map, take, length, Option, Some, None, Ok, Err, refl, sym, ap, subst, ◌∙◌, nat_lt, nat_eq, if◌then◌else◌}
 use Rattle.std.specs.Prelude.{bytes_eq, position}
 use Rattle.std.specs.FinMap.{entries}
 use Rattle.std.specs.List.{list_any}
@@ -11,17 +11,20 @@ use Rattle.rules.specs.declared.suite.Suite.{Suite}
 use Rattle.suites.specs.Plan as plans
 use Rattle.suites.specs.Shelves.{ShelvesValue}
 use Rattle.suites.specs.declared.plan.Plan.{Plan}
-use Rattle.keep.specs.Book.{Book, amended, latest}
-use Rattle.keep.specs.Keeping.{HasBodies, IsSound, NoCollision}
+use Rattle.keep.specs.Book.{Book, amended, due, judgements, latest, shown_past}
+use Rattle.keep.specs.Keeping.{AreRenewed, AreSteps, HasBodies, IsSound, NoCollision, sign_of, sign_on}
+use Rattle.keep.specs.declared.change.IndexText.{IndexText}
 use Rattle.keep.specs.declared.change.Step.{Step}
-use Rattle.queue.specs.Answers.{IsAnswer, IsFaithful, IsStep, answer, is_refused}
+use Rattle.queue.specs.Answers.{IsAnswer, IsFaithful, IsKept, IsStep, answer, is_refused}
 use Rattle.queue.specs.Archives.{Stands, archive, book_from, book_of, is_shown_of, shown_by_print, shown_in, suite_named}
 use Rattle.queue.specs.Copies.{AreSuites, IsCopy, copy_fault, is_item_of, shows_source, source_fault, suites_fault}
 use Rattle.queue.specs.Deliveries.{or_else}
 use Rattle.queue.specs.Histories.{Copying, Count, History}
 use Rattle.queue.specs.declared.fault.Fault.{Fault}
 use Rattle.queue.specs.declared.fault.Fault.TheVariants.{Moment, UnknownSuite, SameSuite, NothingToCopy}
+use Rattle.queue.proofs.Kept.{IsSame}
 use Rattle.queue.proofs.Known.{apart_with_empty, known}
+use Rattle.queue.proofs.RunAnswers.{without_texts}
 use Rattle.queue.proofs.SimulationCopies.{copy_step, copy_step_of, shown_of-printed}
 use Rattle.queue.proofs.StepAnswers.{refused_step}
 
@@ -112,37 +115,52 @@ module _ (may_fail : Bool) (h : History) (from to source : List ℕ) (moment : �
   unfolding copy_fault book_of book_from
   fault_answered is = by_late (nat_lt latest moment) refl is
 
-  -- a copy that is refused for what the book has
-  pub refused_copy : (old new : Book) → Stands old h → new ≡ old → copy_fault old from to source moment ≡ Some fault → IsStep may_fail h (Copying from to source moment) (Err fault) new
-  refused_copy old new stands same is =
-      refused_step may_fail h (Copying from to source moment) fault old new stands same
-      (fault_answered (ap (λ b. copy_fault b from to source moment) (sym stands) ∙ is))
+  -- a copy that is refused for what the history has
+  pub refused_copy : (was_open is_open : Type 0) (old new : Book) → IsKept was_open old h → IsSame was_open is_open old new → copy_fault (book_of h) from to source moment ≡ Some fault
+      → IsStep may_fail h (Copying from to source moment) (Err fault) is_open new
+  refused_copy was_open is_open old new kept same is =
+      refused_step may_fail h (Copying from to source moment) fault was_open is_open old new kept same (fault_answered is)
 
-stands_config : (old : Book) (h : History) → Stands old h → old.config ≡ h.opening.config
+-- the fault by the suites is that of the history, open or not
+pub named_in : (is_open : Type 0) (old : Book) (h : History) (config : ConfigValue) (from to source : List ℕ) (moment : ℕ) (fault : Fault) → IsKept is_open old h → moment ≤ latest → config ≡ old.config
+    → suites_fault (suite_named config from) (suite_named config to) ≡ Some fault → copy_fault (book_of h) from to source moment ≡ Some fault
 unfolding book_of book_from
-stands_config old h stands = ap (λ (b : Book). b.config) stands
+named_in is_open old h config from to source moment fault kept in_time is_config is =
+    named_fault (book_of h) config from to source moment fault in_time (is_config ∙ kept.config) is
 
 -- a copy within its time between two suites is not refused by its arguments and the configuration
-pub free_copy : (h : History) (old : Book) (config : ConfigValue) (from to source : List ℕ) (moment f t : ℕ) → Stands old h → config ≡ old.config → moment ≤ latest → AreSuites config from to f t
+pub free_copy : (h : History) (old : Book) (config : ConfigValue) (from to source : List ℕ) (moment f t : ℕ) (is_open : Type 0) → IsKept is_open old h → config ≡ old.config → moment ≤ latest → AreSuites config from to f t
     → is_refused h (Copying from to source moment) ≡ false
 unfolding is_refused
-free_copy h old config from to source moment f t stands is_config in_time suites =
-    let here = subst (λ c. AreSuites c from to f t) (is_config ∙ stands_config old h stands) suites in
+free_copy h old config from to source moment f t is_open kept is_config in_time suites =
+    let here = subst (λ c. AreSuites c from to f t) (is_config ∙ kept.config) suites in
     rw (le-ltb latest moment in_time, here.from_named, here.to_named) here.other
 
 -- ---- a copy that is done
 
--- the change of a copy is sound
-pub sound_copy : (moment : ℕ) (old now : Book) (config : ConfigValue) (shelves : ShelvesValue) (f t : ℕ) (source : List ℕ) (plan : Plan) (made : List Step)
-    → moment ≤ latest → now ≡ old → shelves ≡ old.shown → made ≡ copy_step_of plan ∷ [] → IsCopy config shelves f t source plan → IsSound now (record { moment = moment; steps = made })
-sound_copy moment old now config shelves f t source plan made in_time same is_shown is_steps copy =
+-- the step of a copy, on what is shown
+pub copy_steps : (old now : Book) (config : ConfigValue) (shelves : ShelvesValue) (f t : ℕ) (source : List ℕ) (plan : Plan) (made : List Step)
+    → now ≡ old → shelves ≡ old.shown → made ≡ copy_step_of plan ∷ [] → IsCopy config shelves f t source plan → AreSteps now.shown made
+copy_steps old now config shelves f t source plan made same is_shown is_steps copy =
     let after = plans.after_copy config shelves f t source in
-    subst (λ xs. IsSound now (record { moment = moment; steps = xs })) (sym is_steps)
-    (record {
-      moment = in_time;
-      plans = ((after, subst (λ s. plans.IsStep s after plan) (is_shown ∙ ap (λ (b : Book). b.shown) (sym same)) copy.step), tt);
-      judged = refl;
-    })
+    subst (AreSteps now.shown) (sym is_steps) ((after, subst (λ s. plans.IsStep s after plan) (is_shown ∙ ap (λ (b : Book). b.shown) (sym same)) copy.step), tt)
+
+-- what it leaves shown
+pub copy_past : (old now : Book) (shelves after : ShelvesValue) (plan : Plan) (made : List Step)
+    → now ≡ old → shelves ≡ old.shown → made ≡ copy_step_of plan ∷ [] → after ≡ plans.applied shelves plan → after ≡ shown_past now.shown made
+copy_past old now shelves after plan made same is_shown is_steps is =
+    is ∙ ap (λ (m : ShelvesValue). plans.applied m plan) (is_shown ∙ ap (λ (b : Book). b.shown) (sym same)) ∙ ap (shown_past now.shown) (sym is_steps)
+
+-- the change of a copy is sound
+pub sound_copy : (moment : ℕ) (old now : Book) (config : ConfigValue) (shelves : ShelvesValue) (f t : ℕ) (source : List ℕ) (plan : Plan) (made : List Step) (texts : List IndexText)
+    → now ≡ old → shelves ≡ old.shown → made ≡ copy_step_of plan ∷ [] → IsCopy config shelves f t source plan
+    → AreRenewed now (amended now (record { moment = moment; steps = made; texts = texts })) texts
+    → IsSound now (record { moment = moment; steps = made; texts = texts })
+sound_copy moment old now config shelves f t source plan made texts same is_shown is_steps copy renewed = record {
+  plans = copy_steps old now config shelves f t source plan made same is_shown is_steps copy;
+  judged = subst (λ xs. map sign_on (judgements xs) ≡ map sign_of (take (length (judgements xs)) (due now))) (sym is_steps) refl;
+  texts = renewed;
+}
 
 copy_on : (old : Book) (config : ConfigValue) (shelves : ShelvesValue) (f t : ℕ) (source : List ℕ) (plan : Plan) → config ≡ old.config → shelves ≡ old.shown → IsCopy config shelves f t source plan
     → IsCopy old.config old.shown f t source plan
@@ -150,21 +168,22 @@ copy_on old config shelves f t source plan is_config is_shown copy =
     subst (λ c. IsCopy c old.shown f t source plan) is_config (subst (λ s. IsCopy config s f t source plan) is_shown copy)
 
 -- A copy that is done, where what the keeper says holds for all bodies without collision.
-pub done_copy : (may_fail : Bool) (h : History) (from to source : List ℕ) (moment f t : ℕ) (old now new : Book) (config : ConfigValue) (shelves : ShelvesValue) (plan : Plan) (made : List Step) (items : ℕ)
+pub done_copy : (may_fail : Bool) (h : History) (from to source : List ℕ) (moment f t : ℕ) (is_open : Type 0) (old now new : Book) (config : ConfigValue) (shelves : ShelvesValue) (plan : Plan) (made : List Step) (texts : List IndexText) (items : ℕ)
     → Stands old h → IsFaithful h (Copying from to source moment ∷ []) → moment ≤ latest → now ≡ old → shelves ≡ old.shown → made ≡ copy_step_of plan ∷ []
     → AreSuites old.config from to f t → config ≡ now.config → IsCopy config shelves f t source plan
-    → ((bodies : List (List ℕ)) → NoCollision bodies → HasBodies bodies now → new ≡ amended now (record { moment = moment; steps = made }))
+    → ((bodies : List (List ℕ)) → NoCollision bodies → HasBodies bodies now → new ≡ amended now (record { moment = moment; steps = made; texts = texts }))
     → items ≡ length plan.put
-    → IsStep may_fail h (Copying from to source moment) (Ok (Count items)) new
+    → IsStep may_fail h (Copying from to source moment) (Ok (Count items)) is_open new
 unfolding shows_source is_item_of
-done_copy may_fail h from to source moment f t old now new config shelves plan made items stands faithful in_time same is_shown is_steps suites is_config copied is count =
+done_copy may_fail h from to source moment f t is_open old now new config shelves plan made texts items stands faithful in_time same is_shown is_steps suites is_config copied is count =
     let bodies = [] ∷ faithful.bodies in
     let apart = apart_with_empty faithful.bodies faithful.apart in
     let have : HasBodies bodies old = subst (HasBodies bodies) (sym stands) (known h (Copying from to source moment ∷ []) faithful) in
     let copy = copy_on old config shelves f t source plan (is_config ∙ ap (λ (b : Book). b.config) same) is_shown copied in
-    let is_new : new ≡ amended old (record { moment = moment; steps = copy_step_of plan ∷ [] }) =
+    let is_new : new ≡ amended old (record { moment = moment; steps = copy_step_of plan ∷ []; texts = [] }) =
     is bodies apart (subst (HasBodies bodies) (sym same) have)
-    ∙ ap (λ b. amended b (record { moment = moment; steps = made })) same
-    ∙ ap (λ xs. amended old (record { moment = moment; steps = xs })) is_steps in
-    subst (λ n. IsStep may_fail h (Copying from to source moment) (Ok (Count n)) new) (sym count)
-    (copy_step may_fail h from to source moment f t old new plan stands faithful (le-ltb latest moment in_time) copy.sound suites.from_named suites.to_named suites.other copy.shows copy.step is_new)
+    ∙ ap (λ b. amended b (record { moment = moment; steps = made; texts = texts })) same
+    ∙ without_texts old moment made texts
+    ∙ ap (λ xs. amended old (record { moment = moment; steps = xs; texts = [] })) is_steps in
+    subst (λ n. IsStep may_fail h (Copying from to source moment) (Ok (Count n)) is_open new) (sym count)
+    (copy_step may_fail h from to source moment f t is_open old new plan stands faithful (le-ltb latest moment in_time) copy.sound suites.from_named suites.to_named suites.other copy.shows copy.step is_new)

@@ -2,6 +2,7 @@ pub mod Lists
 pub mod Steps
 pub mod Known
 pub mod Judged
+pub mod Kept
 pub mod StepAnswers
 pub mod ContentsMaps
 pub mod ShownPrints
@@ -25,3 +26,10 @@ pub mod SimulationCopies
 pub mod CopyAnswers
 pub mod Runs
 pub mod Openings
+pub mod RenewedLists
+pub mod RenewedShelves
+pub mod RenewedPaths
+pub mod RenewedTexts
+pub mod ReadLemmas
+pub mod RenewedSteps
+pub mod Renewed

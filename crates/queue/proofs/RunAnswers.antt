@@ -4,16 +4,18 @@ use Rattle.std.proofs.lemmas.Bool.{lt-ltb, le-ltb}
 use Rattle.rules.specs.Values.{ConfigValue}
 use Rattle.suites.specs.Shelves.{AreSound, ShelvesValue}
 use Rattle.suites.specs.Upload.{UploadValue}
-use Rattle.keep.specs.Book.{Book, amended, due, judgements, latest, upload_of}
-use Rattle.keep.specs.Keeping.{HasBodies, IsSound, NoCollision, sign_of}
+use Rattle.keep.specs.Book.{Book, amended, due, judgements, latest, shown_past, upload_of}
+use Rattle.keep.specs.Keeping.{AreRenewed, AreSteps, HasBodies, IsSound, NoCollision, sign_of}
+use Rattle.keep.specs.declared.change.Change.{Change}
+use Rattle.keep.specs.declared.change.IndexText.{IndexText}
 use Rattle.keep.specs.declared.change.Step.{Step}
 use Rattle.queue.specs.Answers.{IsAnswer, IsFaithful, IsStep, answer, is_refused, report_line}
 use Rattle.queue.specs.Archives.{Stands}
 use Rattle.queue.specs.Histories.{History, Lines, QueueRun}
-use Rattle.queue.specs.Judging.{AreJudged}
+use Rattle.queue.specs.Judging.{AreJudged, after_uploads}
 use Rattle.queue.specs.declared.fault.Fault.TheVariants.{Moment}
 use Rattle.queue.proofs.Known.{apart_with_empty, known}
-use Rattle.queue.proofs.RunJudged.{is_sound, sign_in}
+use Rattle.queue.proofs.RunJudged.{is_sound, past_uploads, sign_in, steps_are}
 use Rattle.queue.proofs.SimulationRun.{run_step}
 
 -- a moment past the limit is refused
@@ -33,35 +35,67 @@ judged_on book config shelves us them steps is_config is_shown is_us judged =
     subst (λ c. AreJudged c book.shown us steps) is_config
     (subst (λ s. AreJudged config s us steps) is_shown (subst (λ xs. AreJudged config shelves xs steps) is_us judged))
 
--- The change of a run is sound, where the keeper's uploads have the names and the prints of those that are due.
-pub sound_run : (moment : ℕ) (old now : Book) (config : ConfigValue) (shelves : ShelvesValue) (us them : List UploadValue) (steps made : List Step)
-    → moment ≤ latest → now ≡ old → config ≡ now.config → shelves ≡ old.shown → them ≡ us → made ≡ steps
-    → map sign_in us ≡ map sign_of (due old) → AreJudged config shelves them steps → IsSound now (record { moment = moment; steps = made })
-sound_run moment old now config shelves us them steps made in_time same is_config is_shown is_us is_steps signs judged =
-    subst (λ xs. IsSound now (record { moment = moment; steps = xs })) (sym is_steps)
-    (is_sound now moment us steps in_time
-    (judged_on now config shelves us them steps is_config (is_shown ∙ ap (λ (b : Book). b.shown) (sym same)) is_us judged)
-    (signs ∙ ap (λ (b : Book). map sign_of (due b)) (sym same)))
+-- What a book is after a change does not hang on the texts that the change names.
+pub without_texts : (book : Book) (moment : ℕ) (steps : List Step) (texts : List IndexText)
+    → amended book (record { moment = moment; steps = steps; texts = texts }) ≡ amended book (record { moment = moment; steps = steps; texts = [] })
+unfolding amended
+without_texts book moment steps texts = refl
+
+-- What is said of a change of the book then, of the book now, which is the same one.
+pub renewed_change : (moment : ℕ) (then now : Book) (after : ShelvesValue) (given made : List Step) (found texts : List IndexText)
+    → now ≡ then → made ≡ given → texts ≡ found
+    → ((change : Change) → change.moment ≡ moment → change.steps ≡ given → AreSteps then.shown given → after ≡ shown_past then.shown given → AreRenewed then (amended then change) found)
+    → AreSteps then.shown given → after ≡ shown_past then.shown given
+    → AreRenewed now (amended now (record { moment = moment; steps = made; texts = texts })) texts
+renewed_change moment then now after given made found texts same is_made is_texts told sound is_after =
+    let change : Change = record { moment = moment; steps = made; texts = texts } in
+    subst (λ b. AreRenewed b (amended b change) texts) (sym same)
+    (subst (AreRenewed then (amended then change)) (sym is_texts) (told change refl is_made sound is_after))
+
+-- the steps of a run, on what is shown, and what they leave
+pub run_steps : (then : Book) (config : ConfigValue) (shelves : ShelvesValue) (them : List UploadValue) (steps given : List Step)
+    → shelves ≡ then.shown → given ≡ steps → AreJudged config shelves them steps → AreSteps then.shown given
+run_steps then config shelves them steps given is_shown is_given judged =
+    subst (λ m. AreSteps m given) is_shown (subst (AreSteps shelves) (sym is_given) (steps_are config shelves them steps judged))
+
+pub run_past : (then : Book) (config : ConfigValue) (shelves after : ShelvesValue) (them : List UploadValue) (steps given : List Step)
+    → shelves ≡ then.shown → given ≡ steps → AreJudged config shelves them steps → after ≡ after_uploads config shelves them → after ≡ shown_past then.shown given
+run_past then config shelves after them steps given is_shown is_given judged is =
+    is ∙ past_uploads config shelves them steps judged ∙ ap (λ (m : ShelvesValue). shown_past m steps) is_shown ∙ ap (shown_past then.shown) (sym is_given)
+
+-- The change of a run is sound, where the keeper's uploads have the names and the prints of those that are due, and its
+-- texts are those that differ.
+pub sound_run : (moment : ℕ) (old now : Book) (config : ConfigValue) (shelves : ShelvesValue) (us them : List UploadValue) (steps made : List Step) (texts : List IndexText)
+    → now ≡ old → config ≡ now.config → shelves ≡ old.shown → them ≡ us → made ≡ steps
+    → map sign_in us ≡ map sign_of (due old) → AreJudged config shelves them steps
+    → AreRenewed now (amended now (record { moment = moment; steps = made; texts = texts })) texts
+    → IsSound now (record { moment = moment; steps = made; texts = texts })
+sound_run moment old now config shelves us them steps made texts same is_config is_shown is_us is_steps signs judged renewed =
+    is_sound now moment us made texts
+    (subst (AreJudged now.config now.shown us) (sym is_steps) (judged_on now config shelves us them steps is_config (is_shown ∙ ap (λ (b : Book). b.shown) (sym same)) is_us judged))
+    (signs ∙ ap (λ (b : Book). map sign_of (due b)) (sym same))
+    renewed
 
 -- A run that is done, where what the keeper says holds for all bodies without collision.
-pub ran_step : (may_fail : Bool) (h : History) (moment : ℕ) (old now new : Book) (config : ConfigValue) (shelves : ShelvesValue) (us them : List UploadValue) (steps made : List Step) (lines : List (List ℕ))
+pub ran_step : (may_fail : Bool) (h : History) (moment : ℕ) (is_open : Type 0) (old now new : Book) (config : ConfigValue) (shelves : ShelvesValue) (us them : List UploadValue) (steps made : List Step) (texts : List IndexText) (lines : List (List ℕ))
     → Stands old h → IsFaithful h (QueueRun moment ∷ []) → moment ≤ latest
     → now ≡ old → config ≡ now.config → shelves ≡ old.shown → them ≡ us → made ≡ steps
     → ((bodies : List (List ℕ)) → NoCollision bodies → HasBodies bodies old → us ≡ map (upload_of old.arrivals) (due old))
     → AreSound shelves → AreJudged config shelves them steps
-    → ((bodies : List (List ℕ)) → NoCollision bodies → HasBodies bodies now → new ≡ amended now (record { moment = moment; steps = made }))
+    → ((bodies : List (List ℕ)) → NoCollision bodies → HasBodies bodies now → new ≡ amended now (record { moment = moment; steps = made; texts = texts }))
     → lines ≡ map report_line (judgements steps)
-    → IsStep may_fail h (QueueRun moment) (Ok (Lines lines)) new
-ran_step may_fail h moment old now new config shelves us them steps made lines stands faithful in_time same is_config is_shown is_us is_steps told sound judged is are =
+    → IsStep may_fail h (QueueRun moment) (Ok (Lines lines)) is_open new
+ran_step may_fail h moment is_open old now new config shelves us them steps made texts lines stands faithful in_time same is_config is_shown is_us is_steps told sound judged is are =
     let bodies = [] ∷ faithful.bodies in
     let apart = apart_with_empty faithful.bodies faithful.apart in
     let have : HasBodies bodies old = subst (HasBodies bodies) (sym stands) (known h (QueueRun moment ∷ []) faithful) in
-    let is_new : new ≡ amended old (record { moment = moment; steps = steps }) =
+    let is_new : new ≡ amended old (record { moment = moment; steps = steps; texts = [] }) =
     is bodies apart (subst (HasBodies bodies) (sym same) have)
-    ∙ ap (λ b. amended b (record { moment = moment; steps = made })) same
-    ∙ ap (λ xs. amended old (record { moment = moment; steps = xs })) is_steps in
-    subst (λ ls. IsStep may_fail h (QueueRun moment) (Ok (Lines ls)) new) (sym are)
-    (run_step may_fail h moment old new us steps stands faithful (le-ltb latest moment in_time)
+    ∙ ap (λ b. amended b (record { moment = moment; steps = made; texts = texts })) same
+    ∙ without_texts old moment made texts
+    ∙ ap (λ xs. amended old (record { moment = moment; steps = xs; texts = [] })) is_steps in
+    subst (λ ls. IsStep may_fail h (QueueRun moment) (Ok (Lines ls)) is_open new) (sym are)
+    (run_step may_fail h moment is_open old new us steps stands faithful (le-ltb latest moment in_time)
     (subst AreSound is_shown sound)
     (told bodies apart have)
     (judged_on old config shelves us them steps (is_config ∙ ap (λ (b : Book). b.config) same) is_shown is_us judged)

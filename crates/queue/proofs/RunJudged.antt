@@ -1,5 +1,5 @@
 -- What the steps of judged uploads are: sound, signed as the uploads, and the way to the shelves after them.
-use Rattle.std.proofs.Common.{◌≡◌, ℕ, suc, ◌≤◌, List, [], ◌∷◌, ◌++◌, map, take, length, Option, Some, None, refl, sym, ap, subst, ◌∙◌}
+use Rattle.std.proofs.Common.{◌≡◌, ℕ, suc, List, [], ◌∷◌, ◌++◌, map, take, length, Option, Some, None, refl, sym, ap, subst, ◌∙◌}
 use Rattle.std.specs.Prelude.{⊤}
 use Rattle.std.specs.List.{fold, filter_map, cons_option}
 use Rattle.rules.specs.Values.{ConfigValue}
@@ -7,9 +7,10 @@ use Rattle.suites.specs.Plan.{IsStep, after_upload, applied}
 use Rattle.suites.specs.Shelves.{ShelvesValue}
 use Rattle.suites.specs.Upload.{UploadValue}
 use Rattle.sums.specs.declared.print.Print.{Print}
-use Rattle.keep.specs.Book.{Book, Candidate, due, judgements, latest, shown_past}
-use Rattle.keep.specs.Keeping.{AreSteps, IsSound, sign_of, sign_on}
+use Rattle.keep.specs.Book.{Book, Candidate, amended, due, judgements, shown_past}
+use Rattle.keep.specs.Keeping.{AreRenewed, AreSteps, IsSound, sign_of, sign_on}
 use Rattle.keep.specs.declared.change.Change.{Change}
+use Rattle.keep.specs.declared.change.IndexText.{IndexText}
 use Rattle.keep.specs.declared.change.Judgement.{Judgement}
 use Rattle.keep.specs.declared.change.Step.{Step}
 use Rattle.queue.specs.Judging.{AreJudged, IsJudged, after_uploads, judgement_on}
@@ -53,14 +54,23 @@ take_all : {X : Type 0} (xs : List X) → take (length xs) xs ≡ xs
 take_all [] = refl
 take_all (x ∷ xs) = ap (λ rest. x ∷ rest) (take_all xs)
 
+-- what the steps leave shown is what the uploads leave
+pub past_uploads : (config : ConfigValue) (shelves : ShelvesValue) (us : List UploadValue) (steps : List Step) → AreJudged config shelves us steps → after_uploads config shelves us ≡ shown_past shelves steps
+past_uploads config shelves [] [] are = refl
+past_uploads config shelves [] (s ∷ ss) are = absurd are
+past_uploads config shelves (u ∷ us) [] are = absurd are
+past_uploads config shelves (u ∷ us) (s ∷ ss) are =
+    past_uploads config (after_upload config shelves u) us ss are.1 ∙ ap (λ (m : ShelvesValue). shown_past m ss) are.0.plan.items.made
+
 -- a change of all uploads that are due is sound
-pub is_sound : (book : Book) (moment : ℕ) (us : List UploadValue) (steps : List Step) → moment ≤ latest → AreJudged book.config book.shown us steps
-    → map sign_in us ≡ map sign_of (due book) → IsSound book (record { moment = moment; steps = steps })
-is_sound book moment us steps in_time are signs =
+pub is_sound : (book : Book) (moment : ℕ) (us : List UploadValue) (steps : List Step) (texts : List IndexText) → AreJudged book.config book.shown us steps
+    → map sign_in us ≡ map sign_of (due book) → AreRenewed book (amended book (record { moment = moment; steps = steps; texts = texts })) texts
+    → IsSound book (record { moment = moment; steps = steps; texts = texts })
+is_sound book moment us steps texts are signs renewed =
     let all : map sign_on (judgements steps) ≡ map sign_of (due book) = signs_are book.config book.shown us steps are ∙ signs in
     let count : length (judgements steps) ≡ length (due book) = sym (map_length sign_on (judgements steps)) ∙ ap length all ∙ map_length sign_of (due book) in
     record {
-      moment = in_time;
       plans = steps_are book.config book.shown us steps are;
       judged = all ∙ ap (map sign_of) (sym (ap (λ n. take n (due book)) count ∙ take_all (due book)));
+      texts = renewed;
     }

@@ -6,8 +6,7 @@ use Rattle.std.proofs.lemmas.Grind.{flat_map-append}
 use Rattle.std.proofs.lemmas.List.Elements.{Contains-append_left}
 use Rattle.keep.specs.Book.{Book}
 use Rattle.queue.specs.Histories.{Call, Reply, Step, History, followed, bodies_of, bodies_of_call, calls_of}
-use Rattle.queue.specs.Archives.{Stands}
-use Rattle.queue.specs.Answers.{IsAnswer, IsStep, IsRun, IsFaithful}
+use Rattle.queue.specs.Answers.{IsFaithful, IsKept, IsRun, IsStep}
 use Rattle.queue.specs.Commands.{call_of, outcome_of}
 use Rattle.queue.specs.declared.command.Command.{Command}
 use Rattle.queue.specs.declared.command.Outcome.{Outcome}
@@ -37,42 +36,45 @@ IsFaithful-rest h call outcome calls faithful =
       delivered = λ body there. faithful.delivered body (subst (λ (cs : List Call). Contains (bodies_of cs) body) (sym regrouped) there);
     }
 
--- Of all the calls after h, those before the ones left have been told. The book now is that of some history, and whatever
--- the calls left are told there, the whole is a run.
-pub record HasRun (may_fail : Bool) (h : History) (all : List Call) (told : List (Result Reply Fault)) (left : List Call) (now : Book) : Type 0 where
+-- Of all the calls after h, those before the ones left have been told. What is kept now is what some history leaves, and
+-- whatever the calls left are told there, the whole is a run.
+pub record HasRun (A : Type 0) (is_open : A → Type 0) (book : A → Book) (may_fail : Bool) (h : History) (all : List Call) (told : List (Result Reply Fault)) (left : List Call) (now : A) : Type 0 where
   pub place : History
-  pub stands : Stands now place
+  pub kept : IsKept (is_open now) (book now) place
   pub faithful : IsFaithful place left
-  pub goes_on : (rest : List (Result Reply Fault)) (after : Book) → IsRun may_fail place left rest after → IsRun may_fail h all (told ++ rest) after
+  pub goes_on : (rest : List (Result Reply Fault)) (after : A) → IsRun may_fail place left rest (is_open after) (book after) → IsRun may_fail h all (told ++ rest) (is_open after) (book after)
 
-pub has_run_none : (may_fail : Bool) (h : History) (all : List Call) (now : Book) → Stands now h → IsFaithful h all → HasRun may_fail h all [] all now
-has_run_none may_fail h all now stands faithful =
-    record { place = h; stands = stands; faithful = faithful; goes_on = λ rest after run. run }
+module _ (A : Type 0) (is_open : A → Type 0) (book : A → Book) (may_fail : Bool) (h : History) where
+  pub has_run_none : (all : List Call) (now : A) → IsKept (is_open now) (book now) h → IsFaithful h all → HasRun A is_open book may_fail h all [] all now
+  has_run_none all now kept faithful =
+      record { place = h; kept = kept; faithful = faithful; goes_on = λ rest after run. run }
 
-pub has_run_more : (may_fail : Bool) (h : History) (all : List Call) (told : List (Result Reply Fault)) (call : Call) (left : List Call) (outcome : Result Reply Fault) (now after : Book)
-    → (run : HasRun may_fail h all told (call ∷ left) now) → IsStep may_fail run.place call outcome after → HasRun may_fail h all (told ++ outcome ∷ []) left after
-has_run_more may_fail h all told call left outcome now after run step =
-    record {
-      place = followed run.place call outcome;
-      stands = step.stands;
-      faithful = IsFaithful-rest run.place call outcome left run.faithful;
-      goes_on = λ rest last more. subst (λ (os : List (Result Reply Fault)). IsRun may_fail h all os last) (sym (append_assoc told (outcome ∷ []) rest)) (run.goes_on (outcome ∷ rest) last (step.answered, more));
-    }
+  pub has_run_more : (all : List Call) (told : List (Result Reply Fault)) (call : Call) (left : List Call) (outcome : Result Reply Fault) (now after : A)
+      → (run : HasRun A is_open book may_fail h all told (call ∷ left) now) → IsStep may_fail run.place call outcome (is_open after) (book after)
+      → HasRun A is_open book may_fail h all (told ++ outcome ∷ []) left after
+  has_run_more all told call left outcome now after run step =
+      record {
+        place = followed run.place call outcome;
+        kept = step.kept;
+        faithful = IsFaithful-rest run.place call outcome left run.faithful;
+        goes_on = λ rest last more. subst (λ (os : List (Result Reply Fault)). IsRun may_fail h all os (is_open last) (book last)) (sym (append_assoc told (outcome ∷ []) rest))
+            (run.goes_on (outcome ∷ rest) last (step.answered, more));
+      }
 
-pub has_run_all : (may_fail : Bool) (h : History) (all : List Call) (told : List (Result Reply Fault)) (now : Book) → HasRun may_fail h all told [] now → IsRun may_fail h all told now
-has_run_all may_fail h all told now run =
-    subst (λ (os : List (Result Reply Fault)). IsRun may_fail h all os now) (append-nil told) (run.goes_on [] now run.stands)
+  pub has_run_all : (all : List Call) (told : List (Result Reply Fault)) (now : A) → HasRun A is_open book may_fail h all told [] now → IsRun may_fail h all told (is_open now) (book now)
+  has_run_all all told now run =
+      subst (λ (os : List (Result Reply Fault)). IsRun may_fail h all os (is_open now) (book now)) (append-nil told) (run.goes_on [] now run.kept)
 
--- one command more is made
-pub drive_more : (may_fail : Bool) (h : History) (commands : List Command) (i : ℕ) (command : Command) (told : List Outcome) (outcome : Outcome) (now after : Book)
-    → drop i commands ≡ command ∷ drop (i + 1) commands
-    → ((p : History) → Stands now p → IsFaithful p (call_of command ∷ []) → IsStep may_fail p (call_of command) (outcome_of outcome) after)
-    → HasRun may_fail h (map call_of commands) (map outcome_of told) (map call_of (drop i commands)) now
-    → HasRun may_fail h (map call_of commands) (map outcome_of (told ++ outcome ∷ [])) (map call_of (drop (i + 1) commands)) after
-drive_more may_fail h commands i command told outcome now after next step run =
-    let left = map call_of (drop (i + 1) commands) in
-    let here : HasRun may_fail h (map call_of commands) (map outcome_of told) (call_of command ∷ left) now =
-    subst (λ (cs : List Command). HasRun may_fail h (map call_of commands) (map outcome_of told) (map call_of cs) now) next run in
-    subst (λ os. HasRun may_fail h (map call_of commands) os left after) (sym (map-append outcome_of told (outcome ∷ [])))
-    (has_run_more may_fail h (map call_of commands) (map outcome_of told) (call_of command) left (outcome_of outcome) now after here
-    (step here.place here.stands (IsFaithful-first here.place (call_of command) left here.faithful)))
+  -- one command more is made
+  pub drive_more : (commands : List Command) (i : ℕ) (command : Command) (told : List Outcome) (outcome : Outcome) (now after : A)
+      → drop i commands ≡ command ∷ drop (i + 1) commands
+      → ((p : History) → IsKept (is_open now) (book now) p → IsFaithful p (call_of command ∷ []) → IsStep may_fail p (call_of command) (outcome_of outcome) (is_open after) (book after))
+      → HasRun A is_open book may_fail h (map call_of commands) (map outcome_of told) (map call_of (drop i commands)) now
+      → HasRun A is_open book may_fail h (map call_of commands) (map outcome_of (told ++ outcome ∷ [])) (map call_of (drop (i + 1) commands)) after
+  drive_more commands i command told outcome now after next step run =
+      let left = map call_of (drop (i + 1) commands) in
+      let here : HasRun A is_open book may_fail h (map call_of commands) (map outcome_of told) (call_of command ∷ left) now =
+      subst (λ (cs : List Command). HasRun A is_open book may_fail h (map call_of commands) (map outcome_of told) (map call_of cs) now) next run in
+      subst (λ os. HasRun A is_open book may_fail h (map call_of commands) os left after) (sym (map-append outcome_of told (outcome ∷ [])))
+      (has_run_more (map call_of commands) (map outcome_of told) (call_of command) left (outcome_of outcome) now after here
+      (step here.place here.kept (IsFaithful-first here.place (call_of command) left here.faithful)))

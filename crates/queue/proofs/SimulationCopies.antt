@@ -20,11 +20,12 @@ use Rattle.suites.specs.declared.key.ShelfKey.{ShelfKey}
 use Rattle.suites.specs.declared.plan.Plan.{Plan}
 use Rattle.queue.specs.Answers.{IsFaithful, IsStep, answer, count_of_new}
 use Rattle.queue.specs.Archives.{BodyItem, PlainArchive, Stands, acted, acts_of, archive, book_from, book_of, copied, is_kept_by, is_shown_of, items_copied, printed, shown_by_print, shown_in, suite_named, version_with, with_items}
-use Rattle.queue.specs.Histories.{Copying, Count, History, arrivals_after, arrived}
+use Rattle.queue.specs.Histories.{Copying, Count, History, arrivals_after, arrived, followed}
 use Rattle.queue.proofs.Contents.{AreMadeOf, both_known, from_flat_map, shown_member}
 use Rattle.queue.proofs.Dates.{shown_grows}
 use Rattle.queue.proofs.DatesCounts.{count-put, shown_elsewhere}
 use Rattle.queue.proofs.ItemPrintsFiles.{from_filter}
+use Rattle.queue.proofs.Kept.{stands_kept}
 use Rattle.queue.proofs.Known.{archive_has, faithful_knows, has_empty, known, with_empty}
 use Rattle.queue.proofs.ShownPrints.{entries-shown_by_print, get-shown_by_print, printed_item}
 use Rattle.queue.proofs.Simulation.{AreSimulated, dates-with_items, shown-with_items}
@@ -144,9 +145,9 @@ module _ (config : ConfigValue) (moment : ℕ) (a : PlainArchive) (from to : ℕ
 
   -- THE BOOK after the copy is that of the plain archive with it.
   pub copied-amended : (bodies : List (List ℕ)) (arrivals : List Arrival) → NoCollision bodies → AreFrom bodies arrivals → AreMadeOf bodies a.admitted → AreAgreed (files_of (values (shown_by_print a)))
-      → amended (book_from config arrivals a) (record { moment = moment; steps = copy_step_of plan ∷ [] }) ≡ book_from config arrivals (copied config moment a from to source)
+      → amended (book_from config arrivals a) (record { moment = moment; steps = copy_step_of plan ∷ []; texts = [] }) ≡ book_from config arrivals (copied config moment a from to source)
   copied-amended bodies arrivals apart known_from made agreed =
-      amended-simulated bodies config arrivals a (copied config moment a from to source) (record { moment = moment; steps = copy_step_of plan ∷ [] }) apart known_from made
+      amended-simulated bodies config arrivals a (copied config moment a from to source) (record { moment = moment; steps = copy_step_of plan ∷ []; texts = [] }) apart known_from made
       (copied_stored arrivals config moment a from to source (shown_stored bodies arrivals a apart made agreed)) copied-simulated
 
   -- as many items are new as the plan puts
@@ -172,15 +173,15 @@ unfolding answer
 answer_copied h from to source moment f t in_time first second other shows = rw (in_time, first, second, other, shows) refl
 
 -- A copy that is done: its plan is made for what the book shows, and the book is then the old one with it.
-pub copy_step : (may_fail : Bool) (h : History) (from to source : List ℕ) (moment f t : ℕ) (old new : Book) (plan : Plan)
+pub copy_step : (may_fail : Bool) (h : History) (from to source : List ℕ) (moment f t : ℕ) (is_open : Type 0) (old new : Book) (plan : Plan)
     → Stands old h → IsFaithful h (Copying from to source moment ∷ []) → nat_lt latest moment ≡ false → AreSound old.shown
     → suite_named old.config from ≡ Some f → suite_named old.config to ≡ Some t → nat_eq f t ≡ false
     → list_any (λ e. nat_eq e.0.suite f && bytes_eq e.1.source source) (entries old.shown) ≡ true
     → plans.IsStep old.shown (plans.after_copy old.config old.shown f t source) plan
-    → new ≡ amended old (record { moment = moment; steps = copy_step_of plan ∷ [] })
-    → IsStep may_fail h (Copying from to source moment) (Ok (Count (length plan.put))) new
+    → new ≡ amended old (record { moment = moment; steps = copy_step_of plan ∷ []; texts = [] })
+    → IsStep may_fail h (Copying from to source moment) (Ok (Count (length plan.put))) is_open new
 unfolding book_of book_from acts_of arrivals_after
-copy_step may_fail h from to source moment f t old new plan stands faithful in_time sound first second other shows step is_new =
+copy_step may_fail h from to source moment f t is_open old new plan stands faithful in_time sound first second other shows step is_new =
     let calls = Copying from to source moment ∷ [] in
     let all = with_empty h calls faithful in
     let knows = faithful_knows h calls all (has_empty faithful.bodies) in
@@ -200,8 +201,9 @@ copy_step may_fail h from to source moment f t old new plan stands faithful in_t
     rw (first_here, second_here) refl in
     record {
       answered = ap (λ n. Ok (Count n)) (sym (copied-count config moment a f t source plan step_here)) ∙ sym (answer_copied h from to source moment f t in_time first_here second_here other shows_here);
-      stands = is_new ∙ ap (λ (b : Book). amended b (record { moment = moment; steps = copy_step_of plan ∷ [] })) stands
+      kept = stands_kept is_open new (followed h (Copying from to source moment) (Ok (Count (length plan.put))))
+          (is_new ∙ ap (λ (b : Book). amended b (record { moment = moment; steps = copy_step_of plan ∷ []; texts = [] })) stands
           ∙ copied-amended config moment a f t source plan step_here all.bodies arrivals all.apart known_from made sound_here.agreed
           ∙ ap (book_from config arrivals) (sym acts)
-          ∙ sym (book_of-followed h (Copying from to source moment) (Ok (Count (length plan.put))));
+          ∙ sym (book_of-followed h (Copying from to source moment) (Ok (Count (length plan.put)))));
     }

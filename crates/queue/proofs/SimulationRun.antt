@@ -27,6 +27,7 @@ use Rattle.queue.proofs.Contents.{AreMadeOf}
 use Rattle.queue.proofs.ContentsWhole.{whole_of-arrived, whole_of-bodies, whole_of-brought}
 use Rattle.queue.proofs.ItemPrintsFiles.{from_filter, from_filter_map}
 use Rattle.queue.proofs.Judged.{due_faithful}
+use Rattle.queue.proofs.Kept.{stands_kept}
 use Rattle.queue.proofs.Known.{ItemHas, ItemsHave, archive_has, faithful_knows, has_empty, known, with_empty}
 use Rattle.queue.proofs.Lists.{at_contained}
 use Rattle.queue.proofs.Simulation.{AreHanded, AreSimulated, acted-wholes, handed, simulated}
@@ -127,11 +128,11 @@ module _ (bodies : List (List ℕ)) (apart : NoCollision bodies) (config : Confi
 
   -- THE BOOK after the run is that of the plain archive to which what was due was handed whole.
   pub run-amended : AreAgreed (files_of (values (shown_by_print a)))
-      → amended (book_from config arrivals a) (record { moment = moment; steps = steps }) ≡ book_from config arrivals (after_run config moment arrivals cs a)
+      → amended (book_from config arrivals a) (record { moment = moment; steps = steps; texts = [] }) ≡ book_from config arrivals (after_run config moment arrivals cs a)
   run-amended agreed =
       let after = handed config moment a (wholes arrivals cs) in
       let stored : AreStored arrivals a (entries (shown_in after)) = handed_stored arrivals config moment a a (wholes arrivals cs) (shown_stored bodies arrivals a apart made agreed) (due_arrived arrivals cs due) in
-      amended-simulated bodies config arrivals a (after_run config moment arrivals cs a) (record { moment = moment; steps = steps }) apart from made
+      amended-simulated bodies config arrivals a (after_run config moment arrivals cs a) (record { moment = moment; steps = steps; texts = [] }) apart from made
       (subst (λ (b : PlainArchive). AreStored arrivals a (entries (shown_in b))) (sym run_handed) stored) run-simulated
 
   -- what the run adds to the judged uploads
@@ -150,13 +151,13 @@ unfolding answer
 answer_in_time h moment in_time = rw in_time refl
 
 -- A run that is done: the steps judge what is due on what the book shows, and the book is then the old one with them.
-pub run_step : (may_fail : Bool) (h : History) (moment : ℕ) (old new : Book) (us : List UploadValue) (steps : List Step)
+pub run_step : (may_fail : Bool) (h : History) (moment : ℕ) (is_open : Type 0) (old new : Book) (us : List UploadValue) (steps : List Step)
     → Stands old h → IsFaithful h (QueueRun moment ∷ []) → nat_lt latest moment ≡ false → AreSound old.shown
     → us ≡ map (upload_of old.arrivals) (due old) → AreJudged old.config old.shown us steps
-    → new ≡ amended old (record { moment = moment; steps = steps })
-    → IsStep may_fail h (QueueRun moment) (Ok (Lines (map report_line (judgements steps)))) new
+    → new ≡ amended old (record { moment = moment; steps = steps; texts = [] })
+    → IsStep may_fail h (QueueRun moment) (Ok (Lines (map report_line (judgements steps)))) is_open new
 unfolding book_of book_from new_lines acts_of arrivals_after
-run_step may_fail h moment old new us steps stands faithful in_time sound is_us judged is_new =
+run_step may_fail h moment is_open old new us steps stands faithful in_time sound is_us judged is_new =
     let all = with_empty h (QueueRun moment ∷ []) faithful in
     let knows = faithful_knows h (QueueRun moment ∷ []) all (has_empty faithful.bodies) in
     let config = h.opening.config in
@@ -174,7 +175,8 @@ run_step may_fail h moment old new us steps stands faithful in_time sound is_us 
     ap (map report_line) (sym (run-judgements all.bodies all.apart config moment arrivals a cs steps from made (due_after-due h.opening h.steps) judged_here)) in
     record {
       answered = ap (λ ls. Ok (Lines ls)) lines ∙ sym (answer_in_time h moment in_time);
-      stands = is_new ∙ ap (λ (b : Book). amended b (record { moment = moment; steps = steps })) stands
+      kept = stands_kept is_open new (followed h (QueueRun moment) (Ok (Lines (map report_line (judgements steps)))))
+          (is_new ∙ ap (λ (b : Book). amended b (record { moment = moment; steps = steps; texts = [] })) stands
           ∙ run-amended all.bodies all.apart config moment arrivals a cs steps from made (due_after-due h.opening h.steps) judged_here sound_here.agreed
-          ∙ sym (book_of-followed h (QueueRun moment) (Ok (Lines (map report_line (judgements steps)))));
+          ∙ sym (book_of-followed h (QueueRun moment) (Ok (Lines (map report_line (judgements steps))))));
     }

@@ -18,7 +18,7 @@ use Rattle.keep.specs.declared.change.Judgement.{Judgement}
 use Rattle.keep.specs.declared.change.Waiting.{Waiting}
 use Rattle.keep.specs.declared.fault.KeepFault.{KeepFault}
 use Rattle.keep.specs.declared.fault.KeepFault.TheVariants as keep_faults
-use Rattle.queue.specs.Answers.{IsAnswer, IsFaithful, IsStep, answer, delivery_answer, found_at, is_refused, line_on_waiting, report_line, unless_late, waiting_line}
+use Rattle.queue.specs.Answers.{IsAnswer, IsFaithful, IsKept, IsStep, answer, delivery_answer, found_at, is_refused, line_on_waiting, report_line, unless_late, waiting_line}
 use Rattle.queue.specs.Archives.{Stands, archive, book_of, book_from}
 use Rattle.queue.specs.Deliveries.{delivery_fault, fault_of_read, most_bytes, or_else, record_fault}
 use Rattle.queue.specs.Fault.{of_keeper}
@@ -26,16 +26,24 @@ use Rattle.queue.specs.Histories.{Call, Delivery, QueueRun, Copying, Lookup, Wai
 use Rattle.queue.specs.declared.fault.Fault.{Fault}
 use Rattle.queue.specs.declared.fault.Fault.TheVariants.{OutOfMemory, BadName, TooLarge, Record, Keeper, Moment, UnknownSuite, SameSuite, NothingToCopy}
 use Rattle.queue.proofs.Judged.{unjudged_faithful}
+use Rattle.queue.proofs.Kept.{IsSame, stands_kept}
 use Rattle.queue.proofs.Known.{known, apart_with_empty}
 use Rattle.queue.proofs.Lists.{contains_later}
 use Rattle.queue.proofs.Steps.{book_of-refused, book_of-delivered, book_of-looked_up, book_of-waited, book_of-listed}
 
 -- ---- refusals
 
--- a call that is refused leaves the book of the history
-pub refused_step : (may_fail : Bool) (h : History) (call : Call) (fault : Fault) (old new : Book) → Stands old h → new ≡ old → IsAnswer may_fail h call (Err fault) → IsStep may_fail h call (Err fault) new
-refused_step may_fail h call fault old new stands same allowed =
-    record { answered = allowed; stands = same ∙ stands ∙ sym (book_of-refused h call fault) }
+-- a call that is refused and changes nothing leaves what the history has kept
+pub refused_step : (may_fail : Bool) (h : History) (call : Call) (fault : Fault) (was_open is_open : Type 0) (old new : Book) → IsKept was_open old h → IsSame was_open is_open old new
+    → IsAnswer may_fail h call (Err fault) → IsStep may_fail h call (Err fault) is_open new
+refused_step may_fail h call fault was_open is_open old new kept same allowed =
+    record {
+      answered = allowed;
+      kept = record {
+        config = same.config ∙ kept.config;
+        stands = λ up. same.book up ∙ kept.stands (same.was_open up) ∙ sym (book_of-refused h call fault);
+      };
+    }
 
 allowed : (may_fail : Bool) (h : History) (call : Call) (fault : KeepFault) → MayAnswer may_fail fault → is_refused h call ≡ false → IsAnswer may_fail h call (Err (of_keeper fault))
 allowed may_fail h call keep_faults.OutOfMemory may free = tt
@@ -44,14 +52,16 @@ allowed may_fail h call keep_faults.Size may free = (may, tt, free)
 allowed may_fail h call keep_faults.Tables may free = absurd may
 
 -- where a keeper refuses, the archive's fault may stand in the answer's place
-pub keeper_step : (may_fail : Bool) (h : History) (call : Call) (fault : KeepFault) (told : Fault) (old new : Book) → told ≡ of_keeper fault → Stands old h → new ≡ old → MayAnswer may_fail fault → is_refused h call ≡ false → IsStep may_fail h call (Err told) new
-keeper_step may_fail h call fault told old new is stands same may free =
-    refused_step may_fail h call told old new stands same (subst (λ (f : Fault). IsAnswer may_fail h call (Err f)) (sym is) (allowed may_fail h call fault may free))
+pub keeper_step : (may_fail : Bool) (h : History) (call : Call) (fault : KeepFault) (told : Fault) (was_open is_open : Type 0) (old new : Book) → told ≡ of_keeper fault → IsKept was_open old h → IsSame was_open is_open old new
+    → MayAnswer may_fail fault → is_refused h call ≡ false → IsStep may_fail h call (Err told) is_open new
+keeper_step may_fail h call fault told was_open is_open old new is kept same may free =
+    refused_step may_fail h call told was_open is_open old new kept same (subst (λ (f : Fault). IsAnswer may_fail h call (Err f)) (sym is) (allowed may_fail h call fault may free))
 
 -- want of memory may always be answered
-pub memory_step : (may_fail : Bool) (h : History) (call : Call) (told : Fault) (old new : Book) → told ≡ OutOfMemory → Stands old h → new ≡ old → IsStep may_fail h call (Err told) new
-memory_step may_fail h call told old new is stands same =
-    refused_step may_fail h call told old new stands same (subst (λ (f : Fault). IsAnswer may_fail h call (Err f)) (sym is) tt)
+pub memory_step : (may_fail : Bool) (h : History) (call : Call) (told : Fault) (was_open is_open : Type 0) (old new : Book) → told ≡ OutOfMemory → IsKept was_open old h → IsSame was_open is_open old new
+    → IsStep may_fail h call (Err told) is_open new
+memory_step may_fail h call told was_open is_open old new is kept same =
+    refused_step may_fail h call told was_open is_open old new kept same (subst (λ (f : Fault). IsAnswer may_fail h call (Err f)) (sym is) tt)
 
 -- a fault that is the answer, whichever it is
 answered_fault : (may_fail : Bool) (h : History) (call : Call) (fault : Fault) → answer h call ≡ Err fault → ((own : KeepFault) → fault ≡ Keeper own → ⊥) → IsAnswer may_fail h call (Err fault)
@@ -132,13 +142,13 @@ delivered_last h name body moment =
     (Contains-append_right (bodies_of (calls_of h.steps)) (body ∷ []) body (0, omega arith, refl))
 
 -- a delivery that is done, where what the keeper says holds for all bodies without collision
-pub delivered_step : (may_fail : Bool) (h : History) (name body : List ℕ) (moment : ℕ) (old new : Book) (fresh : Bool)
+pub delivered_step : (may_fail : Bool) (h : History) (name body : List ℕ) (moment : ℕ) (is_open : Type 0) (old new : Book) (fresh : Bool)
     → Stands old h → IsFaithful h (Delivery name body moment ∷ []) → delivery_fault name body moment ≡ None
     → ((bodies : List (List ℕ)) → NoCollision bodies → HasBodies bodies old → Contains bodies body → fresh ≡ not (has_arrival old.arrivals (record { name = name; body = body; moment = moment })))
     → ((bodies : List (List ℕ)) → NoCollision bodies → HasBodies bodies old → Contains bodies body → new ≡ with_delivery old (record { name = name; body = body; moment = moment }))
-    → IsStep may_fail h (Delivery name body moment) (Ok (Stored fresh)) new
+    → IsStep may_fail h (Delivery name body moment) (Ok (Stored fresh)) is_open new
 unfolding answer book_of book_from
-delivered_step may_fail h name body moment old new fresh stands faithful none told is =
+delivered_step may_fail h name body moment is_open old new fresh stands faithful none told is =
     let a : Arrival = record { name = name; body = body; moment = moment } in
     let bodies = [] ∷ faithful.bodies in
     let apart = apart_with_empty faithful.bodies faithful.apart in
@@ -147,8 +157,21 @@ delivered_step may_fail h name body moment old new fresh stands faithful none to
     record {
       answered = sym (ap (λ f. delivery_answer f (not (has_arrival (arrived h.opening h.steps) a))) none
           ∙ ap (λ b. Ok (Stored b)) (sym (told bodies apart have there ∙ ap (λ (b : Book). not (has_arrival b.arrivals a)) stands)));
-      stands = is bodies apart have there ∙ ap (λ b. with_delivery b a) stands ∙ sym (book_of-delivered h name body moment (Stored fresh));
+      kept = stands_kept is_open new (followed h (Delivery name body moment) (Ok (Stored fresh))) (is bodies apart have there ∙ ap (λ b. with_delivery b a) stands ∙ sym (book_of-delivered h name body moment (Stored fresh)));
     }
+
+-- what a crash leaves that has all of a call that is done
+pub stands_answered : (may_fail : Bool) (h : History) (call : Call) (reply : Reply) (left : Book) → IsStep may_fail h call (Ok reply) ⊤ left → Stands left (followed h call (answer h call))
+stands_answered may_fail h call reply left step = subst (λ (o : Result Reply Fault). Stands left (followed h call o)) step.answered (step.kept.stands tt)
+
+pub delivered_left : (may_fail : Bool) (h : History) (name body : List ℕ) (moment : ℕ) (old left : Book)
+    → Stands old h → IsFaithful h (Delivery name body moment ∷ []) → delivery_fault name body moment ≡ None
+    → ((bodies : List (List ℕ)) → NoCollision bodies → HasBodies bodies old → Contains bodies body → left ≡ with_delivery old (record { name = name; body = body; moment = moment }))
+    → Stands left (followed h (Delivery name body moment) (answer h (Delivery name body moment)))
+delivered_left may_fail h name body moment old left stands faithful none is =
+    let fresh = not (has_arrival old.arrivals (record { name = name; body = body; moment = moment })) in
+    stands_answered may_fail h (Delivery name body moment) (Stored fresh) left
+    (delivered_step may_fail h name body moment ⊤ old left fresh stands faithful none (λ bodies apart have there. refl) is)
 
 -- ---- look-ups
 
@@ -157,13 +180,13 @@ unfolding is_refused
 free_lookup h path = refl
 
 -- a look-up that is done
-pub found_step : (may_fail : Bool) (h : History) (path : List ℕ) (old new : Book) (file : Option (List ℕ)) → Stands old h → file ≡ option_or (old.files path) (text_at old path) → new ≡ old
-    → IsStep may_fail h (Lookup path) (Ok (Found file)) new
+pub found_step : (may_fail : Bool) (h : History) (path : List ℕ) (is_open : Type 0) (old new : Book) (file : Option (List ℕ)) → Stands old h → file ≡ option_or (old.files path) (text_at old path) → new ≡ old
+    → IsStep may_fail h (Lookup path) (Ok (Found file)) is_open new
 unfolding answer found_at book_of book_from
-found_step may_fail h path old new file stands told same =
+found_step may_fail h path is_open old new file stands told same =
     record {
       answered = ap (λ f. Ok (Found f)) (told ∙ ap (λ b. option_or (b.files path) (text_at b path)) stands);
-      stands = same ∙ stands ∙ sym (book_of-looked_up h path (Ok (Found file)));
+      kept = stands_kept is_open new (followed h (Lookup path) (Ok (Found file))) (same ∙ stands ∙ sym (book_of-looked_up h path (Ok (Found file))));
     }
 
 -- ---- lists
@@ -181,13 +204,13 @@ unfolding waiting_list waiting_line
 waiting_lines book = map-map _ _ (unjudged book)
 
 -- the waiting uploads, where what the keeper says holds for all bodies without collision
-pub waiting_step : (may_fail : Bool) (h : History) (moment : ℕ) (old new : Book) (waiting : List Waiting) (lines : List (List ℕ))
+pub waiting_step : (may_fail : Bool) (h : History) (moment : ℕ) (is_open : Type 0) (old new : Book) (waiting : List Waiting) (lines : List (List ℕ))
     → Stands old h → IsFaithful h (WaitingList moment ∷ []) → moment ≤ latest
     → ((bodies : List (List ℕ)) → NoCollision bodies → HasBodies bodies old → waiting ≡ waiting_list old)
     → lines ≡ map line_on_waiting waiting → new ≡ old
-    → IsStep may_fail h (WaitingList moment) (Ok (Lines lines)) new
+    → IsStep may_fail h (WaitingList moment) (Ok (Lines lines)) is_open new
 unfolding answer book_of book_from
-waiting_step may_fail h moment old new waiting lines stands faithful in_time told are same =
+waiting_step may_fail h moment is_open old new waiting lines stands faithful in_time told are same =
     let calls = WaitingList moment ∷ [] in
     let bodies = [] ∷ faithful.bodies in
     let have : HasBodies bodies old = subst (HasBodies bodies) (sym stands) (known h calls faithful) in
@@ -196,20 +219,20 @@ waiting_step may_fail h moment old new waiting lines stands faithful in_time tol
     ∙ waiting_lines (book_of h) ∙ ap (map (waiting_line (arrived h.opening h.steps))) (unjudged_faithful h calls faithful) in
     record {
       answered = ap (λ ls. Ok (Lines ls)) told_lines ∙ sym (ap (λ b. if b then Err Moment else Ok (Lines (map (waiting_line (arrived h.opening h.steps)) (waiting_after h.opening h.steps)))) (le-ltb latest moment in_time));
-      stands = same ∙ stands ∙ sym (book_of-waited h moment (Ok (Lines lines)));
+      kept = stands_kept is_open new (followed h (WaitingList moment) (Ok (Lines lines))) (same ∙ stands ∙ sym (book_of-waited h moment (Ok (Lines lines))));
     }
 
 pub free_verdicts : (h : History) → is_refused h VerdictList ≡ false
 unfolding is_refused
 free_verdicts h = refl
 
-pub verdicts_step : (may_fail : Bool) (h : History) (old new : Book) (judged : List Judgement) (lines : List (List ℕ))
-    → Stands old h → judged ≡ old.judged → lines ≡ map report_line judged → new ≡ old → IsStep may_fail h VerdictList (Ok (Lines lines)) new
+pub verdicts_step : (may_fail : Bool) (h : History) (is_open : Type 0) (old new : Book) (judged : List Judgement) (lines : List (List ℕ))
+    → Stands old h → judged ≡ old.judged → lines ≡ map report_line judged → new ≡ old → IsStep may_fail h VerdictList (Ok (Lines lines)) is_open new
 unfolding answer book_of book_from
-verdicts_step may_fail h old new judged lines stands told are same =
+verdicts_step may_fail h is_open old new judged lines stands told are same =
     record {
       answered = ap (λ ls. Ok (Lines ls)) (are ∙ ap (map report_line) (told ∙ ap (λ (b : Book). b.judged) stands));
-      stands = same ∙ stands ∙ sym (book_of-listed h (Ok (Lines lines)));
+      kept = stands_kept is_open new (followed h VerdictList (Ok (Lines lines))) (same ∙ stands ∙ sym (book_of-listed h (Ok (Lines lines))));
     }
 
 -- ---- runs

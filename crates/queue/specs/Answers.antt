@@ -113,18 +113,24 @@ IsAnswer may_fail h call (Err OutOfMemory) = ⊤
 IsAnswer may_fail h call (Err (Keeper fault)) = IsTrue may_fail × IsOfDisk fault × (is_refused h call ≡ false)
 IsAnswer may_fail h call outcome = outcome ≡ answer h call
 
--- The outcome is the answer after the history, and the book is then that of the history with this call behind it.
-pub record IsStep (may_fail : Bool) (h : History) (call : Call) (outcome : Result Reply Fault) (after : Book) : Type 0 where
-  pub answered : IsAnswer may_fail h call outcome
-  pub stands : Stands after (followed h call outcome)
+-- A keeper keeps what a history leaves: it has the configuration of the history, and while it is open its book is the one
+-- that the history leaves.
+pub record IsKept (is_open : Type 0) (book : Book) (h : History) : Type 0 where
+  pub config : book.config ≡ h.opening.config
+  pub stands : is_open → Stands book h
 
--- one outcome a call, each the answer at its place, and the book is then that of the longer history
-abbrev pub IsRun : Bool → History → List Call → List (Result Reply Fault) → Book → Type 0
-IsRun may_fail h [] [] after = Stands after h
-IsRun may_fail h (call ∷ calls) (outcome ∷ outcomes) after =
-    IsAnswer may_fail h call outcome × IsRun may_fail (followed h call outcome) calls outcomes after
-IsRun may_fail h [] (outcome ∷ outcomes) after = ⊥
-IsRun may_fail h (call ∷ calls) [] after = ⊥
+-- The outcome is the answer after the history, and then what the history with this call behind it leaves is kept.
+pub record IsStep (may_fail : Bool) (h : History) (call : Call) (outcome : Result Reply Fault) (is_open : Type 0) (after : Book) : Type 0 where
+  pub answered : IsAnswer may_fail h call outcome
+  pub kept : IsKept is_open after (followed h call outcome)
+
+-- one outcome a call, each the answer at its place, and then what the longer history leaves is kept
+abbrev pub IsRun : Bool → History → List Call → List (Result Reply Fault) → (is_open : Type 0) → (after : Book) → Type 0
+IsRun may_fail h [] [] is_open after = IsKept is_open after h
+IsRun may_fail h (call ∷ calls) (outcome ∷ outcomes) is_open after =
+    IsAnswer may_fail h call outcome × IsRun may_fail (followed h call outcome) calls outcomes is_open after
+IsRun may_fail h [] (outcome ∷ outcomes) is_open after = ⊥
+IsRun may_fail h (call ∷ calls) [] is_open after = ⊥
 
 -- A history may open with a book whose bodies are among these, and which is that of its own plain archive.
 pub record IsOpening (bodies : List (List ℕ)) (book : Book) : Type 0 where

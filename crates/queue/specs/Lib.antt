@@ -7,3 +7,4 @@ pub mod Copies
 pub mod Answers
 pub mod Commands
 pub mod Judging
+pub mod Renewal

@@ -1,18 +1,19 @@
 //! The archive over a keeper.
 
 ghost use Rattle.std.specs.Prelude.{◌≡◌, ◌⊎◌, ◌<◌, ◌∷◌, [], Some, None, Err, IfOk, IfErr};
-ghost use Rattle.queue.specs.Answers.{IsFaithful, IsStep};
+ghost use Rattle.queue.specs.Answers.{IsFaithful, IsKept, IsStep, answer};
 ghost use Rattle.queue.specs.Archives.{Stands};
 ghost use Rattle.queue.specs.Commands.{stored, reported, counted, found};
 ghost use Rattle.queue.specs.Copies.{copy_fault};
-ghost use Rattle.queue.specs.Histories.{History, Delivery, QueueRun, Copying, Lookup, WaitingList, VerdictList};
-ghost use Rattle.keep.specs.Book.{latest};
+ghost use Rattle.queue.specs.Histories.{History, followed, Delivery, QueueRun, Copying, Lookup, WaitingList, VerdictList};
+ghost use Rattle.keep.specs.Book.{Book, latest};
 ghost use Rattle.queue.specs.Deliveries.{delivery_fault, IsKeepers};
 
 use crate::command::{Arrived, Report};
 use crate::copy::{copy_plan, only_step, two_suites};
 use crate::delivery::check_delivery;
 use crate::fault::Fault;
+use crate::renewal::renewed_texts;
 use crate::report::{verdict_lines, waiting_lines};
 use crate::run::{judged_steps, report_lines};
 use keep::{Change, Keeper, LATEST};
@@ -51,8 +52,13 @@ impl<K: Keeper> Archive<K> {
         body: &[u8],
         moment: u64,
     ) -> Result<Arrived, Fault>
-        ensures step { (h : History) → Stands (K.book self.old.keeper) h → IsFaithful h (Delivery name.now body.now moment ∷ [])
-            → IsStep K.may_fail h (Delivery name.now body.now moment) (stored result) (K.book self.new.keeper) }
+        ensures clean { K.is_clean self.new.keeper → K.is_clean self.old.keeper }
+        ensures step { (h : History) → IsKept (K.is_open self.old.keeper) (K.book self.old.keeper) h → IsFaithful h (Delivery name.now body.now moment ∷ [])
+            → K.is_clean self.new.keeper → IsStep K.may_fail h (Delivery name.now body.now moment) (stored result) (K.is_open self.new.keeper) (K.book self.new.keeper) }
+        // A crash leaves what it would have left before, or all that the call does.
+        ensures crash { (h : History) → IsKept (K.is_open self.old.keeper) (K.book self.old.keeper) h → IsFaithful h (Delivery name.now body.now moment ∷ [])
+            → K.is_clean self.new.keeper → (left : Book) → K.may_leave self.new.keeper left
+            → K.may_leave self.old.keeper left ⊎ Stands left (followed h (Delivery name.now body.now moment) (answer h (Delivery name.now body.now moment))) }
         ensures done { IfOk result (λ _. delivery_fault name.now body.now moment ≡ None) }
         // The fault by name, body and moment, or else one of the keeper's own.
         ensures refused { IfErr result (λ e. (delivery_fault name.now body.now moment ≡ Some e) ⊎ IsKeepers e) }
@@ -68,8 +74,13 @@ impl<K: Keeper> Archive<K> {
     /// Judges each upload that is complete and has no verdict, at a moment, in seconds since 1970-01-01 00:00:00 UTC,
     /// and reports a line for each. Refused for a moment after 2099. Where it is refused no upload was judged.
     pub fn run(&mut self, alloc: Global, moment: u64) -> Result<Report, Fault>
-        ensures step { (h : History) → Stands (K.book self.old.keeper) h → IsFaithful h (QueueRun moment ∷ [])
-            → IsStep K.may_fail h (QueueRun moment) (reported result) (K.book self.new.keeper) }
+        ensures clean { K.is_clean self.new.keeper → K.is_clean self.old.keeper }
+        ensures step { (h : History) → IsKept (K.is_open self.old.keeper) (K.book self.old.keeper) h → IsFaithful h (QueueRun moment ∷ [])
+            → K.is_clean self.new.keeper → IsStep K.may_fail h (QueueRun moment) (reported result) (K.is_open self.new.keeper) (K.book self.new.keeper) }
+        // A crash leaves what it would have left before, or all that the call does.
+        ensures crash { (h : History) → IsKept (K.is_open self.old.keeper) (K.book self.old.keeper) h → IsFaithful h (QueueRun moment ∷ [])
+            → K.is_clean self.new.keeper → (left : Book) → K.may_leave self.new.keeper left
+            → K.may_leave self.old.keeper left ⊎ Stands left (followed h (QueueRun moment) (answer h (QueueRun moment))) }
         ensures late { latest < moment → result ≡ Err Fault.Moment }
         ensures refused { IfErr result (λ e. (latest < moment) ⊎ IsKeepers e) }
     {
@@ -80,9 +91,11 @@ impl<K: Keeper> Archive<K> {
         let mut shelves = self.keeper.shelves(alloc)?;
         let steps = judged_steps(alloc, self.keeper.config(), &mut shelves, &uploads)?;
         let lines = report_lines(alloc, &steps)?;
+        let texts = renewed_texts(alloc, &mut self.keeper, &shelves, &steps, moment)?;
         let change = Change {
             moment,
             steps: Listed::from_vec(steps),
+            texts: Listed::from_vec(texts),
         };
         self.keeper.apply(alloc, &change)?;
         Ok(Report { lines })
@@ -100,23 +113,31 @@ impl<K: Keeper> Archive<K> {
         source: &str,
         moment: u64,
     ) -> Result<u64, Fault>
-        ensures step { (h : History) → Stands (K.book self.old.keeper) h → IsFaithful h (Copying from.now to.now source.now moment ∷ [])
-            → IsStep K.may_fail h (Copying from.now to.now source.now moment) (counted result) (K.book self.new.keeper) }
-        ensures done { IfOk result (λ _. copy_fault (K.book self.old.keeper) from.now to.now source.now moment ≡ None) }
+        ensures clean { K.is_clean self.new.keeper → K.is_clean self.old.keeper }
+        ensures step { (h : History) → IsKept (K.is_open self.old.keeper) (K.book self.old.keeper) h → IsFaithful h (Copying from.now to.now source.now moment ∷ [])
+            → K.is_clean self.new.keeper → IsStep K.may_fail h (Copying from.now to.now source.now moment) (counted result) (K.is_open self.new.keeper) (K.book self.new.keeper) }
+        // A crash leaves what it would have left before, or all that the call does.
+        ensures crash { (h : History) → IsKept (K.is_open self.old.keeper) (K.book self.old.keeper) h → IsFaithful h (Copying from.now to.now source.now moment ∷ [])
+            → K.is_clean self.new.keeper → (left : Book) → K.may_leave self.new.keeper left
+            → K.may_leave self.old.keeper left ⊎ Stands left (followed h (Copying from.now to.now source.now moment) (answer h (Copying from.now to.now source.now moment))) }
+        ensures done { K.is_clean self.new.keeper → IfOk result (λ _. copy_fault (K.book self.old.keeper) from.now to.now source.now moment ≡ None) }
         ensures late { latest < moment → result ≡ Err Fault.Moment }
         // The fault by the moment, the configuration and what is shown, or else one of the keeper's own.
-        ensures refused { IfErr result (λ e. (copy_fault (K.book self.old.keeper) from.now to.now source.now moment ≡ Some e) ⊎ IsKeepers e) }
+        ensures refused { K.is_clean self.new.keeper → IfErr result (λ e. (copy_fault (K.book self.old.keeper) from.now to.now source.now moment ≡ Some e) ⊎ IsKeepers e) }
     {
         if moment > LATEST {
             return Err(Fault::Moment);
         }
         let (from, to) = two_suites(self.keeper.config(), from, to)?;
-        let shelves = self.keeper.shelves(alloc)?;
+        let mut shelves = self.keeper.shelves(alloc)?;
         let plan = copy_plan(alloc, self.keeper.config(), &shelves, from, to, source)?;
         let items = plan.put.as_slice().len() as u64;
+        let steps = only_step(alloc, &mut shelves, plan)?;
+        let texts = renewed_texts(alloc, &mut self.keeper, &shelves, steps.as_slice(), moment)?;
         let change = Change {
             moment,
-            steps: only_step(alloc, plan)?,
+            steps,
+            texts: Listed::from_vec(texts),
         };
         self.keeper.apply(alloc, &change)?;
         Ok(items)
@@ -124,8 +145,9 @@ impl<K: Keeper> Archive<K> {
 
     /// The index text or the file of the pool at a path without a leading slash.
     pub fn fetch(&mut self, alloc: Global, path: &str) -> Result<Option<Vec<u8>>, Fault>
-        ensures step { (h : History) → Stands (K.book self.old.keeper) h → IsFaithful h (Lookup path.now ∷ [])
-            → IsStep K.may_fail h (Lookup path.now) (found result) (K.book self.new.keeper) }
+        ensures clean { K.is_clean self.new.keeper → K.is_clean self.old.keeper }
+        ensures step { (h : History) → IsKept (K.is_open self.old.keeper) (K.book self.old.keeper) h → IsFaithful h (Lookup path.now ∷ [])
+            → K.is_clean self.new.keeper → IsStep K.may_fail h (Lookup path.now) (found result) (K.is_open self.new.keeper) (K.book self.new.keeper) }
         ensures refused { IfErr result IsKeepers }
     {
         match self.keeper.file(alloc, path)? {
@@ -137,8 +159,9 @@ impl<K: Keeper> Archive<K> {
     /// The uploads without a verdict, a line for each: the number of listed files that have not arrived, and the name
     /// of the .changes. Refused for a moment after 2099.
     pub fn waiting(&mut self, alloc: Global, moment: u64) -> Result<Report, Fault>
-        ensures step { (h : History) → Stands (K.book self.old.keeper) h → IsFaithful h (WaitingList moment ∷ [])
-            → IsStep K.may_fail h (WaitingList moment) (reported result) (K.book self.new.keeper) }
+        ensures clean { K.is_clean self.new.keeper → K.is_clean self.old.keeper }
+        ensures step { (h : History) → IsKept (K.is_open self.old.keeper) (K.book self.old.keeper) h → IsFaithful h (WaitingList moment ∷ [])
+            → K.is_clean self.new.keeper → IsStep K.may_fail h (WaitingList moment) (reported result) (K.is_open self.new.keeper) (K.book self.new.keeper) }
         ensures late { latest < moment → result ≡ Err Fault.Moment }
         ensures refused { IfErr result (λ e. (latest < moment) ⊎ IsKeepers e) }
     {
@@ -153,8 +176,9 @@ impl<K: Keeper> Archive<K> {
 
     /// All lines that runs have reported, in the order in which the uploads were judged.
     pub fn verdicts(&mut self, alloc: Global) -> Result<Report, Fault>
-        ensures step { (h : History) → Stands (K.book self.old.keeper) h → IsFaithful h (VerdictList ∷ [])
-            → IsStep K.may_fail h (VerdictList) (reported result) (K.book self.new.keeper) }
+        ensures clean { K.is_clean self.new.keeper → K.is_clean self.old.keeper }
+        ensures step { (h : History) → IsKept (K.is_open self.old.keeper) (K.book self.old.keeper) h → IsFaithful h (VerdictList ∷ [])
+            → K.is_clean self.new.keeper → IsStep K.may_fail h VerdictList (reported result) (K.is_open self.new.keeper) (K.book self.new.keeper) }
         ensures refused { IfErr result IsKeepers }
     {
         let judged = self.keeper.verdicts(alloc)?;

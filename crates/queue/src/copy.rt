@@ -1,7 +1,9 @@
 //! Copies of the items of a source package from suite to suite.
 
-ghost use Rattle.std.specs.Prelude.{◌≡◌, ◌⊎◌, ◌∷◌, ◌<◌, [], false, Some, None, bytes_eq, IfOk, IfErr, length};
+ghost use Rattle.std.specs.Prelude.{◌≡◌, ◌⊎◌, ◌∷◌, ◌<◌, [], false, Some, None, bytes_eq, IfOk, IfErr, OnOk, length};
 ghost use Rattle.queue.specs.Archives.{suite_named};
+ghost use Rattle.suites.specs.Plan.{IsStep, applied};
+ghost use Rattle.suites.specs.Shelves.{ShelvesValue};
 ghost use Rattle.queue.specs.Copies.{is_item_of, shows_source, suites_fault, AreSuites, IsCopy};
 
 use crate::fault::Fault;
@@ -91,10 +93,17 @@ pub fn copy_plan(
     Ok(plan_copy(alloc, config, shelves, from, to, source)?)
 }
 
-/// A plan as the only step of a change, without a judgement.
-pub fn only_step(alloc: Global, plan: Plan) -> Result<Listed<Step>, AllocError>
-    ensures { IfOk result (λ steps. steps ≡ record { judgement = None; plan = plan } ∷ []) }
+/// Makes a plan on the shelves that it was made for, as the only step of a change, without a judgement.
+pub fn only_step(
+    alloc: Global,
+    shelves: &mut Shelves,
+    plan: Plan,
+) -> Result<Listed<Step>, AllocError>
+    requires { (after : ShelvesValue) × IsStep shelves.old after plan }
+    ensures steps { IfOk result (λ steps. steps ≡ record { judgement = None; plan = plan } ∷ []) }
+    ensures shelves { OnOk result (shelves.new ≡ applied shelves.old plan) }
 {
+    shelves.apply(alloc, &plan)?;
     let mut steps = Vec::new(alloc);
     steps.push(Step {
         judgement: None,

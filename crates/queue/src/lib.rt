@@ -8,6 +8,7 @@ mod delivery;
 mod drive;
 mod fault;
 mod laws;
+mod renewal;
 mod report;
 mod run;
 

@@ -1,30 +1,57 @@
-use Rattle.std.proofs.Common.{refl}
+use Rattle.std.proofs.Common.{inl, inr}
 use Rattle.std.proofs.lemmas.Result.{err_from_is_err_and}
 use Rattle.queue.specs.Histories.{Delivery}
-use Rattle.queue.proofs.StepAnswers.{refused_step, refused_delivery, delivered_step, deliverable, free_delivery, keeper_step}
+use Rattle.queue.proofs.Kept.{same_by, untouched}
+use Rattle.queue.proofs.StepAnswers.{refused_step, refused_delivery, delivered_left, delivered_step, deliverable, free_delivery, keeper_step}
 use Rattle.queue.proofs.archive.Archive.deliver.Goals as goal
 
 pub returns-in_err-check_delivery-clause-step : goal.returns-in_err-check_delivery-clause-step
-returns-in_err-check_delivery-clause-step g c h stands faithful =
+returns-in_err-check_delivery-clause-step g c h kept faithful clean =
     let p = err_from_is_err_and c.from_residual.result c.from_residual.ensures.1 in
-    rw (p.1, p.2) (refused_step g.K.Keeper.may_fail h (Delivery c.args.name.now c.args.body.now c.args.moment) c.in_err-check_delivery.field-0.0 _ _ stands refl
+    rw (p.1, p.2) (refused_step g.K.Keeper.may_fail h (Delivery c.args.name.now c.args.body.now c.args.moment) c.in_err-check_delivery.field-0.0 _ _ _ _ kept (untouched _ _)
     (refused_delivery g.K.Keeper.may_fail h c.args.name.now c.args.body.now c.args.moment c.in_err-check_delivery.field-0.0 c.in_err-check_delivery.ensures.judged))
 
 pub arrive-requires-clause-deliverable : goal.arrive-requires-clause-deliverable
 arrive-requires-clause-deliverable g c = deliverable c.args.name.now c.args.body.now c.args.moment c.in_ok-check_delivery.ensures.judged
 
 pub returns-in_err-arrive-clause-step : goal.returns-in_err-arrive-clause-step
-returns-in_err-arrive-clause-step g c h stands faithful =
+returns-in_err-arrive-clause-step g c h kept faithful clean =
     let p = err_from_is_err_and c.from_residual-in_err-arrive.result c.from_residual-in_err-arrive.ensures.1 in
-    rw p.1 (keeper_step g.K.Keeper.may_fail h (Delivery c.args.name.now c.args.body.now c.args.moment) c.in_err-arrive.field-0.0 p.0 _ _ p.2 stands c.in_err-arrive.ensures.err c.in_err-arrive.ensures.cause
+    rw p.1 (keeper_step g.K.Keeper.may_fail h (Delivery c.args.name.now c.args.body.now c.args.moment) c.in_err-arrive.field-0.0 p.0 _ _ _ _ p.2 kept
+    (same_by c.in_err-arrive.ensures.lasts clean c.in_err-arrive.ensures.config c.in_err-arrive.ensures.err) c.in_err-arrive.ensures.cause
     (free_delivery h c.args.name.now c.args.body.now c.args.moment c.in_ok-check_delivery.ensures.judged))
 
 pub returns-then-branch-clause-step : goal.returns-then-branch-clause-step
-returns-then-branch-clause-step g c h stands faithful =
-    delivered_step g.K.Keeper.may_fail h c.args.name.now c.args.body.now c.args.moment _ _ _ stands faithful c.in_ok-check_delivery.ensures.judged
-    (rw c.if-branch.true at c.in_ok-arrive.ensures.new) c.in_ok-arrive.ensures.ok
+returns-then-branch-clause-step g c h kept faithful clean =
+    let up = c.in_ok-arrive.ensures.served clean in
+    let told = c.in_ok-arrive.ensures.new clean in
+    delivered_step g.K.Keeper.may_fail h c.args.name.now c.args.body.now c.args.moment _ _ _ _ (kept.stands (c.in_ok-arrive.ensures.lasts.was_open clean up)) faithful
+    c.in_ok-check_delivery.ensures.judged (rw c.if-branch.true at told) (c.in_ok-arrive.ensures.ok clean)
 
 pub returns-else-branch-clause-step : goal.returns-else-branch-clause-step
-returns-else-branch-clause-step g c h stands faithful =
-    delivered_step g.K.Keeper.may_fail h c.args.name.now c.args.body.now c.args.moment _ _ _ stands faithful c.in_ok-check_delivery.ensures.judged
-    (rw c.if-branch.false at c.in_ok-arrive.ensures.new) c.in_ok-arrive.ensures.ok
+returns-else-branch-clause-step g c h kept faithful clean =
+    let up = c.in_ok-arrive.ensures.served clean in
+    let told = c.in_ok-arrive.ensures.new clean in
+    delivered_step g.K.Keeper.may_fail h c.args.name.now c.args.body.now c.args.moment _ _ _ _ (kept.stands (c.in_ok-arrive.ensures.lasts.was_open clean up)) faithful
+    c.in_ok-check_delivery.ensures.judged (rw c.if-branch.false at told) (c.in_ok-arrive.ensures.ok clean)
+
+pub returns-in_err-check_delivery-clause-crash : goal.returns-in_err-check_delivery-clause-crash
+returns-in_err-check_delivery-clause-crash g c h kept faithful clean left may = inl may
+
+pub returns-in_err-arrive-clause-crash : goal.returns-in_err-arrive-clause-crash
+returns-in_err-arrive-clause-crash g c h kept faithful clean left may = elim (c.in_err-arrive.ensures.crash clean left may) [
+  | inl before ↦ inl before
+  | inr made ↦ inr (delivered_left g.K.Keeper.may_fail h c.args.name.now c.args.body.now c.args.moment (g.K.Keeper.book c.args.self.now.keeper) left (kept.stands made.0) faithful c.in_ok-check_delivery.ensures.judged made.1)
+]
+
+pub returns-then-branch-clause-crash : goal.returns-then-branch-clause-crash
+returns-then-branch-clause-crash g c h kept faithful clean left may = elim (c.in_ok-arrive.ensures.crash clean left may) [
+  | inl before ↦ inl before
+  | inr made ↦ inr (delivered_left g.K.Keeper.may_fail h c.args.name.now c.args.body.now c.args.moment (g.K.Keeper.book c.args.self.now.keeper) left (kept.stands made.0) faithful c.in_ok-check_delivery.ensures.judged made.1)
+]
+
+pub returns-else-branch-clause-crash : goal.returns-else-branch-clause-crash
+returns-else-branch-clause-crash g c h kept faithful clean left may = elim (c.in_ok-arrive.ensures.crash clean left may) [
+  | inl before ↦ inl before
+  | inr made ↦ inr (delivered_left g.K.Keeper.may_fail h c.args.name.now c.args.body.now c.args.moment (g.K.Keeper.book c.args.self.now.keeper) left (kept.stands made.0) faithful c.in_ok-check_delivery.ensures.judged made.1)
+]

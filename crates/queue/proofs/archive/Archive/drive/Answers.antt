@@ -24,26 +24,31 @@ loop-command-preserved g c =
           ∙ sym (map-append kind_of_command (take i commands) (command ∷ []))
           ∙ ap (map kind_of_command) (sym (take_more commands i command inside ∙ ap (λ x. take i commands ++ x ∷ []) (sym c.command-item.is)));
       room = omega (arith, c.in_ok-push.ensures.capacity, c.loop-command.invariant.room);
-      run = λ h stands faithful.
-          subst (λ (os : List Outcome). HasRun g.K.Keeper.may_fail h (map call_of commands) (map outcome_of os) (map call_of (drop (i + 1) commands)) (g.K.Keeper.book c.make-outcome.new.self.keeper))
+      clean = λ clean. c.loop-command.invariant.clean (c.make-outcome.ensures.clean clean);
+      run = λ h kept faithful clean.
+          subst (λ (os : List Outcome). HasRun _ g.K.Keeper.is_open g.K.Keeper.book g.K.Keeper.may_fail h (map call_of commands) (map outcome_of os) (map call_of (drop (i + 1) commands)) c.make-outcome.new.self.keeper)
           (sym c.in_ok-push.ensures.items)
-          (drive_more g.K.Keeper.may_fail h commands i command c.loop-command.outcomes.items c.make-outcome.result _ _ next c.make-outcome.ensures.step (c.loop-command.invariant.run h stands faithful));
+          (drive_more _ g.K.Keeper.is_open g.K.Keeper.book g.K.Keeper.may_fail h commands i command c.loop-command.outcomes.items c.make-outcome.result _ _ next
+          (λ p there now. c.make-outcome.ensures.step p there now clean)
+          (c.loop-command.invariant.run h kept faithful (c.make-outcome.ensures.clean clean)));
     }
 
 pub returns-clause-once : goal.returns-clause-once
-returns-clause-once g c h stands faithful =
+returns-clause-once g c h kept faithful clean =
     let commands = c.args.commands.now in
-    let run = c.loop-command.invariant.run h stands faithful in
-    has_run_all g.K.Keeper.may_fail h (map call_of commands) _ _
-    (subst (λ (cs : List Command). HasRun g.K.Keeper.may_fail h (map call_of commands) (map outcome_of c.loop-command.outcomes.items) (map call_of cs) (g.K.Keeper.book c.loop-command.self.keeper)) (drop_of_length-le commands {i = c.loop-command.command-index} (omega arith)) run)
+    let run = c.loop-command.invariant.run h kept faithful clean in
+    has_run_all _ g.K.Keeper.is_open g.K.Keeper.book g.K.Keeper.may_fail h (map call_of commands) _ _
+    (subst (λ (cs : List Command). HasRun _ g.K.Keeper.is_open g.K.Keeper.book g.K.Keeper.may_fail h (map call_of commands) (map outcome_of c.loop-command.outcomes.items) (map call_of cs) c.loop-command.self.keeper)
+    (drop_of_length-le commands {i = c.loop-command.command-index} (omega arith)) run)
 
 pub loop-command-init : goal.loop-command-init
 loop-command-init g c = record {
   count = c.in_ok-outcomes.ensures.len;
   kinds = ap (map kind_of_outcome) c.in_ok-outcomes.ensures.items;
   room = c.in_ok-outcomes.ensures.capacity;
-  run = λ h stands faithful.
-      subst (λ (os : List Outcome). HasRun g.K.Keeper.may_fail h (map call_of c.args.commands.now) (map outcome_of os) (map call_of c.args.commands.now) (g.K.Keeper.book c.args.self.now.keeper))
+  clean = λ clean. clean;
+  run = λ h kept faithful clean.
+      subst (λ (os : List Outcome). HasRun _ g.K.Keeper.is_open g.K.Keeper.book g.K.Keeper.may_fail h (map call_of c.args.commands.now) (map outcome_of os) (map call_of c.args.commands.now) c.args.self.now.keeper)
       (sym c.in_ok-outcomes.ensures.items)
-      (has_run_none g.K.Keeper.may_fail h (map call_of c.args.commands.now) _ stands faithful);
+      (has_run_none _ g.K.Keeper.is_open g.K.Keeper.book g.K.Keeper.may_fail h (map call_of c.args.commands.now) _ kept faithful);
 }

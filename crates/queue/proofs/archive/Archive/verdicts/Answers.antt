@@ -3,21 +3,34 @@ use Rattle.std.specs.Prelude.{map}
 use Rattle.std.proofs.lemmas.Result.{err_from_is_err_and}
 use Rattle.queue.specs.Answers.{report_line}
 use Rattle.queue.specs.Histories.{VerdictList}
+use Rattle.queue.proofs.Kept.{same_by}
 use Rattle.queue.proofs.StepAnswers.{free_verdicts, keeper_step, memory_step, verdicts_step}
 use Rattle.queue.proofs.archive.Archive.verdicts.Goals as goal
 
 pub returns-in_err-judged-clause-step : goal.returns-in_err-judged-clause-step
-returns-in_err-judged-clause-step g c h stands faithful =
+returns-in_err-judged-clause-step g c h kept faithful clean =
     let p = err_from_is_err_and c.from_residual.result c.from_residual.ensures.1 in
-    rw p.1 (keeper_step g.K.Keeper.may_fail h VerdictList c.in_err-judged.field-0.0 p.0 _ _ p.2 stands c.in_err-judged.ensures.same c.in_err-judged.ensures.cause (free_verdicts h))
+    rw p.1 (keeper_step g.K.Keeper.may_fail h VerdictList c.in_err-judged.field-0.0 p.0 _ _ _ _ p.2 kept
+    (same_by c.in_err-judged.ensures.lasts clean c.in_err-judged.ensures.config c.in_err-judged.ensures.same) c.in_err-judged.ensures.cause (free_verdicts h))
 
 pub returns-in_err-verdict_lines-clause-step : goal.returns-in_err-verdict_lines-clause-step
-returns-in_err-verdict_lines-clause-step g c h stands faithful =
+returns-in_err-verdict_lines-clause-step g c h kept faithful clean =
     let p = err_from_is_err_and c.from_residual-in_err-verdict_lines.result c.from_residual-in_err-verdict_lines.ensures.1 in
-    rw p.1 (memory_step g.K.Keeper.may_fail h VerdictList p.0 _ _ p.2 stands c.in_ok-judged.ensures.same)
+    rw p.1 (memory_step g.K.Keeper.may_fail h VerdictList p.0 _ _ _ _ p.2 kept
+    (same_by c.in_ok-judged.ensures.lasts clean c.in_ok-judged.ensures.config c.in_ok-judged.ensures.same))
 
 pub returns-clause-step : goal.returns-clause-step
-returns-clause-step g c h stands faithful =
-    verdicts_step g.K.Keeper.may_fail h _ _ c.in_ok-judged.judged.items _ stands c.in_ok-judged.ensures.verdicts
+returns-clause-step g c h kept faithful clean =
+    let up = c.in_ok-judged.ensures.served clean in
+    verdicts_step g.K.Keeper.may_fail h _ _ _ c.in_ok-judged.judged.items _ (kept.stands (c.in_ok-judged.ensures.lasts.was_open clean up)) (c.in_ok-judged.ensures.verdicts clean)
     (c.in_ok-verdict_lines.ensures ∙ ap (map report_line) c.deref.ensures.value)
-    c.in_ok-judged.ensures.same
+    (c.in_ok-judged.ensures.same clean up)
+
+pub returns-in_err-judged-clause-crash : goal.returns-in_err-judged-clause-crash
+returns-in_err-judged-clause-crash g c clean left may = c.in_err-judged.ensures.crash clean left may
+
+pub returns-in_err-verdict_lines-clause-crash : goal.returns-in_err-verdict_lines-clause-crash
+returns-in_err-verdict_lines-clause-crash g c clean left may = c.in_ok-judged.ensures.crash clean left may
+
+pub returns-clause-crash : goal.returns-clause-crash
+returns-clause-crash g c clean left may = c.in_ok-judged.ensures.crash clean left may

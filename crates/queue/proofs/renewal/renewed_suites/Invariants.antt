@@ -1,0 +1,15 @@
+use Rattle.std.proofs.Common.{◌≡◌, ◌≤◌, ◌++◌, drop}
+use Rattle.keep.specs.Book.{text_at}
+use Rattle.queue.specs.Renewal.{AreReads, renewed_from}
+use Rattle.queue.proofs.renewal.renewed_suites.Given as goal
+
+abbrev pub invariant-loop-suite : goal.invariant-loop-suite
+invariant-loop-suite g l =
+    let k = g.K.Keeper in
+    let before = l.fn.keeper in
+    let suites = (k.book before).config.suites in
+    record {
+      reads : AreReads k.may_fail (k.is_clean before) (k.is_clean l.keeper) (k.is_open before) (k.is_open l.keeper) (k.book before) (k.book l.keeper) (k.may_leave before) (k.may_leave l.keeper);
+      served : k.is_clean l.keeper → k.is_open before → k.is_open l.keeper;
+      texts : k.is_clean l.keeper → l.texts.items ++ renewed_from (text_at (k.book before)) l.shelves l.steps l.moment l.suite (drop l.suite suites) ≡ renewed_from (text_at (k.book before)) l.shelves l.steps l.moment 0 suites;
+    }

@@ -1,0 +1,115 @@
+-- The index texts that steps change.
+use Rattle.std.specs.Prelude.{◌≡◌, ℕ, ◌+◌, Bool, true, false, ◌||◌, if◌then◌else◌, List, [], ◌∷◌, ◌++◌, map, codes, bytes_eq, Option, Some, None, is_some, unwrap_or}
+use Rattle.std.specs.List.{flat_map, list_any}
+use Rattle.rules.specs.declared.suite.Suite.{Suite}
+use Rattle.keep.specs.Book.{Book}
+use Rattle.keep.specs.Keeping.{Lasts}
+use Rattle.keep.specs.Scan.{some_touches}
+use Rattle.keep.specs.declared.change.IndexText.{IndexText}
+use Rattle.keep.specs.declared.change.Step.{Step}
+use Rattle.sums.specs.Prints.{print}
+use Rattle.sums.specs.declared.print.Print.{Print}
+use Rattle.suites.specs.Shelves.{ShelvesValue}
+use Rattle.suites.specs.declared.item.Item.{Item}
+use Rattle.suites.specs.declared.key.ShelfKey.{ShelfKey}
+use Rattle.suites.specs.declared.plan.Plan.{Plan}
+use Rattle.texts.specs.Release.{index_of, index_path, is_source, listed_text, release_text}
+use Rattle.texts.specs.Stanzas.{is_in_packages, is_in_sources}
+use Rattle.texts.specs.declared.index.Index.{Index}
+use Rattle.queue.specs.declared.renewal.Folder.{Folder}
+use Rattle.queue.specs.declared.renewal.Place.{Place}
+
+-- What reads leave of a keeper: no more of its store than of any other call, the book of one that is open, and nothing that
+-- a crash would not have left before.
+pub record AreReads (may_fail : Bool) (clean_before clean_after open_before open_after : Type 0) (before now : Book) (left_before left_now : Book → Type 0) : Type 0 where
+  pub lasts : Lasts may_fail clean_before clean_after open_before open_after
+  pub config : now.config ≡ before.config
+  pub same : clean_after → open_after → now ≡ before
+  pub crash : clean_after → (left : Book) → left_now left → left_before left
+
+-- ---- which indices a step changes
+
+-- the index of a component and an architecture of the suite at a position lists the item
+unfoldable pub is_listed : ℕ → Place → ShelfKey × Item → Bool
+is_listed suite place e =
+    if is_source place.architecture then is_in_sources suite place.component e
+    else is_in_packages suite place.component place.architecture e
+
+-- the plan puts or drops an item that the index lists
+unfoldable pub changes_index : ℕ → Place → Plan → Bool
+changes_index suite place plan = list_any (is_listed suite place) plan.put || list_any (is_listed suite place) plan.dropped
+
+abbrev pub some_changes_index : ℕ → Place → List Step → Bool
+some_changes_index suite place steps = list_any (λ step. changes_index suite place step.plan) steps
+
+-- ---- the texts that are then other than before, which are these by their paths
+
+-- the text is the one that is there
+unfoldable pub is_kept : Option (List ℕ) → List ℕ → Bool
+is_kept None text = false
+is_kept (Some kept) text = bytes_eq kept text
+
+-- the print of the text that is there, of none that of no bytes
+unfoldable pub print_kept : Option (List ℕ) → Print
+print_kept kept = print (unwrap_or kept [])
+
+-- a text where another is there
+unfoldable pub renewed_at : Option (List ℕ) → List ℕ → List ℕ → List IndexText
+renewed_at kept path text = if is_kept kept text then [] else record { path = path; text = text } ∷ []
+
+abbrev pub place_at : List ℕ → List ℕ → Place
+place_at component architecture = record { component = component; architecture = architecture }
+
+-- the places of a suite's indices: for each component in its order, each architecture in its order
+abbrev pub places_in : List (List ℕ) → List (List ℕ) → List Place
+places_in components architectures = flat_map (λ c. map (place_at c) architectures) components
+
+abbrev pub place_path : Place → List ℕ
+place_path place = index_path place.component place.architecture
+
+abbrev pub place_text : ShelvesValue → ℕ → Place → List ℕ
+place_text shelves suite place = listed_text shelves suite place.component place.architecture
+
+-- the suite at a position, as it is told apart in paths
+abbrev pub folder_of : ℕ → Suite → Folder
+folder_of suite s = record { suite = suite; codename = s.codename; places = places_in s.components s.architectures }
+
+-- the path of a text of the suite
+abbrev pub path_in : Folder → List ℕ → List ℕ
+path_in folder path = codes "dists/" ++ folder.codename ++ codes "/" ++ path
+
+module _ (old : List ℕ → Option (List ℕ)) (shelves : ShelvesValue) (steps : List Step) (folder : Folder) where
+  -- the text of an index: rendered where a step changes it, else as it was
+  unfoldable pub text_after : Place → List ℕ
+  text_after place =
+      if some_changes_index folder.suite place steps then place_text shelves folder.suite place
+      else unwrap_or (old (path_in folder (place_path place))) []
+
+  abbrev pub index_after : Place → Index
+  index_after place = index_of (place_path place, text_after place)
+
+  -- the text of an index that a step changes, where it is another
+  unfoldable pub renewed_index : Place → List IndexText
+  renewed_index place =
+      if some_changes_index folder.suite place steps
+      then renewed_at (old (path_in folder (place_path place))) (path_in folder (place_path place)) (place_text shelves folder.suite place)
+      else []
+
+  -- the texts of a suite that has a Release: those indices, and Release itself where it is another
+  unfoldable pub renewed_folder : (List Index → List ℕ) → List IndexText
+  renewed_folder release =
+      if is_some (old (path_in folder (codes "Release")))
+      then flat_map renewed_index folder.places
+          ++ renewed_at (old (path_in folder (codes "Release"))) (path_in folder (codes "Release")) (release (map index_after folder.places))
+      else []
+
+-- those of the suite at a position
+abbrev pub renewed_suite : (List ℕ → Option (List ℕ)) → ShelvesValue → List Step → ℕ → ℕ → Suite → List IndexText
+renewed_suite old shelves steps moment suite s = renewed_folder old shelves steps (folder_of suite s) (release_text s moment)
+
+-- those of suites that a step touches, of which the first is at this position
+unfoldable pub renewed_from : (List ℕ → Option (List ℕ)) → ShelvesValue → List Step → ℕ → ℕ → List Suite → List IndexText
+renewed_from old shelves steps moment suite [] = []
+renewed_from old shelves steps moment suite (s ∷ rest) =
+    (if some_touches suite steps then renewed_suite old shelves steps moment suite s else [])
+    ++ renewed_from old shelves steps moment (suite + 1) rest

@@ -1,0 +1,341 @@
+//! The index texts that a change makes other than before.
+
+ghost use Rattle.std.specs.Prelude.{◌≡◌, ◌≤◌, ◌<◌, ◌++◌, Bool, List, ℕ, IfOk, IfErr, OnOk, is_some, length, map, slice_get, Some, option_map, string_bytes, if◌then◌else◌};
+ghost use Rattle.std.specs.List.{flat_map, list_any};
+ghost use Rattle.keep.specs.Book.{amended, latest, shown_past, text_at};
+ghost use Rattle.keep.specs.Keeping.{AreRenewed, AreSteps, MayAnswer};
+ghost use Rattle.keep.specs.declared.change.Change.{Change};
+ghost use Rattle.rules.specs.declared.suite.Suite.{Suite as SuiteValue};
+ghost use Rattle.texts.specs.Positions.{release_at};
+ghost use Rattle.texts.specs.Release.{index_of};
+ghost use Rattle.queue.specs.Renewal.{AreReads, changes_index, folder_of, index_after, is_kept, is_listed, path_in, place_at, place_path, place_text, places_in, print_kept, renewed_at, renewed_folder, renewed_from, renewed_index, renewed_suite, some_changes_index, text_after};
+
+use keep::{IndexText, KeepFault, Keeper, Step, some_changes_suite};
+use para::{Listed, Text};
+use rules::Suite;
+use std::alloc::{AllocError, Global};
+use suites::{Item, Plan, ShelfKey, Shelves};
+use sums::{Print, print_of};
+use texts::{Index, index_path, listed_text, lists_package, lists_source, release};
+
+/// What tells an index of a suite from its others.
+#[derive(Drop)]
+pub struct Place {
+    pub component: Text,
+    pub architecture: Text,
+}
+
+/// A suite as its paths name it: its position in the configuration, its codename, and the places of its indices.
+#[derive(Drop)]
+pub struct Folder {
+    pub suite: usize,
+    pub codename: Text,
+    pub places: Listed<Place>,
+}
+
+/// Appends the places of a component.
+fn push_places(
+    alloc: Global,
+    component: &str,
+    architectures: &[Text],
+    places: &mut Vec<Place>,
+) -> Result<(), AllocError>
+    ensures { OnOk result (places.new.items ≡ places.old.items ++ map (place_at component.now) architectures.now) }
+{
+    for architecture in architectures {
+        places.push(Place {
+            component: Text::new(alloc, component)?,
+            architecture: architecture.try_clone()?,
+        })?;
+    }
+    Ok(())
+}
+
+/// The places of a suite's indices: for each component in its order, each architecture in its order.
+fn places_of(
+    alloc: Global,
+    components: &[Text],
+    architectures: &[Text],
+) -> Result<Listed<Place>, AllocError>
+    ensures { IfOk result (λ places. places ≡ places_in components.now architectures.now) }
+{
+    let mut places = Vec::new(alloc);
+    for component in components {
+        push_places(alloc, component.as_str(), architectures, &mut places)?;
+    }
+    Ok(Listed::from_vec(places))
+}
+
+/// The folder of the suite at a position.
+fn folder_of(alloc: Global, position: usize, suite: &Suite) -> Result<Folder, AllocError>
+    ensures { IfOk result (λ folder. folder ≡ folder_of position suite.now) }
+{
+    Ok(Folder {
+        suite: position,
+        codename: suite.codename.try_clone()?,
+        places: places_of(
+            alloc,
+            suite.components.as_slice(),
+            suite.architectures.as_slice(),
+        )?,
+    })
+}
+
+/// The path of a text of the suite, without a leading slash.
+fn path_in(alloc: Global, folder: &Folder, path: &str) -> Result<String, AllocError>
+    ensures { IfOk result (λ whole. string_bytes whole ≡ path_in folder.now path.now) }
+{
+    let codename = folder.codename.as_str();
+    format!(in alloc; "dists/{codename}/{path}")
+}
+
+/// Whether the index of a suite's place lists the item, which stands on the shelf.
+#[tactic(auto, unfolding(crate::specs::Renewal::is_listed))]
+fn is_listed(key: &ShelfKey, item: &Item, suite: usize, place: &Place) -> bool
+    ensures { result ≡ is_listed suite place.now (key.now, item.now) }
+{
+    let component = place.component.as_str();
+    let architecture = place.architecture.as_str();
+    if architecture == "source" {
+        lists_source(key, item, suite, component)
+    } else {
+        lists_package(key, item, suite, component, architecture)
+    }
+}
+
+/// Whether the index of a suite's place lists one of the items.
+fn lists_some(entries: &[(ShelfKey, Item)], suite: usize, place: &Place) -> bool
+    ensures { result ≡ list_any (is_listed suite place.now) entries.now }
+{
+    for entry in entries {
+        if is_listed(&entry.0, &entry.1, suite, place) {
+            return true;
+        }
+    }
+    false
+}
+
+/// Whether a plan puts or drops an item that the index lists.
+#[tactic(auto, unfolding(crate::specs::Renewal::changes_index))]
+fn changes_index(plan: &Plan, suite: usize, place: &Place) -> bool
+    ensures { result ≡ changes_index suite place.now plan.now }
+{
+    let puts = lists_some(plan.put.as_slice(), suite, place);
+    let drops = lists_some(plan.dropped.as_slice(), suite, place);
+    puts || drops
+}
+
+/// Whether a step puts or drops an item that the index lists.
+fn some_changes_index(steps: &[Step], suite: usize, place: &Place) -> bool
+    ensures { result ≡ some_changes_index suite place.now steps.now }
+{
+    for step in steps {
+        if changes_index(&step.plan, suite, place) {
+            return true;
+        }
+    }
+    false
+}
+
+/// The print of a text that is kept, of an absent one that of no bytes.
+#[tactic(auto, unfolding(crate::specs::Renewal::print_kept))]
+fn print_kept(kept: &Option<Vec<u8>>) -> Print
+    ensures { result ≡ print_kept (option_map (λ v. v.items) kept.now) }
+{
+    match kept {
+        Some(text) => print_of(text),
+        None => print_of(&[]),
+    }
+}
+
+/// Whether the text is the one that is kept.
+#[tactic(auto, unfolding(crate::specs::Renewal::is_kept))]
+fn is_kept(kept: &Option<Vec<u8>>, text: &[u8]) -> bool
+    ensures { result ≡ is_kept (option_map (λ v. v.items) kept.now) text.now }
+{
+    match kept {
+        Some(kept) => kept.as_slice() == text,
+        None => false,
+    }
+}
+
+/// Appends the text at a path where another is kept there.
+#[tactic(auto, unfolding(crate::specs::Renewal::renewed_at))]
+fn push_renewed(
+    texts: &mut Vec<IndexText>,
+    kept: &Option<Vec<u8>>,
+    path: String,
+    text: Vec<u8>,
+) -> Result<(), AllocError>
+    ensures { OnOk result (texts.new.items ≡ texts.old.items ++ renewed_at (option_map (λ v. v.items) kept.now) (string_bytes path) text.items) }
+{
+    if !is_kept(kept, &text) {
+        texts.push(IndexText {
+            path: Text::from_string(path),
+            text: Listed::from_vec(text),
+        })?;
+    }
+    Ok(())
+}
+
+/// The index of a suite's place after the steps, which leave the shelves; its text is appended where it is other than the
+/// kept one. Where no step changes the index the kept text is hashed.
+#[tactic(auto, unfolding(crate::specs::Renewal::text_after, crate::specs::Renewal::renewed_index))]
+fn renew_index<K: Keeper>(
+    alloc: Global,
+    keeper: &mut K,
+    shelves: &Shelves,
+    steps: &[Step],
+    folder: &Folder,
+    place: &Place,
+    texts: &mut Vec<IndexText>,
+) -> Result<Index, KeepFault>
+    ensures reads { AreReads K.may_fail (K.is_clean keeper.old) (K.is_clean keeper.new) (K.is_open keeper.old) (K.is_open keeper.new) (K.book keeper.old) (K.book keeper.new) (K.may_leave keeper.old) (K.may_leave keeper.new) }
+    ensures served { K.is_clean keeper.new → OnOk result (K.is_open keeper.new) }
+    ensures index { K.is_clean keeper.new → IfOk result (λ index. index ≡ index_after (text_at (K.book keeper.old)) shelves.now steps.now folder.now place.now) }
+    ensures texts { K.is_clean keeper.new → OnOk result (texts.new.items ≡ texts.old.items ++ renewed_index (text_at (K.book keeper.old)) shelves.now steps.now folder.now place.now) }
+    ensures cause { IfErr result (MayAnswer K.may_fail) }
+{
+    let component = place.component.as_str();
+    let architecture = place.architecture.as_str();
+    let path = index_path(alloc, component, architecture)?;
+    let whole = path_in(alloc, folder, path.as_str())?;
+    let kept = keeper.text(alloc, whole.as_str())?;
+    if !some_changes_index(steps, folder.suite, place) {
+        return Ok(Index {
+            path: Text::from_string(path),
+            print: print_kept(&kept),
+        });
+    }
+    let text = listed_text(alloc, shelves, folder.suite, component, architecture)?;
+    let print = print_of(&text);
+    push_renewed(texts, &kept, whole, text)?;
+    Ok(Index {
+        path: Text::from_string(path),
+        print,
+    })
+}
+
+/// The indices of a suite after the steps, which leave the shelves; those of their texts that are other than the kept ones
+/// are appended.
+fn renew_indices<K: Keeper>(
+    alloc: Global,
+    keeper: &mut K,
+    shelves: &Shelves,
+    steps: &[Step],
+    folder: &Folder,
+    texts: &mut Vec<IndexText>,
+) -> Result<Vec<Index>, KeepFault>
+    ensures reads { AreReads K.may_fail (K.is_clean keeper.old) (K.is_clean keeper.new) (K.is_open keeper.old) (K.is_open keeper.new) (K.book keeper.old) (K.book keeper.new) (K.may_leave keeper.old) (K.may_leave keeper.new) }
+    ensures served { K.is_clean keeper.new → K.is_open keeper.old → OnOk result (K.is_open keeper.new) }
+    ensures indices { K.is_clean keeper.new → IfOk result (λ indices. indices.items ≡ map (index_after (text_at (K.book keeper.old)) shelves.now steps.now folder.now) folder.now.places) }
+    ensures texts { K.is_clean keeper.new → OnOk result (texts.new.items ≡ texts.old.items ++ flat_map (renewed_index (text_at (K.book keeper.old)) shelves.now steps.now folder.now) folder.now.places) }
+    ensures cause { IfErr result (MayAnswer K.may_fail) }
+{
+    let mut indices = Vec::new(alloc);
+    for place in folder.places.as_slice() {
+        let index = renew_index(alloc, keeper, shelves, steps, folder, place, texts)?;
+        indices.push(index)?;
+    }
+    Ok(indices)
+}
+
+/// Appends the texts of a suite that the steps make other than the kept ones: those of its indices, and Release with the
+/// moment as its date. A suite without a Release has none.
+#[tactic(auto, unfolding(crate::specs::Renewal::renewed_folder))]
+fn renew_folder<K: Keeper>(
+    alloc: Global,
+    keeper: &mut K,
+    shelves: &Shelves,
+    steps: &[Step],
+    moment: u64,
+    folder: &Folder,
+    texts: &mut Vec<IndexText>,
+) -> Result<(), KeepFault>
+    requires moment { moment ≤ latest }
+    requires suite { folder.now.suite < length (K.book keeper.now).config.suites }
+    ensures reads { AreReads K.may_fail (K.is_clean keeper.old) (K.is_clean keeper.new) (K.is_open keeper.old) (K.is_open keeper.new) (K.book keeper.old) (K.book keeper.new) (K.may_leave keeper.old) (K.may_leave keeper.new) }
+    ensures served { K.is_clean keeper.new → OnOk result (K.is_open keeper.new) }
+    ensures texts { K.is_clean keeper.new → OnOk result (texts.new.items ≡ texts.old.items ++ renewed_folder (text_at (K.book keeper.old)) shelves.now steps.now folder.now (release_at (K.book keeper.old).config folder.now.suite moment)) }
+    ensures cause { IfErr result (MayAnswer K.may_fail) }
+{
+    let path = path_in(alloc, folder, "Release")?;
+    let kept = keeper.text(alloc, path.as_str())?;
+    if kept.is_none() {
+        return Ok(());
+    }
+    let indices = renew_indices(alloc, keeper, shelves, steps, folder, texts)?;
+    let mut text = Vec::new(alloc);
+    release(alloc, keeper.config(), folder.suite, moment, &indices, &mut text)?;
+    push_renewed(texts, &kept, path, text)?;
+    Ok(())
+}
+
+/// The same of the suite at a position.
+fn renew_suite<K: Keeper>(
+    alloc: Global,
+    keeper: &mut K,
+    shelves: &Shelves,
+    steps: &[Step],
+    moment: u64,
+    suite: usize,
+    texts: &mut Vec<IndexText>,
+) -> Result<(), KeepFault>
+    requires moment { moment ≤ latest }
+    requires suite { suite < length (K.book keeper.now).config.suites }
+    ensures reads { AreReads K.may_fail (K.is_clean keeper.old) (K.is_clean keeper.new) (K.is_open keeper.old) (K.is_open keeper.new) (K.book keeper.old) (K.book keeper.new) (K.may_leave keeper.old) (K.may_leave keeper.new) }
+    ensures served { K.is_clean keeper.new → OnOk result (K.is_open keeper.new) }
+    ensures texts { K.is_clean keeper.new → OnOk result ((s : SuiteValue) → slice_get (K.book keeper.old).config.suites suite ≡ Some s
+        → texts.new.items ≡ texts.old.items ++ renewed_suite (text_at (K.book keeper.old)) shelves.now steps.now moment suite s) }
+    ensures cause { IfErr result (MayAnswer K.may_fail) }
+{
+    let folder = folder_of(alloc, suite, &keeper.config().suites()[suite])?;
+    renew_folder(alloc, keeper, shelves, steps, moment, &folder, texts)
+}
+
+/// The texts of the suites that a step touches, where they are other than the kept ones.
+fn renewed_suites<K: Keeper>(
+    alloc: Global,
+    keeper: &mut K,
+    shelves: &Shelves,
+    steps: &[Step],
+    moment: u64,
+) -> Result<Vec<IndexText>, KeepFault>
+    requires { moment ≤ latest }
+    ensures reads { AreReads K.may_fail (K.is_clean keeper.old) (K.is_clean keeper.new) (K.is_open keeper.old) (K.is_open keeper.new) (K.book keeper.old) (K.book keeper.new) (K.may_leave keeper.old) (K.may_leave keeper.new) }
+    ensures served { K.is_clean keeper.new → K.is_open keeper.old → OnOk result (K.is_open keeper.new) }
+    ensures texts { K.is_clean keeper.new → IfOk result (λ texts. texts.items ≡ renewed_from (text_at (K.book keeper.old)) shelves.now steps.now moment 0 (K.book keeper.old).config.suites) }
+    ensures cause { IfErr result (MayAnswer K.may_fail) }
+{
+    let mut texts = Vec::new(alloc);
+    for suite in 0..keeper.config().suites().len() {
+        if some_changes_suite(steps, suite) {
+            renew_suite(alloc, keeper, shelves, steps, moment, suite, &mut texts)?;
+        }
+    }
+    Ok(texts)
+}
+
+/// The index texts that steps make other than the kept ones, where the steps leave these shelves and are made at the
+/// moment, in seconds since 1970-01-01 00:00:00 UTC. Of a suite that a step touches the indices are rendered whose items
+/// a plan puts or drops, the others are read from the keeper, and Release gets the moment as its date; of other suites
+/// nothing is read.
+pub fn renewed_texts<K: Keeper>(
+    alloc: Global,
+    keeper: &mut K,
+    shelves: &Shelves,
+    steps: &[Step],
+    moment: u64,
+) -> Result<Vec<IndexText>, KeepFault>
+    requires { moment ≤ latest }
+    ensures reads { AreReads K.may_fail (K.is_clean keeper.old) (K.is_clean keeper.new) (K.is_open keeper.old) (K.is_open keeper.new) (K.book keeper.old) (K.book keeper.new) (K.may_leave keeper.old) (K.may_leave keeper.new) }
+    ensures served { K.is_clean keeper.new → K.is_open keeper.old → OnOk result (K.is_open keeper.new) }
+    ensures renewed { K.is_clean keeper.new → IfOk result (λ texts. (change : Change) → change.moment ≡ moment → change.steps ≡ steps.now
+        → AreSteps (K.book keeper.old).shown steps.now → shelves.now ≡ shown_past (K.book keeper.old).shown steps.now
+        → AreRenewed (K.book keeper.old) (amended (K.book keeper.old) change) texts.items) }
+    ensures cause { IfErr result (MayAnswer K.may_fail) }
+{
+    // A configuration that was read has no two indices at one path.
+    let _ = keeper.config().text();
+    renewed_suites(alloc, keeper, shelves, steps, moment)
+}
