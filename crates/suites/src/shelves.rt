@@ -18,7 +18,6 @@ use crate::item::{Item, PoolFile};
 use crate::key::ShelfKey;
 use crate::plan::{Plan, Reference};
 use std::alloc::{AllocError, Global};
-use std::cmp::Ordering;
 use std::collections::BTreeMap;
 use std::marker::Model;
 use sums::Print;
@@ -359,11 +358,12 @@ impl Shelves {
     }
 
     /// Whether the shelf has an item of a version at least as great.
+    #[tactic(auto, unfolding(crate::specs::Shelves::is_at_least))]
     pub fn covers(&self, key: &ShelfKey, item: &Item) -> bool
         ensures { result ≡ is_covered version_of self.now (key.now, item.now) }
     {
         match self.get(key) {
-            Some(shown) => shown.version.order(&item.version) != Ordering::Less,
+            Some(shown) => !shown.version.order(&item.version).is_lt(),
             None => false,
         }
     }
