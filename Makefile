@@ -1,4 +1,5 @@
-# try: the main job on stored files; build: prove and build the program; install: copy it to PREFIX/bin; test: the gate.
+# try: the main job on stored files; build: prove and build the program; install: copy it to PREFIX/bin; test: the gate,
+# and the test of tools/with_sidecars.
 PREFIX ?= /usr/local
 STORED = crates/archive/data
 PROGRAM = crates/archive/out/archive
@@ -16,3 +17,4 @@ install: build
 
 test:
 	rt ci
+	python3 tools/test_with_sidecars.py -v

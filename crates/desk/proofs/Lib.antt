@@ -1,0 +1,13 @@
+pub mod FieldLemmas
+pub mod TransferLemmas
+pub mod RouteLemmas
+pub mod HeadLemmas
+pub mod RequestLemmas
+pub mod SeekLemmas
+pub mod WalkLemmas
+pub mod TextLemmas
+pub mod WantedLemmas
+pub mod UniqueLemmas
+pub mod ReplyLemmas
+pub mod ExchangeLemmas
+pub mod ConnectionLemmas

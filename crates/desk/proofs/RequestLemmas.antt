@@ -1,0 +1,126 @@
+-- From what was read to what a connection asks for.
+use Rattle.std.proofs.Common.{◌≡◌, ◌⊎◌, ℕ, ◌<◌, ◌≤◌, List, [], ◌++◌, Option, None, Some, Result, Ok, Err, IfOk, OnErr, length, false, true, refl, sym, ap, ◌∙◌, inl, inr, append_assoc, append-nil, arith}
+use Rattle.std.specs.Io.KnownBytes.{Consumes, IsAtEnd}
+use Rattle.std.proofs.KnownBytes.{Consumes-trans}
+use Rattle.desk.specs.declared.head.Refusal.{Refusal}
+use Rattle.desk.specs.declared.head.Refusal.TheVariants.{BadRequest, NotFound, MethodNotAllowed, LengthRequired, PayloadTooLarge, HeadTooLarge, NotImplemented, OutOfMemory}
+use Rattle.desk.specs.declared.request.Request.{Request}
+use Rattle.desk.specs.declared.request.Request.TheVariants as r
+use Rattle.desk.specs.Transfer.{ends_head, NotEarlier}
+use Rattle.desk.specs.Want.{Want}
+use Rattle.desk.specs.Request.{IsGiven, Received, IsFirstHead, HeadAsks, Gives, refused, asks, body_length, want_of}
+use Rattle.desk.specs.Incoming.{ReadsBeginning, ReadsUpTo, IsRefused, IsIncoming, IsBody}
+use Rattle.desk.proofs.UniqueLemmas.{head_part, body_part}
+
+-- what a reader that tells its bytes has left
+abbrev pub rest_of : Option (List ℕ) → List ℕ
+rest_of None = []
+rest_of (Some ys) = ys
+
+pub given_of : (old new : Option (List ℕ)) (used : List ℕ) → Consumes old new used → IsGiven old (used ++ rest_of new)
+given_of None new used h = tt
+given_of (Some xs) None used h = absurd h
+given_of (Some xs) (Some ys) used h = h
+
+pub rest_at_end : (new : Option (List ℕ)) → IsAtEnd new → rest_of new ≡ []
+rest_at_end None h = refl
+rest_at_end (Some ys) h = h
+
+-- what is said of an exit by `?`
+pub on_err : {T E P : Type 0} (r : Result T E) → P → OnErr r P
+on_err (Ok x) p = tt
+on_err (Err e) p = p
+
+-- the head did not end within its limit
+pub received_long : (old new : Option (List ℕ)) (head : List ℕ) → Consumes old new head → NotEarlier head → ends_head head ≡ false → length head ≡ 8192
+    → Received old new (refused HeadTooLarge)
+received_long old new head read earlier unended limit = record {
+  bytes = head ++ rest_of new;
+  used = head;
+  given = given_of old new head read;
+  is = inr (inl (record { rest = rest_of new; split = refl; limit = limit; unended = (earlier, unended); refusal = refl }));
+  read = read;
+}
+
+-- the head was refused
+pub received_refused : (old new : Option (List ℕ)) (head : List ℕ) (e : Refusal) → Consumes old new head → IsFirstHead head → HeadAsks head (Err e)
+    → Received old new (refused e)
+received_refused old new head e read first asked = record {
+  bytes = head ++ rest_of new;
+  used = head;
+  given = given_of old new head read;
+  is = inr (inr (inl (record { rest = rest_of new; split = refl; head = first; refusal = asked })));
+  read = read;
+}
+
+pub refused_from_head : (old new : Option (List ℕ)) (head : List ℕ) (e : Refusal) → Consumes old new head → IsFirstHead head
+    → Gives want_of (Err e) (HeadAsks head) → IsRefused old new e
+refused_from_head old new head OutOfMemory read first asked = record { front = head; read = read; used = head_part head first.first first.limit }
+refused_from_head old new head BadRequest read first asked = received_refused old new head _ read first asked
+refused_from_head old new head NotFound read first asked = received_refused old new head _ read first asked
+refused_from_head old new head (MethodNotAllowed m) read first asked = received_refused old new head _ read first asked
+refused_from_head old new head LengthRequired read first asked = received_refused old new head _ read first asked
+refused_from_head old new head PayloadTooLarge read first asked = received_refused old new head _ read first asked
+refused_from_head old new head HeadTooLarge read first asked = received_refused old new head _ read first asked
+refused_from_head old new head NotImplemented read first asked = received_refused old new head _ read first asked
+
+-- the input ended within the body
+pub received_cut : (old mid new : Option (List ℕ)) (head front : List ℕ) (want : Want) → Consumes old mid head → IsFirstHead head → HeadAsks head (Ok want)
+    → Consumes mid new front → length front < body_length want → IsAtEnd new → Received old new (refused BadRequest)
+received_cut old mid new head front want before first asked after short end =
+    let read = Consumes-trans _ _ _ _ _ before after in
+    let whole : (head ++ front) ++ rest_of new ≡ head ++ front = ap (λ l. (head ++ front) ++ l) (rest_at_end new end) ∙ append-nil (head ++ front) in
+    record {
+      bytes = (head ++ front) ++ rest_of new;
+      used = head ++ front;
+      given = given_of old new (head ++ front) read;
+      is = inr (inr (inr (record {
+        head = head;
+        body = front;
+        want = want;
+        split = whole;
+        first = first;
+        asked = asked;
+        short = short;
+        used_is = sym whole;
+        refusal = refl;
+      })));
+      read = read;
+    }
+
+-- a whole request came
+pub received_whole : (old mid new : Option (List ℕ)) (head body : List ℕ) (want : Want) → Consumes old mid head → IsFirstHead head → HeadAsks head (Ok want)
+    → Consumes mid new body → length body ≡ body_length want → Received old new (asks want body)
+received_whole old mid new head body want before first asked after size =
+    let read = Consumes-trans _ _ _ _ _ before after in
+    record {
+      bytes = (head ++ body) ++ rest_of new;
+      used = head ++ body;
+      given = given_of old new (head ++ body) read;
+      is = record { head = head; rest = rest_of new; split = refl; used_is = refl; first = first; asked = asked; size = size };
+      read = read;
+    }
+
+pub reads_behind : (old mid new : Option (List ℕ)) (head : List ℕ) (want : Want) → Consumes old mid head → IsFirstHead head → HeadAsks head (Ok want)
+    → ReadsUpTo mid new (body_length want) → ReadsBeginning old new
+reads_behind old mid new head want before first asked h = record {
+  front = head ++ h.front;
+  read = Consumes-trans _ _ _ _ _ before h.read;
+  used = body_part head h.front want first asked h.short;
+}
+
+pub incoming_from_body : (old mid new : Option (List ℕ)) (head : List ℕ) (want : Want) (q : Request) → Consumes old mid head → IsFirstHead head
+    → HeadAsks head (Ok want) → IsBody mid new want q → IsIncoming old new q
+incoming_from_body old mid new head want r.Nothing before first asked h = absurd h
+incoming_from_body old mid new head want (r.Refused OutOfMemory) before first asked h = reads_behind old mid new head want before first asked h
+incoming_from_body old mid new head want (r.Refused BadRequest) before first asked (front, after, short, end) =
+    received_cut old mid new head front want before first asked after short end
+incoming_from_body old mid new head want (r.Refused NotFound) before first asked h = absurd h
+incoming_from_body old mid new head want (r.Refused (MethodNotAllowed m)) before first asked h = absurd h
+incoming_from_body old mid new head want (r.Refused LengthRequired) before first asked h = absurd h
+incoming_from_body old mid new head want (r.Refused PayloadTooLarge) before first asked h = absurd h
+incoming_from_body old mid new head want (r.Refused HeadTooLarge) before first asked h = absurd h
+incoming_from_body old mid new head want (r.Refused NotImplemented) before first asked h = absurd h
+incoming_from_body old mid new head want (r.Asks wanted body) before first asked (same, size, after) =
+    let moved = received_whole old mid new head body.items want before first asked after size in
+    rw same moved

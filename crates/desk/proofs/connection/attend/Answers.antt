@@ -1,0 +1,35 @@
+use Rattle.std.proofs.Common.{◌≡◌, ◌<◌, ◌+◌, List, [], ◌∷◌, ◌++◌, drop, take, get_or, length, sym, ap, ap₂, subst, ◌∙◌, arith, length-set, set}
+use Rattle.std.proofs.lemmas.List.{drop_more, drop-set-lt, take_more, take_more_set, length-take-le}
+use Rattle.std.proofs.lemmas.Grind.{drop_more_same}
+use Rattle.desk.specs.Connections.{AreServed, Visit, visit, visits}
+use Rattle.desk.specs.declared.connection.Connection.{Connection}
+use Rattle.desk.proofs.ConnectionLemmas.{served_more, visits-snoc}
+use Rattle.desk.proofs.connection.attend.Goals as goal
+
+pub loop-connection-preserved : goal.loop-connection-preserved
+loop-connection-preserved g c =
+    let i = c.loop-connection.connection-index in
+    let olds = c.args.connections.now in
+    let news = c.loop-connection.connections in
+    let any = c.connection-item.result in
+    let old = get_or news i any in
+    let new = c.serve.new.self in
+    let sofar = c.loop-connection.invariant in
+    let inside : i < length news = omega arith in
+    let size : length news ≡ length olds = sofar.size in
+    let inside_old : i < length olds = omega (arith, size) in
+    let heads : drop i olds ≡ old ∷ drop (i + 1) news = sym sofar.to_come ∙ drop_more news i any inside in
+    let here : get_or olds i any ≡ old = ap (λ l. get_or l 0 any) (sym (drop_more olds i any inside_old) ∙ heads) in
+    let seen = visits g.R.Read.remaining g.W.Write.contents in
+    let as_many : length (take i olds) ≡ length (take i news) =
+    length-take-le i olds (omega (arith, inside_old)) ∙ sym (length-take-le i news (omega (arith, inside))) in
+    let grown : seen (take (i + 1) olds) (take (i + 1) (set news i new)) ≡ seen (take i olds) (take i news) ++ visit g.R.Read.remaining g.W.Write.contents old new ∷ [] =
+    ap₂ seen (take_more olds i any inside_old ∙ ap (λ x. take i olds ++ x ∷ []) here) (take_more_set news i new inside)
+    ∙ visits-snoc g.R.Read.remaining g.W.Write.contents (take i olds) (take i news) old new as_many in
+    record {
+      to_come = drop-set-lt (i + 1) news i new (omega arith) ∙ drop_more_same news olds i sofar.to_come;
+      size = length-set news i new ∙ size;
+      clean = λ clean. sofar.clean (c.serve.ensures.clean clean);
+      served = subst (λ (vs : List Visit). AreServed g.K.Keeper.may_fail g.K.Keeper.is_clean g.K.Keeper.is_open g.K.Keeper.book c.args.archive.now.keeper c.serve.new.archive.keeper vs) (sym grown)
+          (served_more g.K.Keeper.may_fail g.K.Keeper.is_clean g.K.Keeper.is_open g.K.Keeper.book _ c.loop-connection.archive.keeper _ _ _ c.serve.ensures.clean sofar.served c.serve.ensures.served);
+    }

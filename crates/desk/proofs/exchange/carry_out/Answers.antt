@@ -1,0 +1,59 @@
+use Rattle.std.proofs.Common.{◌≡◌, Ok, Err, ap, false, option_map}
+use Rattle.desk.specs.Message.{message_of}
+use Rattle.queue.specs.Commands.{is_new, lines_of}
+use Rattle.queue.specs.Histories.{Stored, Lines, Count, Found}
+use Rattle.desk.proofs.exchange.carry_out.Goals as goal
+
+pub returns-in-Ok-clause-carried_out : goal.returns-in-Ok-clause-carried_out
+returns-in-Ok-clause-carried_out g c =
+    let step = rw c.as_str.ensures.value at c.in-Ok.ensures.step in
+    rw c.in-Deliver.is (record { outcome = Ok (Stored (is_new c.in-Ok.arrived)); done = step; message_is = c.arrived_reply.ensures false })
+
+pub returns-in-Err-clause-carried_out : goal.returns-in-Err-clause-carried_out
+returns-in-Err-clause-carried_out g c =
+    let step = rw c.as_str.ensures.value at c.in-Err.ensures.step in
+    rw c.in-Deliver.is (record { outcome = Err c.in-Err.fault; done = step; message_is = c.fault_reply.ensures })
+
+pub returns-in-Ok-run-clause-carried_out : goal.returns-in-Ok-run-clause-carried_out
+returns-in-Ok-run-clause-carried_out g c =
+    rw c.in-Run.is (record { outcome = Ok (Lines (lines_of c.in-Ok-run.report)); done = c.in-Ok-run.ensures.step; message_is = c.report_reply.ensures false })
+
+pub returns-in-Err-run-clause-carried_out : goal.returns-in-Err-run-clause-carried_out
+returns-in-Err-run-clause-carried_out g c =
+    rw c.in-Run.is (record { outcome = Err c.in-Err-run.fault; done = c.in-Err-run.ensures.step; message_is = c.fault_reply-in-Err-run.ensures })
+
+pub returns-in-Ok-copy-clause-carried_out : goal.returns-in-Ok-copy-clause-carried_out
+returns-in-Ok-copy-clause-carried_out g c =
+    let step = rw (c.as_str-in-Copy.ensures.value, c.as_str-in-Copy-2.ensures.value, c.as_str-in-Copy-3.ensures.value) at c.in-Ok-copy.ensures.step in
+    rw c.in-Copy.is (record { outcome = Ok (Count c.in-Ok-copy.items); done = step; message_is = ap message_of c.new.ensures })
+
+pub returns-in-Err-copy-clause-carried_out : goal.returns-in-Err-copy-clause-carried_out
+returns-in-Err-copy-clause-carried_out g c =
+    let step = rw (c.as_str-in-Copy.ensures.value, c.as_str-in-Copy-2.ensures.value, c.as_str-in-Copy-3.ensures.value) at c.in-Err-copy.ensures.step in
+    rw c.in-Copy.is (record { outcome = Err c.in-Err-copy.fault; done = step; message_is = c.fault_reply-in-Err-copy.ensures })
+
+pub returns-in-Ok-fetch-clause-carried_out : goal.returns-in-Ok-fetch-clause-carried_out
+returns-in-Ok-fetch-clause-carried_out g c =
+    let step = rw c.as_str-in-Fetch.ensures.value at c.in-Ok-fetch.ensures.step in
+    rw c.in-Fetch.is (record { outcome = Ok (Found (option_map (λ body. body.items) c.in-Ok-fetch.found)); done = step; message_is = c.fetch_reply.ensures })
+
+pub returns-in-Err-fetch-clause-carried_out : goal.returns-in-Err-fetch-clause-carried_out
+returns-in-Err-fetch-clause-carried_out g c =
+    let step = rw c.as_str-in-Fetch.ensures.value at c.in-Err-fetch.ensures.step in
+    rw c.in-Fetch.is (record { outcome = Err c.in-Err-fetch.fault; done = step; message_is = c.fault_reply-in-Err-fetch.ensures })
+
+pub returns-in-Ok-waiting-clause-carried_out : goal.returns-in-Ok-waiting-clause-carried_out
+returns-in-Ok-waiting-clause-carried_out g c =
+    rw c.in-Waiting.is (record { outcome = Ok (Lines (lines_of c.in-Ok-waiting.report)); done = c.in-Ok-waiting.ensures.step; message_is = c.report_reply-in-Ok-waiting.ensures false })
+
+pub returns-in-Err-waiting-clause-carried_out : goal.returns-in-Err-waiting-clause-carried_out
+returns-in-Err-waiting-clause-carried_out g c =
+    rw c.in-Waiting.is (record { outcome = Err c.in-Err-waiting.fault; done = c.in-Err-waiting.ensures.step; message_is = c.fault_reply-in-Err-waiting.ensures })
+
+pub returns-in-Ok-verdicts-clause-carried_out : goal.returns-in-Ok-verdicts-clause-carried_out
+returns-in-Ok-verdicts-clause-carried_out g c =
+    rw c.in-Verdicts.is (record { outcome = Ok (Lines (lines_of c.in-Ok-verdicts.report)); done = c.in-Ok-verdicts.ensures.step; message_is = c.report_reply-in-Ok-verdicts.ensures false })
+
+pub returns-in-Err-verdicts-clause-carried_out : goal.returns-in-Err-verdicts-clause-carried_out
+returns-in-Err-verdicts-clause-carried_out g c =
+    rw c.in-Verdicts.is (record { outcome = Err c.in-Err-verdicts.fault; done = c.in-Err-verdicts.ensures.step; message_is = c.fault_reply-in-Err-verdicts.ensures })

@@ -1,0 +1,18 @@
+-- The reply to what is refused before the archive hears of it.
+use Rattle.std.specs.Prelude.{ℕ, List, Option, None, false}
+use Rattle.desk.specs.declared.head.Refusal.{Refusal}
+use Rattle.desk.specs.Refusals.{allowed, refusal_status}
+use Rattle.desk.specs.Reply.{Message, phrase, line}
+
+-- a reply of text
+abbrev pub text_message : ℕ → List ℕ → Message
+text_message status body = record { status = status; allow = None; is_binary = false; body = body }
+
+-- the status and its phrase as the text, with the method that is allowed instead
+abbrev pub refusal_message : Refusal → Message
+refusal_message e = record {
+  status = refusal_status e;
+  allow = allowed e;
+  is_binary = false;
+  body = line (phrase (refusal_status e));
+}

@@ -1,0 +1,45 @@
+-- What is asked of the archive, and the reply to what it answers.
+use Rattle.std.specs.Prelude.{ℕ, Bool, true, false, List, codes, decimal, Result, Ok, Err, Some, None}
+use Rattle.std.specs.List.{flat_map}
+use Rattle.queue.specs.Fault.{fault_text}
+use Rattle.queue.specs.Histories.{Call, Delivery, QueueRun, Copying, Lookup, WaitingList, VerdictList, Reply, Stored, Lines, Count, Found}
+use Rattle.queue.specs.declared.fault.Fault.{Fault}
+use Rattle.queue.specs.declared.fault.Fault.TheVariants as fault
+use Rattle.desk.specs.Answer.{refusal_message, text_message}
+use Rattle.desk.specs.Reply.{Message, line}
+use Rattle.desk.specs.Want.{Want, delivery, queue_run, copying, fetching, waiting_list, verdict_list}
+use Rattle.desk.specs.declared.head.Refusal.TheVariants as refusal
+
+-- the call that is wanted, with the body that came, at the moment that is handed in
+abbrev pub call_wanted : Want → List ℕ → ℕ → Call
+call_wanted (delivery name length) body moment = Delivery name body moment
+call_wanted queue_run body moment = QueueRun moment
+call_wanted (copying from to source) body moment = Copying from to source moment
+call_wanted (fetching path is_pool) body moment = Lookup path
+call_wanted waiting_list body moment = WaitingList moment
+call_wanted verdict_list body moment = VerdictList
+
+-- whether a file of the pool is wanted
+abbrev pub is_pool_file : Want → Bool
+is_pool_file (fetching path is_pool) = is_pool
+is_pool_file want = false
+
+-- the reply to what was done
+abbrev pub done_message : Bool → Reply → Message
+done_message is_pool (Stored true) = text_message 201 (line (codes "new"))
+done_message is_pool (Stored false) = text_message 200 (line (codes "again"))
+done_message is_pool (Lines lines) = text_message 200 (flat_map line lines)
+done_message is_pool (Count items) = text_message 200 (line (decimal items))
+done_message is_pool (Found None) = refusal_message refusal.NotFound
+done_message is_pool (Found (Some file)) = record { status = 200; allow = None; is_binary = is_pool; body = file }
+
+-- the reply to what the archive refused: for want of memory or a fault of its keeper that it cannot be stored, else the fault's text
+abbrev pub fault_message : Fault → Message
+fault_message fault.OutOfMemory = refusal_message refusal.OutOfMemory
+fault_message (fault.Keeper cause) = refusal_message refusal.OutOfMemory
+fault_message cause = text_message 422 (line (fault_text cause))
+
+-- the reply to an outcome
+abbrev pub outcome_message : Want → Result Reply Fault → Message
+outcome_message want (Ok reply) = done_message (is_pool_file want) reply
+outcome_message want (Err cause) = fault_message cause

@@ -1,0 +1,90 @@
+-- Connections, served one after the other.
+use Rattle.std.specs.Prelude.{◌≡◌, ℕ, Bool, List, [], ◌∷◌, Option, Some, Result, ⊤}
+use Rattle.std.specs.List.{flat_map}
+use Rattle.keep.specs.Book.{Book}
+use Rattle.queue.specs.Answers.{IsFaithful, IsKept, IsRun}
+use Rattle.queue.specs.Histories.{Call, Reply, History}
+use Rattle.queue.specs.declared.fault.Fault.{Fault}
+use Rattle.desk.specs.Calls.{call_wanted}
+use Rattle.desk.specs.Exchange.{Course, Silent, TurnedAway, Short, Broken, Called, HasRead, HasWritten, IsAnswered}
+use Rattle.desk.specs.declared.connection.Connection.{Connection}
+use Rattle.desk.specs.declared.exchange.DeskFault.{DeskFault}
+use Rattle.desk.specs.declared.exchange.Served.{Served}
+
+-- A connection as it was served: the bytes that its reader gives before and after, those that its writer holds before and
+-- after, the moment, and how it ended.
+pub record Visit : Type 0 where
+  pub gave : Option (List ℕ)
+  pub gives : Option (List ℕ)
+  pub held : Option (List ℕ)
+  pub holds : Option (List ℕ)
+  pub moment : ℕ
+  pub end : Option (Result Served DeskFault)
+
+module _ {R W : Type 0} (remaining : R → Option (List ℕ)) (contents : W → Option (List ℕ)) where
+  -- a connection before and after
+  abbrev pub visit : Connection R W → Connection R W → Visit
+  visit old new = record {
+    gave = remaining old.reader;
+    gives = remaining new.reader;
+    held = contents old.writer;
+    holds = contents new.writer;
+    moment = old.moment;
+    end = new.end;
+  }
+
+  -- connections before and after, each with itself
+  abbrev pub visits : List (Connection R W) → List (Connection R W) → List Visit
+  visits [] news = []
+  visits (old ∷ olds) [] = []
+  visits (old ∷ olds) (new ∷ news) = visit old new ∷ visits olds news
+
+-- The connection was answered, and has ended so.
+pub record IsServed {K : Type 0} (does : K → Call → Result Reply Fault → K → Type 0) (v : Visit) (before after : K) : Type 0 where
+  pub result : Result Served DeskFault
+  pub end_is : v.end ≡ Some result
+  pub answered : IsAnswered does v.gave v.gives before after v.held v.holds v.moment result
+
+-- what a connection asked of the archive, where the archive heard of it
+abbrev pub calls_of_course : Course → List Call
+calls_of_course (Called want body moment outcome) = call_wanted want body moment ∷ []
+calls_of_course course = []
+
+abbrev pub outcomes_of_course : Course → List (Result Reply Fault)
+outcomes_of_course (Called want body moment outcome) = outcome ∷ []
+outcomes_of_course course = []
+
+abbrev pub calls_in : List Course → List Call
+calls_in courses = flat_map calls_of_course courses
+
+abbrev pub outcomes_in : List Course → List (Result Reply Fault)
+outcomes_in courses = flat_map outcomes_of_course courses
+
+-- A call of this course was made at the moment.
+abbrev pub IsAt : ℕ → Course → Type 0
+IsAt moment (Called want body at outcome) = at ≡ moment
+IsAt moment course = ⊤
+
+-- The connection came to this: the part of its bytes that the request uses was read, and the reply was written.
+pub record Went (v : Visit) (course : Course) : Type 0 where
+  pub read : HasRead v.gave v.gives course
+  pub at : IsAt v.moment course
+  pub result : Result Served DeskFault
+  pub end_is : v.end ≡ Some result
+  pub written : HasWritten v.held v.holds course result
+
+-- one course for each connection, in order
+abbrev pub AllWent : List Visit → List Course → Type 0
+AllWent [] [] = ⊤
+AllWent (v ∷ vs) (course ∷ courses) = Went v course × AllWent vs courses
+AllWent [] (course ∷ courses) = ⊥
+AllWent (v ∷ vs) [] = ⊥
+
+-- The connections were served in order. Each was answered what its course says; and where a history was kept before that
+-- is faithful to what they asked, the outcomes are the answers of its plain archive, each at its place, and what the longer
+-- history leaves is kept then.
+pub record AreServed {K : Type 0} (may_fail : Bool) (is_clean is_open : K → Type 0) (book : K → Book) (before after : K) (vs : List Visit) : Type 0 where
+  pub courses : List Course
+  pub went : AllWent vs courses
+  pub run : (h : History) → IsKept (is_open before) (book before) h → IsFaithful h (calls_in courses) → is_clean after
+      → IsRun may_fail h (calls_in courses) (outcomes_in courses) (is_open after) (book after)

@@ -1,0 +1,13 @@
+-- Why a connection was not answered in whole: each fault's number and its text.
+use Rattle.std.specs.Prelude.{ℕ, List, codes}
+use Rattle.desk.specs.declared.exchange.DeskFault.{DeskFault}
+use Rattle.desk.specs.declared.exchange.DeskFault.TheVariants.{ReaderFailed, WriterFailed}
+
+abbrev pub desk_fault_number : DeskFault → ℕ
+desk_fault_number ReaderFailed = 1
+desk_fault_number WriterFailed = 2
+
+-- its letter and its number
+abbrev pub desk_fault_text : DeskFault → List ℕ
+desk_fault_text ReaderFailed = codes "H1"
+desk_fault_text WriterFailed = codes "H2"

@@ -1,0 +1,97 @@
+-- One connection: what its bytes ask for, what becomes of the archive, and what is written.
+use Rattle.std.specs.Prelude.{◌≡◌, ℕ, List, Option, Some, None, Result, Ok, Err}
+use Rattle.std.specs.Io.KnownBytes.{Appends, Keeps}
+use Rattle.queue.specs.Histories.{Call, Reply}
+use Rattle.queue.specs.declared.fault.Fault.{Fault}
+use Rattle.desk.specs.Answer.{refusal_message}
+use Rattle.desk.specs.Calls.{call_wanted, outcome_message}
+use Rattle.desk.specs.Incoming.{ReadsBeginning}
+use Rattle.desk.specs.Reply.{Message, message_text}
+use Rattle.desk.specs.Request.{Received, nothing, refused, asks}
+use Rattle.desk.specs.Transfer.{AppendsBeginning}
+use Rattle.desk.specs.Want.{Want}
+use Rattle.desk.specs.declared.exchange.DeskFault.{DeskFault}
+use Rattle.desk.specs.declared.exchange.DeskFault.TheVariants.{ReaderFailed, WriterFailed}
+use Rattle.desk.specs.declared.exchange.Served.{Served}
+use Rattle.desk.specs.declared.exchange.Served.TheVariants.{Nothing, Status}
+use Rattle.desk.specs.declared.head.Refusal.{Refusal}
+use Rattle.desk.specs.declared.head.Refusal.TheVariants.{OutOfMemory}
+
+-- What a connection came to. Of the first four the archive heard nothing: no byte came; the bytes were refused; memory was
+-- short; the reader failed. The last called the archive, at a moment, and has its outcome.
+pub data Course : Type 0 where
+  Silent : Course
+  TurnedAway : (refusal : Refusal) → Course
+  Short : Course
+  Broken : Course
+  Called : (want : Want) → (body : List ℕ) → (moment : ℕ) → (outcome : Result Reply Fault) → Course
+
+-- What was read: the part that the request uses, and no more; a beginning of that part where memory or the reader was
+-- wanting.
+abbrev pub HasRead : Option (List ℕ) → Option (List ℕ) → Course → Type 0
+HasRead old new Silent = Received old new nothing
+HasRead old new (TurnedAway refusal) = Received old new (refused refusal)
+HasRead old new Short = ReadsBeginning old new
+HasRead old new Broken = ReadsBeginning old new
+HasRead old new (Called want body moment outcome) = Received old new (asks want body)
+
+-- the reply, where there is one
+abbrev pub reply_of : Course → Option Message
+reply_of Silent = None
+reply_of (TurnedAway refusal) = Some (refusal_message refusal)
+reply_of Short = Some (refusal_message OutOfMemory)
+reply_of Broken = None
+reply_of (Called want body moment outcome) = Some (outcome_message want outcome)
+
+-- the whole reply was written, and this is its status
+pub record IsReplied (held holds : Option (List ℕ)) (course : Course) (status : ℕ) : Type 0 where
+  pub message : Message
+  pub reply : reply_of course ≡ Some message
+  pub status_is : status ≡ message.status
+  pub written : Appends held holds (message_text message)
+
+-- a beginning of the reply was written
+pub record IsCutOff (held holds : Option (List ℕ)) (course : Course) : Type 0 where
+  pub message : Message
+  pub reply : reply_of course ≡ Some message
+  pub written : AppendsBeginning held holds (message_text message)
+
+-- what was written, by what is answered to the caller
+abbrev pub HasWritten : Option (List ℕ) → Option (List ℕ) → Course → Result Served DeskFault → Type 0
+HasWritten held holds course (Ok Nothing) = (course ≡ Silent) × Keeps held holds
+HasWritten held holds course (Ok (Status status)) = IsReplied held holds course status
+HasWritten held holds course (Err ReaderFailed) = (course ≡ Broken) × Keeps held holds
+HasWritten held holds course (Err WriterFailed) = IsCutOff held holds course
+
+module _ {A : Type 0} (does : A → Call → Result Reply Fault → A → Type 0) where
+  -- The archive is as it was, unless it was called at the moment that is handed in.
+  abbrev pub Leaves : ℕ → A → A → Course → Type 0
+  Leaves moment before after (Called want body at outcome) = (at ≡ moment) × does before (call_wanted want body moment) outcome after
+  Leaves moment before after course = after ≡ before
+
+  -- A request was read and carried out, and the reply is at hand.
+  pub record IsHandledWith (old new : Option (List ℕ)) (before after : A) (moment : ℕ) (message : Message) : Type 0 where
+    pub course : Course
+    pub read : HasRead old new course
+    pub leaves : Leaves moment before after course
+    pub reply : reply_of course ≡ Some message
+
+  -- the same, where no byte may have come
+  abbrev pub IsHandled : Option (List ℕ) → Option (List ℕ) → A → A → ℕ → Option Message → Type 0
+  IsHandled old new before after moment None = Received old new nothing × (after ≡ before)
+  IsHandled old new before after moment (Some message) = IsHandledWith old new before after moment message
+
+  -- The archive was called, and this is the reply to its outcome.
+  pub record IsCarriedOut (before after : A) (want : Want) (body : List ℕ) (moment : ℕ) (message : Message) : Type 0 where
+    pub outcome : Result Reply Fault
+    pub done : does before (call_wanted want body moment) outcome after
+    pub message_is : message ≡ outcome_message want outcome
+
+  -- One connection was answered: a reader's bytes before and after, the archive before and after, a writer's bytes before and
+  -- after, the moment and what is answered to the caller.
+  pub record IsAnswered (old new : Option (List ℕ)) (before after : A) (held holds : Option (List ℕ)) (moment : ℕ)
+      (result : Result Served DeskFault) : Type 0 where
+    pub course : Course
+    pub read : HasRead old new course
+    pub leaves : Leaves moment before after course
+    pub written : HasWritten held holds course result

@@ -1,0 +1,17 @@
+pub mod HeadEnd
+pub mod Incoming
+pub mod Paths
+pub mod Refusals
+pub mod Request
+pub mod Transfer
+pub mod Want
+pub mod Answer
+pub mod Calls
+pub mod Connections
+pub mod DeskFaults
+pub mod Exchange
+pub mod FaultText
+pub mod Message
+pub mod Parts
+pub mod Reply
+pub mod Steps

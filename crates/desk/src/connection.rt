@@ -1,0 +1,53 @@
+//! Many connections, one after the other.
+ghost use Rattle.std.specs.Prelude.{◌≡◌};
+ghost use Rattle.desk.specs.Connections.{AreServed, IsServed, visit, visits};
+ghost use Rattle.desk.specs.Steps.{Does};
+
+use crate::exchange::{DeskFault, Served, answer};
+use keep::Keeper;
+use queue::Archive;
+use std::alloc::Global;
+use std::io::{Read, Write};
+
+/// A connection: what comes in, what goes out, the moment at which it is served, in seconds since 1970-01-01 00:00:00 UTC, and
+/// how it ended, once it was served.
+#[derive(Drop)]
+pub struct Connection<R, W> {
+    pub reader: R,
+    pub writer: W,
+    pub moment: u64,
+    pub end: Option<Result<Served, DeskFault>>,
+}
+
+impl<R: Read, W: Write> Connection<R, W> {
+    /// Answers the connection.
+    pub fn serve<K: Keeper>(&mut self, alloc: Global, archive: &mut Archive<K>)
+        ensures clean { K.is_clean archive.new.keeper → K.is_clean archive.old.keeper }
+        ensures moment { self.new.moment ≡ self.old.moment }
+        ensures served { IsServed (Does K.may_fail K.is_clean K.is_open K.book) (visit R.remaining W.contents self.old self.new)
+            archive.old.keeper archive.new.keeper }
+    {
+        self.end = Some(answer(
+            alloc,
+            archive,
+            &mut self.reader,
+            &mut self.writer,
+            self.moment,
+        ));
+    }
+}
+
+/// Answers connections, one after the other.
+pub fn attend<K: Keeper, R: Read, W: Write>(
+    alloc: Global,
+    archive: &mut Archive<K>,
+    connections: &mut [Connection<R, W>],
+)
+    ensures clean { K.is_clean archive.new.keeper → K.is_clean archive.old.keeper }
+    ensures served { AreServed K.may_fail K.is_clean K.is_open K.book archive.old.keeper archive.new.keeper
+        (visits R.remaining W.contents connections.old connections.new) }
+{
+    for connection in connections.iter_mut() {
+        connection.serve(alloc, archive);
+    }
+}

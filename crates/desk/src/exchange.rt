@@ -1,0 +1,209 @@
+//! One connection: its request, the call of the archive that it asks for, and the reply.
+ghost use Rattle.std.specs.Prelude.{◌≡◌, Bool, IfOk, OnErr};
+ghost use Rattle.std.specs.Option.{option_map};
+ghost use Rattle.desk.specs.Answer.{text_message};
+ghost use Rattle.desk.specs.Calls.{done_message, fault_message, outcome_message};
+ghost use Rattle.desk.specs.Exchange.{IsAnswered, IsCarriedOut, IsHandled};
+ghost use Rattle.desk.specs.Incoming.{ReadsBeginning};
+ghost use Rattle.desk.specs.Message.{message_of};
+ghost use Rattle.desk.specs.Reply.{line};
+ghost use Rattle.desk.specs.Request.{want_of};
+ghost use Rattle.desk.specs.Steps.{Does};
+ghost use Rattle.queue.specs.Commands.{found, lines_of, is_new};
+ghost use Rattle.queue.specs.Histories.{Stored, Lines, Count, Found};
+
+use crate::fault_text::{FaultText, record_text};
+use crate::head::{Refusal, Wanted};
+use crate::reply::{Body, Reply, write_reply};
+use crate::request::{Request, read_request};
+use crate::transfer::ReaderFailed;
+use http::StatusCode;
+use keep::Keeper;
+use queue::{Archive, Arrived, Fault, Report};
+use std::alloc::Global;
+use std::error::Error;
+use std::fmt;
+use std::io::{Read, Write};
+
+/// What a connection was answered.
+#[derive(Clone, Copy, Debug, PartialEq, Eq)]
+pub enum Served {
+    /// No byte came, and none was written.
+    Nothing,
+    /// A whole reply of this status.
+    Status(StatusCode),
+}
+
+/// Why a connection was not answered in whole.
+#[derive(Clone, Copy, Debug, PartialEq, Eq)]
+pub enum DeskFault {
+    /// The reader failed: the archive heard of nothing, and nothing was written.
+    ReaderFailed,
+    /// The writer failed: what was carried out stays so, and a beginning of the reply was written.
+    WriterFailed,
+}
+
+impl DeskFault {
+    ghost use Rattle.desk.specs.DeskFaults.{desk_fault_number};
+
+    /// The number of the fault.
+    pub fn number(self) -> u8
+        ensures { result ≡ desk_fault_number self }
+    {
+        match self {
+            DeskFault::ReaderFailed => 1,
+            DeskFault::WriterFailed => 2,
+        }
+    }
+}
+
+impl fmt::Display for DeskFault {
+    ghost use Rattle.std.specs.Prelude.{Some};
+    ghost use Rattle.desk.specs.DeskFaults.{desk_fault_text};
+
+    ghost output = { λ fault. Some (desk_fault_text fault) };
+
+    fn fmt<W: fmt::Write>(&self, f: &mut fmt::Formatter<W>) -> fmt::Result {
+        match self {
+            DeskFault::ReaderFailed => write!(f, "H1"),
+            DeskFault::WriterFailed => write!(f, "H2"),
+        }
+    }
+}
+
+impl Error for DeskFault {}
+
+/// Answers one connection at a moment, in seconds since 1970-01-01 00:00:00 UTC: reads the part of its bytes that the request
+/// uses, calls the archive if that is what they ask for, and writes the reply. Memory of its own is taken before the archive
+/// is called, so that what was carried out is never answered with a want of memory.
+pub fn answer<K: Keeper, R: Read, W: Write>(
+    alloc: Global,
+    archive: &mut Archive<K>,
+    reader: &mut R,
+    writer: &mut W,
+    moment: u64,
+) -> Result<Served, DeskFault>
+    ensures clean { K.is_clean archive.new.keeper → K.is_clean archive.old.keeper }
+    ensures answered { IsAnswered (Does K.may_fail K.is_clean K.is_open K.book) (R.remaining reader.old) (R.remaining reader.new)
+        archive.old.keeper archive.new.keeper (W.contents writer.old) (W.contents writer.new) moment result }
+{
+    match reply_to(alloc, archive, reader, moment) {
+        Err(_) => Err(DeskFault::ReaderFailed),
+        Ok(None) => Ok(Served::Nothing),
+        Ok(Some(reply)) => match write_reply(writer, &reply) {
+            Ok(()) => Ok(Served::Status(reply.status)),
+            Err(_) => Err(DeskFault::WriterFailed),
+        },
+    }
+}
+
+/// Reads one request, carries it out, and has the reply.
+fn reply_to<K: Keeper, R: Read>(
+    alloc: Global,
+    archive: &mut Archive<K>,
+    reader: &mut R,
+    moment: u64,
+) -> Result<Option<Reply>, ReaderFailed>
+    ensures clean { K.is_clean archive.new.keeper → K.is_clean archive.old.keeper }
+    ensures ok { IfOk result (λ reply. IsHandled (Does K.may_fail K.is_clean K.is_open K.book) (R.remaining reader.old) (R.remaining reader.new)
+        archive.old.keeper archive.new.keeper moment (option_map message_of reply)) }
+    ensures err { OnErr result (ReadsBeginning (R.remaining reader.old) (R.remaining reader.new) × (archive.new.keeper ≡ archive.old.keeper)) }
+{
+    match read_request(alloc, reader) {
+        Err(fault) => Err(fault),
+        Ok(Request::Nothing) => Ok(None),
+        Ok(Request::Refused(refusal)) => Ok(Some(Reply::to_refusal(refusal))),
+        Ok(Request::Asks(wanted, body)) => {
+            Ok(Some(carry_out(alloc, archive, &wanted, body.as_slice(), moment)))
+        }
+    }
+}
+
+/// Calls the archive, and has the reply to its outcome.
+fn carry_out<K: Keeper>(
+    alloc: Global,
+    archive: &mut Archive<K>,
+    wanted: &Wanted,
+    body: &[u8],
+    moment: u64,
+) -> Reply
+    ensures clean { K.is_clean archive.new.keeper → K.is_clean archive.old.keeper }
+    ensures carried_out { IsCarriedOut (Does K.may_fail K.is_clean K.is_open K.book) archive.old.keeper archive.new.keeper (want_of wanted.now) body.now moment (message_of result) }
+{
+    match wanted {
+        Wanted::Deliver { name, .. } => {
+            match archive.deliver(alloc, name.as_str(), body, moment) {
+                Ok(arrived) => arrived_reply(arrived),
+                Err(fault) => fault_reply(fault),
+            }
+        }
+        Wanted::Run => match archive.run(alloc, moment) {
+            Ok(report) => report_reply(report),
+            Err(fault) => fault_reply(fault),
+        },
+        Wanted::Copy { from, to, source } => {
+            match archive.copy(alloc, from.as_str(), to.as_str(), source.as_str(), moment) {
+                Ok(items) => Reply::new(StatusCode::OK, Body::Number(items)),
+                Err(fault) => fault_reply(fault),
+            }
+        }
+        Wanted::Fetch { path, is_pool } => match archive.fetch(alloc, path.as_str()) {
+            Ok(found) => fetch_reply(found, *is_pool),
+            Err(fault) => fault_reply(fault),
+        },
+        Wanted::Waiting => match archive.waiting(alloc, moment) {
+            Ok(report) => report_reply(report),
+            Err(fault) => fault_reply(fault),
+        },
+        Wanted::Verdicts => match archive.verdicts(alloc) {
+            Ok(report) => report_reply(report),
+            Err(fault) => fault_reply(fault),
+        },
+    }
+}
+
+fn arrived_reply(arrived: Arrived) -> Reply
+    ensures { (is_pool : Bool) → message_of result ≡ done_message is_pool (Stored (is_new arrived)) }
+{
+    match arrived {
+        Arrived::New => Reply::new(StatusCode::CREATED, Body::Text("new")),
+        Arrived::Again => Reply::new(StatusCode::OK, Body::Text("again")),
+    }
+}
+
+fn report_reply(report: Report) -> Reply
+    ensures { (is_pool : Bool) → message_of result ≡ done_message is_pool (Lines (lines_of report)) }
+{
+    Reply::new(StatusCode::OK, Body::Lines(report.lines))
+}
+
+fn fetch_reply(found: Option<Vec<u8>>, is_pool: bool) -> Reply
+    ensures { message_of result ≡ done_message is_pool (Found (option_map (λ body. body.items) found)) }
+{
+    match found {
+        Some(bytes) => Reply {
+            status: StatusCode::OK,
+            allow: None,
+            is_binary: is_pool,
+            body: Body::Bytes(bytes),
+        },
+        None => Reply::to_refusal(Refusal::NotFound),
+    }
+}
+
+/// The reply to what the archive refused.
+fn fault_reply(fault: Fault) -> Reply
+    ensures { message_of result ≡ fault_message fault }
+{
+    let text = match fault {
+        Fault::OutOfMemory | Fault::Keeper(_) => return Reply::to_refusal(Refusal::OutOfMemory),
+        Fault::BadName => FaultText::whole("Q1"),
+        Fault::TooLarge => FaultText::whole("Q2"),
+        Fault::Record(fault) => record_text("Q3 ", fault),
+        Fault::Moment => FaultText::whole("Q5"),
+        Fault::UnknownSuite => FaultText::whole("Q6"),
+        Fault::SameSuite => FaultText::whole("Q7"),
+        Fault::NothingToCopy => FaultText::whole("Q8"),
+    };
+    Reply::new(StatusCode::UNPROCESSABLE_ENTITY, Body::Fault(text))
+}

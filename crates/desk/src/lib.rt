@@ -1,0 +1,17 @@
+//! The desk: HTTP requests over any reader and writer, each answered by the archive.
+#![tactic(auto)]
+
+pub mod connection;
+pub mod exchange;
+pub mod fault_text;
+pub mod head;
+pub mod laws;
+pub mod reply;
+pub mod request;
+pub mod routes;
+#[cfg(test)]
+mod tests;
+pub mod transfer;
+
+pub use connection::{Connection, attend};
+pub use exchange::{DeskFault, Served, answer};

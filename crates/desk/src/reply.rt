@@ -1,0 +1,305 @@
+//! The bytes of a reply, written piece by piece, so that none of them takes memory.
+ghost use Rattle.std.specs.Prelude.{◌≡◌, ◌≤◌, ◌*◌, ◌^◌, false, None, [], unwrap_or, length, string_bytes, OnOk, OnErr};
+ghost use Rattle.std.specs.List.{flat_map};
+ghost use Rattle.std.specs.Io.KnownBytes.{Appends, Keeps};
+ghost use Rattle.http.specs.StatusCode.{reason_phrase};
+ghost use Rattle.std.specs.Option.{option_map_or};
+ghost use Rattle.desk.specs.Answer.{refusal_message};
+ghost use Rattle.desk.specs.FaultText.{line_part, text_of};
+ghost use Rattle.desk.specs.Message.{message_of, body_text};
+ghost use Rattle.desk.specs.Parts.{parts_text};
+ghost use Rattle.desk.specs.Reply.{content_type, head_text, line, message_text, phrase};
+ghost use Rattle.desk.specs.Transfer.{AppendsBeginning};
+
+use crate::fault_text::FaultText;
+use crate::head::Refusal;
+use crate::transfer::{WriterFailed, write_whole};
+use http::{Method, StatusCode};
+use itoa::Buffer;
+use std::io::Write;
+
+/// What a reply carries. Each but `Bytes` is text, of which every line ends with a newline.
+#[derive(Debug, Drop)]
+pub enum Body {
+    /// The status and its phrase.
+    Phrase,
+    Text(&'static str),
+    Number(u64),
+    Lines(Vec<String>),
+    Fault(FaultText),
+    /// Bytes as they are.
+    Bytes(Vec<u8>),
+}
+
+/// A reply that is still to be written.
+#[derive(Debug, Drop)]
+pub struct Reply {
+    pub status: StatusCode,
+    /// The method to use instead, where another was used.
+    pub allow: Option<Method>,
+    /// Whether the body is no text.
+    pub is_binary: bool,
+    pub body: Body,
+}
+
+impl Reply {
+    /// A reply of text.
+    pub fn new(status: StatusCode, body: Body) -> Reply
+        ensures { result ≡ record { status = status; allow = None; is_binary = false; body = body } }
+    {
+        Reply {
+            status,
+            allow: None,
+            is_binary: false,
+            body,
+        }
+    }
+
+    /// The reply to what is refused before the archive hears of it.
+    pub fn to_refusal(refusal: Refusal) -> Reply
+        ensures { message_of result ≡ refusal_message refusal }
+    {
+        let status = refusal.status();
+        Reply {
+            status,
+            allow: refusal.into_allowed(),
+            is_binary: false,
+            body: Body::Phrase,
+        }
+    }
+}
+
+/// Writes the pieces one after the other.
+fn write_pieces<W: Write>(writer: &mut W, pieces: &[&[u8]]) -> Result<(), WriterFailed>
+    ensures ok { OnOk result (Appends (W.contents writer.old) (W.contents writer.new) (flat_map (λ piece. piece.now) pieces.now)) }
+    ensures err { OnErr result (AppendsBeginning (W.contents writer.old) (W.contents writer.new) (flat_map (λ piece. piece.now) pieces.now)) }
+{
+    for piece in pieces {
+        write_whole(writer, piece)?;
+    }
+    Ok(())
+}
+
+/// Writes a reply.
+pub fn write_reply<W: Write>(writer: &mut W, reply: &Reply) -> Result<(), WriterFailed>
+    ensures ok { OnOk result (Appends (W.contents writer.old) (W.contents writer.new) (message_text (message_of reply.now))) }
+    ensures err { OnErr result (AppendsBeginning (W.contents writer.old) (W.contents writer.new) (message_text (message_of reply.now))) }
+{
+    write_head(writer, reply)?;
+    write_body(writer, reply)?;
+    flush(writer)
+}
+
+fn flush<W: Write>(writer: &mut W) -> Result<(), WriterFailed>
+    ensures { Keeps (W.contents writer.old) (W.contents writer.new) }
+{
+    match writer.flush() {
+        Ok(()) => Ok(()),
+        Err(_) => Err(WriterFailed),
+    }
+}
+
+fn write_head<W: Write>(writer: &mut W, reply: &Reply) -> Result<(), WriterFailed>
+    ensures ok { OnOk result (Appends (W.contents writer.old) (W.contents writer.new) (head_text (message_of reply.now))) }
+    ensures err { OnErr result (AppendsBeginning (W.contents writer.old) (W.contents writer.new) (head_text (message_of reply.now))) }
+{
+    let (mut status, mut length) = (Buffer::new(), Buffer::new());
+    let parts = Parts {
+        status: status.format(reply.status.as_u16()),
+        phrase: phrase_of(reply.status),
+        content_type: content_type_of(reply.is_binary),
+        length: length.format(body_length(reply)),
+        allow: allow_part(reply, "Allow: "),
+        method: allow_method(reply),
+        line_end: allow_part(reply, "\r\n"),
+    };
+    write_parts(writer, &parts)
+}
+
+/// The texts in a head that differ from reply to reply.
+#[derive(Clone, Copy)]
+struct Parts<'t> {
+    status: &'t str,
+    phrase: &'t str,
+    content_type: &'t str,
+    length: &'t str,
+    allow: &'t str,
+    method: &'t str,
+    line_end: &'t str,
+}
+
+fn write_parts<W: Write>(writer: &mut W, parts: &Parts<'_>) -> Result<(), WriterFailed>
+    ensures ok { OnOk result (Appends (W.contents writer.old) (W.contents writer.new) (parts_text parts.now)) }
+    ensures err { OnErr result (AppendsBeginning (W.contents writer.old) (W.contents writer.new) (parts_text parts.now)) }
+{
+    let pieces = [
+        b"HTTP/1.1 ".as_slice(),
+        parts.status.as_bytes(),
+        b" ".as_slice(),
+        parts.phrase.as_bytes(),
+        b"\r\nContent-Type: ".as_slice(),
+        parts.content_type.as_bytes(),
+        b"\r\nContent-Length: ".as_slice(),
+        parts.length.as_bytes(),
+        b"\r\n".as_slice(),
+        parts.allow.as_bytes(),
+        parts.method.as_bytes(),
+        parts.line_end.as_bytes(),
+        b"Connection: close\r\n\r\n".as_slice(),
+    ];
+    write_pieces(writer, pieces.as_slice())
+}
+
+/// A part of the line that names an allowed method, where there is one.
+fn allow_part<'r>(reply: &Reply, part: &'r str) -> &'r str
+    ensures { result.now ≡ option_map_or (λ _. part.now) reply.now.allow [] }
+{
+    match &reply.allow {
+        Some(_) => part,
+        None => "",
+    }
+}
+
+/// The allowed method, if there is one.
+fn allow_method(reply: &Reply) -> &str
+    ensures { result.now ≡ unwrap_or reply.now.allow [] }
+{
+    match &reply.allow {
+        Some(method) => method.as_str(),
+        None => "",
+    }
+}
+
+fn phrase_of(status: StatusCode) -> &'static str
+    ensures { result.now ≡ unwrap_or (reason_phrase status) [] }
+{
+    status.canonical_reason().unwrap_or("")
+}
+
+fn content_type_of(is_binary: bool) -> &'static str
+    ensures { result.now ≡ content_type is_binary }
+{
+    if is_binary {
+        "application/octet-stream"
+    } else {
+        "text/plain; charset=utf-8"
+    }
+}
+
+/// How many bytes the body has. The sum of many texts may pass any `u64`.
+fn body_length(reply: &Reply) -> u128
+    ensures { result ≡ length (body_text reply.now.status reply.now.body) }
+{
+    match &reply.body {
+        Body::Phrase => {
+            let mut digits = Buffer::new();
+            let status = digits.format(reply.status.as_u16());
+            status.len() as u128 + phrase_of(reply.status).len() as u128 + 2
+        }
+        Body::Text(text) => text.len() as u128 + 1,
+        Body::Number(number) => {
+            let mut digits = Buffer::new();
+            digits.format(*number).len() as u128 + 1
+        }
+        Body::Lines(lines) => lines_length(lines.as_slice()),
+        Body::Fault(text) => fault_length(text) + 1,
+        Body::Bytes(bytes) => bytes.len() as u128,
+    }
+}
+
+fn lines_length(lines: &[String]) -> u128
+    ensures { result ≡ length (flat_map (λ text. line (string_bytes text)) lines.now) }
+{
+    let mut length = 0u128;
+    for line in lines {
+        length += line.len() as u128 + 1;
+    }
+    length
+}
+
+fn fault_length(text: &FaultText) -> u128
+    ensures value { result ≡ length (text_of text.now) }
+    ensures bound { result ≤ 4 * 2 ^ 64 }
+{
+    let mut digits = Buffer::new();
+    let line = line_digits(text.line, &mut digits);
+    text.first.len() as u128
+        + text.second.len() as u128
+        + text.third.len() as u128
+        + line.len() as u128
+}
+
+/// The digits of a line's number, or nothing where there is none.
+fn line_digits(line: Option<usize>, digits: &mut Buffer) -> &str
+    ensures { result.now ≡ line_part line }
+{
+    match line {
+        Some(line) => digits.format(line),
+        None => "",
+    }
+}
+
+fn write_body<W: Write>(writer: &mut W, reply: &Reply) -> Result<(), WriterFailed>
+    ensures ok { OnOk result (Appends (W.contents writer.old) (W.contents writer.new) (body_text reply.now.status reply.now.body)) }
+    ensures err { OnErr result (AppendsBeginning (W.contents writer.old) (W.contents writer.new) (body_text reply.now.status reply.now.body)) }
+{
+    match &reply.body {
+        Body::Phrase => write_phrase(writer, reply.status),
+        Body::Text(text) => write_line(writer, text),
+        Body::Number(number) => {
+            let mut digits = Buffer::new();
+            write_line(writer, digits.format(*number))
+        }
+        Body::Lines(lines) => write_lines(writer, lines.as_slice()),
+        Body::Fault(text) => write_fault(writer, text),
+        Body::Bytes(bytes) => write_whole(writer, bytes.as_slice()),
+    }
+}
+
+/// The status and its phrase, as a line.
+fn write_phrase<W: Write>(writer: &mut W, status: StatusCode) -> Result<(), WriterFailed>
+    ensures ok { OnOk result (Appends (W.contents writer.old) (W.contents writer.new) (line (phrase status))) }
+    ensures err { OnErr result (AppendsBeginning (W.contents writer.old) (W.contents writer.new) (line (phrase status))) }
+{
+    let mut digits = Buffer::new();
+    let pieces = [
+        digits.format(status.as_u16()).as_bytes(),
+        b" ".as_slice(),
+        phrase_of(status).as_bytes(),
+        b"\n".as_slice(),
+    ];
+    write_pieces(writer, pieces.as_slice())
+}
+
+/// A fault's text, as a line.
+fn write_fault<W: Write>(writer: &mut W, text: &FaultText) -> Result<(), WriterFailed>
+    ensures ok { OnOk result (Appends (W.contents writer.old) (W.contents writer.new) (line (text_of text.now))) }
+    ensures err { OnErr result (AppendsBeginning (W.contents writer.old) (W.contents writer.new) (line (text_of text.now))) }
+{
+    let mut digits = Buffer::new();
+    let pieces = [
+        text.first.as_bytes(),
+        text.second.as_bytes(),
+        text.third.as_bytes(),
+        line_digits(text.line, &mut digits).as_bytes(),
+        b"\n".as_slice(),
+    ];
+    write_pieces(writer, pieces.as_slice())
+}
+
+fn write_line<W: Write>(writer: &mut W, text: &str) -> Result<(), WriterFailed>
+    ensures ok { OnOk result (Appends (W.contents writer.old) (W.contents writer.new) (line text.now)) }
+    ensures err { OnErr result (AppendsBeginning (W.contents writer.old) (W.contents writer.new) (line text.now)) }
+{
+    write_pieces(writer, [text.as_bytes(), b"\n".as_slice()].as_slice())
+}
+
+fn write_lines<W: Write>(writer: &mut W, lines: &[String]) -> Result<(), WriterFailed>
+    ensures ok { OnOk result (Appends (W.contents writer.old) (W.contents writer.new) (flat_map (λ text. line (string_bytes text)) lines.now)) }
+    ensures err { OnErr result (AppendsBeginning (W.contents writer.old) (W.contents writer.new) (flat_map (λ text. line (string_bytes text)) lines.now)) }
+{
+    for line in lines {
+        write_line(writer, line.as_str())?;
+    }
+    Ok(())
+}
