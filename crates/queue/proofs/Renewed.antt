@@ -104,9 +104,11 @@ module _ (old : List ℕ → Option (List ℕ)) (shown shelves : ShelvesValue) (
     member moment t h = elim (of_folder old shelves steps f (release_text s moment) t h) [
       | inl of ↦
           let of_place = of.1 in
-          let is : placed shelves f of.0 ≡ (t.path, t.text) = λ i. (sym of_place.1 i, sym of_place.2 i) in
-          (there (released shelves suite s moment) (t.path, t.text) (map (placed shelves f) places)
-          (subst (λ (e : PathText). Contains (map (placed shelves f) places) e) is (contains_map (placed shelves f) of.0 places of_place.0)), of_place.3)
+          let is : placed shelves f of.0 ≡ (t.path, t.text) = λ i. (sym of_place.1 i, sym of_place.2 i) in (
+            there (released shelves suite s moment) (t.path, t.text) (map (placed shelves f) places)
+                (subst (λ (e : PathText). Contains (map (placed shelves f) places) e) is (contains_map (placed shelves f) of.0 places of_place.0)),
+            of_place.3,
+          )
       | inr own ↦
           let text : release_text s moment (indices_of s shelves suite) ≡ t.text = sym (own.1 ∙ ap (release_text s moment) indices_are) in
           let is : released shelves suite s moment ≡ (t.path, t.text) = λ i. (sym own.0 i, text i) in
@@ -139,10 +141,13 @@ module _ (old : List ℕ → Option (List ℕ)) (shown shelves : ShelvesValue) (
           | inr same ↦ inr (same ∙ ap (release_text s moment) indices_are)
         ])
         (cover_all (flat_map (renewed_index old shelves steps f) places ++ release) path (placed shown f) (placed shelves f) places
-        (λ p at. (refl, elim (index_covers moment p at) [
-          | inl listed ↦ inl (listed_left (flat_map (renewed_index old shelves steps f) places) release _ listed)
-          | inr same ↦ inr same
-        ])))
+        (λ p at. (
+          refl,
+          elim (index_covers moment p at) [
+            | inl listed ↦ inl (listed_left (flat_map (renewed_index old shelves steps f) places) release _ listed)
+            | inr same ↦ inr same
+          ],
+        )))
 
     covers : (moment : ℕ) (path : List ℕ) → Listed (renewed_suite old shelves steps moment suite s) path ⊎ (text_at path (entries_of shown suite s date) ≡ text_at path (entries_of shelves suite s moment))
     unfolding renewed_folder
@@ -243,9 +248,9 @@ suite_apart shelves suite s date named =
     let places = places_in s.components s.architectures in
     AllPairs-cons PathsDiffer (released shelves suite s date) (map (placed shelves f) places)
     (all_from (PathsDiffer (released shelves suite s date)) (map (placed shelves f) places) (λ e at same.
-        let from = from_map (placed shelves f) e places at in
-        index_or_release (from.0).component (from.0).architecture
-        (sym (folders s.codename s.codename (codes "Release") (place_path from.0) named.codename named.codename (same ∙ sym (ap (λ (x : PathText). x.0) from.2))).1)))
+    let from = from_map (placed shelves f) e places at in
+    index_or_release (from.0).component (from.0).architecture
+    (sym (folders s.codename s.codename (codes "Release") (place_path from.0) named.codename named.codename (same ∙ sym (ap (λ (x : PathText). x.0) from.2))).1)))
     (pairs_map PathsDiffer (λ p q. place_path p ≢ place_path q) (placed shelves f) places
     (λ p q at_p at_q other e. other (folders s.codename s.codename (place_path p) (place_path q) named.codename named.codename e).1)
     (places_apart s named))
@@ -291,11 +296,11 @@ texts_apart shelves suite (s ∷ ss) (d ∷ ds) named =
     (subst (AllPairs PathsDiffer) (sym (entries_are shelves suite s d)) (suite_apart shelves suite s d (named.each s (here s ss))))
     (texts_apart shelves (suite + 1) ss ds (named_rest s ss named))
     (λ e x at later same.
-        let first = of_suite shelves suite s d e (subst (λ (es : List PathText). Contains es e) (entries_are shelves suite s d) at) in
-        let second = of_texts shelves (suite + 1) ss ds x later in
-        let among = in_take ss (length ds) second.0 second.1 in
-        all_at (λ (y : Suite). s.codename ≢ y.codename) ss second.0 (pairs_head (λ (y z : Suite). y.codename ≢ z.codename) s ss named.apart) among
-        (folders s.codename (second.0).codename first.0 (second.2).0 (named.each s (here s ss)).codename (named.each second.0 (there s second.0 ss among)).codename (sym first.1 ∙ same ∙ (second.2).1)).0)
+    let first = of_suite shelves suite s d e (subst (λ (es : List PathText). Contains es e) (entries_are shelves suite s d) at) in
+    let second = of_texts shelves (suite + 1) ss ds x later in
+    let among = in_take ss (length ds) second.0 second.1 in
+    all_at (λ (y : Suite). s.codename ≢ y.codename) ss second.0 (pairs_head (λ (y z : Suite). y.codename ≢ z.codename) s ss named.apart) among
+    (folders s.codename (second.0).codename first.0 (second.2).0 (named.each s (here s ss)).codename (named.each second.0 (there s second.0 ss among)).codename (sym first.1 ∙ same ∙ (second.2).1)).0)
 
 no_texts : (shelves : ShelvesValue) (suite : ℕ) (suites : List Suite) (e : PathText) {P : Type 0} → Contains (texts_from shelves suite (zip suites [])) e → P
 unfolding texts_from
@@ -351,10 +356,10 @@ module _ (book : Book) (steps : List Step) (moment : ℕ) (shelves : ShelvesValu
       knows_all (book_text book) book.shown shelves steps past 0 suites book.dates
       (λ e at. old_is e.0 ∙ found_of_apart old_texts e (texts_apart book.shown 0 suites book.dates named) at)
       (λ s at. old_is _ ∙ none_of_others old_texts _ (λ e listed same.
-          let found = of_texts book.shown 0 suites book.dates e listed in
-          pairs_across (λ (x y : Suite). x.codename ≢ y.codename) suites (length book.dates) found.0 s named.apart found.1 at
-          (folders (found.0).codename s.codename (found.2).0 (codes "Release") (named.each found.0 (in_take suites (length book.dates) found.0 found.1)).codename (named.each s (in_drop suites (length book.dates) s at)).codename
-          (sym (found.2).1 ∙ same)).0))
+      let found = of_texts book.shown 0 suites book.dates e listed in
+      pairs_across (λ (x y : Suite). x.codename ≢ y.codename) suites (length book.dates) found.0 s named.apart found.1 at
+      (folders (found.0).codename s.codename (found.2).0 (codes "Release") (named.each found.0 (in_take suites (length book.dates) found.0 found.1)).codename (named.each s (in_drop suites (length book.dates) s at)).codename
+      (sym (found.2).1 ∙ same)).0))
 
   other : (kept : Option (List ℕ)) (text : List ℕ) → is_kept kept text ≡ false → kept ≢ Some text
   unfolding is_kept

@@ -65,8 +65,8 @@ pairs_flat R S f (x ∷ xs) own h k =
     pairs_append R (f x) (flat_map f xs) (own x (here x xs))
     (pairs_flat R S f xs (λ y at. own y (there x y xs at)) (λ y z p q. h y z (there x y xs p) (there x z xs q)) (pairs_tail S x xs k))
     (λ a b mine later.
-        let found = in_flat f xs b later in
-        h x found.0 (here x xs) (there x found.0 xs found.1) (all_at (S x) xs found.0 (pairs_head S x xs k) found.1) a b mine found.2)
+    let found = in_flat f xs b later in
+    h x found.0 (here x xs) (there x found.0 xs found.1) (all_at (S x) xs found.0 (pairs_head S x xs k) found.1) a b mine found.2)
 
 pub pairs_across : {X : Type 0} (R : X → X → Type 0) (xs : List X) (n : ℕ) (x y : X) → AllPairs R xs → Contains (take n xs) x → Contains (drop n xs) y → R x y
 pairs_across R [] zero x y h p q = no_member x p

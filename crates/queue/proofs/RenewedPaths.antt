@@ -124,12 +124,12 @@ pub places_apart : (s : Suite) → IsNamed s → AllPairs (λ p q. place_path p 
 places_apart s named =
     pairs_flat PlacesDiffer (λ c d. c ≢ d) (λ c. map (place_at c) s.architectures) s.components
     (λ c at. pairs_map PlacesDiffer (λ a b. a ≢ b) (place_at c) s.architectures
-        (λ a b p q other e. other (index_paths c c a b (named.components c at) (named.components c at) (named.architectures a p) (named.architectures b q) e).1) named.architectures_apart)
+    (λ a b p q other e. other (index_paths c c a b (named.components c at) (named.components c at) (named.architectures a p) (named.architectures b q) e).1) named.architectures_apart)
     (λ c d at_c at_d other p q in_c in_d e.
-        let a = from_map (place_at c) p s.architectures in_c in
-        let b = from_map (place_at d) q s.architectures in_d in
-        let same : index_path c a.0 ≡ index_path d b.0 = ap place_path a.2 ∙ e ∙ sym (ap place_path b.2) in
-        other (index_paths c d a.0 b.0 (named.components c at_c) (named.components d at_d) (named.architectures a.0 a.1) (named.architectures b.0 b.1) same).0)
+    let a = from_map (place_at c) p s.architectures in_c in
+    let b = from_map (place_at d) q s.architectures in_d in
+    let same : index_path c a.0 ≡ index_path d b.0 = ap place_path a.2 ∙ e ∙ sym (ap place_path b.2) in
+    other (index_paths c d a.0 b.0 (named.components c at_c) (named.components d at_d) (named.architectures a.0 a.1) (named.architectures b.0 b.1) same).0)
     named.components_apart
 
 pub record AreNamed (suites : List Suite) : Type 0 where

@@ -64,9 +64,9 @@ module _ {K X : Type 0} {R : K → K → Ordering} (total : IsTotalOrder R) (sam
       let right = sorted-filter R p (entries n) (entries_sorted n) in
       sym (entries-view total same (filter p (entries m)) left)
       ∙ ap entries (same_map total same (from_entries {R = R} (filter p (entries m))) (from_entries {R = R} (filter p (entries n))) (λ q.
-          get-from_entries total (filter p (entries m)) q ∙ find-filter q (entries m) (entries_sorted m) ∙ ap (passing q) (sym (get-entries m q))
-          ∙ h q
-          ∙ ap (passing q) (get-entries n q) ∙ sym (find-filter q (entries n) (entries_sorted n)) ∙ sym (get-from_entries total (filter p (entries n)) q)))
+      get-from_entries total (filter p (entries m)) q ∙ find-filter q (entries m) (entries_sorted m) ∙ ap (passing q) (sym (get-entries m q))
+      ∙ h q
+      ∙ ap (passing q) (get-entries n q) ∙ sym (find-filter q (entries n) (entries_sorted n)) ∙ sym (get-from_entries total (filter p (entries n)) q)))
       ∙ entries-view total same (filter p (entries n)) right
 
   -- a change whose entries don't pass

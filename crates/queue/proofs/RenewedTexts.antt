@@ -173,19 +173,19 @@ module _ (old : List ℕ → Option (List ℕ)) (shelves : ShelvesValue) (steps 
       by_case true =
           pairs_append TextsDiffer (flat_map (renewed_index old shelves steps f) f.places) _
           (pairs_flat TextsDiffer (λ p q. place_path p ≢ place_path q) (renewed_index old shelves steps f) f.places
-              (λ p at. index_apart f p)
-              (λ p q at_p at_q other t u in_p in_q e.
-                  let first = of_index f p t at_p in_p in
-                  let second = of_index f q u at_q in_q in
-                  other (folders f.codename f.codename (place_path p) (place_path q) name name (sym first.1 ∙ e ∙ second.1)).1)
-              places)
+          (λ p at. index_apart f p)
+          (λ p q at_p at_q other t u in_p in_q e.
+          let first = of_index f p t at_p in_p in
+          let second = of_index f q u at_q in_q in
+          other (folders f.codename f.codename (place_path p) (place_path q) name name (sym first.1 ∙ e ∙ second.1)).1)
+          places)
           (one_apart (old (path_in f (codes "Release"))) (path_in f (codes "Release")) _)
           (λ t u listed own e.
-              let found = in_flat (renewed_index old shelves steps f) f.places t listed in
-              let first = of_index f found.0 t found.1 found.2 in
-              let second = renewed_one (old (path_in f (codes "Release"))) (path_in f (codes "Release")) _ u own in
-              index_or_release (found.0).component (found.0).architecture
-              (folders f.codename f.codename (place_path found.0) (codes "Release") name name (sym first.1 ∙ e ∙ second.0)).1)
+          let found = in_flat (renewed_index old shelves steps f) f.places t listed in
+          let first = of_index f found.0 t found.1 found.2 in
+          let second = renewed_one (old (path_in f (codes "Release"))) (path_in f (codes "Release")) _ u own in
+          index_or_release (found.0).component (found.0).architecture
+          (folders f.codename f.codename (place_path found.0) (codes "Release") name name (sym first.1 ∙ e ∙ second.0)).1)
 
   -- each is of one of the suites
   of_suites : (moment suite : ℕ) (suites : List Suite) (t : IndexText) → Contains (renewed_from old shelves steps moment suite suites) t
@@ -209,14 +209,15 @@ module _ (old : List ℕ → Option (List ℕ)) (shelves : ShelvesValue) (steps 
       (own (some_touches suite steps))
       (all_apart moment (suite + 1) rest (named_rest s rest named))
       (λ t u at later e.
-          let first = path_here (some_touches suite steps) t at in
-          let second = of_suites moment (suite + 1) rest u later in
-          all_at (λ x. s.codename ≢ x.codename) rest second.0 (pairs_head (λ x y. x.codename ≢ y.codename) s rest named.apart) second.1
-          (folders s.codename (second.0).codename first.0 (second.2).0 (named.each s (here s rest)).codename (named.each second.0 (there s second.0 rest second.1)).codename (sym first.1 ∙ e ∙ (second.2).1)).0)
+      let first = path_here (some_touches suite steps) t at in
+      let second = of_suites moment (suite + 1) rest u later in
+      all_at (λ x. s.codename ≢ x.codename) rest second.0 (pairs_head (λ x y. x.codename ≢ y.codename) s rest named.apart) second.1
+      (folders s.codename (second.0).codename first.0 (second.2).0 (named.each s (here s rest)).codename (named.each second.0 (there s second.0 rest second.1)).codename (sym first.1 ∙ e ∙ (second.2).1)).0)
     where
       own : (b : Bool) → AllPairs TextsDiffer (if b then renewed_suite old shelves steps moment suite s else [])
       own true = folder_apart (folder_of suite s) (release_text s moment) (named.each s (here s rest)).codename (places_apart s (named.each s (here s rest)))
       own false = pairs_none TextsDiffer
+
       path_here : (b : Bool) (t : IndexText) → Contains (if b then renewed_suite old shelves steps moment suite s else []) t → (path : List ℕ) × (t.path ≡ codes "dists/" ++ s.codename ++ codes "/" ++ path)
       path_here true t h = path_of_folder (folder_of suite s) (release_text s moment) t h
       path_here false t h = no_member t h

@@ -100,7 +100,7 @@ module _ (old : List ℕ → Option (List ℕ)) (shelves : ShelvesValue) (steps 
   renewed_folder release =
       if is_some (old (path_in folder (codes "Release")))
       then flat_map renewed_index folder.places
-          ++ renewed_at (old (path_in folder (codes "Release"))) (path_in folder (codes "Release")) (release (map index_after folder.places))
+      ++ renewed_at (old (path_in folder (codes "Release"))) (path_in folder (codes "Release")) (release (map index_after folder.places))
       else []
 
 -- those of the suite at a position

@@ -148,6 +148,8 @@ impl<K: Keeper> Archive<K> {
         ensures clean { K.is_clean self.new.keeper → K.is_clean self.old.keeper }
         ensures step { (h : History) → IsKept (K.is_open self.old.keeper) (K.book self.old.keeper) h → IsFaithful h (Lookup path.now ∷ [])
             → K.is_clean self.new.keeper → IsStep K.may_fail h (Lookup path.now) (found result) (K.is_open self.new.keeper) (K.book self.new.keeper) }
+        // A crash leaves what it would have left before.
+        ensures crash { K.is_clean self.new.keeper → (left : Book) → K.may_leave self.new.keeper left → K.may_leave self.old.keeper left }
         ensures refused { IfErr result IsKeepers }
     {
         match self.keeper.file(alloc, path)? {
@@ -162,6 +164,8 @@ impl<K: Keeper> Archive<K> {
         ensures clean { K.is_clean self.new.keeper → K.is_clean self.old.keeper }
         ensures step { (h : History) → IsKept (K.is_open self.old.keeper) (K.book self.old.keeper) h → IsFaithful h (WaitingList moment ∷ [])
             → K.is_clean self.new.keeper → IsStep K.may_fail h (WaitingList moment) (reported result) (K.is_open self.new.keeper) (K.book self.new.keeper) }
+        // A crash leaves what it would have left before.
+        ensures crash { K.is_clean self.new.keeper → (left : Book) → K.may_leave self.new.keeper left → K.may_leave self.old.keeper left }
         ensures late { latest < moment → result ≡ Err Fault.Moment }
         ensures refused { IfErr result (λ e. (latest < moment) ⊎ IsKeepers e) }
     {
@@ -179,6 +183,8 @@ impl<K: Keeper> Archive<K> {
         ensures clean { K.is_clean self.new.keeper → K.is_clean self.old.keeper }
         ensures step { (h : History) → IsKept (K.is_open self.old.keeper) (K.book self.old.keeper) h → IsFaithful h (VerdictList ∷ [])
             → K.is_clean self.new.keeper → IsStep K.may_fail h VerdictList (reported result) (K.is_open self.new.keeper) (K.book self.new.keeper) }
+        // A crash leaves what it would have left before.
+        ensures crash { K.is_clean self.new.keeper → (left : Book) → K.may_leave self.new.keeper left → K.may_leave self.old.keeper left }
         ensures refused { IfErr result IsKeepers }
     {
         let judged = self.keeper.verdicts(alloc)?;

@@ -266,7 +266,14 @@ fn renew_folder<K: Keeper>(
     }
     let indices = renew_indices(alloc, keeper, shelves, steps, folder, texts)?;
     let mut text = Vec::new(alloc);
-    release(alloc, keeper.config(), folder.suite, moment, &indices, &mut text)?;
+    release(
+        alloc,
+        keeper.config(),
+        folder.suite,
+        moment,
+        &indices,
+        &mut text,
+    )?;
     push_renewed(texts, &kept, path, text)?;
     Ok(())
 }

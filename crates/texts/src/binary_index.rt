@@ -92,7 +92,13 @@ fn package_stanza(alloc: Global, item: &Item) -> Result<Vec<u8>, AllocError>
 /// Whether the index of the architecture lists the item: it is a package of the suite and component, of that
 /// architecture or of all.
 #[tactic(auto, unfolding(crate::specs::Stanzas::is_in_packages))]
-pub fn lists_package(key: &ShelfKey, item: &Item, suite: usize, component: &str, architecture: &str) -> bool
+pub fn lists_package(
+    key: &ShelfKey,
+    item: &Item,
+    suite: usize,
+    component: &str,
+    architecture: &str,
+) -> bool
     ensures { result ≡ is_in_packages suite component.now architecture.now (key.now, item.now) }
 {
     if key.suite != suite || key.kind != Kind::Binary {

@@ -75,9 +75,27 @@ fn upload(
     let lacking = format!(in alloc; "1 {stem}.changes")?;
     let changes = changes_of(alloc, row)?;
     let sidecar = sidecar_of(alloc, row)?;
-    deliver(rt, alloc, archive, changes_name.as_str(), changes.as_bytes(), New)?;
-    deliver(rt, alloc, archive, control_name.as_str(), sidecar.as_bytes(), New)?;
-    expect_lines(rt, &archive.waiting(alloc, moment)?.lines, &[lacking.as_str()]);
+    deliver(
+        rt,
+        alloc,
+        archive,
+        changes_name.as_str(),
+        changes.as_bytes(),
+        New,
+    )?;
+    deliver(
+        rt,
+        alloc,
+        archive,
+        control_name.as_str(),
+        sidecar.as_bytes(),
+        New,
+    )?;
+    expect_lines(
+        rt,
+        &archive.waiting(alloc, moment)?.lines,
+        &[lacking.as_str()],
+    );
     deliver(rt, alloc, archive, deb_name.as_str(), b"abc", New)?;
     let report = archive.run(alloc, moment)?;
     expect_lines(rt, &report.lines, &[accepted.as_str()]);
@@ -105,7 +123,14 @@ fn two_hundred_uploads(rt: HostRuntime) -> Result<(), Fail> {
         let wanted = format!(in alloc; "accepted {package}_1.0-1_amd64.changes")?;
         assert_eq!(rt; line.as_str(), wanted.as_str());
     }
-    deliver(&rt, alloc, &mut archive, "package000_1.0-1_amd64.deb", b"abc", Again)?;
+    deliver(
+        &rt,
+        alloc,
+        &mut archive,
+        "package000_1.0-1_amd64.deb",
+        b"abc",
+        Again,
+    )?;
     expect_lines(&rt, &archive.run(alloc, 300)?.lines, &[]);
     expect_lines(&rt, &archive.waiting(alloc, 300)?.lines, &[]);
     expect_bytes(&rt, alloc, &mut archive, PACKAGES, &stanzas(alloc, 1)?)
