@@ -381,13 +381,22 @@ fn an_upload_goes_through(rt: HostRuntime) -> Result<(), Fail> {
 fn desk_serves(rt: HostRuntime) -> Result<(), Fail> {
     let alloc = rt.alloc();
     let mut archive = fresh(alloc)?;
-    let rows: [(&[u8], u16); 6] = [
-        (b"POST /queue/run HTTP/1.1\r\n\r\n", 200),
-        (b"POST /copy/box/lab/hello HTTP/1.1\r\n\r\n", 422),
-        (b"GET /queue HTTP/1.1\r\n\r\n", 200),
-        (b"GET /verdicts HTTP/1.1\r\n\r\n", 200),
-        (b"GET /dists/box/Release HTTP/1.1\r\n\r\n", 200),
-        (b"GET /pool/x HTTP/1.1\r\n\r\n", 404),
+    let rows: [(&[u8], &[u8]); 6] = [
+        (b"POST /queue/run HTTP/1.1\r\n\r\n", b"HTTP/1.1 200 OK\r\n"),
+        (
+            b"POST /copy/box/lab/hello HTTP/1.1\r\n\r\n",
+            b"HTTP/1.1 422 Unprocessable Entity\r\n",
+        ),
+        (b"GET /queue HTTP/1.1\r\n\r\n", b"HTTP/1.1 200 OK\r\n"),
+        (b"GET /verdicts HTTP/1.1\r\n\r\n", b"HTTP/1.1 200 OK\r\n"),
+        (
+            b"GET /dists/box/Release HTTP/1.1\r\n\r\n",
+            b"HTTP/1.1 200 OK\r\n",
+        ),
+        (
+            b"GET /pool/x HTTP/1.1\r\n\r\n",
+            b"HTTP/1.1 404 Not Found\r\n",
+        ),
     ];
     for number in 0..100 {
         let name = format!(in alloc; "{number}.deb")?;
@@ -395,13 +404,8 @@ fn desk_serves(rt: HostRuntime) -> Result<(), Fail> {
         let reply = ask(alloc, &mut archive, request.as_slice(), 1000)?;
         assert!(rt; reply.as_slice() == CREATED);
         for (request, want) in rows {
-            let mut reader = request;
-            let mut writer = Vec::new(alloc);
-            let served = answer(alloc, &mut archive, &mut reader, &mut writer, MOMENT);
-            let Ok(Served::Status(status)) = served else {
-                return Err(Fail::from("no reply"));
-            };
-            assert_eq!(rt; status.as_u16(), want);
+            let reply = ask(alloc, &mut archive, request, 1000)?;
+            assert!(rt; reply.starts_with(want));
         }
     }
     Ok(())

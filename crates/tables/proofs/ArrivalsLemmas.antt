@@ -1,0 +1,84 @@
+-- What the statements on arrivals do.
+use Rattle.std.proofs.Common.{◌≡◌, ℕ, pos, [], ◌∷◌, Ok, Err, Result, OnOk, refl, true, List, find, drop, Option}
+use Rattle.sqlite.specs.Table.{Table}
+use Rattle.sqlite.specs.Order.{Row}
+use Rattle.sqlite.specs.declared.types.Value.TheVariants.{Null, Text}
+use Rattle.sqlite.specs.Cast.{cast_row}
+use Rattle.sqlite.specs.declared.error.Error.{Error}
+use Rattle.sqlite.specs.State.{State, ExecutesInside, IsUnchanged}
+use Rattle.sqlite_typed.proofs.TestLemmas.{then_term, last_term}
+use Rattle.sqlite_typed.proofs.AnswerLemmas.{unfiltered}
+use Rattle.tables.specs.Reading.{IsRead, IsReadFirst}
+use Rattle.tables.proofs.CastLemmas.{cast_null, cast_int}
+use Rattle.tables.proofs.EqualLemmas.{whole_test, text_test}
+use Rattle.tables.proofs.InsertLemmas.{puts}
+use Rattle.tables.proofs.AddLemmas.{adds_row, adds_id}
+use Rattle.tables.proofs.ShownLemmas.{Shows, shown, reads_shown, first_shown}
+use Rattle.std.specs.Prelude.{nat_eq}
+use Rattle.tables.specs.Schema.{archive_schema, arrivals}
+use Rattle.tables.specs.Rows.{whole, Tables, Holds, Changes, with_arrival, arrival_cells, arrival_of, row_of, stored, next_in}
+use Rattle.tables.specs.Arrivals.{is_arrival, with_moment}
+use Rattle.tables.specs.declared.rows.Arrival.{Arrival}
+use Rattle.tables.specs.declared.arrivals.TheConstants.{INSERT_ARRIVAL, SELECT_ARRIVALS, SELECT_ARRIVAL, UPDATE_MOMENT}
+use Rattle.tables.proofs.ArrivalsMeaning.{insert_arrival_terms, insert_arrival_is, insert_arrival_plain, arrival_columns, arrival_is, arrival_id_is, select_arrivals_is, select_arrivals_plain, select_arrival_is, select_arrival_plain, update_moment_columns, update_moment_is, update_moment_plain}
+use Rattle.tables.proofs.HoldsLemmas.{with_arrivals}
+use Rattle.tables.proofs.UpdateLemmas.{updates, updates_rows}
+
+abbrev arrivals_table : Table
+arrivals_table = record arrivals { tree = 5 }
+
+arrival_cast : (name : List ℕ) (body : ℕ) (moment : ℕ) → cast_row arrivals_table (Null ∷ (Null ∷ (Text name ∷ whole body ∷ whole moment ∷ []))) ≡ Null ∷ arrival_cells (record { name = name; body = body; moment = moment })
+arrival_cast name body moment = rw (cast_null, cast_int (pos body), cast_int (pos moment))
+
+pub inserts_arrival : (old new : State) (name : List ℕ) (body : ℕ) (moment : ℕ) (count : ℕ) → ExecutesInside 0 INSERT_ARRIVAL.now (Text name ∷ whole body ∷ whole moment ∷ []) old new (Ok count)
+    → Changes old new (with_arrival (record { name = name; body = body; moment = moment })) × ((t : Tables) → Holds old.now t → new.last_rowid ≡ pos (next_in t.arrivals))
+inserts_arrival old new name body moment count h =
+    let put = λ (t : Tables) (was : Holds old.now t).
+    puts archive_schema INSERT_ARRIVAL.now 3 insert_arrival_terms 5 insert_arrival_is insert_arrival_plain _ _ _ _ _ _ 5 refl (λ _. refl)
+    old new (Text name ∷ whole body ∷ whole moment ∷ []) (Null ∷ (Null ∷ (Text name ∷ whole body ∷ whole moment ∷ []))) count refl was.schema h.0 in (
+      record {
+        held = λ t was. record {
+          schema = (put t was).schema_is;
+          rows = with_arrivals old.now.trees new.now.trees t was.rows _ (adds_row arrival_cells arrivals_table _ (record { name = name; body = body; moment = moment }) (arrival_cast name body moment) old new (put t was) t.arrivals was.rows.arrivals) (put t was).others;
+        };
+        shown = h.1;
+      },
+      λ t was. adds_id arrival_cells arrivals_table _ (record { name = name; body = body; moment = moment }) (arrival_cast name body moment) old new (put t was) t.arrivals was.rows.arrivals,
+    )
+
+arrivals_show : Shows arrival_cells 5 [] arrival_columns ([]) (λ _. true) (shown arrival_cells) SELECT_ARRIVALS.now
+arrivals_show = record { names = _; is = select_arrivals_is.0; plain = select_arrivals_plain; unlisted = select_arrivals_is.1; tests = λ _. refl; shows = λ _. refl; real = λ _. refl }
+
+pub arrivals_answer : (old new : State) (t : Tables) (all : List (ℕ × Arrival)) → Holds old.now t → IsRead (row_of arrival_of) SELECT_ARRIVALS.now ([]) old new all
+    → (all ≡ t.arrivals) × IsUnchanged old new
+arrivals_answer old new t all was h =
+    let done = reads_shown arrival_cells 5 [] arrival_columns ([]) SELECT_ARRIVALS.now old new t.arrivals was.schema was.rows.arrivals (λ _. true) arrival_of (λ _. refl) arrivals_show all h in
+    (unfiltered t.arrivals done.0, done.1)
+
+arrival_shows : (name : List ℕ) (body : ℕ) → Shows arrival_cells 5 arrival_is arrival_columns (Text name ∷ whole body ∷ []) (λ x. is_arrival name body x.1) (shown arrival_cells) SELECT_ARRIVAL.now
+arrival_shows name body = record { names = _; is = select_arrival_is.0; plain = select_arrival_plain; unlisted = select_arrival_is.1; tests = λ x. then_term (text_test x.1.name name) (last_term (whole_test x.1.body body)); shows = λ _. refl; real = λ _. refl }
+
+pub arrival_answer : (old new : State) (t : Tables) (name : List ℕ) (body : ℕ) (found : Option (ℕ × Arrival)) → Holds old.now t → IsReadFirst (row_of arrival_of) SELECT_ARRIVAL.now (Text name ∷ whole body ∷ []) old new found
+    → (found ≡ find (λ x. is_arrival name body x.1) t.arrivals) × IsUnchanged old new
+arrival_answer old new t name body found was h =
+    first_shown arrival_cells 5 arrival_is arrival_columns (Text name ∷ whole body ∷ []) SELECT_ARRIVAL.now old new t.arrivals was.schema was.rows.arrivals (λ x. is_arrival name body x.1) arrival_of (λ _. refl) (arrival_shows name body) found h
+
+-- the row that an update makes of a row
+abbrev updated : ℕ → ℕ × Arrival → Row
+updated moment x = whole x.0 ∷ whole x.0 ∷ Null ∷ Text x.1.name ∷ whole x.1.body ∷ whole moment ∷ []
+
+updated_cast : (moment : ℕ) (x : ℕ × Arrival) → cast_row arrivals_table (drop 1 (updated moment x)) ≡ stored arrival_cells (x.0, record x.1 { moment = moment })
+updated_cast moment x = rw (cast_null, cast_int (pos x.0), cast_int (pos x.1.body), cast_int (pos moment))
+
+pub changes_moment : (old new : State) (id moment : ℕ) (r : Result ℕ Error) → ExecutesInside 0 UPDATE_MOMENT.now (whole id ∷ whole moment ∷ []) old new r → OnOk r (Changes old new (with_moment id moment))
+changes_moment old new id moment (Ok count) h = record {
+  held = λ t was.
+      let params = whole id ∷ whole moment ∷ [] in
+      let did = updates UPDATE_MOMENT.now 3 _ update_moment_plain arrivals_table refl update_moment_is old new params count was.schema h.0 in
+      let now = updates_rows arrival_cells 5 arrival_id_is update_moment_columns params (λ x. nat_eq x.0 id) (updated moment)
+      (λ x. last_term (whole_test x.0 id)) (λ _. refl) (λ _. refl) (λ _. refl)
+      old new t.arrivals was.rows.arrivals did.0 did.1 (λ x. record x { moment = moment }) arrivals_table (updated_cast moment) did.2 in
+      record { schema = did.2.schema_is; rows = with_arrivals old.now.trees new.now.trees t was.rows _ now did.2.others };
+  shown = h.1;
+}
+changes_moment old new id moment (Err e) h = tt

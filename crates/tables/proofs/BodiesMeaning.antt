@@ -1,0 +1,51 @@
+-- What the statements mean under the schema.
+use Rattle.std.proofs.Common.{◌≡◌, refl, ◌∷◌, [], List, codes, false}
+use Rattle.sqlite_tied.specs.Compute.{everything}
+use Rattle.sqlite.specs.declared.types.Value.TheVariants.{Null}
+use Rattle.sqlite.specs.Command.TheVariants.{Insert, Select}
+use Rattle.sqlite.specs.Source.TheVariants.{Values}
+use Rattle.sqlite.specs.Term.{Term, lit, col}
+use Rattle.sqlite.specs.Listing.{understood, reads_listing}
+use Rattle.sqlite.proofs.Callers.{command_of, IsPlain}
+use Rattle.sqlite.specs.Collation.TheVariants.{Binary}
+use Rattle.sqlite_sql.specs.Term.{op2}
+use Rattle.sqlite_sql.specs.declared.ops.BinaryOp.TheVariants.{Compare}
+use Rattle.sqlite_sql.specs.declared.ops.CompareOp.TheVariants.{Eq}
+use Rattle.tables.specs.declared.bodies.TheConstants.{INSERT_BODY, SELECT_BODIES, SELECT_BODY}
+use Rattle.tables.specs.Schema.{archive_schema}
+use Rattle.tables.proofs.SelectLemmas.{rows_query}
+
+abbrev pub insert_body_terms : List Term
+insert_body_terms = lit Null ∷ lit Null ∷ col 0 0 ∷ col 0 1 ∷ col 0 2 ∷ col 0 3 ∷ []
+
+pub insert_body_is : command_of (understood archive_schema INSERT_BODY.now) ≡ Insert 1 (Values insert_body_terms 6)
+unfolding understood everything
+insert_body_is = refl
+
+pub insert_body_plain : IsPlain (understood archive_schema INSERT_BODY.now)
+unfolding understood everything
+insert_body_plain = (refl, refl)
+
+abbrev pub body_columns : List Term
+body_columns = col 1 0 ∷ col 1 0 ∷ col 1 2 ∷ col 1 3 ∷ col 1 4 ∷ col 1 5 ∷ []
+
+pub select_bodies_is : (command_of (understood archive_schema SELECT_BODIES.now) ≡ Select (record { lets = []; body = rows_query 1 [] body_columns }) (codes "id" ∷ codes "id" ∷ codes "size" ∷ codes "md5" ∷ codes "sha1" ∷ codes "sha256" ∷ [])) × (reads_listing archive_schema SELECT_BODIES.now ≡ false)
+unfolding understood everything
+select_bodies_is = (refl, refl)
+
+pub select_bodies_plain : IsPlain (understood archive_schema SELECT_BODIES.now)
+unfolding understood everything
+select_bodies_plain = (refl, refl)
+
+abbrev pub print_terms : List Term
+print_terms =
+    op2 (Compare Eq Binary) (col 1 2) (col 0 0) ∷ op2 (Compare Eq Binary) (col 1 3) (col 0 1) ∷ op2 (Compare Eq Binary) (col 1 4) (col 0 2)
+    ∷ op2 (Compare Eq Binary) (col 1 5) (col 0 3) ∷ []
+
+pub select_body_is : (command_of (understood archive_schema SELECT_BODY.now) ≡ Select (record { lets = []; body = rows_query 1 print_terms (col 1 0 ∷ []) }) (codes "id" ∷ [])) × (reads_listing archive_schema SELECT_BODY.now ≡ false)
+unfolding understood everything
+select_body_is = (refl, refl)
+
+pub select_body_plain : IsPlain (understood archive_schema SELECT_BODY.now)
+unfolding understood everything
+select_body_plain = (refl, refl)

@@ -1,0 +1,46 @@
+-- What the statements on pieces do.
+use Rattle.std.proofs.Common.{◌≡◌, ℕ, pos, [], ◌∷◌, Ok, Err, Result, OnOk, refl, List, filter}
+use Rattle.sqlite.specs.Table.{Table}
+use Rattle.sqlite.specs.declared.types.Value.TheVariants.{Null, Blob}
+use Rattle.sqlite.specs.Cast.{cast_row}
+use Rattle.sqlite.specs.declared.error.Error.{Error}
+use Rattle.sqlite.specs.State.{State, ExecutesInside, IsUnchanged}
+use Rattle.sqlite_typed.proofs.TestLemmas.{last_term}
+use Rattle.tables.specs.Reading.{IsRead}
+use Rattle.tables.proofs.CastLemmas.{cast_null, cast_int}
+use Rattle.tables.proofs.EqualLemmas.{whole_test}
+use Rattle.tables.proofs.InsertLemmas.{puts}
+use Rattle.tables.proofs.AddLemmas.{adds_row}
+use Rattle.tables.proofs.ShownLemmas.{Shows, shown, reads_stored}
+use Rattle.tables.specs.Schema.{archive_schema, pieces}
+use Rattle.tables.specs.Rows.{whole, Tables, Holds, Changes, with_piece, piece_cells, piece_of, stored, rows_of}
+use Rattle.tables.specs.Pieces.{is_of}
+use Rattle.tables.specs.declared.rows.Piece.{Piece}
+use Rattle.tables.specs.declared.pieces.TheConstants.{INSERT_PIECE, SELECT_PIECES_OF}
+use Rattle.tables.proofs.PiecesMeaning.{insert_piece_terms, insert_piece_is, insert_piece_plain, piece_columns, piece_body_is, select_pieces_of_is, select_pieces_of_plain}
+use Rattle.tables.proofs.HoldsLemmas.{with_pieces}
+
+abbrev pieces_table : Table
+pieces_table = record pieces { tree = 3 }
+
+piece_cast : (body : ℕ) (number : ℕ) (bytes : List ℕ) → cast_row pieces_table (Null ∷ (whole body ∷ whole number ∷ Blob bytes ∷ [])) ≡ Null ∷ piece_cells (record { body = body; number = number; bytes = bytes })
+piece_cast body number bytes = rw (cast_null, cast_int (pos body), cast_int (pos number))
+
+pub inserts_piece : (old new : State) (body : ℕ) (number : ℕ) (bytes : List ℕ) (r : Result ℕ Error) → ExecutesInside 0 INSERT_PIECE.now (whole body ∷ whole number ∷ Blob bytes ∷ []) old new r
+    → OnOk r (Changes old new (with_piece (record { body = body; number = number; bytes = bytes })))
+inserts_piece old new body number bytes (Ok count) h = record {
+  held = λ t was.
+      let put = puts archive_schema INSERT_PIECE.now 2 insert_piece_terms 4 insert_piece_is insert_piece_plain _ _ _ _ _ _ 3 refl (λ _. refl)
+      old new (whole body ∷ whole number ∷ Blob bytes ∷ []) (Null ∷ (whole body ∷ whole number ∷ Blob bytes ∷ [])) count refl was.schema h.0 in
+      record { schema = put.schema_is; rows = with_pieces old.now.trees new.now.trees t was.rows _ (adds_row piece_cells pieces_table _ (record { body = body; number = number; bytes = bytes }) (piece_cast body number bytes) old new put t.pieces was.rows.pieces) put.others };
+  shown = h.1;
+}
+inserts_piece old new body number bytes (Err e) h = tt
+
+pieces_of_shows : (body : ℕ) → Shows piece_cells 3 piece_body_is piece_columns (whole body ∷ []) (λ x. is_of body x.1) (stored piece_cells) SELECT_PIECES_OF.now
+pieces_of_shows body = record { names = _; is = select_pieces_of_is.0; plain = select_pieces_of_plain; unlisted = select_pieces_of_is.1; tests = λ x. last_term (whole_test x.1.body body); shows = λ _. refl; real = λ _. refl }
+
+pub pieces_of_answer : (old new : State) (t : Tables) (body : ℕ) (all : List Piece) → Holds old.now t → IsRead piece_of SELECT_PIECES_OF.now (whole body ∷ []) old new all
+    → (all ≡ filter (is_of body) (rows_of t.pieces)) × IsUnchanged old new
+pieces_of_answer old new t body all was h =
+    reads_stored piece_cells 3 piece_body_is piece_columns (whole body ∷ []) SELECT_PIECES_OF.now old new t.pieces was.schema was.rows.pieces (is_of body) piece_of (λ _. refl) (pieces_of_shows body) all h

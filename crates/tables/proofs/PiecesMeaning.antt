@@ -1,0 +1,41 @@
+-- What the statements mean under the schema.
+use Rattle.std.proofs.Common.{◌≡◌, refl, ◌∷◌, [], List, codes, false}
+use Rattle.sqlite_tied.specs.Compute.{everything}
+use Rattle.sqlite.specs.declared.types.Value.TheVariants.{Null}
+use Rattle.sqlite.specs.Command.TheVariants.{Insert, Select}
+use Rattle.sqlite.specs.Source.TheVariants.{Values}
+use Rattle.sqlite.specs.Term.{Term, lit, col}
+use Rattle.sqlite.specs.Listing.{understood, reads_listing}
+use Rattle.sqlite.proofs.Callers.{command_of, IsPlain}
+use Rattle.sqlite.specs.Collation.TheVariants.{Binary}
+use Rattle.sqlite_sql.specs.Term.{op2}
+use Rattle.sqlite_sql.specs.declared.ops.BinaryOp.TheVariants.{Compare}
+use Rattle.sqlite_sql.specs.declared.ops.CompareOp.TheVariants.{Eq}
+use Rattle.tables.specs.declared.pieces.TheConstants.{INSERT_PIECE, SELECT_PIECES_OF}
+use Rattle.tables.specs.Schema.{archive_schema}
+use Rattle.tables.proofs.SelectLemmas.{rows_query}
+
+abbrev pub piece_columns : List Term
+piece_columns = col 1 0 ∷ col 1 1 ∷ col 1 2 ∷ col 1 3 ∷ []
+
+abbrev pub piece_body_is : List Term
+piece_body_is = op2 (Compare Eq Binary) (col 1 1) (col 0 0) ∷ []
+
+abbrev pub insert_piece_terms : List Term
+insert_piece_terms = lit Null ∷ col 0 0 ∷ col 0 1 ∷ col 0 2 ∷ []
+
+pub insert_piece_is : command_of (understood archive_schema INSERT_PIECE.now) ≡ Insert 2 (Values insert_piece_terms 4)
+unfolding understood everything
+insert_piece_is = refl
+
+pub insert_piece_plain : IsPlain (understood archive_schema INSERT_PIECE.now)
+unfolding understood everything
+insert_piece_plain = (refl, refl)
+
+pub select_pieces_of_is : (command_of (understood archive_schema SELECT_PIECES_OF.now) ≡ Select (record { lets = []; body = rows_query 3 piece_body_is piece_columns }) (codes "rowid" ∷ codes "body" ∷ codes "number" ∷ codes "bytes" ∷ [])) × (reads_listing archive_schema SELECT_PIECES_OF.now ≡ false)
+unfolding understood everything
+select_pieces_of_is = (refl, refl)
+
+pub select_pieces_of_plain : IsPlain (understood archive_schema SELECT_PIECES_OF.now)
+unfolding understood everything
+select_pieces_of_plain = (refl, refl)

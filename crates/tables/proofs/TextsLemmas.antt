@@ -1,0 +1,87 @@
+-- What the statements on texts do.
+use Rattle.std.proofs.Common.{◌≡◌, ℕ, pos, [], ◌∷◌, Ok, Err, Result, OnOk, refl, true, false, List, map, filter, find, slice_get, drop, Option, ap, ◌∙◌}
+use Rattle.sqlite.specs.Table.{Table}
+use Rattle.sqlite.specs.Order.{Row}
+use Rattle.sqlite.specs.declared.types.Value.TheVariants.{Null, Text, Blob}
+use Rattle.sqlite.specs.Cast.{cast_row}
+use Rattle.sqlite.specs.declared.error.Error.{Error}
+use Rattle.sqlite.specs.State.{State, ExecutesInside, Shown, IsUnchanged}
+use Rattle.tables.specs.Schema.{archive_schema, texts}
+use Rattle.tables.specs.Rows.{whole, Tables, Holds, Changes, with_text, text_cells, text_of, stored, rows_of}
+use Rattle.tables.specs.Texts.{has_path, with_new_text}
+use Rattle.tables.specs.Reading.{IsRead, IsReadFirst}
+use Rattle.sqlite_keyed.proofs.ListLemmas.{map-map}
+use Rattle.tables.specs.declared.rows.IndexText.{IndexText}
+use Rattle.tables.specs.declared.texts.TheConstants.{INSERT_TEXT, UPDATE_TEXT, SELECT_TEXTS, SELECT_TEXT}
+use Rattle.tables.proofs.CastLemmas.{cast_null, cast_int}
+use Rattle.tables.proofs.TextsMeaning.{insert_text_terms, insert_text_is, insert_text_plain, update_text_columns, update_text_is, update_text_plain, text_columns, select_texts_is, select_texts_plain, path_is, select_text_is, select_text_plain}
+use Rattle.tables.proofs.InsertLemmas.{puts}
+use Rattle.tables.proofs.AddLemmas.{adds_row}
+use Rattle.tables.proofs.HoldsLemmas.{with_texts}
+use Rattle.tables.proofs.SelectLemmas.{reads_rows, first_read}
+use Rattle.tables.proofs.UpdateLemmas.{updates, updates_rows}
+use Rattle.sqlite_typed.proofs.TestLemmas.{last_term, at_texts}
+use Rattle.sqlite_typed.proofs.AnswerLemmas.{unfiltered}
+use Rattle.std.proofs.lemmas.Map.Text.{is_eq-slice_cmp}
+use Rattle.sqlite_sql.specs.declared.ops.CompareOp.TheVariants.{Eq}
+
+abbrev texts_table : Table
+texts_table = record texts { tree = 19 }
+
+abbrev pub text_params : IndexText → Row
+text_params x = Text x.path ∷ Blob x.body ∷ []
+
+text_cast : (x : IndexText) → cast_row texts_table (Null ∷ text_params x) ≡ Null ∷ text_cells x
+text_cast x = rw cast_null
+
+pub changes_insert_text : (old new : State) (x : IndexText) (r : Result ℕ Error) → ExecutesInside 0 INSERT_TEXT.now (text_params x) old new r → OnOk r (Changes old new (with_text x))
+changes_insert_text old new x (Ok count) h = record {
+  held = λ t was.
+      let put = puts archive_schema INSERT_TEXT.now 9 insert_text_terms 3 insert_text_is insert_text_plain _ _ _ _ _ _ 19 refl (λ _. refl)
+      old new (text_params x) (Null ∷ text_params x) count refl was.schema h.0 in
+      record { schema = put.schema_is; rows = with_texts old.now.trees new.now.trees t was.rows _ (adds_row text_cells texts_table _ x (text_cast x) old new put t.texts was.rows.texts) put.others };
+  shown = h.1;
+}
+changes_insert_text old new x (Err e) h = tt
+
+pub texts_read : (old new : State) (t : Tables) (rows : List Row) → Holds old.now t → Shown SELECT_TEXTS.now [] old new rows → rows ≡ map (stored text_cells) t.texts
+texts_read old new t rows was h =
+    reads_rows text_cells 19 [] text_columns [] (λ _. true) (stored text_cells) (λ _. refl) (λ _. refl) SELECT_TEXTS.now _ (λ _. refl) old new rows t.texts
+    select_texts_is.0 select_texts_plain select_texts_is.1 was.schema was.rows.texts h
+    ∙ ap (map (stored text_cells)) (unfiltered t.texts refl)
+
+pub text_read : (old new : State) (t : Tables) (path : List ℕ) (rows : List Row) → Holds old.now t → Shown SELECT_TEXT.now (Text path ∷ []) old new rows
+    → rows ≡ map (stored text_cells) (filter (λ x. has_path path x.1) t.texts)
+text_read old new t path rows was h =
+    reads_rows text_cells 19 path_is text_columns (Text path ∷ []) (λ x. has_path path x.1) (stored text_cells)
+    (λ x. last_term (at_texts false Eq x.1.path path ∙ is_eq-slice_cmp x.1.path path)) (λ _. refl)
+    SELECT_TEXT.now _ (λ _. refl) old new rows t.texts select_text_is.0 select_text_plain select_text_is.1 was.schema was.rows.texts h
+
+pub texts_answer : (old new : State) (t : Tables) (all : List IndexText) → Holds old.now t → IsRead text_of SELECT_TEXTS.now [] old new all → (all ≡ rows_of t.texts) × IsUnchanged old new
+texts_answer old new t all was h = (h.are ∙ ap (map text_of) (texts_read old new t h.rows was h.shown) ∙ map-map text_of (stored text_cells) t.texts, h.same)
+
+pub text_answer : (old new : State) (t : Tables) (path : List ℕ) (found : Option IndexText) → Holds old.now t → IsReadFirst text_of SELECT_TEXT.now (Text path ∷ []) old new found
+    → (found ≡ find (has_path path) (rows_of t.texts)) × IsUnchanged old new
+text_answer old new t path found was h =
+    (h.is ∙ ap (λ all. slice_get all 0) (h.read.are ∙ ap (map text_of) (text_read old new t path h.read.rows was h.read.shown)) ∙ first_read text_cells text_of (λ _. refl) (has_path path) t.texts, h.read.same)
+
+-- the row that an update makes of a row
+abbrev updated : List ℕ → ℕ × IndexText → Row
+updated body x = whole x.0 ∷ whole x.0 ∷ Text x.1.path ∷ Blob body ∷ []
+
+updated_cast : (body : List ℕ) (x : ℕ × IndexText) → cast_row texts_table (drop 1 (updated body x)) ≡ stored text_cells (x.0, record x.1 { body = body })
+updated_cast body x = rw (cast_int (pos x.0))
+
+pub changes_update_text : (old new : State) (path : List ℕ) (body : List ℕ) (r : Result ℕ Error) → ExecutesInside 0 UPDATE_TEXT.now (Text path ∷ Blob body ∷ []) old new r
+    → OnOk r (Changes old new (with_new_text path body))
+changes_update_text old new path body (Ok count) h = record {
+  held = λ t was.
+      let params = Text path ∷ Blob body ∷ [] in
+      let did = updates UPDATE_TEXT.now 9 _ update_text_plain texts_table refl update_text_is old new params count was.schema h.0 in
+      let now = updates_rows text_cells 19 path_is update_text_columns params (λ x. has_path path x.1) (updated body)
+      (λ x. last_term (at_texts false Eq x.1.path path ∙ is_eq-slice_cmp x.1.path path)) (λ _. refl) (λ _. refl) (λ _. refl)
+      old new t.texts was.rows.texts did.0 did.1 (λ x. record x { body = body }) texts_table (updated_cast body) did.2 in
+      record { schema = did.2.schema_is; rows = with_texts old.now.trees new.now.trees t was.rows _ now did.2.others };
+  shown = h.1;
+}
+changes_update_text old new path body (Err e) h = tt

@@ -1,0 +1,119 @@
+-- What the statements on uploads do.
+use Rattle.std.proofs.Common.{◌≡◌, ℕ, pos, [], ◌∷◌, ◌++◌, Ok, Err, Result, OnOk, refl, true, false, List, filter, find, drop, Bool, not, is_some, Option, Some, None, ◌∙◌}
+use Rattle.sqlite.specs.Table.{Table}
+use Rattle.sqlite.specs.Order.{Row}
+use Rattle.sqlite.specs.declared.types.Value.TheVariants.{Null, Text}
+use Rattle.sqlite.specs.Cast.{cast_row}
+use Rattle.sqlite.specs.Values.{or_null}
+use Rattle.sqlite.specs.declared.error.Error.{Error}
+use Rattle.sqlite.specs.State.{State, ExecutesInside, IsUnchanged}
+use Rattle.sqlite_typed.proofs.TestLemmas.{then_term, last_term}
+use Rattle.sqlite_typed.proofs.AnswerLemmas.{unfiltered}
+use Rattle.tables.specs.Reading.{IsRead, IsReadFirst}
+use Rattle.tables.proofs.CastLemmas.{cast_null, cast_int}
+use Rattle.tables.proofs.EqualLemmas.{whole_test, text_test}
+use Rattle.tables.proofs.PrintLemmas.{print_test}
+use Rattle.tables.proofs.InsertLemmas.{puts}
+use Rattle.tables.proofs.AddLemmas.{adds_row, adds_id}
+use Rattle.tables.proofs.ShownLemmas.{Shows, shown, reads_shown, first_shown}
+use Rattle.std.specs.Prelude.{nat_eq}
+use Rattle.sqlite_value.proofs.OrderLemmas.{value_cmp-Null}
+use Rattle.sqlite_typed.proofs.TestLemmas.{at_is_null, at_not}
+use Rattle.sums.specs.declared.print.Print.{Print}
+use Rattle.tables.specs.Schema.{archive_schema, uploads}
+use Rattle.tables.specs.Rows.{whole, print_cells, Tables, Holds, Changes, with_upload, upload_cells, upload_of, row_of, some_nat, stored, next_in}
+use Rattle.tables.specs.Uploads.{is_upload, is_judged, with_verdict}
+use Rattle.tables.specs.declared.rows.Upload.{Upload}
+use Rattle.tables.specs.declared.uploads.TheConstants.{INSERT_UPLOAD, SELECT_UPLOADS, SELECT_UPLOAD, SELECT_UNJUDGED, SELECT_JUDGED, UPDATE_VERDICT}
+use Rattle.tables.proofs.UploadsMeaning.{insert_upload_terms, insert_upload_is, insert_upload_plain, upload_columns, upload_is, place_is_null, place_is_set, upload_id_is, select_uploads_is, select_uploads_plain, select_upload_is, select_upload_plain, select_unjudged_is, select_unjudged_plain, select_judged_is, select_judged_plain, update_verdict_columns, update_verdict_is, update_verdict_plain}
+use Rattle.tables.proofs.HoldsLemmas.{with_uploads}
+use Rattle.tables.proofs.UpdateLemmas.{updates, updates_rows}
+
+abbrev uploads_table : Table
+uploads_table = record uploads { tree = 7 }
+
+upload_cast : (name : List ℕ) (print : Print) → cast_row uploads_table (Null ∷ (Null ∷ (Text name ∷ (print_cells print ++ Null ∷ Null ∷ [])))) ≡ Null ∷ upload_cells (record { name = name; print = print; place = None; verdict = None })
+upload_cast name print = rw (cast_null, cast_int (pos print.size))
+
+pub inserts_upload : (old new : State) (name : List ℕ) (print : Print) (count : ℕ) → ExecutesInside 0 INSERT_UPLOAD.now (Text name ∷ print_cells print) old new (Ok count)
+    → Changes old new (with_upload (record { name = name; print = print; place = None; verdict = None })) × ((t : Tables) → Holds old.now t → new.last_rowid ≡ pos (next_in t.uploads))
+inserts_upload old new name print count h =
+    let put = λ (t : Tables) (was : Holds old.now t).
+    puts archive_schema INSERT_UPLOAD.now 4 insert_upload_terms 9 insert_upload_is insert_upload_plain _ _ _ _ _ _ 7 refl (λ _. refl)
+    old new (Text name ∷ print_cells print) (Null ∷ (Null ∷ (Text name ∷ (print_cells print ++ Null ∷ Null ∷ [])))) count refl was.schema h.0 in (
+      record {
+        held = λ t was. record {
+          schema = (put t was).schema_is;
+          rows = with_uploads old.now.trees new.now.trees t was.rows _ (adds_row upload_cells uploads_table _ (record { name = name; print = print; place = None; verdict = None }) (upload_cast name print) old new (put t was) t.uploads was.rows.uploads) (put t was).others;
+        };
+        shown = h.1;
+      },
+      λ t was. adds_id upload_cells uploads_table _ (record { name = name; print = print; place = None; verdict = None }) (upload_cast name print) old new (put t was) t.uploads was.rows.uploads,
+    )
+
+upload_back : (x : ℕ × Upload) → row_of upload_of (shown upload_cells x) ≡ x
+upload_back x =
+    let place = elim x.1.place as (λ p. some_nat (or_null whole p) ≡ p) [ None ↦ refl | Some n ↦ refl ] in
+    let verdict = elim x.1.verdict as (λ v. some_nat (or_null whole v) ≡ v) [ None ↦ refl | Some n ↦ refl ] in
+    λ i. (x.0, record x.1 { place = place i; verdict = verdict i })
+
+uploads_show : Shows upload_cells 7 [] upload_columns ([]) (λ _. true) (shown upload_cells) SELECT_UPLOADS.now
+uploads_show = record { names = _; is = select_uploads_is.0; plain = select_uploads_plain; unlisted = select_uploads_is.1; tests = λ _. refl; shows = λ _. refl; real = λ _. refl }
+
+pub uploads_answer : (old new : State) (t : Tables) (all : List (ℕ × Upload)) → Holds old.now t → IsRead (row_of upload_of) SELECT_UPLOADS.now ([]) old new all
+    → (all ≡ t.uploads) × IsUnchanged old new
+uploads_answer old new t all was h =
+    let done = reads_shown upload_cells 7 [] upload_columns ([]) SELECT_UPLOADS.now old new t.uploads was.schema was.rows.uploads (λ _. true) upload_of upload_back uploads_show all h in
+    (unfiltered t.uploads done.0, done.1)
+
+upload_shows : (name : List ℕ) (print : Print) → Shows upload_cells 7 upload_is upload_columns (Text name ∷ print_cells print) (λ x. is_upload name print x.1) (shown upload_cells) SELECT_UPLOAD.now
+upload_shows name print = record { names = _; is = select_upload_is.0; plain = select_upload_plain; unlisted = select_upload_is.1; tests = λ x. then_term (text_test x.1.name name) (print_test x.1.print print); shows = λ _. refl; real = λ _. refl }
+
+pub upload_answer : (old new : State) (t : Tables) (name : List ℕ) (print : Print) (found : Option (ℕ × Upload)) → Holds old.now t → IsReadFirst (row_of upload_of) SELECT_UPLOAD.now (Text name ∷ print_cells print) old new found
+    → (found ≡ find (λ x. is_upload name print x.1) t.uploads) × IsUnchanged old new
+upload_answer old new t name print found was h =
+    first_shown upload_cells 7 upload_is upload_columns (Text name ∷ print_cells print) SELECT_UPLOAD.now old new t.uploads was.schema was.rows.uploads (λ x. is_upload name print x.1) upload_of upload_back (upload_shows name print) found h
+
+unjudged_show : Shows upload_cells 7 place_is_null upload_columns ([]) (λ x. not (is_judged x.1)) (shown upload_cells) SELECT_UNJUDGED.now
+unjudged_show = record { names = _; is = select_unjudged_is.0; plain = select_unjudged_plain; unlisted = select_unjudged_is.1; tests = λ x. last_term (at_is_null whole false (λ n. value_cmp-Null (whole n)) x.1.place); shows = λ _. refl; real = λ _. refl }
+
+pub unjudged_answer : (old new : State) (t : Tables) (all : List (ℕ × Upload)) → Holds old.now t → IsRead (row_of upload_of) SELECT_UNJUDGED.now ([]) old new all
+    → (all ≡ filter (λ x. not (is_judged x.1)) t.uploads) × IsUnchanged old new
+unjudged_answer old new t all was h =
+    reads_shown upload_cells 7 place_is_null upload_columns ([]) SELECT_UNJUDGED.now old new t.uploads was.schema was.rows.uploads (λ x. not (is_judged x.1)) upload_of upload_back unjudged_show all h
+
+not_not : (b : Bool) → not (not b) ≡ b
+not_not true = refl
+not_not false = refl
+
+judged_show : Shows upload_cells 7 place_is_set upload_columns ([]) (λ x. is_judged x.1) (shown upload_cells) SELECT_JUDGED.now
+judged_show = record { names = _; is = select_judged_is.0; plain = select_judged_plain; unlisted = select_judged_is.1; tests = λ x. last_term (at_not false _ (at_is_null whole true (λ n. value_cmp-Null (whole n)) x.1.place) ∙ not_not (is_some x.1.place)); shows = λ _. refl; real = λ _. refl }
+
+pub judged_answer : (old new : State) (t : Tables) (all : List (ℕ × Upload)) → Holds old.now t → IsRead (row_of upload_of) SELECT_JUDGED.now ([]) old new all
+    → (all ≡ filter (λ x. is_judged x.1) t.uploads) × IsUnchanged old new
+judged_answer old new t all was h =
+    reads_shown upload_cells 7 place_is_set upload_columns ([]) SELECT_JUDGED.now old new t.uploads was.schema was.rows.uploads (λ x. is_judged x.1) upload_of upload_back judged_show all h
+
+-- the row that an update makes of a row
+abbrev updated : ℕ → ℕ → ℕ × Upload → Row
+updated place verdict x = whole x.0 ∷ whole x.0 ∷ Null ∷ Text x.1.name ∷ (print_cells x.1.print ++ whole place ∷ whole verdict ∷ [])
+
+abbrev judged : ℕ → ℕ → Upload → Upload
+judged place verdict x = record x { place = Some place; verdict = Some verdict }
+
+updated_cast : (place verdict : ℕ) (x : ℕ × Upload) → cast_row uploads_table (drop 1 (updated place verdict x)) ≡ stored upload_cells (x.0, judged place verdict x.1)
+updated_cast place verdict x = rw (cast_null, cast_int (pos x.0), cast_int (pos x.1.print.size), cast_int (pos place), cast_int (pos verdict))
+
+pub changes_verdict : (old new : State) (id place verdict : ℕ) (r : Result ℕ Error) → ExecutesInside 0 UPDATE_VERDICT.now (whole id ∷ whole place ∷ whole verdict ∷ []) old new r
+    → OnOk r (Changes old new (with_verdict id place verdict))
+changes_verdict old new id place verdict (Ok count) h = record {
+  held = λ t was.
+      let params = whole id ∷ whole place ∷ whole verdict ∷ [] in
+      let did = updates UPDATE_VERDICT.now 4 _ update_verdict_plain uploads_table refl update_verdict_is old new params count was.schema h.0 in
+      let now = updates_rows upload_cells 7 upload_id_is update_verdict_columns params (λ x. nat_eq x.0 id) (updated place verdict)
+      (λ x. last_term (whole_test x.0 id)) (λ _. refl) (λ _. refl) (λ _. refl)
+      old new t.uploads was.rows.uploads did.0 did.1 (judged place verdict) uploads_table (updated_cast place verdict) did.2 in
+      record { schema = did.2.schema_is; rows = with_uploads old.now.trees new.now.trees t was.rows _ now did.2.others };
+  shown = h.1;
+}
+changes_verdict old new id place verdict (Err e) h = tt

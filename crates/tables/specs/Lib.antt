@@ -1,0 +1,11 @@
+pub mod Schema
+pub mod Rows
+pub mod Reading
+pub mod Texts
+pub mod Dates
+pub mod Creating
+pub mod Bodies
+pub mod Pieces
+pub mod Arrivals
+pub mod Uploads
+pub mod Wants

@@ -1,0 +1,7 @@
+-- What the statements on pieces speak of.
+use Rattle.std.specs.Prelude.{ℕ, Bool, nat_eq}
+use Rattle.tables.specs.declared.rows.Piece.{Piece}
+
+-- the piece is one of this body
+abbrev pub is_of : ℕ → Piece → Bool
+is_of body x = nat_eq x.body body

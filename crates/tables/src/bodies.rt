@@ -1,0 +1,105 @@
+//! The bodies of files, each by its print.
+
+ghost use Rattle.std.specs.Prelude.{◌≡◌, Some, false, IsTrue, IfOk, OnOk, OnErr};
+ghost use Rattle.sqlite.specs.State.{HasCleanDisk, IsUnchanged, Survives};
+ghost use Rattle.sqlite.specs.Held.{state};
+ghost use Rattle.tables.specs.Rows.{Tables, Holds, Changes, Fails, IsForeign, with_body, body_of, next_in};
+ghost use Rattle.tables.specs.Bodies.{body_with};
+
+use crate::cells::{row_number, some_print_at};
+use crate::number::whole;
+use crate::read::{FromRow, select, select_first, select_first_inside};
+use crate::rows::Body;
+use sqlite::{Alter, Connection, Error, Row, Transaction, params};
+use std::alloc::Global;
+use sums::Print;
+
+const INSERT_BODY: &str = "INSERT INTO bodies (size, md5, sha1, sha256) VALUES (?1, ?2, ?3, ?4)";
+
+const SELECT_BODIES: &str = "SELECT rowid, id, size, md5, sha1, sha256 FROM bodies ORDER BY rowid";
+
+const SELECT_BODY: &str =
+    "SELECT rowid FROM bodies WHERE size = ?1 AND md5 = ?2 AND sha1 = ?3 AND sha256 = ?4 ORDER BY rowid";
+
+impl FromRow for Body {
+    ghost of_row = { body_of };
+
+    fn from_row(row: &Row) -> Result<Body, Error> {
+        Ok(Body {
+            print: some_print_at(row, 2)?,
+        })
+    }
+}
+
+/// Adds a whole body, and answers its number.
+pub fn insert_body<S: Alter>(tx: &mut Transaction<'_, S>, print: &Print) -> Result<u64, Error>
+    ensures same_reference { tx.new.conn.ghost_name ≡ tx.old.conn.ghost_name }
+    ensures ok { HasCleanDisk (state S.Store tx.new.conn.now) → IsTrue (state S.Store tx.old.conn.now).in_transaction
+        → IfOk result (λ id. Changes (state S.Store tx.old.conn.now) (state S.Store tx.new.conn.now) (with_body (record { print = Some print.now }))
+        × ((t : Tables) → Holds (state S.Store tx.old.conn.now).now t → id ≡ next_in t.bodies)) }
+    ensures err { HasCleanDisk (state S.Store tx.new.conn.now) → IsTrue (state S.Store tx.old.conn.now).in_transaction
+        → OnErr result (Fails (state S.Store tx.old.conn.now) (state S.Store tx.new.conn.now)) }
+    ensures survives { Survives (state S.Store tx.old.conn.now) (state S.Store tx.new.conn.now) (λ _. ⊥) }
+{
+    let size = whole(print.size)?;
+    let md5: &[u8] = &print.md5;
+    let sha1: &[u8] = &print.sha1;
+    let sha256: &[u8] = &print.sha256;
+    tx.execute(INSERT_BODY, params![size, md5, sha1, sha256])?;
+    Ok(row_number(tx.last_insert_rowid()))
+}
+
+/// The number of the body with a print.
+pub fn body_with_print<S: Alter>(
+    alloc: Global,
+    conn: &mut Connection<S>,
+    print: &Print,
+) -> Result<Option<u64>, Error>
+    ensures idle { conn.old.in_transaction ≡ false → conn.new.in_transaction ≡ false }
+    ensures ok { HasCleanDisk (state S.Store conn.new) → (t : Tables) → Holds (state S.Store conn.old).now t
+        → IfOk result (λ found. (found ≡ body_with print.now t.bodies) × IsUnchanged (state S.Store conn.old) (state S.Store conn.new)) }
+    ensures err { HasCleanDisk (state S.Store conn.new) → (t : Tables) → Holds (state S.Store conn.old).now t
+        → OnErr result (Fails (state S.Store conn.old) (state S.Store conn.new)) }
+    ensures survives { Survives (state S.Store conn.old) (state S.Store conn.new) (λ _. IsForeign (state S.Store conn.old).now) }
+{
+    let size = whole(print.size)?;
+    let md5: &[u8] = &print.md5;
+    let sha1: &[u8] = &print.sha1;
+    let sha256: &[u8] = &print.sha256;
+    select_first(alloc, conn, SELECT_BODY, params![size, md5, sha1, sha256])
+}
+
+/// The number of the body with a print, inside a transaction.
+pub fn body_with_print_inside<S: Alter>(
+    alloc: Global,
+    tx: &mut Transaction<'_, S>,
+    print: &Print,
+) -> Result<Option<u64>, Error>
+    ensures same_reference { tx.new.conn.ghost_name ≡ tx.old.conn.ghost_name }
+    ensures ok { HasCleanDisk (state S.Store tx.new.conn.now) → (t : Tables) → Holds (state S.Store tx.old.conn.now).now t
+        → IfOk result (λ found. (found ≡ body_with print.now t.bodies) × IsUnchanged (state S.Store tx.old.conn.now) (state S.Store tx.new.conn.now)) }
+    ensures err { HasCleanDisk (state S.Store tx.new.conn.now) → (t : Tables) → Holds (state S.Store tx.old.conn.now).now t
+        → OnErr result (Fails (state S.Store tx.old.conn.now) (state S.Store tx.new.conn.now)) }
+    ensures survives { Survives (state S.Store tx.old.conn.now) (state S.Store tx.new.conn.now) (λ _. ⊥) }
+{
+    let size = whole(print.size)?;
+    let md5: &[u8] = &print.md5;
+    let sha1: &[u8] = &print.sha1;
+    let sha256: &[u8] = &print.sha256;
+    select_first_inside(alloc, tx, SELECT_BODY, params![size, md5, sha1, sha256])
+}
+
+/// The bodies with their numbers, in the order of these.
+pub fn select_bodies<S: Alter>(
+    alloc: Global,
+    conn: &mut Connection<S>,
+) -> Result<Vec<(u64, Body)>, Error>
+    ensures idle { conn.old.in_transaction ≡ false → conn.new.in_transaction ≡ false }
+    ensures ok { HasCleanDisk (state S.Store conn.new) → (t : Tables) → Holds (state S.Store conn.old).now t
+        → IfOk result (λ all. (all.items ≡ t.bodies) × IsUnchanged (state S.Store conn.old) (state S.Store conn.new)) }
+    ensures err { HasCleanDisk (state S.Store conn.new) → (t : Tables) → Holds (state S.Store conn.old).now t
+        → OnErr result (Fails (state S.Store conn.old) (state S.Store conn.new)) }
+    ensures survives { Survives (state S.Store conn.old) (state S.Store conn.new) (λ _. IsForeign (state S.Store conn.old).now) }
+{
+    select(alloc, conn, SELECT_BODIES, &[])
+}

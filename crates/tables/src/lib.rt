@@ -1,0 +1,19 @@
+//! The tables of an archive, over SQL: one function for each statement.
+#![tactic(auto)]
+
+pub mod arrivals;
+pub mod bodies;
+mod cells;
+pub mod dates;
+pub mod laws;
+pub mod meta;
+mod number;
+pub mod pieces;
+mod read;
+pub mod rows;
+pub mod schema;
+#[cfg(test)]
+mod tests;
+pub mod texts;
+pub mod uploads;
+pub mod wants;

@@ -1,0 +1,67 @@
+//! The bytes of the bodies, in pieces.
+
+ghost use Rattle.std.specs.Prelude.{◌≡◌, filter, false, IsTrue, IfOk, OnOk, OnErr};
+ghost use Rattle.sqlite.specs.State.{HasCleanDisk, IsUnchanged, Survives};
+ghost use Rattle.sqlite.specs.Held.{state};
+ghost use Rattle.tables.specs.Rows.{Tables, Holds, Changes, Fails, IsForeign, with_piece, piece_of, rows_of};
+ghost use Rattle.tables.specs.Pieces.{is_of};
+
+use crate::number::whole;
+use crate::read::{FromRow, bytes_at, select, whole_at};
+use crate::rows::Piece;
+use sqlite::{Alter, Connection, Error, Row, Transaction, params};
+use std::alloc::Global;
+
+const INSERT_PIECE: &str = "INSERT INTO pieces (body, number, bytes) VALUES (?1, ?2, ?3)";
+
+const SELECT_PIECES_OF: &str =
+    "SELECT rowid, body, number, bytes FROM pieces WHERE body = ?1 ORDER BY rowid";
+
+impl FromRow for Piece {
+    ghost of_row = { piece_of };
+
+    fn from_row(row: &Row) -> Result<Piece, Error> {
+        Ok(Piece {
+            body: whole_at(row, 1)?,
+            number: whole_at(row, 2)?,
+            bytes: bytes_at(row, 3)?,
+        })
+    }
+}
+
+/// Adds a piece of a body.
+pub fn insert_piece<S: Alter>(
+    tx: &mut Transaction<'_, S>,
+    body: u64,
+    number: u64,
+    bytes: &[u8],
+) -> Result<(), Error>
+    ensures same_reference { tx.new.conn.ghost_name ≡ tx.old.conn.ghost_name }
+    ensures ok { HasCleanDisk (state S.Store tx.new.conn.now) → IsTrue (state S.Store tx.old.conn.now).in_transaction
+        → OnOk result (Changes (state S.Store tx.old.conn.now) (state S.Store tx.new.conn.now) (with_piece (record { body = body; number = number; bytes = bytes.now }))) }
+    ensures err { HasCleanDisk (state S.Store tx.new.conn.now) → IsTrue (state S.Store tx.old.conn.now).in_transaction
+        → OnErr result (Fails (state S.Store tx.old.conn.now) (state S.Store tx.new.conn.now)) }
+    ensures survives { Survives (state S.Store tx.old.conn.now) (state S.Store tx.new.conn.now) (λ _. ⊥) }
+{
+    let body = whole(body)?;
+    let number = whole(number)?;
+    tx.execute(INSERT_PIECE, params![body, number, bytes])?;
+    Ok(())
+}
+
+/// The pieces of a body, in the order in which they were added.
+pub fn pieces_of<S: Alter>(
+    alloc: Global,
+    conn: &mut Connection<S>,
+    body: u64,
+) -> Result<Vec<Piece>, Error>
+    ensures idle { conn.old.in_transaction ≡ false → conn.new.in_transaction ≡ false }
+    ensures ok { HasCleanDisk (state S.Store conn.new) → (t : Tables) → Holds (state S.Store conn.old).now t
+        → IfOk result (λ all. (all.items ≡ filter (is_of body) (rows_of t.pieces)) × IsUnchanged (state S.Store conn.old) (state S.Store conn.new)) }
+    ensures err { HasCleanDisk (state S.Store conn.new) → (t : Tables) → Holds (state S.Store conn.old).now t
+        → OnErr result (Fails (state S.Store conn.old) (state S.Store conn.new)) }
+    ensures survives { Survives (state S.Store conn.old) (state S.Store conn.new) (λ _. IsForeign (state S.Store conn.old).now) }
+{
+    let body = whole(body)?;
+    select(alloc, conn, SELECT_PIECES_OF, params![body])
+}

@@ -1,0 +1,76 @@
+//! The tables, and how they are made.
+
+ghost use Rattle.std.specs.Prelude.{◌≡◌, ◌<◌, false, IsTrue, OnOk, OnErr};
+ghost use Rattle.sqlite.specs.State.{HasCleanDisk, Survives, KeepsCommit};
+ghost use Rattle.sqlite.specs.Held.{state};
+ghost use Rattle.tables.specs.Creating.{Creates, text_at};
+
+use sqlite::{Alter, Error, Transaction};
+
+const CREATE_META: &str =
+    "CREATE TABLE meta (version INTEGER NOT NULL, configuration BLOB NOT NULL) STRICT";
+
+const CREATE_BODIES: &str =
+    "CREATE TABLE bodies (id INTEGER PRIMARY KEY, size INTEGER, md5 BLOB, sha1 BLOB, sha256 BLOB, UNIQUE (size, md5, sha1, sha256)) STRICT";
+
+const CREATE_PIECES: &str =
+    "CREATE TABLE pieces (body INTEGER NOT NULL REFERENCES bodies (id), number INTEGER NOT NULL, bytes BLOB NOT NULL, PRIMARY KEY (body, number)) STRICT";
+
+const CREATE_ARRIVALS: &str =
+    "CREATE TABLE arrivals (id INTEGER PRIMARY KEY, name TEXT NOT NULL, body INTEGER NOT NULL REFERENCES bodies (id), moment INTEGER NOT NULL, UNIQUE (name, body)) STRICT";
+
+const CREATE_UPLOADS: &str =
+    "CREATE TABLE uploads (id INTEGER PRIMARY KEY, name TEXT NOT NULL, size INTEGER NOT NULL, md5 BLOB NOT NULL, sha1 BLOB NOT NULL, sha256 BLOB NOT NULL, place INTEGER UNIQUE, verdict INTEGER, UNIQUE (name, size, md5, sha1, sha256)) STRICT";
+
+const CREATE_WANTS: &str =
+    "CREATE TABLE wants (upload INTEGER NOT NULL REFERENCES uploads (id), name TEXT NOT NULL, size INTEGER NOT NULL, md5 BLOB NOT NULL, sha1 BLOB NOT NULL, sha256 BLOB NOT NULL, here INTEGER NOT NULL, PRIMARY KEY (upload, name), UNIQUE (name, size, md5, sha1, sha256, upload)) STRICT";
+
+const CREATE_ITEMS: &str =
+    "CREATE TABLE items (id INTEGER PRIMARY KEY, suite TEXT NOT NULL, kind INTEGER NOT NULL, package TEXT NOT NULL, architecture TEXT NOT NULL, version TEXT NOT NULL, component TEXT NOT NULL, source TEXT NOT NULL, paragraph BLOB NOT NULL, UNIQUE (suite, kind, package, architecture)) STRICT";
+
+const CREATE_REFS: &str =
+    "CREATE TABLE refs (item INTEGER NOT NULL REFERENCES items (id), number INTEGER NOT NULL, path TEXT NOT NULL, size INTEGER NOT NULL, md5 BLOB NOT NULL, sha1 BLOB NOT NULL, sha256 BLOB NOT NULL, PRIMARY KEY (item, number)) STRICT";
+
+const CREATE_FILES: &str =
+    "CREATE TABLE files (path TEXT NOT NULL PRIMARY KEY, body INTEGER NOT NULL REFERENCES bodies (id)) STRICT";
+
+const CREATE_TEXTS: &str =
+    "CREATE TABLE texts (path TEXT NOT NULL PRIMARY KEY, body BLOB NOT NULL) STRICT";
+
+const CREATE_DATES: &str =
+    "CREATE TABLE dates (suite TEXT NOT NULL PRIMARY KEY, moment INTEGER NOT NULL) STRICT";
+
+/// The text that makes the table at this place. A table comes after those that it refers to.
+fn create_text(at: usize) -> &'static str
+    requires { at < 11 }
+    ensures { result.now ≡ text_at at }
+{
+    match at {
+        0 => CREATE_META,
+        1 => CREATE_BODIES,
+        2 => CREATE_PIECES,
+        3 => CREATE_ARRIVALS,
+        4 => CREATE_UPLOADS,
+        5 => CREATE_WANTS,
+        6 => CREATE_ITEMS,
+        7 => CREATE_REFS,
+        8 => CREATE_FILES,
+        9 => CREATE_TEXTS,
+        _ => CREATE_DATES,
+    }
+}
+
+/// Makes the tables of an archive, all of them empty, in a database that has no table.
+pub fn create_tables<S: Alter>(tx: &mut Transaction<'_, S>) -> Result<(), Error>
+    ensures same_reference { tx.new.conn.ghost_name ≡ tx.old.conn.ghost_name }
+    ensures ok { HasCleanDisk (state S.Store tx.new.conn.now) → IsTrue (state S.Store tx.old.conn.now).in_transaction
+        → OnOk result (Creates (state S.Store tx.old.conn.now) (state S.Store tx.new.conn.now)) }
+    ensures err { HasCleanDisk (state S.Store tx.new.conn.now) → IsTrue (state S.Store tx.old.conn.now).in_transaction
+        → OnErr result (KeepsCommit (state S.Store tx.old.conn.now) (state S.Store tx.new.conn.now)) }
+    ensures survives { Survives (state S.Store tx.old.conn.now) (state S.Store tx.new.conn.now) (λ _. ⊥) }
+{
+    for at in 0..11 {
+        tx.execute(create_text(at), &[])?;
+    }
+    Ok(())
+}

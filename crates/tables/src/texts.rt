@@ -1,0 +1,96 @@
+//! The texts of the indices.
+
+ghost use Rattle.std.specs.Prelude.{◌≡◌, find, false, IsTrue, IfOk, OnOk, OnErr};
+ghost use Rattle.sqlite.specs.State.{HasCleanDisk, IsUnchanged, Survives};
+ghost use Rattle.sqlite.specs.Held.{state};
+ghost use Rattle.tables.specs.Rows.{Tables, Holds, Changes, Fails, IsForeign, with_text, text_of, rows_of};
+ghost use Rattle.tables.specs.Texts.{has_path, with_new_text};
+
+use crate::read::{FromRow, bytes_at, select, select_first, text_at};
+use crate::rows::IndexText;
+use sqlite::{Alter, Connection, Error, Row, Transaction, params};
+use std::alloc::Global;
+
+const INSERT_TEXT: &str = "INSERT INTO texts (path, body) VALUES (?1, ?2)";
+
+const SELECT_TEXTS: &str = "SELECT rowid, path, body FROM texts ORDER BY rowid";
+
+const SELECT_TEXT: &str = "SELECT rowid, path, body FROM texts WHERE path = ?1 ORDER BY rowid";
+
+const UPDATE_TEXT: &str = "UPDATE texts SET body = ?2 WHERE path = ?1";
+
+impl FromRow for IndexText {
+    ghost of_row = { text_of };
+
+    fn from_row(row: &Row) -> Result<IndexText, Error> {
+        Ok(IndexText {
+            path: text_at(row, 1)?,
+            body: bytes_at(row, 2)?,
+        })
+    }
+}
+
+/// Adds a text.
+pub fn insert_text<S: Alter>(
+    tx: &mut Transaction<'_, S>,
+    path: &str,
+    body: &[u8],
+) -> Result<(), Error>
+    ensures same_reference { tx.new.conn.ghost_name ≡ tx.old.conn.ghost_name }
+    ensures ok { HasCleanDisk (state S.Store tx.new.conn.now) → IsTrue (state S.Store tx.old.conn.now).in_transaction
+        → OnOk result (Changes (state S.Store tx.old.conn.now) (state S.Store tx.new.conn.now) (with_text (record { path = path.now; body = body.now }))) }
+    ensures err { HasCleanDisk (state S.Store tx.new.conn.now) → IsTrue (state S.Store tx.old.conn.now).in_transaction
+        → OnErr result (Fails (state S.Store tx.old.conn.now) (state S.Store tx.new.conn.now)) }
+    ensures survives { Survives (state S.Store tx.old.conn.now) (state S.Store tx.new.conn.now) (λ _. ⊥) }
+{
+    tx.execute(INSERT_TEXT, params![path, body])?;
+    Ok(())
+}
+
+/// The texts, in the order in which they were added.
+pub fn select_texts<S: Alter>(
+    alloc: Global,
+    conn: &mut Connection<S>,
+) -> Result<Vec<IndexText>, Error>
+    ensures idle { conn.old.in_transaction ≡ false → conn.new.in_transaction ≡ false }
+    ensures ok { HasCleanDisk (state S.Store conn.new) → (t : Tables) → Holds (state S.Store conn.old).now t
+        → IfOk result (λ all. (all.items ≡ rows_of t.texts) × IsUnchanged (state S.Store conn.old) (state S.Store conn.new)) }
+    ensures err { HasCleanDisk (state S.Store conn.new) → (t : Tables) → Holds (state S.Store conn.old).now t
+        → OnErr result (Fails (state S.Store conn.old) (state S.Store conn.new)) }
+    ensures survives { Survives (state S.Store conn.old) (state S.Store conn.new) (λ _. IsForeign (state S.Store conn.old).now) }
+{
+    select(alloc, conn, SELECT_TEXTS, &[])
+}
+
+/// The text of a path.
+pub fn select_text<S: Alter>(
+    alloc: Global,
+    conn: &mut Connection<S>,
+    path: &str,
+) -> Result<Option<IndexText>, Error>
+    ensures idle { conn.old.in_transaction ≡ false → conn.new.in_transaction ≡ false }
+    ensures ok { HasCleanDisk (state S.Store conn.new) → (t : Tables) → Holds (state S.Store conn.old).now t
+        → IfOk result (λ found. (found ≡ find (has_path path.now) (rows_of t.texts)) × IsUnchanged (state S.Store conn.old) (state S.Store conn.new)) }
+    ensures err { HasCleanDisk (state S.Store conn.new) → (t : Tables) → Holds (state S.Store conn.old).now t
+        → OnErr result (Fails (state S.Store conn.old) (state S.Store conn.new)) }
+    ensures survives { Survives (state S.Store conn.old) (state S.Store conn.new) (λ _. IsForeign (state S.Store conn.old).now) }
+{
+    select_first(alloc, conn, SELECT_TEXT, params![path])
+}
+
+/// Replaces the text of a path.
+pub fn update_text<S: Alter>(
+    tx: &mut Transaction<'_, S>,
+    path: &str,
+    body: &[u8],
+) -> Result<(), Error>
+    ensures same_reference { tx.new.conn.ghost_name ≡ tx.old.conn.ghost_name }
+    ensures ok { HasCleanDisk (state S.Store tx.new.conn.now) → IsTrue (state S.Store tx.old.conn.now).in_transaction
+        → OnOk result (Changes (state S.Store tx.old.conn.now) (state S.Store tx.new.conn.now) (with_new_text path.now body.now)) }
+    ensures err { HasCleanDisk (state S.Store tx.new.conn.now) → IsTrue (state S.Store tx.old.conn.now).in_transaction
+        → OnErr result (Fails (state S.Store tx.old.conn.now) (state S.Store tx.new.conn.now)) }
+    ensures survives { Survives (state S.Store tx.old.conn.now) (state S.Store tx.new.conn.now) (λ _. ⊥) }
+{
+    tx.execute(UPDATE_TEXT, params![path, body])?;
+    Ok(())
+}

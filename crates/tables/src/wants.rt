@@ -1,0 +1,150 @@
+//! The entries of the uploads, and whether their bodies have arrived.
+
+ghost use Rattle.std.specs.Prelude.{◌≡◌, filter, false, IsTrue, IfOk, OnOk, OnErr};
+ghost use Rattle.sqlite.specs.State.{HasCleanDisk, IsUnchanged, Survives};
+ghost use Rattle.sqlite.specs.Held.{state};
+ghost use Rattle.tables.specs.Rows.{Tables, Holds, Changes, Fails, IsForeign, with_want, want_of, rows_of};
+ghost use Rattle.tables.specs.Wants.{is_wanted_by, with_here, without_wants};
+
+use crate::cells::{flag_at, print_at};
+use crate::number::whole;
+use crate::read::{FromRow, select, select_inside, text_at, whole_at};
+use crate::rows::Want;
+use sqlite::{Alter, Connection, Error, Row, Transaction, params};
+use std::alloc::Global;
+use sums::Print;
+
+const INSERT_WANT: &str =
+    "INSERT INTO wants (upload, name, size, md5, sha1, sha256, here) VALUES (?1, ?2, ?3, ?4, ?5, ?6, ?7)";
+
+const SELECT_WANTS: &str =
+    "SELECT rowid, upload, name, size, md5, sha1, sha256, here FROM wants ORDER BY rowid";
+
+const SELECT_WANTS_OF: &str =
+    "SELECT rowid, upload, name, size, md5, sha1, sha256, here FROM wants WHERE upload = ?1 ORDER BY rowid";
+
+const UPDATE_HERE: &str =
+    "UPDATE wants SET here = 1 WHERE name = ?1 AND size = ?2 AND md5 = ?3 AND sha1 = ?4 AND sha256 = ?5";
+
+const DELETE_WANTS: &str = "DELETE FROM wants WHERE upload = ?1";
+
+impl FromRow for Want {
+    ghost of_row = { want_of };
+
+    fn from_row(row: &Row) -> Result<Want, Error> {
+        Ok(Want {
+            upload: whole_at(row, 1)?,
+            name: text_at(row, 2)?,
+            print: print_at(row, 3)?,
+            here: flag_at(row, 7)?,
+        })
+    }
+}
+
+/// Adds an entry of an upload.
+pub fn insert_want<S: Alter>(
+    tx: &mut Transaction<'_, S>,
+    upload: u64,
+    name: &str,
+    print: &Print,
+    here: bool,
+) -> Result<(), Error>
+    ensures same_reference { tx.new.conn.ghost_name ≡ tx.old.conn.ghost_name }
+    ensures ok { HasCleanDisk (state S.Store tx.new.conn.now) → IsTrue (state S.Store tx.old.conn.now).in_transaction
+        → OnOk result (Changes (state S.Store tx.old.conn.now) (state S.Store tx.new.conn.now) (with_want (record { upload = upload; name = name.now; print = print.now; here = here }))) }
+    ensures err { HasCleanDisk (state S.Store tx.new.conn.now) → IsTrue (state S.Store tx.old.conn.now).in_transaction
+        → OnErr result (Fails (state S.Store tx.old.conn.now) (state S.Store tx.new.conn.now)) }
+    ensures survives { Survives (state S.Store tx.old.conn.now) (state S.Store tx.new.conn.now) (λ _. ⊥) }
+{
+    let upload = whole(upload)?;
+    let size = whole(print.size)?;
+    let md5: &[u8] = &print.md5;
+    let sha1: &[u8] = &print.sha1;
+    let sha256: &[u8] = &print.sha256;
+    tx.execute(
+        INSERT_WANT,
+        params![upload, name, size, md5, sha1, sha256, here],
+    )?;
+    Ok(())
+}
+
+/// Notes in every upload that a body of a name and a print has arrived.
+pub fn mark_here<S: Alter>(
+    tx: &mut Transaction<'_, S>,
+    name: &str,
+    print: &Print,
+) -> Result<(), Error>
+    ensures same_reference { tx.new.conn.ghost_name ≡ tx.old.conn.ghost_name }
+    ensures ok { HasCleanDisk (state S.Store tx.new.conn.now) → IsTrue (state S.Store tx.old.conn.now).in_transaction
+        → OnOk result (Changes (state S.Store tx.old.conn.now) (state S.Store tx.new.conn.now) (with_here name.now print.now)) }
+    ensures err { HasCleanDisk (state S.Store tx.new.conn.now) → IsTrue (state S.Store tx.old.conn.now).in_transaction
+        → OnErr result (Fails (state S.Store tx.old.conn.now) (state S.Store tx.new.conn.now)) }
+    ensures survives { Survives (state S.Store tx.old.conn.now) (state S.Store tx.new.conn.now) (λ _. ⊥) }
+{
+    let size = whole(print.size)?;
+    let md5: &[u8] = &print.md5;
+    let sha1: &[u8] = &print.sha1;
+    let sha256: &[u8] = &print.sha256;
+    tx.execute(UPDATE_HERE, params![name, size, md5, sha1, sha256])?;
+    Ok(())
+}
+
+/// The entries of an upload, in the order in which they were added.
+pub fn wants_of<S: Alter>(
+    alloc: Global,
+    conn: &mut Connection<S>,
+    upload: u64,
+) -> Result<Vec<Want>, Error>
+    ensures idle { conn.old.in_transaction ≡ false → conn.new.in_transaction ≡ false }
+    ensures ok { HasCleanDisk (state S.Store conn.new) → (t : Tables) → Holds (state S.Store conn.old).now t
+        → IfOk result (λ all. (all.items ≡ filter (is_wanted_by upload) (rows_of t.wants)) × IsUnchanged (state S.Store conn.old) (state S.Store conn.new)) }
+    ensures err { HasCleanDisk (state S.Store conn.new) → (t : Tables) → Holds (state S.Store conn.old).now t
+        → OnErr result (Fails (state S.Store conn.old) (state S.Store conn.new)) }
+    ensures survives { Survives (state S.Store conn.old) (state S.Store conn.new) (λ _. IsForeign (state S.Store conn.old).now) }
+{
+    let upload = whole(upload)?;
+    select(alloc, conn, SELECT_WANTS_OF, params![upload])
+}
+
+/// The entries of an upload, inside a transaction.
+pub fn wants_of_inside<S: Alter>(
+    alloc: Global,
+    tx: &mut Transaction<'_, S>,
+    upload: u64,
+) -> Result<Vec<Want>, Error>
+    ensures same_reference { tx.new.conn.ghost_name ≡ tx.old.conn.ghost_name }
+    ensures ok { HasCleanDisk (state S.Store tx.new.conn.now) → (t : Tables) → Holds (state S.Store tx.old.conn.now).now t
+        → IfOk result (λ all. (all.items ≡ filter (is_wanted_by upload) (rows_of t.wants)) × IsUnchanged (state S.Store tx.old.conn.now) (state S.Store tx.new.conn.now)) }
+    ensures err { HasCleanDisk (state S.Store tx.new.conn.now) → (t : Tables) → Holds (state S.Store tx.old.conn.now).now t
+        → OnErr result (Fails (state S.Store tx.old.conn.now) (state S.Store tx.new.conn.now)) }
+    ensures survives { Survives (state S.Store tx.old.conn.now) (state S.Store tx.new.conn.now) (λ _. ⊥) }
+{
+    let upload = whole(upload)?;
+    select_inside(alloc, tx, SELECT_WANTS_OF, params![upload])
+}
+
+/// Removes the entries of an upload.
+pub fn delete_wants<S: Alter>(tx: &mut Transaction<'_, S>, upload: u64) -> Result<(), Error>
+    ensures same_reference { tx.new.conn.ghost_name ≡ tx.old.conn.ghost_name }
+    ensures ok { HasCleanDisk (state S.Store tx.new.conn.now) → IsTrue (state S.Store tx.old.conn.now).in_transaction
+        → OnOk result (Changes (state S.Store tx.old.conn.now) (state S.Store tx.new.conn.now) (without_wants upload)) }
+    ensures err { HasCleanDisk (state S.Store tx.new.conn.now) → IsTrue (state S.Store tx.old.conn.now).in_transaction
+        → OnErr result (Fails (state S.Store tx.old.conn.now) (state S.Store tx.new.conn.now)) }
+    ensures survives { Survives (state S.Store tx.old.conn.now) (state S.Store tx.new.conn.now) (λ _. ⊥) }
+{
+    let upload = whole(upload)?;
+    tx.execute(DELETE_WANTS, params![upload])?;
+    Ok(())
+}
+
+/// The entries, in the order in which they were added.
+pub fn select_wants<S: Alter>(alloc: Global, conn: &mut Connection<S>) -> Result<Vec<Want>, Error>
+    ensures idle { conn.old.in_transaction ≡ false → conn.new.in_transaction ≡ false }
+    ensures ok { HasCleanDisk (state S.Store conn.new) → (t : Tables) → Holds (state S.Store conn.old).now t
+        → IfOk result (λ all. (all.items ≡ rows_of t.wants) × IsUnchanged (state S.Store conn.old) (state S.Store conn.new)) }
+    ensures err { HasCleanDisk (state S.Store conn.new) → (t : Tables) → Holds (state S.Store conn.old).now t
+        → OnErr result (Fails (state S.Store conn.old) (state S.Store conn.new)) }
+    ensures survives { Survives (state S.Store conn.old) (state S.Store conn.new) (λ _. IsForeign (state S.Store conn.old).now) }
+{
+    select(alloc, conn, SELECT_WANTS, &[])
+}
