@@ -6,7 +6,7 @@ ghost use Rattle.sums.specs.Prints.{print as print_of_body};
 use para::{Listed, Text};
 use std::alloc::{AllocError, Global};
 use std::marker::Model;
-use sums::{Print, print_of};
+use sums::Print;
 
 /// A body, with its print at hand.
 #[derive(Drop)]
@@ -27,13 +27,14 @@ impl Model for Body {
 }
 
 impl Body {
-    /// A copy of these bytes, with their print.
-    pub fn new(alloc: Global, bytes: &[u8]) -> Result<Body, AllocError>
+    /// A copy of these bytes, whose print this is.
+    pub fn new(alloc: Global, bytes: &[u8], print: Print) -> Result<Body, AllocError>
+        requires { print ≡ print_of_body bytes.now }
         ensures { IfOk result (λ body. body ≡ bytes.now) }
     {
         Ok(Body {
             bytes: Listed::from_vec(Vec::from_slice(alloc, bytes)?),
-            print: print_of(bytes),
+            print,
         })
     }
 

@@ -88,7 +88,7 @@ impl Keeper for PlainKeeper {
         }
         self.arrivals.push(Arrival {
             name: Text::new(alloc, name)?,
-            body: Body::new(alloc, body)?,
+            body: Body::new(alloc, body, print)?,
             moment,
         })?;
         Ok(true)
