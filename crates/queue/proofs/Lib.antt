@@ -33,3 +33,4 @@ pub mod RenewedTexts
 pub mod ReadLemmas
 pub mod RenewedSteps
 pub mod Renewed
+pub mod Reopening

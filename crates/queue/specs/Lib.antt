@@ -8,3 +8,4 @@ pub mod Answers
 pub mod Commands
 pub mod Judging
 pub mod Renewal
+pub mod Openings

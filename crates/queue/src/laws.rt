@@ -1,12 +1,31 @@
-//! A law of histories.
+//! Laws of histories.
 
-ghost use Rattle.std.specs.Prelude.{◌≤◌, ℕ, List};
+ghost use Rattle.std.specs.Prelude.{◌≤◌, ℕ, List, []};
+ghost use Rattle.keep.specs.Book.{Book};
+ghost use Rattle.queue.specs.Archives.{book_of, Stands};
+ghost use Rattle.queue.specs.Histories.{Call, History};
+ghost use Rattle.queue.specs.Openings.{HasItsFiles};
 ghost use Rattle.rules.specs.Values.{ConfigValue};
+ghost use Rattle.std.specs.FinMap.{values};
+ghost use Rattle.suites.specs.Pool.{AreAgreed, files_of};
 ghost use Rattle.keep.specs.Plain.{fresh_book};
-ghost use Rattle.queue.specs.Answers.{IsOpening};
+ghost use Rattle.queue.specs.Answers.{IsFaithful, IsOpening};
 
 /// A history may open with the book of an archive in which nothing is yet, as the plain keeper makes it: that book is the
 /// one of its own plain archive, and stands for the history without calls.
 pub fn nothing_is_an_opening()
     ensures { (config : ConfigValue) (moment : ℕ) (bodies : List (List ℕ)) → IsOpening bodies (fresh_book config moment) }
+{}
+
+/// A book whose files are those of its pool, each a body of the print that is shown, stands for the history that opens with
+/// it.
+pub fn a_book_opens_its_history()
+    ensures { (book : Book) → HasItsFiles book → Stands book (record { opening = book; steps = [] }) }
+{}
+
+/// Where the promise holds for calls behind a history, it holds for them behind the book that the history leaves, as a
+/// keeper has it that was opened again: what is shown there agrees on the contents at each path.
+pub fn a_history_goes_on_from_its_book()
+    ensures { (h : History) (calls : List Call) → AreAgreed (files_of (values (book_of h).shown)) → IsFaithful h calls
+        → IsFaithful (record { opening = book_of h; steps = [] }) calls }
 {}

@@ -15,4 +15,4 @@ mod run;
 pub use archive::Archive;
 pub use command::{Arrived, Command, Outcome, Report};
 pub use fault::Fault;
-pub use laws::nothing_is_an_opening;
+pub use laws::{a_book_opens_its_history, a_history_goes_on_from_its_book, nothing_is_an_opening};

@@ -33,3 +33,9 @@ pub mod UploadsMeaning
 pub mod UploadsLemmas
 pub mod WantsMeaning
 pub mod WantsLemmas
+pub mod ItemsMeaning
+pub mod ItemsLemmas
+pub mod RefsMeaning
+pub mod RefsLemmas
+pub mod FilesMeaning
+pub mod FilesLemmas

@@ -9,3 +9,6 @@ pub mod Pieces
 pub mod Arrivals
 pub mod Uploads
 pub mod Wants
+pub mod Items
+pub mod Refs
+pub mod Files

@@ -5,11 +5,16 @@ pub mod arrivals;
 pub mod bodies;
 mod cells;
 pub mod dates;
+pub mod files;
+#[cfg(test)]
+mod item_tests;
+pub mod items;
 pub mod laws;
 pub mod meta;
 mod number;
 pub mod pieces;
 mod read;
+pub mod refs;
 pub mod rows;
 pub mod schema;
 #[cfg(test)]

@@ -1,0 +1,70 @@
+-- What the statements on refs do.
+use Rattle.std.proofs.Common.{◌≡◌, ℕ, pos, [], ◌∷◌, Ok, Err, Result, OnOk, refl, true, List, filter}
+use Rattle.sqlite.specs.Table.{Table}
+use Rattle.sqlite.specs.declared.types.Value.TheVariants.{Null}
+use Rattle.sqlite.specs.Cast.{cast_row}
+use Rattle.sqlite.specs.declared.error.Error.{Error}
+use Rattle.sqlite.specs.State.{State, ExecutesInside, IsUnchanged}
+use Rattle.sqlite_typed.proofs.TestLemmas.{last_term}
+use Rattle.sqlite_typed.proofs.AnswerLemmas.{unfiltered}
+use Rattle.tables.specs.Reading.{IsRead}
+use Rattle.tables.proofs.CastLemmas.{cast_null, cast_int}
+use Rattle.tables.proofs.EqualLemmas.{whole_test}
+use Rattle.tables.proofs.InsertLemmas.{puts}
+use Rattle.tables.proofs.AddLemmas.{adds_row}
+use Rattle.tables.proofs.ShownLemmas.{Shows, reads_stored}
+use Rattle.tables.specs.Schema.{archive_schema, refs}
+use Rattle.tables.specs.Rows.{whole, Tables, Holds, Changes, with_ref, ref_cells, ref_of, stored, rows_of}
+use Rattle.tables.specs.Refs.{is_ref_of, without_refs}
+use Rattle.tables.specs.declared.rows.Ref.{Ref}
+use Rattle.tables.specs.declared.refs.TheConstants.{INSERT_REF, SELECT_REFS, SELECT_REFS_OF, DELETE_REFS}
+use Rattle.tables.proofs.RefsMeaning.{insert_ref_terms, insert_ref_is, insert_ref_plain, ref_columns, ref_item_is, select_refs_is, select_refs_plain, select_refs_of_is, select_refs_of_plain, delete_refs_columns, delete_refs_is, delete_refs_plain}
+use Rattle.tables.proofs.HoldsLemmas.{with_refs}
+use Rattle.tables.proofs.UpdateLemmas.{deletes, deletes_rows}
+
+abbrev refs_table : Table
+refs_table = record refs { tree = 15 }
+
+ref_cast : (x : Ref) → cast_row refs_table (Null ∷ ref_cells x) ≡ Null ∷ ref_cells x
+ref_cast x = rw (cast_null, cast_int (pos x.item), cast_int (pos x.number), cast_int (pos x.print.size))
+
+pub inserts_ref : (old new : State) (x : Ref) (r : Result ℕ Error) → ExecutesInside 0 INSERT_REF.now (ref_cells x) old new r
+    → OnOk r (Changes old new (with_ref x))
+inserts_ref old new x (Ok count) h = record {
+  held = λ t was.
+      let put = puts archive_schema INSERT_REF.now 7 insert_ref_terms 8 insert_ref_is insert_ref_plain _ _ _ _ _ _ 15 refl (λ _. refl)
+      old new (ref_cells x) (Null ∷ ref_cells x) count refl was.schema h.0 in
+      record { schema = put.schema_is; rows = with_refs old.now.trees new.now.trees t was.rows _ (adds_row ref_cells refs_table _ x (ref_cast x) old new put t.refs was.rows.refs) put.others };
+  shown = h.1;
+}
+inserts_ref old new x (Err e) h = tt
+
+refs_show : Shows ref_cells 15 [] ref_columns [] (λ _. true) (stored ref_cells) SELECT_REFS.now
+refs_show = record { names = _; is = select_refs_is.0; plain = select_refs_plain; unlisted = select_refs_is.1; tests = λ _. refl; shows = λ _. refl; real = λ _. refl }
+
+pub refs_answer : (old new : State) (t : Tables) (all : List Ref) → Holds old.now t → IsRead ref_of SELECT_REFS.now [] old new all
+    → (all ≡ rows_of t.refs) × IsUnchanged old new
+refs_answer old new t all was h =
+    let done = reads_stored ref_cells 15 [] ref_columns [] SELECT_REFS.now old new t.refs was.schema was.rows.refs (λ _. true) ref_of (λ _. refl) refs_show all h in
+    (unfiltered (rows_of t.refs) done.0, done.1)
+
+refs_of_show : (item : ℕ) → Shows ref_cells 15 ref_item_is ref_columns (whole item ∷ []) (λ x. is_ref_of item x.1) (stored ref_cells) SELECT_REFS_OF.now
+refs_of_show item = record { names = _; is = select_refs_of_is.0; plain = select_refs_of_plain; unlisted = select_refs_of_is.1; tests = λ x. last_term (whole_test x.1.item item); shows = λ _. refl; real = λ _. refl }
+
+pub refs_of_answer : (old new : State) (t : Tables) (item : ℕ) (all : List Ref) → Holds old.now t → IsRead ref_of SELECT_REFS_OF.now (whole item ∷ []) old new all
+    → (all ≡ filter (is_ref_of item) (rows_of t.refs)) × IsUnchanged old new
+refs_of_answer old new t item all was h =
+    reads_stored ref_cells 15 ref_item_is ref_columns (whole item ∷ []) SELECT_REFS_OF.now old new t.refs was.schema was.rows.refs (is_ref_of item) ref_of (λ _. refl) (refs_of_show item) all h
+
+pub removes_refs : (old new : State) (item : ℕ) (r : Result ℕ Error) → ExecutesInside 0 DELETE_REFS.now (whole item ∷ []) old new r → OnOk r (Changes old new (without_refs item))
+removes_refs old new item (Ok count) h = record {
+  held = λ t was.
+      let params = whole item ∷ [] in
+      let did = deletes DELETE_REFS.now 7 _ delete_refs_plain refs_table refl delete_refs_is old new params count was.schema h.0 in
+      let now = deletes_rows ref_cells 15 ref_item_is delete_refs_columns params (λ x. is_ref_of item x.1) (λ x. whole x.0 ∷ [])
+      (λ x. last_term (whole_test x.1.item item)) (λ _. refl) (λ _. refl) (λ _. refl)
+      old new t.refs was.rows.refs did.0 did.1 did.2 in
+      record { schema = did.2.schema_is; rows = with_refs old.now.trees new.now.trees t was.rows _ now did.2.others };
+  shown = h.1;
+}
+removes_refs old new item (Err e) h = tt
