@@ -3,8 +3,6 @@
 mod commands;
 mod copies;
 mod fixtures;
-mod many;
-mod packages;
 mod program;
 mod sources;
 mod stories;
