@@ -3,6 +3,8 @@
 mod commands;
 mod copies;
 mod fixtures;
+mod many;
+mod packages;
 mod program;
 mod sources;
 mod stories;
