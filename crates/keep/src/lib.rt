@@ -16,4 +16,4 @@ pub use change::{Change, IndexText, Judgement, Step, Waiting};
 pub use fault::KeepFault;
 pub use keeper::{Keeper, LATEST};
 pub use plain::PlainKeeper;
-pub use steps::some_changes_suite;
+pub use steps::{copied_judgements, dates_after, judged_after, some_changes_suite};

@@ -16,6 +16,7 @@ mod upload;
 mod upload_plan;
 mod verdict;
 
+pub use admission::plan_admission;
 pub use copy_plan::plan_copy;
 pub use item::{Item, PoolFile};
 pub use key::{Kind, ShelfKey};

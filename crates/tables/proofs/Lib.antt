@@ -14,6 +14,7 @@ pub mod TransactionLemmas
 pub mod CreatingLemmas
 pub mod EqualLemmas
 pub mod ReadLemmas
+pub mod InsideLemmas
 pub mod SelectLemmas
 pub mod TextsMeaning
 pub mod TextsLemmas
@@ -39,3 +40,4 @@ pub mod RefsMeaning
 pub mod RefsLemmas
 pub mod FilesMeaning
 pub mod FilesLemmas
+pub mod ServingMeaning

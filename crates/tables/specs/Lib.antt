@@ -12,3 +12,4 @@ pub mod Wants
 pub mod Items
 pub mod Refs
 pub mod Files
+pub mod Inside

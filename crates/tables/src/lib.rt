@@ -17,6 +17,7 @@ mod read;
 pub mod refs;
 pub mod rows;
 pub mod schema;
+pub mod serving;
 #[cfg(test)]
 mod tests;
 pub mod texts;

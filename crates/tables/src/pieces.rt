@@ -1,13 +1,14 @@
 //! The bytes of the bodies, in pieces.
 
 ghost use Rattle.std.specs.Prelude.{◌≡◌, filter, false, IsTrue, IfOk, OnOk, OnErr};
-ghost use Rattle.sqlite.specs.State.{HasCleanDisk, IsUnchanged, Survives};
+ghost use Rattle.sqlite.specs.State.{HasCleanDisk, IsUnchanged, KeepsCommit, Survives};
 ghost use Rattle.sqlite.specs.Held.{state};
+ghost use Rattle.tables.specs.Inside.{GoesOn};
 ghost use Rattle.tables.specs.Rows.{Tables, Holds, Changes, Fails, IsForeign, with_piece, piece_of, rows_of};
 ghost use Rattle.tables.specs.Pieces.{is_of};
 
 use crate::number::whole;
-use crate::read::{FromRow, bytes_at, select, whole_at};
+use crate::read::{FromRow, bytes_at, select, select_inside, whole_at};
 use crate::rows::Piece;
 use sqlite::{Alter, Connection, Error, Row, Transaction, params};
 use std::alloc::Global;
@@ -64,4 +65,25 @@ pub fn pieces_of<S: Alter>(
 {
     let body = whole(body)?;
     select(alloc, conn, SELECT_PIECES_OF, params![body])
+}
+
+/// The pieces of a body, in the order in which they were added, inside a transaction.
+pub fn pieces_of_inside<S: Alter>(
+    alloc: Global,
+    tx: &mut Transaction<'_, S>,
+    body: u64,
+) -> Result<Vec<Piece>, Error>
+    ensures same_reference { tx.new.conn.ghost_name ≡ tx.old.conn.ghost_name }
+    ensures ok { HasCleanDisk (state S.Store tx.new.conn.now) → (t : Tables) → Holds (state S.Store tx.old.conn.now).now t
+        → IfOk result (λ all. (all.items ≡ filter (is_of body) (rows_of t.pieces)) × IsUnchanged (state S.Store tx.old.conn.now) (state S.Store tx.new.conn.now)) }
+    ensures err { HasCleanDisk (state S.Store tx.new.conn.now) → (t : Tables) → Holds (state S.Store tx.old.conn.now).now t
+        → OnErr result (Fails (state S.Store tx.old.conn.now) (state S.Store tx.new.conn.now)) }
+    ensures goes_on { HasCleanDisk (state S.Store tx.new.conn.now) → IsTrue (state S.Store tx.old.conn.now).in_transaction
+        → OnOk result (GoesOn (state S.Store tx.old.conn.now) (state S.Store tx.new.conn.now)) }
+    ensures kept { HasCleanDisk (state S.Store tx.new.conn.now) → IsTrue (state S.Store tx.old.conn.now).in_transaction
+        → OnErr result (KeepsCommit (state S.Store tx.old.conn.now) (state S.Store tx.new.conn.now)) }
+    ensures survives { Survives (state S.Store tx.old.conn.now) (state S.Store tx.new.conn.now) (λ _. ⊥) }
+{
+    let body = whole(body)?;
+    select_inside(alloc, tx, SELECT_PIECES_OF, params![body])
 }

@@ -1,11 +1,12 @@
 //! Rows of an answer as typed rows.
 
-ghost use Rattle.std.specs.Prelude.{◌≡◌, List, map, slice_get, false, IfOk, OnErr};
+ghost use Rattle.std.specs.Prelude.{◌≡◌, List, map, slice_get, false, IfOk, OnErr, IsTrue, OnOk};
 ghost use Rattle.sqlite.specs.declared.types.Value.{Value as SqlValue};
 ghost use Rattle.sqlite.specs.Order.{column, bytes};
-ghost use Rattle.sqlite.specs.State.{HasCleanDisk, Survives};
+ghost use Rattle.sqlite.specs.State.{HasCleanDisk, Survives, KeepsCommit};
 ghost use Rattle.sqlite.specs.Values.{bound};
 ghost use Rattle.sqlite.specs.Held.{state};
+ghost use Rattle.tables.specs.Inside.{GoesOn};
 ghost use Rattle.tables.specs.Rows.{nat_of, Fails};
 ghost use Rattle.tables.specs.Reading.{IsPlainIn, IsRead, IsReadFirst};
 
@@ -94,6 +95,10 @@ pub(crate) fn select_inside<S: Alter, T: FromRow>(
         → IfOk result (λ all. IsRead T.FromRow.of_row sql.now (bound params.now) (state S.Store tx.old.conn.now) (state S.Store tx.new.conn.now) all.items) }
     ensures err { HasCleanDisk (state S.Store tx.new.conn.now) → IsPlainIn (state S.Store tx.old.conn.now) sql.now
         → OnErr result (Fails (state S.Store tx.old.conn.now) (state S.Store tx.new.conn.now)) }
+    ensures goes_on { HasCleanDisk (state S.Store tx.new.conn.now) → IsTrue (state S.Store tx.old.conn.now).in_transaction
+        → OnOk result (GoesOn (state S.Store tx.old.conn.now) (state S.Store tx.new.conn.now)) }
+    ensures kept { HasCleanDisk (state S.Store tx.new.conn.now) → IsTrue (state S.Store tx.old.conn.now).in_transaction
+        → OnErr result (KeepsCommit (state S.Store tx.old.conn.now) (state S.Store tx.new.conn.now)) }
     ensures survives { Survives (state S.Store tx.old.conn.now) (state S.Store tx.new.conn.now) (λ _. ⊥) }
 {
     let rows = tx.query_all(sql, params)?;
@@ -135,6 +140,10 @@ pub(crate) fn select_first_inside<S: Alter, T: FromRow>(
         → IfOk result (IsReadFirst T.FromRow.of_row sql.now (bound params.now) (state S.Store tx.old.conn.now) (state S.Store tx.new.conn.now)) }
     ensures err { HasCleanDisk (state S.Store tx.new.conn.now) → IsPlainIn (state S.Store tx.old.conn.now) sql.now
         → OnErr result (Fails (state S.Store tx.old.conn.now) (state S.Store tx.new.conn.now)) }
+    ensures goes_on { HasCleanDisk (state S.Store tx.new.conn.now) → IsTrue (state S.Store tx.old.conn.now).in_transaction
+        → OnOk result (GoesOn (state S.Store tx.old.conn.now) (state S.Store tx.new.conn.now)) }
+    ensures kept { HasCleanDisk (state S.Store tx.new.conn.now) → IsTrue (state S.Store tx.old.conn.now).in_transaction
+        → OnErr result (KeepsCommit (state S.Store tx.old.conn.now) (state S.Store tx.new.conn.now)) }
     ensures survives { Survives (state S.Store tx.old.conn.now) (state S.Store tx.new.conn.now) (λ _. ⊥) }
 {
     Ok(first(select_inside(alloc, tx, sql, params)?))

@@ -1,0 +1,41 @@
+use Rattle.std.proofs.Common.{rules, ◌≡◌, [], length, replicate, sym, ap, subst, ◌∙◌, IsTrue}
+use Rattle.std.proofs.lemmas.List.Elements.{All-replicate}
+use Rattle.std.specs.Prelude.{All, ◌≤◌}
+use Rattle.sqlite.specs.Held.{state}
+use Rattle.sqlite.specs.State.{HasCleanDisk}
+use Rattle.tables.specs.Schema.{no_schema}
+use Rattle.tables.specs.Rows.{Holds, tables_in}
+use Rattle.keep_tables.specs.Archives.{KeepsArchive, book_of}
+use Rattle.keep_tables.specs.Founding.{first_dates, founded}
+use Rattle.keep_tables.specs.Shown.{shown_in}
+use Rattle.keep_tables.proofs.CallLemmas.{kept_here}
+use Rattle.keep_tables.proofs.MakeLemmas.{founded_archive, founded_here}
+use Rattle.keep_tables.proofs.keeper.TableKeeper.create.Goals as goal
+
+pub invariant_of-result : goal.invariant_of-result
+invariant_of-result g c =
+    let db = (state g.S.Store c.create.new.conn).committed in
+    let config = c.args.config in
+    let free : (state g.S.Store c.args.connection).now.schema ≡ no_schema = search rules in
+    let dates : c.in-Ok.dates.items ≡ first_dates config c.args.moment =
+    c.in-Ok.ensures.items_if_clones_equal (λ y e. e) ∙ ap (λ suites. replicate (length suites) c.args.moment) c.suites.ensures in (
+    record {
+      idle = c.in-Ok-create.ensures.idle;
+      in_range = ∣ subst (All (λ d. d ≤ 4102444799)) (sym dates) (All-replicate (λ d. d ≤ 4102444799) (length config.suites) c.args.moment c.requires) ∣₁;
+      kept = λ clean up.
+          let made = c.in-Ok-create.ensures.done clean in
+          let archive = founded_archive db config c.args.moment c.text.ensures.read c.requires (made.held free) in
+          ∣ subst (λ j. KeepsArchive db config j (shown_in config.suites (tables_in db)) c.in-Ok.dates.items) (sym c.new.ensures.items)
+          (subst (λ d. KeepsArchive db config [] (shown_in config.suites (tables_in db)) d) (sym dates) (kept_here db archive)) ∣₁;
+    }
+    )
+
+pub returns-in-Ok-create-clause-made : goal.returns-in-Ok-create-clause-made
+returns-in-Ok-create-clause-made g c clean =
+    let db = (state g.S.Store c.create.new.conn).committed in
+    let config = c.args.config in
+    let free : (state g.S.Store c.args.connection).now.schema ≡ no_schema = search rules in
+    let dates : c.in-Ok.dates.items ≡ first_dates config c.args.moment =
+    c.in-Ok.ensures.items_if_clones_equal (λ y e. e) ∙ ap (λ suites. replicate (length suites) c.args.moment) c.suites.ensures in
+    let made = c.in-Ok-create.ensures.done clean in
+    (made.is_open, (λ i. book_of db config (c.new.ensures.items i) (shown_in config.suites (tables_in db)) (dates i)) ∙ founded_here db config c.args.moment c.text.ensures.read c.requires (made.held free))

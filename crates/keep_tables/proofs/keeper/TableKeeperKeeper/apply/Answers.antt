@@ -1,0 +1,77 @@
+use Rattle.std.proofs.Common.{◌≡◌, ◌++◌, inl, inr, sym, ap, subst, ◌∙◌, arith}
+use Rattle.std.proofs.Math.Logic.{∥∥₁_elim, ∥∥₁_map}
+use Rattle.sqlite.specs.Held.{state}
+use Rattle.sqlite.specs.State.{HasCleanDisk}
+use Rattle.keep.specs.Book.{dates_past, judgements}
+use Rattle.tables.specs.Rows.{tables_in}
+use Rattle.keep_tables.specs.Archives.{KeepsArchive, book_of}
+use Rattle.keep_tables.specs.KeeperLemmas.{book_set}
+use Rattle.keep_tables.specs.Shown.{shown_in}
+use Rattle.keep_tables.proofs.CallLemmas.{kept_here, done_book, done_left}
+use Rattle.keep_tables.proofs.keeper.TableKeeperKeeper.apply.Goals as goal
+
+pub invariant_of-self-in-Ok : goal.invariant_of-self-in-Ok
+invariant_of-self-in-Ok g c =
+    let old = state g.S.Store c.args.self.now.conn in
+    let new = state g.S.Store c.make_change.new.conn in
+    let config = c.args.self.now.config in
+    let steps = c.args.change.now.steps in
+    let judged : c.in_ok-judged.judged.items ≡ c.args.self.now.judged.items ++ judgements steps =
+    c.in_ok-judged.ensures ∙ (λ i. c.deref.ensures.value i ++ judgements (c.as_slice-steps.ensures i)) in
+    let dates : c.in_ok-dates.dates.items ≡ dates_past c.args.change.now.moment c.args.self.now.dates.items steps =
+    c.in_ok-dates.ensures.after ∙ (λ i. dates_past c.args.change.now.moment (c.deref-2.ensures.value i) (c.as_slice-steps.ensures i)) in (
+    record {
+      idle = c.make_change.ensures.idle;
+      in_range = ∣ c.in_ok-dates.ensures.in_range ∣₁;
+      kept = λ clean up.
+          let early : HasCleanDisk old = omega (arith, c.make_change.ensures.crash.clean, clean) in
+          let was_open = (c.in-Ok.ensures.open clean).0 in
+          ∥∥₁_map (c.args.self.now.kept early was_open) (λ was.
+          let turn = c.in-Ok.ensures.done clean _ _ _ was (sym (c.len.ensures ∙ c.args.self.now.judged.ok.0)) (c.requires.sound early was_open) in
+          subst (λ j. KeepsArchive new.committed config j (shown_in config.suites (tables_in new.committed)) c.in_ok-dates.dates.items) (sym judged)
+          (subst (λ d. KeepsArchive new.committed config (c.args.self.now.judged.items ++ judgements steps) (shown_in config.suites (tables_in new.committed)) d) (sym dates)
+          (kept_here new.committed turn.kept)));
+    }
+    )
+
+pub returns-in-Ok-clause-ok : goal.returns-in-Ok-clause-ok
+returns-in-Ok-clause-ok g c clean bodies apart has =
+    let old = state g.S.Store c.args.self.now.conn in
+    let new = state g.S.Store c.make_change.new.conn in
+    let config = c.args.self.now.config in
+    let steps = c.args.change.now.steps in
+    let judged : c.in_ok-judged.judged.items ≡ c.args.self.now.judged.items ++ judgements steps =
+    c.in_ok-judged.ensures ∙ (λ i. c.deref.ensures.value i ++ judgements (c.as_slice-steps.ensures i)) in
+    let dates : c.in_ok-dates.dates.items ≡ dates_past c.args.change.now.moment c.args.self.now.dates.items steps =
+    c.in_ok-dates.ensures.after ∙ (λ i. dates_past c.args.change.now.moment (c.deref-2.ensures.value i) (c.as_slice-steps.ensures i)) in
+    let early : HasCleanDisk old = omega (arith, c.make_change.ensures.crash.clean, clean) in
+    let was_open = (c.in-Ok.ensures.open clean).0 in
+    ∥∥₁_elim (c.args.self.now.kept early was_open) (book_set _ _) (λ was.
+    (λ i. book_of new.committed config (judged i) (shown_in config.suites (tables_in new.committed)) (dates i))
+    ∙ done_book old.committed new.committed (c.in-Ok.ensures.done clean _ _ _ was (sym (c.len.ensures ∙ c.args.self.now.judged.ok.0)) (c.requires.sound early was_open)))
+
+pub returns-in-Ok-clause-crash : goal.returns-in-Ok-clause-crash
+returns-in-Ok-clause-crash g c clean left might =
+    let old = state g.S.Store c.args.self.now.conn in
+    let early : HasCleanDisk old = omega (arith, c.make_change.ensures.crash.clean, clean) in
+    elim (c.make_change.ensures.crash.crash clean might.0.trees might.1) [
+      | inl before ↦ inl (might.0, before, might.2)
+      | inr new ↦ inr (
+        new.2,
+        λ bodies apart has. ∥∥₁_elim (c.args.self.now.kept early new.2) (book_set _ _) (λ was.
+            done_left old.committed might.0 new.0 new.1 might.2 (new.3 _ _ _ was (sym (c.len.ensures ∙ c.args.self.now.judged.ok.0)) (c.requires.sound early new.2))),
+      )
+    ]
+
+pub returns-in-Err-clause-crash : goal.returns-in-Err-clause-crash
+returns-in-Err-clause-crash g c clean left might =
+    let old = state g.S.Store c.args.self.now.conn in
+    let early : HasCleanDisk old = omega (arith, c.make_change.ensures.crash.clean, clean) in
+    elim (c.make_change.ensures.crash.crash clean might.0.trees might.1) [
+      | inl before ↦ inl (might.0, before, might.2)
+      | inr new ↦ inr (
+        new.2,
+        λ bodies apart has. ∥∥₁_elim (c.args.self.now.kept early new.2) (book_set _ _) (λ was.
+            done_left old.committed might.0 new.0 new.1 might.2 (new.3 _ _ _ was (sym (c.len.ensures ∙ c.args.self.now.judged.ok.0)) (c.requires.sound early new.2))),
+      )
+    ]

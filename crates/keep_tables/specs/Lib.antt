@@ -1,0 +1,14 @@
+pub mod Kept
+pub mod Making
+pub mod Amending
+pub mod Changing
+pub mod Founding
+pub mod Opening
+pub mod Transactions
+pub mod Planned
+pub mod Reads
+pub mod Shown
+pub mod Archives
+pub mod Taking
+pub mod OneBook
+pub mod KeeperLemmas

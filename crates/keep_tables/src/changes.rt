@@ -1,0 +1,95 @@
+//! A change of an archive: one that would put an item into no suite is refused.
+
+ghost use Rattle.std.specs.Prelude.{◌≡◌, ◌≤◌, ◌++◌, ℕ, List, length, false, IsTrue, OnOk, OnErr};
+ghost use Rattle.std.specs.List.{list_all};
+ghost use Rattle.sqlite.specs.Effect.{Database};
+ghost use Rattle.sqlite.specs.Held.{state};
+ghost use Rattle.sqlite.specs.State.{HasCleanDisk, Survives};
+ghost use Rattle.keep.specs.Book.{amended, dates_past, judgements, latest, shown_past};
+ghost use Rattle.keep.specs.Keeping.{IsSound};
+ghost use Rattle.keep.specs.declared.change.Judgement.{Judgement};
+ghost use Rattle.suites.specs.Shelves.{ShelvesValue};
+ghost use Rattle.keep_tables.specs.Archives.{KeepsArchive, Turns, book_of};
+ghost use Rattle.keep_tables.specs.Changing.{is_within, puts_within};
+ghost use Rattle.keep_tables.specs.Transactions.{IsUndone};
+
+use crate::amend::amend;
+use keep::{Change, Step};
+use rules::Config;
+use sqlite::{Alter, Connection, Error, ErrorCode};
+use std::alloc::Global;
+use suites::{Item, ShelfKey};
+
+/// Whether an item stands in one of so many suites.
+#[tactic(auto, unfolding(crate::specs::Changing::is_within))]
+fn is_inside(entry: &(ShelfKey, Item), suites: usize) -> bool
+    ensures { result ≡ is_within suites entry.now }
+{
+    entry.0.suite < suites
+}
+
+/// Whether each of these items stands in one of so many suites.
+fn are_inside(entries: &[(ShelfKey, Item)], suites: usize) -> bool
+    ensures { result ≡ list_all (is_within suites) entries.now }
+{
+    for entry in entries {
+        if !is_inside(entry, suites) {
+            return false;
+        }
+    }
+    true
+}
+
+/// Whether each item that a step puts stands in one of so many suites.
+#[tactic(auto, unfolding(crate::specs::Changing::puts_within))]
+fn puts_inside(step: &Step, suites: usize) -> bool
+    ensures { result ≡ puts_within suites step.now }
+{
+    are_inside(step.plan.put.as_slice(), suites)
+}
+
+/// Whether each item that these steps put stands in one of so many suites.
+fn stands_inside(steps: &[Step], suites: usize) -> bool
+    ensures { result ≡ list_all (puts_within suites) steps.now }
+{
+    for step in steps {
+        if !puts_inside(step, suites) {
+            return false;
+        }
+    }
+    true
+}
+
+/// Makes a change after so many judgements, whole or not at all, also over a crash. It is refused where it would put an item
+/// into no suite of the configuration, or a file into the pool that has no body.
+pub(crate) fn make_change<S: Alter>(
+    alloc: Global,
+    conn: &mut Connection<S>,
+    config: &Config,
+    judged: usize,
+    change: &Change,
+) -> Result<(), Error>
+    requires idle { conn.old.in_transaction ≡ false }
+    requires in_time { change.now.moment ≤ latest }
+    ensures idle { conn.new.in_transaction ≡ false }
+    ensures open { HasCleanDisk (state S.Store conn.new) → OnOk result (IsTrue (state S.Store conn.old).is_open × IsTrue (state S.Store conn.new).is_open) }
+    ensures done { HasCleanDisk (state S.Store conn.new) → (before : List Judgement) (shown : ShelvesValue) (dates : List ℕ)
+        → KeepsArchive (state S.Store conn.old).committed config.now before shown dates → length before ≡ judged
+        → IsSound (book_of (state S.Store conn.old).committed config.now before shown dates) change.now
+        → OnOk result (Turns (state S.Store conn.old).committed (state S.Store conn.new).committed config.now before shown dates
+        (before ++ judgements change.now.steps) (shown_past shown change.now.steps) (dates_past change.now.moment dates change.now.steps) (λ b. amended b change.now)) }
+    ensures undone { HasCleanDisk (state S.Store conn.new) → OnErr result (IsUndone (state S.Store conn.old) (state S.Store conn.new)) }
+    ensures crash { Survives (state S.Store conn.old) (state S.Store conn.new) (λ trees. (db : Database) × (trees ≡ db.trees) × IsTrue (state S.Store conn.old).is_open
+        × ((before : List Judgement) (shown : ShelvesValue) (dates : List ℕ)
+        → KeepsArchive (state S.Store conn.old).committed config.now before shown dates → length before ≡ judged
+        → IsSound (book_of (state S.Store conn.old).committed config.now before shown dates) change.now
+        → Turns (state S.Store conn.old).committed db config.now before shown dates
+        (before ++ judgements change.now.steps) (shown_past shown change.now.steps) (dates_past change.now.moment dates change.now.steps) (λ b. amended b change.now))) }
+{
+    let _idle = conn.is_autocommit();
+    let inside = stands_inside(change.steps.as_slice(), config.suites().len());
+    if !inside {
+        return Err(Error::SqliteFailure(ErrorCode::DatabaseCorrupt));
+    }
+    amend(alloc, conn, config, judged as u64, change)
+}

@@ -1,0 +1,203 @@
+//! The keeper over the tables of a database.
+
+ghost use Rattle.std.specs.Prelude.{◌≡◌, ◌≤◌, All, false, IsTrue};
+ghost use Rattle.sqlite.specs.Held.{state};
+ghost use Rattle.sqlite.specs.State.{HasCleanDisk};
+ghost use Rattle.tables.specs.Rows.{tables_in};
+ghost use Rattle.keep_tables.specs.Archives.{KeepsArchive};
+ghost use Rattle.keep_tables.specs.Shown.{shown_in};
+
+use crate::calls::take_delivery;
+use crate::changes::make_change;
+use crate::create::{create, is_without_tables};
+use crate::fault::fault_of;
+use crate::reads::{read_due, read_file, read_nothing, read_shown, read_text, read_waiting};
+use keep::{
+    Change, Judgement, KeepFault, Keeper, LATEST, Waiting, copied_judgements, dates_after,
+    judged_after,
+};
+use rules::Config;
+use sqlite::{Alter, Connection};
+use std::alloc::Global;
+use suites::{Shelves, Upload};
+
+/// A keeper over the tables of a database, which its connection is to. The configuration, the judgements and the dates are
+/// held beside the tables, all else is read from them.
+pub struct TableKeeper<S: Alter> {
+    conn: Connection<S>,
+    config: Config,
+    judged: Vec<Judgement>,
+    /// For each suite the moment at which what it shows last changed.
+    dates: Vec<u64>,
+    ghost idle: { conn.in_transaction ≡ false },
+    ghost in_range: { ∥ All (λ date. date ≤ 4_102_444_799) dates.items ∥₁ },
+    ghost kept: { HasCleanDisk (state S.Store conn) → IsTrue (state S.Store conn).is_open
+        → ∥ KeepsArchive (state S.Store conn).committed config judged.items (shown_in config.suites (tables_in (state S.Store conn).committed)) dates.items ∥₁ },
+}
+
+impl<S: Alter> TableKeeper<S> {
+    ghost use Rattle.std.specs.Prelude.{◌≢◌, IfOk, IfErr};
+    ghost use Rattle.keep.specs.Plain.{fresh_book};
+    ghost use Rattle.keep.specs.declared.fault.KeepFault.TheVariants.{Tables as NotEmpty};
+    ghost use Rattle.tables.specs.Schema.{no_schema};
+    ghost use Rattle.keep_tables.specs.Archives.{book_of};
+
+    /// A new archive of the configuration, in a database that has no table, no index and no view, made at the moment, in
+    /// seconds since 1970-01-01 00:00:00 UTC. A fault gives the connection back; it is `KeepFault::Tables` where the database
+    /// has an object already or a transaction is begun.
+    #[tactic(auto, unfolding(crate::specs::Kept::book_in))]
+    pub fn create(
+        alloc: Global,
+        mut connection: Connection<S>,
+        config: Config,
+        moment: u64,
+    ) -> Result<TableKeeper<S>, (Connection<S>, KeepFault)>
+        requires { moment ≤ LATEST }
+        ensures made { IfOk result (λ keeper. HasCleanDisk (state S.Store keeper.conn) → IsTrue (state S.Store keeper.conn).is_open
+            × (book_of (state S.Store keeper.conn).committed keeper.config keeper.judged.items (shown_in keeper.config.suites (tables_in (state S.Store keeper.conn).committed)) keeper.dates.items ≡ fresh_book config moment)) }
+        ensures taken { (state S.Store connection).now.schema ≢ no_schema → IfErr result (λ e. e.1 ≡ NotEmpty) }
+    {
+        let free = connection.is_autocommit();
+        let empty = is_without_tables(&connection);
+        if !free || !empty {
+            return Err((connection, KeepFault::Tables));
+        }
+        let Ok(dates) = vec![in alloc; moment; config.suites().len()] else {
+            return Err((connection, KeepFault::OutOfMemory));
+        };
+        // A configuration that was read is that of its text.
+        let _ = config.text();
+        match create(alloc, &mut connection, &config, moment) {
+            Ok(()) => Ok(TableKeeper {
+                conn: connection,
+                config,
+                judged: Vec::new(alloc),
+                dates,
+            }),
+            Err(error) => Err((connection, fault_of(error))),
+        }
+    }
+
+    /// The connection. Its database keeps the book.
+    pub fn into_connection(self) -> Connection<S>
+        ensures { result ≡ self.conn }
+    {
+        let TableKeeper {
+            conn,
+            config: _,
+            judged: _,
+            dates: _,
+        } = self;
+        conn
+    }
+}
+
+impl<S: Alter> Keeper for TableKeeper<S> {
+    ghost use Rattle.std.specs.Prelude.{true};
+    ghost use Rattle.sqlite.specs.Effect.{Database};
+    ghost use Rattle.keep_tables.specs.Archives.{KeepsBook, book_of};
+    ghost use Rattle.keep_tables.specs.KeeperLemmas.{left_settled};
+
+    ghost is_clean = { λ k. HasCleanDisk (state S.Store k.conn) };
+
+    ghost is_open = { λ k. IsTrue (state S.Store k.conn).is_open };
+
+    ghost book = { λ k. book_of (state S.Store k.conn).committed k.config k.judged.items (shown_in k.config.suites (tables_in (state S.Store k.conn).committed)) k.dates.items };
+
+    ghost may_fail = { true };
+
+    /// A crash leaves databases that an opening may find; each keeps its book.
+    ghost may_leave = { λ k left. (db : Database) × (state S.Store k.conn).may_leave db.trees × KeepsBook db k.config left };
+
+    #[tactic(auto, unfolding(crate::specs::Kept::book_in))]
+    fn config(&self) -> &Config {
+        &self.config
+    }
+
+    #[tactic(auto, unfolding(crate::specs::Kept::book_in))]
+    fn arrive(
+        &mut self,
+        alloc: Global,
+        name: &str,
+        body: &[u8],
+        moment: u64,
+    ) -> Result<bool, KeepFault> {
+        match take_delivery(alloc, &mut self.conn, name, body, moment) {
+            Ok(new) => Ok(new),
+            Err(error) => Err(fault_of(error)),
+        }
+    }
+
+    #[tactic(auto, unfolding(crate::specs::Kept::book_in))]
+    fn complete_uploads(&mut self, alloc: Global, moment: u64) -> Result<Vec<Upload>, KeepFault> {
+        let _ = moment;
+        match read_due(alloc, &mut self.conn) {
+            Ok(uploads) => Ok(uploads),
+            Err(error) => Err(fault_of(error)),
+        }
+    }
+
+    #[tactic(auto, unfolding(crate::specs::Kept::book_in))]
+    fn shelves(&mut self, alloc: Global) -> Result<Shelves, KeepFault> {
+        match read_shown(alloc, &mut self.conn, &self.config) {
+            Ok(shelves) => Ok(shelves),
+            Err(error) => Err(fault_of(error)),
+        }
+    }
+
+    #[tactic(auto, unfolding(crate::specs::Kept::book_in))]
+    fn apply(&mut self, alloc: Global, change: &Change) -> Result<(), KeepFault> {
+        let steps = change.steps.as_slice();
+        let judged = judged_after(alloc, &self.judged, steps)?;
+        let dates = dates_after(alloc, &self.dates, steps, change.moment)?;
+        match make_change(
+            alloc,
+            &mut self.conn,
+            &self.config,
+            self.judged.len(),
+            change,
+        ) {
+            Ok(()) => {
+                self.judged = judged;
+                self.dates = dates;
+                Ok(())
+            }
+            Err(error) => Err(fault_of(error)),
+        }
+    }
+
+    #[tactic(auto, unfolding(crate::specs::Kept::book_in))]
+    fn file(&mut self, alloc: Global, path: &str) -> Result<Option<Vec<u8>>, KeepFault> {
+        match read_file(alloc, &mut self.conn, path) {
+            Ok(file) => Ok(file),
+            Err(error) => Err(fault_of(error)),
+        }
+    }
+
+    #[tactic(auto, unfolding(crate::specs::Kept::book_in))]
+    fn text(&mut self, alloc: Global, path: &str) -> Result<Option<Vec<u8>>, KeepFault> {
+        match read_text(alloc, &mut self.conn, path) {
+            Ok(text) => Ok(text),
+            Err(error) => Err(fault_of(error)),
+        }
+    }
+
+    #[tactic(auto, unfolding(crate::specs::Kept::book_in))]
+    fn waiting(&mut self, alloc: Global, moment: u64) -> Result<Vec<Waiting>, KeepFault> {
+        let _ = moment;
+        match read_waiting(alloc, &mut self.conn) {
+            Ok(waiting) => Ok(waiting),
+            Err(error) => Err(fault_of(error)),
+        }
+    }
+
+    #[tactic(auto, unfolding(crate::specs::Kept::book_in))]
+    fn verdicts(&mut self, alloc: Global) -> Result<Vec<Judgement>, KeepFault> {
+        match read_nothing(alloc, &mut self.conn) {
+            Ok(()) => Ok(copied_judgements(alloc, &self.judged)?),
+            Err(error) => Err(fault_of(error)),
+        }
+    }
+
+    ghost settled = { λ k b clean up left. left_settled left.0 _ (S.settled k.conn.store left.0.trees up left.1) (k.kept clean up) left.2 };
+}

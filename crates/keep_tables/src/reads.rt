@@ -1,0 +1,137 @@
+//! The reads of a keeper, over the connection alone.
+
+ghost use Rattle.std.specs.Prelude.{◌≡◌, ℕ, List, map, false, IsTrue, IfOk, OnOk};
+ghost use Rattle.std.specs.Option.{option_map};
+ghost use Rattle.sqlite.specs.Held.{state};
+ghost use Rattle.sqlite.specs.State.{HasCleanDisk};
+ghost use Rattle.keep.specs.Book.{due, text_at, upload_of, waiting_list};
+ghost use Rattle.keep.specs.Keeping.{sign_of};
+ghost use Rattle.keep.specs.declared.change.Judgement.{Judgement};
+ghost use Rattle.rules.specs.Values.{ConfigValue};
+ghost use Rattle.suites.specs.Shelves.{ShelvesValue};
+ghost use Rattle.tables.specs.Rows.{IsArchive};
+ghost use Rattle.keep_tables.specs.Archives.{IsRead, KeepsArchive, book_of};
+
+use crate::bodies::file_body;
+use crate::due::due_uploads;
+use crate::shelve::read_shelves;
+use crate::waiting::waiting_uploads;
+use keep::Waiting;
+use rules::Config;
+use sqlite::{Alter, Connection, Error};
+use std::alloc::Global;
+use suites::{Shelves, Upload};
+use tables::serving::serve;
+use tables::texts::select_text;
+
+/// The uploads that are due, in the order of judging.
+pub fn read_due<S: Alter>(alloc: Global, conn: &mut Connection<S>) -> Result<Vec<Upload>, Error>
+    requires idle { conn.old.in_transaction ≡ false }
+    ensures idle { conn.new.in_transaction ≡ false }
+    ensures read { IsRead (state S.Store conn.old) (state S.Store conn.new) }
+    ensures open { HasCleanDisk (state S.Store conn.new) → (IsTrue (state S.Store conn.old).is_open → ∥ IsArchive (state S.Store conn.old).committed ∥₁)
+        → OnOk result (IsTrue (state S.Store conn.new).is_open) }
+    ensures uploads { HasCleanDisk (state S.Store conn.new) → (config : ConfigValue) (judged : List Judgement) (shown : ShelvesValue) (dates : List ℕ)
+        → KeepsArchive (state S.Store conn.old).committed config judged shown dates
+        → IfOk result (λ uploads. uploads.items ≡ map (upload_of (book_of (state S.Store conn.old).committed config judged shown dates).arrivals) (due (book_of (state S.Store conn.old).committed config judged shown dates))) }
+    // By their names and prints.
+    ensures signs { HasCleanDisk (state S.Store conn.new) → (config : ConfigValue) (judged : List Judgement) (shown : ShelvesValue) (dates : List ℕ)
+        → KeepsArchive (state S.Store conn.old).committed config judged shown dates
+        → IfOk result (λ uploads. map (λ u. (u.name, u.print)) uploads.items ≡ map sign_of (due (book_of (state S.Store conn.old).committed config judged shown dates))) }
+{
+    let _settled = conn.is_autocommit();
+    serve(alloc, conn)?;
+    due_uploads(alloc, conn)
+}
+
+/// The uploads without a verdict, each with how many of its entries have not arrived.
+pub fn read_waiting<S: Alter>(
+    alloc: Global,
+    conn: &mut Connection<S>,
+) -> Result<Vec<Waiting>, Error>
+    requires idle { conn.old.in_transaction ≡ false }
+    ensures idle { conn.new.in_transaction ≡ false }
+    ensures read { IsRead (state S.Store conn.old) (state S.Store conn.new) }
+    ensures open { HasCleanDisk (state S.Store conn.new) → (IsTrue (state S.Store conn.old).is_open → ∥ IsArchive (state S.Store conn.old).committed ∥₁)
+        → OnOk result (IsTrue (state S.Store conn.new).is_open) }
+    ensures waiting { HasCleanDisk (state S.Store conn.new) → (config : ConfigValue) (judged : List Judgement) (shown : ShelvesValue) (dates : List ℕ)
+        → KeepsArchive (state S.Store conn.old).committed config judged shown dates
+        → IfOk result (λ all. all.items ≡ waiting_list (book_of (state S.Store conn.old).committed config judged shown dates)) }
+{
+    let _settled = conn.is_autocommit();
+    serve(alloc, conn)?;
+    waiting_uploads(alloc, conn)
+}
+
+/// The bytes of the file of the pool at a path.
+pub fn read_file<S: Alter>(
+    alloc: Global,
+    conn: &mut Connection<S>,
+    path: &str,
+) -> Result<Option<Vec<u8>>, Error>
+    requires idle { conn.old.in_transaction ≡ false }
+    ensures idle { conn.new.in_transaction ≡ false }
+    ensures read { IsRead (state S.Store conn.old) (state S.Store conn.new) }
+    ensures open { HasCleanDisk (state S.Store conn.new) → (IsTrue (state S.Store conn.old).is_open → ∥ IsArchive (state S.Store conn.old).committed ∥₁)
+        → OnOk result (IsTrue (state S.Store conn.new).is_open) }
+    ensures file { HasCleanDisk (state S.Store conn.new) → (config : ConfigValue) (judged : List Judgement) (shown : ShelvesValue) (dates : List ℕ)
+        → KeepsArchive (state S.Store conn.old).committed config judged shown dates
+        → IfOk result (λ file. option_map (λ body. body.items) file ≡ (book_of (state S.Store conn.old).committed config judged shown dates).files path.now) }
+{
+    let _settled = conn.is_autocommit();
+    serve(alloc, conn)?;
+    file_body(alloc, conn, path)
+}
+
+/// The text of the index at a path.
+pub fn read_text<S: Alter>(
+    alloc: Global,
+    conn: &mut Connection<S>,
+    path: &str,
+) -> Result<Option<Vec<u8>>, Error>
+    requires idle { conn.old.in_transaction ≡ false }
+    ensures idle { conn.new.in_transaction ≡ false }
+    ensures read { IsRead (state S.Store conn.old) (state S.Store conn.new) }
+    ensures open { HasCleanDisk (state S.Store conn.new) → (IsTrue (state S.Store conn.old).is_open → ∥ IsArchive (state S.Store conn.old).committed ∥₁)
+        → OnOk result (IsTrue (state S.Store conn.new).is_open) }
+    ensures text { HasCleanDisk (state S.Store conn.new) → (config : ConfigValue) (judged : List Judgement) (shown : ShelvesValue) (dates : List ℕ)
+        → KeepsArchive (state S.Store conn.old).committed config judged shown dates
+        → IfOk result (λ text. option_map (λ body. body.items) text ≡ text_at (book_of (state S.Store conn.old).committed config judged shown dates) path.now) }
+{
+    let _settled = conn.is_autocommit();
+    serve(alloc, conn)?;
+    match select_text(alloc, conn, path)? {
+        Some(text) => Ok(Some(text.body.into_vec())),
+        None => Ok(None),
+    }
+}
+
+/// What the suites show.
+pub fn read_shown<S: Alter>(
+    alloc: Global,
+    conn: &mut Connection<S>,
+    config: &Config,
+) -> Result<Shelves, Error>
+    requires idle { conn.old.in_transaction ≡ false }
+    ensures idle { conn.new.in_transaction ≡ false }
+    ensures read { IsRead (state S.Store conn.old) (state S.Store conn.new) }
+    ensures open { HasCleanDisk (state S.Store conn.new) → (IsTrue (state S.Store conn.old).is_open → ∥ IsArchive (state S.Store conn.old).committed ∥₁)
+        → OnOk result (IsTrue (state S.Store conn.new).is_open) }
+    ensures shown { HasCleanDisk (state S.Store conn.new) → (judged : List Judgement) (shown : ShelvesValue) (dates : List ℕ)
+        → KeepsArchive (state S.Store conn.old).committed config.now judged shown dates
+        → IfOk result (λ shelves. shelves ≡ shown) }
+{
+    let _settled = conn.is_autocommit();
+    serve(alloc, conn)?;
+    read_shelves(alloc, conn, config)
+}
+
+/// Nothing of its own is read: whether the database serves.
+pub fn read_nothing<S: Alter>(alloc: Global, conn: &mut Connection<S>) -> Result<(), Error>
+    requires idle { conn.old.in_transaction ≡ false }
+    ensures idle { conn.new.in_transaction ≡ false }
+    ensures read { IsRead (state S.Store conn.old) (state S.Store conn.new) }
+    ensures open { HasCleanDisk (state S.Store conn.new) → OnOk result (IsTrue (state S.Store conn.new).is_open) }
+{
+    serve(alloc, conn)
+}

@@ -1,0 +1,237 @@
+//! What the suites show, read from the rows of items and of their files.
+
+ghost use Rattle.std.specs.Prelude.{◌≡◌, false, map, None, IfOk, OnOk, OnErr};
+ghost use Rattle.std.specs.FinMap.{get};
+ghost use Rattle.std.specs.List.{list_any};
+ghost use Rattle.sqlite.specs.Held.{state};
+ghost use Rattle.sqlite.specs.State.{HasCleanDisk, IsUnchanged, Survives};
+ghost use Rattle.suites.specs.Items.{standing};
+ghost use Rattle.suites.specs.Shelves.{AreSound, ShelvesValue, pool};
+ghost use Rattle.tables.specs.Rows.{Tables, Holds};
+ghost use Rattle.keep_tables.specs.Kept.{AreItems};
+ghost use Rattle.keep_tables.specs.Shown.{IsPut, PutsRow, clash, file_in, is_taken as is_taken_in, item_with as item_of_row, kind_numbered as kind_of_number, may_not_join as may_not_join_pool, suite_named as suite_of_name};
+ghost use Rattle.keep_tables.specs.Transactions.{IsUndone};
+
+use para::{Listed, Text};
+use rules::{Config, Suite};
+use sqlite::{Alter, Connection, Error, ErrorCode};
+use std::alloc::{AllocError, Global};
+use suites::{Item, Kind, PoolFile, Shelves, plan_admission};
+use tables::items::select_items;
+use tables::refs::refs_of;
+use tables::rows;
+use vers::{Version, VersionFault};
+
+/// The position of the suite with a codename.
+#[tactic(auto, unfolding(crate::specs::Shown::suite_named))]
+fn suite_named(suites: &[Suite], codename: &str) -> Option<usize>
+    ensures { result ≡ suite_of_name suites.now codename.now }
+{
+    suites
+        .iter()
+        .position(|suite| suite.codename.as_str() == codename)
+}
+
+/// The kind with a number.
+#[tactic(auto, unfolding(crate::specs::Shown::kind_numbered))]
+fn kind_numbered(number: u64) -> Option<Kind>
+    ensures { result ≡ kind_of_number number }
+{
+    if number == 0 {
+        return Some(Kind::Source);
+    }
+    if number == 1 {
+        return Some(Kind::Binary);
+    }
+    None
+}
+
+/// The version that a text is. One that is none, which cannot be in an archive, is refused.
+fn version_in(alloc: Global, text: &str) -> Result<Version, Error>
+    ensures { IfOk result (λ version. version ≡ text.now) }
+{
+    match Version::parse(alloc, text) {
+        Ok(version) => Ok(version),
+        Err(VersionFault::OutOfMemory) => Err(Error::SqliteFailure(ErrorCode::OutOfMemory)),
+        Err(_) => Err(Error::SqliteFailure(ErrorCode::DatabaseCorrupt)),
+    }
+}
+
+/// The text that bytes are. Bytes that are none, which cannot be in an archive, are refused.
+fn text_in(alloc: Global, bytes: &[u8]) -> Result<Text, Error>
+    ensures { IfOk result (λ text. text ≡ bytes.now) }
+{
+    let Ok(text) = str::from_utf8(bytes) else {
+        return Err(Error::SqliteFailure(ErrorCode::DatabaseCorrupt));
+    };
+    Ok(Text::new(alloc, text)?)
+}
+
+/// The files of rows.
+fn files_in(alloc: Global, refs: Vec<rows::Ref>) -> Result<Listed<PoolFile>, AllocError>
+    ensures { IfOk result (λ files. files ≡ map file_in refs.items) }
+{
+    let mut files = Vec::new(alloc);
+    for file in refs {
+        files.push(PoolFile {
+            path: file.path,
+            print: file.print,
+        })?;
+    }
+    Ok(Listed::from_vec(files))
+}
+
+/// The item of a row, of this kind and with these files.
+fn item_with(
+    alloc: Global,
+    kind: Kind,
+    row: rows::Item,
+    refs: Vec<rows::Ref>,
+) -> Result<Item, Error>
+    ensures { IfOk result (λ item. item ≡ item_of_row kind row refs.items) }
+{
+    let version = version_in(alloc, row.version.as_str())?;
+    let paragraph = text_in(alloc, row.paragraph.as_slice())?;
+    let files = files_in(alloc, refs)?;
+    Ok(Item {
+        kind,
+        package: row.package,
+        architecture: row.architecture,
+        version,
+        component: row.component,
+        source: row.source,
+        paragraph,
+        files,
+    })
+}
+
+/// Whether two files stand at one path, with different prints.
+#[tactic(auto, unfolding(crate::specs::Shown::clash))]
+fn differ(one: &PoolFile, other: &PoolFile) -> bool
+    ensures { result ≡ clash one.now other.now }
+{
+    if one.path.as_str() != other.path.as_str() {
+        return false;
+    }
+    one.print != other.print
+}
+
+/// Whether a file stands at the path of one of the others, with another print.
+fn differs(file: &PoolFile, others: &[PoolFile]) -> bool
+    ensures { result ≡ list_any (clash file.now) others.now }
+{
+    for other in others {
+        if differ(file, other) {
+            return true;
+        }
+    }
+    false
+}
+
+/// Whether the pool has another print at the path of a file.
+#[tactic(auto, unfolding(crate::specs::Shown::is_taken))]
+fn is_taken(shelves: &Shelves, file: &PoolFile) -> bool
+    ensures { result ≡ is_taken_in (pool shelves.now) file.now }
+{
+    match shelves.file(file.path.as_str()) {
+        Some(print) => print != file.print,
+        None => false,
+    }
+}
+
+/// Whether a file of an item has another print than what stands at its path in the pool, or among the item's files.
+#[tactic(auto, unfolding(crate::specs::Shown::may_not_join))]
+fn may_not_join(shelves: &Shelves, files: &[PoolFile], file: &PoolFile) -> bool
+    ensures { result ≡ may_not_join_pool (pool shelves.now) files.now file.now }
+{
+    if is_taken(shelves, file) {
+        return true;
+    }
+    differs(file, files)
+}
+
+/// Whether some file of an item may not join the pool.
+fn some_may_not_join(shelves: &Shelves, files: &[PoolFile]) -> bool
+    ensures { result ≡ list_any (may_not_join_pool (pool shelves.now) files.now) files.now }
+{
+    for file in files {
+        if may_not_join(shelves, files, file) {
+            return true;
+        }
+    }
+    false
+}
+
+/// Admits one item to a suite where its shelf is empty and its files may join the pool.
+fn admit(alloc: Global, shelves: &mut Shelves, suite: usize, item: Item) -> Result<(), AllocError>
+    requires free { get shelves.old (standing suite item).0 ≡ None }
+    requires fits { list_any (may_not_join_pool (pool shelves.old) item.files) item.files ≡ false }
+    ensures { OnOk result (IsPut shelves.old shelves.new (standing suite item)) }
+{
+    shelves.agree();
+    let mut items = Vec::new(alloc);
+    items.push(item)?;
+    let plan = plan_admission(alloc, shelves, suite, items)?;
+    shelves.apply(alloc, &plan)?;
+    Ok(())
+}
+
+/// Puts an item on its shelf in a suite. A shelf that is taken, and a file with another print than what stands at its path,
+/// which cannot be in an archive, are refused.
+fn put_item(alloc: Global, shelves: &mut Shelves, suite: usize, item: Item) -> Result<(), Error>
+    ensures { OnOk result (IsPut shelves.old shelves.new (standing suite item)) }
+{
+    let key = item.shelf(suite)?;
+    if shelves.get(&key).is_some() {
+        return Err(Error::SqliteFailure(ErrorCode::DatabaseCorrupt));
+    }
+    if some_may_not_join(shelves, item.files.as_slice()) {
+        return Err(Error::SqliteFailure(ErrorCode::DatabaseCorrupt));
+    }
+    Ok(admit(alloc, shelves, suite, item)?)
+}
+
+/// Puts on its shelf what a row shows. A row of no suite or of no kind, which cannot be in an archive, is refused.
+fn put_row(
+    alloc: Global,
+    shelves: &mut Shelves,
+    suites: &[Suite],
+    row: rows::Item,
+    refs: Vec<rows::Ref>,
+) -> Result<(), Error>
+    ensures { OnOk result (PutsRow suites.now row refs.items shelves.old shelves.new) }
+{
+    let Some(suite) = suite_named(suites, row.suite.as_str()) else {
+        return Err(Error::SqliteFailure(ErrorCode::DatabaseCorrupt));
+    };
+    let Some(kind) = kind_numbered(row.kind) else {
+        return Err(Error::SqliteFailure(ErrorCode::DatabaseCorrupt));
+    };
+    let item = item_with(alloc, kind, row, refs)?;
+    put_item(alloc, shelves, suite, item)
+}
+
+/// What the suites of a configuration show.
+pub fn read_shelves<S: Alter>(
+    alloc: Global,
+    conn: &mut Connection<S>,
+    config: &Config,
+) -> Result<Shelves, Error>
+    ensures idle { conn.old.in_transaction ≡ false → conn.new.in_transaction ≡ false }
+    ensures ok { HasCleanDisk (state S.Store conn.new) → (t : Tables) → Holds (state S.Store conn.old).now t
+        → (shown : ShelvesValue) → AreItems t config.now.suites shown → AreSound shown → IfOk result (λ shelves. shelves ≡ shown) }
+    ensures unchanged { HasCleanDisk (state S.Store conn.new) → (t : Tables) → Holds (state S.Store conn.old).now t
+        → OnOk result (IsUnchanged (state S.Store conn.old) (state S.Store conn.new)) }
+    ensures err { HasCleanDisk (state S.Store conn.new) → (t : Tables) → Holds (state S.Store conn.old).now t
+        → OnErr result (IsUndone (state S.Store conn.old) (state S.Store conn.new)) }
+    ensures survives { Survives (state S.Store conn.old) (state S.Store conn.new) (λ _. (t : Tables) → ¬ Holds (state S.Store conn.old).now t) }
+{
+    // The configuration is what its text spells, so no two suites have one codename.
+    let _ = config.text();
+    let mut shelves = Shelves::new(alloc);
+    for (id, row) in select_items(alloc, conn)? {
+        let refs = refs_of(alloc, conn, id)?;
+        put_row(alloc, &mut shelves, config.suites(), row, refs)?;
+    }
+    Ok(shelves)
+}
