@@ -23,7 +23,8 @@ use suites::{Shelves, Upload};
 
 /// A keeper over the tables of a database, which its connection is to. The configuration, the judgements and the dates are
 /// held beside the tables, all else is read from them.
-pub struct TableKeeper<S: Alter> {
+#[derive(Drop)]
+pub struct TableKeeper<S: Alter + Drop> {
     conn: Connection<S>,
     config: Config,
     judged: Vec<Judgement>,
@@ -35,7 +36,7 @@ pub struct TableKeeper<S: Alter> {
         → ∥ KeepsArchive (state S.Store conn).committed config judged.items (shown_in config.suites (tables_in (state S.Store conn).committed)) dates.items ∥₁ },
 }
 
-impl<S: Alter> TableKeeper<S> {
+impl<S: Alter + Drop> TableKeeper<S> {
     ghost use Rattle.std.specs.Prelude.{◌≢◌, IfOk, IfErr};
     ghost use Rattle.keep.specs.Plain.{fresh_book};
     ghost use Rattle.keep.specs.declared.fault.KeepFault.TheVariants.{Tables as NotEmpty};
@@ -92,7 +93,7 @@ impl<S: Alter> TableKeeper<S> {
     }
 }
 
-impl<S: Alter> Keeper for TableKeeper<S> {
+impl<S: Alter + Drop> Keeper for TableKeeper<S> {
     ghost use Rattle.std.specs.Prelude.{true};
     ghost use Rattle.sqlite.specs.Effect.{Database};
     ghost use Rattle.keep_tables.specs.Archives.{KeepsBook, book_of};
