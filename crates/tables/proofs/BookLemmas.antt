@@ -3,9 +3,9 @@ use Rattle.std.proofs.Common.{◌≡◌, ℕ, true, false, Some, None, map, refl
 use Rattle.std.proofs.Props.{props}
 use Rattle.sqlite.specs.Order.{Row}
 use Rattle.sqlite.specs.Effect.{Database}
-use Rattle.sqlite_keyed.proofs.ListLemmas.{map_back}
+use Rattle.sqlite_keyed.proofs.ListLemmas.{map_back, map-map}
 use Rattle.sqlite.specs.Values.{or_null}
-use Rattle.tables.specs.Rows.{whole, some_nat, Numbered, HasRows, Tables, Holds, IsArchive, stored, row_of, tables_in, meta_cells, meta_of, body_cells, body_of, piece_cells, piece_of, arrival_cells, arrival_of, upload_cells, upload_of, want_cells, want_of, item_cells, item_of, ref_cells, ref_of, file_cells, file_of, text_cells, text_of, date_cells, date_of}
+use Rattle.tables.specs.Rows.{whole, some_nat, Numbered, HasRows, Tables, Holds, IsArchive, full_upload, stored, row_of, tables_in, meta_cells, meta_of, body_cells, body_of, piece_cells, piece_of, arrival_cells, arrival_of, upload_cells, upload_of, want_cells, want_of, item_cells, item_of, ref_cells, ref_of, file_cells, file_of, text_cells, text_of, date_cells, date_of}
 use Rattle.tables.specs.declared.rows.Meta.{Meta}
 use Rattle.tables.specs.declared.rows.Body.{Body}
 use Rattle.tables.specs.declared.rows.Piece.{Piece}
@@ -40,7 +40,7 @@ held_tables db t h =
     let bodies = read_back body_cells body_of body_back (λ _. refl) t.bodies _ h.rows.bodies in
     let pieces = read_back piece_cells piece_of (λ _. refl) (λ _. refl) t.pieces _ h.rows.pieces in
     let arrivals = read_back arrival_cells arrival_of (λ _. refl) (λ _. refl) t.arrivals _ h.rows.arrivals in
-    let uploads = read_back upload_cells upload_of upload_back (λ _. refl) t.uploads _ h.rows.uploads in
+    let uploads = sym (map-map (row_of upload_of) full_upload (db.trees 7)) ∙ read_back upload_cells upload_of upload_back (λ _. refl) t.uploads _ h.rows.uploads in
     let wants = read_back want_cells want_of want_back (λ _. refl) t.wants _ h.rows.wants in
     let items = read_back item_cells item_of (λ _. refl) (λ _. refl) t.items _ h.rows.items in
     let refs = read_back ref_cells ref_of (λ _. refl) (λ _. refl) t.refs _ h.rows.refs in

@@ -1,10 +1,10 @@
 -- The tables of an archive, one after another.
-use Rattle.std.proofs.Common.{◌≡◌, ℕ, zero, suc, ◌+◌, ◌<◌, true, List, [], Ok, refl, sym, ap, subst, arith}
+use Rattle.std.proofs.Common.{◌≡◌, ℕ, zero, suc, ◌+◌, ◌<◌, true, List, [], map, Ok, refl, sym, ap, subst, arith}
 use Rattle.sqlite.specs.Table.{Table}
 use Rattle.sqlite.specs.Change.{created}
 use Rattle.sqlite.specs.State.{State, KeepsCommit, ExecutesInside}
 use Rattle.tables.specs.Schema.{no_schema, archive_schema, meta, bodies, pieces, arrivals, uploads, wants, items, refs, files, texts, dates}
-use Rattle.tables.specs.Rows.{Holds, no_rows}
+use Rattle.tables.specs.Rows.{Holds, no_rows, full_upload}
 use Rattle.tables.specs.Creating.{IsEmpty, Creates, schema_up_to, text_at}
 use Rattle.tables.proofs.CreateLemmas.{Makes, creates}
 use Rattle.tables.proofs.CreateMeaning.{meta_made, bodies_made, pieces_made, arrivals_made, uploads_made, wants_made, items_made, refs_made, files_made, texts_made, dates_made}
@@ -60,7 +60,7 @@ all_built old new b = record {
           bodies = record { are = e.1.0; rise = tt };
           pieces = record { are = e.1.1.0; rise = tt };
           arrivals = record { are = e.1.1.1.0; rise = tt };
-          uploads = record { are = e.1.1.1.1.0; rise = tt };
+          uploads = record { are = ap (map full_upload) e.1.1.1.1.0; rise = tt };
           wants = record { are = e.1.1.1.1.1.0; rise = tt };
           items = record { are = e.1.1.1.1.1.1.0; rise = tt };
           refs = record { are = e.1.1.1.1.1.1.1.0; rise = tt };

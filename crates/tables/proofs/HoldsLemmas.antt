@@ -1,10 +1,10 @@
 -- Where a statement changes one table, the others hold what they held.
-use Rattle.std.proofs.Common.{◌≡◌, ◌≢◌, ℕ, List, map, ◌∙◌, arith}
+use Rattle.std.proofs.Common.{◌≡◌, ◌≢◌, ℕ, List, map, ap, ◌∙◌, arith}
 use Rattle.std.specs.List.{AllByRecursion}
 use Rattle.sqlite.specs.Order.{Row}
 use Rattle.sqlite.specs.Tree.{Trees}
 use Rattle.tables.specs.Schema.{archive_schema}
-use Rattle.tables.specs.Rows.{Numbered, HasRows, Tables, HoldsRows, meta_cells, body_cells, piece_cells, arrival_cells, upload_cells, want_cells, item_cells, ref_cells, file_cells, text_cells, date_cells}
+use Rattle.tables.specs.Rows.{Numbered, HasRows, Tables, HoldsRows, full_upload, meta_cells, body_cells, piece_cells, arrival_cells, upload_cells, want_cells, item_cells, ref_cells, file_cells, text_cells, date_cells}
 use Rattle.tables.specs.declared.rows.Meta.{Meta}
 use Rattle.tables.specs.declared.rows.Body.{Body}
 use Rattle.tables.specs.declared.rows.Piece.{Piece}
@@ -31,7 +31,7 @@ module _ (old new : Trees) (t : Tables) (was : HoldsRows old t) where
     bodies = kept body_cells t.bodies was.bodies (others.1.0 (omega arith));
     pieces = kept piece_cells t.pieces was.pieces (others.1.1.0 (omega arith));
     arrivals = kept arrival_cells t.arrivals was.arrivals (others.1.1.1.0 (omega arith));
-    uploads = kept upload_cells t.uploads was.uploads (others.1.1.1.1.0 (omega arith));
+    uploads = kept upload_cells t.uploads was.uploads (ap (map full_upload) (others.1.1.1.1.0 (omega arith)));
     wants = kept want_cells t.wants was.wants (others.1.1.1.1.1.0 (omega arith));
     items = kept item_cells t.items was.items (others.1.1.1.1.1.1.0 (omega arith));
     refs = kept ref_cells t.refs was.refs (others.1.1.1.1.1.1.1.0 (omega arith));
@@ -46,7 +46,7 @@ module _ (old new : Trees) (t : Tables) (was : HoldsRows old t) where
     bodies = now;
     pieces = kept piece_cells t.pieces was.pieces (others.1.1.0 (omega arith));
     arrivals = kept arrival_cells t.arrivals was.arrivals (others.1.1.1.0 (omega arith));
-    uploads = kept upload_cells t.uploads was.uploads (others.1.1.1.1.0 (omega arith));
+    uploads = kept upload_cells t.uploads was.uploads (ap (map full_upload) (others.1.1.1.1.0 (omega arith)));
     wants = kept want_cells t.wants was.wants (others.1.1.1.1.1.0 (omega arith));
     items = kept item_cells t.items was.items (others.1.1.1.1.1.1.0 (omega arith));
     refs = kept ref_cells t.refs was.refs (others.1.1.1.1.1.1.1.0 (omega arith));
@@ -61,7 +61,7 @@ module _ (old new : Trees) (t : Tables) (was : HoldsRows old t) where
     bodies = kept body_cells t.bodies was.bodies (others.1.0 (omega arith));
     pieces = now;
     arrivals = kept arrival_cells t.arrivals was.arrivals (others.1.1.1.0 (omega arith));
-    uploads = kept upload_cells t.uploads was.uploads (others.1.1.1.1.0 (omega arith));
+    uploads = kept upload_cells t.uploads was.uploads (ap (map full_upload) (others.1.1.1.1.0 (omega arith)));
     wants = kept want_cells t.wants was.wants (others.1.1.1.1.1.0 (omega arith));
     items = kept item_cells t.items was.items (others.1.1.1.1.1.1.0 (omega arith));
     refs = kept ref_cells t.refs was.refs (others.1.1.1.1.1.1.1.0 (omega arith));
@@ -76,7 +76,7 @@ module _ (old new : Trees) (t : Tables) (was : HoldsRows old t) where
     bodies = kept body_cells t.bodies was.bodies (others.1.0 (omega arith));
     pieces = kept piece_cells t.pieces was.pieces (others.1.1.0 (omega arith));
     arrivals = now;
-    uploads = kept upload_cells t.uploads was.uploads (others.1.1.1.1.0 (omega arith));
+    uploads = kept upload_cells t.uploads was.uploads (ap (map full_upload) (others.1.1.1.1.0 (omega arith)));
     wants = kept want_cells t.wants was.wants (others.1.1.1.1.1.0 (omega arith));
     items = kept item_cells t.items was.items (others.1.1.1.1.1.1.0 (omega arith));
     refs = kept ref_cells t.refs was.refs (others.1.1.1.1.1.1.1.0 (omega arith));
@@ -85,7 +85,7 @@ module _ (old new : Trees) (t : Tables) (was : HoldsRows old t) where
     dates = kept date_cells t.dates was.dates (others.1.1.1.1.1.1.1.1.1.1.0 (omega arith));
   }
 
-  pub with_uploads : (rows : Numbered Upload) → HasRows upload_cells rows (new 7) → KeepsOthers 7 old new → HoldsRows new (record t { uploads = rows })
+  pub with_uploads : (rows : Numbered Upload) → HasRows upload_cells rows (map full_upload (new 7)) → KeepsOthers 7 old new → HoldsRows new (record t { uploads = rows })
   with_uploads rows now others = record {
     meta = kept meta_cells t.meta was.meta (others.0 (omega arith));
     bodies = kept body_cells t.bodies was.bodies (others.1.0 (omega arith));
@@ -106,7 +106,7 @@ module _ (old new : Trees) (t : Tables) (was : HoldsRows old t) where
     bodies = kept body_cells t.bodies was.bodies (others.1.0 (omega arith));
     pieces = kept piece_cells t.pieces was.pieces (others.1.1.0 (omega arith));
     arrivals = kept arrival_cells t.arrivals was.arrivals (others.1.1.1.0 (omega arith));
-    uploads = kept upload_cells t.uploads was.uploads (others.1.1.1.1.0 (omega arith));
+    uploads = kept upload_cells t.uploads was.uploads (ap (map full_upload) (others.1.1.1.1.0 (omega arith)));
     wants = now;
     items = kept item_cells t.items was.items (others.1.1.1.1.1.1.0 (omega arith));
     refs = kept ref_cells t.refs was.refs (others.1.1.1.1.1.1.1.0 (omega arith));
@@ -121,7 +121,7 @@ module _ (old new : Trees) (t : Tables) (was : HoldsRows old t) where
     bodies = kept body_cells t.bodies was.bodies (others.1.0 (omega arith));
     pieces = kept piece_cells t.pieces was.pieces (others.1.1.0 (omega arith));
     arrivals = kept arrival_cells t.arrivals was.arrivals (others.1.1.1.0 (omega arith));
-    uploads = kept upload_cells t.uploads was.uploads (others.1.1.1.1.0 (omega arith));
+    uploads = kept upload_cells t.uploads was.uploads (ap (map full_upload) (others.1.1.1.1.0 (omega arith)));
     wants = kept want_cells t.wants was.wants (others.1.1.1.1.1.0 (omega arith));
     items = now;
     refs = kept ref_cells t.refs was.refs (others.1.1.1.1.1.1.1.0 (omega arith));
@@ -136,7 +136,7 @@ module _ (old new : Trees) (t : Tables) (was : HoldsRows old t) where
     bodies = kept body_cells t.bodies was.bodies (others.1.0 (omega arith));
     pieces = kept piece_cells t.pieces was.pieces (others.1.1.0 (omega arith));
     arrivals = kept arrival_cells t.arrivals was.arrivals (others.1.1.1.0 (omega arith));
-    uploads = kept upload_cells t.uploads was.uploads (others.1.1.1.1.0 (omega arith));
+    uploads = kept upload_cells t.uploads was.uploads (ap (map full_upload) (others.1.1.1.1.0 (omega arith)));
     wants = kept want_cells t.wants was.wants (others.1.1.1.1.1.0 (omega arith));
     items = kept item_cells t.items was.items (others.1.1.1.1.1.1.0 (omega arith));
     refs = now;
@@ -151,7 +151,7 @@ module _ (old new : Trees) (t : Tables) (was : HoldsRows old t) where
     bodies = kept body_cells t.bodies was.bodies (others.1.0 (omega arith));
     pieces = kept piece_cells t.pieces was.pieces (others.1.1.0 (omega arith));
     arrivals = kept arrival_cells t.arrivals was.arrivals (others.1.1.1.0 (omega arith));
-    uploads = kept upload_cells t.uploads was.uploads (others.1.1.1.1.0 (omega arith));
+    uploads = kept upload_cells t.uploads was.uploads (ap (map full_upload) (others.1.1.1.1.0 (omega arith)));
     wants = kept want_cells t.wants was.wants (others.1.1.1.1.1.0 (omega arith));
     items = kept item_cells t.items was.items (others.1.1.1.1.1.1.0 (omega arith));
     refs = kept ref_cells t.refs was.refs (others.1.1.1.1.1.1.1.0 (omega arith));
@@ -166,7 +166,7 @@ module _ (old new : Trees) (t : Tables) (was : HoldsRows old t) where
     bodies = kept body_cells t.bodies was.bodies (others.1.0 (omega arith));
     pieces = kept piece_cells t.pieces was.pieces (others.1.1.0 (omega arith));
     arrivals = kept arrival_cells t.arrivals was.arrivals (others.1.1.1.0 (omega arith));
-    uploads = kept upload_cells t.uploads was.uploads (others.1.1.1.1.0 (omega arith));
+    uploads = kept upload_cells t.uploads was.uploads (ap (map full_upload) (others.1.1.1.1.0 (omega arith)));
     wants = kept want_cells t.wants was.wants (others.1.1.1.1.1.0 (omega arith));
     items = kept item_cells t.items was.items (others.1.1.1.1.1.1.0 (omega arith));
     refs = kept ref_cells t.refs was.refs (others.1.1.1.1.1.1.1.0 (omega arith));
@@ -181,7 +181,7 @@ module _ (old new : Trees) (t : Tables) (was : HoldsRows old t) where
     bodies = kept body_cells t.bodies was.bodies (others.1.0 (omega arith));
     pieces = kept piece_cells t.pieces was.pieces (others.1.1.0 (omega arith));
     arrivals = kept arrival_cells t.arrivals was.arrivals (others.1.1.1.0 (omega arith));
-    uploads = kept upload_cells t.uploads was.uploads (others.1.1.1.1.0 (omega arith));
+    uploads = kept upload_cells t.uploads was.uploads (ap (map full_upload) (others.1.1.1.1.0 (omega arith)));
     wants = kept want_cells t.wants was.wants (others.1.1.1.1.1.0 (omega arith));
     items = kept item_cells t.items was.items (others.1.1.1.1.1.1.0 (omega arith));
     refs = kept ref_cells t.refs was.refs (others.1.1.1.1.1.1.1.0 (omega arith));

@@ -30,6 +30,7 @@ pub mod PiecesMeaning
 pub mod PiecesLemmas
 pub mod ArrivalsMeaning
 pub mod ArrivalsLemmas
+pub mod FullLemmas
 pub mod UploadsMeaning
 pub mod UploadsLemmas
 pub mod WantsMeaning

@@ -1,5 +1,5 @@
 -- What the statements on uploads do.
-use Rattle.std.proofs.Common.{◌≡◌, ℕ, pos, [], ◌∷◌, ◌++◌, Ok, Err, Result, OnOk, refl, true, false, List, filter, find, drop, Bool, not, is_some, Option, Some, None, ◌∙◌}
+use Rattle.std.proofs.Common.{◌≡◌, ℕ, pos, [], ◌∷◌, ◌++◌, Ok, Err, Result, OnOk, refl, true, false, List, filter, find, drop, Bool, not, is_some, Option, Some, None, ap, ◌∙◌}
 use Rattle.sqlite.specs.Table.{Table}
 use Rattle.sqlite.specs.Order.{Row}
 use Rattle.sqlite.specs.declared.types.Value.TheVariants.{Null, Text}
@@ -15,7 +15,7 @@ use Rattle.tables.proofs.EqualLemmas.{whole_test, text_test}
 use Rattle.tables.proofs.PrintLemmas.{print_test}
 use Rattle.tables.proofs.InsertLemmas.{puts}
 use Rattle.tables.proofs.AddLemmas.{adds_row, adds_id}
-use Rattle.tables.proofs.ShownLemmas.{Shows, shown, reads_shown, first_shown}
+use Rattle.tables.proofs.ShownLemmas.{Shows, shown}
 use Rattle.std.specs.Prelude.{nat_eq}
 use Rattle.sqlite_value.proofs.OrderLemmas.{value_cmp-Null}
 use Rattle.sqlite_typed.proofs.TestLemmas.{at_is_null, at_not}
@@ -27,6 +27,8 @@ use Rattle.tables.specs.declared.rows.Upload.{Upload}
 use Rattle.tables.specs.declared.uploads.TheConstants.{INSERT_UPLOAD, SELECT_UPLOADS, SELECT_UPLOAD, SELECT_UNJUDGED, SELECT_JUDGED, UPDATE_VERDICT}
 use Rattle.tables.proofs.UploadsMeaning.{insert_upload_terms, insert_upload_is, insert_upload_plain, upload_columns, upload_is, place_is_null, place_is_set, upload_id_is, select_uploads_is, select_uploads_plain, select_upload_is, select_upload_plain, select_unjudged_is, select_unjudged_plain, select_judged_is, select_judged_plain, update_verdict_columns, update_verdict_is, update_verdict_plain}
 use Rattle.tables.proofs.HoldsLemmas.{with_uploads}
+use Rattle.tables.proofs.FullLemmas.{raw, raw_cells, raw_rows, upload_in, full_as, full_rows_as, added_of, next_of, changed_of, reads_uploads, first_upload}
+use Rattle.sqlite_sql.specs.Term.{eval_all}
 use Rattle.tables.proofs.UpdateLemmas.{updates, updates_rows}
 
 abbrev uploads_table : Table
@@ -38,17 +40,24 @@ upload_cast name print = rw (cast_null, cast_int (pos print.size))
 pub inserts_upload : (old new : State) (name : List ℕ) (print : Print) (count : ℕ) → ExecutesInside 0 INSERT_UPLOAD.now (Text name ∷ print_cells print) old new (Ok count)
     → Changes old new (with_upload (record { name = name; print = print; place = None; verdict = None })) × ((t : Tables) → Holds old.now t → new.last_rowid ≡ pos (next_in t.uploads))
 inserts_upload old new name print count h =
+    let upload : Upload = record { name = name; print = print; place = None; verdict = None } in
     let put = λ (t : Tables) (was : Holds old.now t).
     puts archive_schema INSERT_UPLOAD.now 4 insert_upload_terms 9 insert_upload_is insert_upload_plain _ _ _ _ _ _ 7 refl (λ _. refl)
-    old new (Text name ∷ print_cells print) (Null ∷ (Null ∷ (Text name ∷ (print_cells print ++ Null ∷ Null ∷ [])))) count refl was.schema h.0 in (
+    old new (Text name ∷ print_cells print) (Null ∷ (Null ∷ (Text name ∷ (print_cells print ++ Null ∷ Null ∷ [])))) count refl was.schema h.0 in
+    let raws = λ (t : Tables) (was : Holds old.now t). raw_rows t.uploads (old.now.trees 7) was.rows.uploads in (
       record {
-        held = λ t was. record {
-          schema = (put t was).schema_is;
-          rows = with_uploads old.now.trees new.now.trees t was.rows _ (adds_row upload_cells uploads_table _ (record { name = name; print = print; place = None; verdict = None }) (upload_cast name print) old new (put t was) t.uploads was.rows.uploads) (put t was).others;
-        };
+        held = λ t was.
+            let r = raws t was in
+            let now = adds_row raw_cells uploads_table _ (raw upload) (upload_cast name print) old new (put t was) r.of r.has in
+            record {
+              schema = (put t was).schema_is;
+              rows = with_uploads old.now.trees new.now.trees t was.rows _ (full_rows_as _ _ (new.now.trees 7) (added_of t.uploads r.of upload r.uploads) now) (put t was).others;
+            };
         shown = h.1;
       },
-      λ t was. adds_id upload_cells uploads_table _ (record { name = name; print = print; place = None; verdict = None }) (upload_cast name print) old new (put t was) t.uploads was.rows.uploads,
+      λ t was.
+          let r = raws t was in
+          adds_id raw_cells uploads_table _ (raw upload) (upload_cast name print) old new (put t was) r.of r.has ∙ ap pos (next_of t.uploads r.of r.uploads),
     )
 
 upload_back : (x : ℕ × Upload) → row_of upload_of (shown upload_cells x) ≡ x
@@ -63,7 +72,7 @@ uploads_show = record { names = _; is = select_uploads_is.0; plain = select_uplo
 pub uploads_answer : (old new : State) (t : Tables) (all : List (ℕ × Upload)) → Holds old.now t → IsRead (row_of upload_of) SELECT_UPLOADS.now ([]) old new all
     → (all ≡ t.uploads) × IsUnchanged old new
 uploads_answer old new t all was h =
-    let done = reads_shown upload_cells 7 [] upload_columns ([]) SELECT_UPLOADS.now old new t.uploads was.schema was.rows.uploads (λ _. true) upload_of upload_back uploads_show all h in
+    let done = reads_uploads [] upload_columns ([]) SELECT_UPLOADS.now old new t.uploads was.schema was.rows.uploads (λ _. true) upload_back uploads_show (record { tests = λ _. refl; shows = λ _. refl }) all h in
     (unfiltered t.uploads done.0, done.1)
 
 upload_shows : (name : List ℕ) (print : Print) → Shows upload_cells 7 upload_is upload_columns (Text name ∷ print_cells print) (λ x. is_upload name print x.1) (shown upload_cells) SELECT_UPLOAD.now
@@ -72,7 +81,8 @@ upload_shows name print = record { names = _; is = select_upload_is.0; plain = s
 pub upload_answer : (old new : State) (t : Tables) (name : List ℕ) (print : Print) (found : Option (ℕ × Upload)) → Holds old.now t → IsReadFirst (row_of upload_of) SELECT_UPLOAD.now (Text name ∷ print_cells print) old new found
     → (found ≡ find (λ x. is_upload name print x.1) t.uploads) × IsUnchanged old new
 upload_answer old new t name print found was h =
-    first_shown upload_cells 7 upload_is upload_columns (Text name ∷ print_cells print) SELECT_UPLOAD.now old new t.uploads was.schema was.rows.uploads (λ x. is_upload name print x.1) upload_of upload_back (upload_shows name print) found h
+    first_upload upload_is upload_columns (Text name ∷ print_cells print) SELECT_UPLOAD.now old new t.uploads was.schema was.rows.uploads (λ x. is_upload name print x.1) upload_back (upload_shows name print)
+    (record { tests = λ _. refl; shows = λ _. refl }) found h
 
 unjudged_show : Shows upload_cells 7 place_is_null upload_columns ([]) (λ x. not (is_judged x.1)) (shown upload_cells) SELECT_UNJUDGED.now
 unjudged_show = record { names = _; is = select_unjudged_is.0; plain = select_unjudged_plain; unlisted = select_unjudged_is.1; tests = λ x. last_term (at_is_null whole false (λ n. value_cmp-Null (whole n)) x.1.place); shows = λ _. refl; real = λ _. refl }
@@ -80,7 +90,8 @@ unjudged_show = record { names = _; is = select_unjudged_is.0; plain = select_un
 pub unjudged_answer : (old new : State) (t : Tables) (all : List (ℕ × Upload)) → Holds old.now t → IsRead (row_of upload_of) SELECT_UNJUDGED.now ([]) old new all
     → (all ≡ filter (λ x. not (is_judged x.1)) t.uploads) × IsUnchanged old new
 unjudged_answer old new t all was h =
-    reads_shown upload_cells 7 place_is_null upload_columns ([]) SELECT_UNJUDGED.now old new t.uploads was.schema was.rows.uploads (λ x. not (is_judged x.1)) upload_of upload_back unjudged_show all h
+    reads_uploads place_is_null upload_columns ([]) SELECT_UNJUDGED.now old new t.uploads was.schema was.rows.uploads (λ x. not (is_judged x.1)) upload_back unjudged_show
+    (record { tests = λ _. refl; shows = λ _. refl }) all h
 
 not_not : (b : Bool) → not (not b) ≡ b
 not_not true = refl
@@ -92,7 +103,8 @@ judged_show = record { names = _; is = select_judged_is.0; plain = select_judged
 pub judged_answer : (old new : State) (t : Tables) (all : List (ℕ × Upload)) → Holds old.now t → IsRead (row_of upload_of) SELECT_JUDGED.now ([]) old new all
     → (all ≡ filter (λ x. is_judged x.1) t.uploads) × IsUnchanged old new
 judged_answer old new t all was h =
-    reads_shown upload_cells 7 place_is_set upload_columns ([]) SELECT_JUDGED.now old new t.uploads was.schema was.rows.uploads (λ x. is_judged x.1) upload_of upload_back judged_show all h
+    reads_uploads place_is_set upload_columns ([]) SELECT_JUDGED.now old new t.uploads was.schema was.rows.uploads (λ x. is_judged x.1) upload_back judged_show
+    (record { tests = λ _. refl; shows = λ _. refl }) all h
 
 -- the row that an update makes of a row
 abbrev updated : ℕ → ℕ → ℕ × Upload → Row
@@ -110,10 +122,12 @@ changes_verdict old new id place verdict (Ok count) h = record {
   held = λ t was.
       let params = whole id ∷ whole place ∷ whole verdict ∷ [] in
       let did = updates UPDATE_VERDICT.now 4 _ update_verdict_plain uploads_table refl update_verdict_is old new params count was.schema h.0 in
-      let now = updates_rows upload_cells 7 upload_id_is update_verdict_columns params (λ x. nat_eq x.0 id) (updated place verdict)
-      (λ x. last_term (whole_test x.0 id)) (λ _. refl) (λ _. refl) (λ _. refl)
-      old new t.uploads was.rows.uploads did.0 did.1 (judged place verdict) uploads_table (updated_cast place verdict) did.2 in
-      record { schema = did.2.schema_is; rows = with_uploads old.now.trees new.now.trees t was.rows _ now did.2.others };
+      let r = raw_rows t.uploads (old.now.trees 7) was.rows.uploads in
+      let now = updates_rows raw_cells 7 upload_id_is update_verdict_columns params (λ x. nat_eq x.0 id) (λ x. updated place verdict (upload_in x))
+      (λ x. last_term (whole_test x.0 id)) (λ x. ap (λ row. eval_all update_verdict_columns (params ∷ row ∷ [])) (full_as x)) (λ _. refl) (λ _. refl)
+      old new r.of r.has did.0 did.1 (λ k. raw (judged place verdict k.upload)) uploads_table (λ x. updated_cast place verdict (upload_in x)) did.2 in
+      let same = changed_of t.uploads r.of (λ x. nat_eq x.0 id) (judged place verdict) (λ k. raw (judged place verdict k.upload)) (λ _. refl) r.uploads in
+      record { schema = did.2.schema_is; rows = with_uploads old.now.trees new.now.trees t was.rows _ (full_rows_as _ _ (new.now.trees 7) same now) did.2.others };
   shown = h.1;
 }
 changes_verdict old new id place verdict (Err e) h = tt
