@@ -1,0 +1,11 @@
+pub mod AnswerLemmas
+pub mod DecideLemmas
+pub mod JoinedLemmas
+pub mod ListedLemmas
+pub mod Meaning
+pub mod PairLemmas
+pub mod QueryLemmas
+pub mod RowsLemmas
+pub mod StepLemmas
+pub mod TableLemmas
+pub mod WholeLemmas

@@ -1,0 +1,137 @@
+-- The rows of a table, as its two queries tell them.
+use Rattle.std.proofs.Common.{◌≡◌, ◌<◌, ◌^◌, ℕ, true, List, [], ◌∷◌, map, refl, sym, ap, ap₂, ◌∙◌, subst}
+use Rattle.std.specs.List.{AllByRecursion, AllZip}
+use Rattle.sqlite.specs.declared.types.Value.TheVariants.{Null, Int, Text}
+use Rattle.sqlite.specs.Order.{Row, column}
+use Rattle.sqlite.specs.Program.{overlay}
+use Rattle.sqlite.specs.Tree.{Trees, rowid, IsAscending}
+use Rattle.sqlite.specs.State.{State, Shown}
+use Rattle.sqlite.proofs.Callers.{reads_as}
+use Rattle.sqlite_schema.specs.Rules.{Keeps}
+use Rattle.sqlite_schema.specs.declared.schema.Constraint.TheVariants.{Datatype}
+use Rattle.sqlite_sql.specs.Text.{joined}
+use Rattle.sqlite_keyed.proofs.ListLemmas.{map-map, filter_all, all_of, ascending-map, ascending_from_map}
+use Rattle.tables.specs.Rows.{whole, Numbered, HasRows, Rises, stored}
+use Rattle.tables.specs.Schema.{archive_schema}
+use Rattle.tables.proofs.SelectLemmas.{reads_rows}
+use Rattle.tables_read.specs.Reading.{AsksForRows, AsksForOrder, Spells}
+use Rattle.tables_read.specs.Layout.{Layout, IsLayout, HasTypes, AreRead, AreSmall, first_cell, ids, show}
+use Rattle.tables_read.proofs.JoinedLemmas.{joined_same}
+use Rattle.tables_read.proofs.AnswerLemmas.{each_shown, order_answer}
+
+numbered : (tree : List Row) (ns : List ℕ) → map rowid tree ≡ map whole ns → (zs : Numbered Row) × (tree ≡ map (stored (λ r. r)) zs) × (ids zs ≡ ns)
+numbered [] [] e = ([], refl, refl)
+numbered [] (n ∷ ns) e = absurd (cc)
+numbered (r ∷ rs) [] e = absurd (cc)
+numbered ([] ∷ rs) (n ∷ ns) e = absurd (let h : Null ∷ map rowid rs ≡ Int _ ∷ map whole ns = e in cc)
+numbered ((v ∷ vs) ∷ rs) (n ∷ ns) e =
+    let h : v ∷ map rowid rs ≡ whole n ∷ map whole ns = e in
+    let here : v ≡ whole n = cc in
+    let there : map rowid rs ≡ map whole ns = cc in
+    let more = numbered rs ns there in
+    ((n, vs) ∷ more.0, ap₂ ◌∷◌ (ap (λ w. w ∷ vs) here) more.1, ap (λ l. n ∷ l) more.2)
+
+rises_as : {X Y : Type 0} (xs : Numbered X) (ys : Numbered Y) → ids xs ≡ ids ys → Rises xs → Rises ys
+rises_as xs ys same up = ascending_from_map (λ m n. m < n) (λ y. y.0) ys (subst (IsAscending (λ m n. m < n)) same (ascending-map (λ m n. m < n) (λ x. x.0) xs up))
+
+-- the rowid is a number of code
+abbrev HasNumber : Row → Type 0
+HasNumber row = (n : ℕ) × (n < 2 ^ 64) × (column row 0 ≡ whole n)
+
+collect : (tree : List Row) → AllByRecursion HasNumber tree → (ns : List ℕ) × (map rowid tree ≡ map whole ns) × AreSmall ns
+collect [] h = ([], refl, tt)
+collect (r ∷ rs) h = let more = collect rs h.1 in (h.0.0 ∷ more.0, ap₂ ◌∷◌ h.0.2 more.1, (h.0.1, more.2))
+
+module _ {X : Type 0} (l : Layout X) (laid : IsLayout l) where
+  spelled : (tree : List Row) (xs : Numbered X) → AllByRecursion (HasTypes l) tree → AllByRecursion (λ x. l.is_whole x.1 ≡ true) xs → AllZip (Spells l.seen) (map (show l) tree) xs → map l.full tree ≡ map (stored l.cells) xs
+  spelled [] [] typed all zip = refl
+  spelled [] (x ∷ xs) typed all zip = absurd zip
+  spelled (r ∷ rs) [] typed all zip = absurd zip
+  spelled (r ∷ rs) (x ∷ xs) typed all zip = ap₂ ◌∷◌ (laid.fits x r all.0 typed.0 zip.0) (spelled rs xs typed.1 all.1 zip.1)
+
+  spells_back : (tree : List Row) (xs : Numbered X) → map l.full tree ≡ map (stored l.cells) xs → AllZip (Spells l.seen) (map (show l) tree) xs
+  spells_back [] [] e = tt
+  spells_back [] (x ∷ xs) e = absurd (cc)
+  spells_back (r ∷ rs) [] e = absurd (cc)
+  spells_back (r ∷ rs) (x ∷ xs) e =
+      let h : l.full r ∷ map l.full rs ≡ stored l.cells x ∷ map (stored l.cells) xs = e in
+      let here : l.full r ≡ stored l.cells x = cc in
+      let there : map l.full rs ≡ map (stored l.cells) xs = cc in
+      (laid.back x r here, spells_back rs xs there)
+
+  ids_in : (tree : List Row) (xs : Numbered X) → AllZip (Spells l.seen) (map (show l) tree) xs → map rowid tree ≡ map whole (ids xs)
+  ids_in [] [] zip = refl
+  ids_in [] (x ∷ xs) zip = absurd zip
+  ids_in (r ∷ rs) [] zip = absurd zip
+  ids_in (r ∷ rs) (x ∷ xs) zip = ap₂ ◌∷◌ (sym (laid.number r) ∙ zip.0.0) (ids_in rs xs zip.1)
+
+  same_ids : (rows : List Row) (xs ys : Numbered X) → AllZip (Spells l.seen) rows xs → AllZip (Spells l.seen) rows ys → ids xs ≡ ids ys
+  same_ids [] [] [] p q = refl
+  same_ids [] [] (y ∷ ys) p q = absurd q
+  same_ids [] (x ∷ xs) ys p q = absurd p
+  same_ids (r ∷ rs) [] ys p q = absurd p
+  same_ids (r ∷ rs) (x ∷ xs) [] p q = absurd q
+  same_ids (r ∷ rs) (x ∷ xs) (y ∷ ys) p q =
+      let h : whole x.0 ≡ whole y.0 = sym p.0.0 ∙ q.0.0 in
+      let same : x.0 ≡ y.0 = cc in
+      ap₂ ◌∷◌ same (same_ids rs xs ys p.1 q.1)
+
+  have_numbers : (rows : List Row) (xs : Numbered X) → AllZip (Spells l.seen) rows xs → AreSmall (ids xs) → AllByRecursion HasNumber rows
+  have_numbers [] xs zip small = tt
+  have_numbers (r ∷ rs) [] zip small = absurd zip
+  have_numbers (r ∷ rs) (x ∷ xs) zip small = ((x.0, small.0, zip.0.0), have_numbers rs xs zip.1 small.1)
+
+  module _ (sql : List ℕ) (asks : AsksForRows l.tree l.columns sql) (old mid : State) (rows : List Row) (schema : old.now.schema ≡ archive_schema) (shown : Shown sql [] old mid rows) where
+    shown_if : (ns : List ℕ) → IsAscending (λ m n. m < n) ns → map rowid (old.now.trees l.tree) ≡ map whole ns → rows ≡ map (show l) (old.now.trees l.tree)
+    shown_if ns up are =
+        let zs = numbered (old.now.trees l.tree) ns are in
+        let rise : Rises zs.0 = ascending_from_map (λ m n. m < n) (λ z. z.0) zs.0 (subst (IsAscending (λ m n. m < n)) (sym zs.2) up) in
+        reads_rows (λ (r : Row). r) l.tree [] l.columns [] (λ _. true) (λ z. show l (stored (λ r. r) z)) (λ _. refl) (λ _. refl) sql asks.names asks.real old mid rows zs.0 asks.is asks.plain asks.unlisted schema (record { are = zs.1; rise = rise }) shown
+        ∙ ap (map (λ z. show l (stored (λ r. r) z))) (filter_all (λ _. true) zs.0 (all_of _ (λ _. refl) zs.0))
+        ∙ sym (map-map (show l) (stored (λ r. r)) zs.0) ∙ ap (map (show l)) (sym zs.1)
+
+    numbers_if : AllByRecursion HasNumber rows → AllByRecursion HasNumber (old.now.trees l.tree)
+    numbers_if all =
+        let read = reads_as sql [] old mid archive_schema schema _ asks.is asks.plain asks.unlisted rows shown in
+        let each = each_shown (overlay old.now.trees []) l.tree l.columns HasNumber rows (read.answer Null) all in
+        go (old.now.trees l.tree) (subst (AllByRecursion (λ r. HasNumber (show l r))) (asks.real old.now.trees) each)
+      where
+        go : (tree : List Row) → AllByRecursion (λ r. HasNumber (show l r)) tree → AllByRecursion HasNumber tree
+        go [] h = tt
+        go (r ∷ rs) h = ((h.0.0, h.0.1, sym (laid.number r) ∙ h.0.2), go rs h.1)
+
+    -- rows that are those of the table are what the answer spells
+    pub raw_spells : (xs : Numbered X) → HasRows l.cells xs (map l.full (old.now.trees l.tree)) → AllZip (Spells l.seen) rows xs
+    raw_spells xs has =
+        let zip = spells_back (old.now.trees l.tree) xs has.are in
+        let are = shown_if (ids xs) (ascending-map (λ m n. m < n) (λ x. x.0) xs has.rise) (ids_in (old.now.trees l.tree) xs zip) in
+        subst (λ rs. AllZip (Spells l.seen) rs xs) (sym are) zip
+
+    -- so others that it spells rise too
+    pub rises_if : (xs ys : Numbered X) → HasRows l.cells xs (map l.full (old.now.trees l.tree)) → AllZip (Spells l.seen) rows ys → Rises ys
+    rises_if xs ys has zip = rises_as xs ys (same_ids rows xs ys (raw_spells xs has) zip) has.rise
+
+    module _ (order_sql : List ℕ) (asks_order : AsksForOrder l.tree order_sql) (new : State) (found : List Row) (same : mid.now ≡ old.now) (told : Shown order_sql [] mid new found) where
+      order_told : (ns : List ℕ) → map rowid (old.now.trees l.tree) ≡ map whole ns → found ≡ (Text (joined (map whole ns)) ∷ []) ∷ []
+      order_told ns are =
+          let read = reads_as order_sql [] mid new archive_schema (ap (λ d. d.schema) same ∙ schema) _ asks_order.is asks_order.plain asks_order.unlisted found told in
+          order_answer (overlay mid.now.trees []) l.tree ns (ap (map rowid) (asks_order.real mid.now.trees) ∙ ap (λ d. map rowid (d.trees l.tree)) same ∙ are) found (read.answer Null)
+
+      -- and the text of their numbers is what the query for the order answers
+      pub tells_order : (xs ys : Numbered X) → HasRows l.cells xs (map l.full (old.now.trees l.tree)) → AllZip (Spells l.seen) rows ys
+          → first_cell found ≡ Text (joined (map whole (ids ys)))
+      tells_order xs ys has zip =
+          ap first_cell (order_told (ids xs) (ids_in (old.now.trees l.tree) xs (spells_back (old.now.trees l.tree) xs has.are)))
+          ∙ ap (λ ns. Text (joined (map whole ns))) (same_ids rows xs ys (raw_spells xs has) zip)
+
+      -- Rows that the answer spells, that rise and whose numbers stand so in the table are those of the table.
+      pub is_table : Keeps Datatype archive_schema old.now.trees → (xs : Numbered X) → AreRead l rows xs → Rises xs
+          → first_cell found ≡ Text (joined (map whole (ids xs))) → HasRows l.cells xs (map l.full (old.now.trees l.tree))
+      is_table typed xs read up text =
+          let tree = old.now.trees l.tree in
+          let got = collect tree (numbers_if (have_numbers rows xs read.spelled read.small)) in
+          let e : Text (joined (map whole got.0)) ≡ Text (joined (map whole (ids xs))) = sym (ap first_cell (order_told got.0 got.1)) ∙ text in
+          let t : joined (map whole got.0) ≡ joined (map whole (ids xs)) = cc in
+          let are : map rowid tree ≡ map whole (ids xs) = got.1 ∙ ap (map whole) (joined_same got.0 (ids xs) got.2 read.small t) in
+          let shown_are = shown_if (ids xs) (ascending-map (λ m n. m < n) (λ x. x.0) xs up) are in
+          record { are = spelled tree xs (laid.typed old.now.trees typed) read.whole (subst (λ rs. AllZip (Spells l.seen) rs xs) shown_are read.spelled); rise = up }

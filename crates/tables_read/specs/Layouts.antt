@@ -1,0 +1,66 @@
+-- How each table of an archive stores its rows.
+use Rattle.std.specs.Prelude.{true, [], ◌∷◌, is_some}
+use Rattle.sqlite.specs.declared.types.Value.TheVariants.{Text, Blob}
+use Rattle.sqlite.specs.Order.{Row}
+use Rattle.sqlite.specs.Term.{col}
+use Rattle.sqlite.specs.Values.{or_null}
+use Rattle.tables.specs.Rows.{full_upload, whole, meta_cells, body_cells, piece_cells, arrival_cells, upload_cells, want_cells, item_cells, ref_cells, file_cells, text_cells, date_cells}
+use Rattle.tables.specs.Schema as schema
+use Rattle.tables.specs.declared.rows.Arrival.{Arrival}
+use Rattle.tables.specs.declared.rows.Body.{Body}
+use Rattle.tables.specs.declared.rows.Date.{Date}
+use Rattle.tables.specs.declared.rows.File.{File}
+use Rattle.tables.specs.declared.rows.IndexText.{IndexText}
+use Rattle.tables.specs.declared.rows.Item.{Item}
+use Rattle.tables.specs.declared.rows.Meta.{Meta}
+use Rattle.tables.specs.declared.rows.Piece.{Piece}
+use Rattle.tables.specs.declared.rows.Ref.{Ref}
+use Rattle.tables.specs.declared.rows.Upload.{Upload}
+use Rattle.tables.specs.declared.rows.Want.{Want}
+use Rattle.tables_read.specs.Layout.{Layout}
+
+abbrev pub meta_layout : Layout Meta
+meta_layout = record { tree = 0; table = schema.meta; columns = col 1 0 ∷ col 1 1 ∷ col 1 2 ∷ []; full = λ r. r; cells = meta_cells; seen = meta_cells; is_whole = λ _. true }
+
+-- a body without its id
+abbrev pub body_seen : Body → Row
+body_seen b = or_null (λ p. whole p.size) b.print ∷ or_null (λ p. Blob p.md5) b.print ∷ or_null (λ p. Blob p.sha1) b.print ∷ or_null (λ p. Blob p.sha256) b.print ∷ []
+
+abbrev pub body_layout : Layout Body
+body_layout = record { tree = 1; table = schema.bodies; columns = col 1 0 ∷ col 1 2 ∷ col 1 3 ∷ col 1 4 ∷ col 1 5 ∷ []; full = λ r. r; cells = body_cells; seen = body_seen; is_whole = λ b. is_some b.print }
+
+abbrev pub piece_layout : Layout Piece
+piece_layout = record { tree = 3; table = schema.pieces; columns = col 1 0 ∷ col 1 1 ∷ col 1 2 ∷ col 1 3 ∷ []; full = λ r. r; cells = piece_cells; seen = piece_cells; is_whole = λ _. true }
+
+abbrev pub arrival_seen : Arrival → Row
+arrival_seen a = Text a.name ∷ whole a.body ∷ whole a.moment ∷ []
+
+abbrev pub arrival_layout : Layout Arrival
+arrival_layout = record { tree = 5; table = schema.arrivals; columns = col 1 0 ∷ col 1 2 ∷ col 1 3 ∷ col 1 4 ∷ []; full = λ r. r; cells = arrival_cells; seen = arrival_seen; is_whole = λ _. true }
+
+abbrev pub upload_seen : Upload → Row
+upload_seen u = Text u.name ∷ whole u.print.size ∷ Blob u.print.md5 ∷ Blob u.print.sha1 ∷ Blob u.print.sha256 ∷ or_null whole u.place ∷ or_null whole u.verdict ∷ []
+
+abbrev pub upload_layout : Layout Upload
+upload_layout = record { tree = 7; table = schema.uploads; columns = col 1 0 ∷ col 1 2 ∷ col 1 3 ∷ col 1 4 ∷ col 1 5 ∷ col 1 6 ∷ col 1 7 ∷ col 1 8 ∷ []; full = full_upload; cells = upload_cells; seen = upload_seen; is_whole = λ _. true }
+
+abbrev pub want_layout : Layout Want
+want_layout = record { tree = 10; table = schema.wants; columns = col 1 0 ∷ col 1 1 ∷ col 1 2 ∷ col 1 3 ∷ col 1 4 ∷ col 1 5 ∷ col 1 6 ∷ col 1 7 ∷ []; full = λ r. r; cells = want_cells; seen = want_cells; is_whole = λ _. true }
+
+abbrev pub item_seen : Item → Row
+item_seen i = Text i.suite ∷ whole i.kind ∷ Text i.«package» ∷ Text i.architecture ∷ Text i.version ∷ Text i.component ∷ Text i.source ∷ Blob i.paragraph ∷ []
+
+abbrev pub item_layout : Layout Item
+item_layout = record { tree = 13; table = schema.items; columns = col 1 0 ∷ col 1 2 ∷ col 1 3 ∷ col 1 4 ∷ col 1 5 ∷ col 1 6 ∷ col 1 7 ∷ col 1 8 ∷ col 1 9 ∷ []; full = λ r. r; cells = item_cells; seen = item_seen; is_whole = λ _. true }
+
+abbrev pub ref_layout : Layout Ref
+ref_layout = record { tree = 15; table = schema.refs; columns = col 1 0 ∷ col 1 1 ∷ col 1 2 ∷ col 1 3 ∷ col 1 4 ∷ col 1 5 ∷ col 1 6 ∷ col 1 7 ∷ []; full = λ r. r; cells = ref_cells; seen = ref_cells; is_whole = λ _. true }
+
+abbrev pub file_layout : Layout File
+file_layout = record { tree = 17; table = schema.files; columns = col 1 0 ∷ col 1 1 ∷ col 1 2 ∷ []; full = λ r. r; cells = file_cells; seen = file_cells; is_whole = λ _. true }
+
+abbrev pub text_layout : Layout IndexText
+text_layout = record { tree = 19; table = schema.texts; columns = col 1 0 ∷ col 1 1 ∷ col 1 2 ∷ []; full = λ r. r; cells = text_cells; seen = text_cells; is_whole = λ _. true }
+
+abbrev pub date_layout : Layout Date
+date_layout = record { tree = 21; table = schema.dates; columns = col 1 0 ∷ col 1 1 ∷ col 1 2 ∷ []; full = λ r. r; cells = date_cells; seen = date_cells; is_whole = λ _. true }

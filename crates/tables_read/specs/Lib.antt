@@ -1,0 +1,10 @@
+pub mod All
+pub mod Keys
+pub mod Laid
+pub mod Layout
+pub mod Layouts
+pub mod Order
+pub mod Pairs
+pub mod Reading
+pub mod Real
+pub mod RowKeys

@@ -1,0 +1,67 @@
+-- What reading leaves, and what it says.
+use Rattle.std.specs.Prelude.{◌≡◌, ◌+◌, ℕ, pos, negsuc, false, List, [], ◌∷◌, None, Result, IfOk, OnOk, OnErr, ⊤}
+use Rattle.sqlite.specs.declared.error.Error.{Error}
+use Rattle.sqlite.specs.declared.types.Value.TheVariants.{Int, Text}
+use Rattle.sqlite.specs.Listing.{understood, reads_listing}
+use Rattle.sqlite.specs.Order.{Row, column}
+use Rattle.sqlite.specs.Program.{overlay}
+use Rattle.sqlite.specs.Tree.{Trees}
+use Rattle.sqlite.specs.Command.TheVariants.{Select}
+use Rattle.sqlite.specs.Collation.TheVariants.{Binary}
+use Rattle.sqlite.specs.Query.{Query, inner, folded, end}
+use Rattle.sqlite.specs.Term.{Term, lit, col}
+use Rattle.sqlite.specs.State.{State, HasCleanDisk, IsUnchanged, Survives}
+use Rattle.sqlite.proofs.Callers.{command_of, IsPlain}
+use Rattle.sqlite_sql.specs.Term.{op2}
+use Rattle.sqlite_sql.specs.declared.aggregate.AggregateOp.TheVariants.{Concat}
+use Rattle.sqlite_sql.specs.declared.ops.BinaryOp.TheVariants.{Coalesce}
+use Rattle.tables.specs.Rows.{Fails, IsForeign, whole}
+use Rattle.tables.specs.Schema.{archive_schema}
+use Rattle.tables.proofs.SelectLemmas.{rows_query}
+
+-- the columns from this place on have these values
+abbrev pub Agree : Row → ℕ → Row → Type 0
+Agree row at [] = ⊤
+Agree row at (v ∷ vs) = (column row at ≡ v) × Agree row (at + 1) vs
+
+-- Over the tables of an archive, and where the disk is clean, what is read `Is` that which is asked for and nothing changes;
+-- no call commits.
+pub record Tells {X : Type 0} (old new : State) (result : Result X Error) (Is : X → Type 0) : Type 0 where
+  pub idle : old.in_transaction ≡ false → new.in_transaction ≡ false
+  pub is : HasCleanDisk new → old.now.schema ≡ archive_schema → IfOk result Is
+  pub unchanged : HasCleanDisk new → old.now.schema ≡ archive_schema → OnOk result (IsUnchanged old new)
+  pub err : HasCleanDisk new → old.now.schema ≡ archive_schema → OnErr result (Fails old new)
+  pub survives : Survives old new (λ _. IsForeign old.now)
+
+-- the text means this query
+pub record Means (query : Query) (tree : ℕ) (sql : List ℕ) : Type 0 where
+  pub names : List (List ℕ)
+  pub is : command_of (understood archive_schema sql) ≡ Select (record { lets = []; body = query }) names
+  pub plain : IsPlain (understood archive_schema sql)
+  pub unlisted : reads_listing archive_schema sql ≡ false
+  pub real : (db : Trees) → overlay db [] tree ≡ db tree
+
+-- the text asks for these columns of the rows of a table, by their rowids
+abbrev pub AsksForRows : ℕ → List Term → List ℕ → Type 0
+AsksForRows tree columns = Means (rows_query tree [] columns) tree
+
+-- the rowids with commas between, in the order in which the rows are stored
+abbrev pub order_query : ℕ → Query
+order_query tree = record {
+  from = folded (inner tree end) [] (record { op = Concat; distinct = false; collation = Binary; argument = col 1 0 } ∷ []) end;
+  filter = [];
+  group = None;
+  project = op2 Coalesce (col 1 0) (lit (Text [])) ∷ [];
+  distinct = false;
+  collations = [];
+  order = [];
+  limit = lit (Int (negsuc 0));
+  offset = lit (Int (pos 0));
+}
+
+abbrev pub AsksForOrder : ℕ → List ℕ → Type 0
+AsksForOrder tree = Means (order_query tree) tree
+
+-- a row of an answer is that of this number, with these values behind it
+abbrev pub Spells : {X : Type 0} → (X → Row) → Row → ℕ × X → Type 0
+Spells seen row x = (column row 0 ≡ whole x.0) × Agree row 1 (seen x.1)

@@ -1,0 +1,67 @@
+-- Rows that code can hold: each text is one, and each digest has its length.
+use Rattle.std.specs.Prelude.{◌≡◌, ◌≢◌, length, All, None, IfSome, IsUtf8}
+use Rattle.sums.specs.declared.print.Print.{Print}
+use Rattle.tables.specs.Rows.{Tables, rows_of}
+use Rattle.tables.specs.declared.rows.Arrival.{Arrival}
+use Rattle.tables.specs.declared.rows.Body.{Body}
+use Rattle.tables.specs.declared.rows.Date.{Date}
+use Rattle.tables.specs.declared.rows.File.{File}
+use Rattle.tables.specs.declared.rows.IndexText.{IndexText}
+use Rattle.tables.specs.declared.rows.Item.{Item}
+use Rattle.tables.specs.declared.rows.Ref.{Ref}
+use Rattle.tables.specs.declared.rows.Upload.{Upload}
+use Rattle.tables.specs.declared.rows.Want.{Want}
+
+pub record IsRealPrint (p : Print) : Type 0 where
+  pub md5 : length p.md5 ≡ 16
+  pub sha1 : length p.sha1 ≡ 20
+  pub sha256 : length p.sha256 ≡ 32
+
+-- a body that is whole
+pub record IsRealBody (b : Body) : Type 0 where
+  pub whole : b.print ≢ None
+  pub print : IfSome b.print IsRealPrint
+
+abbrev pub IsRealArrival : Arrival → Type 0
+IsRealArrival a = IsUtf8 a.name
+
+pub record IsRealUpload (u : Upload) : Type 0 where
+  pub name : IsUtf8 u.name
+  pub print : IsRealPrint u.print
+
+pub record IsRealWant (w : Want) : Type 0 where
+  pub name : IsUtf8 w.name
+  pub print : IsRealPrint w.print
+
+pub record IsRealItem (i : Item) : Type 0 where
+  pub suite : IsUtf8 i.suite
+  pub named : IsUtf8 i.«package»
+  pub architecture : IsUtf8 i.architecture
+  pub version : IsUtf8 i.version
+  pub component : IsUtf8 i.component
+  pub source : IsUtf8 i.source
+
+pub record IsRealRef (r : Ref) : Type 0 where
+  pub path : IsUtf8 r.path
+  pub print : IsRealPrint r.print
+
+abbrev pub IsRealFile : File → Type 0
+IsRealFile f = IsUtf8 f.path
+
+abbrev pub IsRealText : IndexText → Type 0
+IsRealText t = IsUtf8 t.path
+
+abbrev pub IsRealDate : Date → Type 0
+IsRealDate d = IsUtf8 d.suite
+
+-- The rows can be held, and each body is whole.
+pub record AreReal (t : Tables) : Type 0 where
+  pub bodies : All IsRealBody (rows_of t.bodies)
+  pub arrivals : All IsRealArrival (rows_of t.arrivals)
+  pub uploads : All IsRealUpload (rows_of t.uploads)
+  pub wants : All IsRealWant (rows_of t.wants)
+  pub items : All IsRealItem (rows_of t.items)
+  pub refs : All IsRealRef (rows_of t.refs)
+  pub files : All IsRealFile (rows_of t.files)
+  pub texts : All IsRealText (rows_of t.texts)
+  pub dates : All IsRealDate (rows_of t.dates)

@@ -1,0 +1,168 @@
+//! Values of a row of an answer, where they are of the type that is asked for.
+
+ghost use Rattle.std.specs.Prelude.{◌≡◌, ◌≢◌, ℕ, pos, List, [], ◌∷◌, length, None, IfOk, IfSome, IsUtf8, ⊤};
+ghost use Rattle.sqlite.specs.declared.types.Value.{Value as SqlValue};
+ghost use Rattle.sqlite.specs.declared.types.Value.TheVariants.{Int, Text as SqlText, Blob};
+ghost use Rattle.sqlite.specs.Order.{column};
+ghost use Rattle.sqlite.specs.Values.{or_null};
+ghost use Rattle.tables.specs.Rows.{whole, flag};
+ghost use Rattle.tables_read.specs.Reading.{Agree};
+
+use para::{Listed, Text};
+use sqlite::types::FromSql;
+use sqlite::{Error, Row};
+
+/// A value of one column.
+pub(crate) trait Cell: Sized + Drop {
+    ghost cell: { Self → SqlValue };
+
+    // the values that code can hold
+    ghost is_real: { Self → Type 0 };
+
+    /// The value in a column, if it is of this type.
+    fn from_cell(row: &Row, at: usize) -> Result<Option<Self>, Error>
+        ensures some { IfOk result (λ o. IfSome o (λ x. column row.now at ≡ cell x)) }
+        ensures none { IfOk result (λ o. o ≡ None → (x : Self) → is_real x → column row.now at ≢ cell x) };
+}
+
+/// What a column reads as, if it reads. An error is one of memory, or of a column that is not there.
+fn readable<T: FromSql + Drop>(row: &Row, at: usize) -> Result<Option<T>, Error>
+    ensures some { IfOk result (λ o. IfSome o (T.FromSql.reads_as (column row.now at))) }
+    ensures none { IfOk result (λ o. o ≡ None → ¬ T.FromSql.is_readable (column row.now at)) }
+{
+    match row.get(at) {
+        Ok(value) => Ok(Some(value)),
+        Err(Error::SqliteFailure(code)) => Err(Error::SqliteFailure(code)),
+        Err(Error::InvalidColumnIndex(at)) => Err(Error::InvalidColumnIndex(at)),
+        Err(_) => Ok(None),
+    }
+}
+
+impl Cell for u64 {
+    ghost cell = { whole };
+
+    ghost is_real = { λ _. ⊤ };
+
+    fn from_cell(row: &Row, at: usize) -> Result<Option<u64>, Error> {
+        readable(row, at)
+    }
+}
+
+impl Cell for Option<u64> {
+    ghost cell = { or_null whole };
+
+    ghost is_real = { λ _. ⊤ };
+
+    fn from_cell(row: &Row, at: usize) -> Result<Option<Option<u64>>, Error> {
+        readable(row, at)
+    }
+}
+
+/// A flag is stored as 0 or 1.
+impl Cell for bool {
+    ghost cell = { flag };
+
+    ghost is_real = { λ _. ⊤ };
+
+    fn from_cell(row: &Row, at: usize) -> Result<Option<bool>, Error> {
+        match readable::<u64>(row, at)? {
+            Some(0) => Ok(Some(false)),
+            Some(1) => Ok(Some(true)),
+            _ => Ok(None),
+        }
+    }
+}
+
+impl Cell for Text {
+    ghost cell = { SqlText };
+
+    ghost is_real = { IsUtf8 };
+
+    fn from_cell(row: &Row, at: usize) -> Result<Option<Text>, Error> {
+        match readable(row, at)? {
+            Some(text) => Ok(Some(Text::from_string(text))),
+            None => Ok(None),
+        }
+    }
+}
+
+impl Cell for Listed<u8> {
+    ghost cell = { Blob };
+
+    ghost is_real = { λ _. ⊤ };
+
+    fn from_cell(row: &Row, at: usize) -> Result<Option<Listed<u8>>, Error> {
+        match readable(row, at)? {
+            Some(bytes) => Ok(Some(Listed::from_vec(bytes))),
+            None => Ok(None),
+        }
+    }
+}
+
+/// These bytes as an array, if they are as many.
+fn array<const N: usize>(bytes: &[u8]) -> Option<[u8; N]>
+    ensures some { IfSome result (λ all. all ≡ bytes.now) }
+    ensures none { result ≡ None → length bytes.now ≢ N }
+{
+    if bytes.len() != N {
+        return None;
+    }
+    let mut all = [0; N];
+    all.copy_from_slice(bytes);
+    Some(all)
+}
+
+impl<const N: usize> Cell for [u8; N] {
+    ghost cell = { Blob };
+
+    ghost is_real = { λ d. length d ≡ N };
+
+    fn from_cell(row: &Row, at: usize) -> Result<Option<[u8; N]>, Error> {
+        match readable::<Vec<u8>>(row, at)? {
+            Some(bytes) => Ok(array(&bytes)),
+            None => Ok(None),
+        }
+    }
+}
+
+/// The values of columns one after another: a pair of the first and the others, and at last `()`.
+pub(crate) trait Cells: Sized + Drop {
+    ghost cells: { Self → List SqlValue };
+
+    // the values that code can hold
+    ghost is_real: { Self → Type 0 };
+
+    /// The values in the columns from this one on, if they are of these types.
+    fn from_cells(row: &Row, at: usize) -> Result<Option<Self>, Error>
+        ensures some { IfOk result (λ o. IfSome o (λ x. Agree row.now at (cells x))) }
+        ensures none { IfOk result (λ o. o ≡ None → (x : Self) → is_real x → ¬ Agree row.now at (cells x)) };
+}
+
+impl Cells for () {
+    ghost cells = { λ _. [] };
+
+    ghost is_real = { λ _. ⊤ };
+
+    fn from_cells(_row: &Row, _at: usize) -> Result<Option<()>, Error> {
+        Ok(Some(()))
+    }
+}
+
+impl<A: Cell, B: Cells> Cells for (A, B) {
+    ghost cells = { λ p. A.cell p.0 ∷ B.cells p.1 };
+
+    ghost is_real = { λ p. A.is_real p.0 × B.is_real p.1 };
+
+    fn from_cells(row: &Row, at: usize) -> Result<Option<(A, B)>, Error> {
+        if at >= row.column_count() {
+            return Err(Error::InvalidColumnIndex(at));
+        }
+        let Some(first) = A::from_cell(row, at)? else {
+            return Ok(None);
+        };
+        let Some(others) = B::from_cells(row, at + 1)? else {
+            return Ok(None);
+        };
+        Ok(Some((first, others)))
+    }
+}

@@ -1,0 +1,15 @@
+//! All rows of the tables of an archive at once, whatever the database holds.
+#![tactic(auto)]
+
+mod all;
+mod cells;
+pub mod laws;
+mod order;
+mod read;
+mod stored;
+mod table;
+#[cfg(test)]
+mod tests;
+
+pub use all::AllRows;
+pub use read::read_all;

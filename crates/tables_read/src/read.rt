@@ -1,0 +1,112 @@
+//! The rows of all tables.
+
+ghost use Rattle.std.specs.Prelude.{◌≡◌, ◌⊎◌, false, IfOk, IfSome, OnOk, OnErr, None, MatchOption};
+ghost use Rattle.sqlite.specs.Effect.{Database};
+ghost use Rattle.sqlite.specs.Held.{state};
+ghost use Rattle.sqlite.specs.State.{HasCleanDisk, IsUnchanged, Survives};
+ghost use Rattle.tables.specs.Rows.{Tables, Holds, Fails};
+ghost use Rattle.tables.specs.Schema.{archive_schema};
+ghost use Rattle.tables_read.specs.All.{AreWhole, tables_with};
+ghost use Rattle.tables_read.specs.Layout.{IsTable, IsNoTable};
+ghost use Rattle.tables_read.specs.Pairs.{tables_in};
+ghost use Rattle.tables_read.specs.Reading.{Tells};
+ghost use Rattle.tables_read.specs.Real.{AreReal};
+
+use crate::all::AllRows;
+use crate::stored::Stored;
+use crate::table::table;
+use sqlite::{Alter, Connection, Error};
+use std::alloc::Global;
+use tables::rows::{Arrival, Body, Date, File, IndexText, Item, Meta, Piece, Ref, Upload, Want};
+
+/// Tables that are read one after another: a pair of the first and the others.
+trait Read: Sized + Drop {
+    // these are the rows of the tables
+    ghost are: { Database → Self → Type 0 };
+
+    // no rows that code can hold are
+    ghost are_not: { Database → Type 0 };
+
+    fn read<S: Alter>(alloc: Global, conn: &mut Connection<S>) -> Result<Option<Self>, Error>
+        ensures { Tells (state S.Store conn.old) (state S.Store conn.new) result (λ o. MatchOption o (are_not (state S.Store conn.old).now) (are (state S.Store conn.old).now)) };
+}
+
+impl<T: Stored> Read for Vec<(u64, T)> {
+    ghost are = { λ db all. IsTable T.layout db all.items };
+
+    ghost are_not = { IsNoTable T.layout T.is_real };
+
+    fn read<S: Alter>(
+        alloc: Global,
+        conn: &mut Connection<S>,
+    ) -> Result<Option<Vec<(u64, T)>>, Error> {
+        table(alloc, conn)
+    }
+}
+
+impl<A: Read, B: Read> Read for (A, B) {
+    ghost are = { λ db p. A.are db p.0 × B.are db p.1 };
+
+    ghost are_not = { λ db. A.are_not db ⊎ B.are_not db };
+
+    fn read<S: Alter>(alloc: Global, conn: &mut Connection<S>) -> Result<Option<(A, B)>, Error> {
+        let Some(first) = A::read(alloc, conn)? else {
+            return Ok(None);
+        };
+        match B::read(alloc, conn)? {
+            Some(others) => Ok(Some((first, others))),
+            None => Ok(None),
+        }
+    }
+}
+
+type Numbered<T> = Vec<(u64, T)>;
+
+type Arrived = (
+    Numbered<Meta>,
+    (Numbered<Body>, (Numbered<Piece>, Numbered<Arrival>)),
+);
+
+type Judged = (Numbered<Upload>, Numbered<Want>);
+
+type Shown = (
+    (Numbered<Item>, (Numbered<Ref>, Numbered<File>)),
+    (Numbered<IndexText>, Numbered<Date>),
+);
+
+/// The rows of the pairs in which they are read.
+fn all_of(rows: (Arrived, (Judged, Shown))) -> AllRows
+    ensures { tables_with result ≡ tables_in rows }
+{
+    AllRows {
+        meta: rows.0.0,
+        bodies: rows.0.1.0,
+        pieces: rows.0.1.1.0,
+        arrivals: rows.0.1.1.1,
+        uploads: rows.1.0.0,
+        wants: rows.1.0.1,
+        items: rows.1.1.0.0,
+        refs: rows.1.1.0.1.0,
+        files: rows.1.1.0.1.1,
+        texts: rows.1.1.1.0,
+        dates: rows.1.1.1.1,
+    }
+}
+
+/// All rows of the tables, where they are rows of an archive: typed, with no number below zero, and with the print of each
+/// body.
+pub fn read_all<S: Alter>(alloc: Global, conn: &mut Connection<S>) -> Result<Option<AllRows>, Error>
+    requires archive { (state S.Store conn.old).now.schema ≡ archive_schema }
+    ensures idle { conn.old.in_transaction ≡ false → conn.new.in_transaction ≡ false }
+    ensures some { HasCleanDisk (state S.Store conn.new) → IfOk result (λ o. IfSome o (λ all. Holds (state S.Store conn.old).now (tables_with all) × AreWhole (tables_with all))) }
+    // A text or a digest that code cannot hold is none of an archive.
+    ensures none { HasCleanDisk (state S.Store conn.new) → IfOk result (λ o. o ≡ None → (t : Tables) → AreReal t → Holds (state S.Store conn.old).now t → ⊥) }
+    ensures unchanged { HasCleanDisk (state S.Store conn.new) → OnOk result (IsUnchanged (state S.Store conn.old) (state S.Store conn.new)) }
+    ensures err { HasCleanDisk (state S.Store conn.new) → OnErr result (Fails (state S.Store conn.old) (state S.Store conn.new)) }
+    ensures survives { Survives (state S.Store conn.old) (state S.Store conn.new) (λ _. ⊥) }
+{
+    match <(Arrived, (Judged, Shown))>::read(alloc, conn)? {
+        Some(rows) => Ok(Some(all_of(rows))),
+        None => Ok(None),
+    }
+}

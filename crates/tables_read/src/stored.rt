@@ -1,0 +1,524 @@
+//! The rows of each table: the statements that read them, and the columns in their order.
+
+ghost use Rattle.std.specs.Prelude.{◌≡◌, true, Some, None, IfOk, IfSome, ⊤};
+ghost use Rattle.tables_read.specs.Layout.{Layout, IsLayout};
+ghost use Rattle.tables_read.specs.Reading.{AsksForRows, AsksForOrder, Agree};
+ghost use Rattle.tables_read.specs.Real.{IsRealBody, IsRealArrival, IsRealUpload, IsRealWant, IsRealItem, IsRealRef, IsRealFile, IsRealText, IsRealDate};
+ghost use Rattle.tables_read.specs.Layouts.{meta_layout, body_layout, piece_layout, arrival_layout, upload_layout, want_layout, item_layout, ref_layout, file_layout, text_layout, date_layout};
+ghost use Rattle.tables_read.specs.Laid.{meta_laid, body_laid, piece_laid, arrival_laid, upload_laid, want_laid, item_laid, ref_laid, file_laid, text_laid, date_laid};
+
+use crate::cells::Cells;
+use para::{Listed, Text};
+use sqlite::{Error, Row};
+use sums::Print;
+use tables::rows::{Arrival, Body, Date, File, IndexText, Item, Meta, Piece, Ref, Upload, Want};
+
+/// A row of one of the tables.
+pub(crate) trait Stored: Sized + Drop {
+    ghost layout: { Layout Self };
+
+    // the values that code can hold
+    ghost is_real: { Self → Type 0 };
+
+    /// The text that asks for the rowid and the columns of each row, by rowid.
+    fn rows_text() -> &'static str
+        ensures { AsksForRows layout.tree layout.columns result.now };
+
+    /// The text that asks for the rowids in the order in which they are stored, with commas between.
+    fn order_text() -> &'static str
+        ensures { AsksForOrder layout.tree result.now };
+
+    /// The row whose columns stand behind the rowid, if they are of its types.
+    fn from_row(row: &Row) -> Result<Option<Self>, Error>
+        ensures some { IfOk result (λ o. IfSome o (λ x. (layout.is_whole x ≡ true) × Agree row.now 1 (layout.seen x))) }
+        ensures none { IfOk result (λ o. o ≡ None → (x : Self) → is_real x → ¬ Agree row.now 1 (layout.seen x)) };
+
+    ghost laid: { IsLayout layout };
+}
+
+/// A size and three digests, and what follows.
+type Printed<More> = (u64, ([u8; 16], ([u8; 20], ([u8; 32], More))));
+
+const META: &str = "SELECT rowid, version, configuration FROM meta ORDER BY rowid";
+
+const META_ORDER: &str = "SELECT coalesce((SELECT group_concat(rowid) FROM meta), '')";
+
+/// The row of these values.
+fn meta(cells: (u64, (Listed<u8>, ()))) -> Meta
+    ensures { result ≡ record { version = cells.0; configuration = cells.1.0 } }
+{
+    let (version, cells) = cells;
+    let (configuration, ()) = cells;
+    Meta {
+        version,
+        configuration,
+    }
+}
+
+impl Stored for Meta {
+    ghost layout = { meta_layout };
+
+    ghost is_real = { λ _. ⊤ };
+
+    ghost laid = { meta_laid };
+
+    fn rows_text() -> &'static str {
+        META
+    }
+
+    fn order_text() -> &'static str {
+        META_ORDER
+    }
+
+    fn from_row(row: &Row) -> Result<Option<Meta>, Error> {
+        match <(u64, (Listed<u8>, ()))>::from_cells(row, 1)? {
+            Some(cells) => Ok(Some(meta(cells))),
+            None => Ok(None),
+        }
+    }
+}
+
+const BODIES: &str = "SELECT rowid, size, md5, sha1, sha256 FROM bodies ORDER BY rowid";
+
+const BODIES_ORDER: &str = "SELECT coalesce((SELECT group_concat(rowid) FROM bodies), '')";
+
+/// The row of these values.
+fn body(cells: Printed<()>) -> Body
+    ensures { result ≡ record { print = Some (record { size = cells.0; md5 = cells.1.0; sha1 = cells.1.1.0; sha256 = cells.1.1.1.0 }) } }
+{
+    let (size, cells) = cells;
+    let (md5, cells) = cells;
+    let (sha1, cells) = cells;
+    let (sha256, ()) = cells;
+    let print = Print {
+        size,
+        md5,
+        sha1,
+        sha256,
+    };
+    Body { print: Some(print) }
+}
+
+/// Each body is whole.
+impl Stored for Body {
+    ghost layout = { body_layout };
+
+    ghost is_real = { IsRealBody };
+
+    ghost laid = { body_laid };
+
+    fn rows_text() -> &'static str {
+        BODIES
+    }
+
+    fn order_text() -> &'static str {
+        BODIES_ORDER
+    }
+
+    fn from_row(row: &Row) -> Result<Option<Body>, Error> {
+        match <Printed<()>>::from_cells(row, 1)? {
+            Some(cells) => Ok(Some(body(cells))),
+            None => Ok(None),
+        }
+    }
+}
+
+const PIECES: &str = "SELECT rowid, body, number, bytes FROM pieces ORDER BY rowid";
+
+const PIECES_ORDER: &str = "SELECT coalesce((SELECT group_concat(rowid) FROM pieces), '')";
+
+/// The row of these values.
+fn piece(cells: (u64, (u64, (Listed<u8>, ())))) -> Piece
+    ensures { result ≡ record { body = cells.0; number = cells.1.0; bytes = cells.1.1.0 } }
+{
+    let (body, cells) = cells;
+    let (number, cells) = cells;
+    let (bytes, ()) = cells;
+    Piece {
+        body,
+        number,
+        bytes,
+    }
+}
+
+impl Stored for Piece {
+    ghost layout = { piece_layout };
+
+    ghost is_real = { λ _. ⊤ };
+
+    ghost laid = { piece_laid };
+
+    fn rows_text() -> &'static str {
+        PIECES
+    }
+
+    fn order_text() -> &'static str {
+        PIECES_ORDER
+    }
+
+    fn from_row(row: &Row) -> Result<Option<Piece>, Error> {
+        match <(u64, (u64, (Listed<u8>, ())))>::from_cells(row, 1)? {
+            Some(cells) => Ok(Some(piece(cells))),
+            None => Ok(None),
+        }
+    }
+}
+
+const ARRIVALS: &str = "SELECT rowid, name, body, moment FROM arrivals ORDER BY rowid";
+
+const ARRIVALS_ORDER: &str = "SELECT coalesce((SELECT group_concat(rowid) FROM arrivals), '')";
+
+/// The row of these values.
+fn arrival(cells: (Text, (u64, (u64, ())))) -> Arrival
+    ensures { result ≡ record { name = cells.0; body = cells.1.0; moment = cells.1.1.0 } }
+{
+    let (name, cells) = cells;
+    let (body, cells) = cells;
+    let (moment, ()) = cells;
+    Arrival { name, body, moment }
+}
+
+impl Stored for Arrival {
+    ghost layout = { arrival_layout };
+
+    ghost is_real = { IsRealArrival };
+
+    ghost laid = { arrival_laid };
+
+    fn rows_text() -> &'static str {
+        ARRIVALS
+    }
+
+    fn order_text() -> &'static str {
+        ARRIVALS_ORDER
+    }
+
+    fn from_row(row: &Row) -> Result<Option<Arrival>, Error> {
+        match <(Text, (u64, (u64, ())))>::from_cells(row, 1)? {
+            Some(cells) => Ok(Some(arrival(cells))),
+            None => Ok(None),
+        }
+    }
+}
+
+const UPLOADS: &str =
+    "SELECT rowid, name, size, md5, sha1, sha256, place, verdict FROM uploads ORDER BY rowid";
+
+const UPLOADS_ORDER: &str = "SELECT coalesce((SELECT group_concat(rowid) FROM uploads), '')";
+
+/// The row of these values.
+fn upload(cells: (Text, Printed<(Option<u64>, (Option<u64>, ()))>)) -> Upload
+    ensures { result ≡ record { name = cells.0; place = cells.1.1.1.1.1.0; verdict = cells.1.1.1.1.1.1.0; print = record { size = cells.1.0; md5 = cells.1.1.0; sha1 = cells.1.1.1.0; sha256 = cells.1.1.1.1.0 } } }
+{
+    let (name, cells) = cells;
+    let (size, cells) = cells;
+    let (md5, cells) = cells;
+    let (sha1, cells) = cells;
+    let (sha256, cells) = cells;
+    let (place, cells) = cells;
+    let (verdict, ()) = cells;
+    let print = Print {
+        size,
+        md5,
+        sha1,
+        sha256,
+    };
+    Upload {
+        name,
+        place,
+        verdict,
+        print,
+    }
+}
+
+impl Stored for Upload {
+    ghost layout = { upload_layout };
+
+    ghost is_real = { IsRealUpload };
+
+    ghost laid = { upload_laid };
+
+    fn rows_text() -> &'static str {
+        UPLOADS
+    }
+
+    fn order_text() -> &'static str {
+        UPLOADS_ORDER
+    }
+
+    fn from_row(row: &Row) -> Result<Option<Upload>, Error> {
+        match <(Text, Printed<(Option<u64>, (Option<u64>, ()))>)>::from_cells(row, 1)? {
+            Some(cells) => Ok(Some(upload(cells))),
+            None => Ok(None),
+        }
+    }
+}
+
+const WANTS: &str =
+    "SELECT rowid, upload, name, size, md5, sha1, sha256, here FROM wants ORDER BY rowid";
+
+const WANTS_ORDER: &str = "SELECT coalesce((SELECT group_concat(rowid) FROM wants), '')";
+
+/// The row of these values.
+fn want(cells: (u64, (Text, Printed<(bool, ())>))) -> Want
+    ensures { result ≡ record { upload = cells.0; name = cells.1.0; here = cells.1.1.1.1.1.1.0; print = record { size = cells.1.1.0; md5 = cells.1.1.1.0; sha1 = cells.1.1.1.1.0; sha256 = cells.1.1.1.1.1.0 } } }
+{
+    let (upload, cells) = cells;
+    let (name, cells) = cells;
+    let (size, cells) = cells;
+    let (md5, cells) = cells;
+    let (sha1, cells) = cells;
+    let (sha256, cells) = cells;
+    let (here, ()) = cells;
+    let print = Print {
+        size,
+        md5,
+        sha1,
+        sha256,
+    };
+    Want {
+        upload,
+        name,
+        here,
+        print,
+    }
+}
+
+impl Stored for Want {
+    ghost layout = { want_layout };
+
+    ghost is_real = { IsRealWant };
+
+    ghost laid = { want_laid };
+
+    fn rows_text() -> &'static str {
+        WANTS
+    }
+
+    fn order_text() -> &'static str {
+        WANTS_ORDER
+    }
+
+    fn from_row(row: &Row) -> Result<Option<Want>, Error> {
+        match <(u64, (Text, Printed<(bool, ())>))>::from_cells(row, 1)? {
+            Some(cells) => Ok(Some(want(cells))),
+            None => Ok(None),
+        }
+    }
+}
+
+const ITEMS: &str =
+    "SELECT rowid, suite, kind, package, architecture, version, component, source, paragraph FROM items ORDER BY rowid";
+
+const ITEMS_ORDER: &str = "SELECT coalesce((SELECT group_concat(rowid) FROM items), '')";
+
+/// The columns of an item from its version on.
+type Shown = (Text, (Text, (Text, (Listed<u8>, ()))));
+
+/// The row of these values.
+fn item(cells: (Text, (u64, (Text, (Text, Shown))))) -> Item
+    ensures { result ≡ record { suite = cells.0; kind = cells.1.0; «package» = cells.1.1.0; architecture = cells.1.1.1.0; version = cells.1.1.1.1.0; component = cells.1.1.1.1.1.0; source = cells.1.1.1.1.1.1.0; paragraph = cells.1.1.1.1.1.1.1.0 } }
+{
+    let (suite, cells) = cells;
+    let (kind, cells) = cells;
+    let (package, cells) = cells;
+    let (architecture, cells) = cells;
+    let (version, cells) = cells;
+    let (component, cells) = cells;
+    let (source, cells) = cells;
+    let (paragraph, ()) = cells;
+    Item {
+        suite,
+        kind,
+        package,
+        architecture,
+        version,
+        component,
+        source,
+        paragraph,
+    }
+}
+
+impl Stored for Item {
+    ghost layout = { item_layout };
+
+    ghost is_real = { IsRealItem };
+
+    ghost laid = { item_laid };
+
+    fn rows_text() -> &'static str {
+        ITEMS
+    }
+
+    fn order_text() -> &'static str {
+        ITEMS_ORDER
+    }
+
+    fn from_row(row: &Row) -> Result<Option<Item>, Error> {
+        match <(Text, (u64, (Text, (Text, Shown))))>::from_cells(row, 1)? {
+            Some(cells) => Ok(Some(item(cells))),
+            None => Ok(None),
+        }
+    }
+}
+
+const REFS: &str =
+    "SELECT rowid, item, number, path, size, md5, sha1, sha256 FROM refs ORDER BY rowid";
+
+const REFS_ORDER: &str = "SELECT coalesce((SELECT group_concat(rowid) FROM refs), '')";
+
+/// The row of these values.
+fn refers(cells: (u64, (u64, (Text, Printed<()>)))) -> Ref
+    ensures { result ≡ record { item = cells.0; number = cells.1.0; path = cells.1.1.0; print = record { size = cells.1.1.1.0; md5 = cells.1.1.1.1.0; sha1 = cells.1.1.1.1.1.0; sha256 = cells.1.1.1.1.1.1.0 } } }
+{
+    let (item, cells) = cells;
+    let (number, cells) = cells;
+    let (path, cells) = cells;
+    let (size, cells) = cells;
+    let (md5, cells) = cells;
+    let (sha1, cells) = cells;
+    let (sha256, ()) = cells;
+    let print = Print {
+        size,
+        md5,
+        sha1,
+        sha256,
+    };
+    Ref {
+        item,
+        number,
+        path,
+        print,
+    }
+}
+
+impl Stored for Ref {
+    ghost layout = { ref_layout };
+
+    ghost is_real = { IsRealRef };
+
+    ghost laid = { ref_laid };
+
+    fn rows_text() -> &'static str {
+        REFS
+    }
+
+    fn order_text() -> &'static str {
+        REFS_ORDER
+    }
+
+    fn from_row(row: &Row) -> Result<Option<Ref>, Error> {
+        match <(u64, (u64, (Text, Printed<()>)))>::from_cells(row, 1)? {
+            Some(cells) => Ok(Some(refers(cells))),
+            None => Ok(None),
+        }
+    }
+}
+
+const FILES: &str = "SELECT rowid, path, body FROM files ORDER BY rowid";
+
+const FILES_ORDER: &str = "SELECT coalesce((SELECT group_concat(rowid) FROM files), '')";
+
+/// The row of these values.
+fn file(cells: (Text, (u64, ()))) -> File
+    ensures { result ≡ record { path = cells.0; body = cells.1.0 } }
+{
+    let (path, cells) = cells;
+    let (body, ()) = cells;
+    File { path, body }
+}
+
+impl Stored for File {
+    ghost layout = { file_layout };
+
+    ghost is_real = { IsRealFile };
+
+    ghost laid = { file_laid };
+
+    fn rows_text() -> &'static str {
+        FILES
+    }
+
+    fn order_text() -> &'static str {
+        FILES_ORDER
+    }
+
+    fn from_row(row: &Row) -> Result<Option<File>, Error> {
+        match <(Text, (u64, ()))>::from_cells(row, 1)? {
+            Some(cells) => Ok(Some(file(cells))),
+            None => Ok(None),
+        }
+    }
+}
+
+const TEXTS: &str = "SELECT rowid, path, body FROM texts ORDER BY rowid";
+
+const TEXTS_ORDER: &str = "SELECT coalesce((SELECT group_concat(rowid) FROM texts), '')";
+
+/// The row of these values.
+fn text(cells: (Text, (Listed<u8>, ()))) -> IndexText
+    ensures { result ≡ record { path = cells.0; body = cells.1.0 } }
+{
+    let (path, cells) = cells;
+    let (body, ()) = cells;
+    IndexText { path, body }
+}
+
+impl Stored for IndexText {
+    ghost layout = { text_layout };
+
+    ghost is_real = { IsRealText };
+
+    ghost laid = { text_laid };
+
+    fn rows_text() -> &'static str {
+        TEXTS
+    }
+
+    fn order_text() -> &'static str {
+        TEXTS_ORDER
+    }
+
+    fn from_row(row: &Row) -> Result<Option<IndexText>, Error> {
+        match <(Text, (Listed<u8>, ()))>::from_cells(row, 1)? {
+            Some(cells) => Ok(Some(text(cells))),
+            None => Ok(None),
+        }
+    }
+}
+
+const DATES: &str = "SELECT rowid, suite, moment FROM dates ORDER BY rowid";
+
+const DATES_ORDER: &str = "SELECT coalesce((SELECT group_concat(rowid) FROM dates), '')";
+
+/// The row of these values.
+fn date(cells: (Text, (u64, ()))) -> Date
+    ensures { result ≡ record { suite = cells.0; moment = cells.1.0 } }
+{
+    let (suite, cells) = cells;
+    let (moment, ()) = cells;
+    Date { suite, moment }
+}
+
+impl Stored for Date {
+    ghost layout = { date_layout };
+
+    ghost is_real = { IsRealDate };
+
+    ghost laid = { date_laid };
+
+    fn rows_text() -> &'static str {
+        DATES
+    }
+
+    fn order_text() -> &'static str {
+        DATES_ORDER
+    }
+
+    fn from_row(row: &Row) -> Result<Option<Date>, Error> {
+        match <(Text, (u64, ()))>::from_cells(row, 1)? {
+            Some(cells) => Ok(Some(date(cells))),
+            None => Ok(None),
+        }
+    }
+}
