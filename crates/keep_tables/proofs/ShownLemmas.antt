@@ -43,7 +43,7 @@ use Rattle.tables.specs.declared.rows.Item.{Item}
 use Rattle.tables.specs.declared.rows.Ref.{Ref}
 use Rattle.keep_tables.specs.Kept.{AreItems, codename_at, is_on, item_row, refs_for, refs_in, shown_row}
 use Rattle.keep_tables.specs.Kept as kept
-use Rattle.keep_tables.specs.Shown.{AreLeft, IsPut, PutsRow, clash, entry_in, entry_with, file_in, is_taken, item_with, kind_numbered, may_not_join, shown_in, suite_named}
+use Rattle.keep_tables.specs.Shown.{AreLeft, IsPut, MayBePut, MayStand, PutsRow, clash, entry_in, entry_with, file_in, is_taken, item_with, kind_numbered, may_not_join, shown_in, suite_named}
 
 -- ---- rows and the keys of shelves
 
@@ -54,13 +54,13 @@ bytes_equal : (xs ys : List ℕ) → xs ≡ ys → bytes_eq xs ys ≡ true
 bytes_equal xs ys e = (bytes_eq-Decides xs ys).1 e
 
 -- an item and the columns that name its shelf
-record IsItem (suite : List ℕ) (kind : ℕ) (name architecture : List ℕ) (x : Item) : Type 0 where
-  at_suite : x.suite ≡ suite
-  at_kind : x.kind ≡ kind
-  at_name : x.«package» ≡ name
-  at_architecture : x.architecture ≡ architecture
+pub record IsItem (suite : List ℕ) (kind : ℕ) (name architecture : List ℕ) (x : Item) : Type 0 where
+  pub at_suite : x.suite ≡ suite
+  pub at_kind : x.kind ≡ kind
+  pub at_name : x.«package» ≡ name
+  pub at_architecture : x.architecture ≡ architecture
 
-item_parts : (suite : List ℕ) (kind : ℕ) (name architecture : List ℕ) (x : Item) → is_item suite kind name architecture x ≡ true → IsItem suite kind name architecture x
+pub item_parts : (suite : List ℕ) (kind : ℕ) (name architecture : List ℕ) (x : Item) → is_item suite kind name architecture x ≡ true → IsItem suite kind name architecture x
 item_parts suite kind name architecture x h =
     let last = and_parts (bytes_eq x.suite suite && nat_eq x.kind kind && bytes_eq x.«package» name) (bytes_eq x.architecture architecture) h in
     let third = and_parts (bytes_eq x.suite suite && nat_eq x.kind kind) (bytes_eq x.«package» name) last.0 in
@@ -72,7 +72,7 @@ item_parts suite kind name architecture x h =
       at_architecture = bytes_same x.architecture architecture last.1;
     }
 
-item_from : (suite : List ℕ) (kind : ℕ) (name architecture : List ℕ) (x : Item) → IsItem suite kind name architecture x → is_item suite kind name architecture x ≡ true
+pub item_from : (suite : List ℕ) (kind : ℕ) (name architecture : List ℕ) (x : Item) → IsItem suite kind name architecture x → is_item suite kind name architecture x ≡ true
 item_from suite kind name architecture x h =
     and_from (bytes_eq x.suite suite && nat_eq x.kind kind && bytes_eq x.«package» name) (bytes_eq x.architecture architecture)
     (and_from (bytes_eq x.suite suite && nat_eq x.kind kind) (bytes_eq x.«package» name)
@@ -136,7 +136,7 @@ module _ (suites : List Suite) (differ : AllPairs (λ s r. s.codename ≢ r.code
 
   module _ (t : Tables) where
     -- what a row of a shelf shows
-    on_entry : (key : ShelfKey) (x : ℕ × Item) → key.suite < length suites → is_on suites key x ≡ true → entry_in suites t x ≡ Some (key, item_with key.kind x.1 (refs_in t x.0))
+    pub on_entry : (key : ShelfKey) (x : ℕ × Item) → key.suite < length suites → is_on suites key x ≡ true → entry_in suites t x ≡ Some (key, item_with key.kind x.1 (refs_in t x.0))
     unfolding entry_with
     on_entry key x lt at =
         let parts = item_parts (codename_at suites key.suite) (kind_number key.kind) key.«package» key.architecture x.1 at in
@@ -146,7 +146,7 @@ module _ (suites : List Suite) (differ : AllPairs (λ s r. s.codename ≢ r.code
         ∙ (λ i. Some (record { suite = key.suite; kind = key.kind; «package» = parts.at_name i; architecture = parts.at_architecture i }, item_with key.kind x.1 (refs_in t x.0)))
 
     -- a row that shows an item is on the item's shelf
-    entry_on : (x : ℕ × Item) (e : ShelfKey × shelf.Item) → entry_in suites t x ≡ Some e → (e.0.suite < length suites) × (is_on suites e.0 x ≡ true)
+    pub entry_on : (x : ℕ × Item) (e : ShelfKey × shelf.Item) → entry_in suites t x ≡ Some e → (e.0.suite < length suites) × (is_on suites e.0 x ≡ true)
     unfolding entry_with
     entry_on x e is = by_suite (suite_named suites x.1.suite) refl is
       where
@@ -174,7 +174,7 @@ module _ (suites : List Suite) (differ : AllPairs (λ s r. s.codename ≢ r.code
     shown_by xs = filter_map (entry_in suites t) xs
 
     -- what is shown on a shelf is what the row of the shelf shows
-    find_shown : (key : ShelfKey) → key.suite < length suites → (xs : Numbered Item)
+    pub find_shown : (key : ShelfKey) → key.suite < length suites → (xs : Numbered Item)
         → keyed.find key_order key (shown_by xs) ≡ option_map (λ x. item_with key.kind x.1 (refs_in t x.0)) (find (is_on suites key) xs)
     find_shown key lt [] = refl
     find_shown key lt (x ∷ xs) = go (is_on suites key x) refl (find_shown key lt xs)
@@ -198,7 +198,7 @@ module _ (suites : List Suite) (differ : AllPairs (λ s r. s.codename ≢ r.code
         go false off more = other (entry_in suites t x) refl off ∙ more
 
     -- nothing is shown beyond the suites
-    find_beyond : (key : ShelfKey) → length suites ≤ key.suite → (xs : Numbered Item) → keyed.find key_order key (shown_by xs) ≡ None
+    pub find_beyond : (key : ShelfKey) → length suites ≤ key.suite → (xs : Numbered Item) → keyed.find key_order key (shown_by xs) ≡ None
     find_beyond key beyond [] = refl
     find_beyond key beyond (x ∷ xs) = other (entry_in suites t x) refl ∙ find_beyond key beyond xs
       where
@@ -395,3 +395,30 @@ row_puts suites x refs old now suite kind item named numbered is put = record {
       ∙ ap (λ o. option_map (λ k. standing suite (item_with k x refs)) o) numbered;
   put = subst (λ (y : shelf.Item). IsPut old now (standing suite y)) is put;
 }
+
+-- ---- rows that may not stand on a shelf
+
+module _ (suites : List Suite) (x : Item) (refs : List Ref) (old : ShelvesValue) where
+  abbrev shown_as : Option ℕ → Option Kind → Option (ShelfKey × shelf.Item)
+  shown_as suite kind = option_and_then (λ s. option_map (λ k. standing s (item_with k x refs)) kind) suite
+
+  -- a row of no suite
+  pub no_suite : suite_named suites x.suite ≡ None → ¬ MayStand suites x refs old
+  unfolding entry_with
+  no_suite none may = let shows_none : Some may.entry ≡ None = sym may.is ∙ ap (λ o. shown_as o (kind_numbered x.kind)) none in cc
+
+  -- a row of no kind
+  pub no_kind : (suite : ℕ) → suite_named suites x.suite ≡ Some suite → kind_numbered x.kind ≡ None → ¬ MayStand suites x refs old
+  unfolding entry_with
+  no_kind suite named none may =
+      let shows_none : Some may.entry ≡ None = sym may.is ∙ ap (λ o. shown_as o (kind_numbered x.kind)) named ∙ ap (λ o. shown_as (Some suite) o) none in
+      cc
+
+  -- a row whose item may not be put
+  pub item_refused : (suite : ℕ) (kind : Kind) (item : shelf.Item) → suite_named suites x.suite ≡ Some suite → kind_numbered x.kind ≡ Some kind → item ≡ item_with kind x refs
+      → ¬ MayBePut old (standing suite item) → ¬ MayStand suites x refs old
+  unfolding entry_with
+  item_refused suite kind item named numbered is refused may =
+      let entry : may.entry ≡ standing suite (item_with kind x refs) =
+      same_Some _ _ (sym may.is ∙ ap (λ o. shown_as o (kind_numbered x.kind)) named ∙ ap (λ o. shown_as (Some suite) o) numbered) in
+      refused (subst (λ (y : shelf.Item). MayBePut old (standing suite y)) (sym is) (subst (MayBePut old) entry may.may))

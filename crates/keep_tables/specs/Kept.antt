@@ -3,6 +3,7 @@ use Rattle.std.specs.Prelude.{◌≡◌, ◌≢◌, ◌≤◌, ◌<◌, ℕ, ◌
 use Rattle.std.specs.List.{AllPairs, list_any, flat_map, enumerate_from, zip, range_with_len}
 use Rattle.std.specs.Option.{option_and_then, option_map_or}
 use Rattle.std.specs.FinMap.{get}
+use Rattle.std.specs.Str.{IsUtf8}
 use Rattle.rules.specs.Configuration.{config_in}
 use Rattle.rules.specs.Values.{ConfigValue}
 use Rattle.rules.specs.Verdicts.{number_of}
@@ -35,6 +36,7 @@ use Rattle.tables.specs.declared.rows.Meta.{Meta}
 use Rattle.tables.specs.declared.rows.Piece.{Piece}
 use Rattle.tables.specs.declared.rows.Ref.{Ref}
 use Rattle.tables.specs.declared.rows.Upload.{Upload}
+use Rattle.vers.specs.Syntax.{IsVersion}
 
 -- ---- bodies
 
@@ -182,6 +184,14 @@ pub record AreItems (t : Tables) (suites : List Suite) (shown : ShelvesValue) : 
   pub rows : All (λ x. ∥ ((key : ShelfKey) × (key.suite < length suites) × IsTrue (is_on suites key x)) ∥₁) t.items
   pub apart : AllPairs (λ x y. is_item x.suite x.kind x.«package» x.architecture y ≡ false) (rows_of t.items)
   pub owned : All (λ r. IsTrue (list_any (λ x. nat_eq x.0 r.item) t.items)) (rows_of t.refs)
+
+-- A row that may be that of an item: its version is one (Debian Policy 5.6.12), and its paragraph is text.
+pub record IsReadable (x : Item) : Type 0 where
+  pub version : IsVersion x.version
+  pub paragraph : IsUtf8 x.paragraph
+
+abbrev pub AreReadable : Tables → Type 0
+AreReadable t = All IsReadable (rows_of t.items)
 
 -- ---- files of the pool
 

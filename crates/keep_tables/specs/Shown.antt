@@ -10,7 +10,7 @@ use Rattle.sums.specs.declared.print.Print.{Print}
 use Rattle.suites.specs.Items.{standing}
 use Rattle.suites.specs.Keys.{key_order}
 use Rattle.suites.specs.Pool.{PoolWith}
-use Rattle.suites.specs.Shelves.{ShelvesValue}
+use Rattle.suites.specs.Shelves.{ShelvesValue, pool}
 use Rattle.suites.specs.declared.item.Item as shelf
 use Rattle.suites.specs.declared.item.PoolFile.{PoolFile}
 use Rattle.suites.specs.declared.key.Kind.{Kind}
@@ -19,7 +19,7 @@ use Rattle.suites.specs.declared.key.ShelfKey.{ShelfKey}
 use Rattle.tables.specs.Rows.{Numbered, Tables}
 use Rattle.tables.specs.declared.rows.Item.{Item}
 use Rattle.tables.specs.declared.rows.Ref.{Ref}
-use Rattle.keep_tables.specs.Kept.{refs_in}
+use Rattle.keep_tables.specs.Kept.{IsReadable, refs_in}
 
 -- the position of the suite with a codename
 unfoldable pub suite_named : List Suite → List ℕ → Option ℕ
@@ -58,21 +58,6 @@ entry_in suites t x = entry_with suites x.1 (refs_in t x.0)
 unfoldable pub shown_in : List Suite → Tables → ShelvesValue
 shown_in suites t = from_entries (filter_map (entry_in suites t) t.items)
 
--- an item comes to its shelf, which is empty
-pub record IsPut (old new : ShelvesValue) (e : ShelfKey × shelf.Item) : Type 0 where
-  pub free : get old e.0 ≡ None
-  pub made : new ≡ insert old e.0 e.1
-
--- what a row with these files shows comes to its shelf
-pub record PutsRow (suites : List Suite) (x : Item) (refs : List Ref) (old new : ShelvesValue) : Type 0 where
-  pub entry : ShelfKey × shelf.Item
-  pub is : entry_with suites x refs ≡ Some entry
-  pub put : IsPut old new entry
-
--- The shelves so far show all but what is left: with the rows that are left they show what all rows show.
-abbrev pub AreLeft : List Suite → Tables → ShelvesValue → Numbered Item → Type 0
-AreLeft suites t so_far left = (key : ShelfKey) → option_or (get so_far key) (keyed.find key_order key (filter_map (entry_in suites t) left)) ≡ get (shown_in suites t) key
-
 -- ---- files that may not join a pool
 
 -- two files stand at one path, with different prints
@@ -86,3 +71,32 @@ is_taken pool f = option_map_or (λ there. not (same_print there f.print)) (get 
 -- a file of an item clashes with what is in the pool, or with another of its files
 unfoldable pub may_not_join : PoolWith Print → List PoolFile → PoolFile → Bool
 may_not_join pool files f = is_taken pool f || list_any (clash f) files
+
+-- ---- items that come to their shelves
+
+-- an item comes to its shelf, which is empty
+pub record IsPut (old new : ShelvesValue) (e : ShelfKey × shelf.Item) : Type 0 where
+  pub free : get old e.0 ≡ None
+  pub made : new ≡ insert old e.0 e.1
+
+-- what a row with these files shows comes to its shelf
+pub record PutsRow (suites : List Suite) (x : Item) (refs : List Ref) (old new : ShelvesValue) : Type 0 where
+  pub entry : ShelfKey × shelf.Item
+  pub is : entry_with suites x refs ≡ Some entry
+  pub put : IsPut old new entry
+
+-- An item may come to its shelf: this is empty, and each of the item's files may join the pool.
+pub record MayBePut (old : ShelvesValue) (e : ShelfKey × shelf.Item) : Type 0 where
+  pub free : get old e.0 ≡ None
+  pub fits : list_any (may_not_join (pool old) e.1.files) e.1.files ≡ false
+
+-- What a row with these files shows may come to its shelf.
+pub record MayStand (suites : List Suite) (x : Item) (refs : List Ref) (old : ShelvesValue) : Type 0 where
+  pub readable : IsReadable x
+  pub entry : ShelfKey × shelf.Item
+  pub is : entry_with suites x refs ≡ Some entry
+  pub may : MayBePut old entry
+
+-- The shelves so far show all but what is left: with the rows that are left they show what all rows show.
+abbrev pub AreLeft : List Suite → Tables → ShelvesValue → Numbered Item → Type 0
+AreLeft suites t so_far left = (key : ShelfKey) → option_or (get so_far key) (keyed.find key_order key (filter_map (entry_in suites t) left)) ≡ get (shown_in suites t) key

@@ -37,15 +37,19 @@ pub struct TableKeeper<S: Alter + Drop> {
 }
 
 impl<S: Alter + Drop> TableKeeper<S> {
-    ghost use Rattle.std.specs.Prelude.{◌≢◌, IfOk, IfErr};
+    ghost use Rattle.std.specs.Prelude.{◌≢◌, ◌⊎◌, true, IfOk, IfErr, IsErrAnd};
+    ghost use Rattle.sqlite.specs.State.{Survives};
     ghost use Rattle.keep.specs.Plain.{fresh_book};
     ghost use Rattle.keep.specs.declared.fault.KeepFault.TheVariants.{Tables as NotEmpty};
     ghost use Rattle.tables.specs.Schema.{no_schema};
     ghost use Rattle.keep_tables.specs.Archives.{book_of};
+    ghost use Rattle.keep_tables.specs.Founding.{MayFound, founded};
+    ghost use Rattle.keep_tables.specs.Transactions.{IsUndone};
 
     /// A new archive of the configuration, in a database that has no table, no index and no view, made at the moment, in
-    /// seconds since 1970-01-01 00:00:00 UTC. A fault gives the connection back; it is `KeepFault::Tables` where the database
-    /// has an object already or a transaction is begun.
+    /// seconds since 1970-01-01 00:00:00 UTC. A fault gives the connection back, and then what was committed is as before. It is
+    /// `KeepFault::Tables` exactly where the database has an object already or a transaction is begun. A crash leaves what was
+    /// there before or the whole archive.
     #[tactic(auto, unfolding(crate::specs::Kept::book_in))]
     pub fn create(
         alloc: Global,
@@ -56,7 +60,11 @@ impl<S: Alter + Drop> TableKeeper<S> {
         requires { moment ≤ LATEST }
         ensures made { IfOk result (λ keeper. HasCleanDisk (state S.Store keeper.conn) → IsTrue (state S.Store keeper.conn).is_open
             × (book_of (state S.Store keeper.conn).committed keeper.config keeper.judged.items (shown_in keeper.config.suites (tables_in (state S.Store keeper.conn).committed)) keeper.dates.items ≡ fresh_book config moment)) }
-        ensures taken { (state S.Store connection).now.schema ≢ no_schema → IfErr result (λ e. e.1 ≡ NotEmpty) }
+        ensures taken { (connection.in_transaction ≡ true) ⊎ ((state S.Store connection).now.schema ≢ no_schema) → IsErrAnd result (λ e. (e.1 ≡ NotEmpty) × (e.0 ≡ connection)) }
+        ensures free { IfErr result (λ e. e.1 ≡ NotEmpty → (connection.in_transaction ≡ true) ⊎ ((state S.Store connection).now.schema ≢ no_schema)) }
+        ensures undone { IfErr result (λ e. HasCleanDisk (state S.Store e.0) → IsUndone (state S.Store connection) (state S.Store e.0)) }
+        ensures crash { IfOk result (λ keeper. Survives (state S.Store connection) (state S.Store keeper.conn) (MayFound (state S.Store connection) (founded config moment))) }
+        ensures crash_undone { IfErr result (λ e. Survives (state S.Store connection) (state S.Store e.0) (MayFound (state S.Store connection) (founded config moment))) }
     {
         let free = connection.is_autocommit();
         let empty = is_without_tables(&connection);
@@ -76,6 +84,28 @@ impl<S: Alter + Drop> TableKeeper<S> {
                 dates,
             }),
             Err(error) => Err((connection, fault_of(error))),
+        }
+    }
+
+    /// The keeper over a database that keeps an archive of this configuration, with these judged uploads in order, and for each
+    /// suite in the order of the configuration the moment at which what it shows last changed.
+    pub fn over(
+        connection: Connection<S>,
+        config: Config,
+        judged: Vec<Judgement>,
+        dates: Vec<u64>,
+    ) -> TableKeeper<S>
+        requires idle { connection.in_transaction ≡ false }
+        requires in_range { ∥ All (λ date. date ≤ LATEST) dates.items ∥₁ }
+        requires kept { HasCleanDisk (state S.Store connection) → IsTrue (state S.Store connection).is_open
+            → ∥ KeepsArchive (state S.Store connection).committed config judged.items (shown_in config.suites (tables_in (state S.Store connection).committed)) dates.items ∥₁ }
+        ensures { (result.conn ≡ connection) × (result.config ≡ config) × (result.judged ≡ judged) × (result.dates ≡ dates) }
+    {
+        TableKeeper {
+            conn: connection,
+            config,
+            judged,
+            dates,
         }
     }
 

@@ -21,5 +21,7 @@ mod taking;
 mod waiting;
 
 pub use create::is_without_tables;
+pub use fault::fault_of;
 pub use keeper::TableKeeper;
 pub use open::is_archive_schema;
+pub use shelve::put_row;

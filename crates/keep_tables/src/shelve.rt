@@ -1,16 +1,18 @@
 //! What the suites show, read from the rows of items and of their files.
 
-ghost use Rattle.std.specs.Prelude.{◌≡◌, false, map, None, IfOk, OnOk, OnErr};
+ghost use Rattle.std.specs.Prelude.{◌≡◌, ◌⊎◌, false, map, None, IfOk, IfErr, OnOk, OnErr};
 ghost use Rattle.std.specs.FinMap.{get};
 ghost use Rattle.std.specs.List.{list_any};
+ghost use Rattle.std.specs.Str.{IsUtf8};
 ghost use Rattle.sqlite.specs.Held.{state};
 ghost use Rattle.sqlite.specs.State.{HasCleanDisk, IsUnchanged, Survives};
 ghost use Rattle.suites.specs.Items.{standing};
 ghost use Rattle.suites.specs.Shelves.{AreSound, ShelvesValue, pool};
 ghost use Rattle.tables.specs.Rows.{Tables, Holds};
-ghost use Rattle.keep_tables.specs.Kept.{AreItems};
-ghost use Rattle.keep_tables.specs.Shown.{IsPut, PutsRow, clash, file_in, is_taken as is_taken_in, item_with as item_of_row, kind_numbered as kind_of_number, may_not_join as may_not_join_pool, suite_named as suite_of_name};
+ghost use Rattle.keep_tables.specs.Kept.{AreItems, IsReadable};
+ghost use Rattle.keep_tables.specs.Shown.{IsPut, MayBePut, MayStand, PutsRow, clash, file_in, is_taken as is_taken_in, item_with as item_of_row, kind_numbered as kind_of_number, may_not_join as may_not_join_pool, suite_named as suite_of_name};
 ghost use Rattle.keep_tables.specs.Transactions.{IsUndone};
+ghost use Rattle.vers.specs.Syntax.{IsVersion};
 
 use para::{Listed, Text};
 use rules::{Config, Suite};
@@ -48,7 +50,8 @@ fn kind_numbered(number: u64) -> Option<Kind>
 
 /// The version that a text is. One that is none, which cannot be in an archive, is refused.
 fn version_in(alloc: Global, text: &str) -> Result<Version, Error>
-    ensures { IfOk result (λ version. version ≡ text.now) }
+    ensures ok { IfOk result (λ version. (version ≡ text.now) × IsVersion text.now) }
+    ensures refused { IfErr result (λ e. (e ≡ Error.SqliteFailure ErrorCode.OutOfMemory) ⊎ (¬ IsVersion text.now)) }
 {
     match Version::parse(alloc, text) {
         Ok(version) => Ok(version),
@@ -59,7 +62,8 @@ fn version_in(alloc: Global, text: &str) -> Result<Version, Error>
 
 /// The text that bytes are. Bytes that are none, which cannot be in an archive, are refused.
 fn text_in(alloc: Global, bytes: &[u8]) -> Result<Text, Error>
-    ensures { IfOk result (λ text. text ≡ bytes.now) }
+    ensures ok { IfOk result (λ text. (text ≡ bytes.now) × IsUtf8 bytes.now) }
+    ensures refused { IfErr result (λ e. (e ≡ Error.SqliteFailure ErrorCode.OutOfMemory) ⊎ (¬ IsUtf8 bytes.now)) }
 {
     let Ok(text) = str::from_utf8(bytes) else {
         return Err(Error::SqliteFailure(ErrorCode::DatabaseCorrupt));
@@ -88,7 +92,9 @@ fn item_with(
     row: rows::Item,
     refs: Vec<rows::Ref>,
 ) -> Result<Item, Error>
-    ensures { IfOk result (λ item. item ≡ item_of_row kind row refs.items) }
+    ensures ok { IfOk result (λ item. item ≡ item_of_row kind row refs.items) }
+    ensures readable { OnOk result (IsReadable row) }
+    ensures refused { IfErr result (λ e. (e ≡ Error.SqliteFailure ErrorCode.OutOfMemory) ⊎ (¬ IsReadable row)) }
 {
     let version = version_in(alloc, row.version.as_str())?;
     let paragraph = text_in(alloc, row.paragraph.as_slice())?;
@@ -179,7 +185,8 @@ fn admit(alloc: Global, shelves: &mut Shelves, suite: usize, item: Item) -> Resu
 /// Puts an item on its shelf in a suite. A shelf that is taken, and a file with another print than what stands at its path,
 /// which cannot be in an archive, are refused.
 fn put_item(alloc: Global, shelves: &mut Shelves, suite: usize, item: Item) -> Result<(), Error>
-    ensures { OnOk result (IsPut shelves.old shelves.new (standing suite item)) }
+    ensures ok { OnOk result (IsPut shelves.old shelves.new (standing suite item)) }
+    ensures refused { IfErr result (λ e. (e ≡ Error.SqliteFailure ErrorCode.OutOfMemory) ⊎ (¬ MayBePut shelves.old (standing suite item))) }
 {
     let key = item.shelf(suite)?;
     if shelves.get(&key).is_some() {
@@ -192,14 +199,16 @@ fn put_item(alloc: Global, shelves: &mut Shelves, suite: usize, item: Item) -> R
 }
 
 /// Puts on its shelf what a row shows. A row of no suite or of no kind, which cannot be in an archive, is refused.
-fn put_row(
+pub fn put_row(
     alloc: Global,
     shelves: &mut Shelves,
     suites: &[Suite],
     row: rows::Item,
     refs: Vec<rows::Ref>,
 ) -> Result<(), Error>
-    ensures { OnOk result (PutsRow suites.now row refs.items shelves.old shelves.new) }
+    ensures ok { OnOk result (PutsRow suites.now row refs.items shelves.old shelves.new) }
+    ensures readable { OnOk result (IsReadable row) }
+    ensures refused { IfErr result (λ e. (e ≡ Error.SqliteFailure ErrorCode.OutOfMemory) ⊎ (¬ MayStand suites.now row refs.items shelves.old)) }
 {
     let Some(suite) = suite_named(suites, row.suite.as_str()) else {
         return Err(Error::SqliteFailure(ErrorCode::DatabaseCorrupt));

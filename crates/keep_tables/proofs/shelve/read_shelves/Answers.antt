@@ -36,7 +36,7 @@ loop-id-preserved g c =
           let before = c.loop-id.invariant.read early t was in
           let read = c.in_ok-refs.ensures.ok clean t (held_after old mid before.1 t was) in (
             one_less c.args.config.now.suites t c.loop-id.shelves c.put_row.new.shelves (c.in-Some.id, c.in-Some.row) c.next.new.self.rest.items c.loop-id.id-iterator.rest.items
-                (subst (λ (p : List Suite × List Ref). PutsRow p.0 c.in-Some.row p.1 c.loop-id.shelves c.put_row.new.shelves) (λ i. (c.suites.ensures i, read.0 i)) c.in_ok-put_row.ensures)
+                (subst (λ (p : List Suite × List Ref). PutsRow p.0 c.in-Some.row p.1 c.loop-id.shelves c.put_row.new.shelves) (λ i. (c.suites.ensures i, read.0 i)) c.in_ok-put_row.ensures.ok)
                 c.in-Some.ensures.steps.0 before.0,
             unchanged_then old mid new before.1 read.1,
           );
