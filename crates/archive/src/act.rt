@@ -2,6 +2,7 @@
 
 use crate::fault::Stop;
 use crate::parsed::CommandLine;
+use crate::words::{self, Route};
 use keep::PlainKeeper;
 use queue::{Archive, Fault};
 use rules::Config;
@@ -22,7 +23,7 @@ const BOX_PACKAGES: &str = "dists/box/main/binary-amd64/Packages";
 const MOST_READ: u64 = 4_194_305;
 
 /// The text behind a path's last slash.
-fn file_name(path: &str) -> &str {
+pub fn file_name(path: &str) -> &str {
     match path.rsplit_once('/') {
         Some((_, name)) => name,
         None => path,
@@ -37,8 +38,8 @@ fn read_file<R: Files + AllocGlobal>(rt: &R, path: &str) -> io::Result<Vec<u8>> 
     Ok(body)
 }
 
-/// A file to deliver.
-fn body_of<'a, R: Files + AllocGlobal>(rt: &R, path: &'a str) -> Result<Vec<u8>, Stop<'a>> {
+/// A file that was given.
+pub fn body_of<'a, R: Files + AllocGlobal>(rt: &R, path: &'a str) -> Result<Vec<u8>, Stop<'a>> {
     match read_file(rt, path) {
         Ok(body) => Ok(body),
         Err(error) if error.kind() == io::ErrorKind::OutOfMemory => {
@@ -93,30 +94,62 @@ fn compare<'a, W: Write>(
     Ok(())
 }
 
-fn done<'a, R: Files + AllocGlobal, W: Write>(
-    rt: &R,
+/// Does a line, and says whether all that was given was taken.
+fn done<'a, W: Write>(
+    rt: &HostRuntime,
     line: &CommandLine<'a>,
     out: &mut W,
-) -> Result<(), Stop<'a>> {
+) -> Result<bool, Stop<'a>> {
     match line {
         CommandLine::Try { paths } => try_upload(rt, paths, out)?,
         CommandLine::Compare { left, right } => compare(rt.alloc(), left, right, out)?,
+        CommandLine::Init { db, at, conf } => words::init(rt, db, *at, conf)?,
+        CommandLine::Put { db, at, paths } => return words::put(rt, db, *at, paths, out),
+        CommandLine::Run { db, at } => words::run(rt, db, *at, out)?,
+        CommandLine::Copy {
+            db,
+            at,
+            from,
+            to,
+            source,
+        } => words::copy(rt, db, *at, Route { from, to, source }, out)?,
+        CommandLine::Show { db, path } => words::show(rt, db, path, out)?,
+        CommandLine::Waiting { db, at } => words::waiting(rt, db, *at, out)?,
+        CommandLine::Verdicts { db } => words::verdicts(rt, db, out)?,
+        CommandLine::Serve {
+            db,
+            at,
+            address,
+            count,
+        } => words::listen(rt, db, *at, address, *count)?,
     }
-    out.flush()?;
-    Ok(())
+    Ok(true)
 }
 
-/// Does a line, and answers the exit status: 0 where it is done, 1 where something is refused or a file can't be read, 3
-/// where memory runs out or an output fails. What was refused is a line on `err`; where an output fails nothing more is
-/// printed.
-pub fn act<R: Files + AllocGlobal, W: Write, E: Write>(
-    rt: &R,
+/// Does a line, and has its output written out.
+fn finished<'a, W: Write>(
+    rt: &HostRuntime,
+    line: &CommandLine<'a>,
+    out: &mut W,
+) -> Result<bool, Stop<'a>> {
+    let all = done(rt, line, out)?;
+    out.flush()?;
+    Ok(all)
+}
+
+/// Does a line, and answers the exit status: 0 where it is done; 1 where something is refused or a file can't be read;
+/// 3 where memory runs out, a disk fails or is full, the address can't be used, or an output fails. What was refused is
+/// a line on `err`, but for the files of a `put`, which have their lines on `out`; where an output fails nothing more
+/// is printed.
+pub fn act<W: Write, E: Write>(
+    rt: &HostRuntime,
     line: &CommandLine<'_>,
     out: &mut W,
     err: &mut E,
 ) -> u8 {
-    match done(rt, line, out) {
-        Ok(()) => 0,
+    match finished(rt, line, out) {
+        Ok(true) => 0,
+        Ok(false) => 1,
         Err(Stop::Unwritten) => 3,
         Err(stop) => match writeln!(err, "{stop}") {
             Ok(()) => stop.status(),

@@ -1,6 +1,8 @@
 //! Why the program ends before it is done.
 
+use keep::KeepFault;
 use queue::Fault;
+use rules::ConfigFault;
 use std::io;
 use thiserror::Error;
 use vers::VersionFault;
@@ -12,8 +14,20 @@ pub enum Stop<'a> {
     Unreadable(&'a str),
     #[error("archive: {0}")]
     Refused(Fault),
+    /// The database is not opened, or no archive is made in it.
+    #[error("archive: {0}")]
+    NoArchive(KeepFault),
+    /// The configuration of a new archive is refused.
+    #[error("archive: {0}")]
+    NoConfig(ConfigFault),
+    /// No index and no file of the pool stands at the path.
+    #[error("archive: not found")]
+    NotFound,
     #[error("archive: {0}")]
     NoVersion(VersionFault),
+    /// The address can't be used, or a connection can't be accepted.
+    #[error("archive: cannot listen")]
+    CannotListen,
     /// An output failed. Nothing more is printed.
     #[error("archive: cannot write")]
     Unwritten,
@@ -22,6 +36,18 @@ pub enum Stop<'a> {
 impl From<Fault> for Stop<'_> {
     fn from(fault: Fault) -> Self {
         Stop::Refused(fault)
+    }
+}
+
+impl From<KeepFault> for Stop<'_> {
+    fn from(fault: KeepFault) -> Self {
+        Stop::NoArchive(fault)
+    }
+}
+
+impl From<ConfigFault> for Stop<'_> {
+    fn from(fault: ConfigFault) -> Self {
+        Stop::NoConfig(fault)
     }
 }
 
@@ -38,15 +64,19 @@ impl From<io::Error> for Stop<'_> {
 }
 
 impl Stop<'_> {
-    /// The exit status: 1 where something is refused or can't be read, 3 for want of memory or an output that fails.
+    /// The exit status: 1 where something is refused or can't be read, 3 for want of memory, a disk that fails, a size
+    /// that is too large, an address that can't be used or an output that fails.
     pub fn status(&self) -> u8 {
         match self {
-            Stop::Unreadable(_) => 1,
+            Stop::Unreadable(_) | Stop::NotFound | Stop::NoArchive(KeepFault::Tables) => 1,
+            Stop::NoArchive(_) => 3,
             Stop::Refused(Fault::OutOfMemory | Fault::Keeper(_)) => 3,
             Stop::Refused(_) => 1,
+            Stop::NoConfig(ConfigFault::OutOfMemory) => 3,
+            Stop::NoConfig(_) => 1,
             Stop::NoVersion(VersionFault::OutOfMemory) => 3,
             Stop::NoVersion(_) => 1,
-            Stop::Unwritten => 3,
+            Stop::CannotListen | Stop::Unwritten => 3,
         }
     }
 }

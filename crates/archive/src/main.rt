@@ -2,12 +2,19 @@
 #![tactic(auto)]
 
 mod act;
+mod answers;
+mod arguments;
+mod commands;
+mod database;
 mod fault;
 mod line;
 mod parsed;
+mod readings;
+mod serve;
 #[cfg(test)]
 mod tests;
 mod values;
+mod words;
 
 use parsed::LineFault;
 use std::process::ExitCode;

@@ -5,13 +5,64 @@ use clap::error::ErrorKind;
 use std::alloc::AllocError;
 use std::fmt;
 
-/// What a line asks for.
+/// What a line asks for. Moments are in seconds since 1970-01-01 00:00:00 UTC.
 #[derive(Debug, Drop)]
 pub enum CommandLine<'a> {
     /// Delivers files to an archive of their own, runs its queue once, and prints the Packages of what was accepted.
-    Try { paths: Vec<&'a str> },
+    Try {
+        paths: Vec<&'a str>,
+    },
     /// Says how two versions compare.
-    Compare { left: &'a str, right: &'a str },
+    Compare {
+        left: &'a str,
+        right: &'a str,
+    },
+    /// Makes an archive in a database file, with the configuration of a file.
+    Init {
+        db: &'a str,
+        at: u64,
+        conf: &'a str,
+    },
+    /// Delivers files to the archive of a database file.
+    Put {
+        db: &'a str,
+        at: u64,
+        paths: Vec<&'a str>,
+    },
+    /// Runs the queue.
+    Run {
+        db: &'a str,
+        at: u64,
+    },
+    /// Copies a source's packages from a suite to another.
+    Copy {
+        db: &'a str,
+        at: u64,
+        from: &'a str,
+        to: &'a str,
+        source: &'a str,
+    },
+    /// Prints an index or a file of the pool.
+    Show {
+        db: &'a str,
+        path: &'a str,
+    },
+    /// Lists the uploads that have no verdict.
+    Waiting {
+        db: &'a str,
+        at: u64,
+    },
+    /// Lists the verdicts of all runs.
+    Verdicts {
+        db: &'a str,
+    },
+    /// Serves so many connections, one after the other.
+    Serve {
+        db: &'a str,
+        at: u64,
+        address: &'a str,
+        count: u64,
+    },
 }
 
 /// Why a line asks for nothing.

@@ -2,20 +2,19 @@
 
 use crate::act::act;
 use crate::line::line;
-use crate::parsed::{CommandLine, LineFault};
-use std::alloc::Global;
 use std::io::{self, Write};
 use std::test::Fail;
 
 /// What a line printed, and its exit status.
 #[derive(Drop)]
-struct Output {
-    out: Vec<u8>,
-    err: Vec<u8>,
-    status: u8,
+pub struct Output {
+    pub out: Vec<u8>,
+    pub err: Vec<u8>,
+    pub status: u8,
 }
 
-fn output_of(rt: &HostRuntime, words: &[&str]) -> Result<Output, Fail> {
+/// Does the line of these words.
+pub fn output_of(rt: &HostRuntime, words: &[&str]) -> Result<Output, Fail> {
     let alloc = rt.alloc();
     let (mut out, mut err) = (Vec::new(alloc), Vec::new(alloc));
     let Ok(line) = line(alloc, words) else {
@@ -49,44 +48,6 @@ fn lines_print_and_end(rt: HostRuntime) -> Result<(), Fail> {
         assert_eq!(rt; done.status, status, "{words:?}");
     }
     Ok(())
-}
-
-/// A line is read with each of its words.
-#[test]
-fn lines_are_read(rt: HostRuntime) -> Result<(), Fail> {
-    let alloc = rt.alloc();
-    let Ok(CommandLine::Compare { left, right }) = line(alloc, &["compare", "1", "2"]) else {
-        return Err(Fail::from("not that"));
-    };
-    assert_eq!(rt; (left, right), ("1", "2"));
-    let Ok(CommandLine::Try { paths }) = line(alloc, &["try", "a.changes", "b"]) else {
-        return Err(Fail::from("not that"));
-    };
-    assert_eq!(rt; paths.len(), 2);
-    Ok(())
-}
-
-fn is_refused(alloc: Global, words: &[&str]) -> bool {
-    matches!(line(alloc, words), Err(LineFault::Refused(_)))
-}
-
-fn is_help(alloc: Global, words: &[&str]) -> bool {
-    matches!(line(alloc, words), Err(LineFault::Help(_)))
-}
-
-/// Words that are no line are refused, and help is no refusal.
-#[test]
-fn other_words_are_refused(rt: HostRuntime) {
-    let alloc = rt.alloc();
-    assert!(rt; is_refused(alloc, &[]));
-    assert!(rt; is_refused(alloc, &["try"]));
-    assert!(rt; is_refused(alloc, &["compare", "1"]));
-    assert!(rt; is_refused(alloc, &["compare", "1", "2", "3"]));
-    assert!(rt; is_refused(alloc, &["compare", "--at", "0", "1", "2"]));
-    assert!(rt; is_refused(alloc, &["nothing"]));
-    assert!(rt; is_help(alloc, &["--help"]));
-    assert!(rt; is_help(alloc, &["try", "--help"]));
-    assert!(rt; is_help(alloc, &["help"]));
 }
 
 /// A writer that takes so many bytes and then fails.

@@ -1,4 +1,4 @@
-use Rattle.std.proofs.Common.{◌≡◌, ℕ, List, Some, Bor, map, ap, codes, ◌∙◌}
+use Rattle.std.proofs.Common.{ℕ, List, Some, Bor, map, ap, codes, ◌∙◌}
 use Rattle.clap.proofs.WalkLemmas.{raw_values-rows}
 use Rattle.clap.specs.Words.{found_of}
 use Rattle.archive.proofs.values.texts.Goals as goal

@@ -1,7 +1,7 @@
-use Rattle.std.proofs.Common.{◌≡◌, ◌||◌, ap, ap₂, ◌∙◌}
+use Rattle.std.proofs.Common.{◌||◌, ap, ap₂, ◌∙◌}
 use Rattle.std.proofs.lemmas.Result.{IfOk-weaker}
 use Rattle.clap.specs.Words.{App, with_subcommand}
-use Rattle.archive.proofs.line.with.Goals as goal
+use Rattle.archive.proofs.commands.with.Goals as goal
 
 pub returns : goal.returns
 returns c app part whole piece =
