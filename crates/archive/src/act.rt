@@ -1,8 +1,8 @@
 //! What the program does for a line.
 
 use crate::fault::Stop;
-use crate::parsed::CommandLine;
-use crate::words::{self, Route};
+use crate::words::{self, Word};
+use command_line::CommandLine;
 use keep::PlainKeeper;
 use queue::{Archive, Fault};
 use rules::Config;
@@ -100,30 +100,54 @@ fn done<'a, W: Write>(
     line: &CommandLine<'a>,
     out: &mut W,
 ) -> Result<bool, Stop<'a>> {
-    match line {
-        CommandLine::Try { paths } => try_upload(rt, paths, out)?,
-        CommandLine::Compare { left, right } => compare(rt.alloc(), left, right, out)?,
-        CommandLine::Init { db, at, conf } => words::init(rt, db, *at, conf)?,
-        CommandLine::Put { db, at, paths } => return words::put(rt, db, *at, paths, out),
-        CommandLine::Run { db, at } => words::run(rt, db, *at, out)?,
+    let (db, word) = match line {
+        CommandLine::Try { paths } => {
+            try_upload(rt, paths, out)?;
+            return Ok(true);
+        }
+        CommandLine::Compare { left, right } => {
+            compare(rt.alloc(), left, right, out)?;
+            return Ok(true);
+        }
+        CommandLine::Init { db, at, conf } => {
+            words::init(rt, db, *at, conf)?;
+            return Ok(true);
+        }
+        CommandLine::Put { db, at, paths } => (*db, Word::Put { at: *at, paths }),
+        CommandLine::Run { db, at } => (*db, Word::Run { at: *at }),
         CommandLine::Copy {
             db,
             at,
             from,
             to,
             source,
-        } => words::copy(rt, db, *at, Route { from, to, source }, out)?,
-        CommandLine::Show { db, path } => words::show(rt, db, path, out)?,
-        CommandLine::Waiting { db, at } => words::waiting(rt, db, *at, out)?,
-        CommandLine::Verdicts { db } => words::verdicts(rt, db, out)?,
+        } => (
+            *db,
+            Word::Copy {
+                at: *at,
+                from,
+                to,
+                source,
+            },
+        ),
+        CommandLine::Show { db, path } => (*db, Word::Show { path }),
+        CommandLine::Waiting { db, at } => (*db, Word::Waiting { at: *at }),
+        CommandLine::Verdicts { db } => (*db, Word::Verdicts),
         CommandLine::Serve {
             db,
             at,
             address,
             count,
-        } => words::listen(rt, db, *at, address, *count)?,
-    }
-    Ok(true)
+        } => (
+            *db,
+            Word::Serve {
+                at: *at,
+                address,
+                count: *count,
+            },
+        ),
+    };
+    words::ask_file(rt, db, word, out)
 }
 
 /// Does a line, and has its output written out.

@@ -3,20 +3,14 @@
 
 mod act;
 mod answers;
-mod arguments;
-mod commands;
 mod database;
 mod fault;
-mod line;
-mod parsed;
-mod readings;
 mod serve;
 #[cfg(test)]
 mod tests;
-mod values;
 mod words;
 
-use parsed::LineFault;
+use command_line::LineFault;
 use std::process::ExitCode;
 use std::{env, io};
 
@@ -50,7 +44,7 @@ fn run(rt: &HostRuntime) -> io::Result<u8> {
     for word in &given {
         words.push(word.as_str())?;
     }
-    match line::line(alloc, &words) {
+    match command_line::line(alloc, &words) {
         Ok(line) => Ok(act::act(rt, &line, &mut io::writer(rt), &mut rt.stderr())),
         Err(fault) => explain(rt, &fault),
     }

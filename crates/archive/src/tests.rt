@@ -1,12 +1,7 @@
-//! What an archive does, story by story, and what the program prints.
+//! What the program prints, and how it ends.
 
-mod commands;
-mod copies;
 mod fixtures;
-mod many;
-mod packages;
+mod printed;
 mod program;
-mod sources;
-mod stories;
-mod uploads;
-mod verdicts;
+mod served;
+mod words;

@@ -4,10 +4,49 @@ use crate::act::body_of;
 use crate::database::{close, create_archive, open_archive};
 use crate::fault::Stop;
 use crate::{answers, serve};
+use keep::Keeper;
+use queue::Archive;
 use rules::Config;
 use sqlite::Wary;
 use std::io::Write;
 use std::net::TcpListener;
+
+/// What is asked of an archive that stands. Moments are in seconds since 1970-01-01 00:00:00 UTC.
+#[derive(Clone, Copy)]
+pub enum Word<'w, 'a> {
+    /// Delivers files, with a line for each.
+    Put {
+        at: u64,
+        paths: &'w [&'a str],
+    },
+    /// Runs the queue, and prints the lines of its report.
+    Run {
+        at: u64,
+    },
+    /// Copies a source's packages from a suite to another, and prints how many items are new.
+    Copy {
+        at: u64,
+        from: &'w str,
+        to: &'w str,
+        source: &'w str,
+    },
+    /// Prints the bytes of the index or the file of the pool at a path.
+    Show {
+        path: &'w str,
+    },
+    /// Prints a line for each upload that has no verdict.
+    Waiting {
+        at: u64,
+    },
+    /// Prints the lines of all runs.
+    Verdicts,
+    /// Serves so many connections at an address.
+    Serve {
+        at: u64,
+        address: &'w str,
+        count: u64,
+    },
+}
 
 /// Makes an archive in a database file at a moment, in seconds since 1970-01-01 00:00:00 UTC, with the configuration of
 /// a file.
@@ -18,98 +57,54 @@ pub fn init<'a>(rt: &HostRuntime, db: &str, at: u64, conf: &'a str) -> Result<()
     Ok(())
 }
 
-/// Delivers files, with a line for each, and says whether all were taken.
-pub fn put<'a, W: Write>(
-    rt: &HostRuntime,
-    db: &str,
-    at: u64,
-    paths: &[&'a str],
-    out: &mut W,
-) -> Result<bool, Stop<'a>> {
-    let mut archive = open_archive(rt, db, Wary)?;
-    let done = answers::put_files(rt, &mut archive, at, paths, out);
-    close(archive);
-    done
-}
-
-/// Runs the queue, and prints the lines of its report.
-pub fn run<'a, W: Write>(rt: &HostRuntime, db: &str, at: u64, out: &mut W) -> Result<(), Stop<'a>> {
-    let mut archive = open_archive(rt, db, Wary)?;
-    let done = answers::run(rt.alloc(), &mut archive, at, out);
-    close(archive);
-    done
-}
-
-/// What a copy goes by: the codenames of two suites, and a source package.
-#[derive(Clone, Copy)]
-pub struct Route<'r> {
-    pub from: &'r str,
-    pub to: &'r str,
-    pub source: &'r str,
-}
-
-/// Copies a source's packages from a suite to another, and prints how many items are new.
-pub fn copy<'a, W: Write>(
-    rt: &HostRuntime,
-    db: &str,
-    at: u64,
-    route: Route<'_>,
-    out: &mut W,
-) -> Result<(), Stop<'a>> {
-    let Route { from, to, source } = route;
-    let mut archive = open_archive(rt, db, Wary)?;
-    let done = answers::copy(rt.alloc(), &mut archive, at, from, to, source, out);
-    close(archive);
-    done
-}
-
-/// Prints the bytes of the index or the file of the pool at a path.
-pub fn show<'a, W: Write>(
-    rt: &HostRuntime,
-    db: &str,
-    path: &str,
-    out: &mut W,
-) -> Result<(), Stop<'a>> {
-    let mut archive = open_archive(rt, db, Wary)?;
-    let done = answers::show(rt.alloc(), &mut archive, path, out);
-    close(archive);
-    done
-}
-
-/// Prints a line for each upload that has no verdict.
-pub fn waiting<'a, W: Write>(
-    rt: &HostRuntime,
-    db: &str,
-    at: u64,
-    out: &mut W,
-) -> Result<(), Stop<'a>> {
-    let mut archive = open_archive(rt, db, Wary)?;
-    let done = answers::waiting(rt.alloc(), &mut archive, at, out);
-    close(archive);
-    done
-}
-
-/// Prints the lines of all runs.
-pub fn verdicts<'a, W: Write>(rt: &HostRuntime, db: &str, out: &mut W) -> Result<(), Stop<'a>> {
-    let mut archive = open_archive(rt, db, Wary)?;
-    let done = answers::verdicts(rt.alloc(), &mut archive, out);
-    close(archive);
-    done
-}
-
 /// Serves so many connections at an address.
-pub fn listen<'a>(
+fn listen<'a, K: Keeper>(
     rt: &HostRuntime,
-    db: &str,
+    archive: &mut Archive<K>,
     at: u64,
     address: &str,
     count: u64,
 ) -> Result<(), Stop<'a>> {
-    let mut archive = open_archive(rt, db, Wary)?;
-    let done = match TcpListener::bind(rt, address) {
-        Ok(listener) => serve::serve(rt, &mut archive, &listener, count, at),
+    match TcpListener::bind(rt, address) {
+        Ok(listener) => serve::serve(rt, archive, &listener, count, at),
         Err(_) => Err(Stop::CannotListen),
-    };
+    }
+}
+
+/// Asks an archive, and says whether all that was given was taken.
+fn ask<'a, K: Keeper, W: Write>(
+    rt: &HostRuntime,
+    archive: &mut Archive<K>,
+    word: Word<'_, 'a>,
+    out: &mut W,
+) -> Result<bool, Stop<'a>> {
+    let alloc = rt.alloc();
+    match word {
+        Word::Put { at, paths } => return answers::put_files(rt, archive, at, paths, out),
+        Word::Run { at } => answers::run(alloc, archive, at, out)?,
+        Word::Copy {
+            at,
+            from,
+            to,
+            source,
+        } => answers::copy(alloc, archive, at, from, to, source, out)?,
+        Word::Show { path } => answers::show(alloc, archive, path, out)?,
+        Word::Waiting { at } => answers::waiting(alloc, archive, at, out)?,
+        Word::Verdicts => answers::verdicts(alloc, archive, out)?,
+        Word::Serve { at, address, count } => listen(rt, archive, at, address, count)?,
+    }
+    Ok(true)
+}
+
+/// Asks the archive of a database file, and says whether all that was given was taken.
+pub fn ask_file<'a, W: Write>(
+    rt: &HostRuntime,
+    db: &str,
+    word: Word<'_, 'a>,
+    out: &mut W,
+) -> Result<bool, Stop<'a>> {
+    let mut archive = open_archive(rt, db, Wary)?;
+    let done = ask(rt, &mut archive, word, out);
     close(archive);
     done
 }

@@ -15,6 +15,12 @@ pub enum Stop {
     Refused(Fault),
     #[error("{0}")]
     Config(ConfigFault),
+    #[error("the database can't be opened")]
+    Database,
+    #[error("no clock tells the processor time")]
+    Clock,
+    #[error("the file is not there")]
+    NoFile,
     #[error("no upload is complete")]
     NoUpload,
     #[error("the words are no workload")]
@@ -48,5 +54,11 @@ impl From<KeepFault> for Stop {
 impl From<ConfigFault> for Stop {
     fn from(fault: ConfigFault) -> Stop {
         Stop::Config(fault)
+    }
+}
+
+impl From<sqlite::Error> for Stop {
+    fn from(_error: sqlite::Error) -> Stop {
+        Stop::Database
     }
 }

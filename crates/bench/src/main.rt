@@ -1,19 +1,33 @@
-//! Two workloads.
+//! Workloads.
 //!
 //!     bench shelves PACKAGES ADMISSIONS PATH RENDERINGS
 //!     bench uploads COUNT once|each
+//!     bench deliveries FILE COUNT
+//!     bench tables FILE COUNT once|each
+//!     bench fetch FILE COUNT
+//!     bench open FILE
 //!
 //! The first is on what the suites show: shelves are made of so many packages, a newer version of one package after
-//! another is judged and admitted, so many times, and then the index at a path is rendered, so many times. It prints how
-//! many packages are shown, and how many bytes the index has where it was rendered. Timed from outside, and less a run
-//! with no admissions and no renderings, it tells what one of them costs. The second is on the whole archive over the
-//! plain keeper: so many uploads are delivered, with one run of the queue at the end or a run after each. It prints how
-//! many lines the runs report.
+//! another is judged and admitted, so many times, and then the index at a path is rendered, so many times. It prints
+//! how many packages are shown, and how many bytes the index has where it was rendered. Timed from outside, and less a
+//! run with no admissions and no renderings, it tells what one of them costs. The second is on the whole archive over
+//! the plain keeper: so many uploads are delivered, with one run of the queue at the end or a run after each. It prints
+//! how many lines the runs report.
+//!
+//! The next three are on a new archive in a database file. Of so many deliveries of 4,096 bytes each, all different,
+//! the third prints what one of the last tenth takes. The fourth is the second over a file: it prints the lines, what
+//! the deliveries with the runs between them take, and what the run at the end takes. The fifth hands over an upload
+//! whose package file has 4 MiB, and prints how many bytes that has and what one of so many look-ups of it takes. The
+//! sixth is on a file that one of the others made: it prints how many bytes the bodies of its archive have, what it
+//! takes to open that, and what it takes to read all rows and take the print of each piece. What something takes is
+//! processor time, of the user and of the system, in nanoseconds.
 #![tactic(auto)]
 
+mod database;
 mod fault;
 mod upload;
 
+use database::{Work, over_file};
 use fault::Stop;
 use rules::Config;
 use std::alloc::Global;
@@ -109,8 +123,40 @@ fn number(word: &str) -> Result<u64, Stop> {
     }
 }
 
+/// Whether the word asks for a run after each upload.
+fn after_each(word: &str) -> Result<bool, Stop> {
+    match word {
+        "once" => Ok(false),
+        "each" => Ok(true),
+        _ => Err(Stop::Words),
+    }
+}
+
+/// Does what the words ask for over a database file, and answers the line to print.
+fn answer_over_file(rt: &HostRuntime, words: &[String]) -> Result<String, Stop> {
+    let (path, work) = match words {
+        [name, path] if name.as_str() == "open" => (path, Work::Opening),
+        [name, path, count] if name.as_str() == "deliveries" => {
+            (path, Work::Deliveries(number(count.as_str())?))
+        }
+        [name, path, count] if name.as_str() == "fetch" => {
+            (path, Work::Fetches(number(count.as_str())?))
+        }
+        [name, path, count, runs] if name.as_str() == "tables" => (
+            path,
+            Work::Uploads {
+                count: number(count.as_str())?,
+                each: after_each(runs.as_str())?,
+            },
+        ),
+        _ => return Err(Stop::Words),
+    };
+    over_file(rt, path.as_str(), work)
+}
+
 /// Does what the words ask for, and answers the line to print.
-fn answer(alloc: Global, words: &[String]) -> Result<String, Stop> {
+fn answer(rt: &HostRuntime, words: &[String]) -> Result<String, Stop> {
+    let alloc = rt.alloc();
     match words {
         [name, count, admissions, path, renderings] if name.as_str() == "shelves" => shelves(
             alloc,
@@ -119,12 +165,12 @@ fn answer(alloc: Global, words: &[String]) -> Result<String, Stop> {
             path.as_str(),
             number(renderings.as_str())?,
         ),
-        [name, count, runs] if name.as_str() == "uploads" => match runs.as_str() {
-            "once" => uploads(alloc, number(count.as_str())?, false),
-            "each" => uploads(alloc, number(count.as_str())?, true),
-            _ => Err(Stop::Words),
-        },
-        _ => Err(Stop::Words),
+        [name, count, runs] if name.as_str() == "uploads" => uploads(
+            alloc,
+            number(count.as_str())?,
+            after_each(runs.as_str())?,
+        ),
+        _ => answer_over_file(rt, words),
     }
 }
 
@@ -134,7 +180,7 @@ fn run(rt: &HostRuntime) -> io::Result<u8> {
     for word in env::args(rt)?.skip(1) {
         words.push(word)?;
     }
-    match answer(alloc, &words) {
+    match answer(rt, &words) {
         Ok(line) => {
             rt.println(format_args!("{line}"))?;
             Ok(0)

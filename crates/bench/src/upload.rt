@@ -60,26 +60,17 @@ pub struct Files {
     changes_name: String,
     changes: String,
     deb_name: String,
-    deb: String,
+    deb: Vec<u8>,
     sidecar_name: String,
     sidecar: String,
 }
 
-/// The files of the package of a number, in a version; the package file has the bytes of its version.
-pub fn package_files(alloc: Global, number: u64, version: u64) -> Result<Files, Stop> {
-    let source = format!(in alloc; "package{number}")?;
-    let deb = format!(in alloc; "{version}.0-1")?;
-    let (source, version) = (source.as_str(), deb.as_str());
+/// The files of a package in a version, with these bytes as its package file.
+pub fn files_with(alloc: Global, source: &str, version: &str, deb: Vec<u8>) -> Result<Files, Stop> {
     let sidecar = format!(in alloc;
         "Package: {source}\nVersion: {version}\nArchitecture: amd64\nMaintainer: Ann <ann@example.org>\nDescription: greets\n"
     )?;
-    let changes = changes_text(
-        alloc,
-        source,
-        version,
-        version.as_bytes(),
-        sidecar.as_bytes(),
-    )?;
+    let changes = changes_text(alloc, source, version, &deb, sidecar.as_bytes())?;
     let stem = format!(in alloc; "{source}_{version}_amd64")?;
     let stem = stem.as_str();
     Ok(Files {
@@ -92,20 +83,28 @@ pub fn package_files(alloc: Global, number: u64, version: u64) -> Result<Files, 
     })
 }
 
+/// The files of the package of a number, in a version; the package file has the bytes of its version.
+pub fn package_files(alloc: Global, number: u64, version: u64) -> Result<Files, Stop> {
+    let source = format!(in alloc; "package{number}")?;
+    let deb = format!(in alloc; "{version}.0-1")?.into_bytes();
+    let version = format!(in alloc; "{version}.0-1")?;
+    files_with(alloc, source.as_str(), version.as_str(), deb)
+}
+
 /// An archive in which nothing is yet.
 pub fn empty_archive(alloc: Global) -> Result<Archive<PlainKeeper>, Stop> {
     Ok(Archive::new(PlainKeeper::new(alloc, Config::read(alloc, BOX)?, 0)?))
 }
 
 /// Delivers the files of an upload.
-pub fn deliver(
+pub fn deliver<K: Keeper>(
     alloc: Global,
-    archive: &mut Archive<PlainKeeper>,
+    archive: &mut Archive<K>,
     files: &Files,
 ) -> Result<(), Stop> {
     let (changes, deb, sidecar) = (&files.changes, &files.deb, &files.sidecar);
     archive.deliver(alloc, files.changes_name.as_str(), changes.as_bytes(), 0)?;
-    archive.deliver(alloc, files.deb_name.as_str(), deb.as_bytes(), 0)?;
+    archive.deliver(alloc, files.deb_name.as_str(), deb, 0)?;
     archive.deliver(alloc, files.sidecar_name.as_str(), sidecar.as_bytes(), 0)?;
     Ok(())
 }
@@ -120,16 +119,28 @@ pub fn package_upload(alloc: Global, number: u64, version: u64) -> Result<Upload
     }
 }
 
-/// Delivers so many uploads of different packages to an archive, with a run of the queue after each or one at the end,
-/// and answers how many lines the runs report.
-pub fn handed_over(alloc: Global, count: u64, each: bool) -> Result<usize, Stop> {
-    let mut archive = empty_archive(alloc)?;
+/// Delivers so many uploads of different packages to an archive, with a run of the queue after each where that is asked
+/// for, and answers how many lines those runs report.
+pub fn deliver_all<K: Keeper>(
+    alloc: Global,
+    archive: &mut Archive<K>,
+    count: u64,
+    each: bool,
+) -> Result<usize, Stop> {
     let mut lines = 0usize;
     for number in 0..count {
-        deliver(alloc, &mut archive, &package_files(alloc, number, 1)?)?;
+        deliver(alloc, archive, &package_files(alloc, number, 1)?)?;
         if each {
             lines = lines.saturating_add(archive.run(alloc, number)?.lines.len());
         }
     }
+    Ok(lines)
+}
+
+/// Delivers so many uploads of different packages to an archive, with a run of the queue after each or one at the end,
+/// and answers how many lines the runs report.
+pub fn handed_over(alloc: Global, count: u64, each: bool) -> Result<usize, Stop> {
+    let mut archive = empty_archive(alloc)?;
+    let lines = deliver_all(alloc, &mut archive, count, each)?;
     Ok(lines.saturating_add(archive.run(alloc, count)?.lines.len()))
 }

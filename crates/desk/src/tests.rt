@@ -1,3 +1,4 @@
 //! Requests over memory, whole and cut, and their answers.
 
 mod answering;
+mod reading;

@@ -1,7 +1,7 @@
 //! The program's lines, what they print and how they end.
 
 use crate::act::act;
-use crate::line::line;
+use command_line::line;
 use std::io::{self, Write};
 use std::test::Fail;
 

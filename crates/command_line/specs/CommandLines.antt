@@ -1,0 +1,59 @@
+-- What a command line says, as clap reads its words.
+use Rattle.std.specs.Prelude.{◌≡◌, ◌≢◌, ◌≤◌, ℕ, codes, List, [], map, Option, Some, Ok}
+use Rattle.std.specs.Str.Parse.{ParsesUnsigned}
+use Rattle.std.specs.declared.vec.Vec.{Vec}
+use Rattle.std.specs.declared.alloc.Global.{Global}
+use Rattle.std.specs.Borrow.{Bor}
+use Rattle.clap.specs.Words.{Row, Text, all_of, first_of}
+use Rattle.keep.specs.Book.{latest}
+use Rattle.command_line.specs.declared.parsed.CommandLine.{CommandLine}
+use Rattle.command_line.specs.declared.parsed.CommandLine.TheVariants.{Try, Compare, Init, Put, Run, Copy, Show, Waiting, Verdicts, Serve}
+
+-- the most connections that one call of the program serves
+abbrev pub most_connections : ℕ
+most_connections = 1000000
+
+-- the words name this command, and P holds of its values
+abbrev pub IsNamed : Option (Text × List Row) → Text → (List Row → Type 0) → Type 0
+IsNamed found name P = (rows : List Row) × (found ≡ Some (name, rows)) × P rows
+
+-- the word is the value of this argument
+abbrev pub IsWord : Text → List Row → Bor (List ℕ) → Type 0
+IsWord id rows word = first_of id rows ≡ Some word.now
+
+-- the paths are those given, one or more
+abbrev pub HasPaths : List Row → Vec (Bor (List ℕ)) Global → Type 0
+HasPaths rows paths = (all_of (codes "PATH") rows ≡ Some (map (λ path. path.now) paths.items)) × (paths.items ≢ [])
+
+-- the number is the one that the value of this argument spells in decimal, and lies in the bounds
+pub record IsNumber (id : Text) (rows : List Row) (least most n : ℕ) : Type 0 where
+  pub text : Text
+  pub value : first_of id rows ≡ Some text
+  pub spelled : ParsesUnsigned {E = Unit {0}} 64 10 text (Ok n)
+  pub low : least ≤ n
+  pub high : n ≤ most
+
+-- the moment that was handed in
+abbrev pub IsMoment : List Row → ℕ → Type 0
+IsMoment rows at = IsNumber (codes "at") rows 0 latest at
+
+-- the command and each value are those that were found
+abbrev pub IsLine : Option (Text × List Row) → CommandLine → Type 0
+IsLine found (Try paths) = IsNamed found (codes "try") (λ rows. HasPaths rows paths)
+IsLine found (Compare left right) = IsNamed found (codes "compare") (λ rows.
+    IsWord (codes "A") rows left × IsWord (codes "B") rows right)
+IsLine found (Init db at conf) = IsNamed found (codes "init") (λ rows.
+    IsWord (codes "db") rows db × IsMoment rows at × IsWord (codes "CONF") rows conf)
+IsLine found (Put db at paths) = IsNamed found (codes "put") (λ rows.
+    IsWord (codes "db") rows db × IsMoment rows at × HasPaths rows paths)
+IsLine found (Run db at) = IsNamed found (codes "run") (λ rows. IsWord (codes "db") rows db × IsMoment rows at)
+IsLine found (Copy db at from to source) = IsNamed found (codes "copy") (λ rows.
+    IsWord (codes "db") rows db × IsMoment rows at × IsWord (codes "FROM") rows from × IsWord (codes "TO") rows to
+    × IsWord (codes "SOURCE") rows source)
+IsLine found (Show db path) = IsNamed found (codes "show") (λ rows.
+    IsWord (codes "db") rows db × IsWord (codes "PATH") rows path)
+IsLine found (Waiting db at) = IsNamed found (codes "waiting") (λ rows. IsWord (codes "db") rows db × IsMoment rows at)
+IsLine found (Verdicts db) = IsNamed found (codes "verdicts") (λ rows. IsWord (codes "db") rows db)
+IsLine found (Serve db at address count) = IsNamed found (codes "serve") (λ rows.
+    IsWord (codes "db") rows db × IsMoment rows at × IsWord (codes "ADDRESS") rows address
+    × IsNumber (codes "COUNT") rows 1 most_connections count)

@@ -1,0 +1,89 @@
+-- The commands of the program, as clap sees them.
+use Rattle.std.specs.Prelude.{◌≡◌, true, false, codes, Some}
+use Rattle.clap.specs.Words.{App, Rule, Text, app_of, new_app, new_rule, with_rule, with_subcommand}
+use Rattle.clap.specs.declared.builder.command.Command.TheViews.{out-Command}
+use Rattle.clap.specs.declared.builder.command.Command.{Command}
+use Rattle.clap.specs.declared.builder.ArgAction.TheVariants.{Set, Append}
+use Rattle.clap.specs.declared.builder.value_parser.ValueParser.TheVariants as parser
+use Rattle.keep.specs.Book.{latest}
+use Rattle.command_line.specs.CommandLines.{most_connections}
+
+-- one word that has to be there
+abbrev pub word_rule : Text → Rule
+word_rule name = record (new_rule name) { required = true; action = Some Set }
+
+-- one or more words
+abbrev pub path_rule : Rule
+path_rule = record (new_rule (codes "PATH")) {
+  required = true;
+  action = Some Append;
+  range = Some (record { start_inclusive = 1; end_inclusive = 18446744073709551615 });
+}
+
+-- --db FILE
+abbrev pub db_rule : Rule
+db_rule = record (word_rule (codes "db")) { long = Some (codes "db"); value_names = 1 }
+
+-- --at N
+abbrev pub at_rule : Rule
+at_rule = record (word_rule (codes "at")) { long = Some (codes "at"); value_names = 1; parser = Some (parser.Unsigned 0 latest) }
+
+-- COUNT
+abbrev pub count_rule : Rule
+count_rule = record (word_rule (codes "COUNT")) { parser = Some (parser.Unsigned 1 most_connections) }
+
+abbrev pub try_app : App
+try_app = with_rule (new_app (codes "try")) path_rule
+
+abbrev pub compare_app : App
+compare_app = with_rule (with_rule (new_app (codes "compare")) (word_rule (codes "A"))) (word_rule (codes "B"))
+
+-- a command on the archive of a database, and one that is handed a moment too
+abbrev pub db_app : Text → App
+db_app name = with_rule (new_app name) db_rule
+
+abbrev pub timed_app : Text → App
+timed_app name = with_rule (db_app name) at_rule
+
+abbrev pub init_app : App
+init_app = with_rule (timed_app (codes "init")) (word_rule (codes "CONF"))
+
+abbrev pub put_app : App
+put_app = with_rule (timed_app (codes "put")) path_rule
+
+abbrev pub copy_app : App
+copy_app =
+    with_rule (with_rule (with_rule (timed_app (codes "copy")) (word_rule (codes "FROM"))) (word_rule (codes "TO")))
+    (word_rule (codes "SOURCE"))
+
+abbrev pub show_app : App
+show_app = with_rule (db_app (codes "show")) (word_rule (codes "PATH"))
+
+abbrev pub serve_app : App
+serve_app = with_rule (with_rule (timed_app (codes "serve")) (word_rule (codes "ADDRESS"))) count_rule
+
+-- `archive`, its name not among the words, with one command
+abbrev pub new_archive : App
+new_archive = record (new_app (codes "archive")) { top = record (new_app (codes "archive")).top { no_binary_name = true; subcommand_required = true } }
+
+-- with the commands that change an archive
+abbrev pub with_changes : App → App
+with_changes app =
+    with_subcommand (with_subcommand (with_subcommand (with_subcommand app init_app.top) put_app.top)
+    (timed_app (codes "run")).top)
+    copy_app.top
+
+-- with the commands that ask an archive, and the one that serves it
+abbrev pub with_questions : App → App
+with_questions app =
+    with_subcommand (with_subcommand (with_subcommand (with_subcommand app show_app.top) (timed_app (codes "waiting")).top)
+    (db_app (codes "verdicts")).top)
+    serve_app.top
+
+abbrev pub archive_app : App
+archive_app = with_questions (with_changes (with_subcommand (with_subcommand new_archive try_app.top) compare_app.top))
+
+-- a command that a parse reads so, and that may be used
+pub record IsCommand (app : App) (c : Command) : Type 0 where
+  pub shape : app_of c ≡ app
+  pub local : (out-Command c).has_globals ≡ false

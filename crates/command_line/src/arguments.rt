@@ -1,0 +1,67 @@
+//! The arguments of the program's commands.
+
+ghost use Rattle.std.specs.Prelude.{◌≡◌, false};
+ghost use Rattle.clap.specs.Words.{rule_of};
+ghost use Rattle.command_line.specs.Shape.{at_rule, count_rule, db_rule, path_rule, word_rule};
+
+use clap::{Arg, ArgAction, value_parser};
+use keep::LATEST;
+use std::alloc::Global;
+
+/// The most connections that one call of the program serves.
+pub const MOST_CONNECTIONS: u64 = 1_000_000;
+
+/// One word.
+pub fn word<'a>(alloc: Global, name: &'a str) -> Arg<'a>
+    ensures rule { rule_of result ≡ word_rule name.now }
+    ensures local { result.global ≡ false }
+{
+    Arg::new(alloc, name).required(true).action(ArgAction::Set)
+}
+
+/// One path or more.
+pub fn paths<'a>(alloc: Global) -> Arg<'a>
+    ensures rule { rule_of result ≡ path_rule }
+    ensures local { result.global ≡ false }
+{
+    Arg::new(alloc, "PATH")
+        .required(true)
+        .action(ArgAction::Append)
+        .num_args(1..)
+}
+
+/// `--db FILE`, the database.
+pub fn db<'a>(alloc: Global) -> Arg<'a>
+    ensures rule { rule_of result ≡ db_rule }
+    ensures local { result.global ≡ false }
+{
+    Arg::new(alloc, "db")
+        .long("db")
+        .value_name("FILE")
+        .required(true)
+        .action(ArgAction::Set)
+}
+
+/// `--at N`, the moment.
+pub fn at<'a>(alloc: Global) -> Arg<'a>
+    ensures rule { rule_of result ≡ at_rule }
+    ensures local { result.global ≡ false }
+{
+    Arg::new(alloc, "at")
+        .long("at")
+        .value_name("N")
+        .required(true)
+        .action(ArgAction::Set)
+        .value_parser(value_parser!(u64).range(0..=LATEST as i64))
+}
+
+/// How many connections to serve.
+pub fn count<'a>(alloc: Global) -> Arg<'a>
+    ensures rule { rule_of result ≡ count_rule }
+    ensures local { result.global ≡ false }
+{
+    Arg::new(alloc, "COUNT")
+        .required(true)
+        .action(ArgAction::Set)
+        .value_parser(value_parser!(u64).range(1..=MOST_CONNECTIONS as i64))
+}

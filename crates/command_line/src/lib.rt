@@ -1,0 +1,15 @@
+//! The program's command line: what its words ask for, as clap reads them.
+#![tactic(auto)]
+
+mod arguments;
+mod commands;
+mod parsed;
+mod readings;
+#[cfg(test)]
+mod tests;
+mod values;
+mod words;
+
+pub use arguments::MOST_CONNECTIONS;
+pub use parsed::{CommandLine, LineFault};
+pub use words::line;

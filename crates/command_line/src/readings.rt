@@ -1,0 +1,129 @@
+//! Each command of a line, from its matches.
+
+ghost use Rattle.std.specs.Prelude.{codes, IfOk, Some};
+ghost use Rattle.clap.specs.Words.{found_of, rows_of};
+ghost use Rattle.command_line.specs.CommandLines.{IsLine};
+
+use crate::arguments::MOST_CONNECTIONS;
+use crate::parsed::{CommandLine, LineFault};
+use crate::values::{lacking, moment, number, paths, required};
+use clap::ArgMatches;
+use std::alloc::Global;
+
+fn read_try<'a>(alloc: Global, found: &ArgMatches<'a>) -> Result<CommandLine<'a>, LineFault>
+    ensures { IfOk result (IsLine (Some (codes "try", rows_of (found_of found.now)))) }
+{
+    Ok(CommandLine::Try {
+        paths: paths(alloc, found)?,
+    })
+}
+
+fn read_compare<'a>(alloc: Global, found: &ArgMatches<'a>) -> Result<CommandLine<'a>, LineFault>
+    ensures { IfOk result (IsLine (Some (codes "compare", rows_of (found_of found.now)))) }
+{
+    Ok(CommandLine::Compare {
+        left: required(alloc, found, "A")?,
+        right: required(alloc, found, "B")?,
+    })
+}
+
+fn read_init<'a>(alloc: Global, found: &ArgMatches<'a>) -> Result<CommandLine<'a>, LineFault>
+    ensures { IfOk result (IsLine (Some (codes "init", rows_of (found_of found.now)))) }
+{
+    Ok(CommandLine::Init {
+        db: required(alloc, found, "db")?,
+        at: moment(alloc, found)?,
+        conf: required(alloc, found, "CONF")?,
+    })
+}
+
+fn read_put<'a>(alloc: Global, found: &ArgMatches<'a>) -> Result<CommandLine<'a>, LineFault>
+    ensures { IfOk result (IsLine (Some (codes "put", rows_of (found_of found.now)))) }
+{
+    Ok(CommandLine::Put {
+        db: required(alloc, found, "db")?,
+        at: moment(alloc, found)?,
+        paths: paths(alloc, found)?,
+    })
+}
+
+fn read_run<'a>(alloc: Global, found: &ArgMatches<'a>) -> Result<CommandLine<'a>, LineFault>
+    ensures { IfOk result (IsLine (Some (codes "run", rows_of (found_of found.now)))) }
+{
+    Ok(CommandLine::Run {
+        db: required(alloc, found, "db")?,
+        at: moment(alloc, found)?,
+    })
+}
+
+fn read_copy<'a>(alloc: Global, found: &ArgMatches<'a>) -> Result<CommandLine<'a>, LineFault>
+    ensures { IfOk result (IsLine (Some (codes "copy", rows_of (found_of found.now)))) }
+{
+    Ok(CommandLine::Copy {
+        db: required(alloc, found, "db")?,
+        at: moment(alloc, found)?,
+        from: required(alloc, found, "FROM")?,
+        to: required(alloc, found, "TO")?,
+        source: required(alloc, found, "SOURCE")?,
+    })
+}
+
+fn read_show<'a>(alloc: Global, found: &ArgMatches<'a>) -> Result<CommandLine<'a>, LineFault>
+    ensures { IfOk result (IsLine (Some (codes "show", rows_of (found_of found.now)))) }
+{
+    Ok(CommandLine::Show {
+        db: required(alloc, found, "db")?,
+        path: required(alloc, found, "PATH")?,
+    })
+}
+
+fn read_waiting<'a>(alloc: Global, found: &ArgMatches<'a>) -> Result<CommandLine<'a>, LineFault>
+    ensures { IfOk result (IsLine (Some (codes "waiting", rows_of (found_of found.now)))) }
+{
+    Ok(CommandLine::Waiting {
+        db: required(alloc, found, "db")?,
+        at: moment(alloc, found)?,
+    })
+}
+
+fn read_verdicts<'a>(alloc: Global, found: &ArgMatches<'a>) -> Result<CommandLine<'a>, LineFault>
+    ensures { IfOk result (IsLine (Some (codes "verdicts", rows_of (found_of found.now)))) }
+{
+    Ok(CommandLine::Verdicts {
+        db: required(alloc, found, "db")?,
+    })
+}
+
+fn read_serve<'a>(alloc: Global, found: &ArgMatches<'a>) -> Result<CommandLine<'a>, LineFault>
+    ensures { IfOk result (IsLine (Some (codes "serve", rows_of (found_of found.now)))) }
+{
+    Ok(CommandLine::Serve {
+        db: required(alloc, found, "db")?,
+        at: moment(alloc, found)?,
+        address: required(alloc, found, "ADDRESS")?,
+        count: number(alloc, found, "COUNT", 1, MOST_CONNECTIONS)?,
+    })
+}
+
+/// A command from its name and its matches.
+pub fn command_of<'a>(
+    alloc: Global,
+    name: &str,
+    found: &ArgMatches<'a>,
+) -> Result<CommandLine<'a>, LineFault>
+    ensures { IfOk result (IsLine (Some (name.now, rows_of (found_of found.now)))) }
+{
+    match name {
+        "try" => read_try(alloc, found),
+        "compare" => read_compare(alloc, found),
+        "init" => read_init(alloc, found),
+        "put" => read_put(alloc, found),
+        "run" => read_run(alloc, found),
+        "copy" => read_copy(alloc, found),
+        "show" => read_show(alloc, found),
+        "waiting" => read_waiting(alloc, found),
+        "verdicts" => read_verdicts(alloc, found),
+        "serve" => read_serve(alloc, found),
+        _ => Err(lacking(alloc)),
+    }
+}

@@ -1,0 +1,3 @@
+//! What the words of a line say.
+
+mod lines;

@@ -1,0 +1,88 @@
+//! Values of a line's words, from its matches.
+
+ghost use Rattle.std.specs.Prelude.{◌≡◌, codes, map, IfOk};
+ghost use Rattle.std.specs.Option.{option_map};
+ghost use Rattle.clap.specs.Words.{all_of, first_of, found_of, rows_of};
+ghost use Rattle.command_line.specs.CommandLines.{HasPaths, IsMoment, IsNumber, IsWord};
+
+use crate::commands::commands;
+use crate::parsed::LineFault;
+use clap::ArgMatches;
+use clap::error::ErrorKind;
+use keep::LATEST;
+use std::alloc::{AllocError, Global};
+
+/// The refusal of a line that lacks a word which its command needs.
+pub fn lacking(alloc: Global) -> LineFault {
+    match refusal(alloc) {
+        Ok(fault) => fault,
+        Err(_) => LineFault::OutOfMemory,
+    }
+}
+
+fn refusal(alloc: Global) -> Result<LineFault, AllocError> {
+    let mut command = commands(alloc)?;
+    let error = command.error(ErrorKind::MissingRequiredArgument, "a word is missing")?;
+    Ok(LineFault::Refused(error))
+}
+
+fn word_value<'a>(found: &ArgMatches<'a>, id: &str) -> Option<&'a str>
+    ensures { option_map (λ value. value.now) result ≡ first_of id.now (rows_of (found_of found.now)) }
+{
+    found.get_str(id)
+}
+
+/// The value of an argument.
+pub fn required<'a>(alloc: Global, found: &ArgMatches<'a>, id: &str) -> Result<&'a str, LineFault>
+    ensures { IfOk result (IsWord id.now (rows_of (found_of found.now))) }
+{
+    match word_value(found, id) {
+        Some(value) => Ok(value),
+        None => Err(lacking(alloc)),
+    }
+}
+
+/// The number that an argument has, from `least` to `most`.
+pub fn number(
+    alloc: Global,
+    found: &ArgMatches<'_>,
+    id: &str,
+    least: u64,
+    most: u64,
+) -> Result<u64, LineFault>
+    ensures { IfOk result (IsNumber id.now (rows_of (found_of found.now)) least most) }
+{
+    let Ok(number) = required(alloc, found, id)?.parse::<u64>() else {
+        return Err(lacking(alloc));
+    };
+    if number < least || number > most {
+        return Err(lacking(alloc));
+    }
+    Ok(number)
+}
+
+/// The moment, in seconds since 1970-01-01 00:00:00 UTC.
+pub fn moment(alloc: Global, found: &ArgMatches<'_>) -> Result<u64, LineFault>
+    ensures { IfOk result (IsMoment (rows_of (found_of found.now))) }
+{
+    number(alloc, found, "at", 0, LATEST)
+}
+
+fn texts<'a>(alloc: Global, found: &ArgMatches<'a>) -> Result<Option<Vec<&'a str>>, AllocError>
+    ensures { IfOk result (λ given. option_map (λ paths. map (λ path. path.now) paths.items) given ≡ all_of (codes "PATH") (rows_of (found_of found.now))) }
+{
+    match found.get_strs("PATH") {
+        Some(paths) => Ok(Some(Vec::from_slice(alloc, paths)?)),
+        None => Ok(None),
+    }
+}
+
+/// The paths of a command, one or more, in their order.
+pub fn paths<'a>(alloc: Global, found: &ArgMatches<'a>) -> Result<Vec<&'a str>, LineFault>
+    ensures { IfOk result (HasPaths (rows_of (found_of found.now))) }
+{
+    match texts(alloc, found)? {
+        Some(paths) if !paths.is_empty() => Ok(paths),
+        _ => Err(lacking(alloc)),
+    }
+}

@@ -1,0 +1,42 @@
+//! The command line.
+
+ghost use Rattle.std.specs.Prelude.{◌≡◌, [], map, IfOk};
+ghost use Rattle.clap.specs.Words.{fault_of, subcommand_of};
+ghost use Rattle.command_line.specs.CommandLines.{IsLine};
+ghost use Rattle.command_line.specs.Shape.{archive_app};
+
+use crate::commands::commands;
+use crate::parsed::{CommandLine, LineFault};
+use crate::readings::command_of;
+use crate::values::lacking;
+use std::alloc::Global;
+
+/// Reads a line's words, the program's name not among them, as one of
+///
+/// ```text
+/// try PATH..
+/// compare A B
+/// init --db FILE --at N CONF
+/// put --db FILE --at N PATH..
+/// run --db FILE --at N
+/// copy --db FILE --at N FROM TO SOURCE
+/// show --db FILE PATH
+/// waiting --db FILE --at N
+/// verdicts --db FILE
+/// serve --db FILE --at N ADDRESS COUNT
+/// ```
+///
+/// where `PATH..` is one path or more, N is 0 to 4102444799 and COUNT 1 to 1000000. It is refused with the text of a
+/// help that was asked for, or with one that says why the words are no line.
+pub fn line<'a>(alloc: Global, words: &'a [&'a str]) -> Result<CommandLine<'a>, LineFault>
+    ensures said { IfOk result (IsLine (subcommand_of archive_app (map (λ word. word.now) words.entry.now))) }
+    // Only words in which clap finds no fault are a line.
+    ensures taken { IfOk result (λ _. fault_of archive_app (map (λ word. word.now) words.entry.now) ≡ []) }
+{
+    let command = commands(alloc)?;
+    let matches = command.try_get_matches_from(words)?;
+    match matches.subcommand() {
+        Some((name, found)) => command_of(alloc, name, found),
+        None => Err(lacking(alloc)),
+    }
+}
