@@ -2,7 +2,8 @@
 
 use crate::fault::Stop;
 use keep::{KeepFault, LATEST};
-use keep_tables::{TableKeeper, fault_of};
+use keep_rows::fault_of;
+use keep_tables::TableKeeper;
 use queue::{Archive, Fault};
 use rules::Config;
 use sqlite::{Alter, Connection, FileFrom, FileStore, Start};

@@ -7,7 +7,7 @@ use Rattle.keep.specs.Book.{latest}
 use Rattle.keep.specs.Keeping.{IsDeliverable}
 use Rattle.tables.specs.Rows.{Tables, rows_of}
 use Rattle.tables.specs.declared.rows.Arrival as row
-use Rattle.keep_tables.specs.Kept.{arrival_in, arrivals_in}
+use Rattle.kept.specs.Kept.{arrival_in, arrivals_in}
 use Rattle.keep_open.specs.Arrivals.{IsArrivalFit}
 use Rattle.keep_open.specs.Parts.{ArrivalsFit}
 

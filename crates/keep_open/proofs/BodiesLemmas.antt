@@ -9,7 +9,7 @@ use Rattle.std.proofs.lemmas.List.FromFn.{get_or-map-range_with_len, length-map-
 use Rattle.tables.specs.Pieces.{is_of}
 use Rattle.tables.specs.Rows.{Tables, Numbered, rows_of}
 use Rattle.tables.specs.declared.rows.Piece.{Piece}
-use Rattle.keep_tables.specs.Kept.{piece_at, piece_count, pieces_for}
+use Rattle.kept.specs.Kept.{piece_at, piece_count, pieces_for}
 use Rattle.keep_open.specs.Bodies.{IsBodyFit}
 use Rattle.keep_open.specs.Parts.{BodiesFit}
 

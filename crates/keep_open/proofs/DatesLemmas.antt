@@ -5,7 +5,7 @@ use Rattle.std.specs.Prelude.{All}
 use Rattle.std.proofs.lemmas.List.{length-map, map-append, take_more}
 use Rattle.std.proofs.lemmas.List.Elements.{All-from_get_or}
 use Rattle.std.proofs.lemmas.Slice.Zip.{length-zip}
-use Rattle.keep_tables.specs.Kept.{date_row}
+use Rattle.kept.specs.Kept.{date_row}
 use Rattle.rules.specs.declared.suite.Suite.{Suite}
 use Rattle.tables.specs.Rows.{Numbered, rows_of}
 use Rattle.tables.specs.declared.rows.Date.{Date}

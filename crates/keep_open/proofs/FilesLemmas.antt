@@ -31,7 +31,7 @@ use Rattle.tables.specs.Rows.{Numbered, Tables, rows_of}
 use Rattle.tables.specs.declared.rows.Body.{Body}
 use Rattle.tables.specs.declared.rows.File.{File}
 use Rattle.tables_read.specs.All.{AreConstrained}
-use Rattle.keep_tables.specs.Kept.{AreFiles, has_body, print_at}
+use Rattle.kept.specs.Kept.{AreFiles, has_body, print_at}
 use Rattle.keep_open.specs.Files.{AreThose, HasPrint, is_path}
 
 found_passes : {X : Type 0} (p : X → Bool) (xs : List X) (x : X) → find p xs ≡ Some x → p x ≡ true

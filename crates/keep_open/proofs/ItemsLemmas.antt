@@ -33,10 +33,10 @@ use Rattle.tables.specs.Rows.{Numbered, Tables, rows_of}
 use Rattle.tables.specs.declared.rows.Item.{Item}
 use Rattle.tables.specs.declared.rows.Ref.{Ref}
 use Rattle.tables_read.specs.All.{AreConstrained}
-use Rattle.keep_tables.specs.Kept.{AreItems, AreReadable, IsReadable, codename_at, is_on, item_row, refs_for, refs_in, shown_row}
-use Rattle.keep_tables.specs.Kept as kept
-use Rattle.keep_tables.specs.Shown.{clash, entry_in, file_in, is_taken, item_with, may_not_join, shown_in}
-use Rattle.keep_tables.proofs.ShownLemmas.{entry_on, find_beyond, find_shown, item_from, item_parts, on_entry, shown_is}
+use Rattle.kept.specs.Kept.{AreItems, AreReadable, IsReadable, codename_at, is_on, item_row, refs_for, refs_in, shown_row}
+use Rattle.kept.specs.Kept as kept
+use Rattle.kept.specs.Shown.{clash, entry_in, file_in, is_taken, item_with, may_not_join, shown_in}
+use Rattle.kept.proofs.ShownLemmas.{entry_on, find_beyond, find_shown, item_from, item_parts, on_entry, shown_is}
 use Rattle.keep_open.specs.Items.{AreShown, AreStopped, IsShown, Joins, MayJoin, are_numbered_from, entry_at}
 
 -- ---- files and their numbers

@@ -15,11 +15,11 @@ use Rattle.tables.specs.Schema.{archive_schema}
 use Rattle.tables.specs.declared.rows.Meta.{Meta}
 use Rattle.tables_read.specs.All.{AreConstrained}
 use Rattle.tables_read.specs.Real.{AreReal}
-use Rattle.keep_tables.specs.Archives.{KeepsArchive}
-use Rattle.keep_tables.specs.Kept.{AreFiles, AreItems, AreReadable, IsKept, date_row, has_body}
-use Rattle.keep_tables.specs.OneBook.{first_same, one_configuration, same_dates, same_shown}
-use Rattle.keep_tables.specs.Shown.{shown_in}
-use Rattle.keep_tables.proofs.CallLemmas.{kept_here}
+use Rattle.kept.specs.Archives.{KeepsArchive}
+use Rattle.kept.specs.Kept.{AreFiles, AreItems, AreReadable, IsKept, date_row, has_body}
+use Rattle.kept.specs.OneBook.{first_same, one_configuration, same_dates, same_shown}
+use Rattle.kept.specs.Shown.{shown_in}
+use Rattle.kept.proofs.CallLemmas.{kept_here}
 use Rattle.keep_open.specs.Opened.{IsArchiveOf, IsNoArchive, KeepsNone, KeepsSome, RestFits, ShownFits}
 use Rattle.keep_open.specs.Parts.{ArrivalsFit, BodiesFit, UploadsFit}
 

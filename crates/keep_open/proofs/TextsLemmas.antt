@@ -12,7 +12,7 @@ use Rattle.tables.specs.declared.rows.IndexText.{IndexText}
 use Rattle.texts.specs.Indices.{PathText, folder_texts, suite_texts, texts_from}
 use Rattle.texts.specs.Positions.{release_at}
 use Rattle.texts.specs.Release.{index_of, indices_of, listed_texts, release_text}
-use Rattle.keep_tables.specs.Founding.{from_root, suite_texts_at}
+use Rattle.kept.specs.Founding.{from_root, suite_texts_at}
 use Rattle.keep_open.specs.TextRows.{texts_in}
 
 -- ---- the first of several

@@ -13,7 +13,7 @@ use Rattle.rules.specs.declared.verdict.Verdict.TheVariants as verdict
 use Rattle.keep.specs.declared.change.Judgement.{Judgement}
 use Rattle.tables.specs.Rows.{Numbered, rows_of}
 use Rattle.tables.specs.declared.rows.Upload.{Upload}
-use Rattle.keep_tables.specs.Kept.{is_placed, judged_row}
+use Rattle.kept.specs.Kept.{is_placed, judged_row}
 use Rattle.keep_open.specs.Uploads.{all_verdicts, judged_at, judgement_in, last_of, later, verdict_numbered}
 use Rattle.keep_open.proofs.UploadsLists.{found_passes, from_slices, none_among, none_passes, same_somes, slice_get-map, slice_get-range}
 

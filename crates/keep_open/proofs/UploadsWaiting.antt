@@ -18,7 +18,7 @@ use Rattle.tables.specs.Uploads.{is_judged as has_place}
 use Rattle.tables.specs.declared.rows.Arrival.{Arrival}
 use Rattle.tables.specs.declared.rows.Body.{Body}
 use Rattle.tables_read.specs.All.{AreConstrained}
-use Rattle.keep_tables.specs.Kept.{arrival_in, arrivals_in, bytes_of, request_in, request_of, wanted, wants_in}
+use Rattle.kept.specs.Kept.{arrival_in, arrivals_in, bytes_of, request_in, request_of, wanted, wants_in}
 use Rattle.keep_open.specs.Parts.{BodiesFit}
 use Rattle.keep_open.specs.Uploads.{AreBesides, Printed, Waiting, awaited_view, changes_awaited, found_awaited, has_judgement, is_listed_as, is_there_among, print_among, printed, request_among, request_row, wanted_among, with_print, with_print_in}
 use Rattle.keep_open.specs.declared.uploads.arrived.Arrived.{Arrived}

@@ -4,7 +4,7 @@ use Rattle.keep.specs.Book.{latest}
 use Rattle.keep.specs.Keeping.{IsDeliverable}
 use Rattle.tables.specs.Rows.{Tables}
 use Rattle.tables.specs.declared.rows.Arrival.{Arrival}
-use Rattle.keep_tables.specs.Kept.{bytes_of}
+use Rattle.kept.specs.Kept.{bytes_of}
 
 -- The arrival of this row is one that may be kept.
 abbrev pub IsArrivalFit : Tables → Arrival → Type 0

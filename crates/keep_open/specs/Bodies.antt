@@ -4,7 +4,7 @@ use Rattle.std.specs.List.{list_any}
 use Rattle.sums.specs.Prints.{print as print_of}
 use Rattle.tables.specs.Rows.{Tables, rows_of}
 use Rattle.tables.specs.declared.rows.Body.{Body}
-use Rattle.keep_tables.specs.Kept.{bytes_of, pieces_for, pieces_of}
+use Rattle.kept.specs.Kept.{bytes_of, pieces_for, pieces_of}
 
 -- The body of this row is whole, in pieces, with the print of its bytes, and has arrived under some name.
 pub record IsBodyFit (t : Tables) (x : ℕ × Body) : Type 0 where

@@ -12,8 +12,8 @@ use Rattle.tables.specs.Refs.{is_ref_of}
 use Rattle.tables.specs.Rows.{Numbered, rows_of}
 use Rattle.tables.specs.declared.rows.Item.{Item}
 use Rattle.tables.specs.declared.rows.Ref.{Ref}
-use Rattle.keep_tables.specs.Kept.{IsReadable}
-use Rattle.keep_tables.specs.Shown.{MayStand, PutsRow, entry_with}
+use Rattle.kept.specs.Kept.{IsReadable}
+use Rattle.kept.specs.Shown.{MayStand, PutsRow, entry_with}
 
 -- the files are numbered on from n
 unfoldable pub are_numbered_from : ℕ → List Ref → Bool

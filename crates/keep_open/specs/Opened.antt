@@ -7,8 +7,8 @@ use Rattle.texts.specs.Indices.{all_texts}
 use Rattle.keep.specs.declared.change.Judgement.{Judgement}
 use Rattle.keep.specs.Book.{latest}
 use Rattle.tables.specs.Rows.{Tables, IsArchive, rows_of, tables_in}
-use Rattle.keep_tables.specs.Archives.{KeepsArchive}
-use Rattle.keep_tables.specs.Kept.{AreFiles, AreItems, AreReadable, IsKept, date_row}
+use Rattle.kept.specs.Archives.{KeepsArchive}
+use Rattle.kept.specs.Kept.{AreFiles, AreItems, AreReadable, IsKept, date_row}
 use Rattle.tables_read.specs.Real.{AreReal}
 use Rattle.keep_open.specs.Parts.{UploadsFit}
 

@@ -7,7 +7,7 @@ use Rattle.keep.specs.Keeping.{IsDeliverable}
 use Rattle.keep.specs.declared.change.Judgement.{Judgement}
 use Rattle.tables.specs.Rows.{Tables, rows_of}
 use Rattle.tables.specs.Uploads.{is_judged as has_place}
-use Rattle.keep_tables.specs.Kept.{arrivals_in, bytes_of, is_placed, judged_row, pieces_for, pieces_of, request_in, request_of}
+use Rattle.kept.specs.Kept.{arrivals_in, bytes_of, is_placed, judged_row, pieces_for, pieces_of, request_in, request_of}
 
 -- Each body is whole, in pieces, with the print of its bytes, and has arrived under some name.
 pub record BodiesFit (t : Tables) : Type 0 where

@@ -22,7 +22,7 @@ use Rattle.tables.specs.declared.rows.Body.{Body}
 use Rattle.tables.specs.declared.rows.Piece.{Piece}
 use Rattle.tables.specs.declared.rows.Upload.{Upload}
 use Rattle.tables.specs.declared.rows.Want.{Want}
-use Rattle.keep_tables.specs.Kept.{arrivals_in, is_placed, request_in, request_of}
+use Rattle.kept.specs.Kept.{arrivals_in, is_placed, request_in, request_of}
 use Rattle.keep_open.specs.declared.uploads.arrived.Arrived.{Arrived}
 use Rattle.keep_open.specs.declared.uploads.awaited.Awaited.{Awaited}
 

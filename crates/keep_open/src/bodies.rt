@@ -6,7 +6,7 @@ ghost use Rattle.sums.specs.Prints.{print};
 ghost use Rattle.tables.specs.Pieces.{is_of};
 ghost use Rattle.tables.specs.Rows.{rows_of};
 ghost use Rattle.tables_read.specs.All.{tables_with};
-ghost use Rattle.keep_tables.specs.Kept.{bytes_of, piece_at, piece_count, piece_size, pieces_for};
+ghost use Rattle.kept.specs.Kept.{bytes_of, piece_at, piece_count, piece_size, pieces_for};
 ghost use Rattle.keep_open.specs.Bodies.{IsBodyFit};
 ghost use Rattle.keep_open.specs.Parts.{BodiesFit};
 
@@ -33,7 +33,7 @@ fn joined(alloc: Global, pieces: &[(u64, Piece)], id: u64) -> Result<Vec<u8>, Al
 }
 
 /// The bytes of a body.
-#[tactic(auto, unfolding(keep_tables::specs::Kept::bytes_of))]
+#[tactic(auto, unfolding(kept::specs::Kept::bytes_of))]
 pub fn bytes_of(alloc: Global, all: &AllRows, id: u64) -> Result<Vec<u8>, AllocError>
     ensures { IfOk result (λ bytes. bytes.items ≡ bytes_of (tables_with all.now) id) }
 {

@@ -2,7 +2,7 @@
 
 ghost use Rattle.std.specs.Prelude.{◌≡◌, ◌≤◌, ◌↔◌, ℕ, List, All, None, length, map, zip, IsTrue, IfOk, IfSome};
 ghost use Rattle.keep.specs.Book.{latest};
-ghost use Rattle.keep_tables.specs.Kept.{date_row};
+ghost use Rattle.kept.specs.Kept.{date_row};
 ghost use Rattle.tables.specs.Rows.{rows_of};
 ghost use Rattle.tables_read.specs.All.{tables_with};
 

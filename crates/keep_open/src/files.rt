@@ -4,7 +4,7 @@ ghost use Rattle.std.specs.Prelude.{◌≡◌, ◌↔◌, ℕ, List, All, IfOk, 
 ghost use Rattle.std.specs.BTreeMap.{get_by_text};
 ghost use Rattle.suites.specs.Shelves.{pool as pool_of};
 ghost use Rattle.tables_read.specs.All.{AreConstrained, tables_with};
-ghost use Rattle.keep_tables.specs.Kept.{AreFiles};
+ghost use Rattle.kept.specs.Kept.{AreFiles};
 ghost use Rattle.keep_open.specs.Files.{AreThose, HasPrint, is_path, print_in};
 
 use std::alloc::{AllocError, Global};

@@ -3,8 +3,8 @@
 ghost use Rattle.std.specs.Prelude.{◌≡◌, true, false, None, IfOk, IfSome, IsTrue};
 ghost use Rattle.suites.specs.Shelves.{AreSound, ShelvesValue};
 ghost use Rattle.tables_read.specs.All.{AreConstrained, tables_with};
-ghost use Rattle.keep_tables.specs.Kept.{AreItems, AreReadable, IsReadable};
-ghost use Rattle.keep_tables.specs.Shown.{MayStand, PutsRow};
+ghost use Rattle.kept.specs.Kept.{AreItems, AreReadable, IsReadable};
+ghost use Rattle.kept.specs.Shown.{MayStand, PutsRow};
 ghost use Rattle.keep_open.specs.Items.{AreShown, AreStopped, Joins, MayJoin, are_numbered_from, refs_at};
 
 use keep_tables::put_row;

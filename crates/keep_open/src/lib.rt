@@ -3,15 +3,11 @@
 
 mod arrivals;
 mod bodies;
-#[cfg(test)]
-mod body_tests;
 mod dates;
 mod files;
 mod items;
 mod meta;
 mod opening;
-#[cfg(test)]
-mod shown_tests;
 mod text_rows;
 mod uploads;
 

@@ -9,8 +9,8 @@ ghost use Rattle.keep.specs.declared.fault.KeepFault.TheVariants.{Tables as NoAr
 ghost use Rattle.tables.specs.Rows.{Fails, Stands};
 ghost use Rattle.tables.specs.Schema.{archive_schema};
 ghost use Rattle.tables_read.specs.All.{AreConstrained, tables_with};
-ghost use Rattle.keep_tables.specs.Kept.{AreReadable};
-ghost use Rattle.keep_tables.specs.Transactions.{IsUndone};
+ghost use Rattle.kept.specs.Kept.{AreReadable};
+ghost use Rattle.kept.specs.Transactions.{IsUndone};
 ghost use Rattle.keep_open.specs.Opened.{IsArchiveOf, IsNoArchive, KeepsNone, KeepsSome, RestFits, ShownFits};
 ghost use Rattle.keep_open.specs.Parts.{ArrivalsFit, BodiesFit};
 
@@ -23,7 +23,8 @@ use crate::meta::config_in;
 use crate::text_rows::are_texts_of;
 use crate::uploads::judgements_in;
 use keep::{Judgement, KeepFault, LATEST};
-use keep_tables::{TableKeeper, fault_of, is_archive_schema};
+use keep_rows::{fault_of, is_archive_schema};
+use keep_tables::TableKeeper;
 use rules::Config;
 use sqlite::{Alter, Connection, Error};
 use std::alloc::{AllocError, Global};

@@ -1,7 +1,7 @@
 //! Whether the rows of `texts` are the texts of the suites.
 
 ghost use Rattle.std.specs.Prelude.{◌≡◌, ◌≢◌, ◌≤◌, ◌<◌, ◌↔◌, ◌∷◌, ◌++◌, List, All, None, length, map, codes, string_bytes, IsTrue, IfOk, IfSome, OnOk};
-ghost use Rattle.keep_tables.specs.Founding.{from_root, suite_texts_at};
+ghost use Rattle.kept.specs.Founding.{from_root, suite_texts_at};
 ghost use Rattle.keep_open.specs.TextRows.{text_in, texts_in};
 ghost use Rattle.tables.specs.Rows.{rows_of};
 ghost use Rattle.tables_read.specs.All.{tables_with};

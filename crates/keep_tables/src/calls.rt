@@ -9,8 +9,8 @@ ghost use Rattle.keep.specs.Keeping.{IsDeliverable};
 ghost use Rattle.keep.specs.declared.change.Judgement.{Judgement};
 ghost use Rattle.rules.specs.Values.{ConfigValue};
 ghost use Rattle.suites.specs.Shelves.{ShelvesValue};
-ghost use Rattle.keep_tables.specs.Archives.{KeepsArchive, Turns, book_of};
-ghost use Rattle.keep_tables.specs.Transactions.{IsUndone};
+ghost use Rattle.kept.specs.Archives.{KeepsArchive, Turns, book_of};
+ghost use Rattle.kept.specs.Transactions.{IsUndone};
 
 use crate::listing::{entries_of, record_of};
 use crate::taking::take_file;

@@ -9,19 +9,19 @@ ghost use Rattle.keep.specs.Book.{amended, dates_past, judgements, latest, shown
 ghost use Rattle.keep.specs.Keeping.{IsSound};
 ghost use Rattle.keep.specs.declared.change.Judgement.{Judgement};
 ghost use Rattle.suites.specs.Shelves.{ShelvesValue};
-ghost use Rattle.keep_tables.specs.Archives.{KeepsArchive, Turns, book_of};
-ghost use Rattle.keep_tables.specs.Changing.{is_within, puts_within};
-ghost use Rattle.keep_tables.specs.Transactions.{IsUndone};
+ghost use Rattle.kept.specs.Archives.{KeepsArchive, Turns, book_of};
+ghost use Rattle.kept.specs.Changing.{is_within, puts_within};
+ghost use Rattle.kept.specs.Transactions.{IsUndone};
 
-use crate::amend::amend;
 use keep::{Change, Step};
+use keep_rows::amend;
 use rules::Config;
 use sqlite::{Alter, Connection, Error, ErrorCode};
 use std::alloc::Global;
 use suites::{Item, ShelfKey};
 
 /// Whether an item stands in one of so many suites.
-#[tactic(auto, unfolding(crate::specs::Changing::is_within))]
+#[tactic(auto, unfolding(kept::specs::Changing::is_within))]
 fn is_inside(entry: &(ShelfKey, Item), suites: usize) -> bool
     ensures { result ≡ is_within suites entry.now }
 {
@@ -41,7 +41,7 @@ fn are_inside(entries: &[(ShelfKey, Item)], suites: usize) -> bool
 }
 
 /// Whether each item that a step puts stands in one of so many suites.
-#[tactic(auto, unfolding(crate::specs::Changing::puts_within))]
+#[tactic(auto, unfolding(kept::specs::Changing::puts_within))]
 fn puts_inside(step: &Step, suites: usize) -> bool
     ensures { result ≡ puts_within suites step.now }
 {

@@ -10,12 +10,12 @@ ghost use Rattle.sums.specs.Prints.{print as print_of_body};
 ghost use Rattle.keep.specs.Book.{Book, due, upload_of};
 ghost use Rattle.keep.specs.Keeping.{sign_of};
 ghost use Rattle.tables.specs.Rows.{Tables, Holds};
-ghost use Rattle.keep_tables.specs.Kept.{AreArrivals, AreBodies, AreUploads, arrivals_in};
-ghost use Rattle.keep_tables.specs.Reads.{Rests, bytes_with, due_in, text_in, unjudged_rows, upload_in};
-ghost use Rattle.keep_tables.specs.Transactions.{IsUndone};
+ghost use Rattle.kept.specs.Kept.{AreArrivals, AreBodies, AreUploads, arrivals_in};
+ghost use Rattle.kept.specs.Reads.{Rests, bytes_with, due_in, text_in, unjudged_rows, upload_in};
+ghost use Rattle.kept.specs.Transactions.{IsUndone};
 
-use crate::bodies::read_body;
 use crate::waiting::{missing_of, unjudged_in_order};
+use keep_rows::read_body;
 use para::Listed;
 use records::{Changes, RecordFault};
 use sqlite::{Alter, Connection, Error, ErrorCode};

@@ -4,18 +4,17 @@ ghost use Rattle.std.specs.Prelude.{◌≡◌, ◌≤◌, All, false, IsTrue};
 ghost use Rattle.sqlite.specs.Held.{state};
 ghost use Rattle.sqlite.specs.State.{HasCleanDisk};
 ghost use Rattle.tables.specs.Rows.{tables_in};
-ghost use Rattle.keep_tables.specs.Archives.{KeepsArchive};
-ghost use Rattle.keep_tables.specs.Shown.{shown_in};
+ghost use Rattle.kept.specs.Archives.{KeepsArchive};
+ghost use Rattle.kept.specs.Shown.{shown_in};
 
 use crate::calls::take_delivery;
 use crate::changes::make_change;
-use crate::create::{create, is_without_tables};
-use crate::fault::fault_of;
 use crate::reads::{read_due, read_file, read_nothing, read_shown, read_text, read_waiting};
 use keep::{
     Change, Judgement, KeepFault, Keeper, LATEST, Waiting, copied_judgements, dates_after,
     judged_after,
 };
+use keep_rows::{create, fault_of, is_without_tables};
 use rules::Config;
 use sqlite::{Alter, Connection};
 use std::alloc::Global;
@@ -42,15 +41,15 @@ impl<S: Alter + Drop> TableKeeper<S> {
     ghost use Rattle.keep.specs.Plain.{fresh_book};
     ghost use Rattle.keep.specs.declared.fault.KeepFault.TheVariants.{Tables as NotEmpty};
     ghost use Rattle.tables.specs.Schema.{no_schema};
-    ghost use Rattle.keep_tables.specs.Archives.{book_of};
-    ghost use Rattle.keep_tables.specs.Founding.{MayFound, founded};
-    ghost use Rattle.keep_tables.specs.Transactions.{IsUndone};
+    ghost use Rattle.kept.specs.Archives.{book_of};
+    ghost use Rattle.kept.specs.Founding.{MayFound, founded};
+    ghost use Rattle.kept.specs.Transactions.{IsUndone};
 
     /// A new archive of the configuration, in a database that has no table, no index and no view, made at the moment, in
     /// seconds since 1970-01-01 00:00:00 UTC. A fault gives the connection back, and then what was committed is as before. It is
     /// `KeepFault::Tables` exactly where the database has an object already or a transaction is begun. A crash leaves what was
     /// there before or the whole archive.
-    #[tactic(auto, unfolding(crate::specs::Kept::book_in))]
+    #[tactic(auto, unfolding(kept::specs::Kept::book_in))]
     pub fn create(
         alloc: Global,
         mut connection: Connection<S>,
@@ -126,8 +125,8 @@ impl<S: Alter + Drop> TableKeeper<S> {
 impl<S: Alter + Drop> Keeper for TableKeeper<S> {
     ghost use Rattle.std.specs.Prelude.{true};
     ghost use Rattle.sqlite.specs.Effect.{Database};
-    ghost use Rattle.keep_tables.specs.Archives.{KeepsBook, book_of};
-    ghost use Rattle.keep_tables.specs.KeeperLemmas.{left_settled};
+    ghost use Rattle.kept.specs.Archives.{KeepsBook, book_of};
+    ghost use Rattle.kept.specs.KeeperLemmas.{left_settled};
 
     ghost is_clean = { λ k. HasCleanDisk (state S.Store k.conn) };
 
@@ -140,12 +139,12 @@ impl<S: Alter + Drop> Keeper for TableKeeper<S> {
     /// A crash leaves databases that an opening may find; each keeps its book.
     ghost may_leave = { λ k left. (db : Database) × (state S.Store k.conn).may_leave db.trees × KeepsBook db k.config left };
 
-    #[tactic(auto, unfolding(crate::specs::Kept::book_in))]
+    #[tactic(auto, unfolding(kept::specs::Kept::book_in))]
     fn config(&self) -> &Config {
         &self.config
     }
 
-    #[tactic(auto, unfolding(crate::specs::Kept::book_in))]
+    #[tactic(auto, unfolding(kept::specs::Kept::book_in))]
     fn arrive(
         &mut self,
         alloc: Global,
@@ -159,7 +158,7 @@ impl<S: Alter + Drop> Keeper for TableKeeper<S> {
         }
     }
 
-    #[tactic(auto, unfolding(crate::specs::Kept::book_in))]
+    #[tactic(auto, unfolding(kept::specs::Kept::book_in))]
     fn complete_uploads(&mut self, alloc: Global, moment: u64) -> Result<Vec<Upload>, KeepFault> {
         let _ = moment;
         match read_due(alloc, &mut self.conn) {
@@ -168,7 +167,7 @@ impl<S: Alter + Drop> Keeper for TableKeeper<S> {
         }
     }
 
-    #[tactic(auto, unfolding(crate::specs::Kept::book_in))]
+    #[tactic(auto, unfolding(kept::specs::Kept::book_in))]
     fn shelves(&mut self, alloc: Global) -> Result<Shelves, KeepFault> {
         match read_shown(alloc, &mut self.conn, &self.config) {
             Ok(shelves) => Ok(shelves),
@@ -176,7 +175,7 @@ impl<S: Alter + Drop> Keeper for TableKeeper<S> {
         }
     }
 
-    #[tactic(auto, unfolding(crate::specs::Kept::book_in))]
+    #[tactic(auto, unfolding(kept::specs::Kept::book_in))]
     fn apply(&mut self, alloc: Global, change: &Change) -> Result<(), KeepFault> {
         let steps = change.steps.as_slice();
         let judged = judged_after(alloc, &self.judged, steps)?;
@@ -197,7 +196,7 @@ impl<S: Alter + Drop> Keeper for TableKeeper<S> {
         }
     }
 
-    #[tactic(auto, unfolding(crate::specs::Kept::book_in))]
+    #[tactic(auto, unfolding(kept::specs::Kept::book_in))]
     fn file(&mut self, alloc: Global, path: &str) -> Result<Option<Vec<u8>>, KeepFault> {
         match read_file(alloc, &mut self.conn, path) {
             Ok(file) => Ok(file),
@@ -205,7 +204,7 @@ impl<S: Alter + Drop> Keeper for TableKeeper<S> {
         }
     }
 
-    #[tactic(auto, unfolding(crate::specs::Kept::book_in))]
+    #[tactic(auto, unfolding(kept::specs::Kept::book_in))]
     fn text(&mut self, alloc: Global, path: &str) -> Result<Option<Vec<u8>>, KeepFault> {
         match read_text(alloc, &mut self.conn, path) {
             Ok(text) => Ok(text),
@@ -213,7 +212,7 @@ impl<S: Alter + Drop> Keeper for TableKeeper<S> {
         }
     }
 
-    #[tactic(auto, unfolding(crate::specs::Kept::book_in))]
+    #[tactic(auto, unfolding(kept::specs::Kept::book_in))]
     fn waiting(&mut self, alloc: Global, moment: u64) -> Result<Vec<Waiting>, KeepFault> {
         let _ = moment;
         match read_waiting(alloc, &mut self.conn) {
@@ -222,7 +221,7 @@ impl<S: Alter + Drop> Keeper for TableKeeper<S> {
         }
     }
 
-    #[tactic(auto, unfolding(crate::specs::Kept::book_in))]
+    #[tactic(auto, unfolding(kept::specs::Kept::book_in))]
     fn verdicts(&mut self, alloc: Global) -> Result<Vec<Judgement>, KeepFault> {
         match read_nothing(alloc, &mut self.conn) {
             Ok(()) => Ok(copied_judgements(alloc, &self.judged)?),

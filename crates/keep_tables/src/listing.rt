@@ -3,7 +3,7 @@
 ghost use Rattle.std.specs.Prelude.{◌≡◌, IfOk, option_map};
 ghost use Rattle.keep.specs.Book.{is_changes_name};
 ghost use Rattle.keep.specs.Keeping.{IsDeliverable};
-ghost use Rattle.keep_tables.specs.Taking.{listed_in};
+ghost use Rattle.kept.specs.Taking.{listed_in};
 
 use records::Changes;
 use sqlite::{Error, ErrorCode};

@@ -10,13 +10,13 @@ ghost use Rattle.keep.specs.declared.change.Judgement.{Judgement};
 ghost use Rattle.rules.specs.Values.{ConfigValue};
 ghost use Rattle.suites.specs.Shelves.{ShelvesValue};
 ghost use Rattle.tables.specs.Rows.{IsArchive};
-ghost use Rattle.keep_tables.specs.Archives.{IsRead, KeepsArchive, book_of};
+ghost use Rattle.kept.specs.Archives.{IsRead, KeepsArchive, book_of};
 
-use crate::bodies::file_body;
 use crate::due::due_uploads;
 use crate::shelve::read_shelves;
 use crate::waiting::waiting_uploads;
 use keep::Waiting;
+use keep_rows::file_body;
 use rules::Config;
 use sqlite::{Alter, Connection, Error};
 use std::alloc::Global;

@@ -9,9 +9,9 @@ ghost use Rattle.sqlite.specs.State.{HasCleanDisk, IsUnchanged, Survives};
 ghost use Rattle.suites.specs.Items.{standing};
 ghost use Rattle.suites.specs.Shelves.{AreSound, ShelvesValue, pool};
 ghost use Rattle.tables.specs.Rows.{Tables, Holds};
-ghost use Rattle.keep_tables.specs.Kept.{AreItems, IsReadable};
-ghost use Rattle.keep_tables.specs.Shown.{IsPut, MayBePut, MayStand, PutsRow, clash, file_in, is_taken as is_taken_in, item_with as item_of_row, kind_numbered as kind_of_number, may_not_join as may_not_join_pool, suite_named as suite_of_name};
-ghost use Rattle.keep_tables.specs.Transactions.{IsUndone};
+ghost use Rattle.kept.specs.Kept.{AreItems, IsReadable};
+ghost use Rattle.kept.specs.Shown.{IsPut, MayBePut, MayStand, PutsRow, clash, file_in, is_taken as is_taken_in, item_with as item_of_row, kind_numbered as kind_of_number, may_not_join as may_not_join_pool, suite_named as suite_of_name};
+ghost use Rattle.kept.specs.Transactions.{IsUndone};
 ghost use Rattle.vers.specs.Syntax.{IsVersion};
 
 use para::{Listed, Text};
@@ -25,7 +25,7 @@ use tables::rows;
 use vers::{Version, VersionFault};
 
 /// The position of the suite with a codename.
-#[tactic(auto, unfolding(crate::specs::Shown::suite_named))]
+#[tactic(auto, unfolding(kept::specs::Shown::suite_named))]
 fn suite_named(suites: &[Suite], codename: &str) -> Option<usize>
     ensures { result ≡ suite_of_name suites.now codename.now }
 {
@@ -35,7 +35,7 @@ fn suite_named(suites: &[Suite], codename: &str) -> Option<usize>
 }
 
 /// The kind with a number.
-#[tactic(auto, unfolding(crate::specs::Shown::kind_numbered))]
+#[tactic(auto, unfolding(kept::specs::Shown::kind_numbered))]
 fn kind_numbered(number: u64) -> Option<Kind>
     ensures { result ≡ kind_of_number number }
 {
@@ -112,7 +112,7 @@ fn item_with(
 }
 
 /// Whether two files stand at one path, with different prints.
-#[tactic(auto, unfolding(crate::specs::Shown::clash))]
+#[tactic(auto, unfolding(kept::specs::Shown::clash))]
 fn differ(one: &PoolFile, other: &PoolFile) -> bool
     ensures { result ≡ clash one.now other.now }
 {
@@ -135,7 +135,7 @@ fn differs(file: &PoolFile, others: &[PoolFile]) -> bool
 }
 
 /// Whether the pool has another print at the path of a file.
-#[tactic(auto, unfolding(crate::specs::Shown::is_taken))]
+#[tactic(auto, unfolding(kept::specs::Shown::is_taken))]
 fn is_taken(shelves: &Shelves, file: &PoolFile) -> bool
     ensures { result ≡ is_taken_in (pool shelves.now) file.now }
 {
@@ -146,7 +146,7 @@ fn is_taken(shelves: &Shelves, file: &PoolFile) -> bool
 }
 
 /// Whether a file of an item has another print than what stands at its path in the pool, or among the item's files.
-#[tactic(auto, unfolding(crate::specs::Shown::may_not_join))]
+#[tactic(auto, unfolding(kept::specs::Shown::may_not_join))]
 fn may_not_join(shelves: &Shelves, files: &[PoolFile], file: &PoolFile) -> bool
     ensures { result ≡ may_not_join_pool (pool shelves.now) files.now file.now }
 {

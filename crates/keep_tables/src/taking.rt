@@ -8,13 +8,12 @@ ghost use Rattle.tables.specs.Arrivals.{is_arrival};
 ghost use Rattle.tables.specs.Bodies.{body_with};
 ghost use Rattle.tables.specs.Inside.{GoesOn};
 ghost use Rattle.tables.specs.Rows.{Tables, Holds, Changes};
-ghost use Rattle.keep_tables.specs.Kept.{bytes_of};
-ghost use Rattle.keep_tables.specs.Making.{number_with, with_bytes, with_delivered};
-ghost use Rattle.keep_tables.specs.Taking.{HasNoOther};
-ghost use Rattle.keep_tables.specs.Transactions.{IsDone, IsUndone, MayCommit};
+ghost use Rattle.kept.specs.Kept.{bytes_of};
+ghost use Rattle.kept.specs.Making.{number_with, with_bytes, with_delivered};
+ghost use Rattle.kept.specs.Taking.{HasNoOther};
+ghost use Rattle.kept.specs.Transactions.{IsDone, IsUndone, MayCommit};
 
-use crate::bodies::{differ, joined};
-use crate::deliver::{Delivery, deliver_inside};
+use keep_rows::{Delivery, deliver_inside, differ, joined};
 use sqlite::{Alter, Connection, Error, ErrorCode, Transaction};
 use std::alloc::Global;
 use sums::{Entry, Print, print_of};

@@ -5,9 +5,9 @@ ghost use Rattle.sqlite.specs.Held.{state};
 ghost use Rattle.sqlite.specs.State.{HasCleanDisk, IsUnchanged, Survives};
 ghost use Rattle.keep.specs.Book.{Book, waiting_list};
 ghost use Rattle.tables.specs.Rows.{Tables, Fails, Holds, IsForeign};
-ghost use Rattle.keep_tables.specs.Kept.{AreUploads, arrivals_in, sign_in};
-ghost use Rattle.keep_tables.specs.Reads.{missing_in, put_by, row_order, sign_order, sorted_by, unjudged_rows};
-ghost use Rattle.keep_tables.specs.Transactions.{IsUndone};
+ghost use Rattle.kept.specs.Kept.{AreUploads, arrivals_in, sign_in};
+ghost use Rattle.kept.specs.Reads.{missing_in, put_by, row_order, sign_order, sorted_by, unjudged_rows};
+ghost use Rattle.kept.specs.Transactions.{IsUndone};
 
 use keep::Waiting;
 use sqlite::{Alter, Connection, Error};
@@ -18,7 +18,7 @@ use tables::uploads::unjudged_uploads;
 use tables::wants::wants_of;
 
 /// The order of judging: by the bytes of the names, then by SHA-256, SHA-1, MD5 and size.
-#[tactic(auto, unfolding(crate::specs::Reads::sign_order))]
+#[tactic(auto, unfolding(kept::specs::Reads::sign_order))]
 fn judging_order(a: &Upload, b: &Upload) -> Ordering
     ensures { result ≡ sign_order (sign_in a.now) (sign_in b.now) }
 {

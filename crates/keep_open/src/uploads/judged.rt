@@ -4,7 +4,7 @@ ghost use Rattle.std.specs.Prelude.{◌≡◌, Some, None, All, Contains, MatchB
 ghost use Rattle.std.specs.List.{range_with_len};
 ghost use Rattle.rules.specs.Verdicts.{number_of};
 ghost use Rattle.tables.specs.Rows.{rows_of};
-ghost use Rattle.keep_tables.specs.Kept.{is_placed};
+ghost use Rattle.kept.specs.Kept.{is_placed};
 ghost use Rattle.keep_open.specs.Uploads.{IsPlacedWell, judged_at, judgement_in, last_of, later as later_of, verdict_numbered as verdict_of_number};
 
 use keep::Judgement;

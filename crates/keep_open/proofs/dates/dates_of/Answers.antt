@@ -4,7 +4,7 @@ use Rattle.std.specs.Prelude.{All}
 use Rattle.std.proofs.lemmas.List.{length-append, length-take}
 use Rattle.std.proofs.lemmas.List.Elements.{All-append, All-get_or}
 use Rattle.keep.specs.Book.{latest}
-use Rattle.keep_tables.specs.Kept.{date_row}
+use Rattle.kept.specs.Kept.{date_row}
 use Rattle.rules.specs.declared.suite.Suite.{Suite}
 use Rattle.tables.specs.Rows.{Numbered}
 use Rattle.tables.specs.declared.rows.Date.{Date}

@@ -2,7 +2,7 @@ use Rattle.std.proofs.Common.{◌≡◌, ◌≤◌, length, map, take}
 use Rattle.std.specs.List.{zip}
 use Rattle.std.specs.Prelude.{All}
 use Rattle.keep.specs.Book.{latest}
-use Rattle.keep_tables.specs.Kept.{date_row}
+use Rattle.kept.specs.Kept.{date_row}
 use Rattle.tables.specs.Rows.{rows_of}
 use Rattle.keep_open.proofs.dates.dates_of.Given as goal
 

@@ -6,7 +6,7 @@ use Rattle.tables.specs.Rows.{Numbered}
 use Rattle.tables.specs.declared.rows.Item.{Item}
 use Rattle.tables.specs.declared.rows.Ref.{Ref}
 use Rattle.tables_read.specs.All.{tables_with}
-use Rattle.keep_tables.proofs.NameLemmas.{config_codenames}
+use Rattle.kept.proofs.NameLemmas.{config_codenames}
 use Rattle.keep_open.specs.Items.{AreShown, AreStopped}
 use Rattle.keep_open.proofs.ItemsLemmas.{all_readable, items_fit, none_stopped}
 use Rattle.keep_open.proofs.items.shelves_in.Goals as goal

@@ -8,8 +8,8 @@ use Rattle.tables.specs.Rows.{Fails, Stands, rows_of}
 use Rattle.tables.specs.Schema.{archive_schema}
 use Rattle.texts.specs.Indices.{all_texts}
 use Rattle.tables_read.specs.All.{AreConstrained, AreWhole, tables_with}
-use Rattle.keep_tables.specs.Kept.{AreFiles, AreItems}
-use Rattle.keep_tables.specs.Transactions.{IsUndone}
+use Rattle.kept.specs.Kept.{AreFiles, AreItems}
+use Rattle.kept.specs.Transactions.{IsUndone}
 use Rattle.keep_open.specs.Opened.{IsArchiveOf, IsNoArchive, KeepsNone, KeepsSome, RestFits, ShownFits}
 use Rattle.keep_open.specs.Parts.{ArrivalsFit, BodiesFit, UploadsFit}
 use Rattle.tables.specs.Rows.{Holds}

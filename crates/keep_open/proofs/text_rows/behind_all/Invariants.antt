@@ -1,7 +1,7 @@
 use Rattle.std.proofs.Common.{◌≡◌, ◌↔◌, ◌++◌, List, map, drop}
 use Rattle.texts.specs.Indices.{PathText}
 use Rattle.keep_open.specs.TextRows.{text_in, texts_in}
-use Rattle.keep_tables.specs.Founding.{from_root}
+use Rattle.kept.specs.Founding.{from_root}
 use Rattle.keep_open.proofs.text_rows.behind_all.Given as goal
 
 -- the rows begin with all texts exactly where those that are left begin with the others

@@ -1,7 +1,7 @@
 use Rattle.std.proofs.Common.{not, ap, ◌∙◌}
 use Rattle.sqlite.specs.Held.{state}
 use Rattle.sqlite.proofs.StateLemmas.{survives_weaker}
-use Rattle.keep_tables.proofs.TakingLemmas.{both_if, both_on, delivery_new, delivery_turns}
+use Rattle.kept.proofs.TakingLemmas.{both_if, both_on, delivery_new, delivery_turns}
 use Rattle.keep_tables.proofs.calls.take_delivery.Goals as goal
 
 pub returns-clause-done : goal.returns-clause-done

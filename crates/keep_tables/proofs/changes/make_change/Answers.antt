@@ -1,7 +1,7 @@
 use Rattle.std.proofs.Common.{IsTrue, not, ap, ◌∙◌}
 use Rattle.sqlite.specs.Held.{state}
 use Rattle.tables.proofs.TransactionLemmas.{on_ok}
-use Rattle.keep_tables.proofs.TurnLemmas.{all_within, crash_turns, done_turns}
+use Rattle.kept.proofs.TurnLemmas.{all_within, crash_turns, done_turns}
 use Rattle.keep_tables.proofs.changes.make_change.Goals as goal
 
 pub returns-clause-done : goal.returns-clause-done

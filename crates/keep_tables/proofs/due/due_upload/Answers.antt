@@ -2,8 +2,8 @@ use Rattle.std.proofs.Common.{◌≡◌, arith}
 use Rattle.sqlite.specs.Held.{state}
 use Rattle.sqlite.specs.State.{HasCleanDisk}
 use Rattle.sqlite.proofs.Callers.{unchanged_then}
-use Rattle.keep_tables.proofs.DueLemmas.{is_due}
-use Rattle.keep_tables.proofs.ReadsLemmas.{held_after, on_err, survives_after, survives_foreign, undone_after}
+use Rattle.kept.proofs.DueLemmas.{is_due}
+use Rattle.kept.proofs.ReadsLemmas.{held_after, on_err, survives_after, survives_foreign, undone_after}
 use Rattle.keep_tables.proofs.due.due_upload.Goals as goal
 
 pub returns-in_err-missing-clause-survives : goal.returns-in_err-missing-clause-survives

@@ -5,9 +5,9 @@ use Rattle.sqlite.specs.State.{HasCleanDisk}
 use Rattle.sqlite.proofs.Callers.{unchanged_then}
 use Rattle.keep.specs.Book.{due}
 use Rattle.keep.proofs.Signs.{signs_of}
-use Rattle.keep_tables.specs.Reads.{due_in}
-use Rattle.keep_tables.proofs.DueLemmas.{due_are}
-use Rattle.keep_tables.proofs.ReadsLemmas.{found_all, found_more, found_none, held_after, on_err, survives_after, survives_foreign, undone_after, undone_if_unchanged}
+use Rattle.kept.specs.Reads.{due_in}
+use Rattle.kept.proofs.DueLemmas.{due_are}
+use Rattle.kept.proofs.ReadsLemmas.{found_all, found_more, found_none, held_after, on_err, survives_after, survives_foreign, undone_after, undone_if_unchanged}
 use Rattle.keep_tables.proofs.due.due_uploads.Goals as goal
 
 pub returns-in_err-id-items-clause-survives : goal.returns-in_err-id-items-clause-survives

@@ -3,7 +3,7 @@ use Rattle.std.specs.List.{filter_map}
 use Rattle.sqlite.specs.Held.{state}
 use Rattle.sqlite.specs.State.{HasCleanDisk, IsUnchanged, Survives}
 use Rattle.tables.specs.Rows.{Tables, Holds}
-use Rattle.keep_tables.specs.Reads.{due_in, unjudged_rows}
+use Rattle.kept.specs.Reads.{due_in, unjudged_rows}
 use Rattle.keep_tables.proofs.due.due_uploads.Given as goal
 
 -- the uploads so far, and those that are left

@@ -2,9 +2,9 @@ use Rattle.std.proofs.Common.{not, ap, ◌∙◌, arith, refl}
 use Rattle.sqlite.specs.Held.{state}
 use Rattle.sqlite.specs.State.{HasCleanDisk}
 use Rattle.tables.specs.Rows.{tables_in}
-use Rattle.keep_tables.specs.Archives.{book_of}
-use Rattle.keep_tables.specs.Kept.{book_in}
-use Rattle.keep_tables.proofs.ReadCalls.{open_after, read_after, rows_after, undone_either}
+use Rattle.kept.specs.Archives.{book_of}
+use Rattle.kept.specs.Kept.{book_in}
+use Rattle.kept.proofs.ReadCalls.{open_after, read_after, rows_after, undone_either}
 use Rattle.keep_tables.proofs.reads.read_due.Goals as goal
 
 pub returns-clause-read : goal.returns-clause-read

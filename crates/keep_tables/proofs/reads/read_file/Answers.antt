@@ -2,8 +2,8 @@ use Rattle.std.proofs.Common.{not, ap, ◌∙◌, arith}
 use Rattle.sqlite.specs.Held.{state}
 use Rattle.sqlite.specs.State.{HasCleanDisk}
 use Rattle.tables.specs.Rows.{tables_in}
-use Rattle.keep_tables.specs.Kept.{book_in}
-use Rattle.keep_tables.proofs.ReadCalls.{open_after, read_after, rows_after, undone_either, if_then, on_then}
+use Rattle.kept.specs.Kept.{book_in}
+use Rattle.kept.proofs.ReadCalls.{open_after, read_after, rows_after, undone_either, if_then, on_then}
 use Rattle.keep_tables.proofs.reads.read_file.Goals as goal
 
 pub returns-clause-read : goal.returns-clause-read

@@ -2,7 +2,7 @@ use Rattle.std.proofs.Common.{not, ap, ◌∙◌, arith}
 use Rattle.sqlite.specs.Held.{state}
 use Rattle.sqlite.specs.State.{HasCleanDisk}
 use Rattle.tables.specs.Rows.{tables_in}
-use Rattle.keep_tables.proofs.ReadCalls.{open_after, read_after, rows_after, undone_either}
+use Rattle.kept.proofs.ReadCalls.{open_after, read_after, rows_after, undone_either}
 use Rattle.keep_tables.proofs.reads.read_shown.Goals as goal
 
 pub returns-clause-read : goal.returns-clause-read

@@ -4,9 +4,9 @@ use Rattle.sqlite.specs.State.{HasCleanDisk}
 use Rattle.texts.specs.Indices.{all_texts, index_text}
 use Rattle.tables.specs.Rows.{rows_of, tables_in}
 use Rattle.tables.specs.declared.rows.IndexText.{IndexText}
-use Rattle.keep_tables.specs.Kept.{book_in}
-use Rattle.keep_tables.proofs.ReadCalls.{is_open_after, read_after, rows_after, text_is}
-use Rattle.keep_tables.proofs.ReadsLemmas.{undone_if_failed, undone_if_unchanged}
+use Rattle.kept.specs.Kept.{book_in}
+use Rattle.kept.proofs.ReadCalls.{is_open_after, read_after, rows_after, text_is}
+use Rattle.kept.proofs.ReadsLemmas.{undone_if_failed, undone_if_unchanged}
 use Rattle.keep_tables.proofs.reads.read_text.Goals as goal
 
 pub returns-in_err-text-clause-read : goal.returns-in_err-text-clause-read

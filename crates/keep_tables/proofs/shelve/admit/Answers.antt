@@ -4,7 +4,7 @@ use Rattle.suites.specs.Items.{standing}
 use Rattle.suites.specs.Plan.{IsStep}
 use Rattle.suites.specs.Shelves.{shown_after, version_of}
 use Rattle.suites.specs.declared.item.Item.{Item}
-use Rattle.keep_tables.proofs.ShownLemmas.{may_join, put_there}
+use Rattle.kept.proofs.ShownLemmas.{may_join, put_there}
 use Rattle.keep_tables.proofs.shelve.admit.Goals as goal
 
 pub plan_admission-requires : goal.plan_admission-requires

@@ -1,6 +1,6 @@
 use Rattle.std.proofs.Common.{◌≡◌, drop}
 use Rattle.std.specs.List.{list_any}
-use Rattle.keep_tables.specs.Shown.{clash}
+use Rattle.kept.specs.Shown.{clash}
 use Rattle.keep_tables.proofs.shelve.differs.Given as goal
 
 -- what has not been looked at decides

@@ -1,5 +1,5 @@
 use Rattle.std.proofs.Common.{◌≡◌, map}
-use Rattle.keep_tables.specs.Shown.{file_in}
+use Rattle.kept.specs.Shown.{file_in}
 use Rattle.keep_tables.proofs.shelve.files_in.Given as goal
 
 -- the files so far

@@ -1,7 +1,7 @@
 use Rattle.std.proofs.Common.{inl, inr, sym, ap, ◌∙◌}
 use Rattle.std.proofs.lemmas.Result.{IfErr-weaker, on_ok_weaker}
-use Rattle.keep_tables.specs.Shown.{suite_named}
-use Rattle.keep_tables.proofs.ShownLemmas.{item_refused, no_kind, no_suite, row_puts}
+use Rattle.kept.specs.Shown.{suite_named}
+use Rattle.kept.proofs.ShownLemmas.{item_refused, no_kind, no_suite, row_puts}
 use Rattle.keep_tables.proofs.shelve.put_row.Goals as goal
 
 pub returns-clause-ok : goal.returns-clause-ok

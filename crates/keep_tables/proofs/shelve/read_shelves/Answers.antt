@@ -4,10 +4,10 @@ use Rattle.sqlite.specs.State.{HasCleanDisk}
 use Rattle.sqlite.proofs.Callers.{unchanged_then}
 use Rattle.rules.specs.declared.suite.Suite.{Suite}
 use Rattle.tables.specs.declared.rows.Ref.{Ref}
-use Rattle.keep_tables.specs.Shown.{PutsRow}
-use Rattle.keep_tables.proofs.NameLemmas.{config_codenames}
-use Rattle.keep_tables.proofs.ReadsLemmas.{held_after, survives_after, survives_foreign}
-use Rattle.keep_tables.proofs.ShownLemmas.{all_left, none_left, one_less, shown_is}
+use Rattle.kept.specs.Shown.{PutsRow}
+use Rattle.kept.proofs.NameLemmas.{config_codenames}
+use Rattle.kept.proofs.ReadsLemmas.{held_after, survives_after, survives_foreign}
+use Rattle.kept.proofs.ShownLemmas.{all_left, none_left, one_less, shown_is}
 use Rattle.keep_tables.proofs.shelve.read_shelves.Goals as goal
 
 pub returns-in_err-id-items-clause-survives : goal.returns-in_err-id-items-clause-survives

@@ -2,7 +2,7 @@ use Rattle.std.proofs.Common.{◌≡◌, false}
 use Rattle.sqlite.specs.Held.{state}
 use Rattle.sqlite.specs.State.{HasCleanDisk, IsUnchanged, Survives}
 use Rattle.tables.specs.Rows.{Tables, Holds}
-use Rattle.keep_tables.specs.Shown.{AreLeft}
+use Rattle.kept.specs.Shown.{AreLeft}
 use Rattle.keep_tables.proofs.shelve.read_shelves.Given as goal
 
 -- the shelves so far, and the rows that are left

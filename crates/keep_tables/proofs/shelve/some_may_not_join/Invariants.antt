@@ -1,7 +1,7 @@
 use Rattle.std.proofs.Common.{◌≡◌, drop}
 use Rattle.std.specs.List.{list_any}
 use Rattle.suites.specs.Shelves.{pool}
-use Rattle.keep_tables.specs.Shown.{may_not_join}
+use Rattle.kept.specs.Shown.{may_not_join}
 use Rattle.keep_tables.proofs.shelve.some_may_not_join.Given as goal
 
 -- what has not been looked at decides

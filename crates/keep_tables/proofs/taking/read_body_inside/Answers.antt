@@ -1,7 +1,7 @@
 use Rattle.std.proofs.Common.{ap, ◌∙◌}
 use Rattle.std.specs.List.{flat_map}
 use Rattle.tables.specs.declared.rows.Piece.{Piece}
-use Rattle.keep_tables.specs.Kept.{bytes_of}
+use Rattle.kept.specs.Kept.{bytes_of}
 use Rattle.keep_tables.proofs.taking.read_body_inside.Goals as goal
 
 pub returns-clause-ok : goal.returns-clause-ok

@@ -1,6 +1,6 @@
 use Rattle.std.proofs.Common.{◌≡◌, rules}
-use Rattle.keep_tables.specs.Taking.{HasNoOther}
-use Rattle.keep_tables.proofs.TakingLemmas.{survives_found}
+use Rattle.kept.specs.Taking.{HasNoOther}
+use Rattle.kept.proofs.TakingLemmas.{survives_found}
 use Rattle.keep_tables.proofs.taking.take.Goals as goal
 
 pub returns-in_err-commit-clause-crash : goal.returns-in_err-commit-clause-crash

@@ -2,8 +2,8 @@ use Rattle.std.proofs.Common.{◌≡◌, find, is_some, not, IfOk, subst}
 use Rattle.sqlite.specs.Held.{state}
 use Rattle.tables.specs.Arrivals.{is_arrival}
 use Rattle.tables.specs.Rows.{Tables, Holds}
-use Rattle.keep_tables.specs.Making.{number_with, with_bytes}
-use Rattle.keep_tables.specs.Taking.{HasNoOther}
+use Rattle.kept.specs.Making.{number_with, with_bytes}
+use Rattle.kept.specs.Taking.{HasNoOther}
 use Rattle.keep_tables.proofs.taking.take_file.Goals as goal
 
 pub returns-clause-answer : goal.returns-clause-answer

@@ -1,5 +1,5 @@
 use Rattle.std.proofs.Common.{ap, ◌∙◌, length, filter, not}
-use Rattle.keep_tables.specs.Reads.{missing_in}
+use Rattle.kept.specs.Reads.{missing_in}
 use Rattle.keep_tables.proofs.waiting.missing_of.Goals as goal
 
 pub returns-clause-ok : goal.returns-clause-ok

@@ -1,5 +1,5 @@
 use Rattle.std.proofs.Common.{◌≡◌, ◌++◌, take, drop}
-use Rattle.keep_tables.specs.Reads.{put_by, row_order}
+use Rattle.kept.specs.Reads.{put_by, row_order}
 use Rattle.keep_tables.proofs.waiting.place.Given as goal
 
 abbrev pub invariant-loop-index : goal.invariant-loop-index

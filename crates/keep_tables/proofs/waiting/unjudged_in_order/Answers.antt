@@ -1,5 +1,5 @@
 use Rattle.std.proofs.Common.{ap, ◌∙◌}
-use Rattle.keep_tables.specs.Reads.{row_order, sorted_by, unjudged_rows}
+use Rattle.kept.specs.Reads.{row_order, sorted_by, unjudged_rows}
 use Rattle.keep_tables.proofs.waiting.unjudged_in_order.Goals as goal
 
 pub returns-clause-ok : goal.returns-clause-ok

@@ -2,9 +2,9 @@ use Rattle.std.proofs.Common.{◌≡◌, ◌++◌, length, map, ap, ◌∙◌, a
 use Rattle.sqlite.specs.Held.{state}
 use Rattle.sqlite.specs.State.{HasCleanDisk}
 use Rattle.sqlite.proofs.Callers.{unchanged_then}
-use Rattle.keep_tables.specs.Reads.{waiting_in}
-use Rattle.keep_tables.proofs.ReadsLemmas.{held_after, made_all, made_more, on_err, survives_after, survives_foreign, undone_after, undone_if_failed, undone_if_unchanged}
-use Rattle.keep_tables.proofs.WaitingLemmas.{waiting_list_is}
+use Rattle.kept.specs.Reads.{waiting_in}
+use Rattle.kept.proofs.ReadsLemmas.{held_after, made_all, made_more, on_err, survives_after, survives_foreign, undone_after, undone_if_failed, undone_if_unchanged}
+use Rattle.kept.proofs.WaitingLemmas.{waiting_list_is}
 use Rattle.keep_tables.proofs.waiting.waiting_uploads.Goals as goal
 
 pub returns-in_err-id-items-clause-survives : goal.returns-in_err-id-items-clause-survives

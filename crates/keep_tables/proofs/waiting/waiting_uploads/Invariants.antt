@@ -2,7 +2,7 @@ use Rattle.std.proofs.Common.{◌≡◌, ◌++◌, false, map}
 use Rattle.sqlite.specs.Held.{state}
 use Rattle.sqlite.specs.State.{HasCleanDisk, IsUnchanged, Survives}
 use Rattle.tables.specs.Rows.{Tables, Holds}
-use Rattle.keep_tables.specs.Reads.{unjudged_rows, waiting_in}
+use Rattle.kept.specs.Reads.{unjudged_rows, waiting_in}
 use Rattle.keep_tables.proofs.waiting.waiting_uploads.Given as goal
 
 -- the uploads so far, and those that are left

@@ -1,6 +1,6 @@
 use Rattle.std.proofs.Common.{◌≡◌, drop, find}
 use Rattle.tables.specs.Rows.{rows_of}
-use Rattle.keep_tables.specs.Kept.{is_placed}
+use Rattle.kept.specs.Kept.{is_placed}
 use Rattle.keep_open.proofs.uploads.judged.upload_at.Given as goal
 
 abbrev pub invariant-loop-upload : goal.invariant-loop-upload

@@ -5,11 +5,11 @@ use Rattle.sqlite.specs.Held.{state}
 use Rattle.sqlite.specs.State.{HasCleanDisk}
 use Rattle.tables.specs.Schema.{no_schema}
 use Rattle.tables.specs.Rows.{Holds, tables_in}
-use Rattle.keep_tables.specs.Archives.{KeepsArchive, book_of}
-use Rattle.keep_tables.specs.Founding.{first_dates, founded}
-use Rattle.keep_tables.specs.Shown.{shown_in}
-use Rattle.keep_tables.proofs.CallLemmas.{kept_here}
-use Rattle.keep_tables.proofs.MakeLemmas.{founded_archive, founded_here}
+use Rattle.kept.specs.Archives.{KeepsArchive, book_of}
+use Rattle.kept.specs.Founding.{first_dates, founded}
+use Rattle.kept.specs.Shown.{shown_in}
+use Rattle.kept.proofs.CallLemmas.{kept_here}
+use Rattle.kept.proofs.MakeLemmas.{founded_archive, founded_here}
 use Rattle.keep_tables.proofs.keeper.TableKeeper.create.Goals as goal
 
 pub invariant_of-result : goal.invariant_of-result

@@ -4,10 +4,10 @@ use Rattle.sqlite.specs.Held.{state}
 use Rattle.sqlite.specs.State.{HasCleanDisk}
 use Rattle.keep.specs.Book.{dates_past, judgements}
 use Rattle.tables.specs.Rows.{tables_in}
-use Rattle.keep_tables.specs.Archives.{KeepsArchive, book_of}
-use Rattle.keep_tables.specs.KeeperLemmas.{book_set}
-use Rattle.keep_tables.specs.Shown.{shown_in}
-use Rattle.keep_tables.proofs.CallLemmas.{kept_here, done_book, done_left}
+use Rattle.kept.specs.Archives.{KeepsArchive, book_of}
+use Rattle.kept.specs.KeeperLemmas.{book_set}
+use Rattle.kept.specs.Shown.{shown_in}
+use Rattle.kept.proofs.CallLemmas.{kept_here, done_book, done_left}
 use Rattle.keep_tables.proofs.keeper.TableKeeperKeeper.apply.Goals as goal
 
 pub invariant_of-self-in-Ok : goal.invariant_of-self-in-Ok

@@ -3,8 +3,8 @@ use Rattle.std.proofs.Math.Logic.{∥∥₁_elim}
 use Rattle.std.proofs.Props.{props}
 use Rattle.sqlite.specs.Held.{state}
 use Rattle.sqlite.specs.State.{HasCleanDisk}
-use Rattle.keep_tables.specs.KeeperLemmas.{book_set}
-use Rattle.keep_tables.proofs.CallLemmas.{turned, done_book, done_left}
+use Rattle.kept.specs.KeeperLemmas.{book_set}
+use Rattle.kept.proofs.CallLemmas.{turned, done_book, done_left}
 use Rattle.keep_tables.proofs.keeper.TableKeeperKeeper.arrive.Goals as goal
 
 pub invariant_of-self : goal.invariant_of-self

@@ -1,7 +1,7 @@
 use Rattle.std.proofs.Math.Logic.{∥∥₁_elim}
 use Rattle.std.proofs.Props.{props}
 use Rattle.sqlite.specs.Held.{state}
-use Rattle.keep_tables.proofs.KeeperReads.{left_before, same_after, still_kept, was_archive, was_kept}
+use Rattle.kept.proofs.KeeperReads.{left_before, same_after, still_kept, was_archive, was_kept}
 use Rattle.keep_tables.proofs.keeper.TableKeeperKeeper.file.Goals as goal
 
 pub invariant_of-self : goal.invariant_of-self

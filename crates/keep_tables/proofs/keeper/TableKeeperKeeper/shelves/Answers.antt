@@ -1,8 +1,8 @@
 use Rattle.std.proofs.Math.Logic.{∥∥₁_elim}
 use Rattle.sqlite.specs.Held.{state}
-use Rattle.keep_tables.specs.Kept.{book_in}
-use Rattle.keep_tables.specs.KeeperLemmas.{shelves_set}
-use Rattle.keep_tables.proofs.KeeperReads.{left_before, same_after, still_kept, was_archive, was_kept}
+use Rattle.kept.specs.Kept.{book_in}
+use Rattle.kept.specs.KeeperLemmas.{shelves_set}
+use Rattle.kept.proofs.KeeperReads.{left_before, same_after, still_kept, was_archive, was_kept}
 use Rattle.keep_tables.proofs.keeper.TableKeeperKeeper.shelves.Goals as goal
 
 pub invariant_of-self : goal.invariant_of-self

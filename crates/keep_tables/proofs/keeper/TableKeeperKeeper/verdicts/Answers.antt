@@ -1,5 +1,5 @@
 use Rattle.sqlite.specs.Held.{state}
-use Rattle.keep_tables.proofs.KeeperReads.{left_before, same_after, still_kept}
+use Rattle.kept.proofs.KeeperReads.{left_before, same_after, still_kept}
 use Rattle.keep_tables.proofs.keeper.TableKeeperKeeper.verdicts.Goals as goal
 
 pub invariant_of-self : goal.invariant_of-self

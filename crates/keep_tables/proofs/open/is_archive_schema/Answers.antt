@@ -1,7 +1,0 @@
-use Rattle.std.proofs.Common.{sym, subst, ◌∙◌}
-use Rattle.keep_tables.specs.Opening.{IsPlainSchema}
-use Rattle.keep_tables.proofs.OpenLemmas.{archive_is_plain}
-use Rattle.keep_tables.proofs.open.is_archive_schema.Goals as goal
-
-pub is_same-requires : goal.is_same-requires
-is_same-requires g c = subst IsPlainSchema (sym (c.schema-2.ensures.value ∙ c.in_ok-archive.ensures)) archive_is_plain

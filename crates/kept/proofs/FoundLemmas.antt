@@ -1,0 +1,246 @@
+-- The first rows of an archive: how they are added, and that they are those of an archive in which nothing is yet.
+use Rattle.std.proofs.Common.{◌≡◌, ◌<◌, inl, ℕ, zero, suc, ◌+◌, true, IsTrue, Result, Ok, Err, OnErr, List, [], ◌∷◌, ◌++◌, map, codes, length, replicate, take, get_or, Some, slice_get, append_assoc, refl, sym, ap, subst, ◌∙◌, arith}
+use Rattle.std.specs.FinMap.{empty}
+use Rattle.std.specs.List.{flat_map, zip}
+use Rattle.std.specs.Option.{option_map_or}
+use Rattle.std.proofs.lemmas.List.{map-append, append-nil, take_more}
+use Rattle.std.proofs.lemmas.List.Sums.{fold-append}
+use Rattle.std.proofs.lemmas.Grind.{flat_map-append}
+use Rattle.sqlite.specs.Held.{Held, state}
+use Rattle.sqlite.specs.State.{State, KeepsCommit, Survives}
+use Rattle.sqlite.specs.Store.{Ghosts}
+use Rattle.rules.specs.Values.{ConfigValue}
+use Rattle.rules.specs.declared.suite.Suite.{Suite}
+use Rattle.suites.specs.Shelves.{ShelvesValue}
+use Rattle.texts.specs.Indices.{PathText, all_texts, folder_texts, suite_texts, texts_from}
+use Rattle.texts.specs.Positions.{indices_at, release_at}
+use Rattle.texts.specs.Release.{indices_of, listed_entry, listed_texts, release_text}
+use Rattle.tables.specs.Rows.{Tables, Holds, Changes, no_rows, with_date, with_meta}
+use Rattle.tables.specs.Schema.{no_schema}
+use Rattle.tables.specs.Creating.{Creates}
+use Rattle.tables.specs.declared.rows.Date.{Date}
+use Rattle.tables.proofs.TransactionLemmas.{as_old, keeps_then, keeps_if_changed}
+use Rattle.kept.specs.Transactions.{IsUndone}
+use Rattle.kept.specs.Founding.{Continues, Founds, component_texts, components_texts, first_date, first_dates, founded, from_root, suite_texts_at, with_dates, with_first_rows, with_path_text, with_texts}
+
+-- ---- statements in a row
+
+pub survives_none : (s : State) → Survives s s (λ _. ⊥)
+survives_none s = record {
+  clean = omega arith;
+  shield = λ h. h;
+  counts = omega arith;
+  limit = refl;
+  closes = λ clean up. inl up;
+  crash = λ clean db h. inl h;
+}
+
+pub continues_none : (s : State) → IsTrue s.in_transaction → Continues s s (λ t. t)
+continues_none s inside = record {
+  held = λ t was. was;
+  kept = record { was_open = λ up. up; committed = λ _. refl };
+  stays = λ up. up;
+  mode = inside;
+}
+
+pub continues_if_changed : (a b : State) (f : Tables → Tables) → Changes a b f → Continues a b f
+continues_if_changed a b f h = record { held = h.held; kept = keeps_if_changed a b f h; stays = λ _. h.shown.is_open; mode = h.shown.mode }
+
+pub continues_then : (a b c : State) (f g h : Tables → Tables) → ((t : Tables) → g (f t) ≡ h t) → Continues a b f → Continues b c g → Continues a c h
+continues_then a b c f g h e p q = record {
+  held = λ t was. subst (Holds c.now) (e t) (q.held (f t) (p.held t was));
+  kept = keeps_then a b c p.kept q.kept;
+  stays = λ up. q.stays (p.stays up);
+  mode = q.mode;
+}
+
+-- the same by another name
+pub continues_as : (a b : State) (f g : Tables → Tables) → ((t : Tables) → f t ≡ g t) → Continues a b f → Continues a b g
+continues_as a b f g e p = record { held = λ t was. subst (Holds b.now) (e t) (p.held t was); kept = p.kept; stays = p.stays; mode = p.mode }
+
+-- a statement, and what goes on from there
+pub changes_on : (a b c : State) (f g h : Tables → Tables) → ((t : Tables) → g (f t) ≡ h t) → Changes a b f → Continues b c g → Changes a c h
+changes_on a b c f g h e p q =
+    let up : IsTrue c.is_open = q.stays p.shown.is_open in
+    record {
+      held = λ t was. subst (Holds c.now) (e t) (q.held (f t) (p.held t was));
+      shown = record { was_open = p.shown.was_open; is_open = up; now_is = refl; committed_is = q.kept.committed up ∙ p.shown.committed_is; mode = q.mode };
+    }
+
+-- the tables are made, and rows are added
+pub founds_then : (a b c : State) (f : Tables → Tables) (rows : Tables) → f no_rows ≡ rows → Creates a b → Changes b c f → Founds a c rows
+founds_then a b c f rows e p q = record {
+  held = λ none. subst (Holds c.now) e (q.held no_rows (p.held none));
+  shown = record {
+    was_open = p.kept.was_open q.shown.was_open;
+    is_open = q.shown.is_open;
+    now_is = refl;
+    committed_is = q.shown.committed_is ∙ p.kept.committed q.shown.was_open;
+    mode = q.shown.mode;
+  };
+}
+
+pub keeps_if_founded : (a b : State) (rows : Tables) → Founds a b rows → KeepsCommit a b
+keeps_if_founded a b rows h = record { was_open = λ _. h.shown.was_open; committed = λ _. h.shown.committed_is }
+
+-- ---- texts and dates in a row
+
+pub no_texts : (t : Tables) → t ≡ with_texts [] t
+unfolding with_texts
+no_texts t = refl
+
+pub no_dates : (t : Tables) → t ≡ with_dates [] t
+unfolding with_dates
+no_dates t = refl
+
+pub texts_then : (xs ys : List PathText) (t : Tables) → with_texts ys (with_texts xs t) ≡ with_texts (xs ++ ys) t
+unfolding with_texts
+texts_then xs ys t = sym (fold-append (λ now x. with_path_text x now) t xs ys)
+
+pub text_then : (x : PathText) (xs : List PathText) (t : Tables) → with_texts xs (with_path_text x t) ≡ with_texts (x ∷ xs) t
+unfolding with_texts
+text_then x xs t = refl
+
+then_text : (xs : List PathText) (x : PathText) (t : Tables) → with_path_text x (with_texts xs t) ≡ with_texts (xs ++ x ∷ []) t
+unfolding with_texts
+then_text xs x t = sym (fold-append (λ now x. with_path_text x now) t xs (x ∷ []))
+
+then_date : (ds : List Date) (d : Date) (t : Tables) → with_date d (with_dates ds t) ≡ with_dates (ds ++ d ∷ []) t
+unfolding with_dates
+then_date ds d t = sym (fold-append (λ now d. with_date d now) t ds (d ∷ []))
+
+module _ {X : Type 0} (xs : List X) (i : ℕ) (x : X) (inside : i < length xs) (is : x ≡ get_or xs i x) where
+  front : take i xs ++ x ∷ [] ≡ take (i + 1) xs
+  front = ap (λ u. take i xs ++ u ∷ []) is ∙ sym (take_more xs i x inside)
+
+  pub text_more : (f : X → PathText) (t : Tables) → with_path_text (f x) (with_texts (map f (take i xs)) t) ≡ with_texts (map f (take (i + 1) xs)) t
+  text_more f t =
+      then_text (map f (take i xs)) (f x) t
+      ∙ ap (λ ys. with_texts ys t) (sym (map-append f (take i xs) (x ∷ [])) ∙ ap (map f) front)
+
+  pub date_more : (f : X → Date) (t : Tables) → with_date (f x) (with_dates (map f (take i xs)) t) ≡ with_dates (map f (take (i + 1) xs)) t
+  date_more f t =
+      then_date (map f (take i xs)) (f x) t
+      ∙ ap (λ ys. with_dates ys t) (sym (map-append f (take i xs) (x ∷ [])) ∙ ap (map f) front)
+
+  pub texts_more : (f : X → List PathText) (t : Tables) → with_texts (f x) (with_texts (flat_map f (take i xs)) t) ≡ with_texts (flat_map f (take (i + 1) xs)) t
+  texts_more f t =
+      texts_then (flat_map f (take i xs)) (f x) t
+      ∙ ap (λ ys. with_texts ys t)
+      (ap (λ ys. flat_map f (take i xs) ++ ys) (sym (append-nil (f x)))
+      ∙ sym (flat_map-append f (take i xs) (x ∷ []))
+      ∙ ap (flat_map f) front)
+
+-- ---- the texts of a suite
+
+pub map_twice : {A B C : Type 0} (f : B → C) (g : A → B) (xs : List A) → map f (map g xs) ≡ map (λ x. f (g x)) xs
+map_twice f g [] = refl
+map_twice f g (x ∷ xs) = ap (λ ys. f (g x) ∷ ys) (map_twice f g xs)
+
+of_components : (shelves : ShelvesValue) (position : ℕ) (s : Suite) (architectures components : List (List ℕ))
+    → map (from_root s) (flat_map (λ c. map (listed_entry shelves position c) architectures) components) ≡ flat_map (component_texts shelves position s architectures) components
+of_components shelves position s architectures [] = refl
+of_components shelves position s architectures (c ∷ cs) =
+    map-append (from_root s) (map (listed_entry shelves position c) architectures) (flat_map (λ c. map (listed_entry shelves position c) architectures) cs)
+    ∙ ap (λ ys. ys ++ map (from_root s) (flat_map (λ c. map (listed_entry shelves position c) architectures) cs)) (map_twice (from_root s) (listed_entry shelves position c) architectures)
+    ∙ ap (λ ys. component_texts shelves position s architectures c ++ ys) (of_components shelves position s architectures cs)
+
+-- Release, and then the others
+pub suite_texts_are : (shelves : ShelvesValue) (position : ℕ) (s : Suite) (date : ℕ)
+    → from_root s (codes "Release", release_text s date (indices_of s shelves position)) ∷ components_texts shelves position s s.components ≡ suite_texts shelves position s date
+unfolding suite_texts folder_texts listed_texts
+suite_texts_are shelves position s date =
+    ap (λ ys. from_root s (codes "Release", release_text s date (indices_of s shelves position)) ∷ ys) (sym (of_components shelves position s s.architectures s.components))
+
+-- ---- the texts of all suites
+
+-- the texts of the first suites, and of one more
+texts_of_next : (shelves : ShelvesValue) (moment from : ℕ) (suites : List Suite) (i : ℕ) → i < length suites
+    → texts_from shelves from (take i (zip suites (replicate (length suites) moment))) ++ option_map_or (λ s. suite_texts shelves (from + i) s moment) (slice_get suites i) []
+    ≡ texts_from shelves from (take (suc i) (zip suites (replicate (length suites) moment)))
+unfolding texts_from
+texts_of_next shelves moment from [] i within = absurd (omega arith)
+texts_of_next shelves moment from (x ∷ xs) zero within =
+    let at : from + 0 ≡ from = omega arith in
+    ap (λ n. suite_texts shelves n x moment) at ∙ sym (append-nil (suite_texts shelves from x moment))
+texts_of_next shelves moment from (x ∷ xs) (suc i) within =
+    let rest = take i (zip xs (replicate (length xs) moment)) in
+    let at : from + suc i ≡ (from + 1) + i = omega arith in
+    append_assoc (suite_texts shelves from x moment) (texts_from shelves (from + 1) rest) (option_map_or (λ s. suite_texts shelves (from + suc i) s moment) (slice_get xs i) [])
+    ∙ ap (λ ys. suite_texts shelves from x moment ++ ys)
+    (ap (λ n. texts_from shelves (from + 1) rest ++ option_map_or (λ s. suite_texts shelves n s moment) (slice_get xs i) []) at
+    ∙ texts_of_next shelves moment (from + 1) xs i (omega arith))
+
+pub length_of_pairs : {A B : Type 0} (xs : List A) (y : B) → length (zip xs (replicate (length xs) y)) ≡ length xs
+length_of_pairs [] y = refl
+length_of_pairs (x ∷ xs) y = ap suc (length_of_pairs xs y)
+
+-- the suites with the dates that they have at first
+abbrev pub dated : ConfigValue → ℕ → List (Suite × ℕ)
+dated config moment = zip config.suites (first_dates config moment)
+
+pub no_suites : (config : ConfigValue) (shelves : ShelvesValue) (moment : ℕ) (t : Tables) → t ≡ with_texts (texts_from shelves 0 (take 0 (dated config moment))) t
+unfolding with_texts texts_from
+no_suites config shelves moment t = refl
+
+pub suite_more : (config : ConfigValue) (shelves : ShelvesValue) (moment i : ℕ) → i < length config.suites → (t : Tables)
+    → with_texts (suite_texts_at config shelves i moment) (with_texts (texts_from shelves 0 (take i (dated config moment))) t) ≡ with_texts (texts_from shelves 0 (take (i + 1) (dated config moment))) t
+suite_more config shelves moment i within t =
+    let at : suc i ≡ i + 1 = omega arith in
+    let here : i ≡ 0 + i = omega arith in
+    let before : List PathText = texts_from shelves 0 (take i (dated config moment)) in
+    let more : before ++ suite_texts_at config shelves i moment ≡ texts_from shelves 0 (take (i + 1) (dated config moment)) =
+    ap (λ n. before ++ option_map_or (λ s. suite_texts shelves n s moment) (slice_get config.suites i) []) here
+    ∙ texts_of_next shelves moment 0 config.suites i within ∙ ap (λ n. texts_from shelves 0 (take n (dated config moment))) at in
+    texts_then before (suite_texts_at config shelves i moment) t ∙ ap (λ ys. with_texts ys t) more
+
+-- Release of a suite, and then the others
+pub suite_then : (config : ConfigValue) (shelves : ShelvesValue) (moment i : ℕ) (s : Suite) (text : List ℕ) → slice_get config.suites i ≡ Some s
+    → text ≡ release_at config i moment (indices_at config shelves i) → (t : Tables)
+    → with_texts (components_texts shelves i s s.components) (with_path_text (from_root s (codes "Release", text)) t) ≡ with_texts (suite_texts_at config shelves i moment) t
+unfolding release_at indices_at
+suite_then config shelves moment i s text here e t =
+    let is : text ≡ release_text s moment (indices_of s shelves i) = e ∙ ap (λ o. option_map_or (λ s. release_text s moment (option_map_or (λ s. indices_of s shelves i) o [])) o []) here in
+    text_then (from_root s (codes "Release", text)) (components_texts shelves i s s.components) t
+    ∙ ap (λ ys. with_texts ys t)
+    (ap (λ x. from_root s (codes "Release", x) ∷ components_texts shelves i s s.components) is
+    ∙ suite_texts_are shelves i s moment
+    ∙ ap (λ o. option_map_or (λ s. suite_texts shelves i s moment) o []) (sym here))
+
+-- ---- all first rows
+
+pub first_rows_then : (a b c d : State) (config : ConfigValue) (moment : ℕ) → Changes a b (with_meta (record { version = 3; configuration = config.text }))
+    → Continues b c (with_texts (all_texts config empty (first_dates config moment))) → Continues c d (with_dates (map (first_date moment) config.suites))
+    → Changes a d (with_first_rows config moment)
+unfolding with_first_rows
+first_rows_then a b c d config moment one two three =
+    changes_on a b d (with_meta (record { version = 3; configuration = config.text }))
+    (λ t. with_dates (map (first_date moment) config.suites) (with_texts (all_texts config empty (first_dates config moment)) t)) (with_first_rows config moment)
+    (λ t. refl) one
+    (continues_then b c d (with_texts (all_texts config empty (first_dates config moment))) (with_dates (map (first_date moment) config.suites)) _ (λ t. refl) two three)
+
+pub first_of_none : (config : ConfigValue) (moment : ℕ) → with_first_rows config moment no_rows ≡ founded config moment
+unfolding founded
+first_of_none config moment = refl
+
+-- ---- the whole transaction
+
+module _ {S : Type 0} (g : Ghosts S) (old begun : Held S) (is : begun ≡ record old { in_transaction = true }) where
+  -- what is undone since the transaction began is undone
+  pub undone_since : (last : Held S)
+      → (IsTrue (state g last).is_open → ((state g last).now ≡ (state g begun).committed) × ((state g last).committed ≡ (state g begun).committed) × IsTrue (state g begun).is_open)
+      → IsUndone (state g old) (state g last)
+  undone_since last h = record {
+    was_open = λ up. (as_old g old begun begun begun is last (h up)).2;
+    committed = λ up. (as_old g old begun begun begun is last (h up)).1;
+  }
+
+  -- the rows that are there before the commit are founded on what was there before the transaction
+  pub founds_since : (two : State) (rows : Tables) → Founds (state g begun) two rows → (state g old).now.schema ≡ no_schema → Holds two.now rows
+  founds_since two rows h = subst (λ (b : Held S). (state g b).now.schema ≡ no_schema → Holds two.now rows) is h.held
+
+  pub undone_if_err : {X E : Type 0} (last : Held S) (r : Result X E)
+      → (IsTrue (state g last).is_open → OnErr r (((state g last).now ≡ (state g begun).committed) × ((state g last).committed ≡ (state g begun).committed) × IsTrue (state g begun).is_open))
+      → OnErr r (IsUndone (state g old) (state g last))
+  undone_if_err last (Ok x) h = tt
+  undone_if_err last (Err e) h = undone_since last h

@@ -1,0 +1,31 @@
+-- A new archive, as a keeper has it.
+use Rattle.std.proofs.Common.{◌≡◌, ◌≤◌, ℕ, Ok, [], sym, ap, subst, ◌∙◌}
+use Rattle.std.specs.FinMap.{empty}
+use Rattle.sqlite.specs.Effect.{Database}
+use Rattle.rules.specs.Configuration.{config_in}
+use Rattle.rules.specs.Values.{ConfigValue}
+use Rattle.keep.specs.Book.{latest}
+use Rattle.keep.specs.Plain.{fresh_book}
+use Rattle.tables.specs.Rows.{Holds, tables_in}
+use Rattle.tables.proofs.BookLemmas.{held_tables}
+use Rattle.kept.specs.Archives.{KeepsArchive, book_of}
+use Rattle.kept.specs.Founding.{first_dates, founded}
+use Rattle.kept.specs.Kept.{IsKept, book_in}
+use Rattle.kept.specs.Shown.{shown_in}
+use Rattle.kept.proofs.CallLemmas.{shown_here}
+use Rattle.kept.proofs.FoundKept.{founded_is_kept, founded_book}
+
+module _ (db : Database) (config : ConfigValue) (moment : ℕ) (read : config_in config.text ≡ Ok config) (early : moment ≤ latest) (held : Holds db (founded config moment)) where
+  pub founded_archive : KeepsArchive db config [] empty (first_dates config moment)
+  founded_archive =
+      let same = held_tables db (founded config moment) held in
+      record {
+        held = subst (Holds db) (sym same) held;
+        kept = subst (λ t. IsKept t config [] empty (first_dates config moment)) (sym same) (founded_is_kept config moment read early);
+      }
+
+  pub founded_here : book_of db config [] (shown_in config.suites (tables_in db)) (first_dates config moment) ≡ fresh_book config moment
+  founded_here =
+      ap (λ s. book_of db config [] s (first_dates config moment)) (shown_here db founded_archive)
+      ∙ ap (book_in config [] empty (first_dates config moment)) (held_tables db (founded config moment) held)
+      ∙ founded_book config moment

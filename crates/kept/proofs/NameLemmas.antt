@@ -1,0 +1,218 @@
+-- The names in a configuration: they have no slash, so that paths that are made of them tell them apart.
+use Rattle.std.proofs.Common.{◌≡◌, ◌≢◌, ℕ, Bool, true, false, cond, not, ◌&&◌, List, [], ◌∷◌, ◌++◌, get_or, codes, Option, Some, None, Ok, bytes_eq, refl, sym, ap, subst, ◌∙◌, append_assoc, arith}
+use Rattle.std.specs.List.{list_all, list_any}
+use Rattle.std.specs.Option.{option_map, option_map_or}
+use Rattle.std.specs.Prelude.{AllPairs, Contains, ⊤, length, nat_le, option_to_list, unwrap_or}
+use Rattle.para.specs.Bytes.{is_nil}
+use Rattle.std.proofs.lemmas.List.Kept.{AllPairs-cons}
+use Rattle.std.proofs.lemmas.Slice.Eq.{bytes_eq-Decides}
+use Rattle.para.specs.Fields.{Fields, field_named}
+use Rattle.para.specs.Field.{FieldValue}
+use Rattle.std.specs.Char.{is_ascii_alphanumeric, is_ascii_lowercase}
+use Rattle.records.specs.Names.{begins_with, is_architecture_byte, is_architecture_name, is_plain_byte, is_plain_name}
+use Rattle.records.specs.Records.{are_different, is_among}
+use Rattle.rules.specs.Configuration.{ClaimApart, config_fault, config_in}
+use Rattle.rules.specs.Paragraphs.{are_names, first_line, has_bad_value, has_good_lines, has_good_names, is_filled_line, is_listed_architecture, is_plain_line, are_plain_words, lacks_field, passes, suite_of, words}
+use Rattle.rules.specs.Suites.{claims, distributions}
+use Rattle.rules.specs.Values.{ConfigValue}
+use Rattle.rules.specs.declared.fault.ConfigFault.{ConfigFault}
+use Rattle.rules.specs.declared.fault.ConfigFault.TheVariants as faults
+use Rattle.rules.specs.declared.suite.Suite.{Suite}
+use Rattle.rules.proofs.Apart.{claim_apart}
+use Rattle.rules.proofs.Configs.{is_config}
+use Rattle.sums.proofs.Booleans.{both, denied, passed}
+use Rattle.sums.proofs.Members.{all_from, all_true, any_false, any_true, from_map, here}
+use Rattle.texts.specs.Release.{index_path, is_source}
+use Rattle.kept.proofs.PairLemmas.{pairs_none}
+
+-- ---- names without a slash
+
+abbrev pub NoSlash : List ℕ → Type 0
+NoSlash [] = ⊤
+NoSlash (c ∷ cs) = (c ≢ 47) × NoSlash cs
+
+abbrev head_of : List ℕ → ℕ
+head_of [] = 0
+head_of (c ∷ cs) = c
+
+abbrev tail_of : List ℕ → List ℕ
+tail_of [] = []
+tail_of (c ∷ cs) = cs
+
+joined : (c d : ℕ) (cs ds : List ℕ) → c ≡ d → cs ≡ ds → c ∷ cs ≡ d ∷ ds
+joined c d cs ds p q = ap (λ (e : ℕ). e ∷ cs) p ∙ ap (λ (es : List ℕ). d ∷ es) q
+
+-- what stands before the first slash, and behind it
+pub split_slash : (c d r t : List ℕ) → NoSlash c → NoSlash d → c ++ 47 ∷ r ≡ d ++ 47 ∷ t → (c ≡ d) × (r ≡ t)
+split_slash [] [] r t p q e = (refl, ap tail_of e)
+split_slash [] (y ∷ d) r t p q e = absurd (q.0 (sym (ap head_of e)))
+split_slash (x ∷ c) [] r t p q e = absurd (p.0 (ap head_of e))
+split_slash (x ∷ c) (y ∷ d) r t p q e = let rest = split_slash c d r t p.1 q.1 (ap tail_of e) in (joined x y c d (ap head_of e) rest.0, rest.1)
+
+slash_there : (c r : List ℕ) → NoSlash (c ++ 47 ∷ r) → ⊥
+slash_there [] r h = h.0 refl
+slash_there (x ∷ c) r h = slash_there c r h.1
+
+by_bytes : (test : ℕ → Bool) → test 47 ≡ false → (name : List ℕ) → list_all test name ≡ true → NoSlash name
+by_bytes test slash [] h = tt
+by_bytes test slash (c ∷ cs) h =
+    let parts = both (test c) (list_all test cs) h in
+    ((λ is. cc (sym slash ∙ ap test (sym is) ∙ parts.0)), by_bytes test slash cs parts.1)
+
+pub plain_no_slash : (name : List ℕ) → is_plain_name name ≡ true → NoSlash name
+unfolding is_plain_name
+plain_no_slash name h = by_bytes is_plain_byte refl name (both (nat_le (length name) 60 && begins_with is_ascii_alphanumeric name) (list_all is_plain_byte name) h).1
+
+architecture_no_slash : (name : List ℕ) → is_architecture_name name ≡ true → NoSlash name
+unfolding is_architecture_name
+architecture_no_slash name h =
+    let front = both (nat_le (length name) 40 && begins_with is_ascii_lowercase name && list_all is_architecture_byte name) (not (bytes_eq name (codes "any"))) h in
+    by_bytes is_architecture_byte refl name (both (nat_le (length name) 40 && begins_with is_ascii_lowercase name) (list_all is_architecture_byte name) front.0).1
+
+-- ---- paths in the folder of a suite
+
+-- the path of an index that is none of sources, from its first slash
+spread : (c a : List ℕ) → c ++ codes "/binary-" ++ a ++ codes "/Packages" ≡ c ++ (codes "/binary-" ++ (a ++ codes "/Packages"))
+spread c a = append_assoc (c ++ codes "/binary-") a (codes "/Packages") ∙ append_assoc c (codes "/binary-") (a ++ codes "/Packages")
+
+by_kinds : (c d a b : List ℕ) → NoSlash c → NoSlash d → NoSlash a → NoSlash b → (s t : Bool) → is_source a ≡ s → is_source b ≡ t
+    → cond s (c ++ codes "/source/Sources") (c ++ codes "/binary-" ++ a ++ codes "/Packages") ≡ cond t (d ++ codes "/source/Sources") (d ++ codes "/binary-" ++ b ++ codes "/Packages")
+    → (c ≡ d) × (a ≡ b)
+by_kinds c d a b nc nd na nb true true p q e =
+    ((split_slash c d _ _ nc nd e).0, (bytes_eq-Decides a (codes "source")).0 p ∙ sym ((bytes_eq-Decides b (codes "source")).0 q))
+by_kinds c d a b nc nd na nb true false p q e = let other : 115 ≡ 98 = ap head_of (split_slash c d _ _ nc nd (e ∙ spread d b)).1 in absurd (omega (arith, other))
+by_kinds c d a b nc nd na nb false true p q e = let other : 98 ≡ 115 = ap head_of (split_slash c d _ _ nc nd (sym (spread c a) ∙ e)).1 in absurd (omega (arith, other))
+by_kinds c d a b nc nd na nb false false p q e =
+    let parts = split_slash c d _ _ nc nd (sym (spread c a) ∙ e ∙ spread d b) in
+    let behind : a ++ codes "/Packages" ≡ b ++ codes "/Packages" = ap (λ (r : List ℕ). tail_of (tail_of (tail_of (tail_of (tail_of (tail_of (tail_of r))))))) parts.1 in
+    (parts.0, (split_slash a b _ _ na nb behind).0)
+
+pub index_paths : (c d a b : List ℕ) → NoSlash c → NoSlash d → NoSlash a → NoSlash b → index_path c a ≡ index_path d b → (c ≡ d) × (a ≡ b)
+unfolding index_path
+index_paths c d a b nc nd na nb e = by_kinds c d a b nc nd na nb (is_source a) (is_source b) refl refl e
+
+no_release : (c a : List ℕ) (s : Bool) → cond s (c ++ codes "/source/Sources") (c ++ codes "/binary-" ++ a ++ codes "/Packages") ≡ codes "Release" → ⊥
+no_release c a true e = slash_there c _ (subst NoSlash (sym e) (by_bytes is_plain_byte refl (codes "Release") refl))
+no_release c a false e = slash_there c _ (subst NoSlash (sym e ∙ spread c a) (by_bytes is_plain_byte refl (codes "Release") refl))
+
+pub index_or_release : (c a : List ℕ) → index_path c a ≢ codes "Release"
+unfolding index_path
+index_or_release c a e = no_release c a (is_source a) e
+
+-- the folder of a path, and the path from there
+pub folders : (c d p q : List ℕ) → NoSlash c → NoSlash d → codes "dists/" ++ c ++ codes "/" ++ p ≡ codes "dists/" ++ d ++ codes "/" ++ q → (c ≡ d) × (p ≡ q)
+folders c d p q nc nd e =
+    split_slash c d p q nc nd
+    (sym (append_assoc c (codes "/") p) ∙ ap (λ (r : List ℕ). tail_of (tail_of (tail_of (tail_of (tail_of (tail_of r)))))) e ∙ append_assoc d (codes "/") q)
+
+-- ---- codenames that differ
+
+abbrev pub CodenamesDiffer : Suite → Suite → Type 0
+CodenamesDiffer s u = s.codename ≢ u.codename
+
+claims_own : (s : Suite) → claims s.codename s ≡ true
+unfolding claims
+claims_own s = any_true (bytes_eq s.codename) (distributions s) s.codename (here s.codename (option_to_list s.suite ++ s.also_accept_for)) ((bytes_eq-Decides s.codename s.codename).1 refl)
+
+-- suites that share no distribution name have different codenames
+pub codenames_apart : (suites : List Suite) → ClaimApart suites → AllPairs CodenamesDiffer suites
+codenames_apart suites h = λ i j d below within e.
+    let s : Suite = get_or suites i d in
+    let u : Suite = get_or suites j d in
+    h i j d below within s.codename (claims_own s) (subst (λ (name : List ℕ). claims name u ≡ true) (sym e) (claims_own u))
+
+-- so have those of a configuration that was read
+pub config_codenames : (config : ConfigValue) → config_in config.text ≡ Ok config → AllPairs CodenamesDiffer config.suites
+config_codenames config read = codenames_apart config.suites (claim_apart config.text config read)
+
+-- ---- suites whose paths differ
+
+-- names without a slash, that differ
+pub record IsNamed (s : Suite) : Type 0 where
+  pub codename : NoSlash s.codename
+  pub components : (c : List ℕ) → Contains s.components c → NoSlash c
+  pub architectures : (a : List ℕ) → Contains s.architectures a → NoSlash a
+  pub components_apart : AllPairs (λ c d. c ≢ d) s.components
+  pub architectures_apart : AllPairs (λ a b. a ≢ b) s.architectures
+
+pub record AreNamed (suites : List Suite) : Type 0 where
+  pub each : (s : Suite) → Contains suites s → IsNamed s
+  pub apart : AllPairs CodenamesDiffer suites
+
+-- ---- a configuration that was read
+
+different_pairs : (names : List (List ℕ)) → are_different names ≡ true → AllPairs (λ c d. c ≢ d) names
+different_pairs [] h = pairs_none (λ c d. c ≢ d)
+different_pairs (name ∷ names) h =
+    let parts = both (not (is_among names name)) (are_different names) h in
+    AllPairs-cons (λ c d. c ≢ d) name names
+    (all_from (λ d. name ≢ d) names (λ d at e. cc (sym ((bytes_eq-Decides name d).1 e) ∙ any_false (bytes_eq name) names d (denied (is_among names name) parts.0) at)))
+    (different_pairs names parts.1)
+
+codename_no_slash : (o : Option FieldValue) → option_map_or is_plain_line o true ≡ true → NoSlash (option_map_or (λ f. f.first) o [])
+unfolding is_plain_line
+codename_no_slash None h = tt
+codename_no_slash (Some f) h = plain_no_slash f.first (both (is_nil f.more) (is_plain_name f.first) h).1
+
+unwrapped : (o : Option FieldValue) → option_map_or (λ (f : FieldValue). f.first) o [] ≡ unwrap_or (option_map (λ (f : FieldValue). f.first) o) []
+unwrapped None = refl
+unwrapped (Some f) = refl
+
+has_codename : (p : Fields) → has_good_lines p ≡ true → NoSlash (suite_of p).codename
+unfolding has_good_lines passes first_line
+has_codename p h =
+    let o = field_named (codes "Codename") p in
+    let codename = passes is_plain_line (codes "Codename") p in
+    let suite = passes is_plain_line (codes "Suite") p in
+    let origin = passes is_filled_line (codes "Origin") p in
+    let label = passes is_filled_line (codes "Label") p in
+    let description = passes is_filled_line (codes "Description") p in
+    let four = both (codename && suite && origin && label) description h in
+    let three = both (codename && suite && origin) label four.0 in
+    let two = both (codename && suite) origin three.0 in
+    subst NoSlash (unwrapped o) (codename_no_slash o (both codename suite two.0).0)
+
+good_names : (test : List ℕ → Bool) (names : List (List ℕ)) → are_names test names ≡ true → (list_all test names ≡ true) × (are_different names ≡ true)
+unfolding are_names
+good_names test names h = both (list_all test names) (are_different names) h
+
+listed_architecture : (name : List ℕ) → is_listed_architecture name ≡ true → NoSlash name
+unfolding is_listed_architecture
+listed_architecture name h = architecture_no_slash name (both (is_architecture_name name) (not (bytes_eq name (codes "all"))) h).0
+
+named_suite : (p : Fields) → has_bad_value p ≡ false → IsNamed (suite_of p)
+unfolding has_bad_value has_good_names
+named_suite p h =
+    let good = passed (has_good_lines p && has_good_names p) h in
+    let parts = both (has_good_lines p) (has_good_names p) good in
+    let all = both (are_names is_listed_architecture (words (codes "Architectures") p) && are_names is_plain_name (words (codes "Components") p)) (passes are_plain_words (codes "AlsoAcceptFor") p) parts.1 in
+    let names = both (are_names is_listed_architecture (words (codes "Architectures") p)) (are_names is_plain_name (words (codes "Components") p)) all.0 in
+    let architectures = good_names is_listed_architecture (words (codes "Architectures") p) names.0 in
+    let components = good_names is_plain_name (words (codes "Components") p) names.1 in
+    record {
+      codename = has_codename p parts.0;
+      components = λ c at. plain_no_slash c (all_true is_plain_name (words (codes "Components") p) c components.0 at);
+      architectures = λ a at. listed_architecture a (all_true is_listed_architecture (words (codes "Architectures") p) a architectures.0 at);
+      components_apart = different_pairs (words (codes "Components") p) components.1;
+      architectures_apart = different_pairs (words (codes "Architectures") p) architectures.1;
+    }
+
+second_passes : (a b : Bool) (rest : Option ConfigFault) → cond a (Some faults.Missing) (cond b (Some faults.BadValue) rest) ≡ None → b ≡ false
+second_passes true b rest h = cc
+second_passes false true rest h = cc
+second_passes false false rest h = refl
+
+good_values : (ps : List Fields) → config_fault ps ≡ None → list_any has_bad_value ps ≡ false
+unfolding config_fault
+good_values ps h = second_passes (list_any lacks_field ps) (list_any has_bad_value ps) _ h
+
+-- THE SUITES of a configuration have names without slashes, that differ.
+pub config_named : (config : ConfigValue) → config_in config.text ≡ Ok config → AreNamed config.suites
+config_named config h =
+    let c = is_config config.text config h in
+    record {
+      each = λ s at.
+          let from = from_map suite_of s c.paragraphs (subst (λ (v : ConfigValue). Contains v.suites s) c.value at) in
+          subst IsNamed from.2 (named_suite from.0 (any_false has_bad_value c.paragraphs from.0 (good_values c.paragraphs c.faultless) from.1));
+      apart = config_codenames config h;
+    }

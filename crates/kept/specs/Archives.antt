@@ -1,0 +1,38 @@
+-- The archive that a database keeps, as a keeper sees it.
+use Rattle.std.specs.Prelude.{◌≡◌, ℕ, List, IsTrue}
+use Rattle.sqlite.specs.Effect.{Database}
+use Rattle.sqlite.specs.State.{State, HasCleanDisk}
+use Rattle.sqlite.specs.Tree.{Trees}
+use Rattle.rules.specs.Values.{ConfigValue}
+use Rattle.suites.specs.Shelves.{ShelvesValue}
+use Rattle.keep.specs.Book.{Book}
+use Rattle.keep.specs.declared.change.Judgement.{Judgement}
+use Rattle.tables.specs.Rows.{Tables, Holds, IsArchive, tables_in}
+use Rattle.kept.specs.Kept.{IsKept, book_in}
+
+-- The database is that of an archive of this configuration, with these judged uploads, this shown, and these dates.
+pub record KeepsArchive (db : Database) (config : ConfigValue) (judged : List Judgement) (shown : ShelvesValue) (dates : List ℕ) : Type 0 where
+  pub held : Holds db (tables_in db)
+  pub kept : IsKept (tables_in db) config judged shown dates
+
+-- the book that a database keeps
+abbrev pub book_of : Database → ConfigValue → List Judgement → ShelvesValue → List ℕ → Book
+book_of db config judged shown dates = book_in config judged shown dates (tables_in db)
+
+-- The database keeps this book.
+abbrev pub KeepsBook : Database → ConfigValue → Book → Type 0
+KeepsBook db config b = ∥ ((judged : List Judgement) × (shown : ShelvesValue) × (dates : List ℕ) × KeepsArchive db config judged shown dates × (b ≡ book_of db config judged shown dates)) ∥₁
+
+-- What one database keeps becomes what another keeps: the judged uploads, what is shown and the dates become these, and the
+-- book that of the step.
+pub record Turns (before after : Database) (config : ConfigValue) (judged : List Judgement) (shown : ShelvesValue) (dates : List ℕ)
+    (judged_after : List Judgement) (shown_after : ShelvesValue) (dates_after : List ℕ) (step : Book → Book) : Type 0 where
+  pub kept : KeepsArchive after config judged_after shown_after dates_after
+  pub book : book_of after config judged_after shown_after dates_after ≡ step (book_of before config judged shown dates)
+
+-- What a read of a keeper leaves of its connection, where its database is that of an archive.
+pub record IsRead (old new : State) : Type 0 where
+  pub clean : HasCleanDisk new → HasCleanDisk old
+  pub was_open : HasCleanDisk new → IsTrue new.is_open → IsTrue old.is_open
+  pub committed : HasCleanDisk new → (IsTrue old.is_open → ∥ IsArchive old.committed ∥₁) → IsTrue new.is_open → new.committed ≡ old.committed
+  pub crash : HasCleanDisk new → (IsTrue old.is_open → ∥ IsArchive old.committed ∥₁) → (trees : Trees) → new.may_leave trees → old.may_leave trees

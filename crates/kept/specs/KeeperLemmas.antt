@@ -1,0 +1,43 @@
+-- What a keeper's calls leave, from what its connection shows.
+use Rattle.std.proofs.Common.{◌≡◌, ℕ, List, ap, subst, ◌∙◌}
+use Rattle.std.proofs.Math.Logic.{∥∥₁_elim, ∥∥₁_map}
+use Rattle.std.proofs.Props.{props}
+use mathlib.Core.HLevel.{collapsible→set}
+use Rattle.std.specs.FinMap.{entries, same_entries_map}
+use Rattle.sqlite.specs.Effect.{Database}
+use Rattle.rules.specs.Values.{ConfigValue}
+use Rattle.suites.specs.Shelves.{ShelvesValue}
+use Rattle.suites.specs.declared.item.Item.{Item}
+use Rattle.suites.specs.declared.key.ShelfKey.{ShelfKey}
+use Rattle.keep.specs.Book.{Book}
+use Rattle.keep.specs.declared.change.Judgement.{Judgement}
+use Rattle.tables.specs.Rows.{Tables, Holds, tables_in, tables_of}
+use Rattle.kept.specs.Kept.{IsKept, book_in}
+use Rattle.kept.specs.Archives.{KeepsArchive, KeepsBook, book_of}
+use Rattle.kept.specs.OneBook.{one_archive}
+
+entries_set : IsSet (List (ShelfKey × Item))
+entries_set = hlevel props
+
+-- What the suites show is a set: a finite map is told by its entries.
+pub shelves_set : IsSet ShelvesValue
+shelves_set = collapsible→set (λ x y p. same_entries_map x y (ap entries p)) (λ x y p q. ap (same_entries_map x y) (entries_set (entries x) (entries y) (ap entries p) (ap entries q)))
+
+pub book_set : IsSet Book
+book_set = hlevel (props, shelves_set)
+
+-- two archives in one list of rows are one
+pub same_book : {config : ConfigValue} {judged judged' : List Judgement} {shown shown' : ShelvesValue} {dates dates' : List ℕ} (t : Tables)
+    → IsKept t config judged shown dates → IsKept t config judged' shown' dates' → book_in config judged' shown' dates' t ≡ book_in config judged shown dates t
+same_book {config} t one two =
+    let same = one_archive t config _ _ _ _ _ _ two one two.sound.at_home one.sound.at_home in
+    λ i. book_in config (same.0 i) (same.1 i) (same.2 i) t
+
+-- what a database keeps is one book
+pub left_settled : {config : ConfigValue} {judged : List Judgement} {shown : ShelvesValue} {dates : List ℕ} {left : Book} (db now : Database) → db.trees ≡ now.trees
+    → ∥ KeepsArchive now config judged shown dates ∥₁ → KeepsBook db config left → left ≡ book_of now config judged shown dates
+left_settled {config} {judged} {shown} {dates} {left} db now trees is was =
+    ∥∥₁_elim is (book_set _ _) (λ here. ∥∥₁_elim was (book_set _ _) (λ w.
+    let same = ap tables_of trees in
+    w.4 ∙ ap (book_in config w.0 w.1 w.2) same
+    ∙ same_book (tables_in now) here.kept (subst (λ t. IsKept t config w.0 w.1 w.2) same w.3.kept)))
