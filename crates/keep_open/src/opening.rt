@@ -5,7 +5,8 @@ ghost use Rattle.sqlite.specs.State.{HasCleanDisk, IsUnchanged, Survives};
 ghost use Rattle.sqlite.specs.Held.{state};
 ghost use Rattle.suites.specs.Shelves.{ShelvesValue};
 ghost use Rattle.keep.specs.declared.change.Judgement.{Judgement as JudgementValue};
-ghost use Rattle.keep.specs.declared.fault.KeepFault.TheVariants.{Tables as NoArchive};
+ghost use Rattle.keep.specs.declared.fault.KeepFault.TheVariants.{OutOfMemory, Tables as NoArchive};
+ghost use Rattle.tables.specs.Causes.{IsCaused, MayFail};
 ghost use Rattle.tables.specs.Rows.{Fails, Stands};
 ghost use Rattle.tables.specs.Schema.{archive_schema};
 ghost use Rattle.tables_read.specs.All.{AreConstrained, tables_with};
@@ -115,6 +116,7 @@ fn archive_of<S: Alter>(alloc: Global, conn: &mut Connection<S>) -> Result<Optio
     ensures none { HasCleanDisk (state S.Store conn.new) → IfOk result (λ o. o ≡ None → Stands (state S.Store conn.old) (state S.Store conn.new)
         × IsNoArchive (state S.Store conn.old).now) }
     ensures err { HasCleanDisk (state S.Store conn.new) → OnErr result (Fails (state S.Store conn.old) (state S.Store conn.new)) }
+    ensures cause { HasCleanDisk (state S.Store conn.new) → IfErr result (IsCaused (state S.Store conn.old) (state S.Store conn.new)) }
     ensures survives { Survives (state S.Store conn.old) (state S.Store conn.new) (λ _. ⊥) }
 {
     // What the keys of the tables keep true holds of each open connection.
@@ -133,6 +135,7 @@ fn find_archive<S: Alter>(alloc: Global, conn: &mut Connection<S>) -> Result<Opt
     ensures none { HasCleanDisk (state S.Store conn.new) → IfOk result (λ o. o ≡ None → Stands (state S.Store conn.old) (state S.Store conn.new)
         × IsNoArchive (state S.Store conn.old).now) }
     ensures err { HasCleanDisk (state S.Store conn.new) → OnErr result (Fails (state S.Store conn.old) (state S.Store conn.new)) }
+    ensures cause { HasCleanDisk (state S.Store conn.new) → IfErr result (IsCaused (state S.Store conn.old) (state S.Store conn.new)) }
     ensures survives { Survives (state S.Store conn.old) (state S.Store conn.new) (λ _. ⊥) }
 {
     if !is_archive_schema(alloc, conn)? {
@@ -142,7 +145,8 @@ fn find_archive<S: Alter>(alloc: Global, conn: &mut Connection<S>) -> Result<Opt
 }
 
 /// The keeper over the tables of a database that keeps an archive. A fault gives the connection back, and what was committed is
-/// as before; it is `KeepFault::Tables` exactly where a transaction is begun or the database does not keep an archive. A crash
+/// as before. The fault is `KeepFault::Tables` only where a transaction is begun or the database keeps no archive; another comes
+/// only where memory is wanting, the store fails meanwhile, or the connection was shut or may take only so many steps. A crash
 /// leaves what was there.
 pub fn open<S: Alter + Drop>(
     alloc: Global,
@@ -150,6 +154,7 @@ pub fn open<S: Alter + Drop>(
 ) -> Result<TableKeeper<S>, (Connection<S>, KeepFault)>
     ensures opened { IfOk result (λ keeper. HasCleanDisk (state S.Store keeper.conn) → IsTrue (state S.Store keeper.conn).is_open × ((state S.Store keeper.conn).committed ≡ (state S.Store connection).committed)) }
     ensures refused { IfErr result (λ e. e.1 ≡ NoArchive → HasCleanDisk (state S.Store e.0) → (connection.in_transaction ≡ true) ⊎ IsNoArchive (state S.Store connection).now) }
+    ensures told { IfErr result (λ e. HasCleanDisk (state S.Store e.0) → (e.1 ≡ NoArchive) ⊎ ((e.1 ≡ OutOfMemory) ⊎ MayFail (state S.Store connection) (state S.Store e.0))) }
     ensures busy { connection.in_transaction ≡ true → IsErrAnd result (λ e. (e.1 ≡ NoArchive) × (e.0 ≡ connection)) }
     ensures undone { IfErr result (λ e. HasCleanDisk (state S.Store e.0) → IsUndone (state S.Store connection) (state S.Store e.0)) }
     ensures crash { IfOk result (λ keeper. Survives (state S.Store connection) (state S.Store keeper.conn) (λ _. ⊥)) }

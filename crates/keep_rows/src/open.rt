@@ -1,6 +1,8 @@
 //! Whether a database is that of an archive.
 
-ghost use Rattle.std.specs.Prelude.{◌≡◌, ◌↔◌, All, ⊤, [], IsTrue, IfOk};
+ghost use Rattle.std.specs.Prelude.{◌≡◌, ◌↔◌, All, ⊤, [], IsTrue, IfErr, IfOk};
+ghost use Rattle.sqlite.specs.declared.error.Error.TheVariants.{SqliteFailure};
+ghost use Rattle.sqlite.specs.declared.error.ErrorCode.TheVariants.{OutOfMemory};
 ghost use Rattle.sqlite.specs.Held.{state};
 ghost use Rattle.sqlite_value.specs.declared.value.Value.TheVariants.{Null};
 ghost use Rattle.tables.specs.Schema.{archive_schema};
@@ -242,7 +244,8 @@ impl Same for Schema {
 
 /// A database in memory with the tables of an archive.
 fn with_tables(alloc: Global) -> Result<Connection<MemStore>, Error>
-    ensures { IfOk result (λ conn. conn.schema ≡ archive_schema) }
+    ensures ok { IfOk result (λ conn. conn.schema ≡ archive_schema) }
+    ensures err { IfErr result (λ e. e ≡ SqliteFailure OutOfMemory) }
 {
     let mut conn = Connection::open_in_memory(alloc)?;
     let mut tx = conn.transaction();
@@ -251,9 +254,10 @@ fn with_tables(alloc: Global) -> Result<Connection<MemStore>, Error>
     Ok(conn)
 }
 
-/// Whether the database has the tables of an archive and nothing else.
+/// Whether the database has the tables of an archive and nothing else. Nothing of the database fails here: it takes memory alone.
 pub fn is_archive_schema<S: Alter>(alloc: Global, conn: &Connection<S>) -> Result<bool, Error>
-    ensures { IfOk result (λ answer. IsTrue answer ↔ ((state S.Store conn.now).now.schema ≡ archive_schema)) }
+    ensures ok { IfOk result (λ answer. IsTrue answer ↔ ((state S.Store conn.now).now.schema ≡ archive_schema)) }
+    ensures err { IfErr result (λ e. e ≡ SqliteFailure OutOfMemory) }
 {
     let archive = with_tables(alloc)?;
     Ok(conn.schema().is_same(archive.schema()))

@@ -2,6 +2,7 @@ pub mod Kept
 pub mod Making
 pub mod Amending
 pub mod Changing
+pub mod Faults
 pub mod Founding
 pub mod Opening
 pub mod Transactions

@@ -1,13 +1,18 @@
 -- The tables of an archive, one after another.
-use Rattle.std.proofs.Common.{◌≡◌, ℕ, zero, suc, ◌+◌, ◌<◌, true, List, [], map, Ok, refl, sym, ap, subst, arith}
+use Rattle.std.proofs.Common.{◌≡◌, ℕ, zero, suc, ◌+◌, ◌<◌, ◌≤◌, true, [], map, Ok, Err, refl, sym, ap, subst, arith}
 use Rattle.sqlite.specs.Table.{Table}
 use Rattle.sqlite.specs.Change.{created}
-use Rattle.sqlite.specs.State.{State, KeepsCommit, ExecutesInside}
-use Rattle.tables.specs.Schema.{no_schema, archive_schema, meta, bodies, pieces, arrivals, uploads, wants, items, refs, files, texts, dates}
-use Rattle.tables.specs.Rows.{Holds, no_rows, full_upload}
+use Rattle.sqlite.specs.declared.error.Error.{Error}
+use Rattle.sqlite.specs.State.{State, HasCleanDisk, KeepsCommit, ExecutesInside, Survives}
+use Rattle.tables.specs.Schema.{no_schema, meta, bodies, pieces, arrivals, uploads, wants, items, refs, files, texts, dates}
+use Rattle.tables.specs.Rows.{full_upload}
+use Rattle.tables.specs.Causes.{IsCaused}
 use Rattle.tables.specs.Creating.{IsEmpty, Creates, schema_up_to, text_at}
 use Rattle.tables.proofs.CreateLemmas.{Makes, creates}
 use Rattle.tables.proofs.CreateMeaning.{meta_made, bodies_made, pieces_made, arrivals_made, uploads_made, wants_made, items_made, refs_made, files_made, texts_made, dates_made}
+use Rattle.tables.proofs.AcceptMeaning.{meta_accepted, bodies_accepted, pieces_accepted, arrivals_accepted, uploads_accepted, wants_accepted, items_accepted, refs_accepted, files_accepted, texts_accepted, dates_accepted}
+use Rattle.tables.proofs.CauseLemmas.{caused_later}
+use Rattle.tables.proofs.RefusalLemmas.{IsAccepted, fails_inside}
 use Rattle.tables.proofs.TransactionLemmas.{keeps_then}
 
 -- so many tables are made
@@ -21,19 +26,20 @@ record MakesNext (at : ℕ) : Type 0 where
   table : Table
   makes : Makes (schema_up_to at) (text_at at) table
   next : schema_up_to (at + 1) ≡ created (schema_up_to at) table
+  accepted : IsAccepted (schema_up_to at) (text_at at) table
 
 makes_next : (at : ℕ) → at < 11 → MakesNext at
-makes_next zero h = record { table = meta; makes = meta_made; next = refl }
-makes_next (suc zero) h = record { table = bodies; makes = bodies_made; next = refl }
-makes_next (suc (suc zero)) h = record { table = pieces; makes = pieces_made; next = refl }
-makes_next (suc (suc (suc zero))) h = record { table = arrivals; makes = arrivals_made; next = refl }
-makes_next (suc (suc (suc (suc zero)))) h = record { table = uploads; makes = uploads_made; next = refl }
-makes_next (suc (suc (suc (suc (suc zero))))) h = record { table = wants; makes = wants_made; next = refl }
-makes_next (suc (suc (suc (suc (suc (suc zero)))))) h = record { table = items; makes = items_made; next = refl }
-makes_next (suc (suc (suc (suc (suc (suc (suc zero))))))) h = record { table = refs; makes = refs_made; next = refl }
-makes_next (suc (suc (suc (suc (suc (suc (suc (suc zero)))))))) h = record { table = files; makes = files_made; next = refl }
-makes_next (suc (suc (suc (suc (suc (suc (suc (suc (suc zero))))))))) h = record { table = texts; makes = texts_made; next = refl }
-makes_next (suc (suc (suc (suc (suc (suc (suc (suc (suc (suc zero)))))))))) h = record { table = dates; makes = dates_made; next = refl }
+makes_next zero h = record { table = meta; makes = meta_made; next = refl; accepted = meta_accepted }
+makes_next (suc zero) h = record { table = bodies; makes = bodies_made; next = refl; accepted = bodies_accepted }
+makes_next (suc (suc zero)) h = record { table = pieces; makes = pieces_made; next = refl; accepted = pieces_accepted }
+makes_next (suc (suc (suc zero))) h = record { table = arrivals; makes = arrivals_made; next = refl; accepted = arrivals_accepted }
+makes_next (suc (suc (suc (suc zero)))) h = record { table = uploads; makes = uploads_made; next = refl; accepted = uploads_accepted }
+makes_next (suc (suc (suc (suc (suc zero))))) h = record { table = wants; makes = wants_made; next = refl; accepted = wants_accepted }
+makes_next (suc (suc (suc (suc (suc (suc zero)))))) h = record { table = items; makes = items_made; next = refl; accepted = items_accepted }
+makes_next (suc (suc (suc (suc (suc (suc (suc zero))))))) h = record { table = refs; makes = refs_made; next = refl; accepted = refs_accepted }
+makes_next (suc (suc (suc (suc (suc (suc (suc (suc zero)))))))) h = record { table = files; makes = files_made; next = refl; accepted = files_accepted }
+makes_next (suc (suc (suc (suc (suc (suc (suc (suc (suc zero))))))))) h = record { table = texts; makes = texts_made; next = refl; accepted = texts_accepted }
+makes_next (suc (suc (suc (suc (suc (suc (suc (suc (suc (suc zero)))))))))) h = record { table = dates; makes = dates_made; next = refl; accepted = dates_accepted }
 makes_next (suc (suc (suc (suc (suc (suc (suc (suc (suc (suc (suc n))))))))))) h = absurd (omega arith)
 
 pub one_more : (at : ℕ) (begun old new : State) (count : ℕ) → at < 11 → IsBuilding at begun old → ExecutesInside 0 (text_at at) [] old new (Ok count) → IsBuilding (at + 1) begun new
@@ -44,6 +50,13 @@ one_more at begun old new count within was h =
       kept = keeps_then begun old new was.kept (record { was_open = λ _. h.1.was_open; committed = λ _. h.1.committed_is });
       mode = h.1.mode;
     }
+
+-- the next is not made
+pub one_fails : (at : ℕ) (begun old new : State) (e : Error) → at < 11 → IsBuilding at begun old → begun.now.schema ≡ no_schema → Survives begun old (λ _. ⊥) → HasCleanDisk old → old.faults ≤ new.faults
+    → ExecutesInside 0 (text_at at) [] old new (Err e) → IsCaused begun new e
+one_fails at begun old new e within was none before clean up h =
+    let step = makes_next at within in
+    caused_later begun old new before clean e up (fails_inside (schema_up_to at) (text_at at) step.table step.makes step.accepted old new (was.made none).schema_is e h)
 
 pub none_built : (s : State) → s.in_transaction ≡ true → IsBuilding 0 s s
 none_built s inside = record { made = λ none. record { schema_is = none; empty = tt }; kept = record { was_open = λ up. up; committed = λ _. refl }; mode = inside }

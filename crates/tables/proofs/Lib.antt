@@ -2,6 +2,7 @@ pub mod SchemaLemmas
 pub mod InsertLemmas
 pub mod RowLemmas
 pub mod CastLemmas
+pub mod CauseLemmas
 pub mod HoldsLemmas
 pub mod BookLemmas
 pub mod DeleteLemmas
@@ -11,6 +12,8 @@ pub mod UpdateLemmas
 pub mod CreateLemmas
 pub mod CreateMeaning
 pub mod TransactionLemmas
+pub mod RefusalLemmas
+pub mod AcceptMeaning
 pub mod CreatingLemmas
 pub mod EqualLemmas
 pub mod ReadLemmas

@@ -5,6 +5,7 @@ pub mod Texts
 pub mod Dates
 pub mod Creating
 pub mod Bodies
+pub mod Causes
 pub mod Pieces
 pub mod Arrivals
 pub mod Uploads

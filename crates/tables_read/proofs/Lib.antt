@@ -1,4 +1,5 @@
 pub mod AnswerLemmas
+pub mod CauseLemmas
 pub mod DecideLemmas
 pub mod JoinedLemmas
 pub mod ListedLemmas

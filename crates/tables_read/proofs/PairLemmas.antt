@@ -1,5 +1,5 @@
 -- How two reads make one.
-use Rattle.std.proofs.Common.{◌≡◌, Option, Result, Ok, Err, IsErr, true, sym, subst, ◌∙◌}
+use Rattle.std.proofs.Common.{◌≡◌, Result, Ok, Err, IsErrAnd, subst}
 use Rattle.std.specs.Prelude.{⊤}
 use Rattle.sqlite.specs.declared.error.Error.{Error}
 use Rattle.sqlite.specs.State.{State, IsUnchanged}
@@ -8,10 +8,10 @@ use Rattle.tables_read.proofs.StepLemmas.{failed, told, then_told}
 
 module _ (a b c : State) {X Y Z : Type 0} {P : X → Type 0} {Q : Y → Type 0} {R : Z → Type 0} (first : Result X Error) (second : Result Y Error) (x : X) (is_first : first ≡ Ok x) where
   -- the second fails
-  pub second_failed : (all : Result Z Error) (e : Error) → second ≡ Err e → IsErr all → Tells a b first P → Tells b c second Q → Tells a c all R
-  second_failed (Ok z) e is err one two = absurd (cc)
+  pub second_failed : (all : Result Z Error) (e : Error) → second ≡ Err e → IsErrAnd all (λ f. f ≡ e) → Tells a b first P → Tells b c second Q → Tells a c all R
+  second_failed (Ok z) e is err one two = absurd err
   second_failed (Err f) e is err one two =
-      failed a c e f (subst (λ v. Tells a c v (λ _. ⊤)) is (then_told a b c x second (subst (λ v. Tells a b v P) is_first one) two (λ _ _ _ _ _ _ _. tt)))
+      failed a c e f err (subst (λ v. Tells a c v (λ _. ⊤)) is (then_told a b c x second (subst (λ v. Tells a b v P) is_first one) two (λ _ _ _ _ _ _ _. tt)))
 
   -- both say what they read
   pub both_told : (y : Y) (z : Z) → second ≡ Ok y → Tells a b first P → Tells b c second Q → (IsUnchanged a b → P x → Q y → R z) → Tells a c (Ok z) R

@@ -1,13 +1,13 @@
 -- How reads follow one another.
-use Rattle.std.proofs.Common.{◌≡◌, ◌⊎◌, List, Option, None, Some, inl, inr, Result, Ok, Err, IfOk, OnOk, OnErr, sym, subst, ap, ◌∙◌, arith}
-use Rattle.std.specs.Prelude.{◌≢◌}
+use Rattle.std.proofs.Common.{◌≡◌, inl, inr, Result, Ok, Err, IfErr, OnOk, OnErr, sym, subst, ap, ◌∙◌, arith}
 use Rattle.std.proofs.lemmas.Result.{IfOk-weaker}
 use Rattle.sqlite.specs.declared.error.Error.{Error}
-use Rattle.sqlite.specs.State.{State, HasCleanDisk, IsUnchanged, Survives}
+use Rattle.sqlite.specs.State.{State, HasCleanDisk, IsUnchanged}
 use Rattle.sqlite.proofs.Callers.{unchanged_then}
-use Rattle.sqlite.proofs.StateLemmas.{survives_then, survives_weaker}
-use Rattle.tables.proofs.ReadLemmas.{fails_unchanged, on_err}
+use Rattle.sqlite.proofs.StateLemmas.{survives_then}
+use Rattle.tables.specs.Causes.{IsCaused}
 use Rattle.tables.specs.Rows.{Fails, IsForeign}
+use Rattle.tables.proofs.CauseLemmas.{caused_later}
 use Rattle.tables.specs.Schema.{archive_schema}
 use Rattle.tables_read.specs.Reading.{Tells}
 
@@ -19,18 +19,18 @@ on_err_then : {X E : Type 0} {P Q : Type 0} (r : Result X E) → (P → Q) → O
 on_err_then (Ok x) f h = h
 on_err_then (Err e) f h = f h
 
+if_err : {X E : Type 0} {P Q : E → Type 0} (r : Result X E) → ((e : E) → P e → Q e) → IfErr r P → IfErr r Q
+if_err (Ok x) f h = h
+if_err (Err e) f h = f e h
+
 module _ (a b : State) where
   -- an error is passed on
-  pub failed : {X Y : Type 0} {P : X → Type 0} {Q : Y → Type 0} (e f : Error) → Tells a b (Err e) P → Tells a b (Err f) Q
-  failed e f h = record { idle = h.idle; is = λ _ _. tt; unchanged = λ _ _. tt; err = h.err; survives = h.survives }
+  pub failed : {X Y : Type 0} {P : X → Type 0} {Q : Y → Type 0} (e f : Error) → f ≡ e → Tells a b (Err e) P → Tells a b (Err f) Q
+  failed e f same h = record { idle = h.idle; is = λ _ _. tt; unchanged = λ _ _. tt; err = h.err; cause = λ clean is. subst (IsCaused a b) (sym same) (h.cause clean is); survives = h.survives }
 
   -- what was read says something else
   pub told : {X Y : Type 0} {P : X → Type 0} {Q : Y → Type 0} (x : X) (y : Y) → Tells a b (Ok x) P → (HasCleanDisk b → a.now.schema ≡ archive_schema → IsUnchanged a b → P x → Q y) → Tells a b (Ok y) Q
-  told x y h f = record { idle = h.idle; is = λ clean is. f clean is (h.unchanged clean is) (h.is clean is); unchanged = h.unchanged; err = λ _ _. tt; survives = h.survives }
-
-  -- an error that comes after what was read
-  pub failed_later : {X Y : Type 0} {P : X → Type 0} {Q : Y → Type 0} (x : X) (e : Error) → Tells a b (Ok x) P → Tells a b (Err e) Q
-  failed_later x e h = record { idle = h.idle; is = λ _ _. tt; unchanged = λ _ _. tt; err = λ clean is. fails_unchanged a b (h.unchanged clean is); survives = h.survives }
+  told x y h f = record { idle = h.idle; is = λ clean is. f clean is (h.unchanged clean is) (h.is clean is); unchanged = h.unchanged; err = λ _ _. tt; cause = λ _ _. tt; survives = h.survives }
 
 module _ (a b c : State) where
   fails_then : IsUnchanged a b → Fails b c → Fails a c
@@ -55,5 +55,6 @@ module _ (a b c : State) where
         is = λ clean is. IfOk-weaker r _ _ (f (before clean) clean is (same clean is) (one.is (before clean) is)) (two.is clean (now clean is));
         unchanged = λ clean is. on_ok r (λ h. unchanged_then a b c (same clean is) h) (two.unchanged clean (now clean is));
         err = λ clean is. on_err_then r (λ h. fails_then (same clean is) h) (two.err clean (now clean is));
+        cause = λ clean is. if_err r (λ e h. caused_later a b c one.survives (before clean) e two.survives.counts h) (two.cause clean (now clean is));
         survives = survives_then a b c (λ _. IsForeign a.now) (λ _. IsForeign b.now) (λ _. IsForeign a.now) (λ _ db h. h) (λ clean db h is. h (now clean is)) one.survives two.survives;
       }

@@ -1,5 +1,5 @@
 -- How a table stores its rows, and how a query shows them.
-use Rattle.std.specs.Prelude.{◌≡◌, ◌<◌, ◌^◌, ℕ, Bool, true, List, [], ◌∷◌, drop, map, slice_index_or}
+use Rattle.std.specs.Prelude.{◌≡◌, ◌<◌, ◌^◌, ℕ, Bool, true, List, [], ◌∷◌, drop, length, map, slice_index_or}
 use Rattle.std.specs.List.{AllByRecursion, AllZip}
 use Rattle.sqlite.specs.Order.{Row, column}
 use Rattle.sqlite.specs.Table.{Table}
@@ -54,6 +54,10 @@ pub record AreRead {X : Type 0} (l : Layout X) (rows : List Row) (all : Numbered
   pub spelled : AllZip (Spells l.seen) rows all
   pub whole : AllByRecursion (λ x. l.is_whole x.1 ≡ true) all
   pub small : AreSmall (ids all)
+
+-- the row lacks a column
+abbrev pub IsShort : {X : Type 0} → Layout X → Row → Type 0
+IsShort l row = length row < length l.columns
 
 -- what the query for the rows of a table answered
 pub record HasAnswer {X : Type 0} (l : Layout X) (old new : State) (P : List Row → Type 0) : Type 0 where

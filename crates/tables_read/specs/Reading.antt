@@ -1,5 +1,5 @@
 -- What reading leaves, and what it says.
-use Rattle.std.specs.Prelude.{◌≡◌, ◌+◌, ℕ, pos, negsuc, false, List, [], ◌∷◌, None, Result, IfOk, OnOk, OnErr, ⊤}
+use Rattle.std.specs.Prelude.{◌≡◌, ◌+◌, ℕ, pos, negsuc, true, false, List, [], ◌∷◌, None, Result, IfOk, IfErr, OnOk, OnErr, ⊤}
 use Rattle.sqlite.specs.declared.error.Error.{Error}
 use Rattle.sqlite.specs.declared.types.Value.TheVariants.{Int, Text}
 use Rattle.sqlite.specs.Listing.{understood, reads_listing}
@@ -15,8 +15,11 @@ use Rattle.sqlite.proofs.Callers.{command_of, IsPlain}
 use Rattle.sqlite_sql.specs.Term.{op2}
 use Rattle.sqlite_sql.specs.declared.aggregate.AggregateOp.TheVariants.{Concat}
 use Rattle.sqlite_sql.specs.declared.ops.BinaryOp.TheVariants.{Coalesce}
+use Rattle.sqlite_typing.specs.Types.{accepts_program}
+use Rattle.tables.specs.Causes.{IsCaused}
 use Rattle.tables.specs.Rows.{Fails, IsForeign, whole}
 use Rattle.tables.specs.Schema.{archive_schema}
+use Rattle.tables.proofs.CauseLemmas.{IsAlone}
 use Rattle.tables.proofs.SelectLemmas.{rows_query}
 
 -- the columns from this place on have these values
@@ -25,19 +28,22 @@ Agree row at [] = ⊤
 Agree row at (v ∷ vs) = (column row at ≡ v) × Agree row (at + 1) vs
 
 -- Over the tables of an archive, and where the disk is clean, what is read `Is` that which is asked for and nothing changes;
--- no call commits.
+-- an error has a cause, and no call commits.
 pub record Tells {X : Type 0} (old new : State) (result : Result X Error) (Is : X → Type 0) : Type 0 where
   pub idle : old.in_transaction ≡ false → new.in_transaction ≡ false
   pub is : HasCleanDisk new → old.now.schema ≡ archive_schema → IfOk result Is
   pub unchanged : HasCleanDisk new → old.now.schema ≡ archive_schema → OnOk result (IsUnchanged old new)
   pub err : HasCleanDisk new → old.now.schema ≡ archive_schema → OnErr result (Fails old new)
+  pub cause : HasCleanDisk new → old.now.schema ≡ archive_schema → IfErr result (IsCaused old new)
   pub survives : Survives old new (λ _. IsForeign old.now)
 
--- the text means this query
+-- the text is one statement, and means this query
 pub record Means (query : Query) (tree : ℕ) (sql : List ℕ) : Type 0 where
   pub names : List (List ℕ)
   pub is : command_of (understood archive_schema sql) ≡ Select (record { lets = []; body = query }) names
   pub plain : IsPlain (understood archive_schema sql)
+  pub alone : IsAlone sql (understood archive_schema sql)
+  pub accepted : accepts_program archive_schema [] query [] ≡ true
   pub unlisted : reads_listing archive_schema sql ≡ false
   pub real : (db : Trees) → overlay db [] tree ≡ db tree
 

@@ -1,6 +1,8 @@
 //! Values of a row of an answer, where they are of the type that is asked for.
 
-ghost use Rattle.std.specs.Prelude.{◌≡◌, ◌≢◌, ℕ, pos, List, [], ◌∷◌, length, None, IfOk, IfSome, IsUtf8, ⊤};
+ghost use Rattle.std.specs.Prelude.{◌≡◌, ◌≢◌, ◌⊎◌, ◌≤◌, ◌<◌, ◌+◌, ℕ, pos, List, [], ◌∷◌, length, None, IfErr, IfOk, IfSome, IsUtf8, ⊤};
+ghost use Rattle.sqlite.specs.declared.error.Error.TheVariants.{SqliteFailure};
+ghost use Rattle.sqlite.specs.declared.error.ErrorCode.TheVariants.{OutOfMemory};
 ghost use Rattle.sqlite.specs.declared.types.Value.{Value as SqlValue};
 ghost use Rattle.sqlite.specs.declared.types.Value.TheVariants.{Int, Text as SqlText, Blob};
 ghost use Rattle.sqlite.specs.Order.{column};
@@ -22,13 +24,15 @@ pub(crate) trait Cell: Sized + Drop {
     /// The value in a column, if it is of this type.
     fn from_cell(row: &Row, at: usize) -> Result<Option<Self>, Error>
         ensures some { IfOk result (λ o. IfSome o (λ x. column row.now at ≡ cell x)) }
-        ensures none { IfOk result (λ o. o ≡ None → (x : Self) → is_real x → column row.now at ≢ cell x) };
+        ensures none { IfOk result (λ o. o ≡ None → (x : Self) → is_real x → column row.now at ≢ cell x) }
+        ensures cause { IfErr result (λ e. (e ≡ SqliteFailure OutOfMemory) ⊎ (length row.now ≤ at)) };
 }
 
 /// What a column reads as, if it reads. An error is one of memory, or of a column that is not there.
 fn readable<T: FromSql + Drop>(row: &Row, at: usize) -> Result<Option<T>, Error>
     ensures some { IfOk result (λ o. IfSome o (T.FromSql.reads_as (column row.now at))) }
     ensures none { IfOk result (λ o. o ≡ None → ¬ T.FromSql.is_readable (column row.now at)) }
+    ensures cause { IfErr result (λ e. (e ≡ SqliteFailure OutOfMemory) ⊎ (length row.now ≤ at)) }
 {
     match row.get(at) {
         Ok(value) => Ok(Some(value)),
@@ -129,17 +133,23 @@ impl<const N: usize> Cell for [u8; N] {
 pub(crate) trait Cells: Sized + Drop {
     ghost cells: { Self → List SqlValue };
 
+    // how many columns they are
+    ghost width: { ℕ };
+
     // the values that code can hold
     ghost is_real: { Self → Type 0 };
 
     /// The values in the columns from this one on, if they are of these types.
     fn from_cells(row: &Row, at: usize) -> Result<Option<Self>, Error>
         ensures some { IfOk result (λ o. IfSome o (λ x. Agree row.now at (cells x))) }
-        ensures none { IfOk result (λ o. o ≡ None → (x : Self) → is_real x → ¬ Agree row.now at (cells x)) };
+        ensures none { IfOk result (λ o. o ≡ None → (x : Self) → is_real x → ¬ Agree row.now at (cells x)) }
+        ensures cause { IfErr result (λ e. (e ≡ SqliteFailure OutOfMemory) ⊎ (length row.now < at + width)) };
 }
 
 impl Cells for () {
     ghost cells = { λ _. [] };
+
+    ghost width = { 0 };
 
     ghost is_real = { λ _. ⊤ };
 
@@ -150,6 +160,8 @@ impl Cells for () {
 
 impl<A: Cell, B: Cells> Cells for (A, B) {
     ghost cells = { λ p. A.cell p.0 ∷ B.cells p.1 };
+
+    ghost width = { B.width + 1 };
 
     ghost is_real = { λ p. A.is_real p.0 × B.is_real p.1 };
 

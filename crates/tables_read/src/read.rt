@@ -1,9 +1,10 @@
 //! The rows of all tables.
 
-ghost use Rattle.std.specs.Prelude.{◌≡◌, ◌⊎◌, false, IfOk, IfSome, OnOk, OnErr, None, MatchOption};
+ghost use Rattle.std.specs.Prelude.{◌≡◌, ◌⊎◌, false, IfErr, IfOk, IfSome, OnOk, OnErr, None, MatchOption};
 ghost use Rattle.sqlite.specs.Effect.{Database};
 ghost use Rattle.sqlite.specs.Held.{state};
 ghost use Rattle.sqlite.specs.State.{HasCleanDisk, IsUnchanged, Survives};
+ghost use Rattle.tables.specs.Causes.{IsCaused};
 ghost use Rattle.tables.specs.Rows.{Tables, Holds, Fails};
 ghost use Rattle.tables.specs.Schema.{archive_schema};
 ghost use Rattle.tables_read.specs.All.{AreWhole, tables_with};
@@ -103,6 +104,7 @@ pub fn read_all<S: Alter>(alloc: Global, conn: &mut Connection<S>) -> Result<Opt
     ensures none { HasCleanDisk (state S.Store conn.new) → IfOk result (λ o. o ≡ None → (t : Tables) → AreReal t → Holds (state S.Store conn.old).now t → ⊥) }
     ensures unchanged { HasCleanDisk (state S.Store conn.new) → OnOk result (IsUnchanged (state S.Store conn.old) (state S.Store conn.new)) }
     ensures err { HasCleanDisk (state S.Store conn.new) → OnErr result (Fails (state S.Store conn.old) (state S.Store conn.new)) }
+    ensures cause { HasCleanDisk (state S.Store conn.new) → IfErr result (IsCaused (state S.Store conn.old) (state S.Store conn.new)) }
     ensures survives { Survives (state S.Store conn.old) (state S.Store conn.new) (λ _. ⊥) }
 {
     match <(Arrived, (Judged, Shown))>::read(alloc, conn)? {

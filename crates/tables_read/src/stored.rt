@@ -1,7 +1,9 @@
 //! The rows of each table: the statements that read them, and the columns in their order.
 
-ghost use Rattle.std.specs.Prelude.{◌≡◌, true, Some, None, IfOk, IfSome, ⊤};
-ghost use Rattle.tables_read.specs.Layout.{Layout, IsLayout};
+ghost use Rattle.std.specs.Prelude.{◌≡◌, ◌⊎◌, true, Some, None, IfErr, IfOk, IfSome, ⊤};
+ghost use Rattle.sqlite.specs.declared.error.Error.TheVariants.{SqliteFailure};
+ghost use Rattle.sqlite.specs.declared.error.ErrorCode.TheVariants.{OutOfMemory};
+ghost use Rattle.tables_read.specs.Layout.{Layout, IsLayout, IsShort};
 ghost use Rattle.tables_read.specs.Reading.{AsksForRows, AsksForOrder, Agree};
 ghost use Rattle.tables_read.specs.Real.{IsRealBody, IsRealArrival, IsRealUpload, IsRealWant, IsRealItem, IsRealRef, IsRealFile, IsRealText, IsRealDate};
 ghost use Rattle.tables_read.specs.Layouts.{meta_layout, body_layout, piece_layout, arrival_layout, upload_layout, want_layout, item_layout, ref_layout, file_layout, text_layout, date_layout};
@@ -31,7 +33,8 @@ pub(crate) trait Stored: Sized + Drop {
     /// The row whose columns stand behind the rowid, if they are of its types.
     fn from_row(row: &Row) -> Result<Option<Self>, Error>
         ensures some { IfOk result (λ o. IfSome o (λ x. (layout.is_whole x ≡ true) × Agree row.now 1 (layout.seen x))) }
-        ensures none { IfOk result (λ o. o ≡ None → (x : Self) → is_real x → ¬ Agree row.now 1 (layout.seen x)) };
+        ensures none { IfOk result (λ o. o ≡ None → (x : Self) → is_real x → ¬ Agree row.now 1 (layout.seen x)) }
+        ensures cause { IfErr result (λ e. (e ≡ SqliteFailure OutOfMemory) ⊎ IsShort layout row.now) };
 
     ghost laid: { IsLayout layout };
 }

@@ -1,7 +1,9 @@
 //! The rows of one table.
 
-ghost use Rattle.std.specs.Prelude.{◌≡◌, ◌≢◌, ◌<◌, ◌^◌, ◌↔◌, ℕ, true, false, map, string_bytes};
-ghost use Rattle.std.specs.Prelude.{IsTrue, IfOk, IfSome, None, MatchOption};
+ghost use Rattle.std.specs.Prelude.{◌≡◌, ◌≢◌, ◌<◌, ◌^◌, ◌↔◌, ◌⊎◌, ℕ, true, false, map, string_bytes};
+ghost use Rattle.std.specs.Prelude.{Any, IsTrue, IfErr, IfOk, IfSome, None, MatchOption};
+ghost use Rattle.sqlite.specs.declared.error.Error.TheVariants.{SqliteFailure};
+ghost use Rattle.sqlite.specs.declared.error.ErrorCode.TheVariants.{OutOfMemory};
 ghost use Rattle.sqlite.specs.declared.types.Value.TheVariants.{Text as SqlText};
 ghost use Rattle.sqlite.specs.Order.{column};
 ghost use Rattle.sqlite.specs.Held.{state};
@@ -9,7 +11,7 @@ ghost use Rattle.sqlite.specs.State.{IsLive};
 ghost use Rattle.sqlite_sql.specs.Text.{joined};
 ghost use Rattle.tables.specs.Rows.{whole};
 ghost use Rattle.tables_read.specs.Reading.{Spells, Tells};
-ghost use Rattle.tables_read.specs.Layout.{AreRead, IsNotRead, HasAnswer, HasOrder, IsTable, IsNoTable};
+ghost use Rattle.tables_read.specs.Layout.{AreRead, IsNotRead, HasAnswer, HasOrder, IsShort, IsTable, IsNoTable};
 ghost use Rattle.tables_read.specs.Layout.{ids, first_cell};
 ghost use Rattle.tables_read.specs.Order.{rises_past};
 
@@ -26,6 +28,7 @@ fn numbered<T: Stored>(row: &Row) -> Result<Option<(u64, T)>, Error>
         (x.0 < 2 ^ 64) × (T.layout.is_whole x.1 ≡ true) × Spells T.layout.seen row.now x)) }
     ensures none { IfOk result (λ o. o ≡ None
         → (x : ℕ × T) → T.is_real x.1 → ¬ Spells T.layout.seen row.now x) }
+    ensures cause { IfErr result (λ e. (e ≡ SqliteFailure OutOfMemory) ⊎ IsShort T.layout row.now) }
 {
     let Some(id) = u64::from_cell(row, 0)? else {
         return Ok(None);
@@ -40,6 +43,7 @@ fn numbered<T: Stored>(row: &Row) -> Result<Option<(u64, T)>, Error>
 fn typed<T: Stored>(alloc: Global, rows: &[Row]) -> Result<Option<Vec<(u64, T)>>, Error>
     ensures some { IfOk result (λ o. IfSome o (λ all. AreRead T.layout rows.now all.items)) }
     ensures none { IfOk result (λ o. o ≡ None → IsNotRead T.layout T.is_real rows.now) }
+    ensures cause { IfErr result (λ e. (e ≡ SqliteFailure OutOfMemory) ⊎ Any (IsShort T.layout) rows.now) }
 {
     let mut all = Vec::new(alloc);
     for row in rows {

@@ -6,7 +6,7 @@ use Rattle.tables_read.proofs.read.Tuple2Read.read.Goals as goal
 pub returns-in_err-others : goal.returns-in_err-others
 returns-in_err-others g c =
     second_failed (state g.S.Store c.args.conn.now) (state g.S.Store c.read.new.conn) (state g.S.Store c.read-2.new.conn) c.read.result c.read-2.result (Some c.in-Some.first) (c.in_ok-first.was ∙ ap (λ o. Ok o) c.in-Some.is)
-    c.from_residual-in_err-others.result c.in_err-others.field-0.0 c.in_err-others.was c.from_residual-in_err-others.ensures.0 c.read.ensures c.read-2.ensures
+    c.from_residual-in_err-others.result c.in_err-others.field-0.0 c.in_err-others.was c.from_residual-in_err-others.ensures.1 c.read.ensures c.read-2.ensures
 
 pub returns-in-Some-2 : goal.returns-in-Some-2
 returns-in-Some-2 g c =

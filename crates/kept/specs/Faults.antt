@@ -1,0 +1,12 @@
+-- What an error of the database is to an archive.
+use Rattle.sqlite.specs.declared.error.Error.{Error}
+use Rattle.sqlite.specs.declared.error.Error.TheVariants.{SqliteFailure}
+use Rattle.sqlite.specs.declared.error.ErrorCode.TheVariants as code
+use Rattle.keep.specs.declared.fault.KeepFault.{KeepFault}
+use Rattle.keep.specs.declared.fault.KeepFault.TheVariants.{OutOfMemory, Disk, Size}
+
+-- want of memory, a size that the database cannot hold, or else a failure of the disk
+abbrev pub fault_for : Error → KeepFault
+fault_for (SqliteFailure code.OutOfMemory) = OutOfMemory
+fault_for (SqliteFailure code.TooBig) = Size
+fault_for _ = Disk
