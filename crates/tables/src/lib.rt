@@ -6,8 +6,6 @@ pub mod bodies;
 mod cells;
 pub mod dates;
 pub mod files;
-#[cfg(test)]
-mod item_tests;
 pub mod items;
 pub mod laws;
 pub mod meta;
@@ -18,8 +16,6 @@ pub mod refs;
 pub mod rows;
 pub mod schema;
 pub mod serving;
-#[cfg(test)]
-mod tests;
 pub mod texts;
 pub mod uploads;
 pub mod wants;

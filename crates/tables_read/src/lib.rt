@@ -8,8 +8,6 @@ mod order;
 mod read;
 mod stored;
 mod table;
-#[cfg(test)]
-mod tests;
 
 pub use all::AllRows;
 pub use read::read_all;
