@@ -1,5 +1,6 @@
 //! What archives do, story by story, over the plain keeper and over the keeper over tables.
 #![tactic(auto)]
 
+pub mod made;
 #[cfg(test)]
 mod tests;

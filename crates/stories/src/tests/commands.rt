@@ -1,7 +1,8 @@
 //! Stories of lists of commands.
 
 use super::fixtures::*;
-use keep::PlainKeeper;
+use crate::made::Made;
+use keep::{Keeper, PlainKeeper};
 use keep_tables::TableKeeper;
 use queue::{Arrived, Command, Fault, Outcome};
 use samples::hello::*;
@@ -54,7 +55,7 @@ fn story(alloc: Global) -> Result<Vec<Command>, Fail> {
 }
 
 /// Each command of a list has its outcome, also behind one that is refused.
-fn a_list_goes_on_behind_a_refusal_over<K: Made>(
+fn a_list_goes_on_behind_a_refusal_over<K: Made + Keeper>(
     rt: &impl Abort,
     alloc: Global,
 ) -> Result<(), Fail> {
@@ -91,7 +92,10 @@ fn a_list_goes_on_behind_a_refusal_in_tables(rt: HostRuntime) -> Result<(), Fail
 }
 
 /// A list without commands has no outcomes.
-fn no_commands_no_outcomes_over<K: Made>(rt: &impl Abort, alloc: Global) -> Result<(), Fail> {
+fn no_commands_no_outcomes_over<K: Made + Keeper>(
+    rt: &impl Abort,
+    alloc: Global,
+) -> Result<(), Fail> {
     let mut archive = fresh::<K>(alloc)?;
     let outcomes = archive.drive(alloc, &[])?;
     assert_eq!(rt; outcomes.len(), 0);

@@ -1,6 +1,7 @@
 //! Stories of copies from suite to suite.
 
 use super::fixtures::*;
+use crate::made::Made;
 use keep::{Keeper, PlainKeeper};
 use keep_tables::TableKeeper;
 use queue::{Archive, Fault};
@@ -25,7 +26,7 @@ fn expect_copied<K: Keeper>(
 }
 
 /// A copy takes what the target keeps; made again it changes nothing, not even a date.
-fn a_copy_takes_what_the_target_keeps_over<K: Made>(
+fn a_copy_takes_what_the_target_keeps_over<K: Made + Keeper>(
     rt: &impl Abort,
     alloc: Global,
 ) -> Result<(), Fail> {
@@ -58,7 +59,10 @@ fn a_copy_takes_what_the_target_keeps_in_tables(rt: HostRuntime) -> Result<(), F
 }
 
 /// Of a package that box showed in two versions the newer is copied, and it alone.
-fn a_copy_takes_what_is_shown_over<K: Made>(rt: &impl Abort, alloc: Global) -> Result<(), Fail> {
+fn a_copy_takes_what_is_shown_over<K: Made + Keeper>(
+    rt: &impl Abort,
+    alloc: Global,
+) -> Result<(), Fail> {
     let mut archive = archive_of::<K>(alloc, PAIR)?;
     deliver_all(alloc, &mut archive, &OLDER_HELLO, None)?;
     archive.run(alloc, 0)?;
@@ -79,7 +83,10 @@ fn a_copy_takes_what_is_shown_in_tables(rt: HostRuntime) -> Result<(), Fail> {
 }
 
 /// A newer version that the target shows stays.
-fn a_newer_version_stays_over<K: Made>(rt: &impl Abort, alloc: Global) -> Result<(), Fail> {
+fn a_newer_version_stays_over<K: Made + Keeper>(
+    rt: &impl Abort,
+    alloc: Global,
+) -> Result<(), Fail> {
     let mut archive = archive_of::<K>(alloc, PAIR)?;
     deliver_all(alloc, &mut archive, &NEWER_HELLO, None)?;
     deliver_all(alloc, &mut archive, &HELLO_WITH_SOURCE, None)?;
@@ -146,7 +153,10 @@ const REFUSALS: [Refusal; 5] = [
     },
 ];
 
-fn copies_that_are_refused_over<K: Made>(rt: &impl Abort, alloc: Global) -> Result<(), Fail> {
+fn copies_that_are_refused_over<K: Made + Keeper>(
+    rt: &impl Abort,
+    alloc: Global,
+) -> Result<(), Fail> {
     let mut archive = archive_of::<K>(alloc, PAIR)?;
     deliver_all(alloc, &mut archive, &HELLO_WITH_SOURCE, None)?;
     archive.run(alloc, 0)?;

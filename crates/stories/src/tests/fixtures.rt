@@ -1,12 +1,11 @@
 //! Files of small uploads, and an archive to hand them to.
 
-use keep::{Keeper, PlainKeeper};
-use keep_tables::TableKeeper;
+use crate::made::Made;
+use keep::Keeper;
 use queue::{Archive, Arrived};
 use rules::Config;
 use samples::hello::*;
 use samples::uploads::File;
-use sqlite::{Connection, MemStore};
 use std::alloc::Global;
 use std::process::Abort;
 use std::test::Fail;
@@ -21,36 +20,14 @@ pub fn changes(alloc: Global, deb: Deb<'_>) -> Result<String, Fail> {
     )?)
 }
 
-/// A keeper of a new archive, in memory.
-pub trait Made: Keeper + Drop {
-    /// A keeper of the configuration's archive, made at 0.
-    fn made(alloc: Global, config: Config) -> Result<Self, Fail>;
-}
-
-impl Made for PlainKeeper {
-    fn made(alloc: Global, config: Config) -> Result<PlainKeeper, Fail> {
-        Ok(PlainKeeper::new(alloc, config, 0)?)
-    }
-}
-
-impl Made for TableKeeper<MemStore> {
-    fn made(alloc: Global, config: Config) -> Result<TableKeeper<MemStore>, Fail> {
-        let connection = Connection::open_in_memory(alloc)?;
-        match TableKeeper::create(alloc, connection, config, 0) {
-            Ok(keeper) => Ok(keeper),
-            Err((_, fault)) => Err(Fail::from(fault)),
-        }
-    }
-}
-
 /// An archive of a configuration, made at 0.
-pub fn archive_of<K: Made>(alloc: Global, config: &[u8]) -> Result<Archive<K>, Fail> {
+pub fn archive_of<K: Made + Keeper>(alloc: Global, config: &[u8]) -> Result<Archive<K>, Fail> {
     let config = Config::read(alloc, config)?;
     Ok(Archive::new(K::made(alloc, config)?))
 }
 
 /// An archive with one suite, `box`, made at 0.
-pub fn fresh<K: Made>(alloc: Global) -> Result<Archive<K>, Fail> {
+pub fn fresh<K: Made + Keeper>(alloc: Global) -> Result<Archive<K>, Fail> {
     archive_of(alloc, BOX)
 }
 

@@ -2,7 +2,7 @@
 
 use super::fixtures::*;
 use super::packages::{Row, TABLE, changes_of, named, row_of, sidecar_of, stanza_of};
-use keep::PlainKeeper;
+use keep::{Keeper, PlainKeeper};
 use queue::Archive;
 use queue::Arrived::New;
 use samples::hello::*;
@@ -23,10 +23,10 @@ fn stanzas(alloc: Global, ending: &str) -> Result<Vec<u8>, Fail> {
 }
 
 /// Delivers the .changes and the sidecar of a package, and looks at the list of what waits.
-fn deliver_records(
+fn deliver_records<K: Keeper>(
     rt: &impl Abort,
     alloc: Global,
-    archive: &mut Archive<PlainKeeper>,
+    archive: &mut Archive<K>,
     row: Row<'_>,
 ) -> Result<(), Fail> {
     let changes = changes_of(alloc, row)?;
@@ -41,10 +41,10 @@ fn deliver_records(
 }
 
 /// Delivers the package file, and runs the queue.
-fn complete(
+fn complete<K: Keeper>(
     rt: &impl Abort,
     alloc: Global,
-    archive: &mut Archive<PlainKeeper>,
+    archive: &mut Archive<K>,
     row: Row<'_>,
 ) -> Result<(), Fail> {
     let name = named(alloc, "", row, "deb")?;
@@ -53,18 +53,30 @@ fn complete(
     expect_run(rt, alloc, archive, &[accepted.as_str()])
 }
 
-/// Hands over the uploads, the last name first, and copies each tenth package.
-fn hand_over(
+/// Copies a package, of which the other suite has nothing yet.
+fn copy_new<K: Keeper>(
     rt: &impl Abort,
     alloc: Global,
-    archive: &mut Archive<PlainKeeper>,
+    archive: &mut Archive<K>,
+    package: &str,
+) -> Result<(), Fail> {
+    let items = archive.copy(alloc, "box", "lab", package, MOMENT)?;
+    assert_eq!(rt; items, 1, "{package}");
+    Ok(())
+}
+
+/// Hands over the uploads, the last name first, and copies each tenth package.
+fn hand_over<K: Keeper>(
+    rt: &impl Abort,
+    alloc: Global,
+    archive: &mut Archive<K>,
 ) -> Result<(), Fail> {
     for line in TABLE.lines().rev() {
         let row = row_of(line);
         deliver_records(rt, alloc, archive, row)?;
         complete(rt, alloc, archive, row)?;
         if row.package.ends_with('0') {
-            assert_eq!(rt; archive.copy(alloc, "box", "lab", row.package, MOMENT)?, 1);
+            copy_new(rt, alloc, archive, row.package)?;
         }
     }
     Ok(())

@@ -1,6 +1,7 @@
 //! Stories of sources, equal versions, components and packages for all architectures.
 
 use super::fixtures::*;
+use crate::made::Made;
 use keep::{Keeper, PlainKeeper};
 use keep_tables::TableKeeper;
 use queue::Archive;
@@ -38,7 +39,7 @@ fn expect_nothing<K: Keeper>(
 }
 
 /// A second version may leave out a tarball that the pool has; the pool then has exactly the files of that version.
-fn a_second_version_keeps_the_old_tarball_over<K: Made>(
+fn a_second_version_keeps_the_old_tarball_over<K: Made + Keeper>(
     rt: &impl Abort,
     alloc: Global,
 ) -> Result<(), Fail> {
@@ -77,7 +78,7 @@ fn a_second_version_keeps_the_old_tarball_in_tables(rt: HostRuntime) -> Result<(
 }
 
 /// Each upload of a run is judged against what the one before left: the tarball of 1.0 is gone once 2.0 is shown.
-fn the_pool_is_as_the_upload_before_left_it_over<K: Made>(
+fn the_pool_is_as_the_upload_before_left_it_over<K: Made + Keeper>(
     rt: &impl Abort,
     alloc: Global,
 ) -> Result<(), Fail> {
@@ -107,7 +108,7 @@ fn the_pool_is_as_the_upload_before_left_it_in_tables(rt: HostRuntime) -> Result
 }
 
 /// Of equal versions the first admitted stays: neither index nor date changes, and the pool has no file of the other.
-fn of_equal_versions_the_first_stays_over<K: Made>(
+fn of_equal_versions_the_first_stays_over<K: Made + Keeper>(
     rt: &impl Abort,
     alloc: Global,
 ) -> Result<(), Fail> {
@@ -143,7 +144,10 @@ fn of_equal_versions_the_first_stays_in_tables(rt: HostRuntime) -> Result<(), Fa
 
 /// A package for all architectures stands in each index of its component; a source that begins with lib has a folder
 /// of four letters, unless lib is the whole name.
-fn all_stands_in_both_indexes_over<K: Made>(rt: &impl Abort, alloc: Global) -> Result<(), Fail> {
+fn all_stands_in_both_indexes_over<K: Made + Keeper>(
+    rt: &impl Abort,
+    alloc: Global,
+) -> Result<(), Fail> {
     let mut archive = archive_of::<K>(alloc, DUO)?;
     deliver_all(alloc, &mut archive, &LIBX, None)?;
     deliver_all(alloc, &mut archive, &LIB, None)?;
@@ -187,7 +191,10 @@ fn all_stands_in_both_indexes_in_tables(rt: HostRuntime) -> Result<(), Fail> {
 }
 
 /// A section before a slash names the component.
-fn each_component_has_its_index_over<K: Made>(rt: &impl Abort, alloc: Global) -> Result<(), Fail> {
+fn each_component_has_its_index_over<K: Made + Keeper>(
+    rt: &impl Abort,
+    alloc: Global,
+) -> Result<(), Fail> {
     let mut archive = archive_of::<K>(alloc, TWO_COMPONENTS)?;
     deliver_all(alloc, &mut archive, &EXTRA, None)?;
     expect_run(

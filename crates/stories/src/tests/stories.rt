@@ -1,7 +1,8 @@
 //! Stories of deliveries and runs.
 
 use super::fixtures::*;
-use keep::PlainKeeper;
+use crate::made::Made;
+use keep::{Keeper, PlainKeeper};
 use keep_tables::TableKeeper;
 use queue::Arrived::{Again, New};
 use queue::Fault;
@@ -12,7 +13,7 @@ use std::process::Abort;
 use std::test::Fail;
 
 /// An upload whose three files arrive is accepted, and its package is in the index.
-fn hello_is_accepted_over<K: Made>(rt: &impl Abort, alloc: Global) -> Result<(), Fail> {
+fn hello_is_accepted_over<K: Made + Keeper>(rt: &impl Abort, alloc: Global) -> Result<(), Fail> {
     let mut archive = fresh::<K>(alloc)?;
     let changes = changes(alloc, ABC)?;
     expect_bytes(rt, alloc, &mut archive, PACKAGES, b"")?;
@@ -47,7 +48,10 @@ fn hello_is_accepted_in_tables(rt: HostRuntime) -> Result<(), Fail> {
 }
 
 /// Release has the prints of the other indices, and the moment at which what the suite shows last changed.
-fn release_follows_the_indices_over<K: Made>(rt: &impl Abort, alloc: Global) -> Result<(), Fail> {
+fn release_follows_the_indices_over<K: Made + Keeper>(
+    rt: &impl Abort,
+    alloc: Global,
+) -> Result<(), Fail> {
     let mut archive = fresh::<K>(alloc)?;
     let changes = changes(alloc, ABC)?;
     expect_bytes(rt, alloc, &mut archive, RELEASE, EMPTY_RELEASE)?;
@@ -84,7 +88,7 @@ fn release_follows_the_indices_in_tables(rt: HostRuntime) -> Result<(), Fail> {
 }
 
 /// The order of the files and how often each comes make no difference.
-fn reverse_order_twice_over<K: Made>(rt: &impl Abort, alloc: Global) -> Result<(), Fail> {
+fn reverse_order_twice_over<K: Made + Keeper>(rt: &impl Abort, alloc: Global) -> Result<(), Fail> {
     let mut archive = fresh::<K>(alloc)?;
     let changes = changes(alloc, ABC)?;
     deliver(rt, alloc, &mut archive, CONTROL_NAME, CONTROL, New)?;
@@ -127,7 +131,7 @@ fn reverse_order_twice_in_tables(rt: HostRuntime) -> Result<(), Fail> {
 }
 
 /// Of several bodies under one name the listed one counts, whichever came first.
-fn a_wrong_body_hides_no_right_one_over<K: Made>(
+fn a_wrong_body_hides_no_right_one_over<K: Made + Keeper>(
     rt: &impl Abort,
     alloc: Global,
 ) -> Result<(), Fail> {
@@ -169,7 +173,7 @@ fn a_wrong_body_hides_no_right_one_in_tables(rt: HostRuntime) -> Result<(), Fail
 }
 
 /// A body of another size, or of that size with other digests, never completes an upload.
-fn a_wrong_body_completes_nothing_over<K: Made>(
+fn a_wrong_body_completes_nothing_over<K: Made + Keeper>(
     rt: &impl Abort,
     alloc: Global,
 ) -> Result<(), Fail> {
@@ -206,7 +210,7 @@ fn a_wrong_body_completes_nothing_in_tables(rt: HostRuntime) -> Result<(), Fail>
 }
 
 /// An upload is judged once, also where its files come again.
-fn a_redelivered_upload_is_not_judged_again_over<K: Made>(
+fn a_redelivered_upload_is_not_judged_again_over<K: Made + Keeper>(
     rt: &impl Abort,
     alloc: Global,
 ) -> Result<(), Fail> {
@@ -242,7 +246,7 @@ fn a_redelivered_upload_is_not_judged_again_in_tables(rt: HostRuntime) -> Result
 }
 
 /// Of two uploads that want other contents at one path of the pool, the first in the order of names is accepted.
-fn other_contents_at_a_path_are_refused_over<K: Made>(
+fn other_contents_at_a_path_are_refused_over<K: Made + Keeper>(
     rt: &impl Abort,
     alloc: Global,
 ) -> Result<(), Fail> {
@@ -274,7 +278,10 @@ fn other_contents_at_a_path_are_refused_in_tables(rt: HostRuntime) -> Result<(),
 }
 
 /// A body has at most 4194304 bytes, and a name is a file name.
-fn names_and_sizes_of_deliveries_over<K: Made>(rt: &impl Abort, alloc: Global) -> Result<(), Fail> {
+fn names_and_sizes_of_deliveries_over<K: Made + Keeper>(
+    rt: &impl Abort,
+    alloc: Global,
+) -> Result<(), Fail> {
     let mut archive = fresh::<K>(alloc)?;
     let longest = vec![in alloc; 0u8; 4_194_304]?;
     let longer = vec![in alloc; 0u8; 4_194_305]?;

@@ -1,7 +1,8 @@
 //! Each verdict, by an upload that is right but for it.
 
 use super::fixtures::*;
-use keep::PlainKeeper;
+use crate::made::Made;
+use keep::{Keeper, PlainKeeper};
 use keep_tables::TableKeeper;
 use samples::hello::*;
 use samples::uploads::*;
@@ -77,7 +78,10 @@ const ROWS: [Row; 10] = [
     },
 ];
 
-fn each_verdict_by_one_upload_over<K: Made>(rt: &impl Abort, alloc: Global) -> Result<(), Fail> {
+fn each_verdict_by_one_upload_over<K: Made + Keeper>(
+    rt: &impl Abort,
+    alloc: Global,
+) -> Result<(), Fail> {
     for row in ROWS {
         let mut archive = archive_of::<K>(alloc, row.config)?;
         deliver_all(alloc, &mut archive, row.upload, None)?;
@@ -97,7 +101,10 @@ fn each_verdict_by_one_upload_in_tables(rt: HostRuntime) -> Result<(), Fail> {
 }
 
 /// An upload that is right, but whose package file has a path where the pool holds other contents.
-fn a_taken_path_is_refused_later_over<K: Made>(rt: &impl Abort, alloc: Global) -> Result<(), Fail> {
+fn a_taken_path_is_refused_later_over<K: Made + Keeper>(
+    rt: &impl Abort,
+    alloc: Global,
+) -> Result<(), Fail> {
     let mut archive = fresh::<K>(alloc)?;
     deliver_all(alloc, &mut archive, &HELLO, None)?;
     expect_run(
