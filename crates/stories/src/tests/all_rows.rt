@@ -1,0 +1,65 @@
+//! All rows of a database, read at once.
+
+use sqlite::{Alter, Connection, Error, params};
+use std::alloc::Global;
+use std::test::Fail;
+use sums::print_of;
+use tables::arrivals::insert_arrival;
+use tables::bodies::insert_body;
+use tables::meta::insert_meta;
+use tables::pieces::insert_piece;
+use tables::schema::create_tables;
+use tables_read::read_all;
+
+// These have no clause, so that the proof of a test does not carry the state of each call.
+fn make<S: Alter>(conn: &mut Connection<S>, count: u64) -> Result<(), Error> {
+    if !conn.is_autocommit() {
+        return Ok(());
+    }
+    let mut tx = conn.transaction();
+    create_tables(&mut tx)?;
+    insert_meta(&mut tx, 3, b"Codename: box\n")?;
+    for _ in 0..count {
+        let text = tx.query_all("SELECT count(*) FROM bodies", &[])?;
+        let Some(row) = text.first() else {
+            return Ok(());
+        };
+        let n: u64 = row.get(0)?;
+        let bytes = n.to_le_bytes();
+        let id = insert_body(&mut tx, &print_of(&bytes))?;
+        insert_piece(&mut tx, id, 1, &bytes)?;
+        insert_arrival(&mut tx, "a", id, 5)?;
+    }
+    tx.commit()
+}
+
+fn run<S: Alter>(conn: &mut Connection<S>, sql: &str) -> Result<(), Error> {
+    conn.execute(sql, &[])?;
+    Ok(())
+}
+
+fn counts<S: Alter>(
+    alloc: Global,
+    conn: &mut Connection<S>,
+) -> Result<Option<(usize, usize)>, Error> {
+    match read_all(alloc, conn)? {
+        Some(all) => Ok(Some((all.bodies.len(), all.dates.len()))),
+        None => Ok(None),
+    }
+}
+
+#[test]
+fn rows_are_read(rt: HostRuntime) -> Result<(), Fail> {
+    let alloc = rt.alloc();
+    let mut conn = Connection::open_in_memory(alloc)?;
+    make(&mut conn, 20)?;
+    assert!(rt; counts(alloc, &mut conn)? == Some((20, 0)));
+    run(
+        &mut conn,
+        "INSERT INTO dates (rowid, suite, moment) VALUES (7, 'box', 5)",
+    )?;
+    assert!(rt; counts(alloc, &mut conn)? == Some((20, 1)));
+    run(&mut conn, "UPDATE dates SET rowid = -7")?;
+    assert!(rt; counts(alloc, &mut conn)? == None);
+    Ok(())
+}

@@ -1,0 +1,119 @@
+//! Rows of metadata, texts and dates.
+
+use sqlite::{Alter, Connection, Error, Transaction};
+use std::alloc::Global;
+use std::test::Fail;
+use tables::dates::{insert_date, select_date, select_dates, update_date};
+use tables::meta::{insert_meta, select_meta};
+use tables::schema::create_tables;
+use tables::texts::{insert_text, select_text, select_texts, update_text};
+
+// These have no clause, so that the proof of a test does not carry the state of each call.
+fn fill<S: Alter>(tx: &mut Transaction<'_, S>) -> Result<(), Error> {
+    insert_meta(tx, 3, b"Codename: box\n")?;
+    insert_text(tx, "a/Release", b"one")?;
+    insert_text(tx, "b/Release", b"two")?;
+    insert_date(tx, "box", 4_102_444_799)
+}
+
+fn change<S: Alter>(tx: &mut Transaction<'_, S>) -> Result<(), Error> {
+    update_text(tx, "b/Release", b"three")?;
+    update_text(tx, "c/Release", b"four")?;
+    update_date(tx, "box", 0)
+}
+
+fn make<S: Alter>(conn: &mut Connection<S>) -> Result<(), Error> {
+    if !conn.is_autocommit() {
+        return Ok(());
+    }
+    let mut tx = conn.transaction();
+    create_tables(&mut tx)?;
+    fill(&mut tx)?;
+    tx.commit()
+}
+
+fn amend<S: Alter>(conn: &mut Connection<S>) -> Result<(), Error> {
+    if !conn.is_autocommit() {
+        return Ok(());
+    }
+    let mut tx = conn.transaction();
+    change(&mut tx)?;
+    tx.commit()
+}
+
+/// Adds a text twice; the transaction is left behind.
+fn add_twice<S: Alter>(conn: &mut Connection<S>) -> Result<(), Error> {
+    if !conn.is_autocommit() {
+        return Ok(());
+    }
+    let mut tx = conn.transaction();
+    insert_text(&mut tx, "d/Release", b"five")?;
+    insert_text(&mut tx, "d/Release", b"six")
+}
+
+fn text<S: Alter>(
+    alloc: Global,
+    conn: &mut Connection<S>,
+    path: &str,
+) -> Result<Option<Vec<u8>>, Error> {
+    Ok(select_text(alloc, conn, path)?.map(|text| text.body.into_vec()))
+}
+
+fn moment<S: Alter>(
+    alloc: Global,
+    conn: &mut Connection<S>,
+    suite: &str,
+) -> Result<Option<u64>, Error> {
+    Ok(select_date(alloc, conn, suite)?.map(|date| date.moment))
+}
+
+fn counts<S: Alter>(alloc: Global, conn: &mut Connection<S>) -> Result<(usize, usize), Error> {
+    let texts = select_texts(alloc, conn)?.len();
+    let dates = select_dates(alloc, conn)?.len();
+    Ok((texts, dates))
+}
+
+fn version<S: Alter>(alloc: Global, conn: &mut Connection<S>) -> Result<Option<u64>, Error> {
+    Ok(select_meta(alloc, conn)?.map(|meta| meta.version))
+}
+
+#[test]
+fn rows_are_kept_and_changed(rt: HostRuntime) -> Result<(), Fail> {
+    let alloc = rt.alloc();
+    let mut conn = Connection::open_in_memory(alloc)?;
+    make(&mut conn)?;
+    assert_eq!(rt; version(alloc, &mut conn)?, Some(3));
+    assert_eq!(rt; counts(alloc, &mut conn)?, (2, 1));
+    assert_eq!(rt;
+        text(alloc, &mut conn, "a/Release")?.as_deref(),
+        Some(b"one".as_slice())
+    );
+    assert_eq!(rt; moment(alloc, &mut conn, "box")?, Some(4_102_444_799));
+    amend(&mut conn)?;
+    assert_eq!(rt; counts(alloc, &mut conn)?, (2, 1));
+    assert_eq!(rt;
+        text(alloc, &mut conn, "b/Release")?.as_deref(),
+        Some(b"three".as_slice())
+    );
+    assert_eq!(rt; text(alloc, &mut conn, "c/Release")?.as_deref(), None);
+    assert_eq!(rt; moment(alloc, &mut conn, "box")?, Some(0));
+    Ok(())
+}
+
+#[test]
+fn a_path_comes_once(rt: HostRuntime) -> Result<(), Fail> {
+    let alloc = rt.alloc();
+    let mut conn = Connection::open_in_memory(alloc)?;
+    make(&mut conn)?;
+    assert!(rt; add_twice(&mut conn).is_err());
+    assert_eq!(rt; counts(alloc, &mut conn)?, (2, 1));
+    Ok(())
+}
+
+#[test]
+fn tables_are_made_once(rt: HostRuntime) -> Result<(), Fail> {
+    let mut conn = Connection::open_in_memory(rt.alloc())?;
+    make(&mut conn)?;
+    assert!(rt; make(&mut conn).is_err());
+    Ok(())
+}
