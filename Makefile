@@ -1,5 +1,5 @@
 # try: the main job on stored files; build: prove and build the program; install: copy it to PREFIX/bin; test: the gate,
-# and the test of tools/with_sidecars.
+# the test of tools/with_sidecars, and one of database files with SQLite itself.
 PREFIX ?= /usr/local
 STORED = crates/archive/data
 PROGRAM = crates/archive/out/archive
@@ -18,3 +18,4 @@ install: build
 test:
 	rt ci
 	python3 tools/test_with_sidecars.py -v
+	python3 tools/test_database.py -v
