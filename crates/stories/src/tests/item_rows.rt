@@ -124,6 +124,7 @@ fn body_at<S: Alter>(
     Ok(file_at(alloc, conn, path)?.map(|file| file.body))
 }
 
+/// An item is found under its suite, kind, name and architecture, and is removed with its files.
 #[test]
 fn items_are_found_and_removed(rt: HostRuntime) -> Result<(), Fail> {
     let alloc = rt.alloc();
@@ -139,6 +140,7 @@ fn items_are_found_and_removed(rt: HostRuntime) -> Result<(), Fail> {
     Ok(())
 }
 
+/// A second item of one suite, kind, name and architecture is refused, and the rows stay.
 #[test]
 fn a_suite_shows_one_item_under_a_name(rt: HostRuntime) -> Result<(), Fail> {
     let alloc = rt.alloc();
@@ -149,6 +151,7 @@ fn a_suite_shows_one_item_under_a_name(rt: HostRuntime) -> Result<(), Fail> {
     Ok(())
 }
 
+/// An item whose files are there is not removed, and the rows stay.
 #[test]
 fn an_item_goes_after_its_files(rt: HostRuntime) -> Result<(), Fail> {
     let alloc = rt.alloc();

@@ -77,6 +77,7 @@ fn version<S: Alter>(alloc: Global, conn: &mut Connection<S>) -> Result<Option<u
     Ok(select_meta(alloc, conn)?.map(|meta| meta.version))
 }
 
+/// Rows are read as they were put in, and as they were changed.
 #[test]
 fn rows_are_kept_and_changed(rt: HostRuntime) -> Result<(), Fail> {
     let alloc = rt.alloc();
@@ -100,6 +101,7 @@ fn rows_are_kept_and_changed(rt: HostRuntime) -> Result<(), Fail> {
     Ok(())
 }
 
+/// A second row of one path is refused, and the rows stay.
 #[test]
 fn a_path_comes_once(rt: HostRuntime) -> Result<(), Fail> {
     let alloc = rt.alloc();
@@ -110,6 +112,7 @@ fn a_path_comes_once(rt: HostRuntime) -> Result<(), Fail> {
     Ok(())
 }
 
+/// Tables that are there are not made again.
 #[test]
 fn tables_are_made_once(rt: HostRuntime) -> Result<(), Fail> {
     let mut conn = Connection::open_in_memory(rt.alloc())?;
