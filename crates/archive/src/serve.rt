@@ -21,6 +21,16 @@ pub struct Patience {
 /// The most bytes that are read behind a reply.
 const MOST_DRAINED: u32 = 4_194_304;
 
+/// How many bytes the allocator is to keep between two replies: what the largest takes.
+const ROOM: usize = 16_777_216;
+
+/// Has the allocator keep the memory of a reply for the next. The C library's gives back what lies free at the end of its
+/// memory, if that is more than twice the largest piece that was ever given back to it; taken anew for each reply it costs
+/// more than the reply.
+fn keep_room(alloc: Global) {
+    let _ = Vec::<u8>::with_capacity(alloc, ROOM);
+}
+
 /// Answers so many connections of a listener, one after the other, each at the moment, in seconds since 1970-01-01
 /// 00:00:00 UTC. A client that is silent for 30 seconds loses its connection. A connection that fails counts, and the
 /// next is answered. It ends early only where one can't be accepted.
@@ -35,6 +45,7 @@ pub fn serve<'a, R: Clock + AllocGlobal, K: Keeper>(
         silence: Duration::from_secs(30),
         parting: Duration::from_secs(2),
     };
+    keep_room(rt.alloc());
     serve_within(rt, archive, listener, count, moment, patience)
 }
 
