@@ -1,12 +1,11 @@
 -- The lists of an upload to which no row of the verdicts 6, 8 and 9 applies.
-use Rattle.std.proofs.Common.{◌≡◌, ◌≢◌, ℕ, Bool, true, false, not, ◌||◌, List, [], ◌++◌, filter, codes, bytes_eq, Option, Some, None, option_map, option_to_list, Result, Ok, refl, sym, ap, ◌∙◌, subst, arith}
+use Rattle.std.proofs.Common.{◌≡◌, ◌≢◌, ℕ, Bool, true, false, not, ◌||◌, List, [], filter, codes, bytes_eq, Option, Some, None, option_map, option_to_list, Result, Ok, refl, sym, ap, ◌∙◌, subst, arith}
 use Rattle.std.specs.Prelude.{All, AllPairs, Contains}
 use Rattle.std.specs.List.{list_any, list_all}
 use Rattle.std.specs.Option.{option_map_or}
 use Rattle.std.proofs.lemmas.List.Elements.{All-head}
 use Rattle.records.specs.Records.{dsc_in}
 use Rattle.records.specs.Values.{ChangesValue, DscValue}
-use Rattle.vers.specs.Syntax.{without_epoch}
 use Rattle.sums.proofs.Booleans.{neither, passed}
 use Rattle.sums.proofs.Members.{here, there, no_member, any_false, all_true, by_name}
 use Rattle.sums.specs.Prints.{same_print}
@@ -14,7 +13,7 @@ use Rattle.sums.specs.declared.entries.Entry.{Entry}
 use Rattle.suites.specs.Judging.{part_of}
 use Rattle.suites.specs.Shelves.{ShelvesValue, pool}
 use Rattle.suites.specs.Upload.{UploadValue, Part, parts, parts_with, dsc_parts, has_suffix, entry_named}
-use Rattle.suites.specs.Verdict.{by_print, match_ok, differs_from_dsc, has_bad_dsc, has_entry, is_package_part, is_missing_file, is_taken, lacks_source_file, has_other_contents}
+use Rattle.suites.specs.Verdict.{by_print, match_ok, differs_from_dsc, has_bad_dsc, dsc_file, has_entry, is_package_part, is_missing_file, is_taken, lacks_source_file, has_other_contents}
 use Rattle.suites.specs.declared.items.SourcePart.{SourcePart}
 use Rattle.suites.proofs.ListMembers.{from_filter, to_filter, from_zip}
 use Rattle.suites.proofs.ListedFiles.{dsc_entries, IsDscListed, IsListedDsc}
@@ -24,14 +23,14 @@ use Rattle.suites.proofs.Suffixes.{dsc-no_sidecar, plain-no_sidecar}
 use Rattle.suites.proofs.UploadFiles.{ListsAgree, entry_named-Contains}
 use Rattle.suites.proofs.UploadItems.{IsRead}
 
-at_ok : {V E : Type 0} (test : V → Bool) (v : V) (r : Result V E) → r ≡ Ok v → match_ok r test ≡ false → test v ≡ false
+pub at_ok : {V E : Type 0} (test : V → Bool) (v : V) (r : Result V E) → r ≡ Ok v → match_ok r test ≡ false → test v ≡ false
 at_ok test v r e h = ap (λ r. match_ok r test) (sym e) ∙ h
 
 -- the .dsc is of another source or version, or of another name
 abbrev is_other_dsc : ChangesValue → List ℕ → DscValue → Bool
 is_other_dsc c name d =
     not (bytes_eq d.source c.source) || not (bytes_eq d.version c.version)
-    || not (bytes_eq name (d.source ++ codes "_" ++ without_epoch d.version ++ codes ".dsc"))
+    || not (bytes_eq name (dsc_file d))
 
 abbrev lists_part : DscValue → Bool
 lists_part d = list_any (λ e. is_package_part e.name) d.entries

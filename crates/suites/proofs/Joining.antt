@@ -31,12 +31,13 @@ use Rattle.suites.proofs.UploadItems.{items_from_parts, source_items, binary_ite
 
 -- ---- no row applies
 
-row_passed : (b : Bool) (v rest : Verdict) → number_of v ≢ 0 → cond b v rest ≡ verdict.Accepted → (b ≡ false) × (rest ≡ verdict.Accepted)
+pub row_passed : (b : Bool) (v rest : Verdict) → number_of v ≢ 0 → cond b v rest ≡ verdict.Accepted → (b ≡ false) × (rest ≡ verdict.Accepted)
 row_passed true v rest refusal e = absurd (refusal (ap number_of e))
 row_passed false v rest refusal e = (refl, e)
 
--- no row of the verdicts 6 to 9 applies
+-- no row of the verdicts 5 to 9 applies
 pub record NoRowApplies (shelves : ShelvesValue) (u : UploadValue) : Type 0 where
+  pub listing : has_bad_listing u.changes ≡ false
   pub dsc : has_bad_dsc u ≡ false
   pub sidecar : has_bad_sidecar u ≡ false
   pub missing : lacks_source_file by_print (pool shelves) u ≡ false
@@ -49,7 +50,7 @@ no_row_applies shelves u h =
     let sidecar = row_passed (has_bad_sidecar u) verdict.BadSidecar _ (λ e. absurd (omega (arith, e))) dsc.1 in
     let missing = row_passed (lacks_source_file by_print (pool shelves) u) verdict.NotInPool _ (λ e. absurd (omega (arith, e))) sidecar.1 in
     let taken = row_passed (has_other_contents by_print (pool shelves) u) verdict.OtherContents verdict.Accepted (λ e. absurd (omega (arith, e))) missing.1 in
-    record { dsc = dsc.0; sidecar = sidecar.0; missing = missing.0; taken = taken.0 }
+    record { listing = listing.0; dsc = dsc.0; sidecar = sidecar.0; missing = missing.0; taken = taken.0 }
 
 no_twins : (u : UploadValue) (binaries : List BinaryPart) → sidecar_parts u ≡ map (λ b. part_of b.part) binaries → All (λ b. sidecar_in b.part.text.now ≡ Ok b.sidecar) binaries
     → has_bad_sidecar u ≡ false → have_twins (map (λ b. b.sidecar) binaries) ≡ false

@@ -39,3 +39,6 @@ pub mod FileMembers
 pub mod PoolStep
 pub mod AdmissionStep
 pub mod CopyLemmas
+pub mod AcceptedRows
+pub mod AcceptedParts
+pub mod ToldLemmas

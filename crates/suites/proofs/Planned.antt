@@ -20,7 +20,7 @@ use Rattle.suites.proofs.Unchanged.{shown_again, no_step}
 
 -- ---- the verdict
 
-abbrev Refuses : Row → Type 0
+abbrev pub Refuses : Row → Type 0
 Refuses row = row.1 ≢ verdict.Accepted
 
 refuses : (v : Verdict) → number_of v ≢ 0 → v ≢ verdict.Accepted
@@ -37,7 +37,7 @@ rows_refuse : (c : ChangesValue) (found : Option Suite) → AllByRecursion Refus
 rows_refuse c None = tt
 rows_refuse c (Some s) = suite_rows_refuse s c
 
-rule_rows_refuse : (config : ConfigValue) (c : ChangesValue) → AllByRecursion Refuses (rule_rows config c)
+pub rule_rows_refuse : (config : ConfigValue) (c : ChangesValue) → AllByRecursion Refuses (rule_rows config c)
 rule_rows_refuse config c = (refuses verdict.Unclaimed (λ e. absurd (omega (arith, e))), rows_refuse c (suite_of config c))
 
 after_row : (b : Bool) (v rest all last : Verdict) → v ≢ verdict.Accepted → cond b v rest ≡ verdict.Accepted → (rest ≡ verdict.Accepted → all ≡ last) → cond b v all ≡ last

@@ -17,7 +17,6 @@ use Rattle.sums.specs.declared.entries.Entry.{Entry}
 use Rattle.sums.specs.declared.print.Print.{Print}
 use Rattle.suites.specs.Judging.{part_of, is_bad_dsc, is_bad_sidecar, IsSourcePart, IsBinaryPart, AreBinaryParts, IsSource, AreBinaries, AreParts}
 use Rattle.suites.specs.Pool.{PoolWith}
-use Rattle.suites.specs.Shelves.{pool}
 use Rattle.suites.specs.Upload.{UploadValue, Part, has_suffix, parts_with, dsc_parts, sidecar_parts}
 use Rattle.suites.specs.Verdict.{names_of, names_with, has_source, has_bad_listing, match_ok, has_bad_dsc, have_twins, has_bad_sidecar, is_missing_file, lacks_source_file, is_taken, has_other_contents, by_print, upload_rows}
 use Rattle.suites.specs.declared.items.SourcePart.{SourcePart}
@@ -95,7 +94,7 @@ few_step : (b : Bool) (n : List ℕ) (p : Part) (ps : List Part) (ns : List (Lis
 few_step true n p ps ns h = omega arith
 few_step false n p ps ns h = h
 
-few : (suffix : List ℕ) (entries : List Entry) (texts : List (List ℕ))
+pub few : (suffix : List ℕ) (entries : List Entry) (texts : List (List ℕ))
     → length (filter (λ (p : Part). has_suffix suffix p.0.name) (zip entries texts)) ≤ length (filter (has_suffix suffix) (names_of entries))
 few suffix [] texts = omega arith
 few suffix (e ∷ es) [] = omega arith

@@ -1,5 +1,5 @@
 -- The names that a .changes lists.
-use Rattle.std.proofs.Common.{◌≡◌, ℕ, ◌-◌, Bool, not, ◌&&◌, ◌||◌, List, ◌++◌, length, refl, sym, ap, ◌∙◌, arith}
+use Rattle.std.proofs.Common.{◌≡◌, ℕ, Bool, not, ◌&&◌, ◌||◌, List, ◌++◌, length, refl, sym, ap, ◌∙◌, arith}
 use Rattle.std.proofs.lemmas.Bool.{and_parts, and_from}
 use Rattle.std.proofs.lemmas.Bool.Decides.{same_from_decides, Decides-eqb}
 use Rattle.std.proofs.lemmas.Grind.{common_steps}
@@ -40,11 +40,11 @@ pub paired : (suffix other : List ℕ) (entries : List Entry)
 unfolding are_among
 paired suffix other entries = sym (all_stems suffix entries (is_among (stems other entries)))
 
-front_of_joined : (suffix front name : List ℕ) → name ≡ front ++ suffix → front ≡ stem suffix name
+pub front_of_joined : (suffix front name : List ℕ) → name ≡ front ++ suffix → front ≡ stem suffix name
 front_of_joined suffix front name e = rw e (grind (arith, common_steps))
 
 -- a name is a front and then a suffix
-joined : (suffix front name : List ℕ) → (has_suffix suffix name && bytes_eq front (stem suffix name)) ≡ bytes_eq name (front ++ suffix)
+pub joined : (suffix front name : List ℕ) → (has_suffix suffix name && bytes_eq front (stem suffix name)) ≡ bytes_eq name (front ++ suffix)
 unfolding has_suffix
 joined suffix front name =
     let ends = ends_is Decides-eqb name suffix (has_suffix suffix name) refl in

@@ -13,3 +13,4 @@ pub mod Plan
 pub mod Applying
 pub mod Admission
 pub mod PoolChange
+pub mod Told

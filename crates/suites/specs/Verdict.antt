@@ -1,6 +1,6 @@
 -- The verdict on an upload, given the configuration and the pool. Contents of files are bodies in the plain archive, and
 -- prints in the program; each definition is for both.
-use Rattle.std.specs.Prelude.{◌≡◌, ℕ, ◌==◌, nat_lt, Bool, true, false, not, ◌&&◌, ◌||◌, if◌then◌else◌, List, [], ◌∷◌, ◌++◌, length, map, filter, codes, bytes_eq, Option, Result, Ok, Err, is_some, filter_map}
+use Rattle.std.specs.Prelude.{ℕ, ◌==◌, nat_lt, Bool, true, false, not, ◌&&◌, ◌||◌, if◌then◌else◌, List, [], ◌∷◌, ◌++◌, length, map, filter, codes, bytes_eq, Result, Ok, Err, is_some, filter_map}
 use Rattle.std.specs.Result.{result_ok}
 use Rattle.std.specs.Option.{option_map_or}
 use Rattle.std.specs.List.{list_any, list_all}
@@ -18,7 +18,7 @@ use Rattle.rules.specs.declared.verdict.Verdict.{Verdict}
 use Rattle.rules.specs.declared.verdict.Verdict.TheVariants as verdict
 use Rattle.suites.specs.Pool.{PoolWith, pool_path}
 use Rattle.suites.specs.Shelves.{ShelvesValue, pool}
-use Rattle.suites.specs.Upload.{UploadValue, Part, has_suffix, stem, dsc_parts, sidecar_parts, entry_named}
+use Rattle.suites.specs.Upload.{UploadValue, has_suffix, stem, dsc_parts, sidecar_parts, entry_named}
 
 abbrev pub names_of : List Entry → List (List ℕ)
 names_of entries = map (λ e. e.name) entries
@@ -56,11 +56,15 @@ has_bad_listing c =
 unfoldable pub has_entry : List Entry → Entry → Bool
 has_entry entries e = option_map_or (λ f. same_print f.print e.print) (entry_named e.name entries) false
 
+-- the name of a .dsc by its own fields, with the version without its epoch (Policy 5.6.12)
+abbrev pub dsc_file : DscValue → List ℕ
+dsc_file d = d.source ++ codes "_" ++ without_epoch d.version ++ codes ".dsc"
+
 -- 6. What the .dsc says is not what the .changes says.
 unfoldable pub differs_from_dsc : ChangesValue → List ℕ → DscValue → Bool
 differs_from_dsc c name d =
     not (bytes_eq d.source c.source) || not (bytes_eq d.version c.version)
-    || not (bytes_eq name (d.source ++ codes "_" ++ without_epoch d.version ++ codes ".dsc"))
+    || not (bytes_eq name (dsc_file d))
     || list_any (λ e. is_package_part e.name) d.entries
     || not (list_all (has_entry d.entries) (filter (λ e. not (is_package_part e.name)) c.entries))
 

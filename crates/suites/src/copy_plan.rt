@@ -4,6 +4,7 @@ ghost use Rattle.std.specs.Prelude.{◌≡◌, ◌<◌, [], ◌∷◌, ◌++◌,
 ghost use Rattle.std.specs.FinMap.{entries};
 ghost use Rattle.rules.specs.declared.verdict.Verdict.TheVariants as verdict;
 ghost use Rattle.suites.specs.Plan.{IsStep, after_copy, is_copied as copies};
+ghost use Rattle.suites.specs.Told.{AreTold};
 
 use crate::admission::plan_admission;
 use crate::item::Item;
@@ -74,6 +75,7 @@ pub fn plan_copy(
     requires to { to < length config.now.suites }
     ensures verdict { IfOk result (λ plan. plan.verdict ≡ verdict.Accepted) }
     ensures step { IfOk result (IsStep shelves.now (after_copy config.now shelves.now from to source.now)) }
+    ensures told { AreTold config.now.suites shelves.now → AreTold config.now.suites (after_copy config.now shelves.now from to source.now) }
 {
     shelves.agree();
     let target = &config.suites()[to];

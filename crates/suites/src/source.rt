@@ -1,9 +1,8 @@
 //! What the .dsc and the sidecars of an upload have to say.
 
-ghost use Rattle.std.specs.Prelude.{◌≡◌, ◌++◌, ◌||◌, not, codes, filter, string_bytes, IfOk};
+ghost use Rattle.std.specs.Prelude.{◌≡◌, ◌||◌, not, filter, string_bytes, IfOk};
 ghost use Rattle.std.specs.List.{list_any, list_all};
-ghost use Rattle.vers.specs.Syntax.{without_epoch};
-ghost use Rattle.suites.specs.Verdict.{is_package_part as is_package_part_name, has_entry, sidecar_file, differs_from_dsc, differs_from_sidecar, is_same_package};
+ghost use Rattle.suites.specs.Verdict.{is_package_part as is_package_part_name, has_entry, dsc_file, sidecar_file, differs_from_dsc, differs_from_sidecar, is_same_package};
 
 use crate::listing::{has_architecture, is_package_part, lists};
 use records::{Changes, Dsc, Sidecar};
@@ -35,7 +34,7 @@ fn has_source_files(entries: &[Entry], listed: &[Entry]) -> bool
 
 /// The name that the .dsc has by its own fields, `SOURCE_VERSION.dsc`, with the version without its epoch.
 fn dsc_name(alloc: Global, dsc: &Dsc) -> Result<String, AllocError>
-    ensures { IfOk result (λ text. string_bytes text ≡ dsc.now.source ++ codes "_" ++ without_epoch dsc.now.version ++ codes ".dsc") }
+    ensures { IfOk result (λ text. string_bytes text ≡ dsc_file dsc.now) }
 {
     let source = dsc.source();
     let version = dsc.version().without_epoch();

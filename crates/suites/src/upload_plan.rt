@@ -7,6 +7,7 @@ ghost use Rattle.suites.specs.Items.{item_of};
 ghost use Rattle.suites.specs.Judging.{AreParts};
 ghost use Rattle.suites.specs.Upload.{items_of as items_given};
 ghost use Rattle.suites.specs.Plan.{IsStep, after_upload};
+ghost use Rattle.suites.specs.Told.{AreTold};
 ghost use Rattle.suites.specs.Verdict.{verdict_on};
 
 use crate::admission::plan_admission;
@@ -63,6 +64,7 @@ pub fn plan_upload(
 ) -> Result<Plan, AllocError>
     ensures verdict { IfOk result (λ plan. plan.verdict ≡ verdict_on config.now shelves.now upload.now) }
     ensures step { IfOk result (IsStep shelves.now (after_upload config.now shelves.now upload.now)) }
+    ensures told { AreTold config.now.suites shelves.now → AreTold config.now.suites (after_upload config.now shelves.now upload.now) }
 {
     upload.lists_once();
     shelves.agree();

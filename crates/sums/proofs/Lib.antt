@@ -13,3 +13,4 @@ pub mod Listing
 pub mod ListedRead
 pub mod Refusals
 pub mod SizesByName
+pub mod DigestLengths

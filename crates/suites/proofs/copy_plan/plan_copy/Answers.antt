@@ -8,6 +8,7 @@ use Rattle.suites.specs.Shelves.{shown_after, version_of}
 use Rattle.suites.specs.declared.item.Item.{Item}
 use Rattle.suites.specs.declared.key.ShelfKey.{ShelfKey}
 use Rattle.suites.proofs.CopyLemmas.{copies_join, copied-is}
+use Rattle.suites.proofs.ToldLemmas.{told_after_copy}
 use Rattle.suites.proofs.copy_plan.plan_copy.Goals as goal
 
 pub plan_admission-requires : goal.plan_admission-requires
@@ -24,3 +25,9 @@ returns-clause-step c =
     (ap (map (standing c.args.to)) c.in_ok-items.ensures
     ∙ sym (copied-is c.args.shelves.now c.args.from c.args.to c.args.source.now c.index-suites-to.result c.args.config.now target))
     c.plan_admission.ensures.step
+
+pub returns-in_err-items-clause-told : goal.returns-in_err-items-clause-told
+returns-in_err-items-clause-told c = told_after_copy c.args.config.now c.args.shelves.now c.args.from c.args.to c.args.source.now
+
+pub returns-clause-told : goal.returns-clause-told
+returns-clause-told c = told_after_copy c.args.config.now c.args.shelves.now c.args.from c.args.to c.args.source.now

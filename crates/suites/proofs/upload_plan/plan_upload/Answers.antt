@@ -1,6 +1,5 @@
-use Rattle.std.proofs.Common.{◌≡◌, ◌∙◌, sym, ap, refl, subst, map, IfOk, Some}
+use Rattle.std.proofs.Common.{◌≡◌, ◌∙◌, sym, ap, subst, map, IfOk}
 use Rattle.rules.specs.Judgement.{rule_rows, IsPlace}
-use Rattle.rules.specs.Suites.{claiming}
 use Rattle.rules.specs.Verdicts.{first_row}
 use Rattle.rules.specs.declared.verdict.Verdict.TheVariants as verdict
 use Rattle.suites.specs.Admission.{MayJoin}
@@ -9,9 +8,9 @@ use Rattle.suites.specs.Judging.{IsJudged}
 use Rattle.suites.specs.Plan.{IsStep, after_upload}
 use Rattle.suites.specs.Shelves.{shown_after, version_of}
 use Rattle.suites.specs.Upload.{items_of}
-use Rattle.suites.specs.Verdict.{verdict_on}
 use Rattle.suites.proofs.Joining.{may_join}
 use Rattle.suites.proofs.Planned.{refused_by_rules, left_to_lists, refused_step, accepted_after}
+use Rattle.suites.proofs.ToldLemmas.{told_after_upload}
 use Rattle.suites.proofs.upload_plan.plan_upload.Goals as goal
 
 pub returns-in-Err-clause-verdict : goal.returns-in-Err-clause-verdict
@@ -68,3 +67,18 @@ returns-in-Refused-clause-step c =
     subst (IsStep c.args.shelves.now (after_upload c.args.config.now c.args.shelves.now c.args.upload.now)) (sym c.unchanged-in-Refused.ensures)
     (refused_step c.args.config.now c.args.shelves.now c.args.upload.now c.in-Refused.verdict c.agree.ensures
     (left_to_lists c.args.config.now c.args.shelves.now c.args.upload.now c.in-Refused.verdict rules judged.0) judged.1)
+
+pub returns-in-Err-clause-told : goal.returns-in-Err-clause-told
+returns-in-Err-clause-told c = told_after_upload c.args.config.now c.args.shelves.now c.args.upload.now c.lists_once.ensures
+
+pub returns-in_err-items-in-Accepted-clause-told : goal.returns-in_err-items-in-Accepted-clause-told
+returns-in_err-items-in-Accepted-clause-told c = told_after_upload c.args.config.now c.args.shelves.now c.args.upload.now c.lists_once.ensures
+
+pub returns-in_ok-items-in-Accepted-clause-told : goal.returns-in_ok-items-in-Accepted-clause-told
+returns-in_ok-items-in-Accepted-clause-told c = told_after_upload c.args.config.now c.args.shelves.now c.args.upload.now c.lists_once.ensures
+
+pub returns-in-Refused-clause-told : goal.returns-in-Refused-clause-told
+returns-in-Refused-clause-told c = told_after_upload c.args.config.now c.args.shelves.now c.args.upload.now c.lists_once.ensures
+
+pub returns-in_err-parts-clause-told : goal.returns-in_err-parts-clause-told
+returns-in_err-parts-clause-told c = told_after_upload c.args.config.now c.args.shelves.now c.args.upload.now c.lists_once.ensures
