@@ -7,7 +7,8 @@ use Rattle.sums.specs.Prints.{print as print_of}
 use Rattle.sums.specs.declared.print.Print.{Print}
 use Rattle.suites.specs.Plan.{IsStep, applied}
 use Rattle.suites.specs.Shelves.{ShelvesValue}
-use Rattle.keep.specs.Book.{Book, Candidate, amended, is_changes_name, due, judgements, text_at}
+use Rattle.suites.specs.Told.{AreTold}
+use Rattle.keep.specs.Book.{Book, Candidate, amended, is_changes_name, due, judgements, shown_past, text_at}
 use Rattle.keep.specs.declared.arrival.Arrival.{Arrival}
 use Rattle.keep.specs.declared.change.Step.{Step}
 use Rattle.keep.specs.declared.change.Change.{Change}
@@ -49,12 +50,13 @@ pub record AreRenewed (old new : Book) (texts : List IndexText) : Type 0 where
   pub named : All (λ t. (text_at new t.path ≡ Some t.text) × (text_at old t.path ≢ Some t.text)) texts
   pub rest : (path : List ℕ) → Contains (map (λ t. t.path) texts) path ⊎ (text_at old path ≡ text_at new path)
 
--- Each plan is made for what those before it leave, the judged uploads are the first of those that are due, and the texts
--- are those that differ after it.
+-- Each plan is made for what those before it leave, the judged uploads are the first of those that are due, the texts are
+-- those that differ after it, and all that is shown is told by its records where it was before.
 pub record IsSound (book : Book) (change : Change) : Type 0 where
   pub plans : AreSteps book.shown change.steps
   pub judged : map sign_on (judgements change.steps) ≡ map sign_of (take (length (judgements change.steps)) (due book))
   pub texts : AreRenewed book (amended book change) change.texts
+  pub told : AreTold book.config.suites book.shown → AreTold book.config.suites (shown_past book.shown change.steps)
 
 -- What a call leaves of a store: one that is clean was clean, one that is open was open, and only a keeper that may fail is
 -- ever shut.

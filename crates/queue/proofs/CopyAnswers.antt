@@ -10,7 +10,9 @@ use Rattle.rules.specs.Values.{ConfigValue}
 use Rattle.rules.specs.declared.suite.Suite.{Suite}
 use Rattle.suites.specs.Plan as plans
 use Rattle.suites.specs.Shelves.{ShelvesValue}
+use Rattle.suites.specs.Told.{AreTold}
 use Rattle.suites.specs.declared.plan.Plan.{Plan}
+use Rattle.suites.proofs.ToldLemmas.{told_after_copy}
 use Rattle.keep.specs.Book.{Book, amended, due, judgements, latest, shown_past}
 use Rattle.keep.specs.Keeping.{AreRenewed, AreSteps, HasBodies, IsSound, NoCollision, sign_of, sign_on}
 use Rattle.keep.specs.declared.change.IndexText.{IndexText}
@@ -151,21 +153,31 @@ pub copy_past : (old now : Book) (shelves after : ShelvesValue) (plan : Plan) (m
 copy_past old now shelves after plan made same is_shown is_steps is =
     is ∙ ap (λ (m : ShelvesValue). plans.applied m plan) (is_shown ∙ ap (λ (b : Book). b.shown) (sym same)) ∙ ap (shown_past now.shown) (sym is_steps)
 
--- the change of a copy is sound
-pub sound_copy : (moment : ℕ) (old now : Book) (config : ConfigValue) (shelves : ShelvesValue) (f t : ℕ) (source : List ℕ) (plan : Plan) (made : List Step) (texts : List IndexText)
-    → now ≡ old → shelves ≡ old.shown → made ≡ copy_step_of plan ∷ [] → IsCopy config shelves f t source plan
-    → AreRenewed now (amended now (record { moment = moment; steps = made; texts = texts })) texts
-    → IsSound now (record { moment = moment; steps = made; texts = texts })
-sound_copy moment old now config shelves f t source plan made texts same is_shown is_steps copy renewed = record {
-  plans = copy_steps old now config shelves f t source plan made same is_shown is_steps copy;
-  judged = subst (λ xs. map sign_on (judgements xs) ≡ map sign_of (take (length (judgements xs)) (due now))) (sym is_steps) refl;
-  texts = renewed;
-}
-
+-- it is a copy of what the book shows
 copy_on : (old : Book) (config : ConfigValue) (shelves : ShelvesValue) (f t : ℕ) (source : List ℕ) (plan : Plan) → config ≡ old.config → shelves ≡ old.shown → IsCopy config shelves f t source plan
     → IsCopy old.config old.shown f t source plan
 copy_on old config shelves f t source plan is_config is_shown copy =
     subst (λ c. IsCopy c old.shown f t source plan) is_config (subst (λ s. IsCopy config s f t source plan) is_shown copy)
+
+-- what it shows stays as records tell it
+copy_told : (now : Book) (config : ConfigValue) (shelves : ShelvesValue) (f t : ℕ) (source : List ℕ) (plan : Plan) (made : List Step)
+    → config ≡ now.config → shelves ≡ now.shown → made ≡ copy_step_of plan ∷ [] → IsCopy config shelves f t source plan
+    → AreTold now.config.suites now.shown → AreTold now.config.suites (shown_past now.shown made)
+copy_told now config shelves f t source plan made is_config is_shown is_steps copy told =
+    let here = copy_on now config shelves f t source plan is_config is_shown copy in
+    subst (AreTold now.config.suites) (here.step.items.made ∙ ap (shown_past now.shown) (sym is_steps)) (told_after_copy now.config now.shown f t source told)
+
+-- the change of a copy is sound
+pub sound_copy : (moment : ℕ) (old now : Book) (config : ConfigValue) (shelves : ShelvesValue) (f t : ℕ) (source : List ℕ) (plan : Plan) (made : List Step) (texts : List IndexText)
+    → now ≡ old → config ≡ now.config → shelves ≡ old.shown → made ≡ copy_step_of plan ∷ [] → IsCopy config shelves f t source plan
+    → AreRenewed now (amended now (record { moment = moment; steps = made; texts = texts })) texts
+    → IsSound now (record { moment = moment; steps = made; texts = texts })
+sound_copy moment old now config shelves f t source plan made texts same is_config is_shown is_steps copy renewed = record {
+  plans = copy_steps old now config shelves f t source plan made same is_shown is_steps copy;
+  judged = subst (λ xs. map sign_on (judgements xs) ≡ map sign_of (take (length (judgements xs)) (due now))) (sym is_steps) refl;
+  texts = renewed;
+  told = copy_told now config shelves f t source plan made is_config (is_shown ∙ ap (λ (b : Book). b.shown) (sym same)) is_steps copy;
+}
 
 -- A copy that is done, where what the keeper says holds for all bodies without collision.
 pub done_copy : (may_fail : Bool) (h : History) (from to source : List ℕ) (moment f t : ℕ) (is_open : Type 0) (old now new : Book) (config : ConfigValue) (shelves : ShelvesValue) (plan : Plan) (made : List Step) (texts : List IndexText) (items : ℕ)

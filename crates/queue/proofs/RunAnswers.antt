@@ -15,7 +15,7 @@ use Rattle.queue.specs.Histories.{History, Lines, QueueRun}
 use Rattle.queue.specs.Judging.{AreJudged, after_uploads}
 use Rattle.queue.specs.declared.fault.Fault.TheVariants.{Moment}
 use Rattle.queue.proofs.Known.{apart_with_empty, known}
-use Rattle.queue.proofs.RunJudged.{is_sound, past_uploads, sign_in, steps_are}
+use Rattle.queue.proofs.RunJudged.{StaysTold, is_sound, past_uploads, sign_in, steps_are}
 use Rattle.queue.proofs.SimulationRun.{run_step}
 
 -- a moment past the limit is refused
@@ -34,6 +34,13 @@ judged_on : (book : Book) (config : ConfigValue) (shelves : ShelvesValue) (us th
 judged_on book config shelves us them steps is_config is_shown is_us judged =
     subst (λ c. AreJudged c book.shown us steps) is_config
     (subst (λ s. AreJudged config s us steps) is_shown (subst (λ xs. AreJudged config shelves xs steps) is_us judged))
+
+-- and leave what it shows as records tell it
+stays_on : (book : Book) (config : ConfigValue) (shelves : ShelvesValue) (us them : List UploadValue)
+    → config ≡ book.config → shelves ≡ book.shown → them ≡ us → StaysTold config shelves them → StaysTold book.config book.shown us
+stays_on book config shelves us them is_config is_shown is_us stays =
+    subst (λ c. StaysTold c book.shown us) is_config
+    (subst (λ s. StaysTold config s us) is_shown (subst (StaysTold config shelves) is_us stays))
 
 -- What a book is after a change does not hang on the texts that the change names.
 pub without_texts : (book : Book) (moment : ℕ) (steps : List Step) (texts : List IndexText)
@@ -69,12 +76,15 @@ pub sound_run : (moment : ℕ) (old now : Book) (config : ConfigValue) (shelves 
     → now ≡ old → config ≡ now.config → shelves ≡ old.shown → them ≡ us → made ≡ steps
     → map sign_in us ≡ map sign_of (due old) → AreJudged config shelves them steps
     → AreRenewed now (amended now (record { moment = moment; steps = made; texts = texts })) texts
+    → StaysTold config shelves them
     → IsSound now (record { moment = moment; steps = made; texts = texts })
-sound_run moment old now config shelves us them steps made texts same is_config is_shown is_us is_steps signs judged renewed =
+sound_run moment old now config shelves us them steps made texts same is_config is_shown is_us is_steps signs judged renewed stays =
+    let shown : shelves ≡ now.shown = is_shown ∙ ap (λ (b : Book). b.shown) (sym same) in
     is_sound now moment us made texts
-    (subst (AreJudged now.config now.shown us) (sym is_steps) (judged_on now config shelves us them steps is_config (is_shown ∙ ap (λ (b : Book). b.shown) (sym same)) is_us judged))
+    (subst (AreJudged now.config now.shown us) (sym is_steps) (judged_on now config shelves us them steps is_config shown is_us judged))
     (signs ∙ ap (λ (b : Book). map sign_of (due b)) (sym same))
     renewed
+    (stays_on now config shelves us them is_config shown is_us stays)
 
 -- A run that is done, where what the keeper says holds for all bodies without collision.
 pub ran_step : (may_fail : Bool) (h : History) (moment : ℕ) (is_open : Type 0) (old now new : Book) (config : ConfigValue) (shelves : ShelvesValue) (us them : List UploadValue) (steps made : List Step) (texts : List IndexText) (lines : List (List ℕ))

@@ -5,6 +5,7 @@ use Rattle.std.specs.List.{fold, filter_map, cons_option}
 use Rattle.rules.specs.Values.{ConfigValue}
 use Rattle.suites.specs.Plan.{IsStep, after_upload, applied}
 use Rattle.suites.specs.Shelves.{ShelvesValue}
+use Rattle.suites.specs.Told.{AreTold}
 use Rattle.suites.specs.Upload.{UploadValue}
 use Rattle.sums.specs.declared.print.Print.{Print}
 use Rattle.keep.specs.Book.{Book, Candidate, amended, due, judgements, shown_past}
@@ -62,15 +63,21 @@ past_uploads config shelves (u ∷ us) [] are = absurd are
 past_uploads config shelves (u ∷ us) (s ∷ ss) are =
     past_uploads config (after_upload config shelves u) us ss are.1 ∙ ap (λ (m : ShelvesValue). shown_past m ss) are.0.plan.items.made
 
+-- what is shown stays as records tell it through these uploads
+abbrev pub StaysTold : ConfigValue → ShelvesValue → List UploadValue → Type 0
+StaysTold config shelves us = AreTold config.suites shelves → AreTold config.suites (after_uploads config shelves us)
+
 -- a change of all uploads that are due is sound
 pub is_sound : (book : Book) (moment : ℕ) (us : List UploadValue) (steps : List Step) (texts : List IndexText) → AreJudged book.config book.shown us steps
     → map sign_in us ≡ map sign_of (due book) → AreRenewed book (amended book (record { moment = moment; steps = steps; texts = texts })) texts
+    → StaysTold book.config book.shown us
     → IsSound book (record { moment = moment; steps = steps; texts = texts })
-is_sound book moment us steps texts are signs renewed =
+is_sound book moment us steps texts are signs renewed stays =
     let all : map sign_on (judgements steps) ≡ map sign_of (due book) = signs_are book.config book.shown us steps are ∙ signs in
     let count : length (judgements steps) ≡ length (due book) = sym (map_length sign_on (judgements steps)) ∙ ap length all ∙ map_length sign_of (due book) in
     record {
       plans = steps_are book.config book.shown us steps are;
       judged = all ∙ ap (map sign_of) (sym (ap (λ n. take n (due book)) count ∙ take_all (due book)));
       texts = renewed;
+      told = λ told. subst (AreTold book.config.suites) (past_uploads book.config book.shown us steps are) (stays told);
     }

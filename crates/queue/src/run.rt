@@ -6,6 +6,7 @@ ghost use Rattle.queue.specs.Answers.{report_line, line_on_waiting};
 ghost use Rattle.queue.specs.Judging.{AreJudged, IsJudged, after_uploads};
 ghost use Rattle.suites.specs.Plan.{after_upload};
 ghost use Rattle.suites.specs.Shelves.{AreSound};
+ghost use Rattle.suites.specs.Told.{AreTold};
 
 use crate::fault::Fault;
 use keep::{Judgement, Step, Waiting};
@@ -23,6 +24,7 @@ fn judged_step(
 ) -> Result<Step, AllocError>
     ensures step { IfOk result (IsJudged config.now shelves.old upload.now) }
     ensures shelves { OnOk result (shelves.new ≡ after_upload config.now shelves.old upload.now) }
+    ensures told { AreTold config.now.suites shelves.old → AreTold config.now.suites (after_upload config.now shelves.old upload.now) }
 {
     let plan = plan_upload(alloc, config, shelves, upload)?;
     shelves.apply(alloc, &plan)?;
@@ -46,6 +48,8 @@ pub fn judged_steps(
     ensures steps { IfOk result (λ steps. AreJudged config.now shelves.old uploads.now steps.items) }
     ensures shelves { OnOk result (shelves.new ≡ after_uploads config.now shelves.old uploads.now) }
     ensures sound { AreSound shelves.old }
+    // What records tell of all that is shown stays so.
+    ensures told { OnOk result (AreTold config.now.suites shelves.old → AreTold config.now.suites (after_uploads config.now shelves.old uploads.now)) }
 {
     shelves.agree();
     let mut steps = Vec::new(alloc);

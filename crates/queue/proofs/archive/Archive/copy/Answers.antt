@@ -111,7 +111,7 @@ apply-requires-clause-sound g c clean up =
     let is_given = c.as_slice-2.ensures ∙ c.in_ok-steps.ensures.steps in
     sound_copy c.args.moment old now c.config-2.result.now c.in_ok-shelves.shelves c.in_ok-from.from c.in_ok-from.to
     c.args.source.now c.in_ok-plan.plan c.in_ok-steps.steps c.from_vec.result
-    (reads.same clean up ∙ same) is_shown c.in_ok-steps.ensures.steps c.in_ok-plan.ensures.plan
+    (reads.same clean up ∙ same) (c.config-2.ensures ∙ sym reads.config) is_shown c.in_ok-steps.ensures.steps c.in_ok-plan.ensures.plan
     (renewed_change c.args.moment then now c.only_step.new.shelves c.as_slice-2.result.now c.in_ok-steps.steps c.in_ok-texts.texts.items c.from_vec.result
     (reads.same clean up) (sym c.as_slice-2.ensures) c.from_vec.ensures
     (c.in_ok-texts.ensures.renewed clean)

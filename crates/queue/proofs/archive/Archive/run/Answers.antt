@@ -80,6 +80,7 @@ apply-requires-clause-sound g c clean up =
     (c.in_ok-texts.ensures.renewed clean)
     (run_steps then c.config.result.now c.in_ok-shelves.shelves c.deref.result.now c.in_ok-steps.steps.items c.deref-3.result.now is_shown c.deref-3.ensures.value c.in_ok-steps.ensures.steps)
     (run_past then c.config.result.now c.in_ok-shelves.shelves c.judged_steps.new.shelves c.deref.result.now c.in_ok-steps.steps.items c.deref-3.result.now is_shown c.deref-3.ensures.value c.in_ok-steps.ensures.steps c.in_ok-steps.ensures.shelves))
+    c.in_ok-steps.ensures.told
 
 pub returns-in_err-apply-clause-step : goal.returns-in_err-apply-clause-step
 returns-in_err-apply-clause-step g c h kept faithful clean =
