@@ -19,8 +19,8 @@ use Rattle.tables.specs.Schema.{archive_schema, arrivals}
 use Rattle.tables.specs.Rows.{whole, Tables, Holds, Changes, with_arrival, arrival_cells, arrival_of, row_of, stored, next_in}
 use Rattle.tables.specs.Arrivals.{is_arrival, with_moment}
 use Rattle.tables.specs.declared.rows.Arrival.{Arrival}
-use Rattle.tables.specs.declared.arrivals.TheConstants.{INSERT_ARRIVAL, SELECT_ARRIVALS, SELECT_ARRIVAL, UPDATE_MOMENT}
-use Rattle.tables.proofs.ArrivalsMeaning.{insert_arrival_terms, insert_arrival_is, insert_arrival_plain, arrival_columns, arrival_is, arrival_id_is, select_arrivals_is, select_arrivals_plain, select_arrival_is, select_arrival_plain, update_moment_columns, update_moment_is, update_moment_plain}
+use Rattle.tables.specs.declared.arrivals.TheConstants.{INSERT_ARRIVAL, SELECT_ARRIVAL, UPDATE_MOMENT}
+use Rattle.tables.proofs.ArrivalsMeaning.{insert_arrival_terms, insert_arrival_is, insert_arrival_plain, arrival_columns, arrival_is, arrival_id_is, select_arrival_is, select_arrival_plain, update_moment_columns, update_moment_is, update_moment_plain}
 use Rattle.tables.proofs.HoldsLemmas.{with_arrivals}
 use Rattle.tables.proofs.UpdateLemmas.{updates, updates_rows}
 
@@ -45,15 +45,6 @@ inserts_arrival old new name body moment count h =
       },
       λ t was. adds_id arrival_cells arrivals_table _ (record { name = name; body = body; moment = moment }) (arrival_cast name body moment) old new (put t was) t.arrivals was.rows.arrivals,
     )
-
-arrivals_show : Shows arrival_cells 5 [] arrival_columns ([]) (λ _. true) (shown arrival_cells) SELECT_ARRIVALS.now
-arrivals_show = record { names = _; is = select_arrivals_is.0; plain = select_arrivals_plain; unlisted = select_arrivals_is.1; tests = λ _. refl; shows = λ _. refl; real = λ _. refl }
-
-pub arrivals_answer : (old new : State) (t : Tables) (all : List (ℕ × Arrival)) → Holds old.now t → IsRead (row_of arrival_of) SELECT_ARRIVALS.now ([]) old new all
-    → (all ≡ t.arrivals) × IsUnchanged old new
-arrivals_answer old new t all was h =
-    let done = reads_shown arrival_cells 5 [] arrival_columns ([]) SELECT_ARRIVALS.now old new t.arrivals was.schema was.rows.arrivals (λ _. true) arrival_of (λ _. refl) arrivals_show all h in
-    (unfiltered t.arrivals done.0, done.1)
 
 arrival_shows : (name : List ℕ) (body : ℕ) → Shows arrival_cells 5 arrival_is arrival_columns (Text name ∷ whole body ∷ []) (λ x. is_arrival name body x.1) (shown arrival_cells) SELECT_ARRIVAL.now
 arrival_shows name body = record { names = _; is = select_arrival_is.0; plain = select_arrival_plain; unlisted = select_arrival_is.1; tests = λ x. then_term (text_test x.1.name name) (last_term (whole_test x.1.body body)); shows = λ _. refl; real = λ _. refl }

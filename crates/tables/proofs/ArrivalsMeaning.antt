@@ -11,7 +11,7 @@ use Rattle.sqlite.specs.Collation.TheVariants.{Binary}
 use Rattle.sqlite_sql.specs.Term.{op2}
 use Rattle.sqlite_sql.specs.declared.ops.BinaryOp.TheVariants.{Compare}
 use Rattle.sqlite_sql.specs.declared.ops.CompareOp.TheVariants.{Eq}
-use Rattle.tables.specs.declared.arrivals.TheConstants.{INSERT_ARRIVAL, SELECT_ARRIVALS, SELECT_ARRIVAL, UPDATE_MOMENT}
+use Rattle.tables.specs.declared.arrivals.TheConstants.{INSERT_ARRIVAL, SELECT_ARRIVAL, UPDATE_MOMENT}
 use Rattle.tables.specs.Schema.{archive_schema}
 use Rattle.tables.proofs.SelectLemmas.{rows_query}
 use Rattle.tables.proofs.UpdateLemmas.{edit_query}
@@ -38,14 +38,6 @@ insert_arrival_is = refl
 pub insert_arrival_plain : IsPlain (understood archive_schema INSERT_ARRIVAL.now)
 unfolding understood everything
 insert_arrival_plain = (refl, refl)
-
-pub select_arrivals_is : (command_of (understood archive_schema SELECT_ARRIVALS.now) ≡ Select (record { lets = []; body = rows_query 5 [] arrival_columns }) (codes "id" ∷ codes "id" ∷ codes "name" ∷ codes "body" ∷ codes "moment" ∷ [])) × (reads_listing archive_schema SELECT_ARRIVALS.now ≡ false)
-unfolding understood everything
-select_arrivals_is = (refl, refl)
-
-pub select_arrivals_plain : IsPlain (understood archive_schema SELECT_ARRIVALS.now)
-unfolding understood everything
-select_arrivals_plain = (refl, refl)
 
 pub select_arrival_is : (command_of (understood archive_schema SELECT_ARRIVAL.now) ≡ Select (record { lets = []; body = rows_query 5 arrival_is arrival_columns }) (codes "id" ∷ codes "id" ∷ codes "name" ∷ codes "body" ∷ codes "moment" ∷ [])) × (reads_listing archive_schema SELECT_ARRIVAL.now ≡ false)
 unfolding understood everything

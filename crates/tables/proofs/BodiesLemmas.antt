@@ -1,37 +1,41 @@
 -- What the statements on bodies do.
-use Rattle.std.proofs.Common.{◌≡◌, ℕ, pos, [], ◌∷◌, Ok, refl, true, false, List, map, filter, slice_get, Option, Some, None, ap, ◌∙◌, option_map, ◌&&◌}
+use Rattle.std.proofs.Common.{◌≡◌, ℕ, pos, [], ◌∷◌, Ok, Err, Result, OnOk, nat_eq, refl, true, false, List, map, filter, slice_get, Option, Some, None, ap, ◌∙◌, option_map, ◌&&◌}
 use Rattle.sqlite.specs.Table.{Table}
 use Rattle.sqlite.specs.Order.{column}
 use Rattle.sqlite.specs.Term.{col}
 use Rattle.sqlite.specs.declared.types.Value.TheVariants.{Null, Blob}
 use Rattle.sqlite.specs.Cast.{cast_row}
+use Rattle.sqlite.specs.declared.error.Error.{Error}
 use Rattle.sqlite.specs.State.{State, ExecutesInside, IsUnchanged}
 use Rattle.sqlite.specs.Values.{or_null}
-use Rattle.sqlite_keyed.proofs.ListLemmas.{map-map, map_back, slice_get-filter}
-use Rattle.sqlite_typed.proofs.TestLemmas.{truth_or}
-use Rattle.sqlite_typed.proofs.AnswerLemmas.{unfiltered}
+use Rattle.sqlite_keyed.proofs.ListLemmas.{map-map, slice_get-filter}
+use Rattle.sqlite_typed.proofs.TestLemmas.{last_term, truth_or}
 use Rattle.sqlite_sql.specs.Ops.{binary}
 use Rattle.sqlite_sql.specs.declared.ops.CompareOp.TheVariants.{Eq}
 use Rattle.sqlite_sql.specs.declared.ops.BinaryOp.TheVariants.{Compare}
 use Rattle.sqlite.specs.Collation.TheVariants.{Binary}
 use Rattle.sums.specs.declared.print.Print.{Print}
 use Rattle.tables.specs.Schema.{archive_schema, bodies}
-use Rattle.tables.specs.Rows.{whole, print_cells, Numbered, Tables, Holds, Changes, with_body, body_cells, body_of, nat_of, row_of, next_in}
-use Rattle.tables.specs.Bodies.{has_print, body_with}
-use Rattle.tables.specs.Reading.{IsRead, IsReadFirst}
+use Rattle.tables.specs.Rows.{whole, print_cells, Numbered, Tables, Holds, Changes, with_body, body_cells, full_body, nat_of, next_in}
+use Rattle.tables.specs.Bodies.{has_print, body_with, without_body}
+use Rattle.tables.specs.Reading.{IsReadFirst}
 use Rattle.tables.specs.declared.rows.Body.{Body}
-use Rattle.tables.specs.declared.bodies.TheConstants.{INSERT_BODY, SELECT_BODIES, SELECT_BODY}
+use Rattle.tables.specs.declared.bodies.TheConstants.{INSERT_BODY, SELECT_BODY, DELETE_BODY}
 use Rattle.tables.proofs.CastLemmas.{cast_null, cast_int}
-use Rattle.tables.proofs.BodiesMeaning.{insert_body_terms, insert_body_is, insert_body_plain, body_columns, select_bodies_is, select_bodies_plain, print_terms, select_body_is, select_body_plain}
+use Rattle.tables.proofs.BodiesMeaning.{insert_body_terms, insert_body_is, insert_body_plain, print_terms, select_body_is, select_body_plain, body_id_is, delete_body_columns, delete_body_is, delete_body_plain}
 use Rattle.tables.proofs.InsertLemmas.{puts}
 use Rattle.tables.proofs.AddLemmas.{adds_row, adds_id}
 use Rattle.tables.proofs.HoldsLemmas.{with_bodies}
-use Rattle.tables.proofs.SelectLemmas.{reads_rows}
-use Rattle.tables.proofs.ShownLemmas.{shown}
+use Rattle.tables.proofs.FullLemmas.{Storing, raw, raw_cells, raw_rows, full_rows_as, added_of, next_of, reads_full, deletes_full}
 use Rattle.tables.proofs.PrintLemmas.{print_test}
+use Rattle.tables.proofs.EqualLemmas.{whole_test}
+use Rattle.tables.proofs.UpdateLemmas.{deletes}
 
 abbrev bodies_table : Table
 bodies_table = record bodies { tree = 1 }
+
+abbrev storing : Storing Body
+storing = record { cells = body_cells; full = full_body; same = λ _. refl; again = λ _ _ _. refl; none = refl }
 
 abbrev whole_body : Print → Body
 whole_body p = record { print = Some p }
@@ -44,27 +48,22 @@ pub inserts_body : (old new : State) (p : Print) (count : ℕ) → ExecutesInsid
 inserts_body old new p count h =
     let put = λ (t : Tables) (was : Holds old.now t).
     puts archive_schema INSERT_BODY.now 1 insert_body_terms 6 insert_body_is insert_body_plain _ _ _ _ _ _ 1 refl (λ _. refl)
-    old new (print_cells p) (Null ∷ (Null ∷ print_cells p)) count refl was.schema h.0 in (
+    old new (print_cells p) (Null ∷ (Null ∷ print_cells p)) count refl was.schema h.0 in
+    let raws = λ (t : Tables) (was : Holds old.now t). raw_rows storing t.bodies (old.now.trees 1) was.rows.bodies in (
       record {
-        held = λ t was. record {
-          schema = (put t was).schema_is;
-          rows = with_bodies old.now.trees new.now.trees t was.rows _ (adds_row body_cells bodies_table _ (whole_body p) (body_cast p) old new (put t was) t.bodies was.rows.bodies) (put t was).others;
-        };
+        held = λ t was.
+            let r = raws t was in
+            let now = adds_row (raw_cells storing) bodies_table _ (raw storing (whole_body p)) (body_cast p) old new (put t was) r.of r.has in
+            record {
+              schema = (put t was).schema_is;
+              rows = with_bodies old.now.trees new.now.trees t was.rows _ (full_rows_as storing _ _ (new.now.trees 1) (added_of storing t.bodies r.of (whole_body p) r.values) now) (put t was).others;
+            };
         shown = h.1;
       },
-      λ t was. adds_id body_cells bodies_table _ (whole_body p) (body_cast p) old new (put t was) t.bodies was.rows.bodies,
+      λ t was.
+          let r = raws t was in
+          adds_id (raw_cells storing) bodies_table _ (raw storing (whole_body p)) (body_cast p) old new (put t was) r.of r.has ∙ ap pos (next_of storing t.bodies r.of r.values),
     )
-
-body_back : (x : ℕ × Body) → row_of body_of (shown body_cells x) ≡ x
-body_back x = elim x.1.print as (λ p. row_of body_of (shown body_cells (x.0, record { print = p })) ≡ (x.0, record { print = p })) [ None ↦ refl | Some p ↦ refl ]
-
-pub bodies_answer : (old new : State) (t : Tables) (all : List (ℕ × Body)) → Holds old.now t → IsRead (row_of body_of) SELECT_BODIES.now [] old new all → (all ≡ t.bodies) × IsUnchanged old new
-bodies_answer old new t all was h =
-    let rows =
-    reads_rows body_cells 1 [] body_columns [] (λ _. true) (shown body_cells) (λ _. refl) (λ _. refl) SELECT_BODIES.now _ (λ _. refl) old new h.rows t.bodies
-    select_bodies_is.0 select_bodies_plain select_bodies_is.1 was.schema was.rows.bodies h.shown
-    ∙ ap (map (shown body_cells)) (unfiltered t.bodies refl) in
-    (h.are ∙ ap (map (row_of body_of)) rows ∙ map_back (shown body_cells) (row_of body_of) body_back t.bodies, h.same)
 
 nullable_test : (p : Print) (q : Option Print) →
     (truth_or false (binary (Compare Eq Binary) (or_null (λ p. whole p.size) q) (whole p.size)) && (truth_or false (binary (Compare Eq Binary) (or_null (λ p. Blob p.md5) q) (Blob p.md5))
@@ -84,9 +83,22 @@ body_answer old new t p found was h =
     let some = filter (λ x. has_print p x.1) t.bodies in
     let show = λ (x : ℕ × Body). whole x.0 ∷ [] in
     let rows =
-    reads_rows body_cells 1 print_terms (col 1 0 ∷ []) (print_cells p) (λ x. has_print p x.1) show (λ x. nullable_test p x.1.print) (λ _. refl)
+    reads_full storing 1 print_terms (col 1 0 ∷ []) (print_cells p) (λ x. has_print p x.1) show (record { tests = λ _. refl; shows = λ _. refl }) (λ x. nullable_test p x.1.print) (λ _. refl)
     SELECT_BODY.now _ (λ _. refl) old new h.read.rows t.bodies select_body_is.0 select_body_plain select_body_is.1 was.schema was.rows.bodies h.read.shown in (
       h.is ∙ ap (λ all. slice_get all 0) (h.read.are ∙ ap (map (λ row. nat_of (column row 0))) rows ∙ map-map (λ row. nat_of (column row 0)) show some)
           ∙ number_of_first some ∙ ap (option_map (λ x. x.0)) (slice_get-filter (λ x. has_print p x.1) t.bodies),
       h.read.same,
     )
+
+pub removes_body : (old new : State) (id : ℕ) (r : Result ℕ Error) → ExecutesInside 0 DELETE_BODY.now (whole id ∷ []) old new r → OnOk r (Changes old new (without_body id))
+removes_body old new id (Ok count) h = record {
+  held = λ t was.
+      let params = whole id ∷ [] in
+      let did = deletes DELETE_BODY.now 1 _ delete_body_plain bodies_table refl delete_body_is old new params count was.schema h.0 in
+      let now = deletes_full storing 1 body_id_is delete_body_columns params (λ x. nat_eq x.0 id) (λ x. whole x.0 ∷ []) (record { tests = λ _. refl; shows = λ _. refl })
+      (λ x. last_term (whole_test x.0 id)) (λ _. refl) (λ _. refl) (λ _. refl)
+      old new t.bodies was.rows.bodies did.0 did.1 did.2 in
+      record { schema = did.2.schema_is; rows = with_bodies old.now.trees new.now.trees t was.rows _ now did.2.others };
+  shown = h.1;
+}
+removes_body old new id (Err e) h = tt

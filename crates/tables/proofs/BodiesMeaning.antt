@@ -2,7 +2,7 @@
 use Rattle.std.proofs.Common.{◌≡◌, refl, ◌∷◌, [], List, codes, false}
 use Rattle.sqlite_tied.specs.Compute.{everything}
 use Rattle.sqlite.specs.declared.types.Value.TheVariants.{Null}
-use Rattle.sqlite.specs.Command.TheVariants.{Insert, Select}
+use Rattle.sqlite.specs.Command.TheVariants.{Insert, Select, Delete}
 use Rattle.sqlite.specs.Source.TheVariants.{Values}
 use Rattle.sqlite.specs.Term.{Term, lit, col}
 use Rattle.sqlite.specs.Listing.{understood, reads_listing}
@@ -11,9 +11,10 @@ use Rattle.sqlite.specs.Collation.TheVariants.{Binary}
 use Rattle.sqlite_sql.specs.Term.{op2}
 use Rattle.sqlite_sql.specs.declared.ops.BinaryOp.TheVariants.{Compare}
 use Rattle.sqlite_sql.specs.declared.ops.CompareOp.TheVariants.{Eq}
-use Rattle.tables.specs.declared.bodies.TheConstants.{INSERT_BODY, SELECT_BODIES, SELECT_BODY}
+use Rattle.tables.specs.declared.bodies.TheConstants.{INSERT_BODY, SELECT_BODY, DELETE_BODY}
 use Rattle.tables.specs.Schema.{archive_schema}
 use Rattle.tables.proofs.SelectLemmas.{rows_query}
+use Rattle.tables.proofs.UpdateLemmas.{edit_query}
 
 abbrev pub insert_body_terms : List Term
 insert_body_terms = lit Null ∷ lit Null ∷ col 0 0 ∷ col 0 1 ∷ col 0 2 ∷ col 0 3 ∷ []
@@ -25,17 +26,6 @@ insert_body_is = refl
 pub insert_body_plain : IsPlain (understood archive_schema INSERT_BODY.now)
 unfolding understood everything
 insert_body_plain = (refl, refl)
-
-abbrev pub body_columns : List Term
-body_columns = col 1 0 ∷ col 1 0 ∷ col 1 2 ∷ col 1 3 ∷ col 1 4 ∷ col 1 5 ∷ []
-
-pub select_bodies_is : (command_of (understood archive_schema SELECT_BODIES.now) ≡ Select (record { lets = []; body = rows_query 1 [] body_columns }) (codes "id" ∷ codes "id" ∷ codes "size" ∷ codes "md5" ∷ codes "sha1" ∷ codes "sha256" ∷ [])) × (reads_listing archive_schema SELECT_BODIES.now ≡ false)
-unfolding understood everything
-select_bodies_is = (refl, refl)
-
-pub select_bodies_plain : IsPlain (understood archive_schema SELECT_BODIES.now)
-unfolding understood everything
-select_bodies_plain = (refl, refl)
 
 abbrev pub print_terms : List Term
 print_terms =
@@ -49,3 +39,17 @@ select_body_is = (refl, refl)
 pub select_body_plain : IsPlain (understood archive_schema SELECT_BODY.now)
 unfolding understood everything
 select_body_plain = (refl, refl)
+
+abbrev pub body_id_is : List Term
+body_id_is = op2 (Compare Eq Binary) (col 1 0) (col 0 0) ∷ []
+
+abbrev pub delete_body_columns : List Term
+delete_body_columns = col 1 0 ∷ []
+
+pub delete_body_is : command_of (understood archive_schema DELETE_BODY.now) ≡ Delete 1 (record { lets = []; body = edit_query 1 body_id_is delete_body_columns })
+unfolding understood everything
+delete_body_is = refl
+
+pub delete_body_plain : IsPlain (understood archive_schema DELETE_BODY.now)
+unfolding understood everything
+delete_body_plain = (refl, refl)

@@ -5,7 +5,7 @@ use Rattle.sqlite.specs.Order.{Row}
 use Rattle.sqlite.specs.Effect.{Database}
 use Rattle.sqlite_keyed.proofs.ListLemmas.{map_back, map-map}
 use Rattle.sqlite.specs.Values.{or_null}
-use Rattle.tables.specs.Rows.{whole, some_nat, Numbered, HasRows, Tables, Holds, IsArchive, full_upload, stored, row_of, tables_in, meta_cells, meta_of, body_cells, body_of, piece_cells, piece_of, arrival_cells, arrival_of, upload_cells, upload_of, want_cells, want_of, item_cells, item_of, ref_cells, ref_of, file_cells, file_of, text_cells, text_of, date_cells, date_of}
+use Rattle.tables.specs.Rows.{whole, some_nat, Numbered, HasRows, Tables, Holds, IsArchive, full_body, full_upload, stored, row_of, tables_in, meta_cells, meta_of, body_cells, body_of, piece_cells, piece_of, arrival_cells, arrival_of, upload_cells, upload_of, want_cells, want_of, item_cells, item_of, ref_cells, ref_of, file_cells, file_of, text_cells, text_of, date_cells, date_of}
 use Rattle.tables.specs.declared.rows.Meta.{Meta}
 use Rattle.tables.specs.declared.rows.Body.{Body}
 use Rattle.tables.specs.declared.rows.Piece.{Piece}
@@ -37,7 +37,7 @@ read_back cells read back same rows tree h = ap (map (row_of read)) h.are ∙ ma
 pub held_tables : (db : Database) (t : Tables) → Holds db t → tables_in db ≡ t
 held_tables db t h =
     let meta = read_back meta_cells meta_of (λ _. refl) (λ _. refl) t.meta _ h.rows.meta in
-    let bodies = read_back body_cells body_of body_back (λ _. refl) t.bodies _ h.rows.bodies in
+    let bodies = sym (map-map (row_of body_of) full_body (db.trees 1)) ∙ read_back body_cells body_of body_back (λ _. refl) t.bodies _ h.rows.bodies in
     let pieces = read_back piece_cells piece_of (λ _. refl) (λ _. refl) t.pieces _ h.rows.pieces in
     let arrivals = read_back arrival_cells arrival_of (λ _. refl) (λ _. refl) t.arrivals _ h.rows.arrivals in
     let uploads = sym (map-map (row_of upload_of) full_upload (db.trees 7)) ∙ read_back upload_cells upload_of upload_back (λ _. refl) t.uploads _ h.rows.uploads in

@@ -5,7 +5,7 @@ use Rattle.sqlite.specs.Change.{created}
 use Rattle.sqlite.specs.declared.error.Error.{Error}
 use Rattle.sqlite.specs.State.{State, HasCleanDisk, KeepsCommit, ExecutesInside, Survives}
 use Rattle.tables.specs.Schema.{no_schema, meta, bodies, pieces, arrivals, uploads, wants, items, refs, files, texts, dates}
-use Rattle.tables.specs.Rows.{full_upload}
+use Rattle.tables.specs.Rows.{full_body, full_upload}
 use Rattle.tables.specs.Causes.{IsCaused}
 use Rattle.tables.specs.Creating.{IsEmpty, Creates, schema_up_to, text_at}
 use Rattle.tables.proofs.CreateLemmas.{Makes, creates}
@@ -70,7 +70,7 @@ all_built old new b = record {
         schema = all.schema_is;
         rows = record {
           meta = record { are = e.0; rise = tt };
-          bodies = record { are = e.1.0; rise = tt };
+          bodies = record { are = ap (map full_body) e.1.0; rise = tt };
           pieces = record { are = e.1.1.0; rise = tt };
           arrivals = record { are = e.1.1.1.0; rise = tt };
           uploads = record { are = ap (map full_upload) e.1.1.1.1.0; rise = tt };

@@ -4,7 +4,7 @@ use Rattle.std.specs.List.{AllByRecursion}
 use Rattle.sqlite.specs.Order.{Row}
 use Rattle.sqlite.specs.Tree.{Trees}
 use Rattle.tables.specs.Schema.{archive_schema}
-use Rattle.tables.specs.Rows.{Numbered, HasRows, Tables, HoldsRows, full_upload, meta_cells, body_cells, piece_cells, arrival_cells, upload_cells, want_cells, item_cells, ref_cells, file_cells, text_cells, date_cells}
+use Rattle.tables.specs.Rows.{Numbered, HasRows, Tables, HoldsRows, full_body, full_upload, meta_cells, body_cells, piece_cells, arrival_cells, upload_cells, want_cells, item_cells, ref_cells, file_cells, text_cells, date_cells}
 use Rattle.tables.specs.declared.rows.Meta.{Meta}
 use Rattle.tables.specs.declared.rows.Body.{Body}
 use Rattle.tables.specs.declared.rows.Piece.{Piece}
@@ -28,7 +28,7 @@ module _ (old new : Trees) (t : Tables) (was : HoldsRows old t) where
   pub with_meta : (rows : Numbered Meta) → HasRows meta_cells rows (new 0) → KeepsOthers 0 old new → HoldsRows new (record t { meta = rows })
   with_meta rows now others = record {
     meta = now;
-    bodies = kept body_cells t.bodies was.bodies (others.1.0 (omega arith));
+    bodies = kept body_cells t.bodies was.bodies (ap (map full_body) (others.1.0 (omega arith)));
     pieces = kept piece_cells t.pieces was.pieces (others.1.1.0 (omega arith));
     arrivals = kept arrival_cells t.arrivals was.arrivals (others.1.1.1.0 (omega arith));
     uploads = kept upload_cells t.uploads was.uploads (ap (map full_upload) (others.1.1.1.1.0 (omega arith)));
@@ -40,7 +40,7 @@ module _ (old new : Trees) (t : Tables) (was : HoldsRows old t) where
     dates = kept date_cells t.dates was.dates (others.1.1.1.1.1.1.1.1.1.1.0 (omega arith));
   }
 
-  pub with_bodies : (rows : Numbered Body) → HasRows body_cells rows (new 1) → KeepsOthers 1 old new → HoldsRows new (record t { bodies = rows })
+  pub with_bodies : (rows : Numbered Body) → HasRows body_cells rows (map full_body (new 1)) → KeepsOthers 1 old new → HoldsRows new (record t { bodies = rows })
   with_bodies rows now others = record {
     meta = kept meta_cells t.meta was.meta (others.0 (omega arith));
     bodies = now;
@@ -58,7 +58,7 @@ module _ (old new : Trees) (t : Tables) (was : HoldsRows old t) where
   pub with_pieces : (rows : Numbered Piece) → HasRows piece_cells rows (new 3) → KeepsOthers 3 old new → HoldsRows new (record t { pieces = rows })
   with_pieces rows now others = record {
     meta = kept meta_cells t.meta was.meta (others.0 (omega arith));
-    bodies = kept body_cells t.bodies was.bodies (others.1.0 (omega arith));
+    bodies = kept body_cells t.bodies was.bodies (ap (map full_body) (others.1.0 (omega arith)));
     pieces = now;
     arrivals = kept arrival_cells t.arrivals was.arrivals (others.1.1.1.0 (omega arith));
     uploads = kept upload_cells t.uploads was.uploads (ap (map full_upload) (others.1.1.1.1.0 (omega arith)));
@@ -73,7 +73,7 @@ module _ (old new : Trees) (t : Tables) (was : HoldsRows old t) where
   pub with_arrivals : (rows : Numbered Arrival) → HasRows arrival_cells rows (new 5) → KeepsOthers 5 old new → HoldsRows new (record t { arrivals = rows })
   with_arrivals rows now others = record {
     meta = kept meta_cells t.meta was.meta (others.0 (omega arith));
-    bodies = kept body_cells t.bodies was.bodies (others.1.0 (omega arith));
+    bodies = kept body_cells t.bodies was.bodies (ap (map full_body) (others.1.0 (omega arith)));
     pieces = kept piece_cells t.pieces was.pieces (others.1.1.0 (omega arith));
     arrivals = now;
     uploads = kept upload_cells t.uploads was.uploads (ap (map full_upload) (others.1.1.1.1.0 (omega arith)));
@@ -88,7 +88,7 @@ module _ (old new : Trees) (t : Tables) (was : HoldsRows old t) where
   pub with_uploads : (rows : Numbered Upload) → HasRows upload_cells rows (map full_upload (new 7)) → KeepsOthers 7 old new → HoldsRows new (record t { uploads = rows })
   with_uploads rows now others = record {
     meta = kept meta_cells t.meta was.meta (others.0 (omega arith));
-    bodies = kept body_cells t.bodies was.bodies (others.1.0 (omega arith));
+    bodies = kept body_cells t.bodies was.bodies (ap (map full_body) (others.1.0 (omega arith)));
     pieces = kept piece_cells t.pieces was.pieces (others.1.1.0 (omega arith));
     arrivals = kept arrival_cells t.arrivals was.arrivals (others.1.1.1.0 (omega arith));
     uploads = now;
@@ -103,7 +103,7 @@ module _ (old new : Trees) (t : Tables) (was : HoldsRows old t) where
   pub with_wants : (rows : Numbered Want) → HasRows want_cells rows (new 10) → KeepsOthers 10 old new → HoldsRows new (record t { wants = rows })
   with_wants rows now others = record {
     meta = kept meta_cells t.meta was.meta (others.0 (omega arith));
-    bodies = kept body_cells t.bodies was.bodies (others.1.0 (omega arith));
+    bodies = kept body_cells t.bodies was.bodies (ap (map full_body) (others.1.0 (omega arith)));
     pieces = kept piece_cells t.pieces was.pieces (others.1.1.0 (omega arith));
     arrivals = kept arrival_cells t.arrivals was.arrivals (others.1.1.1.0 (omega arith));
     uploads = kept upload_cells t.uploads was.uploads (ap (map full_upload) (others.1.1.1.1.0 (omega arith)));
@@ -118,7 +118,7 @@ module _ (old new : Trees) (t : Tables) (was : HoldsRows old t) where
   pub with_items : (rows : Numbered Item) → HasRows item_cells rows (new 13) → KeepsOthers 13 old new → HoldsRows new (record t { items = rows })
   with_items rows now others = record {
     meta = kept meta_cells t.meta was.meta (others.0 (omega arith));
-    bodies = kept body_cells t.bodies was.bodies (others.1.0 (omega arith));
+    bodies = kept body_cells t.bodies was.bodies (ap (map full_body) (others.1.0 (omega arith)));
     pieces = kept piece_cells t.pieces was.pieces (others.1.1.0 (omega arith));
     arrivals = kept arrival_cells t.arrivals was.arrivals (others.1.1.1.0 (omega arith));
     uploads = kept upload_cells t.uploads was.uploads (ap (map full_upload) (others.1.1.1.1.0 (omega arith)));
@@ -133,7 +133,7 @@ module _ (old new : Trees) (t : Tables) (was : HoldsRows old t) where
   pub with_refs : (rows : Numbered Ref) → HasRows ref_cells rows (new 15) → KeepsOthers 15 old new → HoldsRows new (record t { refs = rows })
   with_refs rows now others = record {
     meta = kept meta_cells t.meta was.meta (others.0 (omega arith));
-    bodies = kept body_cells t.bodies was.bodies (others.1.0 (omega arith));
+    bodies = kept body_cells t.bodies was.bodies (ap (map full_body) (others.1.0 (omega arith)));
     pieces = kept piece_cells t.pieces was.pieces (others.1.1.0 (omega arith));
     arrivals = kept arrival_cells t.arrivals was.arrivals (others.1.1.1.0 (omega arith));
     uploads = kept upload_cells t.uploads was.uploads (ap (map full_upload) (others.1.1.1.1.0 (omega arith)));
@@ -148,7 +148,7 @@ module _ (old new : Trees) (t : Tables) (was : HoldsRows old t) where
   pub with_files : (rows : Numbered File) → HasRows file_cells rows (new 17) → KeepsOthers 17 old new → HoldsRows new (record t { files = rows })
   with_files rows now others = record {
     meta = kept meta_cells t.meta was.meta (others.0 (omega arith));
-    bodies = kept body_cells t.bodies was.bodies (others.1.0 (omega arith));
+    bodies = kept body_cells t.bodies was.bodies (ap (map full_body) (others.1.0 (omega arith)));
     pieces = kept piece_cells t.pieces was.pieces (others.1.1.0 (omega arith));
     arrivals = kept arrival_cells t.arrivals was.arrivals (others.1.1.1.0 (omega arith));
     uploads = kept upload_cells t.uploads was.uploads (ap (map full_upload) (others.1.1.1.1.0 (omega arith)));
@@ -163,7 +163,7 @@ module _ (old new : Trees) (t : Tables) (was : HoldsRows old t) where
   pub with_texts : (rows : Numbered IndexText) → HasRows text_cells rows (new 19) → KeepsOthers 19 old new → HoldsRows new (record t { texts = rows })
   with_texts rows now others = record {
     meta = kept meta_cells t.meta was.meta (others.0 (omega arith));
-    bodies = kept body_cells t.bodies was.bodies (others.1.0 (omega arith));
+    bodies = kept body_cells t.bodies was.bodies (ap (map full_body) (others.1.0 (omega arith)));
     pieces = kept piece_cells t.pieces was.pieces (others.1.1.0 (omega arith));
     arrivals = kept arrival_cells t.arrivals was.arrivals (others.1.1.1.0 (omega arith));
     uploads = kept upload_cells t.uploads was.uploads (ap (map full_upload) (others.1.1.1.1.0 (omega arith)));
@@ -178,7 +178,7 @@ module _ (old new : Trees) (t : Tables) (was : HoldsRows old t) where
   pub with_dates : (rows : Numbered Date) → HasRows date_cells rows (new 21) → KeepsOthers 21 old new → HoldsRows new (record t { dates = rows })
   with_dates rows now others = record {
     meta = kept meta_cells t.meta was.meta (others.0 (omega arith));
-    bodies = kept body_cells t.bodies was.bodies (others.1.0 (omega arith));
+    bodies = kept body_cells t.bodies was.bodies (ap (map full_body) (others.1.0 (omega arith)));
     pieces = kept piece_cells t.pieces was.pieces (others.1.1.0 (omega arith));
     arrivals = kept arrival_cells t.arrivals was.arrivals (others.1.1.1.0 (omega arith));
     uploads = kept upload_cells t.uploads was.uploads (ap (map full_upload) (others.1.1.1.1.0 (omega arith)));

@@ -38,6 +38,7 @@ pub mod UploadsMeaning
 pub mod UploadsLemmas
 pub mod WantsMeaning
 pub mod WantsLemmas
+pub mod NextLemmas
 pub mod ItemsMeaning
 pub mod ItemsLemmas
 pub mod RefsMeaning

@@ -14,11 +14,12 @@ use Rattle.tables.proofs.AddLemmas.{adds_row}
 use Rattle.tables.proofs.ShownLemmas.{Shows, shown, reads_stored}
 use Rattle.tables.specs.Schema.{archive_schema, pieces}
 use Rattle.tables.specs.Rows.{whole, Tables, Holds, Changes, with_piece, piece_cells, piece_of, stored, rows_of}
-use Rattle.tables.specs.Pieces.{is_of}
+use Rattle.tables.specs.Pieces.{is_of, without_pieces}
 use Rattle.tables.specs.declared.rows.Piece.{Piece}
-use Rattle.tables.specs.declared.pieces.TheConstants.{INSERT_PIECE, SELECT_PIECES_OF}
-use Rattle.tables.proofs.PiecesMeaning.{insert_piece_terms, insert_piece_is, insert_piece_plain, piece_columns, piece_body_is, select_pieces_of_is, select_pieces_of_plain}
+use Rattle.tables.specs.declared.pieces.TheConstants.{INSERT_PIECE, SELECT_PIECES_OF, DELETE_PIECES}
+use Rattle.tables.proofs.PiecesMeaning.{insert_piece_terms, insert_piece_is, insert_piece_plain, piece_columns, piece_body_is, select_pieces_of_is, select_pieces_of_plain, delete_pieces_columns, delete_pieces_is, delete_pieces_plain}
 use Rattle.tables.proofs.HoldsLemmas.{with_pieces}
+use Rattle.tables.proofs.UpdateLemmas.{deletes, deletes_rows}
 
 abbrev pieces_table : Table
 pieces_table = record pieces { tree = 3 }
@@ -44,3 +45,16 @@ pub pieces_of_answer : (old new : State) (t : Tables) (body : ℕ) (all : List P
     → (all ≡ filter (is_of body) (rows_of t.pieces)) × IsUnchanged old new
 pieces_of_answer old new t body all was h =
     reads_stored piece_cells 3 piece_body_is piece_columns (whole body ∷ []) SELECT_PIECES_OF.now old new t.pieces was.schema was.rows.pieces (is_of body) piece_of (λ _. refl) (pieces_of_shows body) all h
+
+pub removes_pieces : (old new : State) (body : ℕ) (r : Result ℕ Error) → ExecutesInside 0 DELETE_PIECES.now (whole body ∷ []) old new r → OnOk r (Changes old new (without_pieces body))
+removes_pieces old new body (Ok count) h = record {
+  held = λ t was.
+      let params = whole body ∷ [] in
+      let did = deletes DELETE_PIECES.now 2 _ delete_pieces_plain pieces_table refl delete_pieces_is old new params count was.schema h.0 in
+      let now = deletes_rows piece_cells 3 piece_body_is delete_pieces_columns params (λ x. is_of body x.1) (λ x. whole x.0 ∷ [])
+      (λ x. last_term (whole_test x.1.body body)) (λ _. refl) (λ _. refl) (λ _. refl)
+      old new t.pieces was.rows.pieces did.0 did.1 did.2 in
+      record { schema = did.2.schema_is; rows = with_pieces old.now.trees new.now.trees t was.rows _ now did.2.others };
+  shown = h.1;
+}
+removes_pieces old new body (Err e) h = tt

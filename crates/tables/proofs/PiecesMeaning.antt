@@ -2,7 +2,7 @@
 use Rattle.std.proofs.Common.{◌≡◌, refl, ◌∷◌, [], List, codes, false}
 use Rattle.sqlite_tied.specs.Compute.{everything}
 use Rattle.sqlite.specs.declared.types.Value.TheVariants.{Null}
-use Rattle.sqlite.specs.Command.TheVariants.{Insert, Select}
+use Rattle.sqlite.specs.Command.TheVariants.{Insert, Select, Delete}
 use Rattle.sqlite.specs.Source.TheVariants.{Values}
 use Rattle.sqlite.specs.Term.{Term, lit, col}
 use Rattle.sqlite.specs.Listing.{understood, reads_listing}
@@ -11,9 +11,10 @@ use Rattle.sqlite.specs.Collation.TheVariants.{Binary}
 use Rattle.sqlite_sql.specs.Term.{op2}
 use Rattle.sqlite_sql.specs.declared.ops.BinaryOp.TheVariants.{Compare}
 use Rattle.sqlite_sql.specs.declared.ops.CompareOp.TheVariants.{Eq}
-use Rattle.tables.specs.declared.pieces.TheConstants.{INSERT_PIECE, SELECT_PIECES_OF}
+use Rattle.tables.specs.declared.pieces.TheConstants.{INSERT_PIECE, SELECT_PIECES_OF, DELETE_PIECES}
 use Rattle.tables.specs.Schema.{archive_schema}
 use Rattle.tables.proofs.SelectLemmas.{rows_query}
+use Rattle.tables.proofs.UpdateLemmas.{edit_query}
 
 abbrev pub piece_columns : List Term
 piece_columns = col 1 0 ∷ col 1 1 ∷ col 1 2 ∷ col 1 3 ∷ []
@@ -39,3 +40,14 @@ select_pieces_of_is = (refl, refl)
 pub select_pieces_of_plain : IsPlain (understood archive_schema SELECT_PIECES_OF.now)
 unfolding understood everything
 select_pieces_of_plain = (refl, refl)
+
+abbrev pub delete_pieces_columns : List Term
+delete_pieces_columns = col 1 0 ∷ []
+
+pub delete_pieces_is : command_of (understood archive_schema DELETE_PIECES.now) ≡ Delete 2 (record { lets = []; body = edit_query 3 piece_body_is delete_pieces_columns })
+unfolding understood everything
+delete_pieces_is = refl
+
+pub delete_pieces_plain : IsPlain (understood archive_schema DELETE_PIECES.now)
+unfolding understood everything
+delete_pieces_plain = (refl, refl)

@@ -21,18 +21,21 @@ use Rattle.sqlite_value.proofs.OrderLemmas.{value_cmp-Null}
 use Rattle.sqlite_typed.proofs.TestLemmas.{at_is_null, at_not}
 use Rattle.sums.specs.declared.print.Print.{Print}
 use Rattle.tables.specs.Schema.{archive_schema, uploads}
-use Rattle.tables.specs.Rows.{whole, print_cells, Tables, Holds, Changes, with_upload, upload_cells, upload_of, row_of, some_nat, stored, next_in}
+use Rattle.tables.specs.Rows.{whole, print_cells, Tables, Holds, Changes, full_upload, with_upload, upload_cells, upload_of, row_of, some_nat, stored, next_in}
 use Rattle.tables.specs.Uploads.{is_upload, is_judged, with_verdict}
 use Rattle.tables.specs.declared.rows.Upload.{Upload}
-use Rattle.tables.specs.declared.uploads.TheConstants.{INSERT_UPLOAD, SELECT_UPLOADS, SELECT_UPLOAD, SELECT_UNJUDGED, SELECT_JUDGED, UPDATE_VERDICT}
-use Rattle.tables.proofs.UploadsMeaning.{insert_upload_terms, insert_upload_is, insert_upload_plain, upload_columns, upload_is, place_is_null, place_is_set, upload_id_is, select_uploads_is, select_uploads_plain, select_upload_is, select_upload_plain, select_unjudged_is, select_unjudged_plain, select_judged_is, select_judged_plain, update_verdict_columns, update_verdict_is, update_verdict_plain}
+use Rattle.tables.specs.declared.uploads.TheConstants.{INSERT_UPLOAD, SELECT_UPLOAD, SELECT_NUMBERED, SELECT_JUDGED, UPDATE_VERDICT}
+use Rattle.tables.proofs.UploadsMeaning.{insert_upload_terms, insert_upload_is, insert_upload_plain, upload_columns, upload_is, place_is_set, upload_id_is, select_upload_is, select_upload_plain, select_numbered_is, select_numbered_plain, select_judged_is, select_judged_plain, update_verdict_columns, update_verdict_is, update_verdict_plain}
 use Rattle.tables.proofs.HoldsLemmas.{with_uploads}
-use Rattle.tables.proofs.FullLemmas.{raw, raw_cells, raw_rows, upload_in, full_as, full_rows_as, added_of, next_of, changed_of, reads_uploads, first_upload}
+use Rattle.tables.proofs.FullLemmas.{Storing, raw, raw_cells, raw_rows, value_in, full_as, full_rows_as, added_of, next_of, changed_of, reads_values, first_value}
 use Rattle.sqlite_sql.specs.Term.{eval_all}
 use Rattle.tables.proofs.UpdateLemmas.{updates, updates_rows}
 
 abbrev uploads_table : Table
 uploads_table = record uploads { tree = 7 }
+
+abbrev storing : Storing Upload
+storing = record { cells = upload_cells; full = full_upload; same = λ _. refl; again = λ _ _ _. refl; none = refl }
 
 upload_cast : (name : List ℕ) (print : Print) → cast_row uploads_table (Null ∷ (Null ∷ (Text name ∷ (print_cells print ++ Null ∷ Null ∷ [])))) ≡ Null ∷ upload_cells (record { name = name; print = print; place = None; verdict = None })
 upload_cast name print = rw (cast_null, cast_int (pos print.size))
@@ -44,20 +47,20 @@ inserts_upload old new name print count h =
     let put = λ (t : Tables) (was : Holds old.now t).
     puts archive_schema INSERT_UPLOAD.now 4 insert_upload_terms 9 insert_upload_is insert_upload_plain _ _ _ _ _ _ 7 refl (λ _. refl)
     old new (Text name ∷ print_cells print) (Null ∷ (Null ∷ (Text name ∷ (print_cells print ++ Null ∷ Null ∷ [])))) count refl was.schema h.0 in
-    let raws = λ (t : Tables) (was : Holds old.now t). raw_rows t.uploads (old.now.trees 7) was.rows.uploads in (
+    let raws = λ (t : Tables) (was : Holds old.now t). raw_rows storing t.uploads (old.now.trees 7) was.rows.uploads in (
       record {
         held = λ t was.
             let r = raws t was in
-            let now = adds_row raw_cells uploads_table _ (raw upload) (upload_cast name print) old new (put t was) r.of r.has in
+            let now = adds_row (raw_cells storing) uploads_table _ (raw storing upload) (upload_cast name print) old new (put t was) r.of r.has in
             record {
               schema = (put t was).schema_is;
-              rows = with_uploads old.now.trees new.now.trees t was.rows _ (full_rows_as _ _ (new.now.trees 7) (added_of t.uploads r.of upload r.uploads) now) (put t was).others;
+              rows = with_uploads old.now.trees new.now.trees t was.rows _ (full_rows_as storing _ _ (new.now.trees 7) (added_of storing t.uploads r.of upload r.values) now) (put t was).others;
             };
         shown = h.1;
       },
       λ t was.
           let r = raws t was in
-          adds_id raw_cells uploads_table _ (raw upload) (upload_cast name print) old new (put t was) r.of r.has ∙ ap pos (next_of t.uploads r.of r.uploads),
+          adds_id (raw_cells storing) uploads_table _ (raw storing upload) (upload_cast name print) old new (put t was) r.of r.has ∙ ap pos (next_of storing t.uploads r.of r.values),
     )
 
 upload_back : (x : ℕ × Upload) → row_of upload_of (shown upload_cells x) ≡ x
@@ -66,32 +69,23 @@ upload_back x =
     let verdict = elim x.1.verdict as (λ v. some_nat (or_null whole v) ≡ v) [ None ↦ refl | Some n ↦ refl ] in
     λ i. (x.0, record x.1 { place = place i; verdict = verdict i })
 
-uploads_show : Shows upload_cells 7 [] upload_columns ([]) (λ _. true) (shown upload_cells) SELECT_UPLOADS.now
-uploads_show = record { names = _; is = select_uploads_is.0; plain = select_uploads_plain; unlisted = select_uploads_is.1; tests = λ _. refl; shows = λ _. refl; real = λ _. refl }
-
-pub uploads_answer : (old new : State) (t : Tables) (all : List (ℕ × Upload)) → Holds old.now t → IsRead (row_of upload_of) SELECT_UPLOADS.now ([]) old new all
-    → (all ≡ t.uploads) × IsUnchanged old new
-uploads_answer old new t all was h =
-    let done = reads_uploads [] upload_columns ([]) SELECT_UPLOADS.now old new t.uploads was.schema was.rows.uploads (λ _. true) upload_back uploads_show (record { tests = λ _. refl; shows = λ _. refl }) all h in
-    (unfiltered t.uploads done.0, done.1)
-
 upload_shows : (name : List ℕ) (print : Print) → Shows upload_cells 7 upload_is upload_columns (Text name ∷ print_cells print) (λ x. is_upload name print x.1) (shown upload_cells) SELECT_UPLOAD.now
 upload_shows name print = record { names = _; is = select_upload_is.0; plain = select_upload_plain; unlisted = select_upload_is.1; tests = λ x. then_term (text_test x.1.name name) (print_test x.1.print print); shows = λ _. refl; real = λ _. refl }
 
 pub upload_answer : (old new : State) (t : Tables) (name : List ℕ) (print : Print) (found : Option (ℕ × Upload)) → Holds old.now t → IsReadFirst (row_of upload_of) SELECT_UPLOAD.now (Text name ∷ print_cells print) old new found
     → (found ≡ find (λ x. is_upload name print x.1) t.uploads) × IsUnchanged old new
 upload_answer old new t name print found was h =
-    first_upload upload_is upload_columns (Text name ∷ print_cells print) SELECT_UPLOAD.now old new t.uploads was.schema was.rows.uploads (λ x. is_upload name print x.1) upload_back (upload_shows name print)
+    first_value storing 7 upload_is upload_columns (Text name ∷ print_cells print) SELECT_UPLOAD.now old new t.uploads was.schema was.rows.uploads (λ x. is_upload name print x.1) upload_of upload_back (upload_shows name print)
     (record { tests = λ _. refl; shows = λ _. refl }) found h
 
-unjudged_show : Shows upload_cells 7 place_is_null upload_columns ([]) (λ x. not (is_judged x.1)) (shown upload_cells) SELECT_UNJUDGED.now
-unjudged_show = record { names = _; is = select_unjudged_is.0; plain = select_unjudged_plain; unlisted = select_unjudged_is.1; tests = λ x. last_term (at_is_null whole false (λ n. value_cmp-Null (whole n)) x.1.place); shows = λ _. refl; real = λ _. refl }
+numbered_show : (id : ℕ) → Shows upload_cells 7 upload_id_is upload_columns (whole id ∷ []) (λ x. nat_eq x.0 id) (shown upload_cells) SELECT_NUMBERED.now
+numbered_show id = record { names = _; is = select_numbered_is.0; plain = select_numbered_plain; unlisted = select_numbered_is.1; tests = λ x. last_term (whole_test x.0 id); shows = λ _. refl; real = λ _. refl }
 
-pub unjudged_answer : (old new : State) (t : Tables) (all : List (ℕ × Upload)) → Holds old.now t → IsRead (row_of upload_of) SELECT_UNJUDGED.now ([]) old new all
-    → (all ≡ filter (λ x. not (is_judged x.1)) t.uploads) × IsUnchanged old new
-unjudged_answer old new t all was h =
-    reads_uploads place_is_null upload_columns ([]) SELECT_UNJUDGED.now old new t.uploads was.schema was.rows.uploads (λ x. not (is_judged x.1)) upload_back unjudged_show
-    (record { tests = λ _. refl; shows = λ _. refl }) all h
+pub numbered_answer : (old new : State) (t : Tables) (id : ℕ) (found : Option (ℕ × Upload)) → Holds old.now t → IsReadFirst (row_of upload_of) SELECT_NUMBERED.now (whole id ∷ []) old new found
+    → (found ≡ find (λ x. nat_eq x.0 id) t.uploads) × IsUnchanged old new
+numbered_answer old new t id found was h =
+    first_value storing 7 upload_id_is upload_columns (whole id ∷ []) SELECT_NUMBERED.now old new t.uploads was.schema was.rows.uploads (λ x. nat_eq x.0 id) upload_of upload_back (numbered_show id)
+    (record { tests = λ _. refl; shows = λ _. refl }) found h
 
 not_not : (b : Bool) → not (not b) ≡ b
 not_not true = refl
@@ -103,7 +97,7 @@ judged_show = record { names = _; is = select_judged_is.0; plain = select_judged
 pub judged_answer : (old new : State) (t : Tables) (all : List (ℕ × Upload)) → Holds old.now t → IsRead (row_of upload_of) SELECT_JUDGED.now ([]) old new all
     → (all ≡ filter (λ x. is_judged x.1) t.uploads) × IsUnchanged old new
 judged_answer old new t all was h =
-    reads_uploads place_is_set upload_columns ([]) SELECT_JUDGED.now old new t.uploads was.schema was.rows.uploads (λ x. is_judged x.1) upload_back judged_show
+    reads_values storing 7 place_is_set upload_columns ([]) SELECT_JUDGED.now old new t.uploads was.schema was.rows.uploads (λ x. is_judged x.1) upload_of upload_back judged_show
     (record { tests = λ _. refl; shows = λ _. refl }) all h
 
 -- the row that an update makes of a row
@@ -122,12 +116,12 @@ changes_verdict old new id place verdict (Ok count) h = record {
   held = λ t was.
       let params = whole id ∷ whole place ∷ whole verdict ∷ [] in
       let did = updates UPDATE_VERDICT.now 4 _ update_verdict_plain uploads_table refl update_verdict_is old new params count was.schema h.0 in
-      let r = raw_rows t.uploads (old.now.trees 7) was.rows.uploads in
-      let now = updates_rows raw_cells 7 upload_id_is update_verdict_columns params (λ x. nat_eq x.0 id) (λ x. updated place verdict (upload_in x))
-      (λ x. last_term (whole_test x.0 id)) (λ x. ap (λ row. eval_all update_verdict_columns (params ∷ row ∷ [])) (full_as x)) (λ _. refl) (λ _. refl)
-      old new r.of r.has did.0 did.1 (λ k. raw (judged place verdict k.upload)) uploads_table (λ x. updated_cast place verdict (upload_in x)) did.2 in
-      let same = changed_of t.uploads r.of (λ x. nat_eq x.0 id) (judged place verdict) (λ k. raw (judged place verdict k.upload)) (λ _. refl) r.uploads in
-      record { schema = did.2.schema_is; rows = with_uploads old.now.trees new.now.trees t was.rows _ (full_rows_as _ _ (new.now.trees 7) same now) did.2.others };
+      let r = raw_rows storing t.uploads (old.now.trees 7) was.rows.uploads in
+      let now = updates_rows (raw_cells storing) 7 upload_id_is update_verdict_columns params (λ x. nat_eq x.0 id) (λ x. updated place verdict (value_in storing x))
+      (λ x. last_term (whole_test x.0 id)) (λ x. ap (λ row. eval_all update_verdict_columns (params ∷ row ∷ [])) (full_as storing x)) (λ _. refl) (λ _. refl)
+      old new r.of r.has did.0 did.1 (λ k. raw storing (judged place verdict k.value)) uploads_table (λ x. updated_cast place verdict (value_in storing x)) did.2 in
+      let same = changed_of storing t.uploads r.of (λ x. nat_eq x.0 id) (judged place verdict) (λ k. raw storing (judged place verdict k.value)) (λ _. refl) r.values in
+      record { schema = did.2.schema_is; rows = with_uploads old.now.trees new.now.trees t was.rows _ (full_rows_as storing _ _ (new.now.trees 7) same now) did.2.others };
   shown = h.1;
 }
 changes_verdict old new id place verdict (Err e) h = tt

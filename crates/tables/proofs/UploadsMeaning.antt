@@ -12,7 +12,7 @@ use Rattle.sqlite_sql.specs.Term.{op1, op2}
 use Rattle.sqlite_sql.specs.declared.ops.BinaryOp.TheVariants.{Compare, Is}
 use Rattle.sqlite_sql.specs.declared.ops.UnaryOp.TheVariants.{Not}
 use Rattle.sqlite_sql.specs.declared.ops.CompareOp.TheVariants.{Eq}
-use Rattle.tables.specs.declared.uploads.TheConstants.{INSERT_UPLOAD, SELECT_UPLOADS, SELECT_UPLOAD, SELECT_UNJUDGED, SELECT_JUDGED, UPDATE_VERDICT}
+use Rattle.tables.specs.declared.uploads.TheConstants.{INSERT_UPLOAD, SELECT_UPLOAD, SELECT_NUMBERED, SELECT_JUDGED, UPDATE_VERDICT}
 use Rattle.tables.specs.Schema.{archive_schema}
 use Rattle.tables.proofs.SelectLemmas.{rows_query}
 use Rattle.tables.proofs.UpdateLemmas.{edit_query}
@@ -22,9 +22,6 @@ upload_columns = col 1 0 ∷ col 1 0 ∷ col 1 2 ∷ col 1 3 ∷ col 1 4 ∷ col
 
 abbrev pub upload_is : List Term
 upload_is = op2 (Compare Eq Binary) (col 1 2) (col 0 0) ∷ op2 (Compare Eq Binary) (col 1 3) (col 0 1) ∷ op2 (Compare Eq Binary) (col 1 4) (col 0 2) ∷ op2 (Compare Eq Binary) (col 1 5) (col 0 3) ∷ op2 (Compare Eq Binary) (col 1 6) (col 0 4) ∷ []
-
-abbrev pub place_is_null : List Term
-place_is_null = op2 (Is Binary) (col 1 7) (lit Null) ∷ []
 
 abbrev pub place_is_set : List Term
 place_is_set = op1 Not (op2 (Is Binary) (col 1 7) (lit Null)) ∷ []
@@ -46,14 +43,6 @@ pub insert_upload_plain : IsPlain (understood archive_schema INSERT_UPLOAD.now)
 unfolding understood everything
 insert_upload_plain = (refl, refl)
 
-pub select_uploads_is : (command_of (understood archive_schema SELECT_UPLOADS.now) ≡ Select (record { lets = []; body = rows_query 7 [] upload_columns }) (codes "id" ∷ codes "id" ∷ codes "name" ∷ codes "size" ∷ codes "md5" ∷ codes "sha1" ∷ codes "sha256" ∷ codes "place" ∷ codes "verdict" ∷ [])) × (reads_listing archive_schema SELECT_UPLOADS.now ≡ false)
-unfolding understood everything
-select_uploads_is = (refl, refl)
-
-pub select_uploads_plain : IsPlain (understood archive_schema SELECT_UPLOADS.now)
-unfolding understood everything
-select_uploads_plain = (refl, refl)
-
 pub select_upload_is : (command_of (understood archive_schema SELECT_UPLOAD.now) ≡ Select (record { lets = []; body = rows_query 7 upload_is upload_columns }) (codes "id" ∷ codes "id" ∷ codes "name" ∷ codes "size" ∷ codes "md5" ∷ codes "sha1" ∷ codes "sha256" ∷ codes "place" ∷ codes "verdict" ∷ [])) × (reads_listing archive_schema SELECT_UPLOAD.now ≡ false)
 unfolding understood everything
 select_upload_is = (refl, refl)
@@ -62,13 +51,13 @@ pub select_upload_plain : IsPlain (understood archive_schema SELECT_UPLOAD.now)
 unfolding understood everything
 select_upload_plain = (refl, refl)
 
-pub select_unjudged_is : (command_of (understood archive_schema SELECT_UNJUDGED.now) ≡ Select (record { lets = []; body = rows_query 7 place_is_null upload_columns }) (codes "id" ∷ codes "id" ∷ codes "name" ∷ codes "size" ∷ codes "md5" ∷ codes "sha1" ∷ codes "sha256" ∷ codes "place" ∷ codes "verdict" ∷ [])) × (reads_listing archive_schema SELECT_UNJUDGED.now ≡ false)
+pub select_numbered_is : (command_of (understood archive_schema SELECT_NUMBERED.now) ≡ Select (record { lets = []; body = rows_query 7 upload_id_is upload_columns }) (codes "id" ∷ codes "id" ∷ codes "name" ∷ codes "size" ∷ codes "md5" ∷ codes "sha1" ∷ codes "sha256" ∷ codes "place" ∷ codes "verdict" ∷ [])) × (reads_listing archive_schema SELECT_NUMBERED.now ≡ false)
 unfolding understood everything
-select_unjudged_is = (refl, refl)
+select_numbered_is = (refl, refl)
 
-pub select_unjudged_plain : IsPlain (understood archive_schema SELECT_UNJUDGED.now)
+pub select_numbered_plain : IsPlain (understood archive_schema SELECT_NUMBERED.now)
 unfolding understood everything
-select_unjudged_plain = (refl, refl)
+select_numbered_plain = (refl, refl)
 
 pub select_judged_is : (command_of (understood archive_schema SELECT_JUDGED.now) ≡ Select (record { lets = []; body = rows_query 7 place_is_set upload_columns }) (codes "id" ∷ codes "id" ∷ codes "name" ∷ codes "size" ∷ codes "md5" ∷ codes "sha1" ∷ codes "sha256" ∷ codes "place" ∷ codes "verdict" ∷ [])) × (reads_listing archive_schema SELECT_JUDGED.now ≡ false)
 unfolding understood everything

@@ -20,8 +20,8 @@ use Rattle.tables.specs.Schema.{archive_schema, wants}
 use Rattle.tables.specs.Rows.{whole, flag, print_cells, Tables, Holds, Changes, with_want, want_cells, want_of, stored, rows_of}
 use Rattle.tables.specs.Wants.{is_wanted_by, is_want, with_here, without_wants}
 use Rattle.tables.specs.declared.rows.Want.{Want}
-use Rattle.tables.specs.declared.wants.TheConstants.{INSERT_WANT, SELECT_WANTS, SELECT_WANTS_OF, UPDATE_HERE, DELETE_WANTS}
-use Rattle.tables.proofs.WantsMeaning.{insert_want_terms, insert_want_is, insert_want_plain, want_columns, want_upload_is, want_is, select_wants_is, select_wants_plain, select_wants_of_is, select_wants_of_plain, update_here_columns, update_here_is, update_here_plain, delete_wants_columns, delete_wants_is, delete_wants_plain}
+use Rattle.tables.specs.declared.wants.TheConstants.{INSERT_WANT, SELECT_WANTS_OF, UPDATE_HERE, DELETE_WANTS}
+use Rattle.tables.proofs.WantsMeaning.{insert_want_terms, insert_want_is, insert_want_plain, want_columns, want_upload_is, want_is, select_wants_of_is, select_wants_of_plain, update_here_columns, update_here_is, update_here_plain, delete_wants_columns, delete_wants_is, delete_wants_plain}
 use Rattle.tables.proofs.HoldsLemmas.{with_wants}
 use Rattle.tables.proofs.UpdateLemmas.{updates, updates_rows, deletes, deletes_rows}
 
@@ -44,15 +44,6 @@ inserts_want old new upload name print here (Err e) h = tt
 
 want_back : (x : ℕ × Want) → want_of (stored want_cells x) ≡ x.1
 want_back x = elim x.1.here as (λ b. want_of (stored want_cells (x.0, record x.1 { here = b })) ≡ record x.1 { here = b }) [ true ↦ refl | false ↦ refl ]
-
-wants_show : Shows want_cells 10 [] want_columns ([]) (λ _. true) (stored want_cells) SELECT_WANTS.now
-wants_show = record { names = _; is = select_wants_is.0; plain = select_wants_plain; unlisted = select_wants_is.1; tests = λ _. refl; shows = λ _. refl; real = λ _. refl }
-
-pub wants_answer : (old new : State) (t : Tables) (all : List Want) → Holds old.now t → IsRead want_of SELECT_WANTS.now ([]) old new all
-    → (all ≡ rows_of t.wants) × IsUnchanged old new
-wants_answer old new t all was h =
-    let done = reads_stored want_cells 10 [] want_columns ([]) SELECT_WANTS.now old new t.wants was.schema was.rows.wants (λ _. true) want_of want_back wants_show all h in
-    (unfiltered (rows_of t.wants) done.0, done.1)
 
 wants_of_show : (upload : ℕ) → Shows want_cells 10 want_upload_is want_columns (whole upload ∷ []) (λ x. is_wanted_by upload x.1) (stored want_cells) SELECT_WANTS_OF.now
 wants_of_show upload = record { names = _; is = select_wants_of_is.0; plain = select_wants_of_plain; unlisted = select_wants_of_is.1; tests = λ x. last_term (whole_test x.1.upload upload); shows = λ _. refl; real = λ _. refl }

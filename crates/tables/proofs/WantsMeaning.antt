@@ -11,7 +11,7 @@ use Rattle.sqlite.specs.Collation.TheVariants.{Binary}
 use Rattle.sqlite_sql.specs.Term.{op2}
 use Rattle.sqlite_sql.specs.declared.ops.BinaryOp.TheVariants.{Compare}
 use Rattle.sqlite_sql.specs.declared.ops.CompareOp.TheVariants.{Eq}
-use Rattle.tables.specs.declared.wants.TheConstants.{INSERT_WANT, SELECT_WANTS, SELECT_WANTS_OF, UPDATE_HERE, DELETE_WANTS}
+use Rattle.tables.specs.declared.wants.TheConstants.{INSERT_WANT, SELECT_WANTS_OF, UPDATE_HERE, DELETE_WANTS}
 use Rattle.tables.specs.Schema.{archive_schema}
 use Rattle.tables.proofs.SelectLemmas.{rows_query}
 use Rattle.tables.proofs.UpdateLemmas.{edit_query}
@@ -41,14 +41,6 @@ insert_want_is = refl
 pub insert_want_plain : IsPlain (understood archive_schema INSERT_WANT.now)
 unfolding understood everything
 insert_want_plain = (refl, refl)
-
-pub select_wants_is : (command_of (understood archive_schema SELECT_WANTS.now) ≡ Select (record { lets = []; body = rows_query 10 [] want_columns }) (codes "rowid" ∷ codes "upload" ∷ codes "name" ∷ codes "size" ∷ codes "md5" ∷ codes "sha1" ∷ codes "sha256" ∷ codes "here" ∷ [])) × (reads_listing archive_schema SELECT_WANTS.now ≡ false)
-unfolding understood everything
-select_wants_is = (refl, refl)
-
-pub select_wants_plain : IsPlain (understood archive_schema SELECT_WANTS.now)
-unfolding understood everything
-select_wants_plain = (refl, refl)
 
 pub select_wants_of_is : (command_of (understood archive_schema SELECT_WANTS_OF.now) ≡ Select (record { lets = []; body = rows_query 10 want_upload_is want_columns }) (codes "rowid" ∷ codes "upload" ∷ codes "name" ∷ codes "size" ∷ codes "md5" ∷ codes "sha1" ∷ codes "sha256" ∷ codes "here" ∷ [])) × (reads_listing archive_schema SELECT_WANTS_OF.now ≡ false)
 unfolding understood everything

@@ -1,9 +1,9 @@
 -- What the statements on bodies speak of.
-use Rattle.std.specs.Prelude.{ℕ, Bool, false, Option, option_map, find}
+use Rattle.std.specs.Prelude.{ℕ, Bool, false, Option, option_map, find, nat_eq}
 use Rattle.std.specs.Option.{option_map_or}
 use Rattle.sums.specs.declared.print.Print.{Print}
 use Rattle.sums.specs.Prints.{same_print}
-use Rattle.tables.specs.Rows.{Numbered}
+use Rattle.tables.specs.Rows.{Numbered, Tables, without}
 use Rattle.tables.specs.declared.rows.Body.{Body}
 
 abbrev pub has_print : Print → Body → Bool
@@ -12,3 +12,7 @@ has_print p x = option_map_or (λ q. same_print q p) x.print false
 -- the number of the body with this print
 abbrev pub body_with : Print → Numbered Body → Option ℕ
 body_with p bodies = option_map (λ x. x.0) (find (λ x. has_print p x.1) bodies)
+
+-- the body of this number is gone
+abbrev pub without_body : ℕ → Tables → Tables
+without_body id t = record t { bodies = without (λ x. nat_eq x.0 id) t.bodies }

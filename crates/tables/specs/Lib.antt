@@ -14,3 +14,4 @@ pub mod Items
 pub mod Refs
 pub mod Files
 pub mod Inside
+pub mod Real

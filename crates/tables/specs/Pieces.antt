@@ -1,7 +1,12 @@
 -- What the statements on pieces speak of.
 use Rattle.std.specs.Prelude.{ℕ, Bool, nat_eq}
+use Rattle.tables.specs.Rows.{Tables, without}
 use Rattle.tables.specs.declared.rows.Piece.{Piece}
 
 -- the piece is one of this body
 abbrev pub is_of : ℕ → Piece → Bool
 is_of body x = nat_eq x.body body
+
+-- the pieces of this body are gone
+abbrev pub without_pieces : ℕ → Tables → Tables
+without_pieces body t = record t { pieces = without (λ x. is_of body x.1) t.pieces }

@@ -125,7 +125,10 @@ pub record Tables : Type 0 where
 abbrev pub no_rows : Tables
 no_rows = record { meta = []; bodies = []; pieces = []; arrivals = []; uploads = []; wants = []; items = []; refs = []; files = []; texts = []; dates = [] }
 
--- the row of an upload, with NULL in each column that it lacks
+-- the row of a body, and that of an upload, with NULL in each column that it lacks
+abbrev pub full_body : Row → Row
+full_body r = column r 0 ∷ column r 1 ∷ column r 2 ∷ column r 3 ∷ column r 4 ∷ column r 5 ∷ []
+
 abbrev pub full_upload : Row → Row
 full_upload r =
     column r 0 ∷ column r 1 ∷ column r 2 ∷ column r 3 ∷ column r 4 ∷ column r 5 ∷ column r 6 ∷ column r 7 ∷ column r 8 ∷ []
@@ -133,11 +136,11 @@ full_upload r =
 -- the trees hold exactly these rows; the trees between are those of indexes
 pub record HoldsRows (trees : Trees) (t : Tables) : Type 0 where
   pub meta : HasRows meta_cells t.meta (trees 0)
-  pub bodies : HasRows body_cells t.bodies (trees 1)
+  -- The last columns of a body and of an upload may be NULL, so a row may end before them: no statement tells such a row from
+  -- one that holds NULL there. The other tables' last columns are never NULL in an archive.
+  pub bodies : HasRows body_cells t.bodies (map full_body (trees 1))
   pub pieces : HasRows piece_cells t.pieces (trees 3)
   pub arrivals : HasRows arrival_cells t.arrivals (trees 5)
-  -- Its last columns may be NULL, so a row may end before them: no statement tells such a row from one that holds NULL
-  -- there. The other tables' last columns are never NULL in an archive.
   pub uploads : HasRows upload_cells t.uploads (map full_upload (trees 7))
   pub wants : HasRows want_cells t.wants (trees 10)
   pub items : HasRows item_cells t.items (trees 13)

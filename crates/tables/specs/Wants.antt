@@ -1,5 +1,6 @@
 -- What the statements on wants speak of.
-use Rattle.std.specs.Prelude.{ℕ, Bool, true, ◌&&◌, List, nat_eq, bytes_eq}
+use Rattle.std.specs.Prelude.{ℕ, ℤ, pos, negsuc, ◌≤◌, Bool, true, ◌&&◌, List, Option, None, Some, IfSome, MatchOption, IsTrue, nat_eq, nat_lt, bytes_eq}
+use Rattle.std.specs.List.{list_any}
 use Rattle.sums.specs.declared.print.Print.{Print}
 use Rattle.sums.specs.Prints.{same_print}
 use Rattle.tables.specs.Rows.{Tables, changed, without}
@@ -20,3 +21,22 @@ with_here name print t = record t { wants = changed (λ x. is_want name print x.
 -- the entries of this upload are gone
 abbrev pub without_wants : ℕ → Tables → Tables
 without_wants upload t = record t { wants = without (λ x. is_wanted_by upload x.1) t.wants }
+
+-- the number stands behind this one, or is any where there is none
+abbrev pub is_behind : Option ℕ → ℕ → Bool
+is_behind None id = true
+is_behind (Some after) id = nat_lt after id
+
+-- the integer below exactly these numbers
+abbrev pub bound_below : Option ℕ → ℤ
+bound_below None = negsuc 0
+bound_below (Some after) = pos after
+
+-- the upload has entries, and its number stands behind this one
+abbrev pub wants_behind : Option ℕ → List Want → ℕ → Bool
+wants_behind after wants upload = is_behind after upload && list_any (is_wanted_by upload) wants
+
+-- The first upload behind a number that has entries: it is one, and none stands before it.
+pub record IsNextWanting (after : Option ℕ) (wants : List Want) (found : Option ℕ) : Type 0 where
+  pub one : IfSome found (λ id. IsTrue (wants_behind after wants id))
+  pub first : (id : ℕ) → IsTrue (wants_behind after wants id) → MatchOption found ⊥ (λ n. n ≤ id)

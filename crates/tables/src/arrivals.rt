@@ -1,22 +1,20 @@
 //! The names under which bodies arrived.
 
-ghost use Rattle.std.specs.Prelude.{◌≡◌, find, false, IsTrue, IfOk, OnOk, OnErr};
+ghost use Rattle.std.specs.Prelude.{◌≡◌, find, IsTrue, IfOk, OnOk, OnErr};
 ghost use Rattle.sqlite.specs.State.{HasCleanDisk, IsUnchanged, Survives, KeepsCommit};
 ghost use Rattle.sqlite.specs.Held.{state};
 ghost use Rattle.tables.specs.Inside.{GoesOn};
-ghost use Rattle.tables.specs.Rows.{Tables, Holds, Changes, Fails, IsForeign, with_arrival, arrival_of, next_in};
+ghost use Rattle.tables.specs.Rows.{Tables, Holds, Changes, Fails, with_arrival, arrival_of, next_in};
 ghost use Rattle.tables.specs.Arrivals.{is_arrival, with_moment};
 
 use crate::cells::row_number;
 use crate::number::whole;
-use crate::read::{FromRow, select, select_first_inside, text_at, whole_at};
+use crate::read::{FromRow, select_first_inside, text_at, whole_at};
 use crate::rows::Arrival;
-use sqlite::{Alter, Connection, Error, Row, Transaction, params};
+use sqlite::{Alter, Error, Row, Transaction, params};
 use std::alloc::Global;
 
 const INSERT_ARRIVAL: &str = "INSERT INTO arrivals (name, body, moment) VALUES (?1, ?2, ?3)";
-
-const SELECT_ARRIVALS: &str = "SELECT rowid, id, name, body, moment FROM arrivals ORDER BY rowid";
 
 const SELECT_ARRIVAL: &str =
     "SELECT rowid, id, name, body, moment FROM arrivals WHERE name = ?1 AND body = ?2 ORDER BY rowid";
@@ -76,21 +74,6 @@ pub fn arrival_of<S: Alter>(
 {
     let body = whole(body)?;
     select_first_inside(alloc, tx, SELECT_ARRIVAL, params![name, body])
-}
-
-/// The arrivals with their numbers, in the order of these.
-pub fn select_arrivals<S: Alter>(
-    alloc: Global,
-    conn: &mut Connection<S>,
-) -> Result<Vec<(u64, Arrival)>, Error>
-    ensures idle { conn.old.in_transaction ≡ false → conn.new.in_transaction ≡ false }
-    ensures ok { HasCleanDisk (state S.Store conn.new) → (t : Tables) → Holds (state S.Store conn.old).now t
-        → IfOk result (λ all. (all.items ≡ t.arrivals) × IsUnchanged (state S.Store conn.old) (state S.Store conn.new)) }
-    ensures err { HasCleanDisk (state S.Store conn.new) → (t : Tables) → Holds (state S.Store conn.old).now t
-        → OnErr result (Fails (state S.Store conn.old) (state S.Store conn.new)) }
-    ensures survives { Survives (state S.Store conn.old) (state S.Store conn.new) (λ _. IsForeign (state S.Store conn.old).now) }
-{
-    select(alloc, conn, SELECT_ARRIVALS, &[])
 }
 
 /// Replaces the moment of an arrival.

@@ -4,33 +4,22 @@ ghost use Rattle.std.specs.Prelude.{◌≡◌, Some, false, IsTrue, IfOk, OnOk, 
 ghost use Rattle.sqlite.specs.State.{HasCleanDisk, IsUnchanged, Survives, KeepsCommit};
 ghost use Rattle.sqlite.specs.Held.{state};
 ghost use Rattle.tables.specs.Inside.{GoesOn};
-ghost use Rattle.tables.specs.Rows.{Tables, Holds, Changes, Fails, IsForeign, with_body, body_of, next_in};
-ghost use Rattle.tables.specs.Bodies.{body_with};
+ghost use Rattle.tables.specs.Rows.{Tables, Holds, Changes, Fails, IsForeign, with_body, next_in};
+ghost use Rattle.tables.specs.Bodies.{body_with, without_body};
 
-use crate::cells::{row_number, some_print_at};
+use crate::cells::row_number;
 use crate::number::whole;
-use crate::read::{FromRow, select, select_first, select_first_inside};
-use crate::rows::Body;
-use sqlite::{Alter, Connection, Error, Row, Transaction, params};
+use crate::read::{select_first, select_first_inside};
+use sqlite::{Alter, Connection, Error, Transaction, params};
 use std::alloc::Global;
 use sums::Print;
 
 const INSERT_BODY: &str = "INSERT INTO bodies (size, md5, sha1, sha256) VALUES (?1, ?2, ?3, ?4)";
 
-const SELECT_BODIES: &str = "SELECT rowid, id, size, md5, sha1, sha256 FROM bodies ORDER BY rowid";
-
 const SELECT_BODY: &str =
     "SELECT rowid FROM bodies WHERE size = ?1 AND md5 = ?2 AND sha1 = ?3 AND sha256 = ?4 ORDER BY rowid";
 
-impl FromRow for Body {
-    ghost of_row = { body_of };
-
-    fn from_row(row: &Row) -> Result<Body, Error> {
-        Ok(Body {
-            print: some_print_at(row, 2)?,
-        })
-    }
-}
+const DELETE_BODY: &str = "DELETE FROM bodies WHERE id = ?1";
 
 /// Adds a whole body, and answers its number.
 pub fn insert_body<S: Alter>(tx: &mut Transaction<'_, S>, print: &Print) -> Result<u64, Error>
@@ -94,17 +83,16 @@ pub fn body_with_print_inside<S: Alter>(
     select_first_inside(alloc, tx, SELECT_BODY, params![size, md5, sha1, sha256])
 }
 
-/// The bodies with their numbers, in the order of these.
-pub fn select_bodies<S: Alter>(
-    alloc: Global,
-    conn: &mut Connection<S>,
-) -> Result<Vec<(u64, Body)>, Error>
-    ensures idle { conn.old.in_transaction ≡ false → conn.new.in_transaction ≡ false }
-    ensures ok { HasCleanDisk (state S.Store conn.new) → (t : Tables) → Holds (state S.Store conn.old).now t
-        → IfOk result (λ all. (all.items ≡ t.bodies) × IsUnchanged (state S.Store conn.old) (state S.Store conn.new)) }
-    ensures err { HasCleanDisk (state S.Store conn.new) → (t : Tables) → Holds (state S.Store conn.old).now t
-        → OnErr result (Fails (state S.Store conn.old) (state S.Store conn.new)) }
-    ensures survives { Survives (state S.Store conn.old) (state S.Store conn.new) (λ _. IsForeign (state S.Store conn.old).now) }
+/// Removes the body of a number. Its pieces go first, and no arrival and no file may name it: a body that still has some is refused.
+pub fn delete_body<S: Alter>(tx: &mut Transaction<'_, S>, id: u64) -> Result<(), Error>
+    ensures same_reference { tx.new.conn.ghost_name ≡ tx.old.conn.ghost_name }
+    ensures ok { HasCleanDisk (state S.Store tx.new.conn.now) → IsTrue (state S.Store tx.old.conn.now).in_transaction
+        → OnOk result (Changes (state S.Store tx.old.conn.now) (state S.Store tx.new.conn.now) (without_body id)) }
+    ensures err { HasCleanDisk (state S.Store tx.new.conn.now) → IsTrue (state S.Store tx.old.conn.now).in_transaction
+        → OnErr result (Fails (state S.Store tx.old.conn.now) (state S.Store tx.new.conn.now)) }
+    ensures survives { Survives (state S.Store tx.old.conn.now) (state S.Store tx.new.conn.now) (λ _. ⊥) }
 {
-    select(alloc, conn, SELECT_BODIES, &[])
+    let id = whole(id)?;
+    tx.execute(DELETE_BODY, params![id])?;
+    Ok(())
 }

@@ -2,6 +2,7 @@
 
 ghost use Rattle.std.specs.Prelude.{◌≡◌, ℕ, pos, unsigned_abs, IfOk};
 ghost use Rattle.sqlite_value.specs.declared.value.Value.TheVariants.{Int};
+ghost use Rattle.tables.specs.Wants.{bound_below};
 
 use sqlite::types::{ToSql, ValueRef};
 use sqlite::{Error, ErrorCode};
@@ -36,5 +37,34 @@ impl<'a> ToSql<'a> for Number {
 
     fn to_sql(self) -> ValueRef<'a> {
         ValueRef::Int(self.n)
+    }
+}
+
+/// A number below all that stand behind another, or below all where there is none.
+#[derive(Drop)]
+pub(crate) struct Bound {
+    after: Option<Number>,
+}
+
+/// The bound below the numbers that stand behind this one.
+pub(crate) fn below(after: Option<u64>) -> Result<Bound, Error>
+    ensures { IfOk result (λ bound. bound.after ≡ after) }
+{
+    match after {
+        Some(n) => Ok(Bound {
+            after: Some(whole(n)?),
+        }),
+        None => Ok(Bound { after: None }),
+    }
+}
+
+impl<'a> ToSql<'a> for Bound {
+    ghost to_sql = { λ bound. Int (bound_below bound.after) };
+
+    fn to_sql(self) -> ValueRef<'a> {
+        match self.after {
+            Some(n) => n.to_sql(),
+            None => ValueRef::Int(-1),
+        }
     }
 }

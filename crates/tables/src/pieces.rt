@@ -5,7 +5,7 @@ ghost use Rattle.sqlite.specs.State.{HasCleanDisk, IsUnchanged, KeepsCommit, Sur
 ghost use Rattle.sqlite.specs.Held.{state};
 ghost use Rattle.tables.specs.Inside.{GoesOn};
 ghost use Rattle.tables.specs.Rows.{Tables, Holds, Changes, Fails, IsForeign, with_piece, piece_of, rows_of};
-ghost use Rattle.tables.specs.Pieces.{is_of};
+ghost use Rattle.tables.specs.Pieces.{is_of, without_pieces};
 
 use crate::number::whole;
 use crate::read::{FromRow, bytes_at, select, select_inside, whole_at};
@@ -17,6 +17,8 @@ const INSERT_PIECE: &str = "INSERT INTO pieces (body, number, bytes) VALUES (?1,
 
 const SELECT_PIECES_OF: &str =
     "SELECT rowid, body, number, bytes FROM pieces WHERE body = ?1 ORDER BY rowid";
+
+const DELETE_PIECES: &str = "DELETE FROM pieces WHERE body = ?1";
 
 impl FromRow for Piece {
     ghost of_row = { piece_of };
@@ -86,4 +88,18 @@ pub fn pieces_of_inside<S: Alter>(
 {
     let body = whole(body)?;
     select_inside(alloc, tx, SELECT_PIECES_OF, params![body])
+}
+
+/// Removes the pieces of a body.
+pub fn delete_pieces_of<S: Alter>(tx: &mut Transaction<'_, S>, body: u64) -> Result<(), Error>
+    ensures same_reference { tx.new.conn.ghost_name ≡ tx.old.conn.ghost_name }
+    ensures ok { HasCleanDisk (state S.Store tx.new.conn.now) → IsTrue (state S.Store tx.old.conn.now).in_transaction
+        → OnOk result (Changes (state S.Store tx.old.conn.now) (state S.Store tx.new.conn.now) (without_pieces body)) }
+    ensures err { HasCleanDisk (state S.Store tx.new.conn.now) → IsTrue (state S.Store tx.old.conn.now).in_transaction
+        → OnErr result (Fails (state S.Store tx.old.conn.now) (state S.Store tx.new.conn.now)) }
+    ensures survives { Survives (state S.Store tx.old.conn.now) (state S.Store tx.new.conn.now) (λ _. ⊥) }
+{
+    let body = whole(body)?;
+    tx.execute(DELETE_PIECES, params![body])?;
+    Ok(())
 }

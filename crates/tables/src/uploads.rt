@@ -1,6 +1,6 @@
 //! The .changes that arrived or were judged.
 
-ghost use Rattle.std.specs.Prelude.{◌≡◌, filter, find, not, None, false, IsTrue, IfOk, OnOk, OnErr};
+ghost use Rattle.std.specs.Prelude.{◌≡◌, filter, find, nat_eq, None, false, IsTrue, IfOk, OnOk, OnErr};
 ghost use Rattle.sqlite.specs.State.{HasCleanDisk, IsUnchanged, Survives, KeepsCommit};
 ghost use Rattle.sqlite.specs.Held.{state};
 ghost use Rattle.tables.specs.Inside.{GoesOn};
@@ -9,7 +9,7 @@ ghost use Rattle.tables.specs.Uploads.{is_upload, is_judged, with_verdict};
 
 use crate::cells::{print_at, row_number, some_whole_at};
 use crate::number::whole;
-use crate::read::{FromRow, select, select_first_inside, select_inside, text_at};
+use crate::read::{FromRow, select, select_first, select_first_inside, text_at};
 use crate::rows::Upload;
 use sqlite::{Alter, Connection, Error, Row, Transaction, params};
 use std::alloc::Global;
@@ -18,14 +18,11 @@ use sums::Print;
 const INSERT_UPLOAD: &str =
     "INSERT INTO uploads (name, size, md5, sha1, sha256) VALUES (?1, ?2, ?3, ?4, ?5)";
 
-const SELECT_UPLOADS: &str =
-    "SELECT rowid, id, name, size, md5, sha1, sha256, place, verdict FROM uploads ORDER BY rowid";
-
 const SELECT_UPLOAD: &str =
     "SELECT rowid, id, name, size, md5, sha1, sha256, place, verdict FROM uploads WHERE name = ?1 AND size = ?2 AND md5 = ?3 AND sha1 = ?4 AND sha256 = ?5 ORDER BY rowid";
 
-const SELECT_UNJUDGED: &str =
-    "SELECT rowid, id, name, size, md5, sha1, sha256, place, verdict FROM uploads WHERE place IS NULL ORDER BY rowid";
+const SELECT_NUMBERED: &str =
+    "SELECT rowid, id, name, size, md5, sha1, sha256, place, verdict FROM uploads WHERE id = ?1 ORDER BY rowid";
 
 const SELECT_JUDGED: &str =
     "SELECT rowid, id, name, size, md5, sha1, sha256, place, verdict FROM uploads WHERE place IS NOT NULL ORDER BY rowid";
@@ -97,38 +94,21 @@ pub fn upload_of<S: Alter>(
     )
 }
 
-/// The uploads that are not judged with their numbers, in the order of these.
-pub fn unjudged_uploads<S: Alter>(
+/// The upload of a number, with the number.
+pub fn upload_numbered<S: Alter>(
     alloc: Global,
     conn: &mut Connection<S>,
-) -> Result<Vec<(u64, Upload)>, Error>
+    id: u64,
+) -> Result<Option<(u64, Upload)>, Error>
     ensures idle { conn.old.in_transaction ≡ false → conn.new.in_transaction ≡ false }
     ensures ok { HasCleanDisk (state S.Store conn.new) → (t : Tables) → Holds (state S.Store conn.old).now t
-        → IfOk result (λ all. (all.items ≡ filter (λ x. not (is_judged x.1)) t.uploads) × IsUnchanged (state S.Store conn.old) (state S.Store conn.new)) }
+        → IfOk result (λ found. (found ≡ find (λ x. nat_eq x.0 id) t.uploads) × IsUnchanged (state S.Store conn.old) (state S.Store conn.new)) }
     ensures err { HasCleanDisk (state S.Store conn.new) → (t : Tables) → Holds (state S.Store conn.old).now t
         → OnErr result (Fails (state S.Store conn.old) (state S.Store conn.new)) }
     ensures survives { Survives (state S.Store conn.old) (state S.Store conn.new) (λ _. IsForeign (state S.Store conn.old).now) }
 {
-    select(alloc, conn, SELECT_UNJUDGED, &[])
-}
-
-/// The uploads that are not judged, inside a transaction.
-pub fn unjudged_uploads_inside<S: Alter>(
-    alloc: Global,
-    tx: &mut Transaction<'_, S>,
-) -> Result<Vec<(u64, Upload)>, Error>
-    ensures same_reference { tx.new.conn.ghost_name ≡ tx.old.conn.ghost_name }
-    ensures ok { HasCleanDisk (state S.Store tx.new.conn.now) → (t : Tables) → Holds (state S.Store tx.old.conn.now).now t
-        → IfOk result (λ all. (all.items ≡ filter (λ x. not (is_judged x.1)) t.uploads) × IsUnchanged (state S.Store tx.old.conn.now) (state S.Store tx.new.conn.now)) }
-    ensures err { HasCleanDisk (state S.Store tx.new.conn.now) → (t : Tables) → Holds (state S.Store tx.old.conn.now).now t
-        → OnErr result (Fails (state S.Store tx.old.conn.now) (state S.Store tx.new.conn.now)) }
-    ensures goes_on { HasCleanDisk (state S.Store tx.new.conn.now) → IsTrue (state S.Store tx.old.conn.now).in_transaction
-        → OnOk result (GoesOn (state S.Store tx.old.conn.now) (state S.Store tx.new.conn.now)) }
-    ensures kept { HasCleanDisk (state S.Store tx.new.conn.now) → IsTrue (state S.Store tx.old.conn.now).in_transaction
-        → OnErr result (KeepsCommit (state S.Store tx.old.conn.now) (state S.Store tx.new.conn.now)) }
-    ensures survives { Survives (state S.Store tx.old.conn.now) (state S.Store tx.new.conn.now) (λ _. ⊥) }
-{
-    select_inside(alloc, tx, SELECT_UNJUDGED, &[])
+    let id = whole(id)?;
+    select_first(alloc, conn, SELECT_NUMBERED, params![id])
 }
 
 /// The uploads that are judged with their numbers, in the order of these.
@@ -144,21 +124,6 @@ pub fn judged_uploads<S: Alter>(
     ensures survives { Survives (state S.Store conn.old) (state S.Store conn.new) (λ _. IsForeign (state S.Store conn.old).now) }
 {
     select(alloc, conn, SELECT_JUDGED, &[])
-}
-
-/// The uploads with their numbers, in the order of these.
-pub fn select_uploads<S: Alter>(
-    alloc: Global,
-    conn: &mut Connection<S>,
-) -> Result<Vec<(u64, Upload)>, Error>
-    ensures idle { conn.old.in_transaction ≡ false → conn.new.in_transaction ≡ false }
-    ensures ok { HasCleanDisk (state S.Store conn.new) → (t : Tables) → Holds (state S.Store conn.old).now t
-        → IfOk result (λ all. (all.items ≡ t.uploads) × IsUnchanged (state S.Store conn.old) (state S.Store conn.new)) }
-    ensures err { HasCleanDisk (state S.Store conn.new) → (t : Tables) → Holds (state S.Store conn.old).now t
-        → OnErr result (Fails (state S.Store conn.old) (state S.Store conn.new)) }
-    ensures survives { Survives (state S.Store conn.old) (state S.Store conn.new) (λ _. IsForeign (state S.Store conn.old).now) }
-{
-    select(alloc, conn, SELECT_UPLOADS, &[])
 }
 
 /// Judges an upload: sets its place in the order of judging and its verdict.

@@ -5,11 +5,11 @@ ghost use Rattle.sqlite.specs.State.{HasCleanDisk, IsUnchanged, Survives, KeepsC
 ghost use Rattle.sqlite.specs.Held.{state};
 ghost use Rattle.tables.specs.Inside.{GoesOn};
 ghost use Rattle.tables.specs.Rows.{Tables, Holds, Changes, Fails, IsForeign, with_want, want_of, rows_of};
-ghost use Rattle.tables.specs.Wants.{is_wanted_by, with_here, without_wants};
+ghost use Rattle.tables.specs.Wants.{IsNextWanting, is_wanted_by, with_here, without_wants};
 
 use crate::cells::{flag_at, print_at};
-use crate::number::whole;
-use crate::read::{FromRow, select, select_inside, text_at, whole_at};
+use crate::number::{below, whole};
+use crate::read::{FromRow, select, select_first, select_inside, text_at, whole_at};
 use crate::rows::Want;
 use sqlite::{Alter, Connection, Error, Row, Transaction, params};
 use std::alloc::Global;
@@ -18,11 +18,10 @@ use sums::Print;
 const INSERT_WANT: &str =
     "INSERT INTO wants (upload, name, size, md5, sha1, sha256, here) VALUES (?1, ?2, ?3, ?4, ?5, ?6, ?7)";
 
-const SELECT_WANTS: &str =
-    "SELECT rowid, upload, name, size, md5, sha1, sha256, here FROM wants ORDER BY rowid";
-
 const SELECT_WANTS_OF: &str =
     "SELECT rowid, upload, name, size, md5, sha1, sha256, here FROM wants WHERE upload = ?1 ORDER BY rowid";
+
+const SELECT_NEXT: &str = "SELECT upload FROM wants WHERE upload > ?1 ORDER BY upload LIMIT 1";
 
 const UPDATE_HERE: &str =
     "UPDATE wants SET here = 1 WHERE name = ?1 AND size = ?2 AND md5 = ?3 AND sha1 = ?4 AND sha256 = ?5";
@@ -128,6 +127,23 @@ pub fn wants_of_inside<S: Alter>(
     select_inside(alloc, tx, SELECT_WANTS_OF, params![upload])
 }
 
+/// The number of the first upload behind this one that has entries, or of the first at all.
+pub fn next_wanting<S: Alter>(
+    alloc: Global,
+    conn: &mut Connection<S>,
+    after: Option<u64>,
+) -> Result<Option<u64>, Error>
+    ensures idle { conn.old.in_transaction ≡ false → conn.new.in_transaction ≡ false }
+    ensures ok { HasCleanDisk (state S.Store conn.new) → (t : Tables) → Holds (state S.Store conn.old).now t
+        → IfOk result (λ found. IsNextWanting after (rows_of t.wants) found × IsUnchanged (state S.Store conn.old) (state S.Store conn.new)) }
+    ensures err { HasCleanDisk (state S.Store conn.new) → (t : Tables) → Holds (state S.Store conn.old).now t
+        → OnErr result (Fails (state S.Store conn.old) (state S.Store conn.new)) }
+    ensures survives { Survives (state S.Store conn.old) (state S.Store conn.new) (λ _. IsForeign (state S.Store conn.old).now) }
+{
+    let below = below(after)?;
+    select_first(alloc, conn, SELECT_NEXT, params![below])
+}
+
 /// Removes the entries of an upload.
 pub fn delete_wants<S: Alter>(tx: &mut Transaction<'_, S>, upload: u64) -> Result<(), Error>
     ensures same_reference { tx.new.conn.ghost_name ≡ tx.old.conn.ghost_name }
@@ -140,16 +156,4 @@ pub fn delete_wants<S: Alter>(tx: &mut Transaction<'_, S>, upload: u64) -> Resul
     let upload = whole(upload)?;
     tx.execute(DELETE_WANTS, params![upload])?;
     Ok(())
-}
-
-/// The entries, in the order in which they were added.
-pub fn select_wants<S: Alter>(alloc: Global, conn: &mut Connection<S>) -> Result<Vec<Want>, Error>
-    ensures idle { conn.old.in_transaction ≡ false → conn.new.in_transaction ≡ false }
-    ensures ok { HasCleanDisk (state S.Store conn.new) → (t : Tables) → Holds (state S.Store conn.old).now t
-        → IfOk result (λ all. (all.items ≡ rows_of t.wants) × IsUnchanged (state S.Store conn.old) (state S.Store conn.new)) }
-    ensures err { HasCleanDisk (state S.Store conn.new) → (t : Tables) → Holds (state S.Store conn.old).now t
-        → OnErr result (Fails (state S.Store conn.old) (state S.Store conn.new)) }
-    ensures survives { Survives (state S.Store conn.old) (state S.Store conn.new) (λ _. IsForeign (state S.Store conn.old).now) }
-{
-    select(alloc, conn, SELECT_WANTS, &[])
 }

@@ -39,10 +39,7 @@ module _ {X : Type 0} (l : Layout X) (laid : IsLayout l) (real : X → Type 0) (
           absurd (let e : true ≡ false = sym k ∙ test in cc)
 
       pub in_order : IsLive old → IsTrue old.is_open → rises_past None ys ≡ true → b ≡ true → IsTable l old.now ys
-      in_order live up rises test = record {
-        has = is_table l laid a.sql a.asks old mid a.rows schema a.shown o.sql o.asks new o.rows same o.shown (typed_in old live up schema) ys a.is (rows.rises_if ys rises) (o.is.0 test ∙ (λ i. Text (is_text i)));
-        whole = a.is.whole;
-      }
+      in_order live up rises test = is_table l laid a.sql a.asks old mid a.rows schema a.shown o.sql o.asks new o.rows same o.shown (typed_in old live up schema) ys a.is (rows.rises_if ys rises) (o.is.0 test ∙ (λ i. Text (is_text i)))
 
 module _ {X V W : Type 0} (l : Layout X) (laid : IsLayout l) (real : X → Type 0) (items : V → Numbered X) (bytes : W → List ℕ) (a b : State) where
   -- what the query for the rows tells

@@ -5,7 +5,7 @@ use Rattle.std.proofs.lemmas.Bool.{and_parts}
 use Rattle.std.proofs.lemmas.Bool.Decides.{nat_tests}
 use Rattle.std.proofs.lemmas.List.{take_more}
 use Rattle.sqlite.specs.Order.{Row}
-use Rattle.sqlite_keyed.proofs.ListLemmas.{all-append, all_weaker}
+use Rattle.sqlite_keyed.proofs.ListLemmas.{all_weaker}
 use Rattle.tables.specs.Rows.{Numbered, Rises}
 use Rattle.tables_read.specs.Layout.{Layout, AreRead, IsNotRead, ids}
 use Rattle.tables_read.specs.Order.{rises_past}
@@ -31,20 +31,19 @@ module _ {X : Type 0} (l : Layout X) where
 
   -- one row more
   pub read_more : (rows : List Row) (i : ℕ) (row : Row) (all : Numbered X) (x : ℕ × X) {now : Numbered X} → i < length rows → row ≡ get_or rows i row
-      → x.0 < 2 ^ 64 → l.is_whole x.1 ≡ true → Spells l.seen row x → now ≡ all ++ x ∷ [] → AreRead l (take i rows) all → AreRead l (take (i + 1) rows) now
-  read_more rows i row all x {now} within at small whole spells pushed so_far =
+      → x.0 < 2 ^ 64 → Spells l.seen row x → now ≡ all ++ x ∷ [] → AreRead l (take i rows) all → AreRead l (take (i + 1) rows) now
+  read_more rows i row all x {now} within at small spells pushed so_far =
       let more : take (i + 1) rows ≡ take i rows ++ row ∷ [] = take_more rows i row within ∙ ap (λ r. take i rows ++ r ∷ []) (sym at) in
       subst₂ (AreRead l) (sym more) (sym pushed) (record {
         spelled = zip_push (Spells l.seen) (take i rows) all row x so_far.spelled spells;
-        whole = all-append (λ y. l.is_whole y.1 ≡ true) all (x ∷ []) so_far.whole (whole, tt);
         small = ids_push (λ n. n < 2 ^ 64) all x so_far.small small;
       })
 
   pub read_some : (rows : List Row) (i : ℕ) (row : Row) (all : Numbered X) (o : Option (ℕ × X)) (x : ℕ × X) {now : Numbered X} → i < length rows → row ≡ get_or rows i row
-      → o ≡ Some x → IfSome o (λ y. (y.0 < 2 ^ 64) × (l.is_whole y.1 ≡ true) × Spells l.seen row y) → now ≡ all ++ x ∷ [] → AreRead l (take i rows) all → AreRead l (take (i + 1) rows) now
+      → o ≡ Some x → IfSome o (λ y. (y.0 < 2 ^ 64) × Spells l.seen row y) → now ≡ all ++ x ∷ [] → AreRead l (take i rows) all → AreRead l (take (i + 1) rows) now
   read_some rows i row all o x within at is some pushed so_far =
-      let h = subst (λ p. IfSome p (λ y. (y.0 < 2 ^ 64) × (l.is_whole y.1 ≡ true) × Spells l.seen row y)) is some in
-      read_more rows i row all x within at h.0 h.1 h.2 pushed so_far
+      let h = subst (λ p. IfSome p (λ y. (y.0 < 2 ^ 64) × Spells l.seen row y)) is some in
+      read_more rows i row all x within at h.0 h.1 pushed so_far
 
   -- a row that is none
   pub not_read_at : (real : X → Type 0) (rows : List Row) (i : ℕ) (row : Row) → i < length rows → row ≡ get_or rows i row → ((x : ℕ × X) → real x.1 → ¬ Spells l.seen row x) → IsNotRead l real rows

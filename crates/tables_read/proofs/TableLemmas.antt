@@ -43,11 +43,11 @@ collect [] h = ([], refl, tt)
 collect (r ∷ rs) h = let more = collect rs h.1 in (h.0.0 ∷ more.0, ap₂ ◌∷◌ h.0.2 more.1, (h.0.1, more.2))
 
 module _ {X : Type 0} (l : Layout X) (laid : IsLayout l) where
-  spelled : (tree : List Row) (xs : Numbered X) → AllByRecursion (HasTypes l) tree → AllByRecursion (λ x. l.is_whole x.1 ≡ true) xs → AllZip (Spells l.seen) (map (show l) tree) xs → map l.full tree ≡ map (stored l.cells) xs
-  spelled [] [] typed all zip = refl
-  spelled [] (x ∷ xs) typed all zip = absurd zip
-  spelled (r ∷ rs) [] typed all zip = absurd zip
-  spelled (r ∷ rs) (x ∷ xs) typed all zip = ap₂ ◌∷◌ (laid.fits x r all.0 typed.0 zip.0) (spelled rs xs typed.1 all.1 zip.1)
+  spelled : (tree : List Row) (xs : Numbered X) → AllByRecursion (HasTypes l) tree → AllZip (Spells l.seen) (map (show l) tree) xs → map l.full tree ≡ map (stored l.cells) xs
+  spelled [] [] typed zip = refl
+  spelled [] (x ∷ xs) typed zip = absurd zip
+  spelled (r ∷ rs) [] typed zip = absurd zip
+  spelled (r ∷ rs) (x ∷ xs) typed zip = ap₂ ◌∷◌ (laid.fits x r typed.0 zip.0) (spelled rs xs typed.1 zip.1)
 
   spells_back : (tree : List Row) (xs : Numbered X) → map l.full tree ≡ map (stored l.cells) xs → AllZip (Spells l.seen) (map (show l) tree) xs
   spells_back [] [] e = tt
@@ -134,4 +134,4 @@ module _ {X : Type 0} (l : Layout X) (laid : IsLayout l) where
           let t : joined (map whole got.0) ≡ joined (map whole (ids xs)) = cc in
           let are : map rowid tree ≡ map whole (ids xs) = got.1 ∙ ap (map whole) (joined_same got.0 (ids xs) got.2 read.small t) in
           let shown_are = shown_if (ids xs) (ascending-map (λ m n. m < n) (λ x. x.0) xs up) are in
-          record { are = spelled tree xs (laid.typed old.now.trees typed) read.whole (subst (λ rs. AllZip (Spells l.seen) rs xs) shown_are read.spelled); rise = up }
+          record { are = spelled tree xs (laid.typed old.now.trees typed) (subst (λ rs. AllZip (Spells l.seen) rs xs) shown_are read.spelled); rise = up }

@@ -1,27 +1,22 @@
 -- All tables at once.
-use Rattle.std.proofs.Common.{◌≡◌, ◌≢◌, ◌⊎◌, inl, inr, List, map, map-id, All, true, false, Option, None, Some, is_some, sym, ◌∙◌}
+use Rattle.std.proofs.Common.{◌≡◌, ◌⊎◌, inl, inr, List, map, map-id, All, sym, ◌∙◌}
 use Rattle.std.specs.Prelude.{⊤}
 use Rattle.std.specs.List.{AllByRecursion}
-use Rattle.std.proofs.lemmas.List.Elements.{All-from_recursion, recursion_from_All}
+use Rattle.std.proofs.lemmas.List.Elements.{recursion_from_All}
 use Rattle.sqlite.specs.Effect.{Database}
 use Rattle.sqlite.specs.Order.{Row}
-use Rattle.sqlite_keyed.proofs.ListLemmas.{all_of, all_unmap, all_weaker}
+use Rattle.sqlite_keyed.proofs.ListLemmas.{all_of, all_unmap}
 use Rattle.tables.specs.Rows.{Numbered, HasRows, Tables, Holds, rows_of}
 use Rattle.tables.specs.Schema.{archive_schema}
-use Rattle.tables_read.specs.All.{AreWhole}
 use Rattle.tables_read.specs.Layout.{IsTable, IsNoTable}
 use Rattle.tables_read.specs.Layouts.{meta_layout, body_layout, piece_layout, arrival_layout, upload_layout, want_layout, item_layout, ref_layout, file_layout, text_layout, date_layout}
-use Rattle.tables_read.specs.Real.{AreReal, IsRealBody, IsRealArrival, IsRealUpload, IsRealWant, IsRealItem, IsRealRef, IsRealFile, IsRealText, IsRealDate}
+use Rattle.tables.specs.Real.{AreReal, IsRealBody, IsRealArrival, IsRealUpload, IsRealWant, IsRealItem, IsRealRef, IsRealFile, IsRealText, IsRealDate}
 
 plain : {X : Type 0} {cells : X → Row} {xs : Numbered X} {tree : List Row} → HasRows cells xs (map (λ r. r) tree) → HasRows cells xs tree
 plain {tree = tree} h = record { are = sym (map-id tree) ∙ h.are; rise = h.rise }
 
 full : {X : Type 0} {cells : X → Row} {xs : Numbered X} {tree : List Row} → HasRows cells xs tree → HasRows cells xs (map (λ r. r) tree)
 full {tree = tree} h = record { are = map-id tree ∙ h.are; rise = h.rise }
-
-is_there : {X : Type 0} (o : Option X) → is_some o ≡ true → o ≢ None
-is_there None h e = absurd (cc)
-is_there (Some x) h e = absurd (cc)
 
 real_rows : {X : Type 0} (P : X → Type 0) (xs : Numbered X) → All P (rows_of xs) → AllByRecursion (λ x. P x.1) xs
 real_rows P xs all = all_unmap P (λ x. x.1) xs (recursion_from_All P (rows_of xs) all)
@@ -42,30 +37,27 @@ AreNoTables db =
     ⊎ ((IsNoTable upload_layout IsRealUpload db ⊎ IsNoTable want_layout IsRealWant db)
     ⊎ ((IsNoTable item_layout IsRealItem db ⊎ (IsNoTable ref_layout IsRealRef db ⊎ IsNoTable file_layout IsRealFile db)) ⊎ (IsNoTable text_layout IsRealText db ⊎ IsNoTable date_layout IsRealDate db)))
 
-pub holds_all : (db : Database) (t : Tables) → db.schema ≡ archive_schema → AreTables db t → Holds db t × AreWhole t
-holds_all db t schema h = (
-  record {
-    schema = schema;
-    rows = record {
-      meta = plain h.0.0.has;
-      bodies = plain h.0.1.0.has;
-      pieces = plain h.0.1.1.0.has;
-      arrivals = plain h.0.1.1.1.has;
-      uploads = h.1.0.0.has;
-      wants = plain h.1.0.1.has;
-      items = plain h.1.1.0.0.has;
-      refs = plain h.1.1.0.1.0.has;
-      files = plain h.1.1.0.1.1.has;
-      texts = plain h.1.1.1.0.has;
-      dates = plain h.1.1.1.1.has;
-    };
-  },
-  All-from_recursion (λ x. x.1.print ≢ None) t.bodies (all_weaker _ (λ x. x.1.print ≢ None) (λ x. is_there x.1.print) t.bodies h.0.1.0.whole),
-)
+pub holds_all : (db : Database) (t : Tables) → db.schema ≡ archive_schema → AreTables db t → Holds db t
+holds_all db t schema h = record {
+  schema = schema;
+  rows = record {
+    meta = plain h.0.0;
+    bodies = h.0.1.0;
+    pieces = plain h.0.1.1.0;
+    arrivals = plain h.0.1.1.1;
+    uploads = h.1.0.0;
+    wants = plain h.1.0.1;
+    items = plain h.1.1.0.0;
+    refs = plain h.1.1.0.1.0;
+    files = plain h.1.1.0.1.1;
+    texts = plain h.1.1.1.0;
+    dates = plain h.1.1.1.1;
+  };
+}
 
 pub holds_none : (db : Database) (t : Tables) → AreNoTables db → AreReal t → Holds db t → ⊥
 holds_none db t (inl (inl none)) real h = none t.meta (any_rows t.meta) (full h.rows.meta)
-holds_none db t (inl (inr (inl none))) real h = none t.bodies (real_rows IsRealBody t.bodies real.bodies) (full h.rows.bodies)
+holds_none db t (inl (inr (inl none))) real h = none t.bodies (real_rows IsRealBody t.bodies real.bodies) h.rows.bodies
 holds_none db t (inl (inr (inr (inl none)))) real h = none t.pieces (any_rows t.pieces) (full h.rows.pieces)
 holds_none db t (inl (inr (inr (inr none)))) real h = none t.arrivals (real_rows IsRealArrival t.arrivals real.arrivals) (full h.rows.arrivals)
 holds_none db t (inr (inl (inl none))) real h = none t.uploads (real_rows IsRealUpload t.uploads real.uploads) h.rows.uploads

@@ -45,7 +45,3 @@ pub record AreConstrained (t : Tables) : Type 0 where
   pub refs_owned : All (λ r. IsTrue (list_any (λ x. nat_eq x.0 r.item) t.items)) (rows_of t.refs)
   pub files_owned : All (λ f. IsTrue (is_body_there t f.body)) (rows_of t.files)
   pub files_apart : AllPairs (λ f g. f.path ≢ g.path) (rows_of t.files)
-
--- each body is whole
-abbrev pub AreWhole : Tables → Type 0
-AreWhole t = All (λ x. x.1.print ≢ None) t.bodies

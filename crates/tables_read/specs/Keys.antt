@@ -18,7 +18,7 @@ use Rattle.sums.proofs.Agree.{same_bytes}
 use Rattle.sums.specs.declared.print.Print.{Print}
 use Rattle.tables.specs.Arrivals.{is_arrival}
 use Rattle.tables.specs.Items.{is_item}
-use Rattle.tables.specs.Rows.{Holds, Tables, arrival_cells, body_cells, file_cells, full_upload, item_cells, piece_cells, ref_cells, stored, upload_cells, want_cells, whole}
+use Rattle.tables.specs.Rows.{Holds, Tables, arrival_cells, body_cells, file_cells, full_body, full_upload, item_cells, piece_cells, ref_cells, stored, upload_cells, want_cells, whole}
 use Rattle.tables.specs.Schema.{archive_schema, arrivals, bodies, files, items, pieces, refers, refs, uploads, wants}
 use Rattle.tables.specs.declared.rows.Arrival.{Arrival}
 use Rattle.tables.specs.declared.rows.Body.{Body}
@@ -164,7 +164,10 @@ same_files x y same = ((ap Text same, refl), tt)
 -- ---- the tables
 
 module _ (db : Database) (t : Tables) (sound : IsDatabase db) (holds : Holds db t) where
-  -- the keys of uploads, as their rows are read
+  -- the keys of bodies and of uploads, as their rows are read
+  bodies_printed : HasNoClash (2 ∷ 3 ∷ 4 ∷ 5 ∷ []) (map full_body (db.trees 1))
+  bodies_printed = no_clash_read full_body (2 ∷ 3 ∷ 4 ∷ 5 ∷ []) (λ a b. refl) (λ a. refl) (db.trees 1) (bodies_clash db holds.schema sound)
+
   uploads_named : HasNoClash (2 ∷ 3 ∷ 4 ∷ 5 ∷ 6 ∷ []) (map full_upload (db.trees 7))
   uploads_named = no_clash_read full_upload (2 ∷ 3 ∷ 4 ∷ 5 ∷ 6 ∷ []) (λ a b. refl) (λ a. refl) (db.trees 7) (uploads_clash db holds.schema sound)
 
@@ -175,12 +178,14 @@ module _ (db : Database) (t : Tables) (sound : IsDatabase db) (holds : Holds db 
   pub constrained : AreConstrained t
   constrained = record {
     bodies_apart =
-        apart body_cells (2 ∷ 3 ∷ 4 ∷ 5 ∷ []) (db.trees 1) t.bodies holds.rows.bodies (bodies_clash db holds.schema sound) (λ x y. x.1.print ≢ None → x.1.print ≢ y.1.print)
+        apart body_cells (2 ∷ 3 ∷ 4 ∷ 5 ∷ []) (map full_body (db.trees 1)) t.bodies holds.rows.bodies bodies_printed (λ x y. x.1.print ≢ None → x.1.print ≢ y.1.print)
         (λ x y no some same. no (same_bodies x y some same));
     pieces_owned =
-        owned piece_cells body_cells (db.trees 3) (db.trees 1) t.pieces t.bodies 1 (λ p. p.body) holds.rows.pieces holds.rows.bodies (λ _. refl) (pieces_refer db holds.schema sound);
+        owned piece_cells body_cells (db.trees 3) (map full_body (db.trees 1)) t.pieces t.bodies 1 (λ p. p.body) holds.rows.pieces holds.rows.bodies (λ _. refl)
+        (parents_read full_body (λ _. refl) 1 (db.trees 1) (db.trees 3) (pieces_refer db holds.schema sound));
     arrivals_owned =
-        owned arrival_cells body_cells (db.trees 5) (db.trees 1) t.arrivals t.bodies 3 (λ a. a.body) holds.rows.arrivals holds.rows.bodies (λ _. refl) (arrivals_refer db holds.schema sound);
+        owned arrival_cells body_cells (db.trees 5) (map full_body (db.trees 1)) t.arrivals t.bodies 3 (λ a. a.body) holds.rows.arrivals holds.rows.bodies (λ _. refl)
+        (parents_read full_body (λ _. refl) 3 (db.trees 1) (db.trees 5) (arrivals_refer db holds.schema sound));
     arrivals_apart =
         rows_apart arrival_cells (2 ∷ 3 ∷ []) (db.trees 5) t.arrivals holds.rows.arrivals (arrivals_clash db holds.schema sound) (λ a b. is_arrival a.name a.body b ≡ false)
         (λ x y no. false_from_ne_true _ (λ same. no (same_arrivals x y same)));
@@ -197,7 +202,8 @@ module _ (db : Database) (t : Tables) (sound : IsDatabase db) (holds : Holds db 
     refs_owned =
         owned ref_cells item_cells (db.trees 15) (db.trees 13) t.refs t.items 1 (λ r. r.item) holds.rows.refs holds.rows.items (λ _. refl) (refs_refer db holds.schema sound);
     files_owned =
-        owned file_cells body_cells (db.trees 17) (db.trees 1) t.files t.bodies 2 (λ f. f.body) holds.rows.files holds.rows.bodies (λ _. refl) (files_refer db holds.schema sound);
+        owned file_cells body_cells (db.trees 17) (map full_body (db.trees 1)) t.files t.bodies 2 (λ f. f.body) holds.rows.files holds.rows.bodies (λ _. refl)
+        (parents_read full_body (λ _. refl) 2 (db.trees 1) (db.trees 17) (files_refer db holds.schema sound));
     files_apart =
         rows_apart file_cells (1 ∷ []) (db.trees 17) t.files holds.rows.files (files_clash db holds.schema sound) (λ f g. f.path ≢ g.path) (λ x y no same. no (same_files x y same));
   }

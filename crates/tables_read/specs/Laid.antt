@@ -1,5 +1,5 @@
 -- Each layout is one: a stored row of the right types is that of a value exactly where the columns show it.
-use Rattle.std.proofs.Common.{◌≡◌, ◌≢◌, ◌≤◌, ◌+◌, ℕ, true, List, [], ◌∷◌, drop, length, length-drop, refl, sym, ap, ap₂, subst, arith, add-one, Option, Some, None, is_some}
+use Rattle.std.proofs.Common.{◌≡◌, ◌≢◌, ◌≤◌, ◌+◌, ℕ, true, List, [], ◌∷◌, drop, length, length-drop, refl, sym, ap, ap₂, subst, arith, add-one, Option, Some, None}
 use Rattle.std.proofs.lemmas.Bool.{and_parts}
 use Rattle.std.specs.List.{AllByRecursion}
 use Rattle.sqlite.specs.declared.types.Value.{Value}
@@ -7,8 +7,6 @@ use Rattle.sqlite.specs.declared.types.Value.TheVariants.{Null, Int, Real, Text,
 use Rattle.sqlite.specs.Order.{Row, column}
 use Rattle.sqlite.specs.Table.{Table}
 use Rattle.sqlite.specs.Tree.{Trees}
-use Rattle.sqlite.specs.Values.{or_null}
-use Rattle.sums.specs.declared.print.Print.{Print}
 use Rattle.sqlite_schema.specs.declared.schema.Column.{Column}
 use Rattle.sqlite_schema.specs.declared.schema.Constraint.TheVariants.{Datatype}
 use Rattle.sqlite_schema.specs.Rules.{are_typed, passes}
@@ -70,10 +68,6 @@ no_id columns (v ∷ []) h = refl
 no_id [] (v ∷ w ∷ ws) h = absurd (cc)
 no_id (c ∷ columns) (v ∷ w ∷ ws) h = is_null_is w (and_parts _ _ h).0
 
-some_last : (o : Option Print) → is_some o ≡ true → or_null (λ p. Blob p.sha256) o ≢ Null
-some_last None w e = absurd (cc)
-some_last (Some p) w e = absurd (cc)
-
 types : (db : Trees) (t : Table) (rows : List Row) → AllByRecursion (λ row. passes Datatype archive_schema db t row ≡ true) rows → AllByRecursion (λ r. are_typed t.key 0 t.columns (drop 1 r) ≡ true) rows
 types db t [] h = tt
 types db t (r ∷ rs) h = ((and_parts _ _ h.0).0, types db t rs h.1)
@@ -82,7 +76,7 @@ pub meta_laid : IsLayout meta_layout
 meta_laid = record {
   number = λ r. refl;
   typed = λ db h. types db schema.meta (db 0) h.0;
-  fits = λ x r w t s. fits_as None schema.meta.columns r _ t refl (λ e. cc) s;
+  fits = λ x r t s. fits_as None schema.meta.columns r _ t refl (λ e. cc) s;
   back = λ x r e. (ap (λ l. column l 0) e, (ap (λ l. column l 1) e, (ap (λ l. column l 2) e, tt)));
 }
 
@@ -90,7 +84,7 @@ pub body_laid : IsLayout body_layout
 body_laid = record {
   number = λ r. refl;
   typed = λ db h. types db schema.bodies (db 1) h.1.0;
-  fits = λ x r w t s. fits_as (Some 0) schema.bodies.columns r _ t refl (some_last x.1.print w) (s.0, (no_id schema.bodies.columns r t, s.1));
+  fits = λ x r t s. let null = no_id schema.bodies.columns r t in λ i. s.0 i ∷ null i ∷ s.1.0 i ∷ s.1.1.0 i ∷ s.1.1.1.0 i ∷ s.1.1.1.1.0 i ∷ [];
   back = λ x r e. (ap (λ l. column l 0) e, (ap (λ l. column l 2) e, (ap (λ l. column l 3) e, (ap (λ l. column l 4) e, (ap (λ l. column l 5) e, tt)))));
 }
 
@@ -98,7 +92,7 @@ pub piece_laid : IsLayout piece_layout
 piece_laid = record {
   number = λ r. refl;
   typed = λ db h. types db schema.pieces (db 3) h.1.1.0;
-  fits = λ x r w t s. fits_as None schema.pieces.columns r _ t refl (λ e. cc) s;
+  fits = λ x r t s. fits_as None schema.pieces.columns r _ t refl (λ e. cc) s;
   back = λ x r e. (ap (λ l. column l 0) e, (ap (λ l. column l 1) e, (ap (λ l. column l 2) e, (ap (λ l. column l 3) e, tt))));
 }
 
@@ -106,7 +100,7 @@ pub arrival_laid : IsLayout arrival_layout
 arrival_laid = record {
   number = λ r. refl;
   typed = λ db h. types db schema.arrivals (db 5) h.1.1.1.0;
-  fits = λ x r w t s. fits_as (Some 0) schema.arrivals.columns r _ t refl (λ e. cc) (s.0, (no_id schema.arrivals.columns r t, s.1));
+  fits = λ x r t s. fits_as (Some 0) schema.arrivals.columns r _ t refl (λ e. cc) (s.0, (no_id schema.arrivals.columns r t, s.1));
   back = λ x r e. (ap (λ l. column l 0) e, (ap (λ l. column l 2) e, (ap (λ l. column l 3) e, (ap (λ l. column l 4) e, tt))));
 }
 
@@ -114,7 +108,7 @@ pub upload_laid : IsLayout upload_layout
 upload_laid = record {
   number = λ r. refl;
   typed = λ db h. types db schema.uploads (db 7) h.1.1.1.1.0;
-  fits = λ x r w t s. let null = no_id schema.uploads.columns r t in λ i. s.0 i ∷ null i ∷ s.1.0 i ∷ s.1.1.0 i ∷ s.1.1.1.0 i ∷ s.1.1.1.1.0 i ∷ s.1.1.1.1.1.0 i ∷ s.1.1.1.1.1.1.0 i ∷ s.1.1.1.1.1.1.1.0 i ∷ [];
+  fits = λ x r t s. let null = no_id schema.uploads.columns r t in λ i. s.0 i ∷ null i ∷ s.1.0 i ∷ s.1.1.0 i ∷ s.1.1.1.0 i ∷ s.1.1.1.1.0 i ∷ s.1.1.1.1.1.0 i ∷ s.1.1.1.1.1.1.0 i ∷ s.1.1.1.1.1.1.1.0 i ∷ [];
   back = λ x r e. (ap (λ l. column l 0) e, (ap (λ l. column l 2) e, (ap (λ l. column l 3) e, (ap (λ l. column l 4) e, (ap (λ l. column l 5) e, (ap (λ l. column l 6) e, (ap (λ l. column l 7) e, (ap (λ l. column l 8) e, tt))))))));
 }
 
@@ -122,7 +116,7 @@ pub want_laid : IsLayout want_layout
 want_laid = record {
   number = λ r. refl;
   typed = λ db h. types db schema.wants (db 10) h.1.1.1.1.1.0;
-  fits = λ x r w t s. fits_as None schema.wants.columns r _ t refl (λ e. cc) s;
+  fits = λ x r t s. fits_as None schema.wants.columns r _ t refl (λ e. cc) s;
   back = λ x r e. (ap (λ l. column l 0) e, (ap (λ l. column l 1) e, (ap (λ l. column l 2) e, (ap (λ l. column l 3) e, (ap (λ l. column l 4) e, (ap (λ l. column l 5) e, (ap (λ l. column l 6) e, (ap (λ l. column l 7) e, tt))))))));
 }
 
@@ -130,7 +124,7 @@ pub item_laid : IsLayout item_layout
 item_laid = record {
   number = λ r. refl;
   typed = λ db h. types db schema.items (db 13) h.1.1.1.1.1.1.0;
-  fits = λ x r w t s. fits_as (Some 0) schema.items.columns r _ t refl (λ e. cc) (s.0, (no_id schema.items.columns r t, s.1));
+  fits = λ x r t s. fits_as (Some 0) schema.items.columns r _ t refl (λ e. cc) (s.0, (no_id schema.items.columns r t, s.1));
   back = λ x r e. (ap (λ l. column l 0) e, (ap (λ l. column l 2) e, (ap (λ l. column l 3) e, (ap (λ l. column l 4) e, (ap (λ l. column l 5) e, (ap (λ l. column l 6) e, (ap (λ l. column l 7) e, (ap (λ l. column l 8) e, (ap (λ l. column l 9) e, tt)))))))));
 }
 
@@ -138,7 +132,7 @@ pub ref_laid : IsLayout ref_layout
 ref_laid = record {
   number = λ r. refl;
   typed = λ db h. types db schema.refs (db 15) h.1.1.1.1.1.1.1.0;
-  fits = λ x r w t s. fits_as None schema.refs.columns r _ t refl (λ e. cc) s;
+  fits = λ x r t s. fits_as None schema.refs.columns r _ t refl (λ e. cc) s;
   back = λ x r e. (ap (λ l. column l 0) e, (ap (λ l. column l 1) e, (ap (λ l. column l 2) e, (ap (λ l. column l 3) e, (ap (λ l. column l 4) e, (ap (λ l. column l 5) e, (ap (λ l. column l 6) e, (ap (λ l. column l 7) e, tt))))))));
 }
 
@@ -146,7 +140,7 @@ pub file_laid : IsLayout file_layout
 file_laid = record {
   number = λ r. refl;
   typed = λ db h. types db schema.files (db 17) h.1.1.1.1.1.1.1.1.0;
-  fits = λ x r w t s. fits_as None schema.files.columns r _ t refl (λ e. cc) s;
+  fits = λ x r t s. fits_as None schema.files.columns r _ t refl (λ e. cc) s;
   back = λ x r e. (ap (λ l. column l 0) e, (ap (λ l. column l 1) e, (ap (λ l. column l 2) e, tt)));
 }
 
@@ -154,7 +148,7 @@ pub text_laid : IsLayout text_layout
 text_laid = record {
   number = λ r. refl;
   typed = λ db h. types db schema.texts (db 19) h.1.1.1.1.1.1.1.1.1.0;
-  fits = λ x r w t s. fits_as None schema.texts.columns r _ t refl (λ e. cc) s;
+  fits = λ x r t s. fits_as None schema.texts.columns r _ t refl (λ e. cc) s;
   back = λ x r e. (ap (λ l. column l 0) e, (ap (λ l. column l 1) e, (ap (λ l. column l 2) e, tt)));
 }
 
@@ -162,6 +156,6 @@ pub date_laid : IsLayout date_layout
 date_laid = record {
   number = λ r. refl;
   typed = λ db h. types db schema.dates (db 21) h.1.1.1.1.1.1.1.1.1.1.0;
-  fits = λ x r w t s. fits_as None schema.dates.columns r _ t refl (λ e. cc) s;
+  fits = λ x r t s. fits_as None schema.dates.columns r _ t refl (λ e. cc) s;
   back = λ x r e. (ap (λ l. column l 0) e, (ap (λ l. column l 1) e, (ap (λ l. column l 2) e, tt)));
 }

@@ -1,5 +1,5 @@
 -- How a table stores its rows, and how a query shows them.
-use Rattle.std.specs.Prelude.{◌≡◌, ◌<◌, ◌^◌, ℕ, Bool, true, List, [], ◌∷◌, drop, length, map, slice_index_or}
+use Rattle.std.specs.Prelude.{◌≡◌, ◌<◌, ◌^◌, ℕ, true, List, [], ◌∷◌, drop, length, map, slice_index_or}
 use Rattle.std.specs.List.{AllByRecursion, AllZip}
 use Rattle.sqlite.specs.Order.{Row, column}
 use Rattle.sqlite.specs.Table.{Table}
@@ -16,7 +16,7 @@ use Rattle.tables.specs.Schema.{archive_schema}
 use Rattle.tables_read.specs.Reading.{Spells, AsksForRows, AsksForOrder}
 
 -- the tree of a table, its definition, the columns that are asked for, a stored row with NULL in each column that it lacks,
--- the row of a value, what the columns behind the rowid show of it, and whether it is one that is kept
+-- the row of a value, and what the columns behind the rowid show of it
 pub record Layout (X : Type 0) : Type 0 where
   pub tree : ℕ
   pub table : Table
@@ -24,7 +24,6 @@ pub record Layout (X : Type 0) : Type 0 where
   pub full : Row → Row
   pub cells : X → Row
   pub seen : X → Row
-  pub is_whole : X → Bool
 
 -- what a query shows of a stored row
 abbrev pub show : {X : Type 0} → Layout X → Row → Row
@@ -38,7 +37,7 @@ HasTypes l r = are_typed l.table.key 0 l.table.columns (drop 1 r) ≡ true
 pub record IsLayout {X : Type 0} (l : Layout X) : Type 0 where
   pub number : (r : Row) → column (show l r) 0 ≡ rowid r
   pub typed : (db : Trees) → Keeps Datatype archive_schema db → AllByRecursion (HasTypes l) (db l.tree)
-  pub fits : (x : ℕ × X) (r : Row) → l.is_whole x.1 ≡ true → HasTypes l r → Spells l.seen (show l r) x → l.full r ≡ stored l.cells x
+  pub fits : (x : ℕ × X) (r : Row) → HasTypes l r → Spells l.seen (show l r) x → l.full r ≡ stored l.cells x
   pub back : (x : ℕ × X) (r : Row) → l.full r ≡ stored l.cells x → Spells l.seen (show l r) x
 
 -- the numbers of rows
@@ -52,7 +51,6 @@ AreSmall = AllByRecursion (λ n. n < 2 ^ 64)
 -- the rows of an answer are read as these
 pub record AreRead {X : Type 0} (l : Layout X) (rows : List Row) (all : Numbered X) : Type 0 where
   pub spelled : AllZip (Spells l.seen) rows all
-  pub whole : AllByRecursion (λ x. l.is_whole x.1 ≡ true) all
   pub small : AreSmall (ids all)
 
 -- the row lacks a column
@@ -83,10 +81,9 @@ pub record HasOrder (tree : ℕ) (old new : State) (P : Value → Type 0) : Type
   pub shown : Shown sql [] old new rows
   pub is : P (first_cell rows)
 
--- the rows of a table are these, all of them whole
-pub record IsTable {X : Type 0} (l : Layout X) (db : Database) (xs : Numbered X) : Type 0 where
-  pub has : HasRows l.cells xs (map l.full (db.trees l.tree))
-  pub whole : AllByRecursion (λ x. l.is_whole x.1 ≡ true) xs
+-- the rows of a table are these
+abbrev pub IsTable : {X : Type 0} → Layout X → Database → Numbered X → Type 0
+IsTable l db xs = HasRows l.cells xs (map l.full (db.trees l.tree))
 
 -- no rows that code can hold are those of the table
 abbrev pub IsNoTable : {X : Type 0} → Layout X → (X → Type 0) → Database → Type 0

@@ -6,5 +6,4 @@ pub mod Layouts
 pub mod Order
 pub mod Pairs
 pub mod Reading
-pub mod Real
 pub mod RowKeys

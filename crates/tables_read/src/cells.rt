@@ -129,6 +129,34 @@ impl<const N: usize> Cell for [u8; N] {
     }
 }
 
+/// These bytes as an array, if there are any and they are as many.
+fn maybe_array<const N: usize>(bytes: Option<Vec<u8>>) -> Option<Option<[u8; N]>>
+    ensures some { IfSome result (λ all. or_null Blob all ≡ or_null (λ v. Blob v.items) bytes) }
+    ensures none { result ≡ None → IfSome bytes (λ v. length v.items ≢ N) × (bytes ≢ None) }
+{
+    match bytes {
+        Some(bytes) => match array(&bytes) {
+            Some(all) => Some(Some(all)),
+            None => None,
+        },
+        None => Some(None),
+    }
+}
+
+/// An array that may be absent is stored as NULL then.
+impl<const N: usize> Cell for Option<[u8; N]> {
+    ghost cell = { or_null Blob };
+
+    ghost is_real = { λ o. IfSome o (λ d. length d ≡ N) };
+
+    fn from_cell(row: &Row, at: usize) -> Result<Option<Option<[u8; N]>>, Error> {
+        match readable::<Option<Vec<u8>>>(row, at)? {
+            Some(bytes) => Ok(maybe_array(bytes)),
+            None => Ok(None),
+        }
+    }
+}
+
 /// The values of columns one after another: a pair of the first and the others, and at last `()`.
 pub(crate) trait Cells: Sized + Drop {
     ghost cells: { Self → List SqlValue };

@@ -7,11 +7,11 @@ ghost use Rattle.sqlite.specs.State.{HasCleanDisk, IsUnchanged, Survives};
 ghost use Rattle.tables.specs.Causes.{IsCaused};
 ghost use Rattle.tables.specs.Rows.{Tables, Holds, Fails};
 ghost use Rattle.tables.specs.Schema.{archive_schema};
-ghost use Rattle.tables_read.specs.All.{AreWhole, tables_with};
+ghost use Rattle.tables_read.specs.All.{tables_with};
 ghost use Rattle.tables_read.specs.Layout.{IsTable, IsNoTable};
 ghost use Rattle.tables_read.specs.Pairs.{tables_in};
 ghost use Rattle.tables_read.specs.Reading.{Tells};
-ghost use Rattle.tables_read.specs.Real.{AreReal};
+ghost use Rattle.tables.specs.Real.{AreReal};
 
 use crate::all::AllRows;
 use crate::stored::Stored;
@@ -94,12 +94,11 @@ fn all_of(rows: (Arrived, (Judged, Shown))) -> AllRows
     }
 }
 
-/// All rows of the tables, where they are rows of an archive: typed, with no number below zero, and with the print of each
-/// body.
+/// All rows of the tables, where they are rows of an archive: typed, and with no number below zero.
 pub fn read_all<S: Alter>(alloc: Global, conn: &mut Connection<S>) -> Result<Option<AllRows>, Error>
     requires archive { (state S.Store conn.old).now.schema ≡ archive_schema }
     ensures idle { conn.old.in_transaction ≡ false → conn.new.in_transaction ≡ false }
-    ensures some { HasCleanDisk (state S.Store conn.new) → IfOk result (λ o. IfSome o (λ all. Holds (state S.Store conn.old).now (tables_with all) × AreWhole (tables_with all))) }
+    ensures some { HasCleanDisk (state S.Store conn.new) → IfOk result (λ o. IfSome o (λ all. Holds (state S.Store conn.old).now (tables_with all))) }
     // A text or a digest that code cannot hold is none of an archive.
     ensures none { HasCleanDisk (state S.Store conn.new) → IfOk result (λ o. o ≡ None → (t : Tables) → AreReal t → Holds (state S.Store conn.old).now t → ⊥) }
     ensures unchanged { HasCleanDisk (state S.Store conn.new) → OnOk result (IsUnchanged (state S.Store conn.old) (state S.Store conn.new)) }

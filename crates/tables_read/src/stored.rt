@@ -1,11 +1,12 @@
 //! The rows of each table: the statements that read them, and the columns in their order.
 
-ghost use Rattle.std.specs.Prelude.{◌≡◌, ◌⊎◌, true, Some, None, IfErr, IfOk, IfSome, ⊤};
+ghost use Rattle.std.specs.Prelude.{◌≡◌, ◌≢◌, ◌⊎◌, None, IfErr, IfOk, IfSome, ⊤};
 ghost use Rattle.sqlite.specs.declared.error.Error.TheVariants.{SqliteFailure};
 ghost use Rattle.sqlite.specs.declared.error.ErrorCode.TheVariants.{OutOfMemory};
 ghost use Rattle.tables_read.specs.Layout.{Layout, IsLayout, IsShort};
 ghost use Rattle.tables_read.specs.Reading.{AsksForRows, AsksForOrder, Agree};
-ghost use Rattle.tables_read.specs.Real.{IsRealBody, IsRealArrival, IsRealUpload, IsRealWant, IsRealItem, IsRealRef, IsRealFile, IsRealText, IsRealDate};
+ghost use Rattle.tables.specs.Real.{IsRealBody, IsRealArrival, IsRealUpload, IsRealWant, IsRealItem, IsRealRef, IsRealFile, IsRealText, IsRealDate};
+ghost use Rattle.tables_read.specs.Layouts.{body_seen, seen_in};
 ghost use Rattle.tables_read.specs.Layouts.{meta_layout, body_layout, piece_layout, arrival_layout, upload_layout, want_layout, item_layout, ref_layout, file_layout, text_layout, date_layout};
 ghost use Rattle.tables_read.specs.Laid.{meta_laid, body_laid, piece_laid, arrival_laid, upload_laid, want_laid, item_laid, ref_laid, file_laid, text_laid, date_laid};
 
@@ -32,7 +33,7 @@ pub(crate) trait Stored: Sized + Drop {
 
     /// The row whose columns stand behind the rowid, if they are of its types.
     fn from_row(row: &Row) -> Result<Option<Self>, Error>
-        ensures some { IfOk result (λ o. IfSome o (λ x. (layout.is_whole x ≡ true) × Agree row.now 1 (layout.seen x))) }
+        ensures some { IfOk result (λ o. IfSome o (λ x. Agree row.now 1 (layout.seen x))) }
         ensures none { IfOk result (λ o. o ≡ None → (x : Self) → is_real x → ¬ Agree row.now 1 (layout.seen x)) }
         ensures cause { IfErr result (λ e. (e ≡ SqliteFailure OutOfMemory) ⊎ IsShort layout row.now) };
 
@@ -41,6 +42,12 @@ pub(crate) trait Stored: Sized + Drop {
 
 /// A size and three digests, and what follows.
 type Printed<More> = (u64, ([u8; 16], ([u8; 20], ([u8; 32], More))));
+
+/// A size and three digests, each of which may be absent.
+type MaybePrinted = (
+    Option<u64>,
+    (Option<[u8; 16]>, (Option<[u8; 20]>, (Option<[u8; 32]>, ()))),
+);
 
 const META: &str = "SELECT rowid, version, configuration FROM meta ORDER BY rowid";
 
@@ -85,24 +92,25 @@ const BODIES: &str = "SELECT rowid, size, md5, sha1, sha256 FROM bodies ORDER BY
 
 const BODIES_ORDER: &str = "SELECT coalesce((SELECT group_concat(rowid) FROM bodies), '')";
 
-/// The row of these values.
-fn body(cells: Printed<()>) -> Body
-    ensures { result ≡ record { print = Some (record { size = cells.0; md5 = cells.1.0; sha1 = cells.1.1.0; sha256 = cells.1.1.1.0 }) } }
+/// The row of these values, which are all there or all absent, if it is one.
+fn body(cells: MaybePrinted) -> Option<Body>
+    ensures some { IfSome result (λ b. seen_in cells ≡ body_seen b) }
+    ensures none { result ≡ None → (b : Body) → seen_in cells ≢ body_seen b }
 {
-    let (size, cells) = cells;
-    let (md5, cells) = cells;
-    let (sha1, cells) = cells;
-    let (sha256, ()) = cells;
-    let print = Print {
-        size,
-        md5,
-        sha1,
-        sha256,
-    };
-    Body { print: Some(print) }
+    match cells {
+        (Some(size), (Some(md5), (Some(sha1), (Some(sha256), ())))) => Some(Body {
+            print: Some(Print {
+                size,
+                md5,
+                sha1,
+                sha256,
+            }),
+        }),
+        (None, (None, (None, (None, ())))) => Some(Body { print: None }),
+        _ => None,
+    }
 }
 
-/// Each body is whole.
 impl Stored for Body {
     ghost layout = { body_layout };
 
@@ -119,8 +127,8 @@ impl Stored for Body {
     }
 
     fn from_row(row: &Row) -> Result<Option<Body>, Error> {
-        match <Printed<()>>::from_cells(row, 1)? {
-            Some(cells) => Ok(Some(body(cells))),
+        match <MaybePrinted>::from_cells(row, 1)? {
+            Some(cells) => Ok(body(cells)),
             None => Ok(None),
         }
     }

@@ -25,7 +25,7 @@ use std::alloc::{AllocError, Global};
 /// A row with its rowid, if both are of an archive.
 fn numbered<T: Stored>(row: &Row) -> Result<Option<(u64, T)>, Error>
     ensures some { IfOk result (λ o. IfSome o (λ x.
-        (x.0 < 2 ^ 64) × (T.layout.is_whole x.1 ≡ true) × Spells T.layout.seen row.now x)) }
+        (x.0 < 2 ^ 64) × Spells T.layout.seen row.now x)) }
     ensures none { IfOk result (λ o. o ≡ None
         → (x : ℕ × T) → T.is_real x.1 → ¬ Spells T.layout.seen row.now x) }
     ensures cause { IfErr result (λ e. (e ≡ SqliteFailure OutOfMemory) ⊎ IsShort T.layout row.now) }

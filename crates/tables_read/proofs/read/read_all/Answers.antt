@@ -2,14 +2,13 @@ use Rattle.std.proofs.Common.{Ok, ap, sym, subst, ◌∙◌}
 use Rattle.std.proofs.lemmas.Result.{IfOk-at_ok}
 use Rattle.sqlite.specs.Held.{state}
 use Rattle.tables.specs.Rows.{Holds}
-use Rattle.tables_read.specs.All.{AreWhole}
 use Rattle.tables_read.specs.Pairs.{tables_in}
 use Rattle.tables_read.proofs.WholeLemmas.{holds_all, holds_none}
 use Rattle.tables_read.proofs.read.read_all.Goals as goal
 
 pub returns-in-Some-clause-some : goal.returns-in-Some-clause-some
 returns-in-Some-clause-some g c clean =
-    subst (λ t. Holds (state g.S.Store c.args.conn.now).now t × AreWhole t) (sym c.all_of.ensures)
+    subst (Holds (state g.S.Store c.args.conn.now).now) (sym c.all_of.ensures)
     (holds_all (state g.S.Store c.args.conn.now).now (tables_in c.in-Some.rows) c.requires.archive
     (IfOk-at_ok _ (c.in_ok-rows.was ∙ ap (λ o. Ok o) c.in-Some.is) (c.read.ensures.is clean c.requires.archive)))
 

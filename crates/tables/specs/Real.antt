@@ -1,5 +1,5 @@
 -- Rows that code can hold: each text is one, and each digest has its length.
-use Rattle.std.specs.Prelude.{◌≡◌, ◌≢◌, length, All, None, IfSome, IsUtf8}
+use Rattle.std.specs.Prelude.{◌≡◌, length, All, IfSome, IsUtf8}
 use Rattle.sums.specs.declared.print.Print.{Print}
 use Rattle.tables.specs.Rows.{Tables, rows_of}
 use Rattle.tables.specs.declared.rows.Arrival.{Arrival}
@@ -17,10 +17,8 @@ pub record IsRealPrint (p : Print) : Type 0 where
   pub sha1 : length p.sha1 ≡ 20
   pub sha256 : length p.sha256 ≡ 32
 
--- a body that is whole
-pub record IsRealBody (b : Body) : Type 0 where
-  pub whole : b.print ≢ None
-  pub print : IfSome b.print IsRealPrint
+abbrev pub IsRealBody : Body → Type 0
+IsRealBody b = IfSome b.print IsRealPrint
 
 abbrev pub IsRealArrival : Arrival → Type 0
 IsRealArrival a = IsUtf8 a.name
@@ -54,7 +52,7 @@ IsRealText t = IsUtf8 t.path
 abbrev pub IsRealDate : Date → Type 0
 IsRealDate d = IsUtf8 d.suite
 
--- The rows can be held, and each body is whole.
+-- The rows can be held.
 pub record AreReal (t : Tables) : Type 0 where
   pub bodies : All IsRealBody (rows_of t.bodies)
   pub arrivals : All IsRealArrival (rows_of t.arrivals)
