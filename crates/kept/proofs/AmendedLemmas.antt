@@ -19,6 +19,7 @@ use Rattle.rules.specs.Configuration.{config_in}
 use Rattle.rules.specs.Values.{ConfigValue}
 use Rattle.rules.specs.declared.suite.Suite.{Suite}
 use Rattle.suites.specs.Shelves.{ShelvesValue, AreSound, pool}
+use Rattle.suites.specs.Told.{AreTold}
 use Rattle.sums.specs.Prints.{print as print_of, same_print}
 use Rattle.sums.proofs.Members.{all_at, any_some, any_true, by_name, contains_map, from_map, here, there}
 use Rattle.tables.specs.Dates.{with_new_date}
@@ -33,7 +34,7 @@ use Rattle.tables.specs.declared.rows.File.{File}
 use Rattle.tables.specs.declared.rows.IndexText as rows_text
 use Rattle.tables.specs.declared.rows.Piece.{Piece}
 use Rattle.texts.specs.Indices.{all_texts}
-use Rattle.kept.specs.Kept.{AreArrivals, AreBodies, AreFiles, AreItems, AreUploads, IsKept, arrival_in, arrivals_in, book_in, bytes_of, date_row, files_in, has_body, print_at, wants_in}
+use Rattle.kept.specs.Kept.{AreArrivals, AreBodies, AreFiles, AreItems, AreSigned, AreUploads, IsKept, arrival_in, arrivals_in, book_in, bytes_of, date_row, files_in, has_body, print_at, wants_in}
 use Rattle.kept.specs.Making.{with_change, with_new_dates, with_new_texts, with_steps}
 use Rattle.kept.proofs.DateLemmas.{in_range_past, length_past, renewed_dates}
 use Rattle.kept.proofs.NameLemmas.{config_codenames}
@@ -316,6 +317,8 @@ pub record AreStepped (t now : Tables) (config : ConfigValue) (judged : List Jud
   pub items : AreItems now config.suites shown
   pub files : AreFiles now shown
   pub sound : AreSound shown
+  pub told : AreTold config.suites shown
+  pub signed : AreSigned judged
 
 -- THE ARCHIVE after a change: once its texts and dates are written the tables keep what it leaves, and the book is the
 -- amended one.
@@ -341,6 +344,8 @@ amended_archive t now config judged shown dates change kept stepped small read r
         meta = ap (λ (u : Tables). rows_of u.meta) (sym is) ∙ ap rows_of stepped.meta ∙ kept.meta;
         read = read;
         sound = stepped.sound;
+        told = stepped.told;
+        signed = stepped.signed;
         bodies = bodies_stay t _ keeps kept.bodies;
         arrivals = arrivals_stay t _ keeps kept.arrivals;
         uploads = subst (λ (u : Tables). AreUploads u (judged ++ judgements change.steps)) is (uploads_stay now texts date_rows (judged ++ judgements change.steps) stepped.uploads);

@@ -1,20 +1,22 @@
 -- The archive after a whole change.
 use Rattle.std.proofs.Common.{◌≡◌, ℕ, ◌<◌, ◌≤◌, List, length, refl, All, is_some, IsTrue, Ok}
+use Rattle.std.proofs.lemmas.List.Elements.{All-weaker}
 use Rattle.rules.specs.Configuration.{config_in}
 use Rattle.rules.specs.Values.{ConfigValue}
 use Rattle.suites.specs.Shelves.{ShelvesValue}
 use Rattle.tables.specs.Bodies.{body_with}
 use Rattle.tables.specs.Rows.{Tables}
 use Rattle.keep.specs.Book.{latest, shown_past}
-use Rattle.keep.specs.Keeping.{AreSteps, IsSound}
+use Rattle.keep.specs.Keeping.{AreSteps, IsDeliverable, IsSound}
 use Rattle.keep.specs.declared.change.Change.{Change}
 use Rattle.keep.specs.declared.change.Judgement.{Judgement}
-use Rattle.kept.specs.Kept.{AreNumbered, IsKept, book_in}
+use Rattle.kept.specs.Kept.{AreNumbered, IsKept, arrivals_in, book_in}
 use Rattle.kept.specs.Making.{with_change, with_steps}
 use Rattle.kept.specs.Planned.{IsStepped, KeepsChange}
 use Rattle.kept.proofs.AmendedLemmas.{changed_archive}
 use Rattle.kept.proofs.JudgedSteps.{judged_steps}
 use Rattle.kept.proofs.NameLemmas.{config_codenames}
+use Rattle.kept.proofs.SignedLemmas.{signed_after}
 use Rattle.kept.proofs.StepLemmas.{stepped_rows, sound_past}
 
 pub kept_after : (t : Tables) (config : ConfigValue) (judged : List Judgement) (shown : ShelvesValue) (dates : List ℕ) (change : Change)
@@ -46,5 +48,9 @@ kept_after t config judged shown dates change kept numbered read sound small ins
       items = rows.items;
       files = rows.files;
       sound = sound_past shown change.steps kept.sound plans;
+      told = sound.told kept.told;
+      signed = signed_after (book_in config judged shown dates t) judged change.steps
+          (All-weaker (λ a. IsDeliverable a.name a.body × (a.moment ≤ latest)) (λ a. IsDeliverable a.name a.body) (λ a h. h.0) (arrivals_in t) kept.arrivals.deliverable)
+          kept.signed sound.judged;
     }) small read sound.texts in
     record { kept = both.0; book = both.1 }

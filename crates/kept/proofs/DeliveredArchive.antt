@@ -89,6 +89,8 @@ delivered_archive t config judged shown dates name bytes moment listed numbered 
         meta = ap rows_of leaves.meta ∙ kept.meta;
         read = kept.read;
         sound = kept.sound;
+        told = kept.told;
+        signed = kept.signed;
         bodies = core.bodies;
         arrivals = core.arrivals;
         uploads = delivered_uploads t judged name bytes moment listed numbered kept.uploads kept.bodies kept.arrivals stored is_listed core.arrived (here_is_there new core.bodies core.arrivals);

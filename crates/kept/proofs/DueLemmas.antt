@@ -20,12 +20,12 @@ use Rattle.keep.specs.Book.{Book, Candidate, body_for, candidate_of, candidates,
 use Rattle.keep.specs.declared.arrival.Arrival.{Arrival}
 use Rattle.keep.proofs.Prints.{same_print-Decides}
 use Rattle.tables.specs.Bodies.{body_with, has_print}
-use Rattle.tables.specs.Rows.{Tables, Numbered, rows_of}
+use Rattle.tables.specs.Rows.{Tables, Numbered, Rises, rows_of}
 use Rattle.tables.specs.declared.rows.Arrival as rows_arrival
 use Rattle.tables.specs.declared.rows.Body.{Body}
 use Rattle.tables.specs.declared.rows.Upload.{Upload}
 use Rattle.kept.specs.Kept.{AreArrivals, AreBodies, AreUploads, arrival_in, arrivals_in, bytes_of, has_body, request_in, request_of}
-use Rattle.kept.specs.Reads.{bytes_with, due_in, missing_in, text_in, unjudged_rows, upload_in, upload_with}
+use Rattle.kept.specs.Reads.{bytes_with, due_in, missing_in, text_in, wanting_rows, upload_in, upload_with}
 use Rattle.kept.proofs.OrderLemmas.{unjudged_requests}
 use Rattle.kept.proofs.WaitingLemmas.{missing_in-wants, missing-wants, missing_wants}
 
@@ -254,14 +254,14 @@ filter_map_chosen p f (x ∷ xs) = elim (p x) as (λ b. cons_option (if b then S
 ]
 
 -- the uploads that are due are the same, in the same order
-pub due_are : (t : Tables) (b : Book) → b.arrivals ≡ arrivals_in t → AreUploads t b.judged → AreBodies t → AreArrivals t
-    → filter_map (due_in t) (unjudged_rows t) ≡ map (upload_of b.arrivals) (due b)
+pub due_are : (t : Tables) (b : Book) → b.arrivals ≡ arrivals_in t → Rises t.uploads → AreUploads t b.judged → AreBodies t → AreArrivals t
+    → filter_map (due_in t) (wanting_rows t) ≡ map (upload_of b.arrivals) (due b)
 unfolding due unjudged
-due_are t b same uploads bodies arrivals =
+due_are t b same up uploads bodies arrivals =
     let found = subst (AllByRecursion (λ a. bytes_with t (print_of a.body) ≡ Some a.body)) (sym same) (arrivals_found t bodies arrivals) in
     let chosen = filter (λ c. not (is_judged b.judged c)) (candidates b.arrivals) in
     let read = all_in_order (IsRead t) chosen (all_filter (IsRead t) (λ c. not (is_judged b.judged c)) (candidates b.arrivals) (read_candidates t b.arrivals found)) in
-    dues_are t b.arrivals found (unjudged_rows t) (in_order chosen) read (unjudged_requests t b same uploads)
+    dues_are t b.arrivals found (wanting_rows t) (in_order chosen) read (unjudged_requests t b same up uploads)
     ∙ filter_map_chosen (is_complete b.arrivals) (upload_of b.arrivals) (in_order chosen)
 
 -- ---- the texts, entry by entry

@@ -7,6 +7,7 @@ use Rattle.std.proofs.lemmas.List.Elements.{All-nil, All-replicate}
 use Rattle.rules.specs.Configuration.{config_in}
 use Rattle.rules.specs.Values.{ConfigValue}
 use Rattle.suites.proofs.SharedLemmas.{entries-empty}
+use Rattle.suites.proofs.ToldLemmas.{told_empty}
 use Rattle.suites.specs.Items.{IsAtHome}
 use Rattle.suites.specs.Shelves.{AreSound}
 use Rattle.rules.specs.declared.suite.Suite.{Suite}
@@ -152,6 +153,8 @@ first_kept config moment read early = record {
   meta = refl;
   read = read;
   sound = nothing_sound;
+  told = told_empty config.suites;
+  signed = All-nil _;
   bodies = no_bodies config ((1, first_meta config) ∷ []) (first_texted config moment) (first_dated config moment);
   arrivals = no_arrivals config ((1, first_meta config) ∷ []) (first_texted config moment) (first_dated config moment);
   uploads = no_uploads config ((1, first_meta config) ∷ []) (first_texted config moment) (first_dated config moment);

@@ -99,7 +99,7 @@ all_put P c [] h all = (h, tt)
 all_put P c (d ∷ cs) h all =
     elim (is_gt (judging_order c d)) as (λ b. AllByRecursion P (cond b (d ∷ put_in_order c cs) (c ∷ d ∷ cs))) [ true ↦ (all.0, all_put P c cs h all.1) | false ↦ (h, all) ]
 
-all_in_order : (P : Candidate → Type 0) (cs : List Candidate) → AllByRecursion P cs → AllByRecursion P (in_order cs)
+pub all_in_order : (P : Candidate → Type 0) (cs : List Candidate) → AllByRecursion P cs → AllByRecursion P (in_order cs)
 all_in_order P [] all = tt
 all_in_order P (c ∷ cs) all = all_put P c (in_order cs) all.0 (all_in_order P cs all.1)
 
@@ -119,7 +119,7 @@ differ_in_order : (cs : List Candidate) → IsAscending Differ cs → IsAscendin
 differ_in_order [] up = tt
 differ_in_order (c ∷ cs) up = differ_put c (in_order cs) (all_in_order (Differ c) cs up.0) (differ_in_order cs up.1)
 
-all_taken : {X : Type 0} (P : X → Type 0) (n : ℕ) (xs : List X) → AllByRecursion P xs → AllByRecursion P (take n xs)
+pub all_taken : {X : Type 0} (P : X → Type 0) (n : ℕ) (xs : List X) → AllByRecursion P xs → AllByRecursion P (take n xs)
 all_taken P zero xs all = tt
 all_taken P (suc n) [] all = tt
 all_taken P (suc n) (x ∷ xs) all = (all.0, all_taken P n xs all.1)

@@ -2,6 +2,9 @@ pub mod Inside
 pub mod RowLists
 pub mod PairLemmas
 pub mod NameLemmas
+pub mod AsciiLemmas
+pub mod AsciiPaths
+pub mod AsciiItems
 pub mod PathLemmas
 pub mod BodyLemmas
 pub mod ArrivalLemmas
@@ -19,11 +22,15 @@ pub mod RequestLemmas
 pub mod UploadLemmas
 pub mod JudgedLemmas
 pub mod JudgedSteps
+pub mod SignedLemmas
+pub mod RealUploads
 pub mod DeliveryRows
 pub mod DeliveredArchive
 pub mod DeliveredLemmas
 pub mod ChangeLemmas
 pub mod ShownLemmas
+pub mod RealItems
+pub mod RealRows
 pub mod FoundLemmas
 pub mod FoundKept
 pub mod OpenLemmas
@@ -32,6 +39,7 @@ pub mod DeliverLemmas
 pub mod Commits
 pub mod ReadsLemmas
 pub mod BodySteps
+pub mod WantingLemmas
 pub mod OrderLemmas
 pub mod WaitingLemmas
 pub mod DueLemmas

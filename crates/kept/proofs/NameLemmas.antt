@@ -149,18 +149,30 @@ different_pairs (name ∷ names) h =
     (all_from (λ d. name ≢ d) names (λ d at e. cc (sym ((bytes_eq-Decides name d).1 e) ∙ any_false (bytes_eq name) names d (denied (is_among names name) parts.0) at)))
     (different_pairs names parts.1)
 
-codename_no_slash : (o : Option FieldValue) → option_map_or is_plain_line o true ≡ true → NoSlash (option_map_or (λ f. f.first) o [])
+-- What holds of plain names, of names of architectures and of none.
+pub record HoldsOfNames (P : List ℕ → Type 0) : Type 0 where
+  pub none : P []
+  pub plain : (name : List ℕ) → is_plain_name name ≡ true → P name
+  pub architecture : (name : List ℕ) → is_architecture_name name ≡ true → P name
+
+-- It holds of the names of a suite.
+pub record HasNames (P : List ℕ → Type 0) (s : Suite) : Type 0 where
+  pub codename : P s.codename
+  pub components : (c : List ℕ) → Contains s.components c → P c
+  pub architectures : (a : List ℕ) → Contains s.architectures a → P a
+
+codename_holds : (P : List ℕ → Type 0) → HoldsOfNames P → (o : Option FieldValue) → option_map_or is_plain_line o true ≡ true → P (option_map_or (λ f. f.first) o [])
 unfolding is_plain_line
-codename_no_slash None h = tt
-codename_no_slash (Some f) h = plain_no_slash f.first (both (is_nil f.more) (is_plain_name f.first) h).1
+codename_holds P holds None h = holds.none
+codename_holds P holds (Some f) h = holds.plain f.first (both (is_nil f.more) (is_plain_name f.first) h).1
 
 unwrapped : (o : Option FieldValue) → option_map_or (λ (f : FieldValue). f.first) o [] ≡ unwrap_or (option_map (λ (f : FieldValue). f.first) o) []
 unwrapped None = refl
 unwrapped (Some f) = refl
 
-has_codename : (p : Fields) → has_good_lines p ≡ true → NoSlash (suite_of p).codename
+has_codename : (P : List ℕ → Type 0) → HoldsOfNames P → (p : Fields) → has_good_lines p ≡ true → P (suite_of p).codename
 unfolding has_good_lines passes first_line
-has_codename p h =
+has_codename P holds p h =
     let o = field_named (codes "Codename") p in
     let codename = passes is_plain_line (codes "Codename") p in
     let suite = passes is_plain_line (codes "Suite") p in
@@ -170,31 +182,59 @@ has_codename p h =
     let four = both (codename && suite && origin && label) description h in
     let three = both (codename && suite && origin) label four.0 in
     let two = both (codename && suite) origin three.0 in
-    subst NoSlash (unwrapped o) (codename_no_slash o (both codename suite two.0).0)
+    subst P (unwrapped o) (codename_holds P holds o (both codename suite two.0).0)
 
 good_names : (test : List ℕ → Bool) (names : List (List ℕ)) → are_names test names ≡ true → (list_all test names ≡ true) × (are_different names ≡ true)
 unfolding are_names
 good_names test names h = both (list_all test names) (are_different names) h
 
-listed_architecture : (name : List ℕ) → is_listed_architecture name ≡ true → NoSlash name
+listed_architecture : (name : List ℕ) → is_listed_architecture name ≡ true → is_architecture_name name ≡ true
 unfolding is_listed_architecture
-listed_architecture name h = architecture_no_slash name (both (is_architecture_name name) (not (bytes_eq name (codes "all"))) h).0
+listed_architecture name h = (both (is_architecture_name name) (not (bytes_eq name (codes "all"))) h).0
 
-named_suite : (p : Fields) → has_bad_value p ≡ false → IsNamed (suite_of p)
-unfolding has_bad_value has_good_names
-named_suite p h =
-    let good = passed (has_good_lines p && has_good_names p) h in
-    let parts = both (has_good_lines p) (has_good_names p) good in
-    let all = both (are_names is_listed_architecture (words (codes "Architectures") p) && are_names is_plain_name (words (codes "Components") p)) (passes are_plain_words (codes "AlsoAcceptFor") p) parts.1 in
+-- the tests of the lists of names
+record AreListed (p : Fields) : Type 0 where
+  architectures : list_all is_listed_architecture (words (codes "Architectures") p) ≡ true
+  architectures_differ : are_different (words (codes "Architectures") p) ≡ true
+  components : list_all is_plain_name (words (codes "Components") p) ≡ true
+  components_differ : are_different (words (codes "Components") p) ≡ true
+
+listed_names : (p : Fields) → has_good_names p ≡ true → AreListed p
+unfolding has_good_names
+listed_names p h =
+    let all = both (are_names is_listed_architecture (words (codes "Architectures") p) && are_names is_plain_name (words (codes "Components") p)) (passes are_plain_words (codes "AlsoAcceptFor") p) h in
     let names = both (are_names is_listed_architecture (words (codes "Architectures") p)) (are_names is_plain_name (words (codes "Components") p)) all.0 in
     let architectures = good_names is_listed_architecture (words (codes "Architectures") p) names.0 in
     let components = good_names is_plain_name (words (codes "Components") p) names.1 in
+    record { architectures = architectures.0; architectures_differ = architectures.1; components = components.0; components_differ = components.1 }
+
+good_value : (p : Fields) → has_bad_value p ≡ false → (has_good_lines p ≡ true) × (has_good_names p ≡ true)
+unfolding has_bad_value
+good_value p h = both (has_good_lines p) (has_good_names p) (passed (has_good_lines p && has_good_names p) h)
+
+names_of_suite : (P : List ℕ → Type 0) → HoldsOfNames P → (p : Fields) → has_bad_value p ≡ false → HasNames P (suite_of p)
+names_of_suite P holds p h =
+    let good = good_value p h in
+    let listed = listed_names p good.1 in
     record {
-      codename = has_codename p parts.0;
-      components = λ c at. plain_no_slash c (all_true is_plain_name (words (codes "Components") p) c components.0 at);
-      architectures = λ a at. listed_architecture a (all_true is_listed_architecture (words (codes "Architectures") p) a architectures.0 at);
-      components_apart = different_pairs (words (codes "Components") p) components.1;
-      architectures_apart = different_pairs (words (codes "Architectures") p) architectures.1;
+      codename = has_codename P holds p good.0;
+      components = λ c at. holds.plain c (all_true is_plain_name (words (codes "Components") p) c listed.components at);
+      architectures = λ a at. holds.architecture a (listed_architecture a (all_true is_listed_architecture (words (codes "Architectures") p) a listed.architectures at));
+    }
+
+slashless : HoldsOfNames NoSlash
+slashless = record { none = tt; plain = plain_no_slash; architecture = architecture_no_slash }
+
+named_suite : (p : Fields) → has_bad_value p ≡ false → IsNamed (suite_of p)
+named_suite p h =
+    let names = names_of_suite NoSlash slashless p h in
+    let listed = listed_names p (good_value p h).1 in
+    record {
+      codename = names.codename;
+      components = names.components;
+      architectures = names.architectures;
+      components_apart = different_pairs (words (codes "Components") p) listed.components_differ;
+      architectures_apart = different_pairs (words (codes "Architectures") p) listed.architectures_differ;
     }
 
 second_passes : (a b : Bool) (rest : Option ConfigFault) → cond a (Some faults.Missing) (cond b (Some faults.BadValue) rest) ≡ None → b ≡ false
@@ -206,13 +246,17 @@ good_values : (ps : List Fields) → config_fault ps ≡ None → list_any has_b
 unfolding config_fault
 good_values ps h = second_passes (list_any lacks_field ps) (list_any has_bad_value ps) _ h
 
+-- a suite of a configuration that was read is that of a paragraph with good values
+of_paragraph : (P : Suite → Type 0) → ((p : Fields) → has_bad_value p ≡ false → P (suite_of p)) → (config : ConfigValue) → config_in config.text ≡ Ok config → (s : Suite) → Contains config.suites s → P s
+of_paragraph P each config h s at =
+    let c = is_config config.text config h in
+    let from = from_map suite_of s c.paragraphs (subst (λ (v : ConfigValue). Contains v.suites s) c.value at) in
+    subst P from.2 (each from.0 (any_false has_bad_value c.paragraphs from.0 (good_values c.paragraphs c.faultless) from.1))
+
 -- THE SUITES of a configuration have names without slashes, that differ.
 pub config_named : (config : ConfigValue) → config_in config.text ≡ Ok config → AreNamed config.suites
-config_named config h =
-    let c = is_config config.text config h in
-    record {
-      each = λ s at.
-          let from = from_map suite_of s c.paragraphs (subst (λ (v : ConfigValue). Contains v.suites s) c.value at) in
-          subst IsNamed from.2 (named_suite from.0 (any_false has_bad_value c.paragraphs from.0 (good_values c.paragraphs c.faultless) from.1));
-      apart = config_codenames config h;
-    }
+config_named config h = record { each = of_paragraph IsNamed named_suite config h; apart = config_codenames config h }
+
+-- What holds of plain names and of names of architectures holds of the names of its suites.
+pub config_names : (P : List ℕ → Type 0) → HoldsOfNames P → (config : ConfigValue) → config_in config.text ≡ Ok config → (s : Suite) → Contains config.suites s → HasNames P s
+config_names P holds config h = of_paragraph (HasNames P) (names_of_suite P holds) config h

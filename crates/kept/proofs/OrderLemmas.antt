@@ -5,10 +5,10 @@ use Rattle.std.specs.declared.cmp.Ordering.{Ordering}
 use Rattle.sums.specs.declared.print.Print.{Print}
 use Rattle.keep.specs.Book.{Book, Candidate, candidates, in_order, is_judged, judging_order, put_in_order, unjudged}
 use Rattle.keep.specs.Keeping.{sign_of}
-use Rattle.tables.specs.Rows.{Tables}
-use Rattle.tables.specs.Uploads.{is_judged as has_place}
+use Rattle.tables.specs.Rows.{Rises, Tables}
 use Rattle.kept.specs.Kept.{AreUploads, arrivals_in, request_in, request_of}
-use Rattle.kept.specs.Reads.{put_by, row_order, sign_order, sorted_by, unjudged_rows}
+use Rattle.kept.specs.Reads.{put_by, row_order, sign_order, sorted_by, wanting, wanting_rows}
+use Rattle.kept.proofs.WantingLemmas.{wanting_unjudged}
 
 -- one more in its place, under a map that keeps the order
 map-put_by : {X Y : Type 0} (f : X → Y) (o : X → X → Ordering) (p : Y → Y → Ordering) → ((x y : X) → o x y ≡ p (f x) (f y)) → (x : X) (ys : List X)
@@ -43,13 +43,14 @@ abbrev Request : Type 0
 Request = (List ℕ × Print) × List (List ℕ × Print × Bool)
 
 -- the uploads that are not judged are the same, in the same order, and want the same
-pub unjudged_requests : (t : Tables) (b : Book) → b.arrivals ≡ arrivals_in t → AreUploads t b.judged
-    → map (request_in t) (unjudged_rows t) ≡ map (request_of b.arrivals) (unjudged b)
-unfolding unjudged unjudged_rows
-unjudged_requests t b same uploads =
+pub unjudged_requests : (t : Tables) (b : Book) → b.arrivals ≡ arrivals_in t → Rises t.uploads → AreUploads t b.judged
+    → map (request_in t) (wanting_rows t) ≡ map (request_of b.arrivals) (unjudged b)
+unfolding unjudged wanting_rows
+unjudged_requests t b same up uploads =
     let by_sign : Request → Request → Ordering = λ r s. sign_order r.0 s.0 in
     let waiting = filter (λ c. not (is_judged b.judged c)) (candidates (arrivals_in t)) in
-    map-sorted_by (request_in t) row_order by_sign (λ x y. refl) (filter (λ x. not (has_place x.1)) t.uploads)
+    map-sorted_by (request_in t) row_order by_sign (λ x y. refl) (wanting t)
+    ∙ ap (λ xs. sorted_by by_sign (map (request_in t) xs)) (wanting_unjudged t b.judged up uploads)
     ∙ ap (sorted_by by_sign) uploads.waiting
     ∙ sym (map-sorted_by (request_of (arrivals_in t)) judging_order by_sign order_of_signs waiting)
     ∙ ap (map (request_of (arrivals_in t))) (sym (in_order-sorted_by waiting))

@@ -6,11 +6,11 @@ use Rattle.sums.specs.declared.print.Print.{Print}
 use Rattle.keep.specs.Book.{Book, Candidate, is_there, missing, unjudged, waiting_list}
 use Rattle.keep.specs.declared.arrival.Arrival.{Arrival}
 use Rattle.keep.specs.declared.change.Waiting.{Waiting}
-use Rattle.tables.specs.Rows.{Tables, rows_of}
+use Rattle.tables.specs.Rows.{Rises, Tables, rows_of}
 use Rattle.tables.specs.Wants.{is_wanted_by}
 use Rattle.tables.specs.declared.rows.Want.{Want}
 use Rattle.kept.specs.Kept.{AreUploads, arrivals_in, request_in, request_of, wanted, wants_in}
-use Rattle.kept.specs.Reads.{missing_in, unjudged_rows, waiting_in}
+use Rattle.kept.specs.Reads.{missing_in, wanting_rows, waiting_in}
 use Rattle.kept.proofs.OrderLemmas.{unjudged_requests}
 
 -- how many have not arrived
@@ -33,12 +33,12 @@ missing-wants arrivals c =
 abbrev waiting_for : (List ℕ × Print) × List (List ℕ × Print × Bool) → Waiting
 waiting_for r = record { name = r.0.0; missing = missing_wants r.1 }
 
-pub waiting_list_is : (t : Tables) (b : Book) → b.arrivals ≡ arrivals_in t → AreUploads t b.judged → map (waiting_in t) (unjudged_rows t) ≡ waiting_list b
+pub waiting_list_is : (t : Tables) (b : Book) → b.arrivals ≡ arrivals_in t → Rises t.uploads → AreUploads t b.judged → map (waiting_in t) (wanting_rows t) ≡ waiting_list b
 unfolding waiting_list
-waiting_list_is t b same uploads =
-    map_same (waiting_in t) (λ x. waiting_for (request_in t x)) (λ x. ap (λ n. record { name = x.1.name; missing = n }) (missing_in-wants t x.0)) (unjudged_rows t)
-    ∙ sym (map-map waiting_for (request_in t) (unjudged_rows t))
-    ∙ ap (map waiting_for) (unjudged_requests t b same uploads)
+waiting_list_is t b same up uploads =
+    map_same (waiting_in t) (λ x. waiting_for (request_in t x)) (λ x. ap (λ n. record { name = x.1.name; missing = n }) (missing_in-wants t x.0)) (wanting_rows t)
+    ∙ sym (map-map waiting_for (request_in t) (wanting_rows t))
+    ∙ ap (map waiting_for) (unjudged_requests t b same up uploads)
     ∙ map-map waiting_for (request_of b.arrivals) (unjudged b)
     ∙ map_same (λ c. waiting_for (request_of b.arrivals c)) (λ c. record { name = c.name; missing = length (missing b.arrivals c) })
     (λ c. ap (λ n. record { name = c.name; missing = n }) (sym (missing-wants b.arrivals c))) (unjudged b)

@@ -8,15 +8,18 @@ use Rattle.rules.specs.Configuration.{config_in}
 use Rattle.rules.specs.Values.{ConfigValue}
 use Rattle.rules.specs.Verdicts.{number_of}
 use Rattle.rules.specs.declared.suite.Suite.{Suite}
+use Rattle.records.specs.Records.{changes_limit}
+use Rattle.sums.specs.Lines.{is_file_name}
 use Rattle.sums.specs.Prints.{print as print_of}
 use Rattle.sums.specs.declared.entries.Entry.{Entry}
 use Rattle.sums.specs.declared.print.Print.{Print}
 use Rattle.suites.specs.Keys.{kind_number}
 use Rattle.suites.specs.Shelves.{ShelvesValue, AreSound, pool}
+use Rattle.suites.specs.Told.{AreTold}
 use Rattle.suites.specs.declared.item.Item as shelf
 use Rattle.suites.specs.declared.key.ShelfKey.{ShelfKey}
 use Rattle.texts.specs.Indices.{all_texts}
-use Rattle.keep.specs.Book.{Book, Candidate, candidates, is_judged, is_there, latest}
+use Rattle.keep.specs.Book.{Book, Candidate, candidates, is_changes_name, is_judged, is_there, latest}
 use Rattle.keep.specs.Keeping.{IsDeliverable, sign_of}
 use Rattle.keep.specs.declared.arrival.Arrival.{Arrival}
 use Rattle.keep.specs.declared.change.Judgement.{Judgement}
@@ -24,6 +27,7 @@ use Rattle.tables.specs.Arrivals.{is_arrival}
 use Rattle.tables.specs.Files.{is_file_at}
 use Rattle.tables.specs.Items.{is_item}
 use Rattle.tables.specs.Pieces.{is_of}
+use Rattle.tables.specs.Real.{IsRealPrint}
 use Rattle.tables.specs.Refs.{is_ref_of}
 use Rattle.tables.specs.Rows.{Tables, Numbered, Rises, rows_of}
 use Rattle.tables.specs.Uploads.{is_judged as has_place}
@@ -124,6 +128,17 @@ judged_row place j = record { name = j.name; print = j.print; place = Some place
 abbrev pub is_placed : ℕ → Upload → Bool
 is_placed place u = option_map_or (λ p. nat_eq p place) u.place false
 
+-- The name is that of a .changes and may be delivered, and the print is one that a .changes may have.
+pub record IsSigned (name : List ℕ) (print : Print) : Type 0 where
+  pub named : is_changes_name name ≡ true
+  pub file_name : is_file_name name ≡ true
+  pub small : print.size ≤ changes_limit
+  pub digests : IsRealPrint print
+
+-- judged uploads that may have been delivered
+abbrev pub AreSigned : List Judgement → Type 0
+AreSigned judged = All (λ j. IsSigned j.name j.print) judged
+
 -- Those without a verdict are the .changes that arrived and are not judged, in the order of their arrival, each with the
 -- entries that it lists; the others are the judged ones, at places from 1 on. Name and print tell uploads apart.
 pub record AreUploads (t : Tables) (judged : List Judgement) : Type 0 where
@@ -212,11 +227,14 @@ abbrev pub date_row : Suite × ℕ → Date
 date_row d = record { suite = d.0.codename; moment = d.1 }
 
 -- The rows are those of an archive of this configuration, with these judged uploads in order, this shown, and these dates.
--- The configuration is what its text spells, and each item stands on its own shelf.
+-- The configuration is what its text spells, each item stands on its own shelf and is as its records tell it, and the judged
+-- uploads may have been delivered.
 pub record IsKept (t : Tables) (config : ConfigValue) (judged : List Judgement) (shown : ShelvesValue) (dates : List ℕ) : Type 0 where
   pub meta : rows_of t.meta ≡ record { version = 3; configuration = config.text } ∷ []
   pub read : config_in config.text ≡ Ok config
   pub sound : AreSound shown
+  pub told : AreTold config.suites shown
+  pub signed : AreSigned judged
   pub bodies : AreBodies t
   pub arrivals : AreArrivals t
   pub uploads : AreUploads t judged

@@ -13,3 +13,4 @@ pub mod Archives
 pub mod Taking
 pub mod OneBook
 pub mod KeeperLemmas
+pub mod Finished

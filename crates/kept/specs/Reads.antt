@@ -1,5 +1,6 @@
--- The words of the reads: the uploads that are not judged, in the order of judging, and those that are due.
-use Rattle.std.specs.Prelude.{IsTrue, ℕ, nat_eq, not, if◌then◌else◌, List, [], ◌∷◌, map, filter, length, Option, None, option_map, unwrap_or}
+-- The words of the reads: the uploads that want something, in the order of judging, and those that are due.
+use Rattle.std.specs.Prelude.{IsTrue, ℕ, nat_eq, not, if◌then◌else◌, List, [], ◌∷◌, map, filter, find, length, Option, None, option_map, unwrap_or}
+use Rattle.std.specs.List.{list_any}
 use Rattle.std.specs.Option.{option_and_then}
 use Rattle.std.specs.Ordering.{ordering_then, nat_cmp, is_gt}
 use Rattle.std.specs.Result.{result_ok}
@@ -14,8 +15,7 @@ use Rattle.suites.specs.Upload.{UploadValue, has_text}
 use Rattle.keep.specs.declared.change.Waiting.{Waiting}
 use Rattle.tables.specs.Bodies.{body_with}
 use Rattle.tables.specs.Rows.{Tables, Numbered, Stands, rows_of}
-use Rattle.tables.specs.Uploads.{is_judged as has_place}
-use Rattle.tables.specs.Wants.{is_wanted_by}
+use Rattle.tables.specs.Wants.{is_wanted_by, wants_behind}
 use Rattle.tables.specs.declared.rows.Upload.{Upload}
 use Rattle.kept.specs.Kept.{bytes_of, sign_in}
 
@@ -43,9 +43,17 @@ sorted_by order (x ∷ xs) = put_by order x (sorted_by order xs)
 abbrev pub row_order : ℕ × Upload → ℕ × Upload → Ordering
 row_order x y = sign_order (sign_in x.1) (sign_in y.1)
 
--- the uploads that are not judged, in the order of judging
-unfoldable pub unjudged_rows : Tables → Numbered Upload
-unjudged_rows t = sorted_by row_order (filter (λ x. not (has_place x.1)) t.uploads)
+-- the uploads that want something
+unfoldable pub wanting : Tables → Numbered Upload
+wanting t = filter (λ x. list_any (is_wanted_by x.0) (rows_of t.wants)) t.uploads
+
+-- the same, in the order of judging
+unfoldable pub wanting_rows : Tables → Numbered Upload
+wanting_rows t = sorted_by row_order (wanting t)
+
+-- the first of them behind a number, or of all
+unfoldable pub next_wanting_in : Tables → Option ℕ → Option (ℕ × Upload)
+next_wanting_in t after = find (λ x. wants_behind after (rows_of t.wants) x.0) t.uploads
 
 -- ---- what uploads wait for
 

@@ -1,0 +1,13 @@
+pub mod ArrivalsLemmas
+pub mod BodiesLemmas
+pub mod DatesLemmas
+pub mod FilesLemmas
+pub mod ItemsLemmas
+pub mod MetaLemmas
+pub mod TextsLemmas
+pub mod UploadsFits
+pub mod UploadsJudged
+pub mod UploadsLists
+pub mod UploadsSteps
+pub mod UploadsWaiting
+pub mod WholeLemmas

@@ -1,0 +1,117 @@
+-- Lists of rows that are gone over one by one.
+use Rattle.std.proofs.Common.{◌≡◌, ◌↔◌, ℕ, zero, suc, ◌+◌, ◌<◌, ◌≤◌, Bool, true, false, cond, nat_eq, Option, Some, None, option_map, slice_get, List, [], ◌∷◌, ◌++◌, map, find, drop, take, length, get_or, All, Contains, refl, sym, ap, ap₂, subst, ◌∙◌, arith, MatchBool, true≢false}
+use Rattle.std.specs.List.{AllByRecursion, range_with_len}
+use Rattle.std.proofs.lemmas.Bool.Decides.{Decides-eqb}
+use Rattle.std.proofs.lemmas.List.{drop_all, drop_more, length-drop, map-append, take_more}
+use Rattle.std.proofs.lemmas.List.Elements.{All-cons, All-head, All-tail, All-contains, All-from_recursion}
+use Rattle.std.proofs.lemmas.List.FromFn.{get_or-map-range_with_len, length-map-range_with_len}
+use Rattle.tables.specs.Rows.{Numbered, rows_of}
+
+module _ {X : Type 0} (xs : Numbered X) (i : ℕ) (x : ℕ × X) (within : i < length xs) (is : x ≡ get_or xs i x) where
+  -- the rows that are left, from a row on
+  pub rows_left : rows_of (drop i xs) ≡ x.1 ∷ rows_of (drop (i + 1) xs)
+  rows_left = ap (λ (l : Numbered X). rows_of l) (drop_more xs i x within ∙ ap (λ (y : ℕ × X). y ∷ drop (i + 1) xs) (sym is))
+
+  -- the rows so far, with one more
+  pub rows_more : rows_of (take (i + 1) xs) ≡ rows_of (take i xs) ++ x.1 ∷ []
+  rows_more =
+      ap (λ (l : Numbered X). rows_of l) (take_more xs i x within ∙ ap (λ (y : ℕ × X). take i xs ++ y ∷ []) (sym is))
+      ∙ map-append (λ (y : ℕ × X). y.1) (take i xs) (x ∷ [])
+
+  pub all_step : (P : X → Type 0) → P x.1 → All P (rows_of xs) ↔ All P (rows_of (drop i xs)) → All P (rows_of xs) ↔ All P (rows_of (drop (i + 1) xs))
+  all_step P p h = (
+    λ all. All-tail P x.1 (rows_of (drop (i + 1) xs)) (subst (All P) rows_left (h.0 all)),
+    λ rest. h.1 (subst (All P) (sym rows_left) (All-cons P x.1 (rows_of (drop (i + 1) xs)) p rest)),
+  )
+
+  pub all_fails : (P : X → Type 0) → (P x.1 → ⊥) → All P (rows_of xs) ↔ All P (rows_of (drop i xs)) → All P (rows_of xs) → ⊥
+  all_fails P fails h all = fails (All-head P x.1 (rows_of (drop (i + 1) xs)) (subst (All P) rows_left (h.0 all)))
+
+-- Two lists gone over side by side, once one of them is at its end.
+pub same_end : {Y Z : Type 0} (E : Type 0) (G : List Y → List Z) (left : List Z) (ys : List Y) (next : ℕ)
+    → [] ≡ G [] → ((y : Y) (zs : List Y) → [] ≡ G (y ∷ zs) → ⊥) → left ≡ [] → next ≤ length ys → E ↔ (left ≡ G (drop next ys))
+    → MatchBool (nat_eq next (length ys)) E (E → ⊥)
+same_end {Y} {Z} E G left ys next nil cons none within h = go (nat_eq next (length ys)) refl
+  where
+    short : (zs : List Y) → 0 < length zs → [] ≡ G zs → ⊥
+    short [] some e = omega arith
+    short (z ∷ zs) some e = cons z zs e
+
+    go : (b : Bool) → nat_eq next (length ys) ≡ b → MatchBool b E (E → ⊥)
+    go true e =
+        let all : next ≡ length ys = (Decides-eqb next (length ys)).0 e in
+        let past : length ys ≤ next = omega arith in
+        h.1 (none ∙ nil ∙ sym (ap G (drop_all next ys past)))
+    go false e = λ q.
+        let apart : next ≡ length ys → ⊥ = λ k. true≢false (sym ((Decides-eqb next (length ys)).1 k) ∙ e) in
+        let there : next < length ys = omega (arith, apart) in
+        let some : 0 < length (drop next ys) = omega (arith, length-drop next ys) in
+        short (drop next ys) some (sym none ∙ h.0 q)
+
+-- a value that is nothing stands among those of a range
+pub none_in_range : {X : Type 0} (f : ℕ → Option X) (last at : ℕ) → at < last → f (at + 1) ≡ None → Contains (map f (range_with_len 1 last)) None
+none_in_range f last at within e = (
+  at,
+  omega (arith, length-map-range_with_len f 1 last),
+  get_or-map-range_with_len f 1 last at (at + 1) None within (omega arith) ∙ e,
+)
+
+-- none of the values that are there is nothing
+pub none_among : {X : Type 0} (xs : List X) → Contains (map (λ (x : X). Some x) xs) None → ⊥
+none_among {X} xs has = All-contains (λ (o : Option X). o ≡ None → ⊥) (map (λ (x : X). Some x) xs) None (All-from_recursion (λ (o : Option X). o ≡ None → ⊥) (map (λ (x : X). Some x) xs) (there xs)) has refl
+  where
+    there : (ys : List X) → AllByRecursion (λ (o : Option X). o ≡ None → ⊥) (map (λ (x : X). Some x) ys)
+    there [] = tt
+    there (y ∷ ys) = (λ (e : Some y ≡ None). cc, there ys)
+
+pub same_somes : {X : Type 0} (xs ys : List X) → map (λ (x : X). Some x) xs ≡ map (λ (x : X). Some x) ys → xs ≡ ys
+same_somes [] [] e = refl
+same_somes [] (y ∷ ys) e = cc
+same_somes (x ∷ xs) [] e = cc
+same_somes {X} (x ∷ xs) (y ∷ ys) e =
+    let one : x ≡ y = cc in
+    let rest : map (λ (z : X). Some z) xs ≡ map (λ (z : X). Some z) ys = cc in
+    ap₂ ◌∷◌ one (same_somes xs ys rest)
+
+pub slice_get-map : {X Y : Type 0} (f : X → Y) (xs : List X) (n : ℕ) → slice_get (map f xs) n ≡ option_map f (slice_get xs n)
+slice_get-map f [] n = refl
+slice_get-map f (x ∷ xs) zero = refl
+slice_get-map f (x ∷ xs) (suc n) = slice_get-map f xs n
+
+pub slice_get-range : (from n i : ℕ) → i < n → slice_get (range_with_len from n) i ≡ Some (from + i)
+slice_get-range from zero i h = absurd (omega arith)
+slice_get-range from (suc n) zero h = ap Some (omega arith)
+slice_get-range from (suc n) (suc i) h = slice_get-range (from + 1) n i (omega arith) ∙ ap Some (omega arith)
+
+-- a list is told by its elements
+pub from_slices : {X : Type 0} (f : ℕ → Option X) (from : ℕ) (xs : List X) → ((n : ℕ) → f (from + n) ≡ slice_get xs n)
+    → map f (range_with_len from (length xs)) ≡ map (λ (x : X). Some x) xs
+from_slices f from [] h = refl
+from_slices f from (x ∷ xs) h =
+    ap₂ ◌∷◌ (let e : from + 0 ≡ from = omega arith in subst (λ n. f n ≡ Some x) e (h 0))
+    (from_slices f (from + 1) xs (λ n. let e : from + suc n ≡ from + 1 + n = omega arith in subst (λ m. f m ≡ slice_get xs n) e (h (suc n))))
+
+module _ {X : Type 0} (p : X → Bool) where
+  pub found_passes : (xs : List X) (x : X) → find p xs ≡ Some x → p x ≡ true
+  found_passes [] x e = cc
+  found_passes (y ∷ ys) x e = go (p y) refl e (found_passes ys x)
+    where
+      go : (b : Bool) → p y ≡ b → cond b (Some y) (find p ys) ≡ Some x → (find p ys ≡ Some x → p x ≡ true) → p x ≡ true
+      go true t f more = let k : y ≡ x = cc in subst (λ z. p z ≡ true) k t
+      go false t f more = more f
+
+  pub found_holds : (P : X → Type 0) (xs : List X) (x : X) → AllByRecursion P xs → find p xs ≡ Some x → P x
+  found_holds P [] x all e = cc
+  found_holds P (y ∷ ys) x all e = go (p y) e (found_holds P ys x all.1)
+    where
+      go : (b : Bool) → cond b (Some y) (find p ys) ≡ Some x → (find p ys ≡ Some x → P x) → P x
+      go true f more = let k : y ≡ x = cc in subst P k all.0
+      go false f more = more f
+
+  pub none_passes : (xs : List X) → find p xs ≡ None → AllByRecursion (λ x. p x ≡ false) xs
+  none_passes [] e = tt
+  none_passes (y ∷ ys) e = go (p y) refl e (none_passes ys)
+    where
+      go : (b : Bool) → p y ≡ b → cond b (Some y) (find p ys) ≡ None → (find p ys ≡ None → AllByRecursion (λ x. p x ≡ false) ys) → AllByRecursion (λ x. p x ≡ false) (y ∷ ys)
+      go true t f more = cc
+      go false t f more = (t, more f)

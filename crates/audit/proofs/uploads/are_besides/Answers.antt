@@ -1,0 +1,46 @@
+use Rattle.std.proofs.Common.{◌≡◌, List, Vec, Global, map, ap₂, ◌∙◌, arith}
+use Rattle.std.specs.List.{filter_map}
+use Rattle.std.proofs.lemmas.Bool.Decides.{when_false, when_true}
+use Rattle.tables.specs.Rows.{Numbered, rows_of}
+use Rattle.tables.specs.declared.rows.Piece.{Piece}
+use Rattle.tables_read.specs.All.{tables_with}
+use Rattle.audit.specs.Uploads.{found_awaited, printed, with_print, with_print_in}
+use Rattle.audit.specs.declared.uploads.arrived.Arrived.{Arrived}
+use Rattle.audit.proofs.UploadsFits.{AreAsked, asked_at, besides_other, besides_owned, owned_at, prints_at, some_of, unprinted_at}
+use Rattle.audit.proofs.UploadsWaiting.{none_unprinted}
+use Rattle.audit.proofs.uploads.are_besides.Goals as goal
+
+pub returns-in_default : goal.returns-in_default
+returns-in_default c keys fit b =
+    none_unprinted (tables_with c.args.all.now) keys fit
+    (unprinted_at c.deref.result.now c.args.all.now.arrivals.items c.deref-2.result.now c.args.all.now.bodies.items c.deref.ensures.value c.deref-2.ensures.value
+    (c.in_ok-arrived.ensures.none c.in_default.is))
+
+pub returns-then-not-are_requests : goal.returns-then-not-are_requests
+returns-then-not-are_requests c keys fit b =
+    let all = c.args.all.now in
+    let arrived = c.in-Some.arrived.items in
+    let awaited = c.in_ok-awaited.awaited.items in
+    besides_other (tables_with all) c.args.judged.now arrived awaited keys fit
+    (prints_at c.deref.result.now all.arrivals.items c.deref-2.result.now all.bodies.items arrived c.deref.ensures.value c.deref-2.ensures.value
+    (some_of (λ (v : Vec Arrived Global). map with_print v.items ≡ map (with_print_in c.deref-2.result.now) (rows_of c.deref.result.now)) c.in_ok-arrived.field-0 c.in-Some.arrived c.in-Some.is c.in_ok-arrived.ensures.some))
+    (c.in_ok-awaited.ensures ∙ ap₂ (λ (ps : Numbered Piece) (xs : List Arrived). filter_map (found_awaited ps c.args.judged.now) (map printed xs)) c.deref-3.ensures.value c.deref-4.ensures.value)
+    (when_false (AreAsked all.uploads.items all.wants.items arrived awaited) (AreAsked all.uploads.items all.wants.items arrived awaited → ⊥) (grind arith)
+    (asked_at c.are_requests.result c.deref-5.result.now all.uploads.items c.deref-6.result.now all.wants.items c.deref-7.result.now arrived c.deref-8.result.now awaited
+    c.deref-5.ensures.value c.deref-6.ensures.value c.deref-7.ensures.value c.deref-8.ensures.value c.are_requests.ensures))
+    b
+
+pub returns : goal.returns
+returns c keys fit =
+    let all = c.args.all.now in
+    let arrived = c.in-Some.arrived.items in
+    let awaited = c.in_ok-awaited.awaited.items in
+    besides_owned (tables_with all) c.args.judged.now arrived awaited keys fit
+    (prints_at c.deref.result.now all.arrivals.items c.deref-2.result.now all.bodies.items arrived c.deref.ensures.value c.deref-2.ensures.value
+    (some_of (λ (v : Vec Arrived Global). map with_print v.items ≡ map (with_print_in c.deref-2.result.now) (rows_of c.deref.result.now)) c.in_ok-arrived.field-0 c.in-Some.arrived c.in-Some.is c.in_ok-arrived.ensures.some))
+    (c.in_ok-awaited.ensures ∙ ap₂ (λ (ps : Numbered Piece) (xs : List Arrived). filter_map (found_awaited ps c.args.judged.now) (map printed xs)) c.deref-3.ensures.value c.deref-4.ensures.value)
+    c.are_owned.result
+    (when_true (AreAsked all.uploads.items all.wants.items arrived awaited) (AreAsked all.uploads.items all.wants.items arrived awaited → ⊥) (grind arith)
+    (asked_at c.are_requests.result c.deref-5.result.now all.uploads.items c.deref-6.result.now all.wants.items c.deref-7.result.now arrived c.deref-8.result.now awaited
+    c.deref-5.ensures.value c.deref-6.ensures.value c.deref-7.ensures.value c.deref-8.ensures.value c.are_requests.ensures))
+    (owned_at c.are_owned.result c.deref-10.result.now all.uploads.items c.deref-9.result.now all.wants.items c.deref-10.ensures.value c.deref-9.ensures.value c.are_owned.ensures)

@@ -1,0 +1,15 @@
+//! Says whether all rows of the tables are those of an archive: one module for each part of it.
+#![tactic(auto)]
+
+mod arrivals;
+mod bodies;
+mod dates;
+mod files;
+mod items;
+mod meta;
+mod signed;
+mod text_rows;
+mod uploads;
+mod whole;
+
+pub use whole::{Held, archive_in};

@@ -1,0 +1,56 @@
+//! The uploads: whether their rows are those of judged ones in their order, and of the .changes that wait for a verdict.
+
+mod arrived;
+mod awaited;
+mod judged;
+mod wanted;
+
+ghost use Rattle.std.specs.Prelude.{◌≡◌, None, IfOk, IfSome, List, MatchBool};
+ghost use Rattle.keep.specs.declared.change.Judgement.{Judgement as JudgementValue};
+ghost use Rattle.tables_read.specs.All.{AreConstrained, tables_with};
+ghost use Rattle.audit.specs.Parts.{BodiesFit, UploadsFit};
+ghost use Rattle.audit.specs.Uploads.{AreBesides};
+
+use arrived::arrived_among;
+use awaited::awaited_among;
+use judged::{are_placed, judged_until, last_place};
+use keep::Judgement;
+use std::alloc::{AllocError, Global};
+use tables_read::AllRows;
+use wanted::{are_owned, are_requests};
+
+/// Whether, beside these judged ones, the rows are those of the .changes that wait for a verdict, with what they want.
+fn are_besides(alloc: Global, all: &AllRows, judged: &[Judgement]) -> Result<bool, AllocError>
+    ensures { AreConstrained (tables_with all.now) → BodiesFit (tables_with all.now)
+        → IfOk result (λ fit. MatchBool fit (AreBesides (tables_with all.now) judged.now)
+        (AreBesides (tables_with all.now) judged.now → ⊥)) }
+{
+    let Some(arrived) = arrived_among(alloc, &all.arrivals, &all.bodies)? else {
+        return Ok(false);
+    };
+    let awaited = awaited_among(alloc, &all.pieces, judged, &arrived)?;
+    if !are_requests(&all.uploads, &all.wants, &arrived, &awaited) {
+        return Ok(false);
+    }
+    Ok(are_owned(&all.wants, &all.uploads))
+}
+
+/// The judged uploads in their order, where the rows of uploads and of what they want are those of an archive.
+pub fn judgements_in(alloc: Global, all: &AllRows) -> Result<Option<Vec<Judgement>>, AllocError>
+    ensures some { AreConstrained (tables_with all.now) → BodiesFit (tables_with all.now)
+        → IfOk result (λ o. IfSome o (λ judged. UploadsFit (tables_with all.now) judged.items)) }
+    ensures none { AreConstrained (tables_with all.now) → BodiesFit (tables_with all.now)
+        → IfOk result (λ o. o ≡ None → (judged : List JudgementValue) → UploadsFit (tables_with all.now) judged → ⊥) }
+{
+    if !are_placed(&all.uploads) {
+        return Ok(None);
+    }
+    let last = last_place(&all.uploads);
+    let Some(judged) = judged_until(alloc, &all.uploads, last)? else {
+        return Ok(None);
+    };
+    if !are_besides(alloc, all, &judged)? {
+        return Ok(None);
+    }
+    Ok(Some(judged))
+}

@@ -1,0 +1,119 @@
+//! The .changes that arrived and wait for a verdict.
+
+ghost use Rattle.std.specs.Prelude.{◌≡◌, ◌∷◌, [], IfOk, map};
+ghost use Rattle.std.specs.List.{filter_map};
+ghost use Rattle.std.specs.Result.{result_ok};
+ghost use Rattle.keep.specs.Book.{is_changes_name};
+ghost use Rattle.records.specs.Records.{changes_in as record_in};
+ghost use Rattle.audit.specs.Uploads.{awaited_view, bytes_among, changes_awaited, found_awaited, has_judgement, printed};
+
+use crate::uploads::arrived::Arrived;
+use keep::Judgement;
+use records::{Changes, RecordFault};
+use std::alloc::{AllocError, Global};
+use sums::Print;
+use tables::rows::{Arrival, Piece};
+
+/// A .changes that waits for a verdict: its arrival, its print, and the record that it is.
+#[derive(Drop)]
+pub struct Awaited<'a> {
+    pub arrival: &'a Arrival,
+    pub print: Print,
+    pub changes: Changes,
+}
+
+/// The bytes of a body.
+fn bytes_of(alloc: Global, pieces: &[(u64, Piece)], id: u64) -> Result<Vec<u8>, AllocError>
+    ensures { IfOk result (λ bytes. bytes.items ≡ bytes_among pieces.now id) }
+{
+    let mut bytes = Vec::new(alloc);
+    for (_, piece) in pieces {
+        if piece.body == id {
+            bytes.extend_from_slice(piece.bytes.as_slice())?;
+        }
+    }
+    Ok(bytes)
+}
+
+/// The record that a text is, or nothing where it is none.
+fn changes_in(alloc: Global, text: &[u8]) -> Result<Option<Changes>, AllocError>
+    ensures { IfOk result (λ changes. changes ≡ result_ok (record_in text.now)) }
+{
+    match Changes::read(alloc, text) {
+        Ok(changes) => Ok(Some(changes)),
+        Err(RecordFault::OutOfMemory) => Err(AllocError),
+        Err(_) => Ok(None),
+    }
+}
+
+/// Whether this is the name of a .changes.
+fn is_changes(name: &str) -> bool
+    ensures { result ≡ is_changes_name name.now }
+{
+    name.as_bytes().ends_with(b".changes")
+}
+
+/// Whether the judgement is that of what arrived.
+fn is_judgement_of(one: &Judgement, arrived: &Arrived<'_>) -> bool
+    ensures { result ≡ has_judgement (one.now ∷ []) (printed arrived.now) }
+{
+    if one.print != arrived.print {
+        return false;
+    }
+    one.name.as_str() == arrived.arrival.name.as_str()
+}
+
+/// Whether what arrived has a verdict.
+fn is_judged(judged: &[Judgement], arrived: &Arrived<'_>) -> bool
+    ensures { result ≡ has_judgement judged.now (printed arrived.now) }
+{
+    for one in judged {
+        if is_judgement_of(one, arrived) {
+            return true;
+        }
+    }
+    false
+}
+
+/// The record that waits for a verdict, where what arrived is one.
+#[tactic(auto, unfolding(crate::specs::Uploads::changes_awaited))]
+fn awaited_changes(
+    alloc: Global,
+    pieces: &[(u64, Piece)],
+    judged: &[Judgement],
+    arrived: &Arrived<'_>,
+) -> Result<Option<Changes>, AllocError>
+    ensures { IfOk result (λ changes. changes ≡ changes_awaited pieces.now judged.now (printed arrived.now)) }
+{
+    if !is_changes(arrived.arrival.name.as_str()) {
+        return Ok(None);
+    }
+    if is_judged(judged, arrived) {
+        return Ok(None);
+    }
+    let bytes = bytes_of(alloc, pieces, arrived.arrival.body)?;
+    changes_in(alloc, &bytes)
+}
+
+/// The .changes that wait for a verdict, in the order of their arrival.
+pub fn awaited_among<'a>(
+    alloc: Global,
+    pieces: &[(u64, Piece)],
+    judged: &[Judgement],
+    arrived: &[Arrived<'a>],
+) -> Result<Vec<Awaited<'a>>, AllocError>
+    ensures { IfOk result (λ awaited. map awaited_view awaited.items
+        ≡ filter_map (found_awaited pieces.now judged.now) (map printed arrived.now)) }
+{
+    let mut awaited = Vec::new(alloc);
+    for one in arrived {
+        if let Some(changes) = awaited_changes(alloc, pieces, judged, one)? {
+            awaited.push(Awaited {
+                arrival: one.arrival,
+                print: one.print,
+                changes,
+            })?;
+        }
+    }
+    Ok(awaited)
+}

@@ -1,0 +1,19 @@
+-- The rows without the bodies that are not whole.
+use Rattle.std.specs.Prelude.{ℕ, Bool, not, ◌&&◌, is_some}
+use Rattle.std.specs.List.{list_any}
+use Rattle.tables.specs.Pieces.{is_of}
+use Rattle.tables.specs.Rows.{Tables, without}
+use Rattle.tables.specs.declared.rows.Body.{Body}
+use Rattle.tables.specs.declared.rows.Piece.{Piece}
+
+-- the body has no print
+abbrev pub is_unfinished : ℕ × Body → Bool
+is_unfinished x = not (is_some x.1.print)
+
+-- the piece is one of such a body
+abbrev pub is_of_unfinished : Tables → Piece → Bool
+is_of_unfinished t p = list_any (λ x. is_of x.0 p && is_unfinished x) t.bodies
+
+-- the tables without these
+unfoldable pub finished : Tables → Tables
+finished t = record t { bodies = without is_unfinished t.bodies; pieces = without (λ p. is_of_unfinished t p.1) t.pieces }

@@ -1,0 +1,210 @@
+//! What a row of an item shows, with the rows of its files.
+
+ghost use Rattle.std.specs.Prelude.{◌≡◌, ◌⊎◌, false, map, None, IfOk, IfErr, OnOk};
+ghost use Rattle.std.specs.FinMap.{get};
+ghost use Rattle.std.specs.List.{list_any};
+ghost use Rattle.std.specs.Str.{IsUtf8};
+ghost use Rattle.suites.specs.Items.{standing};
+ghost use Rattle.suites.specs.Shelves.{pool};
+ghost use Rattle.kept.specs.Kept.{IsReadable};
+ghost use Rattle.kept.specs.Shown.{IsPut, MayBePut, MayStand, PutsRow, clash, file_in, is_taken as is_taken_in, item_with as item_of_row, kind_numbered as kind_of_number, may_not_join as may_not_join_pool, suite_named as suite_of_name};
+ghost use Rattle.vers.specs.Syntax.{IsVersion};
+
+use para::{Listed, Text};
+use rules::Suite;
+use sqlite::{Error, ErrorCode};
+use std::alloc::{AllocError, Global};
+use suites::{Item, Kind, PoolFile, Shelves, plan_admission};
+use tables::rows::{Item as ItemRow, Ref};
+use vers::{Version, VersionFault};
+
+/// The position of the suite with a codename.
+#[tactic(auto, unfolding(kept::specs::Shown::suite_named))]
+fn suite_named(suites: &[Suite], codename: &str) -> Option<usize>
+    ensures { result ≡ suite_of_name suites.now codename.now }
+{
+    suites
+        .iter()
+        .position(|suite| suite.codename.as_str() == codename)
+}
+
+/// The kind with a number.
+#[tactic(auto, unfolding(kept::specs::Shown::kind_numbered))]
+fn kind_numbered(number: u64) -> Option<Kind>
+    ensures { result ≡ kind_of_number number }
+{
+    if number == 0 {
+        return Some(Kind::Source);
+    }
+    if number == 1 {
+        return Some(Kind::Binary);
+    }
+    None
+}
+
+/// The version that a text is. One that is none, which cannot be in an archive, is refused.
+fn version_in(alloc: Global, text: &str) -> Result<Version, Error>
+    ensures ok { IfOk result (λ version. (version ≡ text.now) × IsVersion text.now) }
+    ensures refused { IfErr result (λ e. (e ≡ Error.SqliteFailure ErrorCode.OutOfMemory) ⊎ (¬ IsVersion text.now)) }
+{
+    match Version::parse(alloc, text) {
+        Ok(version) => Ok(version),
+        Err(VersionFault::OutOfMemory) => Err(Error::SqliteFailure(ErrorCode::OutOfMemory)),
+        Err(_) => Err(Error::SqliteFailure(ErrorCode::DatabaseCorrupt)),
+    }
+}
+
+/// The text that bytes are. Bytes that are none, which cannot be in an archive, are refused.
+fn text_in(alloc: Global, bytes: &[u8]) -> Result<Text, Error>
+    ensures ok { IfOk result (λ text. (text ≡ bytes.now) × IsUtf8 bytes.now) }
+    ensures refused { IfErr result (λ e. (e ≡ Error.SqliteFailure ErrorCode.OutOfMemory) ⊎ (¬ IsUtf8 bytes.now)) }
+{
+    let Ok(text) = str::from_utf8(bytes) else {
+        return Err(Error::SqliteFailure(ErrorCode::DatabaseCorrupt));
+    };
+    Ok(Text::new(alloc, text)?)
+}
+
+/// The files of rows.
+fn files_in(alloc: Global, refs: Vec<Ref>) -> Result<Listed<PoolFile>, AllocError>
+    ensures { IfOk result (λ files. files ≡ map file_in refs.items) }
+{
+    let mut files = Vec::new(alloc);
+    for file in refs {
+        files.push(PoolFile {
+            path: file.path,
+            print: file.print,
+        })?;
+    }
+    Ok(Listed::from_vec(files))
+}
+
+/// The item of a row, of this kind and with these files.
+fn item_with(alloc: Global, kind: Kind, row: ItemRow, refs: Vec<Ref>) -> Result<Item, Error>
+    ensures ok { IfOk result (λ item. item ≡ item_of_row kind row refs.items) }
+    ensures readable { OnOk result (IsReadable row) }
+    ensures refused { IfErr result (λ e. (e ≡ Error.SqliteFailure ErrorCode.OutOfMemory) ⊎ (¬ IsReadable row)) }
+{
+    let version = version_in(alloc, row.version.as_str())?;
+    let paragraph = text_in(alloc, row.paragraph.as_slice())?;
+    let files = files_in(alloc, refs)?;
+    Ok(Item {
+        kind,
+        package: row.package,
+        architecture: row.architecture,
+        version,
+        component: row.component,
+        source: row.source,
+        paragraph,
+        files,
+    })
+}
+
+/// Whether two files stand at one path, with different prints.
+#[tactic(auto, unfolding(kept::specs::Shown::clash))]
+fn differ(one: &PoolFile, other: &PoolFile) -> bool
+    ensures { result ≡ clash one.now other.now }
+{
+    if one.path.as_str() != other.path.as_str() {
+        return false;
+    }
+    one.print != other.print
+}
+
+/// Whether a file stands at the path of one of the others, with another print.
+fn differs(file: &PoolFile, others: &[PoolFile]) -> bool
+    ensures { result ≡ list_any (clash file.now) others.now }
+{
+    for other in others {
+        if differ(file, other) {
+            return true;
+        }
+    }
+    false
+}
+
+/// Whether the pool has another print at the path of a file.
+#[tactic(auto, unfolding(kept::specs::Shown::is_taken))]
+fn is_taken(shelves: &Shelves, file: &PoolFile) -> bool
+    ensures { result ≡ is_taken_in (pool shelves.now) file.now }
+{
+    match shelves.file(file.path.as_str()) {
+        Some(print) => print != file.print,
+        None => false,
+    }
+}
+
+/// Whether a file of an item has another print than what stands at its path in the pool, or among the item's files.
+#[tactic(auto, unfolding(kept::specs::Shown::may_not_join))]
+fn may_not_join(shelves: &Shelves, files: &[PoolFile], file: &PoolFile) -> bool
+    ensures { result ≡ may_not_join_pool (pool shelves.now) files.now file.now }
+{
+    if is_taken(shelves, file) {
+        return true;
+    }
+    differs(file, files)
+}
+
+/// Whether some file of an item may not join the pool.
+fn some_may_not_join(shelves: &Shelves, files: &[PoolFile]) -> bool
+    ensures { result ≡ list_any (may_not_join_pool (pool shelves.now) files.now) files.now }
+{
+    for file in files {
+        if may_not_join(shelves, files, file) {
+            return true;
+        }
+    }
+    false
+}
+
+/// Admits one item to a suite where its shelf is empty and its files may join the pool.
+fn admit(alloc: Global, shelves: &mut Shelves, suite: usize, item: Item) -> Result<(), AllocError>
+    requires free { get shelves.old (standing suite item).0 ≡ None }
+    requires fits { list_any (may_not_join_pool (pool shelves.old) item.files) item.files ≡ false }
+    ensures { OnOk result (IsPut shelves.old shelves.new (standing suite item)) }
+{
+    shelves.agree();
+    let mut items = Vec::new(alloc);
+    items.push(item)?;
+    let plan = plan_admission(alloc, shelves, suite, items)?;
+    shelves.apply(alloc, &plan)?;
+    Ok(())
+}
+
+/// Puts an item on its shelf in a suite. A shelf that is taken, and a file with another print than what stands at its path,
+/// which cannot be in an archive, are refused.
+fn put_item(alloc: Global, shelves: &mut Shelves, suite: usize, item: Item) -> Result<(), Error>
+    ensures ok { OnOk result (IsPut shelves.old shelves.new (standing suite item)) }
+    ensures refused { IfErr result (λ e. (e ≡ Error.SqliteFailure ErrorCode.OutOfMemory) ⊎ (¬ MayBePut shelves.old (standing suite item))) }
+{
+    let key = item.shelf(suite)?;
+    if shelves.get(&key).is_some() {
+        return Err(Error::SqliteFailure(ErrorCode::DatabaseCorrupt));
+    }
+    if some_may_not_join(shelves, item.files.as_slice()) {
+        return Err(Error::SqliteFailure(ErrorCode::DatabaseCorrupt));
+    }
+    Ok(admit(alloc, shelves, suite, item)?)
+}
+
+/// Puts on its shelf what a row shows. A row of no suite or of no kind, which cannot be in an archive, is refused.
+pub fn put_row(
+    alloc: Global,
+    shelves: &mut Shelves,
+    suites: &[Suite],
+    row: ItemRow,
+    refs: Vec<Ref>,
+) -> Result<(), Error>
+    ensures ok { OnOk result (PutsRow suites.now row refs.items shelves.old shelves.new) }
+    ensures readable { OnOk result (IsReadable row) }
+    ensures refused { IfErr result (λ e. (e ≡ Error.SqliteFailure ErrorCode.OutOfMemory) ⊎ (¬ MayStand suites.now row refs.items shelves.old)) }
+{
+    let Some(suite) = suite_named(suites, row.suite.as_str()) else {
+        return Err(Error::SqliteFailure(ErrorCode::DatabaseCorrupt));
+    };
+    let Some(kind) = kind_numbered(row.kind) else {
+        return Err(Error::SqliteFailure(ErrorCode::DatabaseCorrupt));
+    };
+    let item = item_with(alloc, kind, row, refs)?;
+    put_item(alloc, shelves, suite, item)
+}
