@@ -1,13 +1,2 @@
-pub mod ArrivalsLemmas
-pub mod BodiesLemmas
-pub mod DatesLemmas
-pub mod FilesLemmas
-pub mod ItemsLemmas
-pub mod MetaLemmas
+pub mod FinishLemmas
 pub mod OpenLemmas
-pub mod TextsLemmas
-pub mod UploadsFits
-pub mod UploadsJudged
-pub mod UploadsLists
-pub mod UploadsSteps
-pub mod UploadsWaiting

@@ -1,142 +1,158 @@
--- From the parts of an archive to the whole, and back.
-use Rattle.std.proofs.Common.{◌≡◌, ℕ, Bool, true, false, List, [], ◌∷◌, Option, None, Some, Result, Ok, Err, IfOk, IfSome, IsTrue, is_some, length, map, refl, sym, ap, subst, ◌∙◌, arith}
+-- The archive of a database, and what is left of it once the bodies that are not whole are away.
+use Rattle.std.proofs.Common.{◌≡◌, ◌≢◌, ℕ, filter, not, cond, List, [], ◌∷◌, Option, None, Some, IfSome, is_some, map, refl, sym, ap, subst, ◌∙◌}
 use Rattle.std.proofs.Math.Logic.{∥∥₁_map}
-use Rattle.std.specs.List.{zip}
+use Rattle.std.specs.List.{AllByRecursion}
+use Rattle.std.proofs.lemmas.List.Elements.{All-from_recursion, recursion_from_All}
+use Rattle.sums.specs.declared.print.Print.{Print}
 use Rattle.sqlite.specs.Effect.{Database}
-use Rattle.rules.specs.Configuration.{config_in}
+use Rattle.sqlite.specs.State.{State, IsUnchanged}
+use Rattle.sqlite.specs.Tree.{Trees}
 use Rattle.rules.specs.Values.{ConfigValue}
-use Rattle.rules.specs.declared.suite.Suite.{Suite}
-use Rattle.suites.specs.Shelves.{AreSound, ShelvesValue}
-use Rattle.texts.specs.Indices.{all_texts}
 use Rattle.keep.specs.declared.change.Judgement.{Judgement}
-use Rattle.tables.proofs.BookLemmas.{held_tables}
-use Rattle.tables.specs.Rows.{Tables, Holds, rows_of, tables_in}
+use Rattle.tables.proofs.BookLemmas.{held_tables, is_archive}
+use Rattle.tables.specs.Rows.{Tables, Holds, IsArchive, Numbered, Rises, rows_of, tables_in, without}
 use Rattle.tables.specs.Schema.{archive_schema}
-use Rattle.tables.specs.declared.rows.Meta.{Meta}
-use Rattle.tables_read.specs.All.{AreConstrained}
-use Rattle.tables_read.specs.Real.{AreReal}
+use Rattle.tables.specs.declared.rows.Body.{Body}
+use Rattle.tables.specs.Real.{AreReal, IsRealBody, IsRealPrint}
 use Rattle.kept.specs.Archives.{KeepsArchive}
-use Rattle.kept.specs.Kept.{AreFiles, AreItems, AreReadable, IsKept, date_row, has_body}
-use Rattle.kept.specs.OneBook.{first_same, one_configuration, same_dates, same_shown}
+use Rattle.kept.specs.Kept.{AreReadable, IsKept}
 use Rattle.kept.specs.Shown.{shown_in}
 use Rattle.kept.proofs.CallLemmas.{kept_here}
-use Rattle.keep_open.specs.Opened.{IsArchiveOf, IsNoArchive, KeepsNone, KeepsSome, RestFits, ShownFits}
-use Rattle.keep_open.specs.Parts.{ArrivalsFit, BodiesFit, UploadsFit}
-
--- ---- answers
-
-pub if_ok : {X E : Type 0} (P Q : X → Type 0) (r : Result X E) → ((x : X) → P x → Q x) → IfOk r P → IfOk r Q
-if_ok P Q (Ok x) f h = f x h
-if_ok P Q (Err e) f h = h
-
-pub if_some : {X : Type 0} (P Q : X → Type 0) (o : Option X) → ((x : X) → P x → Q x) → IfSome o P → IfSome o Q
-if_some P Q (Some x) f h = f x h
-if_some P Q None f h = h
-
-pub at_some : {X : Type 0} (P : X → Type 0) (o : Option X) (x : X) → o ≡ Some x → IfSome o P → P x
-at_some P o x is h = subst (λ p. IfSome p P) is h
-
--- ---- the parts make the whole
-
-pub whole : (t : Tables) (config : ConfigValue) (judged : List Judgement) (shown : ShelvesValue) (dates : List ℕ) → AreConstrained t
-    → rows_of t.meta ≡ record { version = 3; configuration = config.text } ∷ [] → config_in config.text ≡ Ok config → BodiesFit t → ArrivalsFit t → RestFits t config judged shown dates
-    → IsKept t config judged shown dates
-unfolding has_body
-whole t config judged shown dates keys meta read bodies arrivals rest = record {
-  meta = meta;
-  read = read;
-  sound = rest.shows.sound;
-  bodies = record {
-    whole = bodies.whole;
-    pieces = bodies.pieces;
-    apart = λ i j d lt within. keys.bodies_apart i j d lt within (λ none. let both : None ≡ Some _ = sym none ∙ bodies.whole i d (omega arith) in cc);
-    used = bodies.used;
-    owned = keys.pieces_owned;
-  };
-  arrivals = record { bodies = keys.arrivals_owned; apart = keys.arrivals_apart; deliverable = arrivals };
-  uploads = record {
-    waiting = rest.uploads.waiting;
-    owned = rest.uploads.owned;
-    unjudged = rest.uploads.unjudged;
-    places = rest.uploads.places;
-    from_one = rest.uploads.from_one;
-    placed_apart = λ i j d lt within set. keys.places_apart i j d lt within (λ none. let both : false ≡ true = subst (λ p. IsTrue (is_some p)) none set in cc);
-    apart = keys.uploads_apart;
-  };
-  items = rest.shows.items;
-  files = rest.shows.files;
-  texts = rest.shows.texts;
-  date_rows = rest.date_rows;
-  dated = rest.dated;
-  in_range = rest.in_range;
-}
-
--- ---- and back
-
-module _ (t : Tables) (config : ConfigValue) (judged : List Judgement) (shown : ShelvesValue) (dates : List ℕ) (h : IsKept t config judged shown dates) where
-  pub bodies_fit : BodiesFit t
-  bodies_fit = record { whole = h.bodies.whole; pieces = h.bodies.pieces; used = h.bodies.used }
-
-  pub shown_fits : ShownFits t config shown dates
-  shown_fits = record { sound = h.sound; items = h.items; files = h.files; texts = h.texts }
-
-  pub rest_fits : RestFits t config judged shown dates
-  rest_fits = record {
-    uploads = record { waiting = h.uploads.waiting; owned = h.uploads.owned; unjudged = h.uploads.unjudged; places = h.uploads.places; from_one = h.uploads.from_one };
-    date_rows = h.date_rows;
-    dated = h.dated;
-    in_range = h.in_range;
-    shows = shown_fits;
-  }
-
--- the rows of items show one thing
-pub same_as : (t : Tables) (config : ConfigValue) (shelves shown : ShelvesValue) (dates : List ℕ) → AreItems t config.suites shelves × AreSound shelves × AreReadable t → ShownFits t config shown dates → shown ≡ shelves
-same_as t config shelves shown dates h fits = same_shown t config.suites shown shelves fits.items h.0 fits.sound.at_home h.1.at_home
-
--- where what the rows show lacks its files or its texts, nothing fits
-pub no_files : (t : Tables) (config : ConfigValue) (shelves shown : ShelvesValue) (dates : List ℕ) → AreItems t config.suites shelves × AreSound shelves × AreReadable t → ShownFits t config shown dates
-    → (AreFiles t shelves → ⊥) → ⊥
-no_files t config shelves shown dates h fits none = none (subst (AreFiles t) (same_as t config shelves shown dates h fits) fits.files)
-
-pub no_texts : (t : Tables) (config : ConfigValue) (shelves shown : ShelvesValue) (dates : List ℕ) → AreItems t config.suites shelves × AreSound shelves × AreReadable t → ShownFits t config shown dates
-    → (map (λ x. (x.path, x.body)) (rows_of t.texts) ≡ all_texts config shelves dates → ⊥) → ⊥
-no_texts t config shelves shown dates h fits none = none (fits.texts ∙ ap (λ s. all_texts config s dates) (same_as t config shelves shown dates h fits))
-
--- where nothing is shown with these dates, no dates will do
-pub no_shown : (t : Tables) (config : ConfigValue) (judged : List Judgement) (shown : ShelvesValue) (dates others : List ℕ) → RestFits t config judged shown others
-    → rows_of t.dates ≡ map date_row (zip config.suites dates) → length dates ≡ length config.suites → ((s : ShelvesValue) → ShownFits t config s dates → ⊥) → ⊥
-no_shown t config judged shown dates others rest rows long none =
-    let same : others ≡ dates = same_dates config.suites others dates rest.dated long (sym rest.date_rows ∙ rows) in
-    none shown (subst (ShownFits t config shown) same rest.shows)
-
--- where this configuration keeps no archive, no other does
-pub no_other : (t : Tables) (config : ConfigValue) → rows_of t.meta ≡ record { version = 3; configuration = config.text } ∷ [] → config_in config.text ≡ Ok config
-    → ((judged : List Judgement) (shown : ShelvesValue) (dates : List ℕ) → RestFits t config judged shown dates → ⊥) → KeepsNone t
-no_other t config meta read none other judged shown dates h =
-    let row : record { version = 3; configuration = other.text } ≡ record { version = 3; configuration = config.text } = first_same _ _ _ _ (sym h.meta ∙ meta) in
-    let text : other.text ≡ config.text = ap (λ (m : Meta). m.configuration) row in
-    let same : other ≡ config = one_configuration other config h.read read text in
-    none judged shown dates (subst (λ c. RestFits t c judged shown dates) same (rest_fits t other judged shown dates h))
+use Rattle.kept.proofs.RealRows.{kept_readable, kept_real}
+use Rattle.kept.specs.Finished.{finished, is_unfinished}
+use Rattle.kept.specs.Transactions.{IsDone, IsUndone, MayCommit}
+use Rattle.keep_open.specs.Finishing.{unfinished_ids, without_all}
+use Rattle.audit.specs.Whole.{KeepsNone, KeepsSome}
+use Rattle.keep_open.specs.Opened.{HasUnfinished, IsArchiveOf, IsFinished, IsFound, IsNoArchive}
+use Rattle.keep_open.proofs.FinishLemmas.{finished_as}
 
 -- ---- of a database
 
-pub archive_here : (db : Database) (t : Tables) (config : ConfigValue) (judged : List Judgement) (dates : List ℕ) → Holds db t → KeepsSome t config judged dates → IsArchiveOf db config judged dates
+pub archive_here : (db : Database) (t : Tables) (config : ConfigValue) (judged : List Judgement) (dates : List ℕ) → Holds db t → KeepsSome (finished t) config judged dates → IsArchiveOf db config judged dates
 archive_here db t config judged dates held some =
     let same = sym (held_tables db t held) in
-    (subst (Holds db) same held, subst (λ u. KeepsSome u config judged dates) same some)
+    (subst (Holds db) same held, subst (λ u. KeepsSome (finished u) config judged dates) same some)
 
-pub no_archive : (db : Database) (t : Tables) → Holds db t → (AreReadable t → KeepsNone t) → IsNoArchive db
-no_archive db t held none real readable config judged shown dates h =
-    let same = held_tables db t held in
-    none (subst AreReadable same readable) config judged shown dates (subst (λ u. IsKept u config judged shown dates) same h.kept)
+-- a body without a print can be held
+real_more : (x : ℕ × Body) (bodies : Numbered Body) → (AllByRecursion IsRealBody (rows_of (without is_unfinished bodies)) → AllByRecursion IsRealBody (rows_of bodies))
+    → (print : Option Print) → x.1.print ≡ print
+    → AllByRecursion IsRealBody (rows_of (cond (not (not (is_some print))) (x ∷ without is_unfinished bodies) (without is_unfinished bodies))) → AllByRecursion IsRealBody (rows_of (x ∷ bodies))
+real_more x bodies rest None is real = (subst (λ o. IfSome o IsRealPrint) (sym is) tt, rest real)
+real_more x bodies rest (Some p) is real = (real.0, rest real.1)
+
+real_bodies : (bodies : Numbered Body) → AllByRecursion IsRealBody (rows_of (without is_unfinished bodies)) → AllByRecursion IsRealBody (rows_of bodies)
+real_bodies [] real = tt
+real_bodies (x ∷ bodies) real = real_more x bodies (real_bodies bodies) x.1.print refl real
+
+real_unfinished : (t : Tables) → AreReal (finished t) → AreReal t
+unfolding finished
+real_unfinished t h = record {
+  bodies = All-from_recursion IsRealBody (rows_of t.bodies) (real_bodies t.bodies (recursion_from_All IsRealBody (rows_of (without is_unfinished t.bodies)) h.bodies));
+  arrivals = h.arrivals;
+  uploads = h.uploads;
+  wants = h.wants;
+  items = h.items;
+  refs = h.refs;
+  files = h.files;
+  texts = h.texts;
+  dates = h.dates;
+}
+
+pub no_archive : (db : Database) (t : Tables) → Holds db t → (AreReadable t → KeepsNone (finished t)) → IsNoArchive db
+unfolding finished
+no_archive db t held none archive config judged shown dates h =
+    let here : IsKept (finished t) config judged shown dates = subst (λ u. IsKept (finished u) config judged shown dates) (held_tables db t held) h in
+    none (kept_readable (finished t) config judged shown dates here) config judged shown dates here
 
 pub no_rows : (db : Database) → ((t : Tables) → AreReal t → Holds db t → ⊥) → IsNoArchive db
-no_rows db none real readable config judged shown dates h = none (tables_in db) real h.held
+no_rows db none archive config judged shown dates h =
+    none (tables_in db) (real_unfinished (tables_in db) (kept_real (finished (tables_in db)) config judged shown dates h)) archive
 
 pub no_tables : (db : Database) → (db.schema ≡ archive_schema → ⊥) → IsNoArchive db
-no_tables db other real readable config judged shown dates h = other h.held.schema
+no_tables db other archive config judged shown dates h = other archive.schema
 
 -- the archive of a database, with what the rows show
-pub archive_shown : (db : Database) (config : ConfigValue) (judged : List Judgement) (dates : List ℕ) → IsArchiveOf db config judged dates
+archive_shown : (db : Database) (config : ConfigValue) (judged : List Judgement) (dates : List ℕ) → IsArchive db → KeepsSome (tables_in db) config judged dates
     → ∥ KeepsArchive db config judged (shown_in config.suites (tables_in db)) dates ∥₁
-archive_shown db config judged dates h = ∥∥₁_map h.1 (λ some. kept_here db (record { held = h.0; kept = some.1 }))
+archive_shown db config judged dates held keeps = ∥∥₁_map keeps (λ some. kept_here db (record { held = held; kept = some.1 }))
+
+-- ---- once the bodies that are not whole are away
+
+rising : (db : Database) (t : Tables) → Holds db t → Rises t.bodies
+rising db t held = held.rows.bodies.rise
+
+module _ (s : State) (config : ConfigValue) (judged : List Judgement) (dates ids : List ℕ) (found : IsFound s config judged dates ids) where
+  -- the rows without those of these numbers are the finished ones
+  without_ids : (t : Tables) → Holds s.now t → without_all ids t ≡ finished t
+  without_ids t held =
+      let same : ids ≡ unfinished_ids t.bodies = found.are ∙ ap (λ u. unfinished_ids u.bodies) (held_tables s.now t held) in
+      ap (λ l. without_all l t) same ∙ finished_as t (rising s.now t held)
+
+  pub finished_now : (new : Database) (t : Tables) → Holds s.now t → Holds new (without_all ids t) → Holds new (finished t)
+  finished_now new t held now = subst (Holds new) (without_ids t held) now
+
+  -- a database with those rows keeps the archive
+  pub keeps_finished : (new : Database) → ((t : Tables) → Holds s.now t → Holds new (without_all ids t)) → ∥ KeepsArchive new config judged (shown_in config.suites (tables_in new)) dates ∥₁
+  keeps_finished new now =
+      let t = tables_in s.now in
+      let held = finished_now new t found.archive.0 (now t found.archive.0) in
+      archive_shown new config judged dates (is_archive new (finished t) held) (subst (λ u. KeepsSome u config judged dates) (sym (held_tables new (finished t) held)) found.archive.1)
+
+  -- numbers of none
+  none_if_whole : (t : Tables) → Holds s.committed t → filter is_unfinished t.bodies ≡ [] → ids ≡ []
+  none_if_whole t held none =
+      found.are ∙ ap (λ u. unfinished_ids u.bodies) (held_tables s.now t (subst (λ db. Holds db t) (sym found.rests) held)) ∙ ap (map (λ x. x.0)) none
+
+  pub has_unfinished : ids ≢ [] → HasUnfinished s.now
+  has_unfinished some none = some (found.are ∙ ap (map (λ x. x.0)) none)
+
+  -- nothing is to be taken away
+  pub finished_same : ids ≡ [] → IsFinished s s
+  finished_same none = record {
+    is_open = found.is_open;
+    held = λ t held. finished_now s.committed t (subst (λ db. Holds db t) (sym found.rests) held) (subst (λ l. Holds s.committed (without_all l t)) (sym none) held);
+    same = λ t held whole. refl;
+  }
+
+  -- the bodies of these numbers are taken away
+  pub finished_done : (new : State) → ids ≢ [] → IsDone s new (without_all ids) → IsFinished s new
+  finished_done new some done = record {
+    is_open = done.is_open;
+    held = λ t held. let now = subst (λ db. Holds db t) (sym found.rests) held in finished_now new.committed t now (done.held t now);
+    same = λ t held whole. absurd (some (none_if_whole t held whole));
+  }
+
+  pub may_finish : (trees : Trees) → MayCommit s (without_all ids) trees → MayCommit s finished trees
+  may_finish trees h = (h.0, h.1, h.2, λ t held. finished_now h.0 t held (h.3 t held))
+
+  -- without any numbers the database is the archive's
+  pub keeps_same : ids ≡ [] → ∥ KeepsArchive s.committed config judged (shown_in config.suites (tables_in s.committed)) dates ∥₁
+  keeps_same none = keeps_finished s.committed (λ t held. subst (λ l. Holds s.committed (without_all l t)) (sym none) (subst (λ db. Holds db t) found.rests held))
+
+-- ---- what was found before
+
+module _ (old mid : State) (same : IsUnchanged old mid) where
+  pub found_after : (config : ConfigValue) (judged : List Judgement) (dates ids : List ℕ) → old.now ≡ old.committed → IsArchiveOf old.now config judged dates → ids ≡ unfinished_ids (tables_in old.now).bodies
+      → IsFound mid config judged dates ids
+  found_after config judged dates ids rests archive are = record {
+    is_open = same.0.is_open;
+    rests = same.0.now_is ∙ rests ∙ sym same.0.committed_is;
+    archive = subst (λ db. IsArchiveOf db config judged dates) (sym same.0.now_is) archive;
+    are = are ∙ ap (λ db. unfinished_ids (tables_in db).bodies) (sym same.0.now_is);
+  }
+
+  pub finished_from : (new : State) → IsFinished mid new → IsFinished old new
+  finished_from new h = record {
+    is_open = h.is_open;
+    held = λ t held. h.held t (subst (λ db. Holds db t) (sym same.0.committed_is) held);
+    same = λ t held whole. h.same t (subst (λ db. Holds db t) (sym same.0.committed_is) held) whole ∙ same.0.committed_is;
+  }
+
+  pub undone_after : (new : State) → IsUndone mid new → IsUndone old new
+  undone_after new h = record { was_open = λ _. same.0.was_open; committed = λ up. h.committed up ∙ same.0.committed_is }
+
+  pub unfinished_from : HasUnfinished mid.now → HasUnfinished old.now
+  unfinished_from = subst HasUnfinished same.0.now_is
+
+  pub may_from : (trees : Trees) → MayCommit mid finished trees → MayCommit old finished trees
+  may_from trees h = (h.0, h.1, same.0.was_open, λ t held. h.3 t (subst (λ db. Holds db t) (sym same.0.now_is) held))

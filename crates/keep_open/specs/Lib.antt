@@ -1,8 +1,2 @@
-pub mod Arrivals
-pub mod Bodies
-pub mod Files
-pub mod Items
+pub mod Finishing
 pub mod Opened
-pub mod Parts
-pub mod TextRows
-pub mod Uploads

@@ -1,46 +1,36 @@
 -- What an opening finds: the archive of a database, or none.
-use Rattle.std.specs.Prelude.{◌≡◌, ◌≤◌, ℕ, List, All, length, map, zip}
+use Rattle.std.specs.Prelude.{◌≡◌, ◌≢◌, ℕ, List, [], filter, IsTrue}
 use Rattle.sqlite.specs.Effect.{Database}
+use Rattle.sqlite.specs.State.{State}
 use Rattle.rules.specs.Values.{ConfigValue}
-use Rattle.suites.specs.Shelves.{ShelvesValue, AreSound}
-use Rattle.texts.specs.Indices.{all_texts}
 use Rattle.keep.specs.declared.change.Judgement.{Judgement}
-use Rattle.keep.specs.Book.{latest}
-use Rattle.tables.specs.Rows.{Tables, IsArchive, rows_of, tables_in}
-use Rattle.kept.specs.Archives.{KeepsArchive}
-use Rattle.kept.specs.Kept.{AreFiles, AreItems, AreReadable, IsKept, date_row}
-use Rattle.tables_read.specs.Real.{AreReal}
-use Rattle.keep_open.specs.Parts.{UploadsFit}
+use Rattle.tables.specs.Rows.{Tables, Holds, IsArchive, tables_in}
+use Rattle.kept.specs.Finished.{finished, is_unfinished}
+use Rattle.audit.specs.Whole.{KeepsNone, KeepsSome}
+use Rattle.keep_open.specs.Finishing.{unfinished_ids}
 
--- the items, the files and the texts are those of what is shown
-pub record ShownFits (t : Tables) (config : ConfigValue) (shown : ShelvesValue) (dates : List ℕ) : Type 0 where
-  pub sound : AreSound shown
-  pub items : AreItems t config.suites shown
-  pub files : AreFiles t shown
-  pub texts : map (λ x. (x.path, x.body)) (rows_of t.texts) ≡ all_texts config shown dates
-
--- the uploads, the dates and what is shown are those of an archive of this configuration
-pub record RestFits (t : Tables) (config : ConfigValue) (judged : List Judgement) (shown : ShelvesValue) (dates : List ℕ) : Type 0 where
-  pub uploads : UploadsFit t judged
-  pub date_rows : rows_of t.dates ≡ map date_row (zip config.suites dates)
-  pub dated : length dates ≡ length config.suites
-  pub in_range : All (λ d. d ≤ latest) dates
-  pub shows : ShownFits t config shown dates
-
--- the rows are those of an archive of this configuration, with these judged uploads and these dates, whatever it shows
-abbrev pub KeepsSome : Tables → ConfigValue → List Judgement → List ℕ → Type 0
-KeepsSome t config judged dates = ∥ ((shown : ShelvesValue) × IsKept t config judged shown dates) ∥₁
-
--- the rows are those of no archive
-abbrev pub KeepsNone : Tables → Type 0
-KeepsNone t = (config : ConfigValue) (judged : List Judgement) (shown : ShelvesValue) (dates : List ℕ) → IsKept t config judged shown dates → ⊥
-
--- the database keeps an archive of this configuration, with these judged uploads and these dates
+-- The database keeps an archive of this configuration, with these judged uploads and these dates, once the bodies that are not
+-- whole are away.
 abbrev pub IsArchiveOf : Database → ConfigValue → List Judgement → List ℕ → Type 0
-IsArchiveOf db config judged dates = IsArchive db × KeepsSome (tables_in db) config judged dates
+IsArchiveOf db config judged dates = IsArchive db × KeepsSome (finished (tables_in db)) config judged dates
 
--- The database keeps no archive: its rows can't be held or read (a text that is none, a digest of another length, an item of no
--- version), or are those of none.
+-- the database keeps no archive, whatever it shows, also without the bodies that are not whole
 abbrev pub IsNoArchive : Database → Type 0
-IsNoArchive db =
-    AreReal (tables_in db) → AreReadable (tables_in db) → (config : ConfigValue) (judged : List Judgement) (shown : ShelvesValue) (dates : List ℕ) → KeepsArchive db config judged shown dates → ⊥
+IsNoArchive db = IsArchive db → KeepsNone (finished (tables_in db))
+
+-- some body is not whole
+abbrev pub HasUnfinished : Database → Type 0
+HasUnfinished db = filter is_unfinished (tables_in db).bodies ≢ []
+
+-- An archive was found: outside a transaction the database keeps it, and these are the bodies that are not whole.
+pub record IsFound (s : State) (config : ConfigValue) (judged : List Judgement) (dates ids : List ℕ) : Type 0 where
+  pub is_open : IsTrue s.is_open
+  pub rests : s.now ≡ s.committed
+  pub archive : IsArchiveOf s.now config judged dates
+  pub are : ids ≡ unfinished_ids (tables_in s.now).bodies
+
+-- The rows that were committed are so still, but for the bodies that are not whole; without any it is the same database.
+pub record IsFinished (old new : State) : Type 0 where
+  pub is_open : IsTrue new.is_open
+  pub held : (t : Tables) → Holds old.committed t → Holds new.committed (finished t)
+  pub same : (t : Tables) → Holds old.committed t → filter is_unfinished t.bodies ≡ [] → new.committed ≡ old.committed

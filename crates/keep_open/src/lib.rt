@@ -1,14 +1,8 @@
 //! Opens an archive that a database keeps: reads all rows of its tables and says whether they are those of an archive.
 #![tactic(auto)]
 
-mod arrivals;
-mod bodies;
-mod dates;
-mod files;
-mod items;
-mod meta;
+mod finishing;
 mod opening;
-mod text_rows;
-mod uploads;
+mod unfinished;
 
 pub use opening::open;

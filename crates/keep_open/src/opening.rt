@@ -1,118 +1,63 @@
 //! Opens an archive that a database keeps.
 
-ghost use Rattle.std.specs.Prelude.{◌≡◌, ◌≤◌, ◌⊎◌, ◌↔◌, ℕ, List, All, None, true, false, length, IsTrue, IfOk, IfErr, IsErrAnd, IfSome, OnErr};
+ghost use Rattle.std.specs.Prelude.{◌≡◌, ◌≢◌, ◌⊎◌, None, true, false, IsTrue, IfOk, IfErr, IsErrAnd, IfSome, OnErr};
 ghost use Rattle.sqlite.specs.State.{HasCleanDisk, IsUnchanged, Survives};
 ghost use Rattle.sqlite.specs.Held.{state};
-ghost use Rattle.suites.specs.Shelves.{ShelvesValue};
-ghost use Rattle.keep.specs.declared.change.Judgement.{Judgement as JudgementValue};
 ghost use Rattle.keep.specs.declared.fault.KeepFault.TheVariants.{OutOfMemory, Tables as NoArchive};
 ghost use Rattle.tables.specs.Causes.{IsCaused, MayFail};
-ghost use Rattle.tables.specs.Rows.{Fails, Stands};
+ghost use Rattle.tables.specs.Rows.{Fails, Rises, Stands, tables_in};
 ghost use Rattle.tables.specs.Schema.{archive_schema};
 ghost use Rattle.tables_read.specs.All.{AreConstrained, tables_with};
 ghost use Rattle.kept.specs.Kept.{AreReadable};
-ghost use Rattle.kept.specs.Transactions.{IsUndone};
-ghost use Rattle.keep_open.specs.Opened.{IsArchiveOf, IsNoArchive, KeepsNone, KeepsSome, RestFits, ShownFits};
-ghost use Rattle.keep_open.specs.Parts.{ArrivalsFit, BodiesFit};
+ghost use Rattle.kept.specs.Archives.{KeepsArchive};
+ghost use Rattle.kept.specs.Finished.{finished};
+ghost use Rattle.kept.specs.Shown.{shown_in};
+ghost use Rattle.kept.specs.Transactions.{IsUndone, MayCommit};
+ghost use Rattle.keep_open.specs.Finishing.{unfinished_ids};
+ghost use Rattle.audit.specs.Whole.{KeepsNone, KeepsSome};
+ghost use Rattle.keep_open.specs.Opened.{HasUnfinished, IsArchiveOf, IsFinished, IsFound, IsNoArchive};
 
-use crate::arrivals::are_arrivals_deliverable;
-use crate::bodies::are_bodies_whole;
-use crate::dates::dates_in;
-use crate::files::are_files_of;
-use crate::items::shelves_in;
-use crate::meta::config_in;
-use crate::text_rows::are_texts_of;
-use crate::uploads::judgements_in;
-use keep::{Judgement, KeepFault, LATEST};
+use crate::finishing::finish_bodies;
+use crate::unfinished::{are_named, finished_rows, unfinished_among};
+use audit::{Held, archive_in};
+use keep::KeepFault;
 use keep_rows::{fault_of, is_archive_schema};
 use keep_tables::TableKeeper;
-use rules::Config;
 use sqlite::{Alter, Connection, Error};
 use std::alloc::{AllocError, Global};
 use tables_read::{AllRows, read_all};
 
-/// What a keeper holds beside the tables: the configuration, the judged uploads in order, and for each suite the moment at
-/// which what it shows last changed.
+/// An archive that was found: what a keeper holds of it, and the numbers of the bodies that are not whole.
 #[derive(Drop)]
-struct Held {
-    config: Config,
-    judged: Vec<Judgement>,
-    dates: Vec<u64>,
-    ghost in_range: { All (λ date. date ≤ 4_102_444_799) dates.items },
+struct Found {
+    held: Held,
+    unfinished: Vec<u64>,
 }
 
-/// Whether the rows show the items, the files and the texts of an archive of this configuration, with these dates.
-fn shows_archive(
-    alloc: Global,
-    all: &AllRows,
-    config: &Config,
-    dates: &[u64],
-) -> Result<bool, AllocError>
-    requires dated { length dates.now ≡ length config.now.suites }
-    requires in_range { All (λ date. date ≤ LATEST) dates.now }
-    ensures fits { AreConstrained (tables_with all.now) → IfOk result (λ fits. IsTrue fits → (shown : ShelvesValue) × ShownFits (tables_with all.now) config.now shown dates.now) }
-    ensures none { AreConstrained (tables_with all.now) → IfOk result (λ fits. fits ≡ false → AreReadable (tables_with all.now) → (shown : ShelvesValue) → ShownFits (tables_with all.now) config.now shown dates.now → ⊥) }
+/// The archive with these rows, once the bodies that are not whole are away, where they are those of one.
+fn found_in(alloc: Global, all: AllRows) -> Result<Option<Found>, AllocError>
+    ensures some { AreConstrained (tables_with all) → IfOk result (λ o. IfSome o (λ found. KeepsSome (finished (tables_with all)) found.held.config found.held.judged.items found.held.dates.items
+        × (found.unfinished.items ≡ unfinished_ids (tables_with all).bodies))) }
+    ensures none { AreConstrained (tables_with all) → Rises (tables_with all).bodies → IfOk result (λ o. o ≡ None → AreReadable (tables_with all) → KeepsNone (finished (tables_with all))) }
 {
-    let Some(shelves) = shelves_in(alloc, all, config)? else {
-        return Ok(false);
-    };
-    if !are_files_of(alloc, all, &shelves)? {
-        return Ok(false);
-    }
-    are_texts_of(alloc, all, config, &shelves, dates)
-}
-
-/// Whether the rows are those of whole bodies that arrived under names which may be delivered.
-fn have_arrived(alloc: Global, all: &AllRows) -> Result<bool, AllocError>
-    ensures { IfOk result (λ fit. IsTrue fit ↔ (BodiesFit (tables_with all.now) × ArrivalsFit (tables_with all.now))) }
-{
-    if !are_bodies_whole(alloc, all)? {
-        return Ok(false);
-    }
-    are_arrivals_deliverable(alloc, all)
-}
-
-/// What a keeper holds of an archive of this configuration with these rows, where they are those of one.
-fn held_of(alloc: Global, all: &AllRows, config: Config) -> Result<Option<Held>, AllocError>
-    ensures some { AreConstrained (tables_with all.now) → BodiesFit (tables_with all.now) → IfOk result (λ o. IfSome o (λ held. (held.config ≡ config) × (shown : ShelvesValue) × RestFits (tables_with all.now) config held.judged.items shown held.dates.items)) }
-    ensures none { AreConstrained (tables_with all.now) → BodiesFit (tables_with all.now) → IfOk result (λ o. o ≡ None → AreReadable (tables_with all.now) → (judged : List JudgementValue) (shown : ShelvesValue) (dates : List ℕ) → RestFits (tables_with all.now) config judged shown dates → ⊥) }
-{
-    let Some(judged) = judgements_in(alloc, all)? else {
-        return Ok(None);
-    };
-    let Some(dates) = dates_in(alloc, all, &config)? else {
-        return Ok(None);
-    };
-    if !shows_archive(alloc, all, &config, &dates)? {
+    let unfinished = unfinished_among(alloc, &all.bodies)?;
+    if are_named(&all, &unfinished) {
         return Ok(None);
     }
-    Ok(Some(Held {
-        config,
-        judged,
-        dates,
-    }))
-}
-
-/// What a keeper holds of an archive with these rows, where they are those of one.
-fn archive_in(alloc: Global, all: &AllRows) -> Result<Option<Held>, AllocError>
-    ensures some { AreConstrained (tables_with all.now) → IfOk result (λ o. IfSome o (λ held. KeepsSome (tables_with all.now) held.config held.judged.items held.dates.items)) }
-    ensures none { AreConstrained (tables_with all.now) → IfOk result (λ o. o ≡ None → AreReadable (tables_with all.now) → KeepsNone (tables_with all.now)) }
-{
-    let Some(config) = config_in(alloc, all)? else {
+    let whole = finished_rows(all, &unfinished);
+    let Some(held) = archive_in(alloc, &whole)? else {
         return Ok(None);
     };
-    if !have_arrived(alloc, all)? {
-        return Ok(None);
-    }
-    held_of(alloc, all, config)
+    Ok(Some(Found { held, unfinished }))
 }
 
 /// The same of the rows of a database that has the tables of an archive.
-fn archive_of<S: Alter>(alloc: Global, conn: &mut Connection<S>) -> Result<Option<Held>, Error>
+fn archive_of<S: Alter>(alloc: Global, conn: &mut Connection<S>) -> Result<Option<Found>, Error>
     requires archive { (state S.Store conn.old).now.schema ≡ archive_schema }
     ensures idle { conn.old.in_transaction ≡ false → conn.new.in_transaction ≡ false }
-    ensures some { HasCleanDisk (state S.Store conn.new) → IfOk result (λ o. IfSome o (λ held. IsUnchanged (state S.Store conn.old) (state S.Store conn.new)
-        × IsArchiveOf (state S.Store conn.old).now held.config held.judged.items held.dates.items)) }
+    ensures some { HasCleanDisk (state S.Store conn.new) → IfOk result (λ o. IfSome o (λ found. IsUnchanged (state S.Store conn.old) (state S.Store conn.new)
+        × IsArchiveOf (state S.Store conn.old).now found.held.config found.held.judged.items found.held.dates.items
+        × (found.unfinished.items ≡ unfinished_ids (tables_in (state S.Store conn.old).now).bodies))) }
     ensures none { HasCleanDisk (state S.Store conn.new) → IfOk result (λ o. o ≡ None → Stands (state S.Store conn.old) (state S.Store conn.new)
         × IsNoArchive (state S.Store conn.old).now) }
     ensures err { HasCleanDisk (state S.Store conn.new) → OnErr result (Fails (state S.Store conn.old) (state S.Store conn.new)) }
@@ -124,14 +69,15 @@ fn archive_of<S: Alter>(alloc: Global, conn: &mut Connection<S>) -> Result<Optio
     let Some(all) = read_all(alloc, conn)? else {
         return Ok(None);
     };
-    Ok(archive_in(alloc, &all)?)
+    Ok(found_in(alloc, all)?)
 }
 
 /// The same of a database.
-fn find_archive<S: Alter>(alloc: Global, conn: &mut Connection<S>) -> Result<Option<Held>, Error>
+fn find_archive<S: Alter>(alloc: Global, conn: &mut Connection<S>) -> Result<Option<Found>, Error>
     ensures idle { conn.old.in_transaction ≡ false → conn.new.in_transaction ≡ false }
-    ensures some { HasCleanDisk (state S.Store conn.new) → IfOk result (λ o. IfSome o (λ held. IsUnchanged (state S.Store conn.old) (state S.Store conn.new)
-        × IsArchiveOf (state S.Store conn.old).now held.config held.judged.items held.dates.items)) }
+    ensures some { HasCleanDisk (state S.Store conn.new) → IfOk result (λ o. IfSome o (λ found. IsUnchanged (state S.Store conn.old) (state S.Store conn.new)
+        × IsArchiveOf (state S.Store conn.old).now found.held.config found.held.judged.items found.held.dates.items
+        × (found.unfinished.items ≡ unfinished_ids (tables_in (state S.Store conn.old).now).bodies))) }
     ensures none { HasCleanDisk (state S.Store conn.new) → IfOk result (λ o. o ≡ None → Stands (state S.Store conn.old) (state S.Store conn.new)
         × IsNoArchive (state S.Store conn.old).now) }
     ensures err { HasCleanDisk (state S.Store conn.new) → OnErr result (Fails (state S.Store conn.old) (state S.Store conn.new)) }
@@ -144,34 +90,68 @@ fn find_archive<S: Alter>(alloc: Global, conn: &mut Connection<S>) -> Result<Opt
     archive_of(alloc, conn)
 }
 
-/// The keeper over the tables of a database that keeps an archive. A fault gives the connection back, and what was committed is
-/// as before. The fault is `KeepFault::Tables` only where a transaction is begun or the database keeps no archive; another comes
-/// only where memory is wanting, the store fails meanwhile, or the connection was shut or may take only so many steps. A crash
-/// leaves what was there.
+/// The keeper over the tables of an archive whose bodies are whole.
+fn keeper_over<S: Alter + Drop>(connection: Connection<S>, held: Held) -> TableKeeper<S>
+    requires idle { connection.in_transaction ≡ false }
+    requires kept { HasCleanDisk (state S.Store connection) → IsTrue (state S.Store connection).is_open
+        → ∥ KeepsArchive (state S.Store connection).committed held.config held.judged.items (shown_in held.config.suites (tables_in (state S.Store connection).committed)) held.dates.items ∥₁ }
+    ensures { result.conn ≡ connection }
+{
+    let Held {
+        config,
+        judged,
+        dates,
+    } = held;
+    TableKeeper::over(connection, config, judged, dates)
+}
+
+/// The keeper of an archive that was found, once the bodies that are not whole are away.
+fn keeper_of<S: Alter + Drop>(
+    mut connection: Connection<S>,
+    found: Found,
+) -> Result<TableKeeper<S>, (Connection<S>, KeepFault)>
+    requires idle { connection.in_transaction ≡ false }
+    requires found { HasCleanDisk (state S.Store connection) → IsFound (state S.Store connection) found.held.config found.held.judged.items found.held.dates.items found.unfinished.items }
+    ensures opened { IfOk result (λ keeper. HasCleanDisk (state S.Store keeper.conn) → IsFinished (state S.Store connection) (state S.Store keeper.conn)) }
+    ensures fault { IfErr result (λ e. e.1 ≢ NoArchive) }
+    ensures told { IfErr result (λ e. HasCleanDisk (state S.Store e.0) → HasUnfinished (state S.Store connection).now) }
+    ensures undone { IfErr result (λ e. HasCleanDisk (state S.Store e.0) → IsUndone (state S.Store connection) (state S.Store e.0)) }
+    ensures crash { IfOk result (λ keeper. Survives (state S.Store connection) (state S.Store keeper.conn) (MayCommit (state S.Store connection) finished)) }
+    ensures crash_undone { IfErr result (λ e. Survives (state S.Store connection) (state S.Store e.0) (MayCommit (state S.Store connection) finished)) }
+{
+    let Found { held, unfinished } = found;
+    if unfinished.is_empty() {
+        return Ok(keeper_over(connection, held));
+    }
+    match finish_bodies(&mut connection, &unfinished) {
+        Ok(()) => Ok(keeper_over(connection, held)),
+        Err(failure) => Err((connection, fault_of(failure))),
+    }
+}
+
+/// The keeper over the tables of a database that keeps an archive, without the bodies that are not whole: an opening takes these
+/// away, with their pieces. A fault gives the connection back, and what was committed is as before. The fault is
+/// `KeepFault::Tables` only where a transaction is begun or the database keeps no archive; another comes only where memory is
+/// wanting, the store fails meanwhile, the connection was shut or may take only so many steps, or some body is not whole. A crash
+/// leaves what was there, or that without these bodies.
 pub fn open<S: Alter + Drop>(
     alloc: Global,
     mut connection: Connection<S>,
 ) -> Result<TableKeeper<S>, (Connection<S>, KeepFault)>
-    ensures opened { IfOk result (λ keeper. HasCleanDisk (state S.Store keeper.conn) → IsTrue (state S.Store keeper.conn).is_open × ((state S.Store keeper.conn).committed ≡ (state S.Store connection).committed)) }
+    ensures opened { IfOk result (λ keeper. HasCleanDisk (state S.Store keeper.conn) → IsFinished (state S.Store connection) (state S.Store keeper.conn)) }
     ensures refused { IfErr result (λ e. e.1 ≡ NoArchive → HasCleanDisk (state S.Store e.0) → (connection.in_transaction ≡ true) ⊎ IsNoArchive (state S.Store connection).now) }
-    ensures told { IfErr result (λ e. HasCleanDisk (state S.Store e.0) → (e.1 ≡ NoArchive) ⊎ ((e.1 ≡ OutOfMemory) ⊎ MayFail (state S.Store connection) (state S.Store e.0))) }
+    ensures told { IfErr result (λ e. HasCleanDisk (state S.Store e.0) → (e.1 ≡ NoArchive) ⊎ ((e.1 ≡ OutOfMemory) ⊎ (MayFail (state S.Store connection) (state S.Store e.0) ⊎ HasUnfinished (state S.Store connection).now))) }
     ensures busy { connection.in_transaction ≡ true → IsErrAnd result (λ e. (e.1 ≡ NoArchive) × (e.0 ≡ connection)) }
     ensures undone { IfErr result (λ e. HasCleanDisk (state S.Store e.0) → IsUndone (state S.Store connection) (state S.Store e.0)) }
-    ensures crash { IfOk result (λ keeper. Survives (state S.Store connection) (state S.Store keeper.conn) (λ _. ⊥)) }
-    ensures crash_undone { IfErr result (λ e. Survives (state S.Store connection) (state S.Store e.0) (λ _. ⊥)) }
+    ensures crash { IfOk result (λ keeper. Survives (state S.Store connection) (state S.Store keeper.conn) (MayCommit (state S.Store connection) finished)) }
+    ensures crash_refused { IfErr result (λ e. e.1 ≡ NoArchive → Survives (state S.Store connection) (state S.Store e.0) (λ _. ⊥)) }
+    ensures crash_undone { IfErr result (λ e. Survives (state S.Store connection) (state S.Store e.0) (MayCommit (state S.Store connection) finished)) }
 {
     if !connection.is_autocommit() {
         return Err((connection, KeepFault::Tables));
     }
     match find_archive(alloc, &mut connection) {
-        Ok(Some(held)) => {
-            let Held {
-                config,
-                judged,
-                dates,
-            } = held;
-            Ok(TableKeeper::over(connection, config, judged, dates))
-        }
+        Ok(Some(found)) => keeper_of(connection, found),
         Ok(None) => Err((connection, KeepFault::Tables)),
         Err(error) => Err((connection, fault_of(error))),
     }

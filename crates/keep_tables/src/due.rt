@@ -11,10 +11,10 @@ ghost use Rattle.keep.specs.Book.{Book, due, upload_of};
 ghost use Rattle.keep.specs.Keeping.{sign_of};
 ghost use Rattle.tables.specs.Rows.{Tables, Holds};
 ghost use Rattle.kept.specs.Kept.{AreArrivals, AreBodies, AreUploads, arrivals_in};
-ghost use Rattle.kept.specs.Reads.{Rests, bytes_with, due_in, text_in, unjudged_rows, upload_in};
+ghost use Rattle.kept.specs.Reads.{Rests, bytes_with, due_in, text_in, wanting_rows, upload_in};
 ghost use Rattle.kept.specs.Transactions.{IsUndone};
 
-use crate::waiting::{missing_of, unjudged_in_order};
+use crate::waiting::{missing_of, wanting_in_order};
 use keep_rows::read_body;
 use para::Listed;
 use records::{Changes, RecordFault};
@@ -160,7 +160,7 @@ pub fn due_uploads<S: Alter>(alloc: Global, conn: &mut Connection<S>) -> Result<
     ensures survives { Survives (state S.Store conn.old) (state S.Store conn.new) (λ _. (t : Tables) → ¬ Holds (state S.Store conn.old).now t) }
 {
     let mut uploads = Vec::new(alloc);
-    for (id, upload) in unjudged_in_order(alloc, conn)? {
+    for (id, upload) in wanting_in_order(alloc, conn)? {
         if let Some(due) = due_upload(alloc, conn, id, upload)? {
             uploads.push(due)?;
         }

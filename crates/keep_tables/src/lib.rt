@@ -9,9 +9,9 @@ mod keeper;
 pub mod laws;
 mod listing;
 mod reads;
-mod shelve;
+mod showing;
 mod taking;
 mod waiting;
+mod wanting;
 
 pub use keeper::TableKeeper;
-pub use shelve::put_row;

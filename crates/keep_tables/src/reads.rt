@@ -13,7 +13,7 @@ ghost use Rattle.tables.specs.Rows.{IsArchive};
 ghost use Rattle.kept.specs.Archives.{IsRead, KeepsArchive, book_of};
 
 use crate::due::due_uploads;
-use crate::shelve::read_shelves;
+use crate::showing::read_shelves;
 use crate::waiting::waiting_uploads;
 use keep::Waiting;
 use keep_rows::file_body;

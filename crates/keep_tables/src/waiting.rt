@@ -6,15 +6,15 @@ ghost use Rattle.sqlite.specs.State.{HasCleanDisk, IsUnchanged, Survives};
 ghost use Rattle.keep.specs.Book.{Book, waiting_list};
 ghost use Rattle.tables.specs.Rows.{Tables, Fails, Holds, IsForeign};
 ghost use Rattle.kept.specs.Kept.{AreUploads, arrivals_in, sign_in};
-ghost use Rattle.kept.specs.Reads.{missing_in, put_by, row_order, sign_order, sorted_by, unjudged_rows};
+ghost use Rattle.kept.specs.Reads.{missing_in, put_by, row_order, sign_order, sorted_by, wanting_rows};
 ghost use Rattle.kept.specs.Transactions.{IsUndone};
 
+use crate::wanting::wanting_uploads;
 use keep::Waiting;
 use sqlite::{Alter, Connection, Error};
 use std::alloc::{AllocError, Global};
 use std::cmp::Ordering;
 use tables::rows::{Upload, Want};
-use tables::uploads::unjudged_uploads;
 use tables::wants::wants_of;
 
 /// The order of judging: by the bytes of the names, then by SHA-256, SHA-1, MD5 and size.
@@ -68,19 +68,19 @@ fn in_judging_order(
     Ok(sorted)
 }
 
-/// The uploads that are not judged with their numbers, in the order of judging.
-pub(crate) fn unjudged_in_order<S: Alter>(
+/// The uploads that want something with their numbers, in the order of judging: those that are not judged.
+pub(crate) fn wanting_in_order<S: Alter>(
     alloc: Global,
     conn: &mut Connection<S>,
 ) -> Result<Vec<(u64, Upload)>, Error>
     ensures idle { conn.old.in_transaction ≡ false → conn.new.in_transaction ≡ false }
     ensures ok { HasCleanDisk (state S.Store conn.new) → (t : Tables) → Holds (state S.Store conn.old).now t
-        → IfOk result (λ all. (all.items ≡ unjudged_rows t) × IsUnchanged (state S.Store conn.old) (state S.Store conn.new)) }
+        → IfOk result (λ all. (all.items ≡ wanting_rows t) × IsUnchanged (state S.Store conn.old) (state S.Store conn.new)) }
     ensures err { HasCleanDisk (state S.Store conn.new) → (t : Tables) → Holds (state S.Store conn.old).now t
-        → OnErr result (Fails (state S.Store conn.old) (state S.Store conn.new)) }
-    ensures survives { Survives (state S.Store conn.old) (state S.Store conn.new) (λ _. IsForeign (state S.Store conn.old).now) }
+        → OnErr result (IsUndone (state S.Store conn.old) (state S.Store conn.new)) }
+    ensures survives { Survives (state S.Store conn.old) (state S.Store conn.new) (λ _. (t : Tables) → ¬ Holds (state S.Store conn.old).now t) }
 {
-    let uploads = unjudged_uploads(alloc, conn)?;
+    let uploads = wanting_uploads(alloc, conn)?;
     let sorted = in_judging_order(alloc, uploads)?;
     Ok(sorted)
 }
@@ -130,7 +130,7 @@ pub fn waiting_uploads<S: Alter>(
     ensures survives { Survives (state S.Store conn.old) (state S.Store conn.new) (λ _. (t : Tables) → ¬ Holds (state S.Store conn.old).now t) }
 {
     let mut waiting = Vec::new(alloc);
-    for (id, upload) in unjudged_in_order(alloc, conn)? {
+    for (id, upload) in wanting_in_order(alloc, conn)? {
         let missing = missing_of(alloc, conn, id)?;
         waiting.push(Waiting {
             name: upload.name,

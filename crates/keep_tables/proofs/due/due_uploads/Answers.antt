@@ -7,17 +7,17 @@ use Rattle.keep.specs.Book.{due}
 use Rattle.keep.proofs.Signs.{signs_of}
 use Rattle.kept.specs.Reads.{due_in}
 use Rattle.kept.proofs.DueLemmas.{due_are}
-use Rattle.kept.proofs.ReadsLemmas.{found_all, found_more, found_none, held_after, on_err, survives_after, survives_foreign, undone_after, undone_if_unchanged}
+use Rattle.kept.proofs.ReadsLemmas.{found_all, found_more, found_none, held_after, on_err, survives_after, undone_after, undone_if_unchanged}
 use Rattle.keep_tables.proofs.due.due_uploads.Goals as goal
 
 pub returns-in_err-id-items-clause-survives : goal.returns-in_err-id-items-clause-survives
 returns-in_err-id-items-clause-survives g c =
-    survives_foreign (state g.S.Store c.args.conn.now) (state g.S.Store c.unjudged_in_order.new.conn) c.unjudged_in_order.ensures.survives
+    c.wanting_in_order.ensures.survives
 
 pub loop-id-init : goal.loop-id-init
 loop-id-init g c = record {
-  idle = c.unjudged_in_order.ensures.idle;
-  survives = survives_foreign (state g.S.Store c.args.conn.now) (state g.S.Store c.unjudged_in_order.new.conn) c.unjudged_in_order.ensures.survives;
+  idle = c.wanting_in_order.ensures.idle;
+  survives = c.wanting_in_order.ensures.survives;
   read = λ clean t was.
       let read = c.in_ok-items.ensures.ok clean t was in
       let rest = c.into_iter-id-iterator.result.rest.items in
@@ -93,10 +93,10 @@ returns-in_err-push-clause-survives g c =
 pub returns-clause-uploads : goal.returns-clause-uploads
 returns-clause-uploads g c clean t was b same uploads bodies arrivals =
     let none : length c.loop-id.id-iterator.rest.items ≡ 0 = omega (arith, c.in-None.ensures.steps.0, c.loop-id.id-iterator.rest.ok.0) in
-    found_all (due_in t) c.loop-id.uploads.items c.loop-id.id-iterator.rest.items none (c.loop-id.invariant.read clean t was).0 ∙ due_are t b same uploads bodies arrivals
+    found_all (due_in t) c.loop-id.uploads.items c.loop-id.id-iterator.rest.items none (c.loop-id.invariant.read clean t was).0 ∙ due_are t b same was.rows.uploads.rise uploads bodies arrivals
 
 pub returns-clause-signs : goal.returns-clause-signs
 returns-clause-signs g c clean t was b same uploads bodies arrivals =
     let none : length c.loop-id.id-iterator.rest.items ≡ 0 = omega (arith, c.in-None.ensures.steps.0, c.loop-id.id-iterator.rest.ok.0) in
-    ap (map (λ u. (u.name, u.print))) (found_all (due_in t) c.loop-id.uploads.items c.loop-id.id-iterator.rest.items none (c.loop-id.invariant.read clean t was).0 ∙ due_are t b same uploads bodies arrivals)
+    ap (map (λ u. (u.name, u.print))) (found_all (due_in t) c.loop-id.uploads.items c.loop-id.id-iterator.rest.items none (c.loop-id.invariant.read clean t was).0 ∙ due_are t b same was.rows.uploads.rise uploads bodies arrivals)
     ∙ signs_of b.arrivals (due b)

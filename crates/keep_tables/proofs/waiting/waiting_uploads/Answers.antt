@@ -9,12 +9,12 @@ use Rattle.keep_tables.proofs.waiting.waiting_uploads.Goals as goal
 
 pub returns-in_err-id-items-clause-survives : goal.returns-in_err-id-items-clause-survives
 returns-in_err-id-items-clause-survives g c =
-    survives_foreign (state g.S.Store c.args.conn.now) (state g.S.Store c.unjudged_in_order.new.conn) c.unjudged_in_order.ensures.survives
+    c.wanting_in_order.ensures.survives
 
 pub loop-id-init : goal.loop-id-init
 loop-id-init g c = record {
-  idle = c.unjudged_in_order.ensures.idle;
-  survives = survives_foreign (state g.S.Store c.args.conn.now) (state g.S.Store c.unjudged_in_order.new.conn) c.unjudged_in_order.ensures.survives;
+  idle = c.wanting_in_order.ensures.idle;
+  survives = c.wanting_in_order.ensures.survives;
   read = λ clean t was.
       let read = c.in_ok-items.ensures.ok clean t was in
       let rest = c.into_iter-id-iterator.result.rest.items in
@@ -74,4 +74,4 @@ returns-in_err-push-clause-survives g c =
 pub returns-clause-ok : goal.returns-clause-ok
 returns-clause-ok g c clean t was b same uploads =
     let none : length c.loop-id.id-iterator.rest.items ≡ 0 = omega (arith, c.in-None.ensures.steps.0, c.loop-id.id-iterator.rest.ok.0) in
-    made_all (waiting_in t) c.loop-id.waiting.items c.loop-id.id-iterator.rest.items none (c.loop-id.invariant.read clean t was).0 ∙ waiting_list_is t b same uploads
+    made_all (waiting_in t) c.loop-id.waiting.items c.loop-id.id-iterator.rest.items none (c.loop-id.invariant.read clean t was).0 ∙ waiting_list_is t b same was.rows.uploads.rise uploads

@@ -1,8 +1,0 @@
-use Rattle.std.proofs.Common.{All, take}
-use Rattle.tables_read.specs.All.{tables_with}
-use Rattle.keep_open.proofs.ArrivalsLemmas.{MayBeKept}
-use Rattle.keep_open.proofs.arrivals.are_deliverable.Given as goal
-
--- those so far may be kept
-abbrev pub invariant-loop-row : goal.invariant-loop-row
-invariant-loop-row l = All (MayBeKept (tables_with l.all)) (take l.row-index l.rows)

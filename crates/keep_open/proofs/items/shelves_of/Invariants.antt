@@ -1,7 +1,0 @@
-use Rattle.std.proofs.Common.{take}
-use Rattle.keep_open.specs.Items.{AreShown}
-use Rattle.keep_open.proofs.items.shelves_of.Given as goal
-
--- the shelves show the rows so far
-abbrev pub invariant-loop-id : goal.invariant-loop-id
-invariant-loop-id l = AreShown l.suites l.refs (take l.id-index l.items) l.shelves

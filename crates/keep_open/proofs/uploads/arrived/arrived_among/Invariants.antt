@@ -1,7 +1,0 @@
-use Rattle.std.proofs.Common.{◌≡◌, map, take}
-use Rattle.tables.specs.Rows.{rows_of}
-use Rattle.keep_open.specs.Uploads.{with_print, with_print_in}
-use Rattle.keep_open.proofs.uploads.arrived.arrived_among.Given as goal
-
-abbrev pub invariant-loop-arrival : goal.invariant-loop-arrival
-invariant-loop-arrival l = map with_print l.arrived.items ≡ map (with_print_in l.bodies) (rows_of (take l.arrival-index l.arrivals))
