@@ -18,4 +18,6 @@ mod sources;
 mod stops;
 mod stories;
 mod tampered;
+mod unfinished;
 mod verdicts;
+mod wanting;

@@ -28,7 +28,7 @@ fn fill<K: Keeper>(alloc: Global, archive: &mut Archive<K>) -> Result<(), Fail> 
 }
 
 /// The files of that archive.
-fn filled(alloc: Global) -> Result<Files<Memory>, Fail> {
+pub fn filled(alloc: Global) -> Result<Files<Memory>, Fail> {
     let mut archive = founded(alloc)?;
     fill(alloc, &mut archive)?;
     closed(archive.into_keeper().into_connection())
@@ -53,7 +53,7 @@ fn refused(
 
 /// What an opening makes of files: K4 where it refuses them as no archive, and leaves the database file as it was. It begins a
 /// log.
-fn answer(alloc: Global, files: &Files<Memory>) -> Result<&'static str, Fail> {
+pub fn answer(alloc: Global, files: &Files<Memory>) -> Result<&'static str, Fail> {
     let connection = match refused(alloc, connected(alloc, copied(alloc, files)?)?) {
         Ok(connection) => connection,
         Err(None) => return Ok("opens"),
@@ -68,7 +68,11 @@ fn answer(alloc: Global, files: &Files<Memory>) -> Result<&'static str, Fail> {
 }
 
 /// The files behind this list of statements, where they can be run.
-fn changed(alloc: Global, files: &Files<Memory>, sql: &str) -> Result<Option<Files<Memory>>, Fail> {
+pub fn changed(
+    alloc: Global,
+    files: &Files<Memory>,
+    sql: &str,
+) -> Result<Option<Files<Memory>>, Fail> {
     let mut connection = connected(alloc, copied(alloc, files)?)?;
     let is_run = connection.execute_batch(sql).is_ok();
     let files = closed(connection)?;
@@ -267,6 +271,62 @@ fn other_items_are_refused(rt: HostRuntime) -> Result<(), Fail> {
             "INSERT INTO items SELECT 9, 'lab', kind, package, architecture, version, component, source, paragraph FROM items WHERE architecture = 'amd64'",
         ],
     )
+}
+
+/// Each item is as its .dsc or sidecar tells it, which the texts don't show: its columns are theirs.
+#[test]
+fn items_that_no_record_tells_are_refused(rt: HostRuntime) -> Result<(), Fail> {
+    expect_refused(
+        &rt,
+        rt.alloc(),
+        &[
+            "UPDATE items SET version = '1.0-2' WHERE architecture = 'amd64'",
+            "UPDATE items SET version = '1.0-2' WHERE architecture = 'source'",
+            "UPDATE items SET version = 'no version' WHERE architecture = 'amd64'",
+            "UPDATE items SET source = 'other' WHERE architecture = 'amd64'",
+            "UPDATE items SET source = 'other' WHERE architecture = 'source'",
+            "UPDATE items SET package = 'other' WHERE architecture = 'amd64'",
+        ],
+    )
+}
+
+/// A judged upload has the name of a .changes that may be delivered, and at most 1,048,576 bytes.
+#[test]
+fn judged_uploads_that_none_delivers_are_refused(rt: HostRuntime) -> Result<(), Fail> {
+    expect_refused(
+        &rt,
+        rt.alloc(),
+        &[
+            "INSERT INTO uploads (name, size, md5, sha1, sha256, place, verdict) SELECT 'more.deb', size, md5, sha1, sha256, 2, 0 FROM uploads WHERE id = 1",
+            "INSERT INTO uploads (name, size, md5, sha1, sha256, place, verdict) SELECT '.changes', size, md5, sha1, sha256, 2, 0 FROM uploads WHERE id = 1",
+            "INSERT INTO uploads (name, size, md5, sha1, sha256, place, verdict) SELECT 'a/b.changes', size, md5, sha1, sha256, 2, 0 FROM uploads WHERE id = 1",
+            "INSERT INTO uploads (name, size, md5, sha1, sha256, place, verdict) SELECT 'more.changes', 1048577, md5, sha1, sha256, 2, 0 FROM uploads WHERE id = 1",
+        ],
+    )
+}
+
+/// A judged upload stays judged where its .changes is no arrival.
+#[test]
+fn a_judged_upload_without_its_arrival_opens(rt: HostRuntime) -> Result<(), Fail> {
+    let alloc = rt.alloc();
+    let files = changed(
+        alloc,
+        &filled(alloc)?,
+        "INSERT INTO uploads (name, size, md5, sha1, sha256, place, verdict) SELECT 'more.changes', 1048576, md5, sha1, sha256, 2, 0 FROM uploads WHERE id = 1",
+    )?;
+    let Some(files) = files else {
+        return Err(Fail::from("not run"));
+    };
+    let mut archive = opened(alloc, files)?;
+    expect_lines(
+        &rt,
+        &archive.verdicts(alloc)?.lines,
+        &[
+            "accepted hello_1.0-1_source.changes",
+            "accepted more.changes",
+        ],
+    );
+    Ok(())
 }
 
 /// The files of the pool are those that the items name.
