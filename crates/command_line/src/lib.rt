@@ -5,8 +5,6 @@ mod arguments;
 mod commands;
 mod parsed;
 mod readings;
-#[cfg(test)]
-mod tests;
 mod values;
 mod words;
 

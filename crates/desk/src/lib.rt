@@ -9,8 +9,6 @@ pub mod laws;
 pub mod reply;
 pub mod request;
 pub mod routes;
-#[cfg(test)]
-mod tests;
 pub mod transfer;
 
 pub use connection::{Connection, attend};

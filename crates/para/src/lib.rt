@@ -19,6 +19,3 @@ pub use print::{write, write_field, write_line};
 pub use read::{read_many, read_one};
 pub use text::{Listed, Text};
 pub use value::{fold, simple};
-
-#[cfg(test)]
-mod tests;

@@ -10,8 +10,6 @@ mod laws;
 mod names;
 mod parts;
 mod sidecar;
-#[cfg(test)]
-mod tests;
 
 pub use changes::Changes;
 pub use dsc::Dsc;

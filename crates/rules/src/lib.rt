@@ -9,8 +9,6 @@ mod laws;
 mod names;
 mod paragraph;
 mod suite;
-#[cfg(test)]
-mod tests;
 mod uploader;
 mod verdict;
 

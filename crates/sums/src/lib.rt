@@ -9,8 +9,6 @@ mod lines;
 mod lists;
 mod names;
 mod print;
-#[cfg(test)]
-mod tests;
 
 pub use entries::{Entry, ListKind};
 pub use fault::ListFault;

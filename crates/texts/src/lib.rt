@@ -10,9 +10,7 @@ mod stanza;
 mod suite_release;
 
 pub use binary_index::{lists_package, packages};
+pub use date::date_text;
 pub use index::{Index, index_path, index_text, indices_of, listed_text, rendered_index};
 pub use source_index::{lists_source, sources};
 pub use suite_release::release;
-
-#[cfg(test)]
-mod tests;

@@ -1,6 +1,6 @@
 //! What worked requests are answered, whole and cut, over an archive in memory.
 
-use crate::{Connection, DeskFault, Served, answer, attend};
+use desk::{Connection, DeskFault, Served, answer, attend};
 use keep::PlainKeeper;
 use queue::Archive;
 use rules::Config;

@@ -1,6 +1,7 @@
 //! What is a configuration, and what the faults of other texts are.
 
 use super::*;
+use rules::component_of_section;
 use std::test::Fail;
 
 #[test]

@@ -1,5 +1,5 @@
 use super::{Record, answer, expect_rows, filled};
-use crate::Sidecar;
+use records::Sidecar;
 use std::test::Fail;
 
 const CONTROL: &str = "\

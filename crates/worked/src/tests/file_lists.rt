@@ -1,11 +1,14 @@
 ghost use Rattle.std.specs.Prelude.{◌≡◌};
 ghost use Rattle.sums.specs.Prints.{same_print};
 
-use super::*;
 use para::read_one;
 use std::alloc::Global;
 use std::process::Abort;
 use std::test::Fail;
+use sums::{
+    Entry, ListFault, ListKind, Print, Printer, is_file_name, lists_are_read, one_reading,
+    print_of, read_lists,
+};
 
 const LIMIT: usize = 1048576;
 

@@ -1,4 +1,6 @@
-use super::*;
+//! What records are read, and what the faults of others are.
+
+use records::{Changes, Dsc, FieldName, RecordFault, Sidecar};
 use std::alloc::Global;
 use std::process::Abort;
 use std::test::Fail;

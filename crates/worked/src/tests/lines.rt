@@ -1,6 +1,6 @@
 //! The words of a line, and what they say.
 
-use crate::{LineFault, line};
+use command_line::{LineFault, line};
 use std::alloc::Global;
 use std::test::Fail;
 

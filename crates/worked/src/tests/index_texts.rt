@@ -1,8 +1,9 @@
-use super::*;
-use crate::date::date_text;
+//! What stands in indices, and at which paths.
+
 use rules::Config;
 use std::test::Fail;
 use suites::Shelves;
+use texts::{date_text, index_text};
 
 /// A suite with all that a Release may say.
 const BOX: &str =

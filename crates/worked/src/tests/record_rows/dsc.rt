@@ -1,5 +1,5 @@
 use super::{Record, answer, expect_rows, filled};
-use crate::Dsc;
+use records::Dsc;
 use std::test::Fail;
 
 const DSC: &str = "\

@@ -1,5 +1,5 @@
 use super::{Record, answer, expect_rows, filled};
-use crate::Changes;
+use records::Changes;
 use std::alloc::Global;
 use std::test::Fail;
 

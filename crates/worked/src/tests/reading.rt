@@ -1,7 +1,8 @@
 //! What is read of a connection: the answer to each request, and how many bytes are left unread.
-use crate::head::{Refusal, Wanted, read_wanted};
-use crate::request::{Request, read_request};
-use crate::transfer::ReaderFailed;
+
+use desk::head::{Refusal, Wanted, read_wanted};
+use desk::request::{Request, read_request};
+use desk::transfer::ReaderFailed;
 use std::alloc::Global;
 use std::io;
 use std::io::{ErrorKind, Read};

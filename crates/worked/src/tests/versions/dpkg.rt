@@ -1,10 +1,10 @@
 //! Pairs of versions with the answer of `dpkg --compare-versions` of dpkg 1.21.
 
 use super::order_of;
-use crate::VersionFault;
 use std::alloc::Global;
 use std::cmp::Ordering;
 use std::test::Fail;
+use vers::VersionFault;
 
 /// A line a pair: `LEFT RIGHT` and whether the left one is less, equal or greater. Of 200 random pairs, three are left
 /// out whose upstream version does not begin with a digit (`b`, `.` and `+`): dpkg orders these, this archive refuses

@@ -1,4 +1,6 @@
-use super::*;
+//! What configurations say.
+
+use rules::{Config, ConfigFault};
 use std::alloc::Global;
 
 mod configurations;

@@ -1,4 +1,4 @@
-use crate::{is_architecture, is_package, is_plain};
+use records::{is_architecture, is_package, is_plain};
 
 const FORTY: &str = "abcdefghijklmnopqrstuvwxyz0123456789-abc";
 

@@ -2,6 +2,7 @@
 
 use super::*;
 use records::Changes;
+use rules::{Place, judge};
 use std::test::Fail;
 
 /// The number of the verdict of an upload of one file, 0 where it has a place.

@@ -1,3 +1,0 @@
-//! What the words of a line say.
-
-mod lines;
