@@ -1,10 +1,10 @@
 # try: the main job on stored files; build: prove and build the program; install: copy it to PREFIX/bin; test: the gate,
-# the test of tools/with_sidecars, and one of database files with SQLite itself.
+# the test of tools/with_sidecars, and one of database files with SQLite itself; wrong: the wrong bodies that the gate leaves out.
 PREFIX ?= /usr/local
 STORED = crates/archive/data
 PROGRAM = crates/archive/out/archive
 
-.PHONY: try build install test
+.PHONY: try build install test wrong
 
 try:
 	@cd crates/archive && rt try -- try data/hello_1.0-1_amd64.changes data/hello_1.0-1_amd64.deb data/hello_1.0-1_amd64.control 2>/dev/null
@@ -19,3 +19,6 @@ test:
 	rt ci
 	python3 tools/test_with_sidecars.py -v
 	python3 tools/test_database.py -v
+
+wrong:
+	tools/try_wrong_bodies
