@@ -1,6 +1,5 @@
 //! What an archive does, story by story, over both keepers, and what databases hold.
 
-mod all_rows;
 mod commands;
 mod copies;
 mod failing;
@@ -9,10 +8,8 @@ mod filed;
 mod fixtures;
 mod full;
 mod garbage;
-mod item_rows;
 mod many;
 mod packages;
-mod rows;
 mod serves;
 mod sources;
 mod stops;
@@ -20,4 +17,3 @@ mod stories;
 mod tampered;
 mod unfinished;
 mod verdicts;
-mod wanting;

@@ -1,0 +1,6 @@
+//! The statements, table by table.
+
+mod all_rows;
+mod item_rows;
+mod rows;
+mod wanting;
