@@ -1,16 +1,21 @@
--- Bodies and their pieces.
-use Rattle.std.proofs.Common.{◌≡◌, ℕ, suc, ◌+◌, ◌<◌, ◌/◌, ◌%◌, min, Bool, true, false, cond, List, [], ◌∷◌, ◌++◌, map, filter, take, drop, length, get_or, All, IsTrue, sym, ap, ◌∙◌, arith}
-use Rattle.std.specs.Prelude.{◌↔◌}
-use Rattle.std.specs.List.{range_with_len}
-use Rattle.std.proofs.lemmas.Bool.{eqb-true}
-use Rattle.std.proofs.lemmas.List.{append-nil, drop_more, get_or_at, length-append, map-append, map_more, take-append-drop}
+-- Bodies, their pieces, and whether they have arrived.
+use Rattle.std.proofs.Common.{◌≡◌, ℕ, suc, ◌+◌, ◌<◌, ◌/◌, ◌%◌, min, Bool, true, false, ◌||◌, cond, nat_eq, Result, Ok, Err, List, [], ◌∷◌, ◌++◌, map, filter, take, drop, length, get_or, All, IsTrue, refl, sym, ap, ◌∙◌, ⊎_elim, arith}
+use Rattle.std.specs.Prelude.{◌↔◌, is_ok}
+use Rattle.std.specs.List.{list_any, range_with_len}
+use Rattle.std.specs.List.Sorted.{IsBinarySearchResult, IsNonDecreasing}
+use Rattle.std.specs.Ordering.{nat_cmp}
+use Rattle.std.proofs.lemmas.Bool.{cases_lt, eq-eqb, eqb-true, ne_eqb}
+use Rattle.std.proofs.lemmas.List.{append-nil, drop_more, get_or_at, get_or_default, length-append, map-append, map_more, take-append-drop}
 use Rattle.std.proofs.lemmas.List.Elements.{filter-append}
+use Rattle.std.proofs.lemmas.List.Folds.{list_any_at, list_any_none}
+use Rattle.std.proofs.lemmas.List.Sorted.{list_any-IsPermutation, searched}
 use Rattle.std.proofs.lemmas.List.FromFn.{get_or-map-range_with_len, length-map-range_with_len, map-range_with_len_more}
 use Rattle.tables.specs.Pieces.{is_of}
 use Rattle.tables.specs.Rows.{Tables, Numbered, rows_of}
+use Rattle.tables.specs.declared.rows.Arrival.{Arrival}
 use Rattle.tables.specs.declared.rows.Piece.{Piece}
 use Rattle.kept.specs.Kept.{piece_at, piece_count, pieces_for}
-use Rattle.audit.specs.Bodies.{IsBodyFit}
+use Rattle.audit.specs.Bodies.{AreArrived, IsBodyFit}
 use Rattle.audit.specs.Parts.{BodiesFit}
 
 pub rounded_up : (n : ℕ) → n / 65536 + min 1 (n % 65536) ≡ (n + 65535) / 65536
@@ -94,6 +99,33 @@ pub count_is : (id : ℕ) (bytes : List ℕ) (rows : Numbered Piece) (n : ℕ) �
 unfolding pieces_for
 count_is id bytes rows n h whole =
     sym (length-map-range_with_len (piece_row id bytes) 0 n) ∙ ap length (sym h ∙ whole) ∙ length-map-range_with_len (piece_row id bytes) 0 (piece_count bytes)
+
+-- ---- what has arrived
+
+any_of : {X Y : Type 0} (p : Y → Bool) (f : X → Y) (xs : List X) → list_any p (map f xs) ≡ list_any (λ x. p (f x)) xs
+any_of p f [] = refl
+any_of p f (x ∷ xs) = ap (λ b. p (f x) || b) (any_of p f xs)
+
+-- a body has arrived exactly if its number is among those of the arrivals
+pub arrived_same : (arrivals : Numbered Arrival) (numbers : List ℕ) (id : ℕ) → AreArrived arrivals numbers
+    → list_any (λ n. nat_eq n id) numbers ≡ list_any (λ a. nat_eq a.body id) (rows_of arrivals)
+arrived_same arrivals numbers id h =
+    sym (list_any-IsPermutation (λ n. nat_eq n id) (map (λ a. a.body) (rows_of arrivals)) numbers h.are)
+    ∙ any_of (λ n. nat_eq n id) (λ (a : Arrival). a.body) (rows_of arrivals)
+
+-- a binary search finds a number exactly if it is among these
+pub found_among : (numbers : List ℕ) (id : ℕ) (r : Result ℕ ℕ) → IsNonDecreasing numbers → IsBinarySearchResult (λ y. nat_cmp y id) numbers r → is_ok r ≡ list_any (λ n. nat_eq n id) numbers
+found_among numbers id (Ok i) rise found =
+    let at = searched numbers id (Ok i) found (λ i j le within. rise i j 0 le within) in
+    sym (list_any_at (λ n. nat_eq n id) numbers i 0 at.0 (eq-eqb (get_or numbers i 0) id at.1))
+found_among numbers id (Err i) rise found =
+    let at = searched numbers id (Err i) found (λ i j le within. rise i j 0 le within) in
+    sym
+    (list_any_none (λ n. nat_eq n id) numbers
+    (λ k d within. ne_eqb (get_or numbers k d) id
+    (λ e.
+    let same = get_or_default numbers k d 0 within in
+    ⊎_elim (λ l. absurd (omega (arith, at.1 k l, e, same))) (λ l. absurd (omega (arith, at.2 k l within, e, same))) (cases_lt k i))))
 
 -- ---- all bodies
 

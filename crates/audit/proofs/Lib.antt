@@ -4,6 +4,7 @@ pub mod DatesLemmas
 pub mod FilesLemmas
 pub mod ItemsLemmas
 pub mod MetaLemmas
+pub mod PiecesLemmas
 pub mod TextsLemmas
 pub mod UploadsFits
 pub mod UploadsJudged

@@ -1,10 +1,22 @@
--- What makes one body whole.
-use Rattle.std.specs.Prelude.{◌≡◌, ℕ, nat_eq, Some, IsTrue}
+-- What makes one body whole, and in which order its pieces and its arrivals are looked up.
+use Rattle.std.specs.Prelude.{◌≡◌, ℕ, nat_eq, List, map, Some, IsTrue}
 use Rattle.std.specs.List.{list_any}
+use Rattle.std.specs.List.Sorted.{IsNonDecreasing, IsNonDecreasingBy, IsPermutation}
 use Rattle.sums.specs.Prints.{print as print_of}
-use Rattle.tables.specs.Rows.{Tables, rows_of}
+use Rattle.tables.specs.Rows.{Numbered, Tables, rows_of}
+use Rattle.tables.specs.declared.rows.Arrival.{Arrival}
 use Rattle.tables.specs.declared.rows.Body.{Body}
+use Rattle.tables.specs.declared.rows.Piece.{Piece}
 use Rattle.kept.specs.Kept.{bytes_of, pieces_for, pieces_of}
+
+-- The pieces stand by body, in rising order of the bodies' numbers.
+abbrev pub AreByBody : Numbered Piece → Type 0
+AreByBody = IsNonDecreasingBy (λ x. x.1.body)
+
+-- The numbers are those of the bodies that have arrived, in rising order.
+pub record AreArrived (arrivals : Numbered Arrival) (numbers : List ℕ) : Type 0 where
+  pub rise : IsNonDecreasing numbers
+  pub are : IsPermutation (map (λ a. a.body) (rows_of arrivals)) numbers
 
 -- The body of this row is whole, in pieces, with the print of its bytes, and has arrived under some name.
 pub record IsBodyFit (t : Tables) (x : ℕ × Body) : Type 0 where

@@ -10,6 +10,7 @@ ghost use Rattle.audit.specs.Arrivals.{IsArrivalFit};
 ghost use Rattle.audit.specs.Parts.{ArrivalsFit};
 
 use crate::bodies::bytes_of;
+use crate::pieces::Pieces;
 use keep::LATEST;
 use records::{Changes, RecordFault};
 use std::alloc::{AllocError, Global};
@@ -66,28 +67,28 @@ fn is_deliverable(alloc: Global, name: &str, body: &[u8]) -> Result<bool, AllocE
 /// Whether the arrival is one that may be kept.
 fn is_arrival_deliverable(
     alloc: Global,
-    all: &AllRows,
+    pieces: &Pieces<'_>,
     arrival: &Arrival,
 ) -> Result<bool, AllocError>
-    ensures { IfOk result (λ may. IsTrue may ↔ IsArrivalFit (tables_with all.now) arrival.now) }
+    ensures { IfOk result (λ may. IsTrue may ↔ IsArrivalFit (tables_with pieces.now.all.now) arrival.now) }
 {
     if arrival.moment > LATEST {
         return Ok(false);
     }
-    let body = bytes_of(alloc, all, arrival.body)?;
+    let body = bytes_of(alloc, pieces, arrival.body)?;
     is_deliverable(alloc, arrival.name.as_str(), &body)
 }
 
 /// Whether each of these arrivals is one that may be kept.
 fn are_deliverable(
     alloc: Global,
-    all: &AllRows,
+    pieces: &Pieces<'_>,
     rows: &[(u64, Arrival)],
 ) -> Result<bool, AllocError>
-    ensures { IfOk result (λ may. IsTrue may ↔ All (λ x. IsArrivalFit (tables_with all.now) x.1) rows.now) }
+    ensures { IfOk result (λ may. IsTrue may ↔ All (λ x. IsArrivalFit (tables_with pieces.now.all.now) x.1) rows.now) }
 {
     for row in rows {
-        if !is_arrival_deliverable(alloc, all, &row.1)? {
+        if !is_arrival_deliverable(alloc, pieces, &row.1)? {
             return Ok(false);
         }
     }
@@ -98,5 +99,5 @@ fn are_deliverable(
 pub fn are_arrivals_deliverable(alloc: Global, all: &AllRows) -> Result<bool, AllocError>
     ensures { IfOk result (λ may. IsTrue may ↔ ArrivalsFit (tables_with all.now)) }
 {
-    are_deliverable(alloc, all, &all.arrivals)
+    are_deliverable(alloc, &Pieces::new(all), &all.arrivals)
 }

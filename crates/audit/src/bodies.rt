@@ -1,15 +1,17 @@
 //! The bodies of an archive and their pieces.
 
-ghost use Rattle.std.specs.Prelude.{◌≡◌, ◌↔◌, ◌+◌, All, Some, filter, nat_eq, take, IsTrue, IfOk};
+ghost use Rattle.std.specs.Prelude.{◌≡◌, ◌↔◌, ◌+◌, All, Some, filter, map, nat_eq, take, IsTrue, IfOk};
 ghost use Rattle.std.specs.List.{flat_map, list_any};
+ghost use Rattle.std.specs.List.Sorted.{IsNonDecreasing};
 ghost use Rattle.sums.specs.Prints.{print};
 ghost use Rattle.tables.specs.Pieces.{is_of};
 ghost use Rattle.tables.specs.Rows.{rows_of};
 ghost use Rattle.tables_read.specs.All.{tables_with};
 ghost use Rattle.kept.specs.Kept.{bytes_of, piece_at, piece_count, piece_size, pieces_for};
-ghost use Rattle.audit.specs.Bodies.{IsBodyFit};
+ghost use Rattle.audit.specs.Bodies.{AreArrived, IsBodyFit};
 ghost use Rattle.audit.specs.Parts.{BodiesFit};
 
+use crate::pieces::Pieces;
 use std::alloc::{AllocError, Global};
 use sums::print_of;
 use tables::rows::{Arrival, Body, Piece};
@@ -34,10 +36,10 @@ fn joined(alloc: Global, pieces: &[(u64, Piece)], id: u64) -> Result<Vec<u8>, Al
 
 /// The bytes of a body.
 #[tactic(auto, unfolding(kept::specs::Kept::bytes_of))]
-pub fn bytes_of(alloc: Global, all: &AllRows, id: u64) -> Result<Vec<u8>, AllocError>
-    ensures { IfOk result (λ bytes. bytes.items ≡ bytes_of (tables_with all.now) id) }
+pub fn bytes_of(alloc: Global, pieces: &Pieces<'_>, id: u64) -> Result<Vec<u8>, AllocError>
+    ensures { IfOk result (λ bytes. bytes.items ≡ bytes_of (tables_with pieces.now.all.now) id) }
 {
-    joined(alloc, &all.pieces, id)
+    joined(alloc, pieces.about(id), id)
 }
 
 /// The first bytes, as many as a piece may have.
@@ -115,38 +117,66 @@ fn is_print_of(stored: &Body, bytes: &[u8]) -> bool
     }
 }
 
-/// Whether a body has arrived under some name.
-fn has_arrived(arrivals: &[(u64, Arrival)], id: u64) -> bool
-    ensures { result ≡ list_any (λ a. nat_eq a.body id) (rows_of arrivals.now) }
+/// The numbers of the bodies of the arrivals.
+fn bodies_of(alloc: Global, arrivals: &[(u64, Arrival)]) -> Result<Vec<u64>, AllocError>
+    ensures { IfOk result (λ numbers. numbers.items ≡ map (λ a. a.body) (rows_of arrivals.now)) }
 {
+    let mut numbers = Vec::new(alloc);
     for row in arrivals {
-        if row.1.body == id {
-            return true;
-        }
+        numbers.push(row.1.body)?;
     }
-    false
+    Ok(numbers)
+}
+
+/// The numbers of the bodies that have arrived, in rising order.
+fn arrived_in(alloc: Global, arrivals: &[(u64, Arrival)]) -> Result<Vec<u64>, AllocError>
+    ensures { IfOk result (λ numbers. AreArrived arrivals.now numbers.items) }
+{
+    let mut numbers = bodies_of(alloc, arrivals)?;
+    numbers.sort_unstable();
+    Ok(numbers)
+}
+
+/// Whether a number is among these, which stand in rising order.
+fn is_among(numbers: &[u64], id: u64) -> bool
+    requires { IsNonDecreasing numbers.now }
+    ensures { result ≡ list_any (λ n. nat_eq n id) numbers.now }
+{
+    numbers.binary_search(&id).is_ok()
 }
 
 /// Whether a body is whole, in pieces, with the print of its bytes, and has arrived under some name.
-fn is_body_whole(alloc: Global, all: &AllRows, row: &(u64, Body)) -> Result<bool, AllocError>
-    ensures { IfOk result (λ fits. IsTrue fits ↔ IsBodyFit (tables_with all.now) row.now) }
+fn is_body_whole(
+    alloc: Global,
+    pieces: &Pieces<'_>,
+    arrived: &[u64],
+    row: &(u64, Body),
+) -> Result<bool, AllocError>
+    requires { AreArrived pieces.now.all.now.arrivals.items arrived.now }
+    ensures { IfOk result (λ fits. IsTrue fits ↔ IsBodyFit (tables_with pieces.now.all.now) row.now) }
 {
-    if !has_arrived(&all.arrivals, row.0) {
+    if !is_among(arrived, row.0) {
         return Ok(false);
     }
-    let bytes = bytes_of(alloc, all, row.0)?;
-    if !are_pieces_of(&all.pieces, row.0, &bytes) {
+    let bytes = bytes_of(alloc, pieces, row.0)?;
+    if !are_pieces_of(pieces.about(row.0), row.0, &bytes) {
         return Ok(false);
     }
     Ok(is_print_of(&row.1, &bytes))
 }
 
 /// Whether each of these bodies is whole, in pieces, with the print of its bytes, and has arrived under some name.
-fn are_whole(alloc: Global, all: &AllRows, rows: &[(u64, Body)]) -> Result<bool, AllocError>
-    ensures { IfOk result (λ fit. IsTrue fit ↔ All (IsBodyFit (tables_with all.now)) rows.now) }
+fn are_whole(
+    alloc: Global,
+    pieces: &Pieces<'_>,
+    arrived: &[u64],
+    rows: &[(u64, Body)],
+) -> Result<bool, AllocError>
+    requires { AreArrived pieces.now.all.now.arrivals.items arrived.now }
+    ensures { IfOk result (λ fit. IsTrue fit ↔ All (IsBodyFit (tables_with pieces.now.all.now)) rows.now) }
 {
     for row in rows {
-        if !is_body_whole(alloc, all, row)? {
+        if !is_body_whole(alloc, pieces, arrived, row)? {
             return Ok(false);
         }
     }
@@ -157,5 +187,6 @@ fn are_whole(alloc: Global, all: &AllRows, rows: &[(u64, Body)]) -> Result<bool,
 pub fn are_bodies_whole(alloc: Global, all: &AllRows) -> Result<bool, AllocError>
     ensures { IfOk result (λ fit. IsTrue fit ↔ BodiesFit (tables_with all.now)) }
 {
-    are_whole(alloc, all, &all.bodies)
+    let arrived = arrived_in(alloc, &all.arrivals)?;
+    are_whole(alloc, &Pieces::new(all), &arrived, &all.bodies)
 }

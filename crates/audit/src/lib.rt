@@ -7,6 +7,7 @@ mod dates;
 mod files;
 mod items;
 mod meta;
+mod pieces;
 mod signed;
 mod text_rows;
 mod uploads;

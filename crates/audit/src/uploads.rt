@@ -11,6 +11,7 @@ ghost use Rattle.tables_read.specs.All.{AreConstrained, tables_with};
 ghost use Rattle.audit.specs.Parts.{BodiesFit, UploadsFit};
 ghost use Rattle.audit.specs.Uploads.{AreBesides};
 
+use crate::pieces::Pieces;
 use arrived::arrived_among;
 use awaited::awaited_among;
 use judged::{are_placed, judged_until, last_place};
@@ -28,7 +29,7 @@ fn are_besides(alloc: Global, all: &AllRows, judged: &[Judgement]) -> Result<boo
     let Some(arrived) = arrived_among(alloc, &all.arrivals, &all.bodies)? else {
         return Ok(false);
     };
-    let awaited = awaited_among(alloc, &all.pieces, judged, &arrived)?;
+    let awaited = awaited_among(alloc, &Pieces::new(all), judged, &arrived)?;
     if !are_requests(&all.uploads, &all.wants, &arrived, &awaited) {
         return Ok(false);
     }

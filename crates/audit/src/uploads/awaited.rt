@@ -5,14 +5,16 @@ ghost use Rattle.std.specs.List.{filter_map};
 ghost use Rattle.std.specs.Result.{result_ok};
 ghost use Rattle.keep.specs.Book.{is_changes_name};
 ghost use Rattle.records.specs.Records.{changes_in as record_in};
-ghost use Rattle.audit.specs.Uploads.{awaited_view, bytes_among, changes_awaited, found_awaited, has_judgement, printed};
+ghost use Rattle.audit.specs.Uploads.{awaited_view, changes_awaited, found_awaited, has_judgement, printed};
 
+use crate::bodies::bytes_of;
+use crate::pieces::Pieces;
 use crate::uploads::arrived::Arrived;
 use keep::Judgement;
 use records::{Changes, RecordFault};
 use std::alloc::{AllocError, Global};
 use sums::Print;
-use tables::rows::{Arrival, Piece};
+use tables::rows::Arrival;
 
 /// A .changes that waits for a verdict: its arrival, its print, and the record that it is.
 #[derive(Drop)]
@@ -20,19 +22,6 @@ pub struct Awaited<'a> {
     pub arrival: &'a Arrival,
     pub print: Print,
     pub changes: Changes,
-}
-
-/// The bytes of a body.
-fn bytes_of(alloc: Global, pieces: &[(u64, Piece)], id: u64) -> Result<Vec<u8>, AllocError>
-    ensures { IfOk result (λ bytes. bytes.items ≡ bytes_among pieces.now id) }
-{
-    let mut bytes = Vec::new(alloc);
-    for (_, piece) in pieces {
-        if piece.body == id {
-            bytes.extend_from_slice(piece.bytes.as_slice())?;
-        }
-    }
-    Ok(bytes)
 }
 
 /// The record that a text is, or nothing where it is none.
@@ -76,14 +65,14 @@ fn is_judged(judged: &[Judgement], arrived: &Arrived<'_>) -> bool
 }
 
 /// The record that waits for a verdict, where what arrived is one.
-#[tactic(auto, unfolding(crate::specs::Uploads::changes_awaited))]
+#[tactic(auto, unfolding(crate::specs::Uploads::changes_awaited, kept::specs::Kept::bytes_of))]
 fn awaited_changes(
     alloc: Global,
-    pieces: &[(u64, Piece)],
+    pieces: &Pieces<'_>,
     judged: &[Judgement],
     arrived: &Arrived<'_>,
 ) -> Result<Option<Changes>, AllocError>
-    ensures { IfOk result (λ changes. changes ≡ changes_awaited pieces.now judged.now (printed arrived.now)) }
+    ensures { IfOk result (λ changes. changes ≡ changes_awaited pieces.now.all.now.pieces.items judged.now (printed arrived.now)) }
 {
     if !is_changes(arrived.arrival.name.as_str()) {
         return Ok(None);
@@ -98,12 +87,12 @@ fn awaited_changes(
 /// The .changes that wait for a verdict, in the order of their arrival.
 pub fn awaited_among<'a>(
     alloc: Global,
-    pieces: &[(u64, Piece)],
+    pieces: &Pieces<'_>,
     judged: &[Judgement],
     arrived: &[Arrived<'a>],
 ) -> Result<Vec<Awaited<'a>>, AllocError>
     ensures { IfOk result (λ awaited. map awaited_view awaited.items
-        ≡ filter_map (found_awaited pieces.now judged.now) (map printed arrived.now)) }
+        ≡ filter_map (found_awaited pieces.now.all.now.pieces.items judged.now) (map printed arrived.now)) }
 {
     let mut awaited = Vec::new(alloc);
     for one in arrived {

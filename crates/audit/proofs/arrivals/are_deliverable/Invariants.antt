@@ -5,4 +5,4 @@ use Rattle.audit.proofs.arrivals.are_deliverable.Given as goal
 
 -- those so far may be kept
 abbrev pub invariant-loop-row : goal.invariant-loop-row
-invariant-loop-row l = All (MayBeKept (tables_with l.all)) (take l.row-index l.rows)
+invariant-loop-row l = All (MayBeKept (tables_with l.pieces.all.now)) (take l.row-index l.rows)

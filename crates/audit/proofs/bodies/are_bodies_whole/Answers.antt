@@ -2,11 +2,15 @@ use Rattle.std.proofs.Common.{All, IfOk, IsTrue, subst}
 use Rattle.std.specs.Prelude.{◌↔◌}
 use Rattle.std.proofs.lemmas.Result.{IfOk-weaker}
 use Rattle.tables_read.specs.All.{tables_with}
+use Rattle.tables_read.specs.declared.all.AllRows.{AllRows}
 use Rattle.audit.specs.Bodies.{IsBodyFit}
 use Rattle.audit.proofs.BodiesLemmas.{bodies_fit}
 use Rattle.audit.proofs.bodies.are_bodies_whole.Goals as goal
 
 pub returns : goal.returns
 returns c =
-    let t = tables_with c.args.all.now in
-    IfOk-weaker c.are_whole.result _ _ (bodies_fit t) (subst (λ rows. IfOk c.are_whole.result (λ fit. IsTrue fit ↔ All (IsBodyFit t) rows)) c.deref.ensures.value c.are_whole.ensures)
+    let all = c.args.all.now in
+    let whole = c.are_whole.result in
+    IfOk-weaker whole _ _ (bodies_fit (tables_with all))
+    (subst (λ (a : AllRows). IfOk whole (λ fit. IsTrue fit ↔ All (IsBodyFit (tables_with a)) all.bodies.items)) c.new.ensures
+    (subst (λ rows. IfOk whole (λ fit. IsTrue fit ↔ All (IsBodyFit (tables_with c.new.result.all.now)) rows)) c.deref-3.ensures.value c.are_whole.ensures))

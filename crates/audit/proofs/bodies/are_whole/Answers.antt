@@ -7,11 +7,11 @@ use Rattle.audit.proofs.bodies.are_whole.Goals as goal
 
 pub loop-row-preserved : goal.loop-row-preserved
 loop-row-preserved c =
-    All-more (IsBodyFit (tables_with c.args.all.now)) c.args.rows.now c.loop-row.row-index _ c.loop-row-test.true c.loop-row.invariant
+    All-more (IsBodyFit (tables_with c.args.pieces.now.all.now)) c.args.rows.now c.loop-row.row-index _ c.loop-row-test.true c.loop-row.invariant
     (c.in_ok-is_body_whole.ensures.0 c.if-not-branch.false)
 
 pub returns : goal.returns
 returns c = (
-  λ e. subst (All (IsBodyFit (tables_with c.args.all.now))) (take_all c.loop-row.row-index c.args.rows.now c.loop-row-test.false) c.loop-row.invariant,
+  λ e. subst (All (IsBodyFit (tables_with c.args.pieces.now.all.now))) (take_all c.loop-row.row-index c.args.rows.now c.loop-row-test.false) c.loop-row.invariant,
   λ all. refl,
 )

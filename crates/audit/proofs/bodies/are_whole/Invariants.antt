@@ -5,4 +5,4 @@ use Rattle.audit.proofs.bodies.are_whole.Given as goal
 
 -- those so far are whole
 abbrev pub invariant-loop-row : goal.invariant-loop-row
-invariant-loop-row l = All (IsBodyFit (tables_with l.all)) (take l.row-index l.rows)
+invariant-loop-row l = All (IsBodyFit (tables_with l.pieces.all.now)) (take l.row-index l.rows)

@@ -1,9 +1,10 @@
-use Rattle.std.proofs.Common.{◌≡◌, List, Vec, Global, map, ap₂, ◌∙◌, arith}
+use Rattle.std.proofs.Common.{◌≡◌, List, Vec, Global, map, ap, ap₂, ◌∙◌, arith}
 use Rattle.std.specs.List.{filter_map}
 use Rattle.std.proofs.lemmas.Bool.Decides.{when_false, when_true}
 use Rattle.tables.specs.Rows.{Numbered, rows_of}
 use Rattle.tables.specs.declared.rows.Piece.{Piece}
 use Rattle.tables_read.specs.All.{tables_with}
+use Rattle.tables_read.specs.declared.all.AllRows.{AllRows}
 use Rattle.audit.specs.Uploads.{found_awaited, printed, with_print, with_print_in}
 use Rattle.audit.specs.declared.uploads.arrived.Arrived.{Arrived}
 use Rattle.audit.proofs.UploadsFits.{AreAsked, asked_at, besides_other, besides_owned, owned_at, prints_at, some_of, unprinted_at}
@@ -24,10 +25,10 @@ returns-then-not-are_requests c keys fit b =
     besides_other (tables_with all) c.args.judged.now arrived awaited keys fit
     (prints_at c.deref.result.now all.arrivals.items c.deref-2.result.now all.bodies.items arrived c.deref.ensures.value c.deref-2.ensures.value
     (some_of (λ (v : Vec Arrived Global). map with_print v.items ≡ map (with_print_in c.deref-2.result.now) (rows_of c.deref.result.now)) c.in_ok-arrived.field-0 c.in-Some.arrived c.in-Some.is c.in_ok-arrived.ensures.some))
-    (c.in_ok-awaited.ensures ∙ ap₂ (λ (ps : Numbered Piece) (xs : List Arrived). filter_map (found_awaited ps c.args.judged.now) (map printed xs)) c.deref-3.ensures.value c.deref-4.ensures.value)
+    (c.in_ok-awaited.ensures ∙ ap₂ (λ (ps : Numbered Piece) (xs : List Arrived). filter_map (found_awaited ps c.args.judged.now) (map printed xs)) (ap (λ (a : AllRows). a.pieces.items) c.new.ensures) c.deref-3.ensures.value)
     (when_false (AreAsked all.uploads.items all.wants.items arrived awaited) (AreAsked all.uploads.items all.wants.items arrived awaited → ⊥) (grind arith)
-    (asked_at c.are_requests.result c.deref-5.result.now all.uploads.items c.deref-6.result.now all.wants.items c.deref-7.result.now arrived c.deref-8.result.now awaited
-    c.deref-5.ensures.value c.deref-6.ensures.value c.deref-7.ensures.value c.deref-8.ensures.value c.are_requests.ensures))
+    (asked_at c.are_requests.result c.deref-4.result.now all.uploads.items c.deref-5.result.now all.wants.items c.deref-6.result.now arrived c.deref-7.result.now awaited
+    c.deref-4.ensures.value c.deref-5.ensures.value c.deref-6.ensures.value c.deref-7.ensures.value c.are_requests.ensures))
     b
 
 pub returns : goal.returns
@@ -38,9 +39,9 @@ returns c keys fit =
     besides_owned (tables_with all) c.args.judged.now arrived awaited keys fit
     (prints_at c.deref.result.now all.arrivals.items c.deref-2.result.now all.bodies.items arrived c.deref.ensures.value c.deref-2.ensures.value
     (some_of (λ (v : Vec Arrived Global). map with_print v.items ≡ map (with_print_in c.deref-2.result.now) (rows_of c.deref.result.now)) c.in_ok-arrived.field-0 c.in-Some.arrived c.in-Some.is c.in_ok-arrived.ensures.some))
-    (c.in_ok-awaited.ensures ∙ ap₂ (λ (ps : Numbered Piece) (xs : List Arrived). filter_map (found_awaited ps c.args.judged.now) (map printed xs)) c.deref-3.ensures.value c.deref-4.ensures.value)
+    (c.in_ok-awaited.ensures ∙ ap₂ (λ (ps : Numbered Piece) (xs : List Arrived). filter_map (found_awaited ps c.args.judged.now) (map printed xs)) (ap (λ (a : AllRows). a.pieces.items) c.new.ensures) c.deref-3.ensures.value)
     c.are_owned.result
     (when_true (AreAsked all.uploads.items all.wants.items arrived awaited) (AreAsked all.uploads.items all.wants.items arrived awaited → ⊥) (grind arith)
-    (asked_at c.are_requests.result c.deref-5.result.now all.uploads.items c.deref-6.result.now all.wants.items c.deref-7.result.now arrived c.deref-8.result.now awaited
-    c.deref-5.ensures.value c.deref-6.ensures.value c.deref-7.ensures.value c.deref-8.ensures.value c.are_requests.ensures))
-    (owned_at c.are_owned.result c.deref-10.result.now all.uploads.items c.deref-9.result.now all.wants.items c.deref-10.ensures.value c.deref-9.ensures.value c.are_owned.ensures)
+    (asked_at c.are_requests.result c.deref-4.result.now all.uploads.items c.deref-5.result.now all.wants.items c.deref-6.result.now arrived c.deref-7.result.now awaited
+    c.deref-4.ensures.value c.deref-5.ensures.value c.deref-6.ensures.value c.deref-7.ensures.value c.are_requests.ensures))
+    (owned_at c.are_owned.result c.deref-9.result.now all.uploads.items c.deref-8.result.now all.wants.items c.deref-9.ensures.value c.deref-8.ensures.value c.are_owned.ensures)
