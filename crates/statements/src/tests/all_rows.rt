@@ -1,7 +1,8 @@
 //! All rows of a database, read at once.
 
+use crate::tests::checks::holds;
 use keep_rows::is_archive_schema;
-use sqlite::{Alter, Connection, Error};
+use sqlite::{Alter, Connection, Error, Transaction};
 use std::alloc::Global;
 use std::test::Fail;
 use sums::print_of;
@@ -13,6 +14,14 @@ use tables::schema::create_tables;
 use tables_read::read_all;
 
 // These have no clause, so that the proof of a test does not carry the state of each call.
+/// Adds a body of these bytes, which has arrived.
+fn add_body<S: Alter>(tx: &mut Transaction<'_, S>, bytes: &[u8]) -> Result<(), Error> {
+    let id = insert_body(tx, &print_of(bytes))?;
+    insert_piece(tx, id, 1, bytes)?;
+    insert_arrival(tx, "a", id, 5)?;
+    Ok(())
+}
+
 fn make<S: Alter>(conn: &mut Connection<S>, count: u64) -> Result<(), Error> {
     if !conn.is_autocommit() {
         return Ok(());
@@ -20,16 +29,8 @@ fn make<S: Alter>(conn: &mut Connection<S>, count: u64) -> Result<(), Error> {
     let mut tx = conn.transaction();
     create_tables(&mut tx)?;
     insert_meta(&mut tx, 3, b"Codename: box\n")?;
-    for _ in 0..count {
-        let text = tx.query_all("SELECT count(*) FROM bodies", &[])?;
-        let Some(row) = text.first() else {
-            return Ok(());
-        };
-        let n: u64 = row.get(0)?;
-        let bytes = n.to_le_bytes();
-        let id = insert_body(&mut tx, &print_of(&bytes))?;
-        insert_piece(&mut tx, id, 1, &bytes)?;
-        insert_arrival(&mut tx, "a", id, 5)?;
+    for number in 0..count {
+        add_body(&mut tx, &number.to_le_bytes())?;
     }
     tx.commit()
 }
@@ -59,13 +60,13 @@ fn rows_are_read(rt: HostRuntime) -> Result<(), Fail> {
     let alloc = rt.alloc();
     let mut conn = Connection::open_in_memory(alloc)?;
     make(&mut conn, 20)?;
-    assert!(rt; counts(alloc, &mut conn)? == Some((20, 0)));
+    holds(&rt, counts(alloc, &mut conn)? == Some((20, 0)));
     run(
         &mut conn,
         "INSERT INTO dates (rowid, suite, moment) VALUES (7, 'box', 5)",
     )?;
-    assert!(rt; counts(alloc, &mut conn)? == Some((20, 1)));
+    holds(&rt, counts(alloc, &mut conn)? == Some((20, 1)));
     run(&mut conn, "UPDATE dates SET rowid = -7")?;
-    assert!(rt; counts(alloc, &mut conn)? == None);
+    holds(&rt, counts(alloc, &mut conn)? == None);
     Ok(())
 }

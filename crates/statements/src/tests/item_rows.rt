@@ -1,8 +1,10 @@
 //! Rows of items and files.
 
+use crate::tests::checks::{holds, same};
 use para::{Listed, Text};
 use sqlite::{Alter, Connection, Error, Transaction};
 use std::alloc::{AllocError, Global};
+use std::process::Abort;
 use std::test::Fail;
 use sums::Print;
 use tables::bodies::insert_body;
@@ -42,12 +44,30 @@ fn reference(alloc: Global, item: u64, number: u64, path: &str) -> Result<Ref, A
 }
 
 // These have no clause, so that the proof of a test does not carry the state of each call.
-fn fill<S: Alter>(alloc: Global, tx: &mut Transaction<'_, S>) -> Result<(), Error> {
-    let hello = insert_item(tx, &item(alloc, 1, "hello")?)?;
-    let source = insert_item(tx, &item(alloc, 0, "hello")?)?;
-    insert_ref(tx, &reference(alloc, hello, 1, "hello.deb")?)?;
-    insert_ref(tx, &reference(alloc, source, 1, "hello.dsc")?)?;
-    insert_ref(tx, &reference(alloc, source, 2, "hello.tar.xz")?)?;
+fn add_item<S: Alter>(alloc: Global, tx: &mut Transaction<'_, S>, kind: u64) -> Result<u64, Error> {
+    insert_item(tx, &item(alloc, kind, "hello")?)
+}
+
+fn add_ref<S: Alter>(
+    alloc: Global,
+    tx: &mut Transaction<'_, S>,
+    item: u64,
+    number: u64,
+    path: &str,
+) -> Result<(), Error> {
+    insert_ref(tx, &reference(alloc, item, number, path)?)
+}
+
+/// Adds hello as a package and as a source, with their files.
+fn add_items<S: Alter>(alloc: Global, tx: &mut Transaction<'_, S>) -> Result<(), Error> {
+    let hello = add_item(alloc, tx, 1)?;
+    add_ref(alloc, tx, hello, 1, "hello.deb")?;
+    let source = add_item(alloc, tx, 0)?;
+    add_ref(alloc, tx, source, 1, "hello.dsc")?;
+    add_ref(alloc, tx, source, 2, "hello.tar.xz")
+}
+
+fn add_files<S: Alter>(tx: &mut Transaction<'_, S>) -> Result<(), Error> {
     let body = insert_body(tx, &PRINT)?;
     insert_file(tx, "pool/hello.deb", body)?;
     insert_file(tx, "pool/hello.dsc", body)
@@ -59,21 +79,47 @@ fn make<S: Alter>(alloc: Global, conn: &mut Connection<S>) -> Result<(), Error> 
     }
     let mut tx = conn.transaction();
     create_tables(&mut tx)?;
-    fill(alloc, &mut tx)?;
+    add_items(alloc, &mut tx)?;
+    add_files(&mut tx)?;
     tx.commit()
+}
+
+/// The number of what the suite shows as a source.
+fn source_id<S: Alter>(alloc: Global, tx: &mut Transaction<'_, S>) -> Result<Option<u64>, Error> {
+    Ok(item_on(alloc, tx, "box", 0, "hello", "all")?.map(|(id, _)| id))
+}
+
+/// Removes an item, and says how many files it had.
+fn remove_item<S: Alter>(
+    alloc: Global,
+    tx: &mut Transaction<'_, S>,
+    id: u64,
+) -> Result<usize, Error> {
+    let files = refs_of_inside(alloc, tx, id)?.len();
+    delete_refs(tx, id)?;
+    delete_item(tx, id)?;
+    Ok(files)
+}
+
+/// Removes a file of the pool, where it is there.
+fn remove_file<S: Alter>(
+    alloc: Global,
+    tx: &mut Transaction<'_, S>,
+    path: &str,
+) -> Result<(), Error> {
+    if file_at_inside(alloc, tx, path)?.is_some() {
+        delete_file(tx, path)?;
+    }
+    Ok(())
 }
 
 /// Removes what the suite shows as a source, and says how many files that had.
 fn remove_source<S: Alter>(alloc: Global, tx: &mut Transaction<'_, S>) -> Result<usize, Error> {
-    let Some((id, _)) = item_on(alloc, tx, "box", 0, "hello", "all")? else {
+    let Some(id) = source_id(alloc, tx)? else {
         return Ok(0);
     };
-    let files = refs_of_inside(alloc, tx, id)?.len();
-    delete_refs(tx, id)?;
-    delete_item(tx, id)?;
-    if file_at_inside(alloc, tx, "pool/hello.dsc")?.is_some() {
-        delete_file(tx, "pool/hello.dsc")?;
-    }
+    let files = remove_item(alloc, tx, id)?;
+    remove_file(alloc, tx, "pool/hello.dsc")?;
     Ok(files)
 }
 
@@ -93,7 +139,7 @@ fn add_again<S: Alter>(alloc: Global, conn: &mut Connection<S>) -> Result<(), Er
         return Ok(());
     }
     let mut tx = conn.transaction();
-    insert_item(&mut tx, &item(alloc, 1, "hello")?)?;
+    add_item(alloc, &mut tx, 1)?;
     Ok(())
 }
 
@@ -116,6 +162,28 @@ fn counts<S: Alter>(
     Ok((items, refs, files))
 }
 
+/// Checks how many items, files of items and files of the pool there are.
+fn expect_counts<S: Alter>(
+    rt: &impl Abort,
+    alloc: Global,
+    conn: &mut Connection<S>,
+    wanted: (usize, usize, usize),
+) -> Result<(), Fail> {
+    same(rt, &counts(alloc, conn)?, &wanted);
+    Ok(())
+}
+
+/// Checks which body the .dsc of the pool has.
+fn expect_dsc<S: Alter>(
+    rt: &impl Abort,
+    alloc: Global,
+    conn: &mut Connection<S>,
+    wanted: Option<u64>,
+) -> Result<(), Fail> {
+    same(rt, &body_at(alloc, conn, "pool/hello.dsc")?, &wanted);
+    Ok(())
+}
+
 fn body_at<S: Alter>(
     alloc: Global,
     conn: &mut Connection<S>,
@@ -130,13 +198,13 @@ fn items_are_found_and_removed(rt: HostRuntime) -> Result<(), Fail> {
     let alloc = rt.alloc();
     let mut conn = Connection::open_in_memory(alloc)?;
     make(alloc, &mut conn)?;
-    assert_eq!(rt; counts(alloc, &mut conn)?, (2, 3, 2));
-    assert_eq!(rt; refs_of(alloc, &mut conn, 2)?.len(), 2);
-    assert_eq!(rt; body_at(alloc, &mut conn, "pool/hello.dsc")?, Some(1));
-    assert_eq!(rt; remove(alloc, &mut conn)?, 2);
-    assert_eq!(rt; counts(alloc, &mut conn)?, (1, 1, 1));
-    assert_eq!(rt; body_at(alloc, &mut conn, "pool/hello.dsc")?, None);
-    assert_eq!(rt; remove(alloc, &mut conn)?, 0);
+    expect_counts(&rt, alloc, &mut conn, (2, 3, 2))?;
+    same(&rt, &refs_of(alloc, &mut conn, 2)?.len(), &2);
+    expect_dsc(&rt, alloc, &mut conn, Some(1))?;
+    same(&rt, &remove(alloc, &mut conn)?, &2);
+    expect_counts(&rt, alloc, &mut conn, (1, 1, 1))?;
+    expect_dsc(&rt, alloc, &mut conn, None)?;
+    same(&rt, &remove(alloc, &mut conn)?, &0);
     Ok(())
 }
 
@@ -146,9 +214,8 @@ fn a_suite_shows_one_item_under_a_name(rt: HostRuntime) -> Result<(), Fail> {
     let alloc = rt.alloc();
     let mut conn = Connection::open_in_memory(alloc)?;
     make(alloc, &mut conn)?;
-    assert!(rt; add_again(alloc, &mut conn).is_err());
-    assert_eq!(rt; counts(alloc, &mut conn)?, (2, 3, 2));
-    Ok(())
+    holds(&rt, add_again(alloc, &mut conn).is_err());
+    expect_counts(&rt, alloc, &mut conn, (2, 3, 2))
 }
 
 /// An item whose files are there is not removed, and the rows stay.
@@ -157,7 +224,6 @@ fn an_item_goes_after_its_files(rt: HostRuntime) -> Result<(), Fail> {
     let alloc = rt.alloc();
     let mut conn = Connection::open_in_memory(alloc)?;
     make(alloc, &mut conn)?;
-    assert!(rt; remove_too_early(&mut conn).is_err());
-    assert_eq!(rt; counts(alloc, &mut conn)?, (2, 3, 2));
-    Ok(())
+    holds(&rt, remove_too_early(&mut conn).is_err());
+    expect_counts(&rt, alloc, &mut conn, (2, 3, 2))
 }

@@ -1,7 +1,9 @@
 //! Rows of metadata, texts and dates.
 
+use crate::tests::checks::{holds, same};
 use sqlite::{Alter, Connection, Error, Transaction};
 use std::alloc::Global;
+use std::process::Abort;
 use std::test::Fail;
 use tables::dates::{insert_date, select_date, select_dates, update_date};
 use tables::meta::{insert_meta, select_meta};
@@ -77,28 +79,54 @@ fn version<S: Alter>(alloc: Global, conn: &mut Connection<S>) -> Result<Option<u
     Ok(select_meta(alloc, conn)?.map(|meta| meta.version))
 }
 
+/// Checks that there are two texts and one date.
+fn expect_counts<S: Alter>(
+    rt: &impl Abort,
+    alloc: Global,
+    conn: &mut Connection<S>,
+) -> Result<(), Fail> {
+    same(rt, &counts(alloc, conn)?, &(2, 1));
+    Ok(())
+}
+
+/// Checks the text at a path.
+fn expect_text<S: Alter>(
+    rt: &impl Abort,
+    alloc: Global,
+    conn: &mut Connection<S>,
+    path: &str,
+    wanted: Option<&[u8]>,
+) -> Result<(), Fail> {
+    same(rt, &text(alloc, conn, path)?.as_deref(), &wanted);
+    Ok(())
+}
+
+/// Checks the moment of box.
+fn expect_moment<S: Alter>(
+    rt: &impl Abort,
+    alloc: Global,
+    conn: &mut Connection<S>,
+    wanted: u64,
+) -> Result<(), Fail> {
+    same(rt, &moment(alloc, conn, "box")?, &Some(wanted));
+    Ok(())
+}
+
 /// Rows are read as they were put in, and as they were changed.
 #[test]
 fn rows_are_kept_and_changed(rt: HostRuntime) -> Result<(), Fail> {
     let alloc = rt.alloc();
     let mut conn = Connection::open_in_memory(alloc)?;
     make(&mut conn)?;
-    assert_eq!(rt; version(alloc, &mut conn)?, Some(3));
-    assert_eq!(rt; counts(alloc, &mut conn)?, (2, 1));
-    assert_eq!(rt;
-        text(alloc, &mut conn, "a/Release")?.as_deref(),
-        Some(b"one".as_slice())
-    );
-    assert_eq!(rt; moment(alloc, &mut conn, "box")?, Some(4_102_444_799));
+    same(&rt, &version(alloc, &mut conn)?, &Some(3));
+    expect_counts(&rt, alloc, &mut conn)?;
+    expect_text(&rt, alloc, &mut conn, "a/Release", Some(b"one"))?;
+    expect_moment(&rt, alloc, &mut conn, 4_102_444_799)?;
     amend(&mut conn)?;
-    assert_eq!(rt; counts(alloc, &mut conn)?, (2, 1));
-    assert_eq!(rt;
-        text(alloc, &mut conn, "b/Release")?.as_deref(),
-        Some(b"three".as_slice())
-    );
-    assert_eq!(rt; text(alloc, &mut conn, "c/Release")?.as_deref(), None);
-    assert_eq!(rt; moment(alloc, &mut conn, "box")?, Some(0));
-    Ok(())
+    expect_counts(&rt, alloc, &mut conn)?;
+    expect_text(&rt, alloc, &mut conn, "b/Release", Some(b"three"))?;
+    expect_text(&rt, alloc, &mut conn, "c/Release", None)?;
+    expect_moment(&rt, alloc, &mut conn, 0)
 }
 
 /// A second row of one path is refused, and the rows stay.
@@ -107,9 +135,8 @@ fn a_path_comes_once(rt: HostRuntime) -> Result<(), Fail> {
     let alloc = rt.alloc();
     let mut conn = Connection::open_in_memory(alloc)?;
     make(&mut conn)?;
-    assert!(rt; add_twice(&mut conn).is_err());
-    assert_eq!(rt; counts(alloc, &mut conn)?, (2, 1));
-    Ok(())
+    holds(&rt, add_twice(&mut conn).is_err());
+    expect_counts(&rt, alloc, &mut conn)
 }
 
 /// Tables that are there are not made again.
@@ -117,6 +144,6 @@ fn a_path_comes_once(rt: HostRuntime) -> Result<(), Fail> {
 fn tables_are_made_once(rt: HostRuntime) -> Result<(), Fail> {
     let mut conn = Connection::open_in_memory(rt.alloc())?;
     make(&mut conn)?;
-    assert!(rt; make(&mut conn).is_err());
+    holds(&rt, make(&mut conn).is_err());
     Ok(())
 }

@@ -1,5 +1,6 @@
 //! The uploads that want something are found without a look at those that were judged.
 
+use crate::tests::checks::holds;
 use sqlite::{Alter, Connection, Error, Transaction};
 use std::alloc::Global;
 use std::test::Fail;
@@ -22,6 +23,14 @@ fn add_waiting<S: Alter>(tx: &mut Transaction<'_, S>, name: &str) -> Result<(), 
     insert_want(tx, id, "a.tar.xz", &print, false)
 }
 
+/// Adds so many uploads that are judged, at places from 1 on.
+fn add_all_judged<S: Alter>(tx: &mut Transaction<'_, S>, judged: u64) -> Result<(), Error> {
+    for place in 1..=judged {
+        add_judged(tx, place)?;
+    }
+    Ok(())
+}
+
 /// Makes an upload that waits, so many that are judged, and another one that waits.
 fn make<S: Alter>(conn: &mut Connection<S>, judged: u64) -> Result<(), Error> {
     if !conn.is_autocommit() {
@@ -30,9 +39,7 @@ fn make<S: Alter>(conn: &mut Connection<S>, judged: u64) -> Result<(), Error> {
     let mut tx = conn.transaction();
     create_tables(&mut tx)?;
     add_waiting(&mut tx, "b.changes")?;
-    for place in 1..=judged {
-        add_judged(&mut tx, place)?;
-    }
+    add_all_judged(&mut tx, judged)?;
     add_waiting(&mut tx, "c.changes")?;
     tx.commit()
 }
@@ -64,9 +71,12 @@ fn judged_uploads_are_not_read(rt: HostRuntime) -> Result<(), Fail> {
     let mut conn = Connection::open_in_memory(alloc)?;
     make(&mut conn, 300)?;
     conn.set_step_limit(Some(10));
-    assert!(rt; first_three(alloc, &mut conn)? == (Some(1), Some(302), None));
-    assert!(rt; is_there(alloc, &mut conn, 302)?);
-    assert!(rt; !is_there(alloc, &mut conn, 303)?);
-    assert!(rt; !can_read_judged(alloc, &mut conn));
+    holds(
+        &rt,
+        first_three(alloc, &mut conn)? == (Some(1), Some(302), None),
+    );
+    holds(&rt, is_there(alloc, &mut conn, 302)?);
+    holds(&rt, !is_there(alloc, &mut conn, 303)?);
+    holds(&rt, !can_read_judged(alloc, &mut conn));
     Ok(())
 }
