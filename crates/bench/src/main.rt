@@ -27,15 +27,27 @@ mod database;
 mod fault;
 mod upload;
 
-use database::{Work, over_file};
+use database::{Task, Work, over_file};
 use fault::Stop;
 use rules::Config;
 use std::alloc::Global;
 use std::process::ExitCode;
 use std::{env, io};
-use suites::{Shelves, plan_upload};
+use suites::{Shelves, Upload, plan_upload};
 use texts::index_text;
-use upload::{BOX, handed_over, package_upload};
+use upload::{box_config, handed_over, package_upload};
+
+/// Judges an upload, and admits it.
+fn admit_upload(
+    alloc: Global,
+    config: &Config,
+    shelves: &mut Shelves,
+    upload: &Upload,
+) -> Result<(), Stop> {
+    let plan = plan_upload(alloc, config, shelves, upload)?;
+    shelves.apply(alloc, &plan)?;
+    Ok(())
+}
 
 /// Judges the package of this number in this version, and admits it.
 fn admit(
@@ -46,9 +58,7 @@ fn admit(
     version: u64,
 ) -> Result<(), Stop> {
     let upload = package_upload(alloc, number, version)?;
-    let plan = plan_upload(alloc, config, shelves, &upload)?;
-    shelves.apply(alloc, &plan)?;
-    Ok(())
+    admit_upload(alloc, config, shelves, &upload)
 }
 
 /// Shelves that show so many packages.
@@ -93,6 +103,31 @@ fn render(
     Ok(bytes)
 }
 
+/// Shelves that show so many packages, after so many admissions of newer versions.
+fn worked_shelves(
+    alloc: Global,
+    config: &Config,
+    count: u64,
+    admissions: u64,
+) -> Result<Shelves, Stop> {
+    let mut shelves = made_shelves(alloc, config, count)?;
+    admit_more(alloc, config, &mut shelves, count, admissions)?;
+    Ok(shelves)
+}
+
+/// How many packages are shown, and how many bytes the index at a path has, rendered so many times.
+fn shelves_line(
+    alloc: Global,
+    config: &Config,
+    shelves: &Shelves,
+    path: &str,
+    renderings: u64,
+) -> Result<String, Stop> {
+    let bytes = render(alloc, config, shelves, path, renderings)?;
+    let packages = shelves.items().len();
+    Ok(format!(in alloc; "{packages} {bytes}")?)
+}
+
 /// The first workload: how many packages are shown, and how many bytes the index has.
 fn shelves(
     alloc: Global,
@@ -101,12 +136,9 @@ fn shelves(
     path: &str,
     renderings: u64,
 ) -> Result<String, Stop> {
-    let config = Config::read(alloc, BOX)?;
-    let mut shelves = made_shelves(alloc, &config, count)?;
-    admit_more(alloc, &config, &mut shelves, count, admissions)?;
-    let bytes = render(alloc, &config, &shelves, path, renderings)?;
-    let packages = shelves.items().len();
-    Ok(format!(in alloc; "{packages} {bytes}")?)
+    let config = box_config(alloc)?;
+    let shelves = worked_shelves(alloc, &config, count, admissions)?;
+    shelves_line(alloc, &config, &shelves, path, renderings)
 }
 
 /// The second workload: how many lines the runs report.
@@ -132,55 +164,102 @@ fn after_each(word: &str) -> Result<bool, Stop> {
     }
 }
 
-/// Does what the words ask for over a database file, and answers the line to print.
-fn answer_over_file(rt: &HostRuntime, words: &[String]) -> Result<String, Stop> {
-    let (path, work) = match words {
-        [name, path] if name.as_str() == "open" => (path, Work::Opening),
-        [name, path, count] if name.as_str() == "deliveries" => {
-            (path, Work::Deliveries(number(count.as_str())?))
-        }
-        [name, path, count] if name.as_str() == "fetch" => {
-            (path, Work::Fetches(number(count.as_str())?))
-        }
-        [name, path, count, runs] if name.as_str() == "tables" => (
-            path,
-            Work::Uploads {
-                count: number(count.as_str())?,
-                each: after_each(runs.as_str())?,
-            },
-        ),
-        _ => return Err(Stop::Words),
-    };
-    over_file(rt, path.as_str(), work)
+/// The number that the words are.
+fn only_number(words: &[String]) -> Result<u64, Stop> {
+    match words {
+        [count] => number(count.as_str()),
+        _ => Err(Stop::Words),
+    }
 }
 
-/// Does what the words ask for, and answers the line to print.
-fn answer(rt: &HostRuntime, words: &[String]) -> Result<String, Stop> {
-    let alloc = rt.alloc();
+/// The task with uploads that the words ask for.
+fn uploads_task(words: &[String]) -> Result<Task, Stop> {
     match words {
-        [name, count, admissions, path, renderings] if name.as_str() == "shelves" => shelves(
+        [count, runs] => Ok(Task::Uploads {
+            count: number(count.as_str())?,
+            each: after_each(runs.as_str())?,
+        }),
+        _ => Err(Stop::Words),
+    }
+}
+
+/// The task of this name that the words ask for.
+fn task(name: &str, words: &[String]) -> Result<Task, Stop> {
+    match name {
+        "deliveries" => Ok(Task::Deliveries(only_number(words)?)),
+        "fetch" => Ok(Task::Fetches(only_number(words)?)),
+        "tables" => uploads_task(words),
+        _ => Err(Stop::Words),
+    }
+}
+
+/// The work of this name that the words ask for.
+fn work(name: &str, words: &[String]) -> Result<Work, Stop> {
+    match (name, words) {
+        ("open", []) => Ok(Work::Opening),
+        _ => Ok(Work::New(task(name, words)?)),
+    }
+}
+
+/// Does the work of this name over a database file, as the words ask for, and answers the line to print.
+fn answer_over_file(rt: &HostRuntime, name: &str, words: &[String]) -> Result<String, Stop> {
+    match words {
+        [path, words @ ..] => over_file(rt, path.as_str(), work(name, words)?),
+        [] => Err(Stop::Words),
+    }
+}
+
+/// Does the first workload as the words ask for.
+fn answer_shelves(alloc: Global, words: &[String]) -> Result<String, Stop> {
+    match words {
+        [count, admissions, path, renderings] => shelves(
             alloc,
             number(count.as_str())?,
             number(admissions.as_str())?,
             path.as_str(),
             number(renderings.as_str())?,
         ),
-        [name, count, runs] if name.as_str() == "uploads" => uploads(
-            alloc,
-            number(count.as_str())?,
-            after_each(runs.as_str())?,
-        ),
-        _ => answer_over_file(rt, words),
+        _ => Err(Stop::Words),
     }
 }
 
-fn run(rt: &HostRuntime) -> io::Result<u8> {
-    let alloc = rt.alloc();
-    let mut words = Vec::new(alloc);
+/// Does the second workload as the words ask for.
+fn answer_uploads(alloc: Global, words: &[String]) -> Result<String, Stop> {
+    match words {
+        [count, runs] => uploads(alloc, number(count.as_str())?, after_each(runs.as_str())?),
+        _ => Err(Stop::Words),
+    }
+}
+
+/// Does the workload of this name as the words ask for, and answers the line to print.
+fn answer_to(rt: &HostRuntime, name: &str, words: &[String]) -> Result<String, Stop> {
+    match name {
+        "shelves" => answer_shelves(rt.alloc(), words),
+        "uploads" => answer_uploads(rt.alloc(), words),
+        _ => answer_over_file(rt, name, words),
+    }
+}
+
+/// Does what the words ask for, and answers the line to print.
+fn answer(rt: &HostRuntime, words: &[String]) -> Result<String, Stop> {
+    match words {
+        [name, words @ ..] => answer_to(rt, name.as_str(), words),
+        [] => Err(Stop::Words),
+    }
+}
+
+/// The words that the program was given.
+fn given(rt: &HostRuntime) -> io::Result<Vec<String>> {
+    let mut words = Vec::new(rt.alloc());
     for word in env::args(rt)?.skip(1) {
         words.push(word)?;
     }
-    match answer(rt, &words) {
+    Ok(words)
+}
+
+/// Prints a line, or why there is none, and answers the exit status.
+fn tell(rt: &HostRuntime, answered: &Result<String, Stop>) -> io::Result<u8> {
+    match answered {
         Ok(line) => {
             rt.println(format_args!("{line}"))?;
             Ok(0)
@@ -190,6 +269,11 @@ fn run(rt: &HostRuntime) -> io::Result<u8> {
             Ok(1)
         }
     }
+}
+
+fn run(rt: &HostRuntime) -> io::Result<u8> {
+    let words = given(rt)?;
+    tell(rt, &answer(rt, &words))
 }
 
 fn main(rt: HostRuntime) -> ExitCode {
