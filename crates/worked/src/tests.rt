@@ -1,6 +1,7 @@
 //! What the layers answer, row by row.
 
 mod answering;
+mod checks;
 mod configured;
 mod file_lists;
 mod index_texts;

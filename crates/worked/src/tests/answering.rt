@@ -1,5 +1,6 @@
 //! What worked requests are answered, whole and cut, over an archive in memory.
 
+use crate::tests::checks::{holds, holds_at, same};
 use desk::{Connection, DeskFault, Served, answer, attend};
 use keep::PlainKeeper;
 use queue::Archive;
@@ -169,8 +170,14 @@ fn ask(
 fn a_delivery_is_new_and_then_again(rt: HostRuntime) -> Result<(), Fail> {
     for most in [1, 2, 1000] {
         let mut archive = fresh(rt.alloc())?;
-        assert!(rt; ask(rt.alloc(), &mut archive, PUT, most)?.as_slice() == CREATED);
-        assert!(rt; ask(rt.alloc(), &mut archive, PUT, most)?.as_slice() == AGAIN);
+        holds(
+            &rt,
+            ask(rt.alloc(), &mut archive, PUT, most)?.as_slice() == CREATED,
+        );
+        holds(
+            &rt,
+            ask(rt.alloc(), &mut archive, PUT, most)?.as_slice() == AGAIN,
+        );
     }
     Ok(())
 }
@@ -180,12 +187,21 @@ fn refusals_have_their_replies(rt: HostRuntime) -> Result<(), Fail> {
     let mut archive = fresh(rt.alloc())?;
     for (request, reply) in ROWS {
         for most in [1, 1000] {
-            assert!(rt; ask(rt.alloc(), &mut archive, request, most)?.as_slice() == reply);
+            holds(
+                &rt,
+                ask(rt.alloc(), &mut archive, request, most)?.as_slice() == reply,
+            );
         }
     }
     let long = vec![in rt.alloc(); b'a'; 8192]?;
-    assert!(rt; ask(rt.alloc(), &mut archive, long.as_slice(), 1000)?.as_slice() == TOO_LARGE_HEAD);
-    assert!(rt; ask(rt.alloc(), &mut archive, PUT, 1000)?.as_slice() == CREATED);
+    holds(
+        &rt,
+        ask(rt.alloc(), &mut archive, long.as_slice(), 1000)?.as_slice() == TOO_LARGE_HEAD,
+    );
+    holds(
+        &rt,
+        ask(rt.alloc(), &mut archive, PUT, 1000)?.as_slice() == CREATED,
+    );
     Ok(())
 }
 
@@ -196,15 +212,18 @@ fn cut_requests_deliver_nothing(rt: HostRuntime) -> Result<(), Fail> {
         for (length, _) in request.iter().enumerate() {
             let want = if length == 0 { b"" } else { BAD_REQUEST };
             let reply = ask(rt.alloc(), &mut archive, &request[..length], 1000)?;
-            assert!(rt; reply.as_slice() == want, "cut at {length}");
+            holds_at(&rt, reply.as_slice() == want, &length);
         }
     }
     for (length, _) in PUT.iter().enumerate() {
         let want = if length == 0 { b"" } else { BAD_REQUEST };
         let reply = ask(rt.alloc(), &mut archive, &PUT[..length], 1000)?;
-        assert!(rt; reply.as_slice() == want, "cut at {length}");
+        holds_at(&rt, reply.as_slice() == want, &length);
     }
-    assert!(rt; ask(rt.alloc(), &mut archive, PUT, 1000)?.as_slice() == CREATED);
+    holds(
+        &rt,
+        ask(rt.alloc(), &mut archive, PUT, 1000)?.as_slice() == CREATED,
+    );
     Ok(())
 }
 
@@ -214,8 +233,8 @@ fn no_byte_is_no_reply(rt: HostRuntime) -> Result<(), Fail> {
     let mut writer = Vec::new(rt.alloc());
     let mut reader: &[u8] = b"";
     let served = answer(rt.alloc(), &mut archive, &mut reader, &mut writer, MOMENT);
-    assert!(rt; served == Ok(Served::Nothing));
-    assert_eq!(rt; writer.len(), 0);
+    holds(&rt, served == Ok(Served::Nothing));
+    same(&rt, &writer.len(), &0);
     Ok(())
 }
 
@@ -230,10 +249,13 @@ fn a_failing_reader_delivers_nothing(rt: HostRuntime) -> Result<(), Fail> {
         };
         let mut writer = Vec::new(rt.alloc());
         let served = answer(rt.alloc(), &mut archive, &mut reader, &mut writer, MOMENT);
-        assert!(rt; served == Err(DeskFault::ReaderFailed), "cut at {length}");
-        assert_eq!(rt; writer.len(), 0);
+        holds_at(&rt, served == Err(DeskFault::ReaderFailed), &length);
+        same(&rt, &writer.len(), &0);
     }
-    assert!(rt; ask(rt.alloc(), &mut archive, PUT, 1000)?.as_slice() == CREATED);
+    holds(
+        &rt,
+        ask(rt.alloc(), &mut archive, PUT, 1000)?.as_slice() == CREATED,
+    );
     Ok(())
 }
 
@@ -247,10 +269,13 @@ fn expect_cut_reply(rt: &impl Abort, alloc: Global, room: usize, full: Full) -> 
         full,
     };
     let served = answer(alloc, &mut archive, &mut reader, &mut writer, MOMENT);
-    assert!(rt; served == Err(DeskFault::WriterFailed), "room {room}");
-    assert_eq!(rt; writer.taken.len(), room);
-    assert!(rt; CREATED.starts_with(writer.taken.as_slice()));
-    assert!(rt; ask(alloc, &mut archive, PUT, 1000)?.as_slice() == AGAIN);
+    holds_at(&rt, served == Err(DeskFault::WriterFailed), &room);
+    same(&rt, &writer.taken.len(), &room);
+    holds(&rt, CREATED.starts_with(writer.taken.as_slice()));
+    holds(
+        &rt,
+        ask(alloc, &mut archive, PUT, 1000)?.as_slice() == AGAIN,
+    );
     Ok(())
 }
 
@@ -265,11 +290,11 @@ fn a_failing_writer_leaves_the_delivery(rt: HostRuntime) -> Result<(), Fail> {
 
 #[test]
 fn faults_have_numbers_and_texts(rt: HostRuntime) -> Result<(), Fail> {
-    assert_eq!(rt; DeskFault::ReaderFailed.number(), 1);
-    assert_eq!(rt; DeskFault::WriterFailed.number(), 2);
+    same(&rt, &DeskFault::ReaderFailed.number(), &1);
+    same(&rt, &DeskFault::WriterFailed.number(), &2);
     let reader = DeskFault::ReaderFailed.to_string(rt.alloc())?;
     let writer = DeskFault::WriterFailed.to_string(rt.alloc())?;
-    assert!(rt; reader.as_str() == "H1" && writer.as_str() == "H2");
+    holds(&rt, reader.as_str() == "H1" && writer.as_str() == "H2");
     Ok(())
 }
 
@@ -372,8 +397,54 @@ fn an_upload_goes_through(rt: HostRuntime) -> Result<(), Fail> {
     attend(alloc, &mut archive, connections.as_mut_slice());
     for (connection, (_, status, kind, body)) in connections.iter().zip(rows) {
         let want = reply(alloc, status, kind, body)?;
-        assert!(rt; connection.writer.as_slice() == want.as_slice());
+        holds(&rt, connection.writer.as_slice() == want.as_slice());
     }
+    Ok(())
+}
+
+/// Requests, and how the replies of an archive to which no upload was delivered begin.
+const REQUESTS: [(&[u8], &[u8]); 6] = [
+    (b"POST /queue/run HTTP/1.1\r\n\r\n", b"HTTP/1.1 200 OK\r\n"),
+    (
+        b"POST /copy/box/lab/hello HTTP/1.1\r\n\r\n",
+        b"HTTP/1.1 422 Unprocessable Entity\r\n",
+    ),
+    (b"GET /queue HTTP/1.1\r\n\r\n", b"HTTP/1.1 200 OK\r\n"),
+    (b"GET /verdicts HTTP/1.1\r\n\r\n", b"HTTP/1.1 200 OK\r\n"),
+    (
+        b"GET /dists/box/Release HTTP/1.1\r\n\r\n",
+        b"HTTP/1.1 200 OK\r\n",
+    ),
+    (
+        b"GET /pool/x HTTP/1.1\r\n\r\n",
+        b"HTTP/1.1 404 Not Found\r\n",
+    ),
+];
+
+/// Checks how the reply to a request begins.
+fn expect_front(
+    rt: &impl Abort,
+    alloc: Global,
+    archive: &mut Archive<PlainKeeper>,
+    request: &[u8],
+    wanted: &[u8],
+) -> Result<(), Fail> {
+    let reply = ask(alloc, archive, request, 1000)?;
+    holds(rt, reply.starts_with(wanted));
+    Ok(())
+}
+
+/// Delivers a file under the name of a number, which is new.
+fn deliver_new(
+    rt: &impl Abort,
+    alloc: Global,
+    archive: &mut Archive<PlainKeeper>,
+    number: u64,
+) -> Result<(), Fail> {
+    let name = format!(in alloc; "{number}.deb")?;
+    let request = put(alloc, name.as_str(), b"abc")?;
+    let reply = ask(alloc, archive, request.as_slice(), 1000)?;
+    holds(rt, reply.as_slice() == CREATED);
     Ok(())
 }
 
@@ -381,31 +452,10 @@ fn an_upload_goes_through(rt: HostRuntime) -> Result<(), Fail> {
 fn desk_serves(rt: HostRuntime) -> Result<(), Fail> {
     let alloc = rt.alloc();
     let mut archive = fresh(alloc)?;
-    let rows: [(&[u8], &[u8]); 6] = [
-        (b"POST /queue/run HTTP/1.1\r\n\r\n", b"HTTP/1.1 200 OK\r\n"),
-        (
-            b"POST /copy/box/lab/hello HTTP/1.1\r\n\r\n",
-            b"HTTP/1.1 422 Unprocessable Entity\r\n",
-        ),
-        (b"GET /queue HTTP/1.1\r\n\r\n", b"HTTP/1.1 200 OK\r\n"),
-        (b"GET /verdicts HTTP/1.1\r\n\r\n", b"HTTP/1.1 200 OK\r\n"),
-        (
-            b"GET /dists/box/Release HTTP/1.1\r\n\r\n",
-            b"HTTP/1.1 200 OK\r\n",
-        ),
-        (
-            b"GET /pool/x HTTP/1.1\r\n\r\n",
-            b"HTTP/1.1 404 Not Found\r\n",
-        ),
-    ];
     for number in 0..100 {
-        let name = format!(in alloc; "{number}.deb")?;
-        let request = put(alloc, name.as_str(), b"abc")?;
-        let reply = ask(alloc, &mut archive, request.as_slice(), 1000)?;
-        assert!(rt; reply.as_slice() == CREATED);
-        for (request, want) in rows {
-            let reply = ask(alloc, &mut archive, request, 1000)?;
-            assert!(rt; reply.starts_with(want));
+        deliver_new(&rt, alloc, &mut archive, number)?;
+        for (request, wanted) in REQUESTS {
+            expect_front(&rt, alloc, &mut archive, request, wanted)?;
         }
     }
     Ok(())

@@ -1,6 +1,7 @@
 ghost use Rattle.std.specs.Prelude.{◌≡◌};
 ghost use Rattle.sums.specs.Prints.{same_print};
 
+use crate::tests::checks::{holds, same};
 use para::read_one;
 use std::alloc::Global;
 use std::process::Abort;
@@ -40,10 +41,14 @@ fn expect_print(
     size: u64,
     digests: &[&str; 3],
 ) -> Result<(), Fail> {
-    assert_eq!(rt; print.size, size);
-    assert_eq!(rt; hex::encode(alloc, &print.md5)?.as_str(), digests[0]);
-    assert_eq!(rt; hex::encode(alloc, &print.sha1)?.as_str(), digests[1]);
-    assert_eq!(rt; hex::encode(alloc, &print.sha256)?.as_str(), digests[2]);
+    same(&rt, &print.size, &size);
+    same(&rt, &hex::encode(alloc, &print.md5)?.as_str(), &digests[0]);
+    same(&rt, &hex::encode(alloc, &print.sha1)?.as_str(), &digests[1]);
+    same(
+        &rt,
+        &hex::encode(alloc, &print.sha256)?.as_str(),
+        &digests[2],
+    );
     Ok(())
 }
 
@@ -73,7 +78,7 @@ fn names_of_files(rt: HostRuntime) {
         ("a b", false),
         ("-a", false),
     ] {
-        assert_eq!(rt; is_file_name(name), expected);
+        same(&rt, &is_file_name(name), &expected);
     }
 }
 
@@ -122,7 +127,7 @@ fn faults_of_fields(rt: HostRuntime) -> Result<(), Fail> {
         let text = lists_text(alloc, lists)?;
         let text = text.as_str().replace(alloc, old, new)?;
         let found = answer(alloc, text.as_str(), ListKind::Changes)?;
-        assert_eq!(rt; found.as_str(), expected);
+        same(&rt, &found.as_str(), &expected);
     }
     Ok(())
 }
@@ -185,7 +190,7 @@ fn faults_of_lines(rt: HostRuntime) -> Result<(), Fail> {
     for (sha1, sha256, files, expected) in LINES {
         let text = lists_text(alloc, [sha1, sha256, files])?;
         let found = answer(alloc, text.as_str(), ListKind::Changes)?;
-        assert_eq!(rt; found.as_str(), expected);
+        same(&rt, &found.as_str(), &expected);
     }
     Ok(())
 }
@@ -204,7 +209,7 @@ fn numbers_of_entries(rt: HostRuntime) -> Result<(), Fail> {
         }
         let text = lists_text(alloc, [sha1.as_str(), sha256.as_str(), files.as_str()])?;
         let found = answer(alloc, text.as_str(), ListKind::Dsc)?;
-        assert_eq!(rt; found.as_str(), expected);
+        same(&rt, &found.as_str(), &expected);
     }
     Ok(())
 }
@@ -222,6 +227,27 @@ fn two_files(alloc: Global, words: &str) -> Result<String, Fail> {
     lists_text(alloc, [sha1.as_str(), sha256.as_str(), files.as_str()])
 }
 
+/// Checks an entry: its name, the print of its body, and its section and priority.
+fn expect_entry(
+    rt: &impl Abort,
+    entry: Option<&Entry>,
+    name: &str,
+    body: &[u8],
+    words: (&str, &str),
+) -> Result<(), Fail> {
+    let Some(entry) = entry else {
+        return Err(Fail::from("no entry"));
+    };
+    same(rt, &entry.name.as_str(), &name);
+    holds(rt, is_same(&entry.print, &print_of(body)));
+    same(
+        rt,
+        &(entry.section.as_str(), entry.priority.as_str()),
+        &words,
+    );
+    Ok(())
+}
+
 #[test]
 fn lists_are_joined_by_name(rt: HostRuntime) -> Result<(), Fail> {
     let alloc = rt.alloc();
@@ -237,14 +263,11 @@ fn lists_are_joined_by_name(rt: HostRuntime) -> Result<(), Fail> {
         let text = two_files(alloc, words)?;
         let paragraph = read_one(alloc, text.as_bytes(), LIMIT)?;
         let entries = read_lists(alloc, &paragraph, kind)?;
-        assert_eq!(rt; entries.len(), 2);
-        for (i, body) in [b"abc".as_slice(), b""].iter().enumerate() {
-            let name = ["b", "c"][i];
-            assert_eq!(rt; entries[i].name.as_str(), name);
-            assert!(rt; is_same(&entries[i].print, &print_of(body)));
-            assert_eq!(rt; entries[i].section.as_str(), sections[i]);
-            assert_eq!(rt; entries[i].priority.as_str(), priorities[i]);
-        }
+        same(&rt, &entries.len(), &2);
+        let first = (sections[0], priorities[0]);
+        expect_entry(&rt, entries.get(0), "b", b"abc", first)?;
+        let second = (sections[1], priorities[1]);
+        expect_entry(&rt, entries.get(1), "c", b"", second)?;
     }
     Ok(())
 }
@@ -257,8 +280,8 @@ fn numbers_of_faults(rt: HostRuntime) -> Result<(), Fail> {
         (ListFault::ListAbsent, 1, "S1"),
         (ListFault::BadCount, 9, "S9"),
     ] {
-        assert_eq!(rt; fault.number(), number);
-        assert_eq!(rt; format!(in alloc; "{fault}")?.as_str(), text);
+        same(&rt, &fault.number(), &number);
+        same(&rt, &format!(in alloc; "{fault}")?.as_str(), &text);
     }
     lists_are_read();
     one_reading();

@@ -1,5 +1,6 @@
 //! What stands in indices, and at which paths.
 
+use crate::tests::checks::same_at;
 use rules::Config;
 use std::test::Fail;
 use suites::Shelves;
@@ -68,7 +69,7 @@ fn dates_are_written(rt: HostRuntime) -> Result<(), Fail> {
         (4_102_444_799, "Thu, 31 Dec 2099 23:59:59 UTC"),
     ] {
         let text = date_text(rt.alloc(), moment)?;
-        assert_eq!(rt; text.as_str(), expected, "{moment}");
+        same_at(&rt, &text.as_str(), &expected, &moment);
     }
     Ok(())
 }
@@ -102,7 +103,12 @@ fn indices_stand_at_their_paths(rt: HostRuntime) -> Result<(), Fail> {
         ("", None),
     ] {
         let text = text_at(&rt, path)?;
-        assert_eq!(rt; text.as_ref().map(|text| text.as_str()), expected, "{path}");
+        same_at(
+            &rt,
+            &text.as_ref().map(|text| text.as_str()),
+            &expected,
+            &path,
+        );
     }
     Ok(())
 }

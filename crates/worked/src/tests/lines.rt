@@ -1,5 +1,6 @@
 //! The words of a line, and what they say.
 
+use crate::tests::checks::{holds_at, same, same_at};
 use command_line::{LineFault, line};
 use std::alloc::Global;
 use std::test::Fail;
@@ -75,7 +76,7 @@ fn lines_are_read(rt: HostRuntime) -> Result<(), Fail> {
     ];
     for (words, wanted) in rows {
         let said = said(alloc, words)?;
-        assert_eq!(rt; said.as_str(), wanted, "{words:?}");
+        same_at(&rt, &said.as_str(), &wanted, &words);
     }
     Ok(())
 }
@@ -131,7 +132,7 @@ fn other_words_are_refused(rt: HostRuntime) -> Result<(), Fail> {
     ];
     for words in rows {
         let said = said(alloc, words)?;
-        assert_eq!(rt; said.as_str(), "L2", "{words:?}");
+        same_at(&rt, &said.as_str(), &"L2", &words);
     }
     Ok(())
 }
@@ -150,7 +151,7 @@ fn help_is_answered(rt: HostRuntime) -> Result<(), Fail> {
     ];
     for words in rows {
         let said = said(alloc, words)?;
-        assert_eq!(rt; said.as_str(), "L1", "{words:?}");
+        same_at(&rt, &said.as_str(), &"L1", &words);
     }
     Ok(())
 }
@@ -159,18 +160,18 @@ fn help_is_answered(rt: HostRuntime) -> Result<(), Fail> {
 #[test]
 fn faults_have_texts(rt: HostRuntime) -> Result<(), Fail> {
     let alloc = rt.alloc();
-    assert_eq!(rt; LineFault::OutOfMemory.number(), 0);
+    same(&rt, &LineFault::OutOfMemory.number(), &0);
     let Err(LineFault::Refused(error)) = line(alloc, &["run", "--db", "a.db"]) else {
         return Err(Fail::from("no refusal"));
     };
     let text = format!(in alloc; "{error}")?;
-    assert!(rt; text.contains("--at <N>"), "{text}");
-    assert_eq!(rt; LineFault::Refused(error).number(), 2);
+    holds_at(&rt, text.contains("--at <N>"), &text);
+    same(&rt, &LineFault::Refused(error).number(), &2);
     let Err(LineFault::Help(error)) = line(alloc, &["serve", "--help"]) else {
         return Err(Fail::from("no help"));
     };
     let text = format!(in alloc; "{error}")?;
-    assert!(rt; text.contains("<ADDRESS> <COUNT>"), "{text}");
-    assert_eq!(rt; LineFault::Help(error).number(), 1);
+    holds_at(&rt, text.contains("<ADDRESS> <COUNT>"), &text);
+    same(&rt, &LineFault::Help(error).number(), &1);
     Ok(())
 }

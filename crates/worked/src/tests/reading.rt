@@ -1,5 +1,6 @@
 //! What is read of a connection: the answer to each request, and how many bytes are left unread.
 
+use crate::tests::checks::{holds, holds_at, same, same_at};
 use desk::head::{Refusal, Wanted, read_wanted};
 use desk::request::{Request, read_request};
 use desk::transfer::ReaderFailed;
@@ -215,7 +216,7 @@ fn answers_to_requests(rt: HostRuntime) -> Result<(), Fail> {
     for (request, want, left) in rows {
         for most in [1, 2, 7, 1000] {
             let got = status(rt.alloc(), request, most)?;
-            assert_eq!(rt; got, (want, left), "{}", request.escape_ascii());
+            same_at(&rt, &got, &(want, left), &request.escape_ascii());
         }
     }
     Ok(())
@@ -225,23 +226,27 @@ fn answers_to_requests(rt: HostRuntime) -> Result<(), Fail> {
 fn limits_of_a_head(rt: HostRuntime) -> Result<(), Fail> {
     let long = vec![in rt.alloc(); b'a'; 9000]?;
     let long = long.as_slice();
-    assert_eq!(rt; status(rt.alloc(), &long[..8191], 1000)?, (400, 0));
-    assert_eq!(rt; status(rt.alloc(), &long[..8192], 1000)?, (431, 0));
-    assert_eq!(rt; status(rt.alloc(), long, 1000)?, (431, 808));
+    same(&rt, &status(rt.alloc(), &long[..8191], 1000)?, &(400, 0));
+    same(&rt, &status(rt.alloc(), &long[..8192], 1000)?, &(431, 0));
+    same(&rt, &status(rt.alloc(), long, 1000)?, &(431, 808));
     for (count, want) in [(32, 200), (33, 400)] {
         let mut head = Vec::from_slice(rt.alloc(), b"GET /queue HTTP/1.1\r\n")?;
         for _ in 0..count {
             head.extend_from_slice(b"A: b\r\n")?;
         }
         head.extend_from_slice(b"\r\n")?;
-        assert_eq!(rt; status(rt.alloc(), head.as_slice(), 1000)?, (want, 0));
+        same(&rt, &status(rt.alloc(), head.as_slice(), 1000)?, &(want, 0));
     }
     for (padding, want, left) in [(8164, 200, 0), (8165, 431, 1)] {
         let padding = vec![in rt.alloc(); b'b'; padding]?;
         let mut head = Vec::from_slice(rt.alloc(), b"GET /queue HTTP/1.1\r\nA: ")?;
         head.extend_from_slice(padding.as_slice())?;
         head.extend_from_slice(b"\r\n\r\n")?;
-        assert_eq!(rt; status(rt.alloc(), head.as_slice(), 1000)?, (want, left));
+        same(
+            &rt,
+            &status(rt.alloc(), head.as_slice(), 1000)?,
+            &(want, left),
+        );
     }
     Ok(())
 }
@@ -251,14 +256,14 @@ fn cut_at_each_byte(rt: HostRuntime) -> Result<(), Fail> {
     for length in 0..PUT.len() {
         let want = if length == 0 { 0 } else { 400 };
         let got = status(rt.alloc(), &PUT[..length], 7)?;
-        assert_eq!(rt; got, (want, 0), "cut at {length}");
+        same_at(&rt, &got, &(want, 0), &length);
         let mut reader = Pieces {
             bytes: &PUT[..length],
             most: 7,
             fails: true,
         };
         let got = read_request(rt.alloc(), &mut reader);
-        assert!(rt; matches!(got, Err(ReaderFailed)), "failed at {length}");
+        holds_at(&rt, matches!(got, Err(ReaderFailed)), &length);
     }
     Ok(())
 }
@@ -269,13 +274,16 @@ fn what_is_wanted(rt: HostRuntime) -> Result<(), Fail> {
     let Ok(Wanted::Deliver { name, length }) = read_wanted(rt.alloc(), head) else {
         return Err(Fail::new("another request"));
     };
-    assert!(rt; name.as_str() == "a b");
-    assert_eq!(rt; length, 3);
+    holds(&rt, name.as_str() == "a b");
+    same(&rt, &length, &3);
     let head = b"POST /copy/box/lab/a%2Fb HTTP/1.1\r\n\r\n";
     let Ok(Wanted::Copy { from, to, source }) = read_wanted(rt.alloc(), head) else {
         return Err(Fail::new("another request"));
     };
-    assert!(rt; from.as_str() == "box" && to.as_str() == "lab" && source.as_str() == "a/b");
+    holds(
+        &rt,
+        from.as_str() == "box" && to.as_str() == "lab" && source.as_str() == "a/b",
+    );
     for (head, want_path, want_pool) in [
         (
             b"GET /dists/box/Release HTTP/1.1\r\n\r\n".as_slice(),
@@ -291,8 +299,8 @@ fn what_is_wanted(rt: HostRuntime) -> Result<(), Fail> {
         let Ok(Wanted::Fetch { path, is_pool }) = read_wanted(rt.alloc(), head) else {
             return Err(Fail::new("another request"));
         };
-        assert!(rt; path.as_str() == want_path);
-        assert_eq!(rt; is_pool, want_pool);
+        holds(&rt, path.as_str() == want_path);
+        same(&rt, &is_pool, &want_pool);
     }
     for (head, want) in [
         (b"GET /incoming/a HTTP/1.1\r\n\r\n".as_slice(), "PUT"),
@@ -302,7 +310,7 @@ fn what_is_wanted(rt: HostRuntime) -> Result<(), Fail> {
         let Err(Refusal::MethodNotAllowed(method)) = read_wanted(rt.alloc(), head) else {
             return Err(Fail::new("another request"));
         };
-        assert!(rt; method.as_str() == want);
+        holds(&rt, method.as_str() == want);
     }
     Ok(())
 }

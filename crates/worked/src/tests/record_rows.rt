@@ -1,5 +1,6 @@
 //! What records are read, and what the faults of others are.
 
+use crate::tests::checks::{holds_at, same, same_at};
 use records::{Changes, Dsc, FieldName, RecordFault, Sidecar};
 use std::alloc::Global;
 use std::process::Abort;
@@ -43,10 +44,10 @@ fn expect_rows(
     rows: &[(&str, &str, &str)],
 ) -> Result<(), Fail> {
     for (old, new, wanted) in rows {
-        assert!(rt; text.contains(*old), "no {old}");
+        holds_at(&rt, text.contains(*old), &old);
         let edited = text.replace(alloc, *old, new)?;
         let found = answer(alloc, record, edited.as_bytes())?;
-        assert_eq!(rt; found.as_str(), *wanted, "{new} for {old}");
+        same_at(&rt, &found.as_str(), wanted, &new);
     }
     Ok(())
 }
@@ -76,6 +77,6 @@ fn faults_have_numbers(rt: HostRuntime) {
         (RecordFault::OwnField, 10),
     ];
     for (fault, wanted) in rows {
-        assert_eq!(rt; fault.number(), wanted);
+        same(&rt, &fault.number(), &wanted);
     }
 }

@@ -1,7 +1,9 @@
 //! What is a configuration, and what the faults of other texts are.
 
 use super::*;
+use crate::tests::checks::{holds, same, same_at};
 use rules::component_of_section;
+use std::process::Abort;
 use std::test::Fail;
 
 #[test]
@@ -57,66 +59,87 @@ fn texts_are_read_or_refused(rt: HostRuntime) -> Result<(), Fail> {
             "F5",
         ),
     ] {
-        assert_eq!(rt; answer_to(rt.alloc(), text)?.as_str(), expected);
+        same(&rt, &answer_to(rt.alloc(), text)?.as_str(), &expected);
     }
+    Ok(())
+}
+
+/// Lines on uploaders, and what is answered to a configuration with them.
+const UPLOADER_LINES: [(&str, &str); 13] = [
+    (" * by anybody", "read"),
+    (" hel* by anybody", "read"),
+    (" hello by Bob by Ann", "read"),
+    (" hello by Bob <bob@example.org>", "read"),
+    (" hello  by Bob", "F5"),
+    ("  hello by Bob", "F5"),
+    (" hello by  Bob", "F5"),
+    (" hello by", "F5"),
+    (" h by Bob", "F5"),
+    (" Hello by Bob", "F5"),
+    (" -* by Bob", "F5"),
+    (" hel** by Bob", "F5"),
+    (" by Bob", "F5"),
+];
+
+/// Checks what is answered to a configuration of box with a line on uploaders.
+fn expect_for_uploaders(
+    rt: &impl Abort,
+    alloc: Global,
+    line: &str,
+    expected: &str,
+) -> Result<(), Fail> {
+    let text = format!(in alloc; "{BOX}Uploaders:\n{line}\n")?;
+    let found = answer_to(alloc, text.as_str())?;
+    same_at(rt, &found.as_str(), &expected, &line);
     Ok(())
 }
 
 #[test]
 fn uploader_lines_are_read_or_refused(rt: HostRuntime) -> Result<(), Fail> {
-    for (line, expected) in [
-        (" * by anybody", "read"),
-        (" hel* by anybody", "read"),
-        (" hello by Bob by Ann", "read"),
-        (" hello by Bob <bob@example.org>", "read"),
-        (" hello  by Bob", "F5"),
-        ("  hello by Bob", "F5"),
-        (" hello by  Bob", "F5"),
-        (" hello by", "F5"),
-        (" h by Bob", "F5"),
-        (" Hello by Bob", "F5"),
-        (" -* by Bob", "F5"),
-        (" hel** by Bob", "F5"),
-        (" by Bob", "F5"),
-    ] {
-        let text = format!(in rt.alloc(); "{BOX}Uploaders:\n{line}\n")?;
-        assert_eq!(rt;
-            answer_to(rt.alloc(), text.as_str())?.as_str(),
-            expected,
-            "{line}"
-        );
+    for (line, expected) in UPLOADER_LINES {
+        expect_for_uploaders(&rt, rt.alloc(), line, expected)?;
     }
+    Ok(())
+}
+
+/// A configuration of so many lines on uploaders.
+fn with_uploaders(alloc: Global, count: usize) -> Result<String, Fail> {
+    let front = format!(in alloc; "{BOX}Uploaders:\n")?;
+    Ok(repeated(alloc, front.as_str(), " * by anybody\n", count)?)
+}
+
+/// A configuration of so many suites.
+fn with_suites(alloc: Global, count: usize) -> Result<String, Fail> {
+    let mut text = String::new(alloc);
+    for i in 0..count {
+        let suite = format!(in alloc;
+            "Codename: s{i}\nArchitectures: amd64\nComponents: main\n\n"
+        )?;
+        text.push_str(suite.as_str())?;
+    }
+    Ok(text)
+}
+
+/// Checks what is answered to a configuration.
+fn expect_answer(rt: &impl Abort, alloc: Global, text: &str, expected: &str) -> Result<(), Fail> {
+    let found = answer_to(alloc, text)?;
+    same(rt, &found.as_str(), &expected);
     Ok(())
 }
 
 #[test]
 fn limits_hold(rt: HostRuntime) -> Result<(), Fail> {
+    let alloc = rt.alloc();
     for (count, expected) in [(256, "read"), (257, "F6")] {
-        let front = format!(in rt.alloc(); "{BOX}Uploaders:\n")?;
-        let text = repeated(rt.alloc(), front.as_str(), " * by anybody\n", count)?;
-        assert_eq!(rt;
-            answer_to(rt.alloc(), text.as_str())?.as_str(),
-            expected,
-            "{count}"
-        );
+        let text = with_uploaders(alloc, count)?;
+        expect_answer(&rt, alloc, text.as_str(), expected)?;
     }
     for (count, expected) in [(16, "read"), (17, "F6")] {
-        let mut text = String::new(rt.alloc());
-        for i in 0..count {
-            let suite = format!(in rt.alloc();
-                "Codename: s{i}\nArchitectures: amd64\nComponents: main\n\n"
-            )?;
-            text.push_str(suite.as_str())?;
-        }
-        assert_eq!(rt;
-            answer_to(rt.alloc(), text.as_str())?.as_str(),
-            expected,
-            "{count}"
-        );
+        let text = with_suites(alloc, count)?;
+        expect_answer(&rt, alloc, text.as_str(), expected)?;
     }
-    let long = repeated(rt.alloc(), BOX, "\n", 1_048_577)?;
-    assert_eq!(rt; answer_to(rt.alloc(), long.as_str())?.as_str(), "F1 P10");
-    Ok(())
+    let long = repeated(alloc, BOX, "\n", 1_048_577)?;
+    expect_answer(&rt, alloc, long.as_str(), "F1 P10")
 }
 
 #[test]
@@ -124,8 +147,8 @@ fn a_configuration_has_its_text_and_suites(rt: HostRuntime) -> Result<(), Fail> 
     let text =
         "Codename: box\nSuite: stable\nArchitectures: amd64\nComponents: main\n\nCodename: lab\nArchitectures: source\nComponents: main\nAlsoAcceptFor: try\n";
     let config = Config::read(rt.alloc(), text.as_bytes())?;
-    assert!(rt; config.text() == text.as_bytes());
-    assert_eq!(rt; config.suites().len(), 2);
+    holds(&rt, config.text() == text.as_bytes());
+    same(&rt, &config.suites().len(), &2);
     for (name, expected) in [
         ("box", Some(0)),
         ("stable", Some(0)),
@@ -133,7 +156,7 @@ fn a_configuration_has_its_text_and_suites(rt: HostRuntime) -> Result<(), Fail> 
         ("try", Some(1)),
         ("moon", None),
     ] {
-        assert_eq!(rt; config.suite_for(name), expected);
+        same(&rt, &config.suite_for(name), &expected);
     }
     Ok(())
 }
@@ -153,14 +176,23 @@ fn suites_keep_architectures_and_components(rt: HostRuntime) -> Result<(), Fail>
         ("all", true, false),
         ("armhf", false, false),
     ] {
-        assert_eq!(rt; with_binaries.keeps_architecture(name), first);
-        assert_eq!(rt; sources_alone.keeps_architecture(name), second);
+        same(&rt, &with_binaries.keeps_architecture(name), &first);
+        same(&rt, &sources_alone.keeps_architecture(name), &second);
     }
-    assert!(rt; with_binaries.claims("box") && !with_binaries.claims("lab"));
-    assert!(rt; with_binaries.keeps_component("main") && !with_binaries.keeps_component("extra"));
-    assert!(rt; with_binaries.allows("hello", "Ann") && !sources_alone.allows("hello", "Ann"));
-    assert_eq!(rt; component_of_section("extra/utils"), "extra");
-    assert_eq!(rt; component_of_section("utils"), "main");
+    holds(
+        &rt,
+        with_binaries.claims("box") && !with_binaries.claims("lab"),
+    );
+    holds(
+        &rt,
+        with_binaries.keeps_component("main") && !with_binaries.keeps_component("extra"),
+    );
+    holds(
+        &rt,
+        with_binaries.allows("hello", "Ann") && !sources_alone.allows("hello", "Ann"),
+    );
+    same(&rt, &component_of_section("extra/utils"), &"extra");
+    same(&rt, &component_of_section("utils"), &"main");
     Ok(())
 }
 
@@ -174,6 +206,6 @@ fn faults_are_numbered(rt: HostRuntime) {
         (ConfigFault::BadRule, 5),
         (ConfigFault::Limits, 6),
     ] {
-        assert_eq!(rt; fault.number(), number);
+        same(&rt, &fault.number(), &number);
     }
 }

@@ -1,21 +1,26 @@
 //! What a configuration says of an upload.
 
 use super::*;
+use crate::tests::checks::same_at;
 use records::Changes;
 use rules::{Place, judge};
+use std::alloc::Global;
 use std::test::Fail;
 
-/// The number of the verdict of an upload of one file, 0 where it has a place.
-fn verdict_of(
-    rt: &HostRuntime,
-    uploaders: &str,
+/// The configuration of box with these lines on uploaders.
+fn config_with(alloc: Global, uploaders: &str) -> Result<Config, Fail> {
+    let text = format!(in alloc; "{BOX}{uploaders}")?;
+    Ok(Config::read(alloc, text.as_bytes())?)
+}
+
+/// The .changes of an upload of one file.
+fn changes_with(
+    alloc: Global,
     distribution: &str,
     architecture: &str,
     section: &str,
-) -> Result<u8, Fail> {
-    let text = format!(in rt.alloc(); "{BOX}{uploaders}")?;
-    let config = Config::read(rt.alloc(), text.as_bytes())?;
-    let text = format!(in rt.alloc();
+) -> Result<Changes, Fail> {
+    let text = format!(in alloc;
         "\
 Format: 1.8
 Date: Sat, 02 Jul 2016 05:00:00 +0000
@@ -34,45 +39,56 @@ Files:
  900150983cd24fb0d6963f7d28e17f72 3 {section} optional hello_1.0-1_amd64.deb
 "
     )?;
-    let changes = Changes::read(rt.alloc(), text.as_bytes())?;
-    match judge(&config, &changes) {
+    Ok(Changes::read(alloc, text.as_bytes())?)
+}
+
+/// The number of the verdict of an upload, 0 where it has the only place, and 255 where another one.
+fn verdict_number(config: &Config, changes: &Changes) -> u8 {
+    match judge(config, changes) {
         Ok(
             Place {
                 suite: 0,
                 component: 0,
             },
-        ) => Ok(0),
-        Ok(_) => Ok(255),
-        Err(verdict) => Ok(verdict.number()),
+        ) => 0,
+        Ok(_) => 255,
+        Err(verdict) => verdict.number(),
     }
 }
 
+/// Lines on uploaders, an upload's distribution, architecture and section, and the number of its verdict.
+const ROWS: [(&str, &str, &str, &str, u8); 12] = [
+    ("", "box", "amd64", "utils", 0),
+    ("", "box", "all source", "main/utils", 0),
+    ("", "moon", "amd64", "utils", 1),
+    ("", "box", "armhf", "utils", 2),
+    ("Uploaders:\n hello by Bob\n", "box", "amd64", "utils", 3),
+    ("Uploaders:\n", "box", "amd64", "utils", 3),
+    ("Uploaders:\n hel* by anybody\n", "box", "amd64", "utils", 0),
+    (
+        "Uploaders:\n hello by Ann <ann@example.org>\n",
+        "box",
+        "amd64",
+        "utils",
+        0,
+    ),
+    ("", "box", "amd64", "extra/utils", 4),
+    ("Uploaders:\n", "moon", "armhf", "extra/utils", 1),
+    ("Uploaders:\n", "box", "armhf", "extra/utils", 2),
+    ("Uploaders:\n", "box", "amd64", "extra/utils", 3),
+];
+
 #[test]
 fn uploads_are_judged(rt: HostRuntime) -> Result<(), Fail> {
-    for (uploaders, distribution, architecture, section, expected) in [
-        ("", "box", "amd64", "utils", 0),
-        ("", "box", "all source", "main/utils", 0),
-        ("", "moon", "amd64", "utils", 1),
-        ("", "box", "armhf", "utils", 2),
-        ("Uploaders:\n hello by Bob\n", "box", "amd64", "utils", 3),
-        ("Uploaders:\n", "box", "amd64", "utils", 3),
-        ("Uploaders:\n hel* by anybody\n", "box", "amd64", "utils", 0),
-        (
-            "Uploaders:\n hello by Ann <ann@example.org>\n",
-            "box",
-            "amd64",
-            "utils",
-            0,
-        ),
-        ("", "box", "amd64", "extra/utils", 4),
-        ("Uploaders:\n", "moon", "armhf", "extra/utils", 1),
-        ("Uploaders:\n", "box", "armhf", "extra/utils", 2),
-        ("Uploaders:\n", "box", "amd64", "extra/utils", 3),
-    ] {
-        assert_eq!(rt;
-            verdict_of(&rt, uploaders, distribution, architecture, section)?,
-            expected,
-            "{uploaders} {distribution} {architecture} {section}"
+    let alloc = rt.alloc();
+    for (uploaders, distribution, architecture, section, expected) in ROWS {
+        let config = config_with(alloc, uploaders)?;
+        let changes = changes_with(alloc, distribution, architecture, section)?;
+        same_at(
+            &rt,
+            &verdict_number(&config, &changes),
+            &expected,
+            &uploaders,
         );
     }
     Ok(())

@@ -1,4 +1,5 @@
 use super::{Record, answer, expect_rows, filled};
+use crate::tests::checks::{same, same_at};
 use records::Changes;
 use std::alloc::Global;
 use std::test::Fail;
@@ -33,19 +34,19 @@ const LIMIT: usize = 1_048_576;
 #[test]
 fn hello_is_read(rt: HostRuntime) -> Result<(), Fail> {
     let changes = Changes::read(rt.alloc(), CHANGES.as_bytes())?;
-    assert_eq!(rt; changes.source(), "hello");
-    assert_eq!(rt; changes.version().text(), "1.0-1");
-    assert_eq!(rt; changes.distribution(), "box");
-    assert_eq!(rt; changes.person(), "Ann <ann@example.org>");
+    same(&rt, &changes.source(), &"hello");
+    same(&rt, &changes.version().text(), &"1.0-1");
+    same(&rt, &changes.distribution(), &"box");
+    same(&rt, &changes.person(), &"Ann <ann@example.org>");
     Ok(())
 }
 
 #[test]
 fn architectures_of_hello(rt: HostRuntime) -> Result<(), Fail> {
     let changes = Changes::read(rt.alloc(), CHANGES.as_bytes())?;
-    assert_eq!(rt; changes.architectures().len(), 1);
+    same(&rt, &changes.architectures().len(), &1);
     for architecture in changes.architectures() {
-        assert_eq!(rt; architecture.as_str(), "amd64");
+        same(&rt, &architecture.as_str(), &"amd64");
     }
     Ok(())
 }
@@ -54,11 +55,13 @@ fn architectures_of_hello(rt: HostRuntime) -> Result<(), Fail> {
 fn files_of_hello(rt: HostRuntime) -> Result<(), Fail> {
     let changes = Changes::read(rt.alloc(), CHANGES.as_bytes())?;
     let entries = changes.entries();
-    assert_eq!(rt; entries.len(), 2);
-    let control = &entries[1];
-    assert_eq!(rt; control.name.as_str(), "hello_1.0-1_amd64.control");
-    assert_eq!(rt; control.section.as_str(), "utils");
-    assert_eq!(rt; control.print.size, 104);
+    same(&rt, &entries.len(), &2);
+    let Some(control) = entries.get(1) else {
+        return Err(Fail::from("no second file"));
+    };
+    same(&rt, &control.name.as_str(), &"hello_1.0-1_amd64.control");
+    same(&rt, &control.section.as_str(), &"utils");
+    same(&rt, &control.print.size, &104);
     Ok(())
 }
 
@@ -74,8 +77,8 @@ fn source_names_and_persons(rt: HostRuntime) -> Result<(), Fail> {
     for (line, source, person) in rows {
         let text = CHANGES.replace(alloc, "Source: hello", line)?;
         let changes = Changes::read(alloc, text.as_bytes())?;
-        assert_eq!(rt; changes.source(), source);
-        assert_eq!(rt; changes.person(), person);
+        same(&rt, &changes.source(), &source);
+        same(&rt, &changes.person(), &person);
     }
     Ok(())
 }
@@ -220,7 +223,7 @@ fn counts_of_files(rt: HostRuntime) -> Result<(), Fail> {
     for (count, wanted) in rows {
         let text = with_files(alloc, count)?;
         let found = answer(alloc, Record::Changes, text.as_bytes())?;
-        assert_eq!(rt; found.as_str(), wanted, "{count} files");
+        same_at(&rt, &found.as_str(), &wanted, &count);
     }
     Ok(())
 }
@@ -247,7 +250,7 @@ fn longest_text(rt: HostRuntime) -> Result<(), Fail> {
     for (length, wanted) in [(LIMIT, "read"), (LIMIT + 1, "C1 P10")] {
         let text = filled(alloc, CHANGES, length)?;
         let found = answer(alloc, Record::Changes, text.as_bytes())?;
-        assert_eq!(rt; found.as_str(), wanted, "{length} bytes");
+        same_at(&rt, &found.as_str(), &wanted, &length);
     }
     Ok(())
 }

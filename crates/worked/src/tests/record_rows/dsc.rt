@@ -1,4 +1,5 @@
 use super::{Record, answer, expect_rows, filled};
+use crate::tests::checks::{same, same_at};
 use records::Dsc;
 use std::test::Fail;
 
@@ -21,13 +22,13 @@ const LIMIT: usize = 1_048_576;
 #[test]
 fn hello_is_read(rt: HostRuntime) -> Result<(), Fail> {
     let dsc = Dsc::read(rt.alloc(), DSC.as_bytes())?;
-    assert_eq!(rt; dsc.source(), "hello");
-    assert_eq!(rt; dsc.version().text(), "1.0-1");
-    assert_eq!(rt; dsc.entries().len(), 1);
+    same(&rt, &dsc.source(), &"hello");
+    same(&rt, &dsc.version().text(), &"1.0-1");
+    same(&rt, &dsc.entries().len(), &1);
     for entry in dsc.entries() {
-        assert_eq!(rt; entry.name.as_str(), "hello_1.0.orig.tar");
-        assert_eq!(rt; entry.section.as_str(), "");
-        assert_eq!(rt; entry.priority.as_str(), "");
+        same(&rt, &entry.name.as_str(), &"hello_1.0.orig.tar");
+        same(&rt, &entry.section.as_str(), &"");
+        same(&rt, &entry.priority.as_str(), &"");
     }
     Ok(())
 }
@@ -85,7 +86,7 @@ fn longest_text(rt: HostRuntime) -> Result<(), Fail> {
     for (length, wanted) in [(LIMIT, "read"), (LIMIT + 1, "C1 P10")] {
         let text = filled(alloc, DSC, length)?;
         let found = answer(alloc, Record::Dsc, text.as_bytes())?;
-        assert_eq!(rt; found.as_str(), wanted, "{length} bytes");
+        same_at(&rt, &found.as_str(), &wanted, &length);
     }
     Ok(())
 }

@@ -1,3 +1,4 @@
+use crate::tests::checks::{holds, same, same_at};
 use records::{is_architecture, is_package, is_plain};
 
 const FORTY: &str = "abcdefghijklmnopqrstuvwxyz0123456789-abc";
@@ -30,19 +31,25 @@ fn names_of_packages_architectures_and_suites(rt: HostRuntime) {
         ("any-amd64", true, true, true),
     ];
     for (name, package, architecture, plain) in rows {
-        assert_eq!(rt; is_package(name), package, "{name}");
-        assert_eq!(rt; is_architecture(name), architecture, "{name}");
-        assert_eq!(rt; is_plain(name), plain, "{name}");
+        same_at(&rt, &is_package(name), &package, &name);
+        same_at(&rt, &is_architecture(name), &architecture, &name);
+        same_at(&rt, &is_plain(name), &plain, &name);
     }
 }
 
 #[test]
 fn names_at_their_longest(rt: HostRuntime) {
-    assert_eq!(rt; FORTY.len(), 40);
-    assert!(rt; is_architecture(FORTY));
-    assert!(rt; !is_architecture("abcdefghijklmnopqrstuvwxyz0123456789-abcd"));
-    assert_eq!(rt; SIXTY.len(), 60);
-    assert!(rt; is_plain(SIXTY));
-    assert!(rt; !is_plain("abcdefghijklmnopqrstuvwxyz0123456789._-ABCDEFGHIJKLMNOPQRSTUV"));
-    assert!(rt; is_package(FORTY));
+    same(&rt, &FORTY.len(), &40);
+    holds(&rt, is_architecture(FORTY));
+    holds(
+        &rt,
+        !is_architecture("abcdefghijklmnopqrstuvwxyz0123456789-abcd"),
+    );
+    same(&rt, &SIXTY.len(), &60);
+    holds(&rt, is_plain(SIXTY));
+    holds(
+        &rt,
+        !is_plain("abcdefghijklmnopqrstuvwxyz0123456789._-ABCDEFGHIJKLMNOPQRSTUV"),
+    );
+    holds(&rt, is_package(FORTY));
 }

@@ -1,4 +1,5 @@
 use super::{Record, answer, expect_rows, filled};
+use crate::tests::checks::{same, same_at};
 use records::Sidecar;
 use std::test::Fail;
 
@@ -15,10 +16,10 @@ const LIMIT: usize = 65_536;
 #[test]
 fn hello_is_read(rt: HostRuntime) -> Result<(), Fail> {
     let sidecar = Sidecar::read(rt.alloc(), CONTROL.as_bytes())?;
-    assert_eq!(rt; sidecar.package(), "hello");
-    assert_eq!(rt; sidecar.version().text(), "1.0-1");
-    assert_eq!(rt; sidecar.architecture(), "amd64");
-    assert_eq!(rt; sidecar.source(), "hello");
+    same(&rt, &sidecar.package(), &"hello");
+    same(&rt, &sidecar.version().text(), &"1.0-1");
+    same(&rt, &sidecar.architecture(), &"amd64");
+    same(&rt, &sidecar.source(), &"hello");
     Ok(())
 }
 
@@ -33,8 +34,8 @@ fn source_names(rt: HostRuntime) -> Result<(), Fail> {
     for (line, source) in rows {
         let text = CONTROL.replace(alloc, "Version:", line)?;
         let sidecar = Sidecar::read(alloc, text.as_bytes())?;
-        assert_eq!(rt; sidecar.package(), "hello");
-        assert_eq!(rt; sidecar.source(), source);
+        same(&rt, &sidecar.package(), &"hello");
+        same(&rt, &sidecar.source(), &source);
     }
     Ok(())
 }
@@ -90,7 +91,7 @@ fn longest_text(rt: HostRuntime) -> Result<(), Fail> {
     for (length, wanted) in [(LIMIT, "read"), (LIMIT + 1, "C1 P10")] {
         let text = filled(alloc, CONTROL, length)?;
         let found = answer(alloc, Record::Sidecar, text.as_bytes())?;
-        assert_eq!(rt; found.as_str(), wanted, "{length} bytes");
+        same_at(&rt, &found.as_str(), &wanted, &length);
     }
     Ok(())
 }

@@ -1,6 +1,7 @@
 //! Pairs of versions with the answer of `dpkg --compare-versions` of dpkg 1.21.
 
 use super::order_of;
+use crate::tests::checks::{holds_at, same};
 use std::alloc::Global;
 use std::cmp::Ordering;
 use std::test::Fail;
@@ -234,9 +235,9 @@ fn agrees(alloc: Global, line: &str) -> Result<bool, VersionFault> {
 fn pairs_compare_as_dpkg_says(rt: HostRuntime) -> Result<(), Fail> {
     let mut count = 0usize;
     for line in PAIRS.split('\n') {
-        assert!(rt; agrees(rt.alloc(), line)?, "{line}");
+        holds_at(&rt, agrees(rt.alloc(), line)?, &line);
         count = count.saturating_add(1);
     }
-    assert_eq!(rt; count, 197);
+    same(&rt, &count, &197);
     Ok(())
 }
