@@ -1,6 +1,6 @@
 -- The upload of a .changes all of whose files have arrived.
-use Rattle.std.proofs.Common.{◌≡◌, ℕ, Bool, true, false, ◌||◌, ◌&&◌, cond, if◌then◌else◌, List, [], ◌∷◌, ◌≤◌, length, map, take, get_or, find, zip, refl, ap, sym, ◌∙◌, subst, unwrap_or, All, bytes_eq, Some, Ok}
-use Rattle.std.proofs.lemmas.List.{length-map, take_all}
+use Rattle.std.proofs.Common.{◌≡◌, ℕ, Bool, true, false, ◌||◌, ◌&&◌, cond, if◌then◌else◌, List, [], ◌∷◌, length, map, get_or, find, zip, refl, ap, sym, ◌∙◌, subst, unwrap_or, All, bytes_eq, Some, Ok}
+use Rattle.std.proofs.lemmas.List.{length-map}
 use Rattle.std.proofs.lemmas.List.Elements.{All-map}
 use Rattle.std.proofs.lemmas.List.Sums.{AllPass-from_list_all}
 use Rattle.std.specs.List.{list_any}
@@ -57,13 +57,13 @@ complete_upload arrivals c complete read =
     }
 
 -- what is made entry by entry is the upload
-pub upload_made : (arrivals : List Arrival) (c : Candidate) {name : List ℕ} {print : Print} {texts : List (List ℕ)} {index : ℕ} {entries : List Entry}
+pub upload_made : (arrivals : List Arrival) (c : Candidate) {name : List ℕ} {print : Print} {texts : List (List ℕ)} {entries : List Entry}
     → name ≡ c.name → print ≡ print_of c.body
-    → texts ≡ map (λ e. if has_text e.name then body_for arrivals e else []) (take index entries) → length entries ≤ index → entries ≡ c.changes.entries
+    → texts ≡ map (λ e. if has_text e.name then body_for arrivals e else []) entries → entries ≡ c.changes.entries
     → record { name = name; print = print; changes = c.changes; texts = texts } ≡ upload_of arrivals c
 unfolding upload_of
-upload_made arrivals c {name} {print} {texts} {index} {entries} is_name is_print are_texts all are_entries =
+upload_made arrivals c {name} {print} {texts} {entries} is_name is_print are_texts are_entries =
     let text : Entry → List ℕ = λ e. if has_text e.name then body_for arrivals e else [] in
     let made : List ℕ → Print → List (List ℕ) → UploadValue = λ n p t. record { name = n; print = p; changes = c.changes; texts = t } in
     ap (λ n. made n print texts) is_name ∙ ap (λ p. made c.name p texts) is_print
-    ∙ ap (made c.name (print_of c.body)) (are_texts ∙ ap (map text) (take_all index entries all ∙ are_entries))
+    ∙ ap (made c.name (print_of c.body)) (are_texts ∙ ap (map text) are_entries)

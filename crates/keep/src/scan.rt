@@ -250,6 +250,21 @@ fn kept_text(alloc: Global, arrivals: &[Arrival], entry: &Entry) -> Result<Liste
     }
 }
 
+/// The text that is kept for each of these entries.
+fn kept_texts(
+    alloc: Global,
+    arrivals: &[Arrival],
+    entries: &[Entry],
+) -> Result<Vec<Listed<u8>>, AllocError>
+    ensures { IfOk result (λ texts. texts.items ≡ map (λ e. if keeps_text e.name then body_for arrivals.now e else []) entries.now) }
+{
+    let mut texts = Vec::new(alloc);
+    for entry in entries {
+        texts.push(kept_text(alloc, arrivals, entry)?)?;
+    }
+    Ok(texts)
+}
+
 /// The upload of a .changes all of whose files have arrived.
 fn upload_of(
     alloc: Global,
@@ -259,17 +274,10 @@ fn upload_of(
     requires { is_complete arrivals.now (candidate_view candidate) ≡ true }
     ensures { IfOk result (λ upload. upload ≡ upload_at arrivals.now (candidate_view candidate.entry)) }
 {
-    let Candidate { arrival, changes } = candidate;
-    let mut texts = Vec::new(alloc);
-    for entry in changes.entries() {
-        texts.push(kept_text(alloc, arrivals, entry)?)?;
-    }
-    Ok(Upload::new(
-        arrival.name.try_clone()?,
-        arrival.body.print(),
-        changes,
-        texts,
-    ))
+    let texts = kept_texts(alloc, arrivals, candidate.changes.entries())?;
+    let name = candidate.arrival.name.try_clone()?;
+    let print = candidate.arrival.body.print();
+    Ok(Upload::new(name, print, candidate.changes, texts))
 }
 
 /// The uploads without a verdict of whose entries all have arrived, in the order of judging.

@@ -7,10 +7,10 @@ use Rattle.keep.proofs.scan.upload_of.Goals as goal
 pub new-requires : goal.new-requires
 new-requires c =
     subst IsUpload
-    (sym (upload_made c.args.arrivals.now (candidate_view c.args.candidate) c.in_ok-try_clone.ensures c.print.ensures c.loop-entry.invariant c.loop-entry-test.false c.entries-entry-items.ensures))
+    (sym (upload_made c.args.arrivals.now (candidate_view c.args.candidate) c.in_ok-name.ensures c.print-print.ensures c.in_ok-texts.ensures c.entries.ensures))
     (complete_upload c.args.arrivals.now (candidate_view c.args.candidate) c.requires c.args.candidate.read)
 
 pub returns : goal.returns
 returns c =
     c.new.ensures
-    ∙ upload_made c.args.arrivals.now (candidate_view c.args.candidate) c.in_ok-try_clone.ensures c.print.ensures c.loop-entry.invariant c.loop-entry-test.false c.entries-entry-items.ensures
+    ∙ upload_made c.args.arrivals.now (candidate_view c.args.candidate) c.in_ok-name.ensures c.print-print.ensures c.in_ok-texts.ensures c.entries.ensures
