@@ -1,6 +1,6 @@
 //! What a row of an item shows, with the rows of its files.
 
-ghost use Rattle.std.specs.Prelude.{◌≡◌, ◌⊎◌, false, map, None, IfOk, IfErr, OnOk};
+ghost use Rattle.std.specs.Prelude.{◌≡◌, ◌⊎◌, false, is_some, map, None, IfOk, IfErr, OnOk};
 ghost use Rattle.std.specs.FinMap.{get};
 ghost use Rattle.std.specs.List.{list_any};
 ghost use Rattle.std.specs.Str.{IsUtf8};
@@ -42,6 +42,16 @@ fn kind_numbered(number: u64) -> Option<Kind>
     None
 }
 
+/// What a version that may not be read is answered.
+fn error_of(fault: VersionFault) -> Error
+    ensures { (result ≡ Error.SqliteFailure ErrorCode.OutOfMemory) ⊎ (¬ (fault ≡ VersionFault.OutOfMemory)) }
+{
+    if fault == VersionFault::OutOfMemory {
+        return Error::SqliteFailure(ErrorCode::OutOfMemory);
+    }
+    Error::SqliteFailure(ErrorCode::DatabaseCorrupt)
+}
+
 /// The version that a text is. One that is none, which cannot be in an archive, is refused.
 fn version_in(alloc: Global, text: &str) -> Result<Version, Error>
     ensures ok { IfOk result (λ version. (version ≡ text.now) × IsVersion text.now) }
@@ -49,8 +59,7 @@ fn version_in(alloc: Global, text: &str) -> Result<Version, Error>
 {
     match Version::parse(alloc, text) {
         Ok(version) => Ok(version),
-        Err(VersionFault::OutOfMemory) => Err(Error::SqliteFailure(ErrorCode::OutOfMemory)),
-        Err(_) => Err(Error::SqliteFailure(ErrorCode::DatabaseCorrupt)),
+        Err(fault) => Err(error_of(fault)),
     }
 }
 
@@ -171,14 +180,21 @@ fn admit(alloc: Global, shelves: &mut Shelves, suite: usize, item: Item) -> Resu
     Ok(())
 }
 
+/// Whether something stands on the shelf of an item in a suite.
+fn is_shelf_taken(shelves: &Shelves, suite: usize, item: &Item) -> Result<bool, AllocError>
+    ensures { IfOk result (λ taken. taken ≡ is_some (get shelves.now (standing suite item.now).0)) }
+{
+    let key = item.shelf(suite)?;
+    Ok(shelves.get(&key).is_some())
+}
+
 /// Puts an item on its shelf in a suite. A shelf that is taken, and a file with another print than what stands at its path,
 /// which cannot be in an archive, are refused.
 fn put_item(alloc: Global, shelves: &mut Shelves, suite: usize, item: Item) -> Result<(), Error>
     ensures ok { OnOk result (IsPut shelves.old shelves.new (standing suite item)) }
     ensures refused { IfErr result (λ e. (e ≡ Error.SqliteFailure ErrorCode.OutOfMemory) ⊎ (¬ MayBePut shelves.old (standing suite item))) }
 {
-    let key = item.shelf(suite)?;
-    if shelves.get(&key).is_some() {
+    if is_shelf_taken(shelves, suite, &item)? {
         return Err(Error::SqliteFailure(ErrorCode::DatabaseCorrupt));
     }
     if some_may_not_join(shelves, item.files.as_slice()) {
