@@ -166,42 +166,71 @@ fn ask(
     Ok(writer)
 }
 
+/// Checks the reply to a request that comes at most so many bytes a read.
+fn expect_reply(
+    rt: &impl Abort,
+    alloc: Global,
+    archive: &mut Archive<PlainKeeper>,
+    request: &[u8],
+    most: usize,
+    wanted: &[u8],
+) -> Result<(), Fail> {
+    let reply = ask(alloc, archive, request, most)?;
+    holds_at(rt, reply.as_slice() == wanted, &request.len());
+    Ok(())
+}
+
 #[test]
 fn a_delivery_is_new_and_then_again(rt: HostRuntime) -> Result<(), Fail> {
     for most in [1, 2, 1000] {
         let mut archive = fresh(rt.alloc())?;
-        holds(
-            &rt,
-            ask(rt.alloc(), &mut archive, PUT, most)?.as_slice() == CREATED,
-        );
-        holds(
-            &rt,
-            ask(rt.alloc(), &mut archive, PUT, most)?.as_slice() == AGAIN,
-        );
+        expect_reply(&rt, rt.alloc(), &mut archive, PUT, most, CREATED)?;
+        expect_reply(&rt, rt.alloc(), &mut archive, PUT, most, AGAIN)?;
     }
     Ok(())
+}
+
+/// Checks the reply to a request that comes byte by byte, and to one that comes at once.
+fn expect_both(
+    rt: &impl Abort,
+    alloc: Global,
+    archive: &mut Archive<PlainKeeper>,
+    request: &[u8],
+    wanted: &[u8],
+) -> Result<(), Fail> {
+    expect_reply(rt, alloc, archive, request, 1, wanted)?;
+    expect_reply(rt, alloc, archive, request, 1000, wanted)
 }
 
 #[test]
 fn refusals_have_their_replies(rt: HostRuntime) -> Result<(), Fail> {
     let mut archive = fresh(rt.alloc())?;
     for (request, reply) in ROWS {
-        for most in [1, 1000] {
-            holds(
-                &rt,
-                ask(rt.alloc(), &mut archive, request, most)?.as_slice() == reply,
-            );
-        }
+        expect_both(&rt, rt.alloc(), &mut archive, request, reply)?;
     }
     let long = vec![in rt.alloc(); b'a'; 8192]?;
-    holds(
+    expect_reply(
         &rt,
-        ask(rt.alloc(), &mut archive, long.as_slice(), 1000)?.as_slice() == TOO_LARGE_HEAD,
-    );
-    holds(
-        &rt,
-        ask(rt.alloc(), &mut archive, PUT, 1000)?.as_slice() == CREATED,
-    );
+        rt.alloc(),
+        &mut archive,
+        long.as_slice(),
+        1000,
+        TOO_LARGE_HEAD,
+    )?;
+    expect_reply(&rt, rt.alloc(), &mut archive, PUT, 1000, CREATED)
+}
+
+/// Checks the reply to a request that is cut short at each of its bytes.
+fn expect_cut(
+    rt: &impl Abort,
+    alloc: Global,
+    archive: &mut Archive<PlainKeeper>,
+    request: &[u8],
+) -> Result<(), Fail> {
+    for (length, _) in request.iter().enumerate() {
+        let wanted = if length == 0 { b"" } else { BAD_REQUEST };
+        expect_reply(rt, alloc, archive, &request[..length], 1000, wanted)?;
+    }
     Ok(())
 }
 
@@ -209,22 +238,10 @@ fn refusals_have_their_replies(rt: HostRuntime) -> Result<(), Fail> {
 fn cut_requests_deliver_nothing(rt: HostRuntime) -> Result<(), Fail> {
     let mut archive = fresh(rt.alloc())?;
     for (request, _) in ROWS {
-        for (length, _) in request.iter().enumerate() {
-            let want = if length == 0 { b"" } else { BAD_REQUEST };
-            let reply = ask(rt.alloc(), &mut archive, &request[..length], 1000)?;
-            holds_at(&rt, reply.as_slice() == want, &length);
-        }
+        expect_cut(&rt, rt.alloc(), &mut archive, request)?;
     }
-    for (length, _) in PUT.iter().enumerate() {
-        let want = if length == 0 { b"" } else { BAD_REQUEST };
-        let reply = ask(rt.alloc(), &mut archive, &PUT[..length], 1000)?;
-        holds_at(&rt, reply.as_slice() == want, &length);
-    }
-    holds(
-        &rt,
-        ask(rt.alloc(), &mut archive, PUT, 1000)?.as_slice() == CREATED,
-    );
-    Ok(())
+    expect_cut(&rt, rt.alloc(), &mut archive, PUT)?;
+    expect_reply(&rt, rt.alloc(), &mut archive, PUT, 1000, CREATED)
 }
 
 #[test]
@@ -238,25 +255,31 @@ fn no_byte_is_no_reply(rt: HostRuntime) -> Result<(), Fail> {
     Ok(())
 }
 
+/// Checks that bytes behind which the reader fails are answered nothing.
+fn expect_no_reply(
+    rt: &impl Abort,
+    alloc: Global,
+    archive: &mut Archive<PlainKeeper>,
+    bytes: &[u8],
+) {
+    let mut reader = Pieces {
+        bytes,
+        most: 7,
+        fails: true,
+    };
+    let mut writer = Vec::new(alloc);
+    let served = answer(alloc, archive, &mut reader, &mut writer, MOMENT);
+    holds_at(rt, served == Err(DeskFault::ReaderFailed), &bytes.len());
+    same(rt, &writer.len(), &0);
+}
+
 #[test]
 fn a_failing_reader_delivers_nothing(rt: HostRuntime) -> Result<(), Fail> {
     let mut archive = fresh(rt.alloc())?;
     for (length, _) in PUT.iter().enumerate() {
-        let mut reader = Pieces {
-            bytes: &PUT[..length],
-            most: 7,
-            fails: true,
-        };
-        let mut writer = Vec::new(rt.alloc());
-        let served = answer(rt.alloc(), &mut archive, &mut reader, &mut writer, MOMENT);
-        holds_at(&rt, served == Err(DeskFault::ReaderFailed), &length);
-        same(&rt, &writer.len(), &0);
+        expect_no_reply(&rt, rt.alloc(), &mut archive, &PUT[..length]);
     }
-    holds(
-        &rt,
-        ask(rt.alloc(), &mut archive, PUT, 1000)?.as_slice() == CREATED,
-    );
-    Ok(())
+    expect_reply(&rt, rt.alloc(), &mut archive, PUT, 1000, CREATED)
 }
 
 /// Delivers to a writer with so much room, and checks that the delivery stands and a beginning of the reply was written.
@@ -272,11 +295,7 @@ fn expect_cut_reply(rt: &impl Abort, alloc: Global, room: usize, full: Full) -> 
     holds_at(&rt, served == Err(DeskFault::WriterFailed), &room);
     same(&rt, &writer.taken.len(), &room);
     holds(&rt, CREATED.starts_with(writer.taken.as_slice()));
-    holds(
-        &rt,
-        ask(alloc, &mut archive, PUT, 1000)?.as_slice() == AGAIN,
-    );
-    Ok(())
+    expect_reply(rt, alloc, &mut archive, PUT, 1000, AGAIN)
 }
 
 #[test]
@@ -324,82 +343,127 @@ const TEXT: &str = "text/plain; charset=utf-8";
 
 const BINARY: &str = "application/octet-stream";
 
+/// A request, and its reply: the status, the kind of the body, and the body.
+type Row<'a> = (&'a [u8], &'a str, &'a str, &'a [u8]);
+
+/// The request behind the first two deliveries.
+const WAITING: Row<'_> = (
+    b"GET /queue HTTP/1.1\r\n\r\n",
+    "200 OK",
+    TEXT,
+    b"1 hello_1.0-1_amd64.changes\n",
+);
+
+/// The requests behind the third delivery.
+const ARRIVED: [Row<'_>; 8] = [
+    (
+        b"POST /queue/run HTTP/1.0\r\n\r\n",
+        "200 OK",
+        TEXT,
+        b"accepted hello_1.0-1_amd64.changes\n",
+    ),
+    (b"POST /queue/run HTTP/1.1\r\n\r\n", "200 OK", TEXT, b""),
+    (
+        b"GET /verdicts HTTP/1.1\r\n\r\n",
+        "200 OK",
+        TEXT,
+        b"accepted hello_1.0-1_amd64.changes\n",
+    ),
+    (
+        b"GET /pool/main/h/hello/hello_1.0-1_amd64.deb HTTP/1.1\r\n\r\n",
+        "200 OK",
+        BINARY,
+        b"abc",
+    ),
+    (
+        b"GET /pool/main/h/hello/hello_1.0-2_amd64.deb HTTP/1.1\r\n\r\n",
+        "404 Not Found",
+        TEXT,
+        b"404 Not Found\n",
+    ),
+    (
+        b"GET /dists/box/main/binary-amd64/Packages HTTP/1.1\r\n\r\n",
+        "200 OK",
+        TEXT,
+        PACKAGES,
+    ),
+    (
+        b"POST /copy/box/lab/hello HTTP/1.1\r\n\r\n",
+        "200 OK",
+        TEXT,
+        b"1\n",
+    ),
+    (
+        b"POST /copy/box/lab/hello HTTP/1.1\r\n\r\n",
+        "200 OK",
+        TEXT,
+        b"0\n",
+    ),
+];
+
+/// The reply to a delivery that is new.
+fn new_row(request: &[u8]) -> Row<'_> {
+    (request, "201 Created", TEXT, b"new\n")
+}
+
+/// The requests of an upload of three files, and those behind it.
+fn upload_rows<'a>(
+    alloc: Global,
+    [changes, deb, control]: [&'a [u8]; 3],
+) -> Result<Vec<Row<'a>>, Fail> {
+    let mut rows = Vec::new(alloc);
+    rows.push(new_row(changes))?;
+    rows.push(new_row(deb))?;
+    rows.push(WAITING)?;
+    rows.push(new_row(control))?;
+    rows.extend_from_slice(&ARRIVED)?;
+    Ok(rows)
+}
+
+/// A connection that brings a request.
+fn connection(alloc: Global, request: &[u8]) -> Connection<&[u8], Vec<u8>> {
+    Connection {
+        reader: request,
+        writer: Vec::new(alloc),
+        moment: MOMENT,
+        end: None,
+    }
+}
+
+/// Checks what was written to a connection.
+fn expect_written(
+    rt: &impl Abort,
+    alloc: Global,
+    written: &[u8],
+    (_, status, kind, body): Row<'_>,
+) -> Result<(), Fail> {
+    let wanted = reply(alloc, status, kind, body)?;
+    holds(rt, written == wanted.as_slice());
+    Ok(())
+}
+
+/// Makes requests over connections one after the other, and checks their replies.
+fn expect_rows(rt: &impl Abort, alloc: Global, rows: &[Row<'_>]) -> Result<(), Fail> {
+    let mut archive = fresh(alloc)?;
+    let mut connections = Vec::new(alloc);
+    for row in rows {
+        connections.push(connection(alloc, row.0))?;
+    }
+    attend(alloc, &mut archive, connections.as_mut_slice());
+    for (connection, row) in connections.iter().zip(rows) {
+        expect_written(rt, alloc, connection.writer.as_slice(), *row)?;
+    }
+    Ok(())
+}
+
 #[test]
 fn an_upload_goes_through(rt: HostRuntime) -> Result<(), Fail> {
     let alloc = rt.alloc();
-    let mut archive = fresh(alloc)?;
     let changes = put(alloc, "hello_1.0-1_amd64.changes", CHANGES)?;
     let deb = put(alloc, "hello_1.0-1_amd64.deb", b"abc")?;
     let control = put(alloc, "hello_1.0-1_amd64.control", CONTROL)?;
-    let rows: [(&[u8], &str, &str, &[u8]); 12] = [
-        (changes.as_slice(), "201 Created", TEXT, b"new\n"),
-        (deb.as_slice(), "201 Created", TEXT, b"new\n"),
-        (
-            b"GET /queue HTTP/1.1\r\n\r\n",
-            "200 OK",
-            TEXT,
-            b"1 hello_1.0-1_amd64.changes\n",
-        ),
-        (control.as_slice(), "201 Created", TEXT, b"new\n"),
-        (
-            b"POST /queue/run HTTP/1.0\r\n\r\n",
-            "200 OK",
-            TEXT,
-            b"accepted hello_1.0-1_amd64.changes\n",
-        ),
-        (b"POST /queue/run HTTP/1.1\r\n\r\n", "200 OK", TEXT, b""),
-        (
-            b"GET /verdicts HTTP/1.1\r\n\r\n",
-            "200 OK",
-            TEXT,
-            b"accepted hello_1.0-1_amd64.changes\n",
-        ),
-        (
-            b"GET /pool/main/h/hello/hello_1.0-1_amd64.deb HTTP/1.1\r\n\r\n",
-            "200 OK",
-            BINARY,
-            b"abc",
-        ),
-        (
-            b"GET /pool/main/h/hello/hello_1.0-2_amd64.deb HTTP/1.1\r\n\r\n",
-            "404 Not Found",
-            TEXT,
-            b"404 Not Found\n",
-        ),
-        (
-            b"GET /dists/box/main/binary-amd64/Packages HTTP/1.1\r\n\r\n",
-            "200 OK",
-            TEXT,
-            PACKAGES,
-        ),
-        (
-            b"POST /copy/box/lab/hello HTTP/1.1\r\n\r\n",
-            "200 OK",
-            TEXT,
-            b"1\n",
-        ),
-        (
-            b"POST /copy/box/lab/hello HTTP/1.1\r\n\r\n",
-            "200 OK",
-            TEXT,
-            b"0\n",
-        ),
-    ];
-    let mut connections = Vec::new(alloc);
-    for (request, _, _, _) in rows {
-        connections.push(Connection {
-            reader: request,
-            writer: Vec::new(alloc),
-            moment: MOMENT,
-            end: None,
-        })?;
-    }
-    attend(alloc, &mut archive, connections.as_mut_slice());
-    for (connection, (_, status, kind, body)) in connections.iter().zip(rows) {
-        let want = reply(alloc, status, kind, body)?;
-        holds(&rt, connection.writer.as_slice() == want.as_slice());
-    }
-    Ok(())
+    let files = [changes.as_slice(), deb.as_slice(), control.as_slice()];
+    expect_rows(&rt, alloc, upload_rows(alloc, files)?.as_slice())
 }
 
 /// Requests, and how the replies of an archive to which no upload was delivered begin.

@@ -184,34 +184,52 @@ const LINES: [(&str, &str, &str, &str); 18] = [
     ("", "", "", "S9"),
 ];
 
-#[test]
-fn faults_of_lines(rt: HostRuntime) -> Result<(), Fail> {
-    let alloc = rt.alloc();
-    for (sha1, sha256, files, expected) in LINES {
-        let text = lists_text(alloc, [sha1, sha256, files])?;
-        let found = answer(alloc, text.as_str(), ListKind::Changes)?;
-        same(&rt, &found.as_str(), &expected);
-    }
+/// Checks the answer for the lists of a record, each given by its lines.
+fn expect_answer(
+    rt: &impl Abort,
+    alloc: Global,
+    lists: [&str; 3],
+    kind: ListKind,
+    wanted: &str,
+) -> Result<(), Fail> {
+    let text = lists_text(alloc, lists)?;
+    let found = answer(alloc, text.as_str(), kind)?;
+    same(rt, &found.as_str(), &wanted);
     Ok(())
 }
 
 #[test]
-fn numbers_of_entries(rt: HostRuntime) -> Result<(), Fail> {
-    let alloc = rt.alloc();
-    for (count, expected) in [(256, "read"), (257, "S9")] {
-        let mut sha1 = String::new(alloc);
-        let mut sha256 = String::new(alloc);
-        let mut files = String::new(alloc);
-        for i in 0..count {
-            sha1.push_str(format!(in alloc; " SHA1 3 f{i}\n")?.as_str())?;
-            sha256.push_str(format!(in alloc; " SHA256 3 f{i}\n")?.as_str())?;
-            files.push_str(format!(in alloc; " MD5 3 f{i}\n")?.as_str())?;
-        }
-        let text = lists_text(alloc, [sha1.as_str(), sha256.as_str(), files.as_str()])?;
-        let found = answer(alloc, text.as_str(), ListKind::Dsc)?;
-        same(&rt, &found.as_str(), &expected);
+fn faults_of_lines(rt: HostRuntime) -> Result<(), Fail> {
+    for (sha1, sha256, files, wanted) in LINES {
+        expect_answer(
+            &rt,
+            rt.alloc(),
+            [sha1, sha256, files],
+            ListKind::Changes,
+            wanted,
+        )?;
     }
     Ok(())
+}
+
+/// Checks the answer for lists of so many entries.
+fn expect_entries(rt: &impl Abort, alloc: Global, count: usize, wanted: &str) -> Result<(), Fail> {
+    let mut sha1 = String::new(alloc);
+    let mut sha256 = String::new(alloc);
+    let mut files = String::new(alloc);
+    for i in 0..count {
+        sha1.push_str(format!(in alloc; " SHA1 3 f{i}\n")?.as_str())?;
+        sha256.push_str(format!(in alloc; " SHA256 3 f{i}\n")?.as_str())?;
+        files.push_str(format!(in alloc; " MD5 3 f{i}\n")?.as_str())?;
+    }
+    let lists = [sha1.as_str(), sha256.as_str(), files.as_str()];
+    expect_answer(rt, alloc, lists, ListKind::Dsc, wanted)
+}
+
+#[test]
+fn numbers_of_entries(rt: HostRuntime) -> Result<(), Fail> {
+    expect_entries(&rt, rt.alloc(), 256, "read")?;
+    expect_entries(&rt, rt.alloc(), 257, "S9")
 }
 
 /// The lines of the file `b` that is `abc` and of the file `c` that is empty, in other orders in the other lists.
