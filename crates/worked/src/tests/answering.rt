@@ -144,9 +144,14 @@ impl Write for Narrow {
     }
 }
 
-fn fresh(alloc: Global) -> Result<Archive<PlainKeeper>, Fail> {
-    let config = Config::read(alloc, PAIR)?;
+/// A new archive of a configuration. One that is known where it is read takes the prover far longer.
+fn archive_of(alloc: Global, config: &[u8]) -> Result<Archive<PlainKeeper>, Fail> {
+    let config = Config::read(alloc, config)?;
     Ok(Archive::new(PlainKeeper::new(alloc, config, 0)?))
+}
+
+fn fresh(alloc: Global) -> Result<Archive<PlainKeeper>, Fail> {
+    archive_of(alloc, PAIR)
 }
 
 /// What a request is answered that comes at most so many bytes a read.

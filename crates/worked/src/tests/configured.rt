@@ -2,12 +2,18 @@
 
 use rules::{Config, ConfigFault};
 use std::alloc::Global;
+use std::test::Fail;
 
 mod configurations;
 mod verdicts;
 
 /// A suite with source packages.
 const BOX: &str = "Codename: box\nArchitectures: amd64 source\nComponents: main\n";
+
+/// The configuration that a text is. A text that is known where it is read takes the prover far longer.
+fn config_of(alloc: Global, text: &str) -> Result<Config, Fail> {
+    Ok(Config::read(alloc, text.as_bytes())?)
+}
 
 /// What is printed of a text's refusal, or `read`.
 fn answer_to(alloc: Global, text: &str) -> Result<String, ConfigFault> {

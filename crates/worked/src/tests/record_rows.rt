@@ -19,6 +19,21 @@ fn answer_text<T: Drop>(alloc: Global, answer: Result<T, RecordFault>) -> Result
     }
 }
 
+/// The .changes that a text is. A text that is known where it is read takes the prover far longer; so do those below.
+fn changes_of(alloc: Global, text: &str) -> Result<Changes, Fail> {
+    Ok(Changes::read(alloc, text.as_bytes())?)
+}
+
+/// The .dsc that a text is.
+fn dsc_of(alloc: Global, text: &str) -> Result<Dsc, Fail> {
+    Ok(Dsc::read(alloc, text.as_bytes())?)
+}
+
+/// The sidecar that a text is.
+fn sidecar_of(alloc: Global, text: &str) -> Result<Sidecar, Fail> {
+    Ok(Sidecar::read(alloc, text.as_bytes())?)
+}
+
 /// Which record a text is read as.
 #[derive(Clone, Copy)]
 enum Record {

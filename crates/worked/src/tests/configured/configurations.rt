@@ -146,7 +146,7 @@ fn limits_hold(rt: HostRuntime) -> Result<(), Fail> {
 fn a_configuration_has_its_text_and_suites(rt: HostRuntime) -> Result<(), Fail> {
     let text =
         "Codename: box\nSuite: stable\nArchitectures: amd64\nComponents: main\n\nCodename: lab\nArchitectures: source\nComponents: main\nAlsoAcceptFor: try\n";
-    let config = Config::read(rt.alloc(), text.as_bytes())?;
+    let config = config_of(rt.alloc(), text)?;
     holds(&rt, config.text() == text.as_bytes());
     same(&rt, &config.suites().len(), &2);
     for (name, expected) in [
@@ -163,9 +163,9 @@ fn a_configuration_has_its_text_and_suites(rt: HostRuntime) -> Result<(), Fail> 
 
 #[test]
 fn suites_keep_architectures_and_components(rt: HostRuntime) -> Result<(), Fail> {
-    let config = Config::read(
+    let config = config_of(
         rt.alloc(),
-        b"Codename: box\nArchitectures: amd64 source\nComponents: main\n\nCodename: lab\nArchitectures: source\nComponents: main\nUploaders:\n",
+        "Codename: box\nArchitectures: amd64 source\nComponents: main\n\nCodename: lab\nArchitectures: source\nComponents: main\nUploaders:\n",
     )?;
     let [with_binaries, sources_alone] = config.suites() else {
         return Ok(());

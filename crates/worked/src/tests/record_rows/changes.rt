@@ -1,6 +1,5 @@
-use super::{Record, answer, expect_rows, filled};
+use super::{Record, answer, changes_of, expect_rows, filled};
 use crate::tests::checks::{same, same_at};
-use records::Changes;
 use std::alloc::Global;
 use std::test::Fail;
 
@@ -33,7 +32,7 @@ const LIMIT: usize = 1_048_576;
 
 #[test]
 fn hello_is_read(rt: HostRuntime) -> Result<(), Fail> {
-    let changes = Changes::read(rt.alloc(), CHANGES.as_bytes())?;
+    let changes = changes_of(rt.alloc(), CHANGES)?;
     same(&rt, &changes.source(), &"hello");
     same(&rt, &changes.version().text(), &"1.0-1");
     same(&rt, &changes.distribution(), &"box");
@@ -43,7 +42,7 @@ fn hello_is_read(rt: HostRuntime) -> Result<(), Fail> {
 
 #[test]
 fn architectures_of_hello(rt: HostRuntime) -> Result<(), Fail> {
-    let changes = Changes::read(rt.alloc(), CHANGES.as_bytes())?;
+    let changes = changes_of(rt.alloc(), CHANGES)?;
     same(&rt, &changes.architectures().len(), &1);
     for architecture in changes.architectures() {
         same(&rt, &architecture.as_str(), &"amd64");
@@ -53,7 +52,7 @@ fn architectures_of_hello(rt: HostRuntime) -> Result<(), Fail> {
 
 #[test]
 fn files_of_hello(rt: HostRuntime) -> Result<(), Fail> {
-    let changes = Changes::read(rt.alloc(), CHANGES.as_bytes())?;
+    let changes = changes_of(rt.alloc(), CHANGES)?;
     let entries = changes.entries();
     same(&rt, &entries.len(), &2);
     let Some(control) = entries.get(1) else {
@@ -76,7 +75,7 @@ fn source_names_and_persons(rt: HostRuntime) -> Result<(), Fail> {
     ];
     for (line, source, person) in rows {
         let text = CHANGES.replace(alloc, "Source: hello", line)?;
-        let changes = Changes::read(alloc, text.as_bytes())?;
+        let changes = changes_of(alloc, text.as_str())?;
         same(&rt, &changes.source(), &source);
         same(&rt, &changes.person(), &person);
     }

@@ -1,6 +1,5 @@
-use super::{Record, answer, expect_rows, filled};
+use super::{Record, answer, dsc_of, expect_rows, filled};
 use crate::tests::checks::{same, same_at};
-use records::Dsc;
 use std::test::Fail;
 
 const DSC: &str = "\
@@ -21,7 +20,7 @@ const LIMIT: usize = 1_048_576;
 
 #[test]
 fn hello_is_read(rt: HostRuntime) -> Result<(), Fail> {
-    let dsc = Dsc::read(rt.alloc(), DSC.as_bytes())?;
+    let dsc = dsc_of(rt.alloc(), DSC)?;
     same(&rt, &dsc.source(), &"hello");
     same(&rt, &dsc.version().text(), &"1.0-1");
     same(&rt, &dsc.entries().len(), &1);

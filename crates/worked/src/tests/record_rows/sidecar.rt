@@ -1,6 +1,5 @@
-use super::{Record, answer, expect_rows, filled};
+use super::{Record, answer, expect_rows, filled, sidecar_of};
 use crate::tests::checks::{same, same_at};
-use records::Sidecar;
 use std::test::Fail;
 
 const CONTROL: &str = "\
@@ -15,7 +14,7 @@ const LIMIT: usize = 65_536;
 
 #[test]
 fn hello_is_read(rt: HostRuntime) -> Result<(), Fail> {
-    let sidecar = Sidecar::read(rt.alloc(), CONTROL.as_bytes())?;
+    let sidecar = sidecar_of(rt.alloc(), CONTROL)?;
     same(&rt, &sidecar.package(), &"hello");
     same(&rt, &sidecar.version().text(), &"1.0-1");
     same(&rt, &sidecar.architecture(), &"amd64");
@@ -33,7 +32,7 @@ fn source_names(rt: HostRuntime) -> Result<(), Fail> {
     ];
     for (line, source) in rows {
         let text = CONTROL.replace(alloc, "Version:", line)?;
-        let sidecar = Sidecar::read(alloc, text.as_bytes())?;
+        let sidecar = sidecar_of(alloc, text.as_str())?;
         same(&rt, &sidecar.package(), &"hello");
         same(&rt, &sidecar.source(), &source);
     }
