@@ -1,6 +1,5 @@
 //! What archives do, story by story, over the plain keeper and over the keeper over tables.
 #![tactic(auto)]
 
-pub mod made;
 #[cfg(test)]
 mod tests;

@@ -1,19 +1,14 @@
-//! What an archive does, story by story, over both keepers, and what databases hold.
+//! What an archive does, story by story, over both keepers.
 
+mod checks;
 mod commands;
 mod copies;
-mod failing;
-mod fails;
-mod filed;
 mod fixtures;
-mod full;
-mod garbage;
+mod made;
 mod many;
 mod packages;
 mod serves;
 mod sources;
-mod stops;
+mod steps;
 mod stories;
-mod tampered;
-mod unfinished;
 mod verdicts;

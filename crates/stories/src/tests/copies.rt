@@ -1,113 +1,90 @@
 //! Stories of copies from suite to suite.
 
-use super::fixtures::*;
-use crate::made::Made;
-use keep::{Keeper, PlainKeeper};
-use keep_tables::TableKeeper;
+use super::checks::same_at;
+use super::steps::Step::{Copies, RefusesCopies, Runs, Shows, Uploads};
+use super::steps::{Step, over_lists, over_tables};
+use keep::Keeper;
 use queue::{Archive, Fault};
 use samples::hello::*;
 use samples::uploads::*;
-use sqlite::MemStore;
 use std::alloc::Global;
 use std::process::Abort;
 use std::test::Fail;
 
-/// Copies hello from box to lab, and checks how many items are new there.
-fn expect_copied<K: Keeper>(
-    rt: &impl Abort,
-    alloc: Global,
-    archive: &mut Archive<K>,
-    moment: u64,
-    wanted: u64,
-) -> Result<(), Fail> {
-    let copied = archive.copy(alloc, "box", "lab", "hello", moment)?;
-    assert_eq!(rt; copied, wanted);
-    Ok(())
-}
+/// The Release of the suite that shows the package hello 1.0-1 since the moment of the runs (made by hashlib).
+const COPIED_RELEASE: &[u8] =
+    b"Codename: lab\nDate: Sat, 02 Jul 2016 05:20:50 UTC\nArchitectures: amd64\nComponents: main\nMD5Sum:\n 3fa0535a9efeb9e67a8d1b01b95267c5 325 main/binary-amd64/Packages\nSHA1:\n fc7980eebf1b32167b00ea5b9888fde55c263db4 325 main/binary-amd64/Packages\nSHA256:\n ae899367b094e3c6a9c2d2556e85ff00346adf71198a925aaef425c88be7c38a 325 main/binary-amd64/Packages\n";
 
 /// A copy takes what the target keeps; made again it changes nothing, not even a date.
-fn a_copy_takes_what_the_target_keeps_over<K: Made + Keeper>(
-    rt: &impl Abort,
-    alloc: Global,
-) -> Result<(), Fail> {
-    let mut archive = archive_of::<K>(alloc, PAIR)?;
-    deliver_all(alloc, &mut archive, &HELLO_WITH_SOURCE, None)?;
-    expect_run(
-        rt,
-        alloc,
-        &mut archive,
-        &["accepted hello_1.0-1_source.changes"],
-    )?;
-    expect_bytes(rt, alloc, &mut archive, LAB_PACKAGES, b"")?;
-    expect_copied(rt, alloc, &mut archive, MOMENT, 1)?;
-    expect_bytes(rt, alloc, &mut archive, LAB_PACKAGES, COPIED_PACKAGES)?;
-    let Some(release) = archive.fetch(alloc, LAB_RELEASE)? else {
-        return Err(Fail::from("no Release"));
-    };
-    expect_copied(rt, alloc, &mut archive, MOMENT + 1, 0)?;
-    expect_bytes(rt, alloc, &mut archive, LAB_RELEASE, release.as_slice())
-}
+const MADE_TWICE: [Step; 8] = [
+    Uploads(&HELLO_WITH_SOURCE),
+    Runs(MOMENT, &["accepted hello_1.0-1_source.changes"]),
+    Shows(LAB_PACKAGES, b""),
+    Copies(MOMENT, 1),
+    Shows(LAB_PACKAGES, COPIED_PACKAGES),
+    Shows(LAB_RELEASE, COPIED_RELEASE),
+    Copies(MOMENT + 1, 0),
+    Shows(LAB_RELEASE, COPIED_RELEASE),
+];
 
 #[test]
 fn a_copy_takes_what_the_target_keeps(rt: HostRuntime) -> Result<(), Fail> {
-    a_copy_takes_what_the_target_keeps_over::<PlainKeeper>(&rt, rt.alloc())
+    over_lists(&rt, rt.alloc(), PAIR, &MADE_TWICE)
 }
 
 #[test]
 fn a_copy_takes_what_the_target_keeps_in_tables(rt: HostRuntime) -> Result<(), Fail> {
-    a_copy_takes_what_the_target_keeps_over::<TableKeeper<MemStore>>(&rt, rt.alloc())
+    over_tables(&rt, rt.alloc(), PAIR, &MADE_TWICE)
 }
 
 /// Of a package that box showed in two versions the newer is copied, and it alone.
-fn a_copy_takes_what_is_shown_over<K: Made + Keeper>(
-    rt: &impl Abort,
-    alloc: Global,
-) -> Result<(), Fail> {
-    let mut archive = archive_of::<K>(alloc, PAIR)?;
-    deliver_all(alloc, &mut archive, &OLDER_HELLO, None)?;
-    archive.run(alloc, 0)?;
-    deliver_all(alloc, &mut archive, &HELLO_WITH_SOURCE, None)?;
-    archive.run(alloc, 0)?;
-    expect_copied(rt, alloc, &mut archive, MOMENT, 1)?;
-    expect_bytes(rt, alloc, &mut archive, LAB_PACKAGES, COPIED_PACKAGES)
-}
+const OF_TWO_VERSIONS: [Step; 6] = [
+    Uploads(&OLDER_HELLO),
+    Runs(0, &["accepted hello_0.9-1_source.changes"]),
+    Uploads(&HELLO_WITH_SOURCE),
+    Runs(0, &["accepted hello_1.0-1_source.changes"]),
+    Copies(MOMENT, 1),
+    Shows(LAB_PACKAGES, COPIED_PACKAGES),
+];
 
 #[test]
 fn a_copy_takes_what_is_shown(rt: HostRuntime) -> Result<(), Fail> {
-    a_copy_takes_what_is_shown_over::<PlainKeeper>(&rt, rt.alloc())
+    over_lists(&rt, rt.alloc(), PAIR, &OF_TWO_VERSIONS)
 }
 
 #[test]
 fn a_copy_takes_what_is_shown_in_tables(rt: HostRuntime) -> Result<(), Fail> {
-    a_copy_takes_what_is_shown_over::<TableKeeper<MemStore>>(&rt, rt.alloc())
+    over_tables(&rt, rt.alloc(), PAIR, &OF_TWO_VERSIONS)
 }
 
 /// A newer version that the target shows stays.
-fn a_newer_version_stays_over<K: Made + Keeper>(
-    rt: &impl Abort,
-    alloc: Global,
-) -> Result<(), Fail> {
-    let mut archive = archive_of::<K>(alloc, PAIR)?;
-    deliver_all(alloc, &mut archive, &NEWER_HELLO, None)?;
-    deliver_all(alloc, &mut archive, &HELLO_WITH_SOURCE, None)?;
-    archive.run(alloc, 0)?;
-    expect_copied(rt, alloc, &mut archive, MOMENT, 0)?;
-    expect_bytes(rt, alloc, &mut archive, LAB_PACKAGES, NEWER_PACKAGES)
-}
+const OF_AN_OLDER_VERSION: [Step; 5] = [
+    Uploads(&NEWER_HELLO),
+    Uploads(&HELLO_WITH_SOURCE),
+    Runs(
+        0,
+        &[
+            "accepted hello_1.0-1_source.changes",
+            "accepted hello_1.1-1_amd64.changes",
+        ],
+    ),
+    Copies(MOMENT, 0),
+    Shows(LAB_PACKAGES, NEWER_PACKAGES),
+];
 
 #[test]
 fn a_newer_version_stays(rt: HostRuntime) -> Result<(), Fail> {
-    a_newer_version_stays_over::<PlainKeeper>(&rt, rt.alloc())
+    over_lists(&rt, rt.alloc(), PAIR, &OF_AN_OLDER_VERSION)
 }
 
 #[test]
 fn a_newer_version_stays_in_tables(rt: HostRuntime) -> Result<(), Fail> {
-    a_newer_version_stays_over::<TableKeeper<MemStore>>(&rt, rt.alloc())
+    over_tables(&rt, rt.alloc(), PAIR, &OF_AN_OLDER_VERSION)
 }
 
 /// A copy that is refused, and why.
 #[derive(Clone, Copy)]
-struct Refusal {
+pub struct Refusal {
     from: &'static str,
     to: &'static str,
     source: &'static str,
@@ -153,26 +130,32 @@ const REFUSALS: [Refusal; 5] = [
     },
 ];
 
-fn copies_that_are_refused_over<K: Made + Keeper>(
+/// Checks that copies are refused.
+pub fn expect_refused<K: Keeper>(
     rt: &impl Abort,
     alloc: Global,
-) -> Result<(), Fail> {
-    let mut archive = archive_of::<K>(alloc, PAIR)?;
-    deliver_all(alloc, &mut archive, &HELLO_WITH_SOURCE, None)?;
-    archive.run(alloc, 0)?;
-    for row in REFUSALS {
+    archive: &mut Archive<K>,
+    rows: &[Refusal],
+) {
+    for row in rows {
         let refused = archive.copy(alloc, row.from, row.to, row.source, row.moment);
-        assert_eq!(rt; refused, Err(row.fault));
+        same_at(rt, &refused, &Err(row.fault), &row.to);
     }
-    expect_bytes(rt, alloc, &mut archive, LAB_PACKAGES, b"")
 }
+
+const REFUSED: [Step; 4] = [
+    Uploads(&HELLO_WITH_SOURCE),
+    Runs(0, &["accepted hello_1.0-1_source.changes"]),
+    RefusesCopies(&REFUSALS),
+    Shows(LAB_PACKAGES, b""),
+];
 
 #[test]
 fn copies_that_are_refused(rt: HostRuntime) -> Result<(), Fail> {
-    copies_that_are_refused_over::<PlainKeeper>(&rt, rt.alloc())
+    over_lists(&rt, rt.alloc(), PAIR, &REFUSED)
 }
 
 #[test]
 fn copies_that_are_refused_in_tables(rt: HostRuntime) -> Result<(), Fail> {
-    copies_that_are_refused_over::<TableKeeper<MemStore>>(&rt, rt.alloc())
+    over_tables(&rt, rt.alloc(), PAIR, &REFUSED)
 }

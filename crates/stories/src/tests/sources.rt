@@ -1,224 +1,140 @@
 //! Stories of sources, equal versions, components and packages for all architectures.
 
-use super::fixtures::*;
-use crate::made::Made;
-use keep::{Keeper, PlainKeeper};
-use keep_tables::TableKeeper;
-use queue::Archive;
+use super::steps::Step::{Lacks, Runs, Shows, Uploads, UploadsAs};
+use super::steps::{Step, over_lists, over_tables};
 use samples::hello::*;
 use samples::uploads::*;
-use sqlite::MemStore;
-use std::alloc::Global;
-use std::process::Abort;
 use std::test::Fail;
-
-const LAT_FIRST: &str = "pool/main/l/lat/lat_1.0-1.dsc";
-
-const LAT_FIRST_CHANGES: &str = "pool/main/l/lat/lat_1.0-1.debian.tar";
-
-const LAT_SECOND: &str = "pool/main/l/lat/lat_1.0-2.dsc";
-
-const LAT_SECOND_CHANGES: &str = "pool/main/l/lat/lat_1.0-2.debian.tar";
-
-const LAT_TARBALL: &str = "pool/main/l/lat/lat_1.0.orig.tar";
 
 const DUO: &[u8] = b"Codename: duo\nArchitectures: amd64 arm64\nComponents: main\n";
 
 const TWO_COMPONENTS: &[u8] =
     b"Codename: box\nArchitectures: amd64 source\nComponents: main extra\n";
 
-/// Checks that nothing stands at a path.
-fn expect_nothing<K: Keeper>(
-    rt: &impl Abort,
-    alloc: Global,
-    archive: &mut Archive<K>,
-    path: &str,
-) -> Result<(), Fail> {
-    assert!(rt; archive.fetch(alloc, path)?.is_none(), "{path}");
-    Ok(())
-}
+/// The .dsc of lat 1.0-2.
+const LAT_SECOND: &[u8] =
+    b"Format: 3.0 (quilt)\nSource: lat\nVersion: 1.0-2\nMaintainer: Ann <ann@example.org>\nChecksums-Sha1:\n d4d2e51f54386d1beefab267bd738808fd5ecd61 8 lat_1.0.orig.tar\n 7bee8f3b184e1e141ff76efe369c3b8bfc50e64c 7 lat_1.0-2.debian.tar\nChecksums-Sha256:\n 35d85981feae833a30d2779d893c648955dcf5795ca245b4b0f8b0a403c7b894 8 lat_1.0.orig.tar\n 480c2336b410f1ad5f8bf1b28944490255804b65350c527787e74ebdd511e3a4 7 lat_1.0-2.debian.tar\nFiles:\n efd97097debec79b65dd0a6526b3e349 8 lat_1.0.orig.tar\n 59d0d19fc45ca69230d858f60a5557f8 7 lat_1.0-2.debian.tar\n";
 
 /// A second version may leave out a tarball that the pool has; the pool then has exactly the files of that version.
-fn a_second_version_keeps_the_old_tarball_over<K: Made + Keeper>(
-    rt: &impl Abort,
-    alloc: Global,
-) -> Result<(), Fail> {
-    let mut archive = fresh::<K>(alloc)?;
-    deliver_all(alloc, &mut archive, &LAT_1, None)?;
-    expect_run(
-        rt,
-        alloc,
-        &mut archive,
-        &["accepted lat_1.0-1_source.changes"],
-    )?;
-    expect_bytes(rt, alloc, &mut archive, SOURCES, LAT_SOURCES)?;
-    deliver_all(alloc, &mut archive, &LAT_1_AGAIN, None)?;
-    expect_run(
-        rt,
-        alloc,
-        &mut archive,
-        &["accepted lat_1.0-2_source.changes"],
-    )?;
-    expect_bytes(rt, alloc, &mut archive, SOURCES, LAT_AGAIN_SOURCES)?;
-    expect_bytes(rt, alloc, &mut archive, LAT_TARBALL, b"lat one\n")?;
-    expect_bytes(rt, alloc, &mut archive, LAT_SECOND_CHANGES, b"second\n")?;
-    expect_bytes(rt, alloc, &mut archive, LAT_SECOND, LAT_1_AGAIN[1].body)?;
-    expect_nothing(rt, alloc, &mut archive, LAT_FIRST)?;
-    expect_nothing(rt, alloc, &mut archive, LAT_FIRST_CHANGES)
-}
+const OLD_TARBALL: [Step; 11] = [
+    Uploads(&LAT_1),
+    Runs(MOMENT, &["accepted lat_1.0-1_source.changes"]),
+    Shows(SOURCES, LAT_SOURCES),
+    Uploads(&LAT_1_AGAIN),
+    Runs(MOMENT, &["accepted lat_1.0-2_source.changes"]),
+    Shows(SOURCES, LAT_AGAIN_SOURCES),
+    Shows("pool/main/l/lat/lat_1.0.orig.tar", b"lat one\n"),
+    Shows("pool/main/l/lat/lat_1.0-2.debian.tar", b"second\n"),
+    Shows("pool/main/l/lat/lat_1.0-2.dsc", LAT_SECOND),
+    Lacks("pool/main/l/lat/lat_1.0-1.dsc"),
+    Lacks("pool/main/l/lat/lat_1.0-1.debian.tar"),
+];
 
 #[test]
 fn a_second_version_keeps_the_old_tarball(rt: HostRuntime) -> Result<(), Fail> {
-    a_second_version_keeps_the_old_tarball_over::<PlainKeeper>(&rt, rt.alloc())
+    over_lists(&rt, rt.alloc(), BOX, &OLD_TARBALL)
 }
 
 #[test]
 fn a_second_version_keeps_the_old_tarball_in_tables(rt: HostRuntime) -> Result<(), Fail> {
-    a_second_version_keeps_the_old_tarball_over::<TableKeeper<MemStore>>(&rt, rt.alloc())
+    over_tables(&rt, rt.alloc(), BOX, &OLD_TARBALL)
 }
 
 /// Each upload of a run is judged against what the one before left: the tarball of 1.0 is gone once 2.0 is shown.
-fn the_pool_is_as_the_upload_before_left_it_over<K: Made + Keeper>(
-    rt: &impl Abort,
-    alloc: Global,
-) -> Result<(), Fail> {
-    let orders: [(&str, &str, &str); 2] = [
-        ("b.changes", "a.changes", "refused 8 b.changes"),
-        ("a.changes", "b.changes", "accepted b.changes"),
-    ];
-    for (again, newer, second) in orders {
-        let mut archive = fresh::<K>(alloc)?;
-        deliver_all(alloc, &mut archive, &LAT_1, None)?;
-        archive.run(alloc, MOMENT)?;
-        deliver_all(alloc, &mut archive, &LAT_1_AGAIN, Some(again))?;
-        deliver_all(alloc, &mut archive, &LAT_2, Some(newer))?;
-        expect_run(rt, alloc, &mut archive, &["accepted a.changes", second])?;
-    }
-    Ok(())
-}
+const NEWER_FIRST: [Step; 5] = [
+    Uploads(&LAT_1),
+    Runs(MOMENT, &["accepted lat_1.0-1_source.changes"]),
+    UploadsAs("b.changes", &LAT_1_AGAIN),
+    UploadsAs("a.changes", &LAT_2),
+    Runs(MOMENT, &["accepted a.changes", "refused 8 b.changes"]),
+];
+
+const NEWER_LAST: [Step; 5] = [
+    Uploads(&LAT_1),
+    Runs(MOMENT, &["accepted lat_1.0-1_source.changes"]),
+    UploadsAs("a.changes", &LAT_1_AGAIN),
+    UploadsAs("b.changes", &LAT_2),
+    Runs(MOMENT, &["accepted a.changes", "accepted b.changes"]),
+];
 
 #[test]
 fn the_pool_is_as_the_upload_before_left_it(rt: HostRuntime) -> Result<(), Fail> {
-    the_pool_is_as_the_upload_before_left_it_over::<PlainKeeper>(&rt, rt.alloc())
+    over_lists(&rt, rt.alloc(), BOX, &NEWER_FIRST)?;
+    over_lists(&rt, rt.alloc(), BOX, &NEWER_LAST)
 }
 
 #[test]
 fn the_pool_is_as_the_upload_before_left_it_in_tables(rt: HostRuntime) -> Result<(), Fail> {
-    the_pool_is_as_the_upload_before_left_it_over::<TableKeeper<MemStore>>(&rt, rt.alloc())
+    over_tables(&rt, rt.alloc(), BOX, &NEWER_FIRST)?;
+    over_tables(&rt, rt.alloc(), BOX, &NEWER_LAST)
 }
 
+/// The Release of the suite that shows tie 1.0 since the moment of the runs (made by hashlib).
+const TIE_RELEASE: &[u8] =
+    b"Codename: box\nDate: Sat, 02 Jul 2016 05:20:50 UTC\nArchitectures: amd64\nComponents: main\nMD5Sum:\n 52567245b773132c716b84fea34f2bf9 314 main/binary-amd64/Packages\n d41d8cd98f00b204e9800998ecf8427e 0 main/source/Sources\nSHA1:\n e6e1c2dfa131a2302dd3a67d24b3290dce95fd74 314 main/binary-amd64/Packages\n da39a3ee5e6b4b0d3255bfef95601890afd80709 0 main/source/Sources\nSHA256:\n 3c1a10dae58a2f99101c234b847fd0e331e1c7c2e09b4b82d552d46499282b63 314 main/binary-amd64/Packages\n e3b0c44298fc1c149afbf4c8996fb92427ae41e4649b934ca495991b7852b855 0 main/source/Sources\n";
+
 /// Of equal versions the first admitted stays: neither index nor date changes, and the pool has no file of the other.
-fn of_equal_versions_the_first_stays_over<K: Made + Keeper>(
-    rt: &impl Abort,
-    alloc: Global,
-) -> Result<(), Fail> {
-    let mut archive = fresh::<K>(alloc)?;
-    deliver_all(alloc, &mut archive, &TIE, None)?;
-    expect_run(rt, alloc, &mut archive, &["accepted tie_1.0_amd64.changes"])?;
-    expect_bytes(rt, alloc, &mut archive, PACKAGES, TIE_PACKAGES)?;
-    let Some(release) = archive.fetch(alloc, RELEASE)? else {
-        return Err(Fail::from("no Release"));
-    };
-    deliver_all(alloc, &mut archive, &TIE_AGAIN, None)?;
-    let report = archive.run(alloc, 1_467_436_851)?;
-    expect_lines(rt, &report.lines, &["accepted tie_1.00_amd64.changes"]);
-    expect_bytes(rt, alloc, &mut archive, PACKAGES, TIE_PACKAGES)?;
-    expect_bytes(rt, alloc, &mut archive, RELEASE, release.as_slice())?;
-    expect_nothing(
-        rt,
-        alloc,
-        &mut archive,
-        "pool/main/t/tie/tie_1.00_amd64.deb",
-    )
-}
+const EQUAL_VERSIONS: [Step; 9] = [
+    Uploads(&TIE),
+    Runs(MOMENT, &["accepted tie_1.0_amd64.changes"]),
+    Shows(PACKAGES, TIE_PACKAGES),
+    Shows(RELEASE, TIE_RELEASE),
+    Uploads(&TIE_AGAIN),
+    Runs(MOMENT + 1, &["accepted tie_1.00_amd64.changes"]),
+    Shows(PACKAGES, TIE_PACKAGES),
+    Shows(RELEASE, TIE_RELEASE),
+    Lacks("pool/main/t/tie/tie_1.00_amd64.deb"),
+];
 
 #[test]
 fn of_equal_versions_the_first_stays(rt: HostRuntime) -> Result<(), Fail> {
-    of_equal_versions_the_first_stays_over::<PlainKeeper>(&rt, rt.alloc())
+    over_lists(&rt, rt.alloc(), BOX, &EQUAL_VERSIONS)
 }
 
 #[test]
 fn of_equal_versions_the_first_stays_in_tables(rt: HostRuntime) -> Result<(), Fail> {
-    of_equal_versions_the_first_stays_over::<TableKeeper<MemStore>>(&rt, rt.alloc())
+    over_tables(&rt, rt.alloc(), BOX, &EQUAL_VERSIONS)
 }
 
 /// A package for all architectures stands in each index of its component; a source that begins with lib has a folder
 /// of four letters, unless lib is the whole name.
-fn all_stands_in_both_indexes_over<K: Made + Keeper>(
-    rt: &impl Abort,
-    alloc: Global,
-) -> Result<(), Fail> {
-    let mut archive = archive_of::<K>(alloc, DUO)?;
-    deliver_all(alloc, &mut archive, &LIBX, None)?;
-    deliver_all(alloc, &mut archive, &LIB, None)?;
-    expect_run(
-        rt,
-        alloc,
-        &mut archive,
+const FOR_ALL: [Step; 7] = [
+    Uploads(&LIBX),
+    Uploads(&LIB),
+    Runs(
+        MOMENT,
         &["accepted lib_1_all.changes", "accepted libx_1_all.changes"],
-    )?;
-    let indexes = [
-        "dists/duo/main/binary-amd64/Packages",
-        "dists/duo/main/binary-arm64/Packages",
-    ];
-    for index in indexes {
-        expect_bytes(rt, alloc, &mut archive, index, DOC_PACKAGES)?;
-    }
-    expect_bytes(
-        rt,
-        alloc,
-        &mut archive,
-        "pool/main/libx/libx/libx-doc_1_all.deb",
-        b"doc x\n",
-    )?;
-    expect_bytes(
-        rt,
-        alloc,
-        &mut archive,
-        "pool/main/l/lib/lib-doc_1_all.deb",
-        b"doc lib\n",
-    )
-}
+    ),
+    Shows("dists/duo/main/binary-amd64/Packages", DOC_PACKAGES),
+    Shows("dists/duo/main/binary-arm64/Packages", DOC_PACKAGES),
+    Shows("pool/main/libx/libx/libx-doc_1_all.deb", b"doc x\n"),
+    Shows("pool/main/l/lib/lib-doc_1_all.deb", b"doc lib\n"),
+];
 
 #[test]
 fn all_stands_in_both_indexes(rt: HostRuntime) -> Result<(), Fail> {
-    all_stands_in_both_indexes_over::<PlainKeeper>(&rt, rt.alloc())
+    over_lists(&rt, rt.alloc(), DUO, &FOR_ALL)
 }
 
 #[test]
 fn all_stands_in_both_indexes_in_tables(rt: HostRuntime) -> Result<(), Fail> {
-    all_stands_in_both_indexes_over::<TableKeeper<MemStore>>(&rt, rt.alloc())
+    over_tables(&rt, rt.alloc(), DUO, &FOR_ALL)
 }
 
 /// A section before a slash names the component.
-fn each_component_has_its_index_over<K: Made + Keeper>(
-    rt: &impl Abort,
-    alloc: Global,
-) -> Result<(), Fail> {
-    let mut archive = archive_of::<K>(alloc, TWO_COMPONENTS)?;
-    deliver_all(alloc, &mut archive, &EXTRA, None)?;
-    expect_run(
-        rt,
-        alloc,
-        &mut archive,
-        &["accepted hello_1.0-1_amd64.changes"],
-    )?;
-    expect_bytes(rt, alloc, &mut archive, PACKAGES, b"")?;
-    expect_bytes(
-        rt,
-        alloc,
-        &mut archive,
-        "dists/box/extra/binary-amd64/Packages",
-        EXTRA_PACKAGES,
-    )
-}
+const IN_EXTRA: [Step; 4] = [
+    Uploads(&EXTRA),
+    Runs(MOMENT, &["accepted hello_1.0-1_amd64.changes"]),
+    Shows(PACKAGES, b""),
+    Shows("dists/box/extra/binary-amd64/Packages", EXTRA_PACKAGES),
+];
 
 #[test]
 fn each_component_has_its_index(rt: HostRuntime) -> Result<(), Fail> {
-    each_component_has_its_index_over::<PlainKeeper>(&rt, rt.alloc())
+    over_lists(&rt, rt.alloc(), TWO_COMPONENTS, &IN_EXTRA)
 }
 
 #[test]
 fn each_component_has_its_index_in_tables(rt: HostRuntime) -> Result<(), Fail> {
-    each_component_has_its_index_over::<TableKeeper<MemStore>>(&rt, rt.alloc())
+    over_tables(&rt, rt.alloc(), TWO_COMPONENTS, &IN_EXTRA)
 }

@@ -5,7 +5,7 @@ ghost use Rattle.sqlite_disk.specs.Disk.{CountsFault};
 ghost use Rattle.sqlite_disk.specs.Refusal.{finds_no_room};
 ghost use Rattle.sqlite_disk.specs.Tally.{both_counts};
 
-use super::filed::Faulty;
+use super::faulty::Faulty;
 use sqlite_disk::{Crash, Disk, Memory, Tally};
 use std::io;
 

@@ -4,9 +4,15 @@ ghost use Rattle.std.specs.Prelude.{◌≡◌, ◌+◌, ◌&&◌, not, false};
 ghost use Rattle.sqlite_disk.specs.Disk.{CountsFault};
 ghost use Rattle.sqlite_disk.specs.Refusal.{finds_no_room};
 
-use super::filed::Faulty;
+use super::faulty::Faulty;
 use sqlite_disk::{Crash, Disk, Memory, Tally};
 use std::io;
+
+/// A disk that fails, and says whether it has.
+pub trait Telling: Faulty {
+    /// Whether a call has failed.
+    fn has_failed(&self) -> bool;
+}
 
 /// A disk that passes so many calls on, fails one, and passes each one after on.
 #[derive(Drop)]
@@ -27,11 +33,6 @@ impl<D: Disk> Failing<D> {
             refused: 0,
             sync_refused: false,
         }
-    }
-
-    /// Whether a call has failed.
-    pub fn has_failed(&self) -> bool {
-        self.calls_left.is_none()
     }
 }
 
@@ -145,5 +146,11 @@ impl Faulty for Failing<Memory> {
 
     fn held(&self) -> &Memory {
         &self.inner
+    }
+}
+
+impl Telling for Failing<Memory> {
+    fn has_failed(&self) -> bool {
+        self.calls_left.is_none()
     }
 }
