@@ -5,7 +5,7 @@ use desk::{DeskFault, Served, answer};
 use keep::Keeper;
 use queue::Archive;
 use std::alloc::Global;
-use std::io::{self, BufWriter, Read};
+use std::io::{self, BufWriter, Read, Write};
 use std::net::{Shutdown, TcpListener, TcpStream};
 use std::time::{Clock, Duration, Instant};
 
@@ -89,6 +89,17 @@ fn attend<R: Clock + AllocGlobal, K: Keeper>(
     Ok(())
 }
 
+/// Answers the request that a reader has.
+fn answer_to<K: Keeper, R: Read, W: Write>(
+    alloc: Global,
+    archive: &mut Archive<K>,
+    reader: &mut R,
+    writer: &mut W,
+    moment: u64,
+) -> Result<Served, DeskFault> {
+    answer(alloc, archive, reader, writer, moment)
+}
+
 /// Answers the request of a stream. The reply goes through a buffer, where there is memory for one.
 fn answer_stream<K: Keeper>(
     alloc: Global,
@@ -98,10 +109,10 @@ fn answer_stream<K: Keeper>(
 ) -> Result<Served, DeskFault> {
     let mut reader = stream;
     match BufWriter::new(alloc, stream) {
-        Ok(mut writer) => answer(alloc, archive, &mut reader, &mut writer, moment),
+        Ok(mut writer) => answer_to(alloc, archive, &mut reader, &mut writer, moment),
         Err(_) => {
             let mut writer = stream;
-            answer(alloc, archive, &mut reader, &mut writer, moment)
+            answer_to(alloc, archive, &mut reader, &mut writer, moment)
         }
     }
 }

@@ -1,5 +1,6 @@
 //! What the program prints, and how it ends.
 
+mod checks;
 mod fixtures;
 mod printed;
 mod program;

@@ -1,13 +1,12 @@
 //! The words that ask for the archive of a database file.
 
 use crate::act::body_of;
-use crate::database::{close, create_archive, open_archive};
+use crate::database::{FileKeeper, InFile, close, create_archive, open_archive};
 use crate::fault::Stop;
 use crate::{answers, serve};
 use keep::Keeper;
 use queue::Archive;
 use rules::Config;
-use sqlite::Wary;
 use std::io::Write;
 use std::net::TcpListener;
 
@@ -48,13 +47,24 @@ pub enum Word<'w, 'a> {
     },
 }
 
+/// Makes an archive in a database file, over a keeper of this type.
+fn init_over<'a, K: InFile + Keeper>(
+    rt: &HostRuntime,
+    db: &str,
+    at: u64,
+    conf: &'a str,
+) -> Result<(), Stop<'a>> {
+    let text = body_of(rt, conf)?;
+    let config = Config::read(rt.alloc(), &text)?;
+    let archive: Archive<K> = create_archive(rt, db, config, at)?;
+    close(archive);
+    Ok(())
+}
+
 /// Makes an archive in a database file at a moment, in seconds since 1970-01-01 00:00:00 UTC, with the configuration of
 /// a file.
 pub fn init<'a>(rt: &HostRuntime, db: &str, at: u64, conf: &'a str) -> Result<(), Stop<'a>> {
-    let text = body_of(rt, conf)?;
-    let config = Config::read(rt.alloc(), &text)?;
-    close(create_archive(rt, db, Wary, config, at)?);
-    Ok(())
+    init_over::<FileKeeper>(rt, db, at, conf)
 }
 
 /// Serves so many connections at an address.
@@ -96,6 +106,19 @@ fn ask<'a, K: Keeper, W: Write>(
     Ok(true)
 }
 
+/// Asks the archive of a database file, over a keeper of this type.
+fn ask_over<'a, K: InFile + Keeper, W: Write>(
+    rt: &HostRuntime,
+    db: &str,
+    word: Word<'_, 'a>,
+    out: &mut W,
+) -> Result<bool, Stop<'a>> {
+    let mut archive: Archive<K> = open_archive(rt, db)?;
+    let done = ask(rt, &mut archive, word, out);
+    close(archive);
+    done
+}
+
 /// Asks the archive of a database file, and says whether all that was given was taken.
 pub fn ask_file<'a, W: Write>(
     rt: &HostRuntime,
@@ -103,8 +126,5 @@ pub fn ask_file<'a, W: Write>(
     word: Word<'_, 'a>,
     out: &mut W,
 ) -> Result<bool, Stop<'a>> {
-    let mut archive = open_archive(rt, db, Wary)?;
-    let done = ask(rt, &mut archive, word, out);
-    close(archive);
-    done
+    ask_over::<FileKeeper, W>(rt, db, word, out)
 }

@@ -1,11 +1,13 @@
-//! Archives to ask, and what is wanted of their answers.
+//! Archives to ask, files to hand to them, and what is wanted of their answers.
 
+use super::checks::{holds_at, same_at};
 use keep::{Keeper, PlainKeeper};
 use queue::Archive;
 use rules::Config;
 use samples::hello::BOX;
 use samples::uploads::File;
 use std::alloc::Global;
+use std::fs;
 use std::process::Abort;
 use std::test::Fail;
 
@@ -41,8 +43,25 @@ pub fn expect_bytes<K: Keeper>(
     wanted: &[u8],
 ) -> Result<(), Fail> {
     match archive.fetch(alloc, path)? {
-        Some(found) => assert_eq!(rt; found.as_slice(), wanted, "{path}"),
-        None => assert!(rt; false, "nothing at {path}"),
+        Some(found) => same_at(rt, &found.as_slice(), &wanted, &path),
+        None => holds_at(rt, false, &path),
+    }
+    Ok(())
+}
+
+/// Writes a file into a folder.
+fn write_file(rt: &HostRuntime, folder: &str, file: &File) -> Result<(), Fail> {
+    let path = format!(in rt.alloc(); "{folder}/{name}", name = file.name)?;
+    fs::write(rt, path.as_str(), file.body)?;
+    Ok(())
+}
+
+/// Makes a folder anew, with these files.
+pub fn write_folder(rt: &HostRuntime, folder: &str, files: &[File]) -> Result<(), Fail> {
+    let _ = fs::remove_dir_all(rt, folder);
+    fs::create_dir(rt, folder)?;
+    for file in files {
+        write_file(rt, folder, file)?;
     }
     Ok(())
 }
