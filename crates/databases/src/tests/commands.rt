@@ -18,18 +18,35 @@ use std::test::Fail;
 /// What an archive answers whose disk failed.
 const DISK: Fault = Fault::Keeper(KeepFault::Disk);
 
+/// The verdicts before the run.
+const OLDER_ACCEPTED: [&str; 1] = ["accepted hello_0.9-1_source.changes"];
+
+/// Those behind it.
+const BOTH_ACCEPTED: [&str; 2] = [
+    "accepted hello_0.9-1_source.changes",
+    "accepted hello_1.0-1_source.changes",
+];
+
+/// The index of a suite that shows the package of the older source (made by hashlib).
+const OLDER_PACKAGES: &[u8] =
+    b"Package: hello\nVersion: 0.9-1\nArchitecture: amd64\nMaintainer: Ann <ann@example.org>\nDescription: greets\nFilename: pool/main/h/hello/hello_0.9-1_amd64.deb\nSize: 12\nMD5sum: 3b01bdfe8f5125717216628232e6eba6\nSHA1: 1487ba605bc960f752cbe9218873bf7c660406c2\nSHA256: ee24421255e10ce6e8c5cad1ab1339b38d5321b913b223c8306f4ed2f0572ba7\n\n";
+
+/// What the run takes out of the pool.
+const OLDER_POOL_FILE: &str = "pool/main/h/hello/hello_0.9-1.dsc";
+
 /// A command whose disk stops or fails.
 #[derive(Clone, Copy)]
 pub enum Command {
     /// Delivers a body of two pieces.
     Delivery,
-    /// Judges hello.
+    /// Judges hello, whose older source and its package are replaced.
     Run,
     /// Copies hello from box to lab.
     Copying,
 }
 
-/// What comes before a command: hello arrives, and is judged where a copy is to come.
+/// What comes before a command: an older hello is shown where a run is to replace it, hello arrives, and is judged where a copy is
+/// to come.
 #[derive(Clone, Copy)]
 struct Preparation(Command);
 
@@ -40,6 +57,10 @@ impl Task for Preparation {
         alloc: Global,
         archive: &mut Archive<K>,
     ) -> Result<bool, Fail> {
+        if matches!(self.0, Command::Run) {
+            deliver_all(alloc, archive, &OLDER_HELLO)?;
+            archive.run(alloc, MOMENT)?;
+        }
         deliver_all(alloc, archive, &HELLO_WITH_SOURCE)?;
         if matches!(self.0, Command::Copying) {
             archive.run(alloc, MOMENT)?;
@@ -95,8 +116,9 @@ pub fn still_answers<R: Abort, K: Keeper>(
     match archive.verdicts(alloc) {
         Ok(report) => {
             match command {
+                Command::Delivery => expect_lines(rt, &report.lines, &[]),
+                Command::Run => expect_lines(rt, &report.lines, &OLDER_ACCEPTED),
                 Command::Copying => expect_lines(rt, &report.lines, &ACCEPTED),
-                _ => expect_lines(rt, &report.lines, &[]),
             }
             Ok(true)
         }
@@ -119,9 +141,21 @@ fn deliver_again<R: Abort, K: Keeper>(
     Ok(matches!(arrived, Again))
 }
 
-/// Whether an upload is judged.
+/// Whether hello is judged.
 fn is_judged<K: Keeper>(alloc: Global, archive: &mut Archive<K>) -> Result<bool, Fail> {
-    Ok(archive.verdicts(alloc)?.lines.len() != 0)
+    Ok(archive.verdicts(alloc)?.lines.len() == 2)
+}
+
+/// Checks that box shows hello alone: its package, and nothing of the older source in the pool.
+fn expect_replaced<R: Abort, K: Keeper>(
+    rt: &R,
+    alloc: Global,
+    archive: &mut Archive<K>,
+) -> Result<(), Fail> {
+    expect_bytes(rt, alloc, archive, PACKAGES, COPIED_PACKAGES)?;
+    let left = archive.fetch(alloc, OLDER_POOL_FILE)?;
+    holds(rt, left.is_none());
+    Ok(())
 }
 
 /// Runs the queue, and checks what box shows before and what the run reports.
@@ -146,10 +180,10 @@ fn run_again<R: Abort, K: Keeper>(
     if judged {
         expect_step(rt, alloc, archive, COPIED_PACKAGES, &[])?;
     } else {
-        expect_step(rt, alloc, archive, b"", &ACCEPTED)?;
+        expect_step(rt, alloc, archive, OLDER_PACKAGES, &ACCEPTED)?;
     }
-    expect_verdicts(rt, alloc, archive, &ACCEPTED)?;
-    expect_bytes(rt, alloc, archive, PACKAGES, COPIED_PACKAGES)?;
+    expect_verdicts(rt, alloc, archive, &BOTH_ACCEPTED)?;
+    expect_replaced(rt, alloc, archive)?;
     Ok(judged)
 }
 
