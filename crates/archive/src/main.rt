@@ -1,16 +1,8 @@
 //! The program: an archive on the command line.
 #![tactic(auto)]
 
-mod act;
-mod answers;
-mod database;
-mod fault;
-mod serve;
-#[cfg(test)]
-mod tests;
-mod words;
-
 use command_line::LineFault;
+use commands::act;
 use std::process::ExitCode;
 use std::{env, io};
 
@@ -45,7 +37,7 @@ fn run(rt: &HostRuntime) -> io::Result<u8> {
         words.push(word.as_str())?;
     }
     match command_line::line(alloc, &words) {
-        Ok(line) => Ok(act::act(rt, &line, &mut io::writer(rt), &mut rt.stderr())),
+        Ok(line) => Ok(act(rt, &line, &mut io::writer(rt), &mut rt.stderr())),
         Err(fault) => explain(rt, &fault),
     }
 }
