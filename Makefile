@@ -7,7 +7,8 @@ PROGRAM = crates/archive/out/archive
 .PHONY: try build install test wrong
 
 try:
-	@cd crates/archive && rt try -- try data/hello_1.0-1_amd64.changes data/hello_1.0-1_amd64.deb data/hello_1.0-1_amd64.control 2>/dev/null
+	@echo 'The stored files of an upload go through an archive in memory, which prints its index. Compiling takes about a minute.' >&2
+	@cd crates/first && rt try -- data/hello_1.0-1_amd64.changes data/hello_1.0-1_amd64.deb data/hello_1.0-1_amd64.control
 
 build:
 	cd crates/archive && rt run -- compare 1.0-1 1.0-2

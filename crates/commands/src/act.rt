@@ -1,9 +1,10 @@
 //! What the program does for a line.
 
+use crate::database::{FileKeeper, InFile};
 use crate::fault::Stop;
 use crate::words::{self, Word};
 use command_line::CommandLine;
-use keep::PlainKeeper;
+use keep::{Keeper, PlainKeeper};
 use queue::{Archive, Fault};
 use rules::Config;
 use std::alloc::Global;
@@ -57,23 +58,51 @@ fn box_archive(alloc: Global) -> Result<Archive<PlainKeeper>, Fault> {
     }
 }
 
-/// Delivers the files to an archive of their own, runs its queue, and prints the Packages of what was accepted.
+/// Delivers a file at 0, under the text behind its path's last slash.
+fn deliver_file<'a, R: Files + AllocGlobal, K: Keeper>(
+    rt: &R,
+    archive: &mut Archive<K>,
+    path: &'a str,
+) -> Result<(), Stop<'a>> {
+    let body = body_of(rt, path)?;
+    archive.deliver(rt.alloc(), file_name(path), &body, 0)?;
+    Ok(())
+}
+
+/// Prints the Packages of what was accepted.
+fn print_packages<'a, K: Keeper, W: Write>(
+    alloc: Global,
+    archive: &mut Archive<K>,
+    out: &mut W,
+) -> Result<(), Stop<'a>> {
+    if let Some(text) = archive.fetch(alloc, BOX_PACKAGES)? {
+        out.write_all(&text)?;
+    }
+    Ok(())
+}
+
+/// Delivers the files to an archive, runs its queue, and prints the Packages of what was accepted.
+fn try_files<'a, R: Files + AllocGlobal, K: Keeper, W: Write>(
+    rt: &R,
+    archive: &mut Archive<K>,
+    paths: &[&'a str],
+    out: &mut W,
+) -> Result<(), Stop<'a>> {
+    for path in paths {
+        deliver_file(rt, archive, path)?;
+    }
+    archive.run(rt.alloc(), 0)?;
+    print_packages(rt.alloc(), archive, out)
+}
+
+/// The same with an archive of their own.
 fn try_upload<'a, R: Files + AllocGlobal, W: Write>(
     rt: &R,
     paths: &[&'a str],
     out: &mut W,
 ) -> Result<(), Stop<'a>> {
-    let alloc = rt.alloc();
-    let mut archive = box_archive(alloc)?;
-    for path in paths {
-        let body = body_of(rt, path)?;
-        archive.deliver(alloc, file_name(path), &body, 0)?;
-    }
-    archive.run(alloc, 0)?;
-    if let Some(text) = archive.fetch(alloc, BOX_PACKAGES)? {
-        out.write_all(&text)?;
-    }
-    Ok(())
+    let mut archive = box_archive(rt.alloc())?;
+    try_files(rt, &mut archive, paths, out)
 }
 
 /// Prints how two versions compare.
@@ -94,8 +123,8 @@ fn compare<'a, W: Write>(
     Ok(())
 }
 
-/// Does a line, and says whether all that was given was taken.
-fn done<'a, W: Write>(
+/// Does a line over keepers of this type, and says whether all that was given was taken.
+fn done<'a, K: InFile + Keeper, W: Write>(
     rt: &HostRuntime,
     line: &CommandLine<'a>,
     out: &mut W,
@@ -110,7 +139,7 @@ fn done<'a, W: Write>(
             return Ok(true);
         }
         CommandLine::Init { db, at, conf } => {
-            words::init(rt, db, *at, conf)?;
+            words::init::<K>(rt, db, *at, conf)?;
             return Ok(true);
         }
         CommandLine::Put { db, at, paths } => (*db, Word::Put { at: *at, paths }),
@@ -147,18 +176,36 @@ fn done<'a, W: Write>(
             },
         ),
     };
-    words::ask_file(rt, db, word, out)
+    words::ask_file::<K, W>(rt, db, word, out)
 }
 
-/// Does a line, and has its output written out.
-fn finished<'a, W: Write>(
+/// The same, with its output written out.
+fn finished<'a, K: InFile + Keeper, W: Write>(
     rt: &HostRuntime,
     line: &CommandLine<'a>,
     out: &mut W,
 ) -> Result<bool, Stop<'a>> {
-    let all = done(rt, line, out)?;
+    let all = done::<K, W>(rt, line, out)?;
     out.flush()?;
     Ok(all)
+}
+
+/// Does a line over keepers of this type, and answers the exit status.
+fn act_over<K: InFile + Keeper, W: Write, E: Write>(
+    rt: &HostRuntime,
+    line: &CommandLine<'_>,
+    out: &mut W,
+    err: &mut E,
+) -> u8 {
+    match finished::<K, W>(rt, line, out) {
+        Ok(true) => 0,
+        Ok(false) => 1,
+        Err(Stop::Unwritten) => 3,
+        Err(stop) => match writeln!(err, "{stop}") {
+            Ok(()) => stop.status(),
+            Err(_) => 3,
+        },
+    }
 }
 
 /// Does a line, and answers the exit status: 0 where it is done; 1 where something is refused or a file can't be read;
@@ -171,13 +218,5 @@ pub fn act<W: Write, E: Write>(
     out: &mut W,
     err: &mut E,
 ) -> u8 {
-    match finished(rt, line, out) {
-        Ok(true) => 0,
-        Ok(false) => 1,
-        Err(Stop::Unwritten) => 3,
-        Err(stop) => match writeln!(err, "{stop}") {
-            Ok(()) => stop.status(),
-            Err(_) => 3,
-        },
-    }
+    act_over::<FileKeeper, W, E>(rt, line, out, err)
 }

@@ -1,7 +1,7 @@
 //! The words that ask for the archive of a database file.
 
 use crate::act::body_of;
-use crate::database::{FileKeeper, InFile, close, create_archive, open_archive};
+use crate::database::{InFile, close, create_archive, open_archive};
 use crate::fault::Stop;
 use crate::{answers, serve};
 use keep::Keeper;
@@ -47,8 +47,9 @@ pub enum Word<'w, 'a> {
     },
 }
 
-/// Makes an archive in a database file, over a keeper of this type.
-fn init_over<'a, K: InFile + Keeper>(
+/// Makes an archive in a database file at a moment, in seconds since 1970-01-01 00:00:00 UTC, with the configuration of
+/// a file.
+pub fn init<'a, K: InFile + Keeper>(
     rt: &HostRuntime,
     db: &str,
     at: u64,
@@ -59,12 +60,6 @@ fn init_over<'a, K: InFile + Keeper>(
     let archive: Archive<K> = create_archive(rt, db, config, at)?;
     close(archive);
     Ok(())
-}
-
-/// Makes an archive in a database file at a moment, in seconds since 1970-01-01 00:00:00 UTC, with the configuration of
-/// a file.
-pub fn init<'a>(rt: &HostRuntime, db: &str, at: u64, conf: &'a str) -> Result<(), Stop<'a>> {
-    init_over::<FileKeeper>(rt, db, at, conf)
 }
 
 /// Serves so many connections at an address.
@@ -106,8 +101,8 @@ fn ask<'a, K: Keeper, W: Write>(
     Ok(true)
 }
 
-/// Asks the archive of a database file, over a keeper of this type.
-fn ask_over<'a, K: InFile + Keeper, W: Write>(
+/// Asks the archive of a database file, and says whether all that was given was taken.
+pub fn ask_file<'a, K: InFile + Keeper, W: Write>(
     rt: &HostRuntime,
     db: &str,
     word: Word<'_, 'a>,
@@ -117,14 +112,4 @@ fn ask_over<'a, K: InFile + Keeper, W: Write>(
     let done = ask(rt, &mut archive, word, out);
     close(archive);
     done
-}
-
-/// Asks the archive of a database file, and says whether all that was given was taken.
-pub fn ask_file<'a, W: Write>(
-    rt: &HostRuntime,
-    db: &str,
-    word: Word<'_, 'a>,
-    out: &mut W,
-) -> Result<bool, Stop<'a>> {
-    ask_over::<FileKeeper, W>(rt, db, word, out)
 }
