@@ -1,6 +1,6 @@
 //! What the program prints of an archive, over any keeper.
 
-use crate::act::{body_of, file_name};
+use crate::doing::{body_of, file_name};
 use crate::fault::Stop;
 use keep::Keeper;
 use queue::{Archive, Arrived, Fault, Report};

@@ -2,14 +2,14 @@
 //! served over HTTP.
 #![tactic(auto)]
 
-mod act;
 mod answers;
 mod database;
+mod doing;
 mod fault;
-mod serve;
+mod serving;
 mod words;
 
-pub use act::act;
 pub use database::{FileKeeper, InFile, close, create_archive, open_archive};
+pub use doing::{act, explain};
 pub use fault::Stop;
-pub use serve::{Patience, serve, serve_within};
+pub use serving::{Patience, serve, serve_within};

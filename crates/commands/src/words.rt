@@ -1,9 +1,9 @@
 //! The words that ask for the archive of a database file.
 
-use crate::act::body_of;
 use crate::database::{InFile, close, create_archive, open_archive};
+use crate::doing::body_of;
 use crate::fault::Stop;
-use crate::{answers, serve};
+use crate::{answers, serving};
 use keep::Keeper;
 use queue::Archive;
 use rules::Config;
@@ -71,7 +71,7 @@ fn listen<'a, K: Keeper>(
     count: u64,
 ) -> Result<(), Stop<'a>> {
     match TcpListener::bind(rt, address) {
-        Ok(listener) => serve::serve(rt, archive, &listener, count, at),
+        Ok(listener) => serving::serve(rt, archive, &listener, count, at),
         Err(_) => Err(Stop::CannotListen),
     }
 }

@@ -3,7 +3,7 @@
 use crate::database::{FileKeeper, InFile};
 use crate::fault::Stop;
 use crate::words::{self, Word};
-use command_line::CommandLine;
+use command_line::{CommandLine, LineFault};
 use keep::{Keeper, PlainKeeper};
 use queue::{Archive, Fault};
 use rules::Config;
@@ -219,4 +219,33 @@ pub fn act<W: Write, E: Write>(
     err: &mut E,
 ) -> u8 {
     act_over::<FileKeeper, W, E>(rt, line, out, err)
+}
+
+/// Prints why words are no line, and has it written out: the help that was asked for on `out`, or what is wrong with the
+/// words on `err`.
+fn explained<W: Write, E: Write>(fault: &LineFault, out: &mut W, err: &mut E) -> io::Result<u8> {
+    match fault {
+        LineFault::OutOfMemory => {
+            writeln!(err, "archive: {fault}")?;
+            Ok(3)
+        }
+        LineFault::Help(text) => {
+            write!(out, "{text}")?;
+            out.flush()?;
+            Ok(0)
+        }
+        LineFault::Refused(text) => {
+            write!(err, "{text}")?;
+            Ok(2)
+        }
+    }
+}
+
+/// Prints why words are no line, and answers the exit status: 0 for the help that was asked for, which is printed on
+/// `out`; 2 for words that are refused, with a text on `err` that says why; 3 where memory runs out or an output fails.
+pub fn explain<W: Write, E: Write>(fault: &LineFault, out: &mut W, err: &mut E) -> u8 {
+    match explained(fault, out, err) {
+        Ok(status) => status,
+        Err(_) => 3,
+    }
 }
