@@ -110,7 +110,9 @@ fn expect_rows(rt: &impl Abort, alloc: Global, rows: &[Row<'_>]) -> Result<(), F
 fn an_upload_goes_through(rt: HostRuntime) -> Result<(), Fail> {
     let alloc = rt.alloc();
     let [changes, deb, control] = HELLO;
-    let (changes, deb, control) = (put(alloc, &changes)?, put(alloc, &deb)?, put(alloc, &control)?);
+    let changes = put(alloc, &changes)?;
+    let deb = put(alloc, &deb)?;
+    let control = put(alloc, &control)?;
     let files = [changes.as_slice(), deb.as_slice(), control.as_slice()];
     expect_rows(&rt, alloc, upload_rows(alloc, files)?.as_slice())
 }
