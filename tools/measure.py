@@ -1,0 +1,148 @@
+"""What runs of a program take: processor time, of the user and of the system, the time that passes, and the most memory."""
+import contextlib
+import dataclasses
+import os
+import platform
+import resource
+import socket
+import subprocess
+import sys
+import tempfile
+import time
+
+
+def stop(why):
+    """Ends the script that measures."""
+    sys.exit(f"{os.path.basename(sys.argv[0])}: {why}")
+
+
+@dataclasses.dataclass(frozen=True)
+class Taken:
+    """What something took: processor time and the time that passed in seconds, and the most memory in KiB."""
+
+    processor: float
+    elapsed: float
+    peak: int
+
+    def __add__(self, other):
+        return Taken(self.processor + other.processor, self.elapsed + other.elapsed, max(self.peak, other.peak))
+
+    def __sub__(self, other):
+        return Taken(self.processor - other.processor, self.elapsed - other.elapsed, self.peak)
+
+    def __truediv__(self, count):
+        return Taken(self.processor / count, self.elapsed / count, self.peak)
+
+    def least(self, other):
+        """The less of two times, and of two sizes."""
+        return Taken(min(self.processor, other.processor), min(self.elapsed, other.elapsed), min(self.peak, other.peak))
+
+
+def total(parts):
+    """What all of these took together."""
+    first, *others = parts
+    for other in others:
+        first += other
+    return first
+
+
+def line(words, folder=None, status=0):
+    """Runs a command line to its end. Answers what it took, and what it printed on both outputs.
+
+    The most memory of a run is no less than what this script had when it began the run."""
+    with tempfile.TemporaryFile() as out:
+        start = time.perf_counter()
+        ran = subprocess.Popen(words, cwd=folder, stdin=subprocess.DEVNULL, stdout=out, stderr=out)
+        _, ended, used = os.wait4(ran.pid, 0)
+        elapsed = time.perf_counter() - start
+        ran.returncode = os.waitstatus_to_exitcode(ended)
+        out.seek(0)
+        printed = out.read()
+    if ran.returncode != status:
+        stop(f"{' '.join(words[:3])} .. ended with status {ran.returncode}: {printed[-500:].decode(errors='replace')}")
+    return Taken(used.ru_utime + used.ru_stime, elapsed, used.ru_maxrss), printed
+
+
+def free_port():
+    with socket.socket() as it:
+        it.bind(("127.0.0.1", 0))
+        return it.getsockname()[1]
+
+
+class Server:
+    """A program that answers HTTP on loopback while the `with` lasts. Its words may hold {port}."""
+
+    def __init__(self, words):
+        self.port = free_port()
+        words = [word.format(port=self.port) for word in words]
+        self.process = subprocess.Popen(words, stdin=subprocess.DEVNULL, stdout=subprocess.DEVNULL, stderr=subprocess.DEVNULL)
+
+    def __enter__(self):
+        try:
+            self.wait()
+        except BaseException:
+            self.process.kill()
+            raise
+        return self
+
+    def __exit__(self, *_):
+        self.process.kill()
+        self.process.wait()
+
+    def wait(self):
+        """Waits for the first connection to come about."""
+        while True:
+            with contextlib.suppress(ConnectionRefusedError):
+                socket.create_connection(("127.0.0.1", self.port)).close()
+                return
+            if self.process.poll() is not None:
+                stop(f"{self.process.args[0]} ended with status {self.process.returncode}, and no server came up")
+            time.sleep(0.01)
+
+    def ask(self, method, path, body=b""):
+        """Makes a request over a connection of its own, and answers the status and the body of the reply."""
+        head = f"{method} /{path} HTTP/1.1\r\nHost: localhost\r\nContent-Length: {len(body)}\r\nConnection: close\r\n\r\n"
+        with socket.create_connection(("127.0.0.1", self.port)) as it:
+            it.sendall(head.encode() + body)
+            parts = []
+            while part := it.recv(1 << 20):
+                parts.append(part)
+        head, _, answered = b"".join(parts).partition(b"\r\n\r\n")
+        return int(head.split()[1]), answered
+
+    def so_far(self):
+        """What the server has taken so far, and the moment."""
+        clock = ~self.process.pid << 3 | 2  # the clock that Linux keeps of another process
+        with open(f"/proc/{self.process.pid}/status", encoding="ascii") as it:
+            peak = next(int(line.split()[1]) for line in it if line.startswith("VmHWM:"))
+        return Taken(time.clock_gettime(clock), time.perf_counter(), peak)
+
+    @contextlib.contextmanager
+    def taking(self):
+        """A list to which what the server takes in this time is added. Its memory is the most since it began."""
+        taken, before = [], self.so_far()
+        yield taken
+        taken.append(self.so_far() - before)
+
+
+def own_peak():
+    """The most memory that this script has had, in KiB."""
+    return resource.getrusage(resource.RUSAGE_SELF).ru_maxrss
+
+
+def machine():
+    """The machine, in words."""
+    return f"{platform.system()} {platform.release()} on {platform.machine()}, {os.cpu_count()} processors, load {os.getloadavg()[0]:.1f}"
+
+
+def figure(number):
+    """A number with three digits that count."""
+    digits = 0 if abs(number) >= 100 else 1 if abs(number) >= 10 else 2
+    return f"{number:,.{digits}f}"
+
+
+def table(rows):
+    """A table of rows of texts, the head first, as Markdown that is plain text too."""
+    widths = [max(len(row[place]) for row in rows) for place in range(len(rows[0]))]
+    head, *others = [f"| {' | '.join(text.ljust(width) for text, width in zip(row, widths))} |" for row in rows]
+    return "\n".join([head, f"|{'|'.join('-' * (width + 2) for width in widths)}|", *others])
