@@ -1,14 +1,17 @@
 """What runs of a program take: processor time, of the user and of the system, the time that passes, and the most memory."""
 import contextlib
+import ctypes
 import dataclasses
 import os
 import platform
-import resource
 import socket
 import subprocess
 import sys
 import tempfile
 import time
+
+# The word of prctl(2) that has a process take over the children of its children.
+PR_SET_CHILD_SUBREAPER = 36
 
 
 def stop(why):
@@ -46,20 +49,28 @@ def total(parts):
     return first
 
 
-def line(words, folder=None, status=0):
-    """Runs a command line to its end. Answers what it took, and what it printed on both outputs.
+def started(words, folder, out):
+    """Starts a command line by a shell that ends, so that it is a child of this script then. Answers its number.
 
-    The most memory of a run is no less than what this script had when it began the run."""
+    The most memory that Linux tells of a process is no less than what its parent had at its start, and a shell has little."""
+    process = ctypes.CDLL(None)
+    process.prctl(PR_SET_CHILD_SUBREAPER, 1, 0, 0, 0)
+    script = '"$@" 2>&1 & echo $! >&2'
+    shell = subprocess.run(["sh", "-c", script, "sh", *words], cwd=folder, stdin=subprocess.DEVNULL, stdout=out, stderr=subprocess.PIPE, check=True)
+    process.prctl(PR_SET_CHILD_SUBREAPER, 0, 0, 0, 0)
+    return int(shell.stderr)
+
+
+def line(words, folder=None, status=0):
+    """Runs a command line to its end. Answers what it took, and what it printed on both outputs."""
     with tempfile.TemporaryFile() as out:
         start = time.perf_counter()
-        ran = subprocess.Popen(words, cwd=folder, stdin=subprocess.DEVNULL, stdout=out, stderr=out)
-        _, ended, used = os.wait4(ran.pid, 0)
+        _, ended, used = os.wait4(started(words, folder, out), 0)
         elapsed = time.perf_counter() - start
-        ran.returncode = os.waitstatus_to_exitcode(ended)
         out.seek(0)
         printed = out.read()
-    if ran.returncode != status:
-        stop(f"{' '.join(words[:3])} .. ended with status {ran.returncode}: {printed[-500:].decode(errors='replace')}")
+    if os.waitstatus_to_exitcode(ended) != status:
+        stop(f"{' '.join(words[:3])} .. did not end with status {status}: {printed[-500:].decode(errors='replace')}")
     return Taken(used.ru_utime + used.ru_stime, elapsed, used.ru_maxrss), printed
 
 
@@ -74,7 +85,7 @@ class Server:
 
     def __init__(self, words):
         self.port = free_port()
-        words = [word.format(port=self.port) for word in words]
+        words = [word.replace("{port}", str(self.port)) for word in words]
         self.process = subprocess.Popen(words, stdin=subprocess.DEVNULL, stdout=subprocess.DEVNULL, stderr=subprocess.DEVNULL)
 
     def __enter__(self):
@@ -102,7 +113,7 @@ class Server:
     def ask(self, method, path, body=b""):
         """Makes a request over a connection of its own, and answers the status and the body of the reply."""
         head = f"{method} /{path} HTTP/1.1\r\nHost: localhost\r\nContent-Length: {len(body)}\r\nConnection: close\r\n\r\n"
-        with socket.create_connection(("127.0.0.1", self.port)) as it:
+        with socket.create_connection(("127.0.0.1", self.port), timeout=600) as it:
             it.sendall(head.encode() + body)
             parts = []
             while part := it.recv(1 << 20):
@@ -125,24 +136,36 @@ class Server:
         taken.append(self.so_far() - before)
 
 
-def own_peak():
-    """The most memory that this script has had, in KiB."""
-    return resource.getrusage(resource.RUSAGE_SELF).ru_maxrss
-
-
-def machine():
-    """The machine, in words."""
-    return f"{platform.system()} {platform.release()} on {platform.machine()}, {os.cpu_count()} processors, load {os.getloadavg()[0]:.1f}"
-
-
 def figure(number):
-    """A number with three digits that count."""
+    """A number with the digits that count."""
     digits = 0 if abs(number) >= 100 else 1 if abs(number) >= 10 else 2
     return f"{number:,.{digits}f}"
 
 
-def table(rows):
-    """A table of rows of texts, the head first, as Markdown that is plain text too."""
-    widths = [max(len(row[place]) for row in rows) for place in range(len(rows[0]))]
+def cell(taken):
+    """What something took, in words."""
+    if not taken:
+        return ""
+    times = f"{figure(taken.processor * 1000)} / {figure(taken.elapsed * 1000)} ms"
+    return f"{times}, {figure(taken.peak / 1024)} MiB" if taken.peak else times
+
+
+def heading(*more):
+    """What stands over a table: the line that makes it again, the machine, and more sentences."""
+    words = [f"tools/{os.path.basename(sys.argv[0])}", "ARCHIVE", "FOLDER", *sys.argv[3:]]
+    machine = f"{platform.system()} {platform.release()}, {platform.machine()}, {os.cpu_count()} processors, load {os.getloadavg()[0]:.1f}."
+    cells = "Each cell: processor time / time that passes, most memory."
+    return f"`{' '.join(words)}`\n\n{' '.join([machine, cells, *filter(None, more)])}\n"
+
+
+def table(head, rows):
+    """A table of texts, as Markdown that is plain text too."""
+    rows = [head, *rows]
+    widths = [max(len(row[place]) for row in rows) for place in range(len(head))]
     head, *others = [f"| {' | '.join(text.ljust(width) for text, width in zip(row, widths))} |" for row in rows]
     return "\n".join([head, f"|{'|'.join('-' * (width + 2) for width in widths)}|", *others])
+
+
+def table_of(titles, rows):
+    """A table of what things took: a title for each column, and a row for each thing, with what it took in each column."""
+    return table(["What", *titles], [[what, *map(cell, taken)] for what, taken in rows])
