@@ -1,4 +1,5 @@
 """What runs of a program take: processor time, of the user and of the system, the time that passes, and the most memory."""
+import argparse
 import contextlib
 import ctypes
 import dataclasses
@@ -49,16 +50,34 @@ def total(parts):
     return first
 
 
+def mean(parts):
+    """What one of these took."""
+    return total(parts) / len(parts)
+
+
+def words(script):
+    """What reads the words of a script, the program and the folder first."""
+    parser = argparse.ArgumentParser(description=script, formatter_class=argparse.RawDescriptionHelpFormatter)
+    parser.add_argument("archive", metavar="ARCHIVE")
+    parser.add_argument("folder", metavar="FOLDER")
+    return parser
+
+
+def numbers(word):
+    """The numbers of a word, as 10,1000."""
+    return [int(part) for part in word.split(",") if part]
+
+
 def started(words, folder, out):
     """Starts a command line by a shell that ends, so that it is a child of this script then. Answers its number.
 
     The most memory that Linux tells of a process is no less than what its parent had at its start, and a shell has little."""
     process = ctypes.CDLL(None)
     process.prctl(PR_SET_CHILD_SUBREAPER, 1, 0, 0, 0)
-    script = '"$@" 2>&1 & echo $! >&2'
-    shell = subprocess.run(["sh", "-c", script, "sh", *words], cwd=folder, stdin=subprocess.DEVNULL, stdout=out, stderr=subprocess.PIPE, check=True)
+    shell = ["sh", "-c", '"$@" 2>&1 & echo $! >&2', "sh", *words]
+    told = subprocess.run(shell, cwd=folder, stdin=subprocess.DEVNULL, stdout=out, stderr=subprocess.PIPE, check=True).stderr
     process.prctl(PR_SET_CHILD_SUBREAPER, 0, 0, 0, 0)
-    return int(shell.stderr)
+    return int(told)
 
 
 def line(words, folder=None, status=0):
@@ -86,7 +105,8 @@ class Server:
     def __init__(self, words):
         self.port = free_port()
         words = [word.replace("{port}", str(self.port)) for word in words]
-        self.process = subprocess.Popen(words, stdin=subprocess.DEVNULL, stdout=subprocess.DEVNULL, stderr=subprocess.DEVNULL)
+        nothing = subprocess.DEVNULL
+        self.process = subprocess.Popen(words, stdin=nothing, stdout=nothing, stderr=nothing)
 
     def __enter__(self):
         try:
@@ -153,7 +173,8 @@ def cell(taken):
 def heading(*more):
     """What stands over a table: the line that makes it again, the machine, and more sentences."""
     words = [f"tools/{os.path.basename(sys.argv[0])}", "ARCHIVE", "FOLDER", *sys.argv[3:]]
-    machine = f"{platform.system()} {platform.release()}, {platform.machine()}, {os.cpu_count()} processors, load {os.getloadavg()[0]:.1f}."
+    system = f"{platform.system()} {platform.release()}, {platform.machine()}"
+    machine = f"{system}, {os.cpu_count()} processors, load {os.getloadavg()[0]:.1f}."
     cells = "Each cell: processor time / time that passes, most memory."
     return f"`{' '.join(words)}`\n\n{' '.join([machine, cells, *filter(None, more)])}\n"
 
@@ -162,7 +183,8 @@ def table(head, rows):
     """A table of texts, as Markdown that is plain text too."""
     rows = [head, *rows]
     widths = [max(len(row[place]) for row in rows) for place in range(len(head))]
-    head, *others = [f"| {' | '.join(text.ljust(width) for text, width in zip(row, widths))} |" for row in rows]
+    lines = [" | ".join(text.ljust(width) for text, width in zip(row, widths)) for row in rows]
+    head, *others = [f"| {line} |" for line in lines]
     return "\n".join([head, f"|{'|'.join('-' * (width + 2) for width in widths)}|", *others])
 
 

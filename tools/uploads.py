@@ -13,10 +13,6 @@ import tarfile
 # The configuration of an archive for these uploads: they come to `box`, and can be copied to `lab`.
 CONFIGURATION = "\n".join(f"Codename: {suite}\nArchitectures: amd64 source\nComponents: main\n" for suite in ("box", "lab"))
 
-# The most bytes that a file of an upload may have, and data that makes a .deb of nearly so many.
-LARGEST = 4_194_304
-LARGE = 4_190_000
-
 # The moment of all that has a date, in seconds since 1970-01-01 00:00:00 UTC, and as a record tells it.
 MOMENT = 1_467_435_600
 DATE = "Sat, 02 Jul 2016 05:00:00 +0000"
@@ -71,6 +67,10 @@ class Package:
     pad: int = 0
     description: int = 0
     source: bool = False
+
+
+# A package whose .deb is nearly as large as a file may be, which is 4 MiB.
+LARGE = Package("large", pad=4_190_000)
 
 
 def tar_of(files):
@@ -170,6 +170,11 @@ def write(folder, files):
 def name_of(number):
     """The name of the package of a number: they begin with all letters, and so stand all over the pool."""
     return f"{'abcdefghijklmnopqrstuvwxyz'[number % 26]}pkg{number:05}"
+
+
+def small(count):
+    """So many files of 4,096 bytes, which all differ, each a body by its name."""
+    return {f"file{number}_1.0-1_amd64.deb": number.to_bytes(8, "little") + b"." * 4088 for number in range(count)}
 
 
 def make(folder, count, first=0, source_every=0, **words):
