@@ -3,6 +3,7 @@
 
 mod delivery;
 mod drives;
+mod failures;
 mod keepers;
 mod numbers;
 mod outcomes;

@@ -1,10 +1,11 @@
 //! A story: an archive, and what is asked of it.
 
 use crate::drives::drive;
+use crate::failures::{cut, reader_fails, writer_fails};
 use crate::keepers::Keepers;
 use crate::numbers::numbers;
 use crate::reading::{status, wanted};
-use crate::requests::{cut, reader_fails, request};
+use crate::requests::request;
 use crate::steps::{copy, deliver, has, moment_of, run, show, verdicts, waiting};
 use keep::{KeepFault, Keeper, LATEST};
 use queue::Archive;
@@ -62,50 +63,48 @@ fn keeper_text(alloc: Global, fault: KeepFault) -> Result<Vec<u8>, Unread> {
     }
 }
 
-/// `archive CONFIG [MOMENT]`: a new archive, or why there is none.
-fn made<K: Keepers>(
-    alloc: Global,
-    words: &[Vec<u8>],
-) -> Result<(Option<Archive<K::Kept>>, Vec<u8>), Unread> {
-    let Some((text, rest)) = words.split_first() else {
-        return Err(Unread::BadWords);
-    };
-    let moment = moment_of(rest)?;
-    if moment > LATEST {
-        return Err(Unread::BadWords);
-    }
-    let config = match Config::read(alloc, text.as_slice()) {
-        Ok(config) => config,
-        Err(fault) => return Ok((None, said(alloc, fault.to_string(alloc)?.as_str())?)),
-    };
-    match K::made(alloc, config, moment) {
-        Ok(keeper) => Ok((Some(Archive::new(keeper)), said(alloc, "made")?)),
-        Err(fault) => Ok((None, keeper_text(alloc, fault)?)),
-    }
-}
-
-/// `reopen`: the archive is closed and opened again; `opened`, or why it is not.
-fn reopened<K: Keepers>(
-    alloc: Global,
-    archive: Archive<K::Kept>,
-) -> Result<(Option<Archive<K::Kept>>, Vec<u8>), Unread> {
-    match K::reopened(alloc, archive.into_keeper()) {
-        Ok(keeper) => Ok((Some(Archive::new(keeper)), said(alloc, "opened")?)),
-        Err(fault) => Ok((None, keeper_text(alloc, fault)?)),
-    }
-}
-
 impl<K: Keepers> Story<K> {
-    /// Has an archive from here on, or none, and answers.
-    fn go_on(&mut self, (archive, answer): (Option<Archive<K::Kept>>, Vec<u8>)) -> Vec<u8> {
-        self.archive = archive;
-        answer
+    /// Has an archive over a keeper from here on, and says so; or none, and says why.
+    fn keep(
+        &mut self,
+        alloc: Global,
+        keeper: Result<K::Kept, KeepFault>,
+        done: &str,
+    ) -> Result<Vec<u8>, Unread> {
+        match keeper {
+            Ok(keeper) => {
+                self.archive = Some(Archive::new(keeper));
+                said(alloc, done)
+            }
+            Err(fault) => {
+                self.archive = None;
+                keeper_text(alloc, fault)
+            }
+        }
     }
 
-    /// Opens the archive again.
+    /// `archive CONFIG [MOMENT]`: `made`, or why there is no archive. With no moment it is made at 0.
+    fn make(&mut self, alloc: Global, words: &[Vec<u8>]) -> Result<Vec<u8>, Unread> {
+        let Some((text, rest)) = words.split_first() else {
+            return Err(Unread::BadWords);
+        };
+        let moment = moment_of(rest)?;
+        if moment > LATEST {
+            return Err(Unread::BadWords);
+        }
+        match Config::read(alloc, text.as_slice()) {
+            Ok(config) => self.keep(alloc, K::made(alloc, config, moment), "made"),
+            Err(fault) => said(alloc, fault.to_string(alloc)?.as_str()),
+        }
+    }
+
+    /// `reopen`: the archive is closed and opened again; `opened`, or why it is not.
     fn reopen(&mut self, alloc: Global) -> Result<Vec<u8>, Unread> {
         match self.archive.take() {
-            Some(archive) => Ok(self.go_on(reopened::<K>(alloc, archive)?)),
+            Some(archive) => {
+                let keeper = K::reopened(alloc, archive.into_keeper());
+                self.keep(alloc, keeper, "opened")
+            }
             None => Err(Unread::BadWords),
         }
     }
@@ -113,28 +112,36 @@ impl<K: Keepers> Story<K> {
     /// What the archive answers, which is there.
     fn ask(&mut self, alloc: Global, verb: &str, words: &[Vec<u8>]) -> Result<Vec<u8>, Unread> {
         match &mut self.archive {
+            Some(archive) if verb == "writer-fails" => {
+                writer_fails::<K>(alloc, archive.keeper.config().text(), words)
+            }
             Some(archive) => asked(alloc, archive, verb, words),
             None => Err(Unread::BadWords),
         }
     }
-}
 
-impl<K: Keepers> Answers for Story<K> {
-    fn fresh(_alloc: Global) -> Story<K> {
-        Story { archive: None }
-    }
-
-    fn answer(&mut self, alloc: Global, words: &[Vec<u8>]) -> Result<Vec<u8>, Unread> {
-        let Some((verb, words)) = words.split_first() else {
-            return Err(Unread::BadWords);
-        };
-        match text_of(verb)? {
-            "archive" => Ok(self.go_on(made::<K>(alloc, words)?)),
+    /// Does a row.
+    fn tell(&mut self, alloc: Global, verb: &str, words: &[Vec<u8>]) -> Result<Vec<u8>, Unread> {
+        match verb {
+            "archive" => self.make(alloc, words),
             "reopen" => self.reopen(alloc),
             "status" => status(alloc, words),
             "wanted" => wanted(alloc, words),
             "numbers" => numbers(alloc, words),
             verb => self.ask(alloc, verb, words),
         }
+    }
+}
+
+impl<K: Keepers, R: AllocGlobal> Answers<R> for Story<K> {
+    fn fresh(_rt: &R) -> Story<K> {
+        Story { archive: None }
+    }
+
+    fn answer(&mut self, rt: &R, words: &[Vec<u8>]) -> Result<Vec<u8>, Unread> {
+        let Some((verb, words)) = words.split_first() else {
+            return Err(Unread::BadWords);
+        };
+        self.tell(rt.alloc(), text_of(verb)?, words)
     }
 }

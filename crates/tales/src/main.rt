@@ -7,16 +7,15 @@
 mod keepers;
 
 use crate::keepers::{Lists, Tables};
+use rows::report_files;
 use std::io;
 use std::process::ExitCode;
 use story::Story;
 
 /// Tells the stories over both keepers.
 fn tell(rt: &HostRuntime) -> io::Result<bool> {
-    println!(rt; "over lists:")?;
-    let over_lists = rows::report_files::<Story<Lists>, HostRuntime>(rt)?;
-    println!(rt; "over tables:")?;
-    let over_tables = rows::report_files::<Story<Tables>, HostRuntime>(rt)?;
+    let over_lists = report_files::<Story<Lists>, HostRuntime>(rt, "over lists: ")?;
+    let over_tables = report_files::<Story<Tables>, HostRuntime>(rt, "over tables: ")?;
     Ok(over_lists && over_tables)
 }
 
