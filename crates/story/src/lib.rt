@@ -7,6 +7,7 @@ mod failures;
 mod keepers;
 mod numbers;
 mod outcomes;
+mod pieces;
 mod readers;
 mod reading;
 mod requests;

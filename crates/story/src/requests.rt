@@ -1,5 +1,6 @@
 //! Requests and their replies.
 
+use crate::pieces::replace_pieces;
 use crate::readers::Pieces;
 use desk::{Served, answer};
 use keep::Keeper;
@@ -41,15 +42,18 @@ pub fn reply_to<K: Keeper>(
     }
 }
 
-/// `request MOST MOMENT BYTES`: the reply to a request that comes at most so many bytes a read.
+/// `request MOST MOMENT BYTES [OLD NEW]..`: the reply to a request that comes at most so many bytes a read. Each OLD of the bytes is
+/// replaced by its NEW.
 pub fn request<K: Keeper>(
     alloc: Global,
     archive: &mut Archive<K>,
     words: &[Vec<u8>],
 ) -> Result<Vec<u8>, Unread> {
-    let [most, moment, bytes] = words else {
+    let [most, moment, bytes, pairs @ ..] = words else {
         return Err(Unread::BadWords);
     };
+    let mut bytes = Vec::from_slice(alloc, bytes.as_slice())?;
+    replace_pieces(alloc, &mut Vec::new(alloc), &mut bytes, pairs)?;
     let mut reader = Pieces {
         bytes: bytes.as_slice(),
         most: number_of(most)?.min(MOST) as usize,
