@@ -141,7 +141,7 @@ pub fn shelves_in(
     ensures none { IfOk result (λ o. o ≡ None → AreReadable (tables_with all.now) → (shown : ShelvesValue) →
         AreItems (tables_with all.now) config.now.suites shown → AreSound shown → ⊥) }
 {
-    // The configuration is what its text spells, so no two suites have one codename.
+    // For the prover alone: the configuration is what its text spells, so no two suites have one codename.
     let _ = config.text();
     let found = shelves_of(
         alloc,
@@ -152,6 +152,7 @@ pub fn shelves_in(
     let Some(shelves) = found else {
         return Ok(None);
     };
+    // For the prover alone: the shelves are sound.
     shelves.agree();
     Ok(Some(shelves))
 }

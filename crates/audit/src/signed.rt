@@ -11,14 +11,14 @@ use sums::{Print, is_file_name};
 /// The most bytes of a .changes.
 const MOST_CHANGES: u64 = 1_048_576;
 
-/// A law: so many bytes have their length.
+/// So many bytes have their length. For the prover alone: the law is the contract.
 fn has_length<const N: usize>(bytes: &[u8; N])
     ensures { length bytes.now ≡ N }
 {
     let _ = bytes;
 }
 
-/// A law: the digests of a print have 16, 20 and 32 bytes.
+/// The digests of a print have 16, 20 and 32 bytes. For the prover alone: the law is the contract.
 fn has_lengths(print: &Print)
     ensures { IsRealPrint print.now }
 {
@@ -31,6 +31,7 @@ fn has_lengths(print: &Print)
 fn is_signed(judgement: &Judgement) -> bool
     ensures { IsTrue result ↔ IsSigned judgement.now.name judgement.now.print }
 {
+    // For the prover alone: the digests have their lengths.
     has_lengths(&judgement.print);
     let name = judgement.name.as_str();
     is_changes_name(name) && is_file_name(name) && judgement.print.size <= MOST_CHANGES

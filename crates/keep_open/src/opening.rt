@@ -64,7 +64,7 @@ fn archive_of<S: Alter>(alloc: Global, conn: &mut Connection<S>) -> Result<Optio
     ensures cause { HasCleanDisk (state S.Store conn.new) → IfErr result (IsCaused (state S.Store conn.old) (state S.Store conn.new)) }
     ensures survives { Survives (state S.Store conn.old) (state S.Store conn.new) (λ _. ⊥) }
 {
-    // What the keys of the tables keep true holds of each open connection.
+    // For the prover alone: what the keys of the tables keep true holds of each open connection.
     let _ = conn.schema();
     let Some(all) = read_all(alloc, conn)? else {
         return Ok(None);

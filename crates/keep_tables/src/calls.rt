@@ -44,6 +44,7 @@ pub fn take_delivery<S: Alter>(
         → Turns (state S.Store conn.old).committed db config judged shown dates judged shown dates
         (λ b. with_delivery b (record { name = name.now; body = body.now; moment = moment })))) }
 {
+    // For the prover alone: outside a transaction the connection has what is committed.
     let _idle = conn.is_autocommit();
     let found = record_of(alloc, name, body)?;
     take_file(alloc, conn, name, body, moment, entries_of(&found))

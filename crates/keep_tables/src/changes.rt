@@ -86,6 +86,7 @@ pub(crate) fn make_change<S: Alter>(
         → Turns (state S.Store conn.old).committed db config.now before shown dates
         (before ++ judgements change.now.steps) (shown_past shown change.now.steps) (dates_past change.now.moment dates change.now.steps) (λ b. amended b change.now))) }
 {
+    // For the prover alone: outside a transaction the connection has what is committed.
     let _idle = conn.is_autocommit();
     let inside = stands_inside(change.steps.as_slice(), config.suites().len());
     if !inside {

@@ -73,7 +73,7 @@ impl<S: Alter + Drop> TableKeeper<S> {
         let Ok(dates) = vec![in alloc; moment; config.suites().len()] else {
             return Err((connection, KeepFault::OutOfMemory));
         };
-        // A configuration that was read is that of its text.
+        // For the prover alone: the configuration is what its text spells.
         let _ = config.text();
         match create(alloc, &mut connection, &config, moment) {
             Ok(()) => Ok(TableKeeper {

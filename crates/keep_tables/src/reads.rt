@@ -39,6 +39,7 @@ pub fn read_due<S: Alter>(alloc: Global, conn: &mut Connection<S>) -> Result<Vec
         → KeepsArchive (state S.Store conn.old).committed config judged shown dates
         → IfOk result (λ uploads. map (λ u. (u.name, u.print)) uploads.items ≡ map sign_of (due (book_of (state S.Store conn.old).committed config judged shown dates))) }
 {
+    // For the prover alone: outside a transaction the connection has what is committed.
     let _settled = conn.is_autocommit();
     serve(alloc, conn)?;
     due_uploads(alloc, conn)
@@ -58,6 +59,7 @@ pub fn read_waiting<S: Alter>(
         → KeepsArchive (state S.Store conn.old).committed config judged shown dates
         → IfOk result (λ all. all.items ≡ waiting_list (book_of (state S.Store conn.old).committed config judged shown dates)) }
 {
+    // For the prover alone: outside a transaction the connection has what is committed.
     let _settled = conn.is_autocommit();
     serve(alloc, conn)?;
     waiting_uploads(alloc, conn)
@@ -78,6 +80,7 @@ pub fn read_file<S: Alter>(
         → KeepsArchive (state S.Store conn.old).committed config judged shown dates
         → IfOk result (λ file. option_map (λ body. body.items) file ≡ (book_of (state S.Store conn.old).committed config judged shown dates).files path.now) }
 {
+    // For the prover alone: outside a transaction the connection has what is committed.
     let _settled = conn.is_autocommit();
     serve(alloc, conn)?;
     file_body(alloc, conn, path)
@@ -98,6 +101,7 @@ pub fn read_text<S: Alter>(
         → KeepsArchive (state S.Store conn.old).committed config judged shown dates
         → IfOk result (λ text. option_map (λ body. body.items) text ≡ text_at (book_of (state S.Store conn.old).committed config judged shown dates) path.now) }
 {
+    // For the prover alone: outside a transaction the connection has what is committed.
     let _settled = conn.is_autocommit();
     serve(alloc, conn)?;
     match select_text(alloc, conn, path)? {
@@ -121,6 +125,7 @@ pub fn read_shown<S: Alter>(
         → KeepsArchive (state S.Store conn.old).committed config.now judged shown dates
         → IfOk result (λ shelves. shelves ≡ shown) }
 {
+    // For the prover alone: outside a transaction the connection has what is committed.
     let _settled = conn.is_autocommit();
     serve(alloc, conn)?;
     read_shelves(alloc, conn, config)

@@ -31,7 +31,7 @@ pub fn read_shelves<S: Alter>(
         → OnErr result (IsUndone (state S.Store conn.old) (state S.Store conn.new)) }
     ensures survives { Survives (state S.Store conn.old) (state S.Store conn.new) (λ _. (t : Tables) → ¬ Holds (state S.Store conn.old).now t) }
 {
-    // The configuration is what its text spells, so no two suites have one codename.
+    // For the prover alone: the configuration is what its text spells, so no two suites have one codename.
     let _ = config.text();
     let mut shelves = Shelves::new(alloc);
     for (id, row) in select_items(alloc, conn)? {

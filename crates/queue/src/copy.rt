@@ -86,6 +86,7 @@ pub fn copy_plan(
     ensures plan { IfOk result (IsCopy config.now shelves.now from to source.now) }
     ensures refused { IfErr result (λ e. (e ≡ Fault.OutOfMemory) ⊎ ((e ≡ Fault.NothingToCopy) × (shows_source shelves.now from source.now ≡ false))) }
 {
+    // For the prover alone: the shelves are sound.
     shelves.agree();
     if !shows_source(shelves, from, source) {
         return Err(Fault::NothingToCopy);

@@ -51,6 +51,7 @@ pub fn judged_steps(
     // What records tell of all that is shown stays so.
     ensures told { OnOk result (AreTold config.now.suites shelves.old → AreTold config.now.suites (after_uploads config.now shelves.old uploads.now)) }
 {
+    // For the prover alone: the shelves are sound.
     shelves.agree();
     let mut steps = Vec::new(alloc);
     for upload in uploads {

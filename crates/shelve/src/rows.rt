@@ -172,6 +172,7 @@ fn admit(alloc: Global, shelves: &mut Shelves, suite: usize, item: Item) -> Resu
     requires fits { list_any (may_not_join_pool (pool shelves.old) item.files) item.files ≡ false }
     ensures { OnOk result (IsPut shelves.old shelves.new (standing suite item)) }
 {
+    // For the prover alone: the shelves are sound.
     shelves.agree();
     let mut items = Vec::new(alloc);
     items.push(item)?;

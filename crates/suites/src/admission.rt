@@ -143,6 +143,7 @@ pub fn plan_admission(
     ensures verdict { IfOk result (λ plan. plan.verdict ≡ verdict.Accepted) }
     ensures step { IfOk result (IsStep shelves.now (shown_after version_of shelves.now (map (standing suite) items.items))) }
 {
+    // For the prover alone: the shelves are sound.
     shelves.agree();
     let items = by_shelf(alloc, suite, items)?;
     let ItemChange { put, dropped } = item_change(alloc, shelves, items)?;

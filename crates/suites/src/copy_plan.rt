@@ -77,6 +77,7 @@ pub fn plan_copy(
     ensures step { IfOk result (IsStep shelves.now (after_copy config.now shelves.now from to source.now)) }
     ensures told { AreTold config.now.suites shelves.now → AreTold config.now.suites (after_copy config.now shelves.now from to source.now) }
 {
+    // For the prover alone: the shelves are sound.
     shelves.agree();
     let target = &config.suites()[to];
     let items = copied_items(alloc, shelves, from, source, target)?;

@@ -323,7 +323,8 @@ impl Shelves {
         Ok(Shelves { items, files })
     }
 
-    /// A law: each item stands on its own shelf, and all agree on the contents at each path.
+    /// Each item stands on its own shelf, and all agree on the contents at each path. For the prover alone: the law is the
+    /// contract.
     pub fn agree(&self)
         ensures { AreSound self.now }
     {

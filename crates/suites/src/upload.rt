@@ -66,7 +66,7 @@ impl Upload {
         self.print
     }
 
-    /// Each listed file has its text, and no two have one name. Nothing is done: the law is the contract.
+    /// Each listed file has its text, and no two have one name. For the prover alone: the law is the contract.
     pub fn lists_once(&self)
         ensures { IsUpload self.now }
     {

@@ -66,6 +66,7 @@ pub fn plan_upload(
     ensures step { IfOk result (IsStep shelves.now (after_upload config.now shelves.now upload.now)) }
     ensures told { AreTold config.now.suites shelves.now → AreTold config.now.suites (after_upload config.now shelves.now upload.now) }
 {
+    // For the prover alone: each listed file has its text, no two have one name, and the shelves are sound.
     upload.lists_once();
     shelves.agree();
     let place = match judge(config, upload.changes()) {

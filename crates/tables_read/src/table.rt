@@ -99,7 +99,7 @@ fn rows<S: Alter, T: Stored>(
     typed(alloc, &rows)
 }
 
-/// Nothing, but that an open connection has a sound database.
+/// An open connection has a sound database. For the prover alone: the law is the contract.
 fn live<S: Alter>(conn: &Connection<S>)
     ensures { IsLive (state S.Store conn.now) }
 {
