@@ -33,11 +33,13 @@ fn count_rows(rt: &impl Print, label: &str, checked: &Checked) -> io::Result<boo
 /// Prints what is known of a file, and answers whether it is as it is wanted. Of texts alone nothing is printed.
 fn report(rt: &impl Print, label: &str, checked: &Checked) -> io::Result<bool> {
     rt.print(checked.report.as_str())?;
-    if has_texts(label) && checked.is_whole && checked.rows == 0 {
-        return Ok(true);
+    if !has_texts(label) || !checked.is_whole {
+        return count_rows(rt, label, checked);
     }
-    let as_wanted = count_rows(rt, label, checked)?;
-    Ok(as_wanted && !has_texts(label))
+    if checked.rows > 0 {
+        println!(rt; "{label}: rows in a file of texts")?;
+    }
+    Ok(checked.rows == 0)
 }
 
 /// Does the rows of a file.
