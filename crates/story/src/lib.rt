@@ -1,0 +1,18 @@
+//! Stories of archives, as rows: deliveries, runs, copies, look-ups and requests, over any keeper.
+#![tactic(auto)]
+
+mod delivery;
+mod drives;
+mod failures;
+mod keepers;
+mod numbers;
+mod outcomes;
+mod pieces;
+mod readers;
+mod reading;
+mod requests;
+mod steps;
+mod telling;
+
+pub use keepers::Keepers;
+pub use telling::{Story, asked};

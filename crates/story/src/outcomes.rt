@@ -1,0 +1,57 @@
+//! What calls of an archive answer, as texts.
+
+use queue::{Arrived, Fault, Report};
+use rows::{Unread, said};
+use std::alloc::Global;
+
+/// A fault as it is printed. Want of memory ends the file.
+pub fn refused_text(alloc: Global, fault: Fault) -> Result<Vec<u8>, Unread> {
+    match fault {
+        Fault::OutOfMemory => Err(Unread::OutOfMemory),
+        fault => said(alloc, fault.to_string(alloc)?.as_str()),
+    }
+}
+
+/// `new`, `again`, or the fault.
+pub fn arrived_text(alloc: Global, done: Result<Arrived, Fault>) -> Result<Vec<u8>, Unread> {
+    match done {
+        Ok(Arrived::New) => said(alloc, "new"),
+        Ok(Arrived::Again) => said(alloc, "again"),
+        Err(fault) => refused_text(alloc, fault),
+    }
+}
+
+/// Each line with its newline.
+fn joined_lines(alloc: Global, report: &Report) -> Result<Vec<u8>, Unread> {
+    let mut text = Vec::new(alloc);
+    for line in &report.lines {
+        text.extend_from_slice(line.as_bytes())?;
+        text.push(b'\n')?;
+    }
+    Ok(text)
+}
+
+/// The lines of a report, or the fault.
+pub fn report_text(alloc: Global, done: Result<Report, Fault>) -> Result<Vec<u8>, Unread> {
+    match done {
+        Ok(report) => joined_lines(alloc, &report),
+        Err(fault) => refused_text(alloc, fault),
+    }
+}
+
+/// A number, or the fault.
+pub fn number_text(alloc: Global, done: Result<u64, Fault>) -> Result<Vec<u8>, Unread> {
+    match done {
+        Ok(items) => said(alloc, format!(in alloc; "{items}")?.as_str()),
+        Err(fault) => refused_text(alloc, fault),
+    }
+}
+
+/// The bytes that were found, `nothing`, or the fault.
+pub fn found_text(alloc: Global, done: Result<Option<Vec<u8>>, Fault>) -> Result<Vec<u8>, Unread> {
+    match done {
+        Ok(Some(body)) => Ok(body),
+        Ok(None) => said(alloc, "nothing"),
+        Err(fault) => refused_text(alloc, fault),
+    }
+}
