@@ -31,14 +31,17 @@ class Pages(unittest.TestCase):
         cls.repository = pages.Repository(ROOT)
         cls.faults = cls.repository.pages[FAULTS]
         cls.told = pages.told_by(cls.repository.sources())
+        cls.found = {}
 
     def other(self, check, path, text):
         """What a check finds more where this page is another text."""
-        before, kept = set(check(self.repository)), self.repository.pages[path]
+        kept = self.repository.pages[path]
+        if check not in self.found:
+            self.found[check] = set(check(self.repository))
         self.repository.pages[path] = text
-        after = set(check(self.repository))
+        found = set(check(self.repository))
         self.repository.pages[path] = kept
-        return after - before
+        return found - self.found[check]
 
     def row(self, path, front):
         """The row of a page's tables that begins so."""
