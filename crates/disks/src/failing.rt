@@ -151,6 +151,10 @@ impl Faulty for Failing<Memory> {
         &self.inner
     }
 
+    fn calls_left(&self) -> u64 {
+        self.calls_left.unwrap_or(u64::MAX)
+    }
+
     fn has_failed(&self) -> bool {
         self.refused > 0
     }

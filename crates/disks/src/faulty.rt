@@ -24,6 +24,9 @@ pub trait Faulty: Crash + Drop {
     /// What the disk holds.
     fn held(&self) -> &Memory;
 
+    /// How many more calls it passes on before one fails.
+    fn calls_left(&self) -> u64;
+
     /// Whether a call has failed.
     fn has_failed(&self) -> bool;
 
@@ -55,6 +58,14 @@ pub fn broken<D: Faulty>(
         log: D::behind(log, log_calls, kind),
         db: D::behind(db, db_calls, kind),
     })
+}
+
+/// How many calls one of the files passed on, which passes on as many as there may be.
+pub fn calls_of<D: Faulty>(files: &Files<D>, which: Which) -> u64 {
+    match which {
+        Which::Log => u64::MAX - files.log.calls_left(),
+        Which::Database => u64::MAX - files.db.calls_left(),
+    }
 }
 
 /// Whether one of the files has failed.

@@ -10,13 +10,13 @@ use sqlite_disk::{Disk, Memory};
 use std::alloc::{AllocError, Global};
 
 /// How long the log grows before a transaction copies it into the database file.
-const CHECKPOINT_FRAMES: usize = 8;
+const CHECKPOINT_FRAMES: usize = 4;
 
 /// Few pages in memory, so that a step reads from the files, too.
 fn options() -> Options {
     Options {
-        cache_pages: 16,
-        spill_pages: 16,
+        cache_pages: 4,
+        spill_pages: 8,
         checkpoint_frames: CHECKPOINT_FRAMES,
         seed: 1,
     }

@@ -122,6 +122,10 @@ impl Faulty for Full<Memory> {
         &self.inner
     }
 
+    fn calls_left(&self) -> u64 {
+        self.writes_left
+    }
+
     fn has_failed(&self) -> bool {
         self.refused > 0
     }

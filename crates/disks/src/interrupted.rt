@@ -1,14 +1,17 @@
 //! A step that is done while a disk stops, fails or is full.
 
+use crate::attempt::{Attempt, Outcome};
 use crate::failing::Failing;
-use crate::faulty::{Faulty, Kind, Which, broken, crashed, have_failed, have_failed_a_read, shown};
+use crate::faulty::{
+    Faulty, Kind, Which, broken, calls_of, crashed, have_failed, have_failed_a_read, shown,
+};
 use crate::filed::copied;
 use crate::full::Full;
-use crate::observed::{Paths, add_paths, is_refused};
-use crate::steps::{Doing, Step, Telling, answered, told};
-use crate::tasks::{Begin, Left, Task, done, told_fault};
-use keep::{KeepFault, Keeper};
-use queue::Archive;
+use crate::observed::{Paths, add_paths};
+use crate::steps::{Doing, Step, told_of};
+use crate::tasks::{Begin, Left, Nothing, done, told_fault};
+use crate::told::Told;
+use keep::KeepFault;
 use rows::{Unread, said};
 use sqlite::Files;
 use sqlite_disk::Memory;
@@ -28,30 +31,15 @@ struct Interruption<'a> {
     /// What the step answers; where it is to make an archive or to open one, and can't, the fault.
     right: Result<Vec<u8>, KeepFault>,
     /// What is told of the step where it was not done before, and where it was.
-    undone: Vec<Vec<u8>>,
-    done: Vec<Vec<u8>>,
-}
-
-/// What came of a step that was interrupted.
-#[derive(Drop)]
-enum Outcome {
-    /// It was done, or is now.
-    Answered,
-    /// It was refused, and so was some of what was asked then.
-    Partly,
-    /// It was refused, and so was all that was asked then.
-    Shut,
-    /// There was no archive to do it with.
-    Unopened,
-    /// What should not be.
-    Otherwise(Vec<u8>),
+    undone: Told,
+    done: Told,
 }
 
 /// What was found behind a number of calls.
 #[derive(Drop)]
 enum Found {
-    /// The archive did not open, so the step was not begun.
-    NotBegun,
+    /// The archive did not open.
+    NotOpened,
     /// A call failed, and the step was done whole or not at all.
     Whole,
     /// No call failed.
@@ -60,335 +48,19 @@ enum Found {
     Otherwise(Vec<u8>),
 }
 
-/// The first two pieces that differ.
-fn differing<'a>(found: &'a [Vec<u8>], wanted: &'a [Vec<u8>]) -> (&'a [u8], &'a [u8]) {
-    for (found, wanted) in found.iter().zip(wanted) {
-        if found.as_slice() != wanted.as_slice() {
-            return (found.as_slice(), wanted.as_slice());
-        }
-    }
-    (b"", b"")
-}
-
-/// Says where pieces differ.
-fn difference(
-    alloc: Global,
-    note: &str,
-    found: &[Vec<u8>],
-    wanted: &[Vec<u8>],
-) -> Result<Vec<u8>, Unread> {
-    let (found, wanted) = differing(found, wanted);
-    let (found, wanted) = (found.escape_ascii(), wanted.escape_ascii());
-    let text = format!(in alloc; "{note}: {found} and not {wanted}")?;
-    said(alloc, text.as_str())
-}
-
-/// Whether pieces are these, but for those that were refused.
-fn are_like(found: &[Vec<u8>], wanted: &[Vec<u8>]) -> bool {
-    found.iter().zip(wanted).all(|(found, wanted)| found.as_slice() == wanted.as_slice()
-        || is_refused(found.as_slice()))
-}
-
-/// What pieces are that are as they are wanted, but for those that were refused.
-fn refused_outcome(found: &[Vec<u8>]) -> Outcome {
-    if found.iter().all(|piece| is_refused(piece.as_slice())) {
-        Outcome::Shut
-    } else {
-        Outcome::Partly
-    }
-}
-
-/// Whether a text has a line.
-fn has_line(text: &[u8], line: &[u8]) -> bool {
-    text.split(|byte| *byte == b'\n').any(|other| other == line)
-}
-
-/// Whether an answer is the right one but for a refusal, since the disk failed, of all of it or of a part.
-fn is_refusal(answer: &[u8], right: &[u8]) -> bool {
-    let refused = b"Q4 K2".as_slice();
-    has_line(answer, refused)
-        && answer
-            .split(|byte| *byte == b'\n')
-            .all(|line| line == refused || has_line(right, line))
-}
-
-/// Gives the step to an archive, and again where it is refused: it was not done, and is now, or is refused again. Of a list of
-/// commands that was refused in part, the part that was not may have been done.
-#[derive(Clone, Copy)]
-struct Attempt<'a> {
-    step: Step<'a>,
-    paths: &'a [String],
-    right: &'a [u8],
-    undone: &'a [Vec<u8>],
-    done: &'a [Vec<u8>],
-}
-
-impl Attempt<'_> {
-    /// What what was told then says of the step, where it was not done before; nothing where it says something else.
-    fn outcome_of(&self, found: &[Vec<u8>], wanted: &[Vec<u8>]) -> Option<Outcome> {
-        if found == wanted {
-            return Some(Outcome::Answered);
-        }
-        if are_like(found, wanted) {
-            return Some(refused_outcome(found));
-        }
-        None
-    }
-
-    /// The same where it may have been done.
-    fn outcome_in_part(&self, found: &[Vec<u8>], is_part: bool) -> Option<Outcome> {
-        match self.outcome_of(found, self.undone) {
-            None if is_part => self.outcome_of(found, self.done),
-            outcome => outcome,
-        }
-    }
-
-    /// Asks the archive that refused the step for all that it shows, and for the step again.
-    fn insist<K: Keeper>(
-        &self,
-        alloc: Global,
-        archive: &mut Archive<K>,
-        is_part: bool,
-    ) -> Result<Outcome, Unread> {
-        let telling = Telling {
-            step: self.step,
-            paths: self.paths,
-        };
-        let found = telling.perform(alloc, archive)?;
-        match self.outcome_in_part(found.as_slice(), is_part) {
-            Some(outcome) => Ok(outcome),
-            None => {
-                let text = difference(alloc, "still open", found.as_slice(), self.undone)?;
-                Ok(Outcome::Otherwise(text))
-            }
-        }
-    }
-}
-
-impl Task for Attempt<'_> {
-    type Answer = Outcome;
-
-    fn perform<K: Keeper>(
-        &self,
-        alloc: Global,
-        archive: &mut Archive<K>,
-    ) -> Result<Outcome, Unread> {
-        let answer = answered(alloc, archive, self.step)?;
-        if answer.as_slice() == self.right {
-            return Ok(Outcome::Answered);
-        }
-        if !is_refusal(answer.as_slice(), self.right) {
-            return Ok(Outcome::Otherwise(answer));
-        }
-        let is_part = answer.as_slice() != b"Q4 K2".as_slice();
-        self.insist(alloc, archive, is_part)
-    }
-}
-
-/// The paths of the archive in files; none where there is no archive.
-fn paths_of(alloc: Global, files: &Files<Memory>) -> Result<Vec<String>, Unread> {
-    let left = done(alloc, copied(alloc, files)?, Begin::Opening, &Paths)?;
-    match left.answer {
-        Ok(paths) => Ok(paths),
-        Err(_) => Ok(Vec::new(alloc)),
-    }
-}
-
-impl<'a> Interruption<'a> {
-    /// Does the step on copies of the files, with disks that work, to see what is wanted of it.
-    fn new(
-        alloc: Global,
-        before: &'a Files<Memory>,
-        which: Which,
-        kind: Kind,
-        step: Step<'a>,
-    ) -> Result<Interruption<'a>, Unread> {
-        let Left {
-            files: after,
-            answer: right,
-        } = done(alloc, copied(alloc, before)?, step.begin(), &Doing { step })?;
-        let mut paths = paths_of(alloc, before)?;
-        add_paths(alloc, paths_of(alloc, &after)?.as_slice(), &mut paths)?;
-        let undone = told(alloc, copied(alloc, before)?, step, paths.as_slice())?;
-        let done = told(alloc, after, step, paths.as_slice())?;
-        Ok(Interruption {
-            before,
-            which,
-            kind,
-            step,
-            paths,
-            right,
-            undone,
-            done,
-        })
-    }
-
-    /// What is done with the archive in files of which one fails.
-    fn attempt(&self) -> Attempt<'_> {
-        Attempt {
-            step: self.step,
-            paths: self.paths.as_slice(),
-            right: match &self.right {
-                Ok(right) => right.as_slice(),
-                Err(_) => b"",
-            },
-            undone: self.undone.get(1..).unwrap_or(&[]),
-            done: self.done.get(1..).unwrap_or(&[]),
-        }
-    }
-
-    /// What came of the step, where the archive was not opened or made.
-    fn unopened(&self, alloc: Global, fault: KeepFault) -> Result<Outcome, Unread> {
-        match (&self.right, fault) {
-            (Err(right), fault) if *right == fault => Ok(Outcome::Answered),
-            (_, KeepFault::Disk) => Ok(Outcome::Unopened),
-            (_, fault) => Ok(Outcome::Otherwise(told_fault(alloc, fault)?)),
-        }
-    }
-
-    /// What came of the step.
-    fn outcome(
-        &self,
-        alloc: Global,
-        answer: Result<Outcome, KeepFault>,
-    ) -> Result<Outcome, Unread> {
-        match answer {
-            Ok(_) if self.right.is_err() => Ok(Outcome::Otherwise(said(alloc, "opened")?)),
-            Ok(outcome) => Ok(outcome),
-            Err(fault) => self.unopened(alloc, fault),
-        }
-    }
-
-    /// Where what files told is otherwise: the step was done neither whole nor not at all, or not though it was answered.
-    fn otherwise(
-        &self,
-        alloc: Global,
-        note: &str,
-        found: &[Vec<u8>],
-        is_answered: bool,
-    ) -> Result<Option<Vec<u8>>, Unread> {
-        let is_done = found == self.done.as_slice();
-        let is_undone = found == self.undone.as_slice();
-        if is_done || (is_undone && !is_answered) {
-            return Ok(None);
-        }
-        Ok(Some(difference(alloc, note, found, self.done.as_slice())?))
-    }
-
-    /// Opens what is left of files, as it stands and as a crash of the machine leaves it.
-    fn remains<D: Faulty>(
-        &self,
-        alloc: Global,
-        files: Files<D>,
-        is_answered: bool,
-        last: &mut Last,
-    ) -> Result<Found, Unread> {
-        let found = if have_failed(&files) {
-            Found::Whole
-        } else {
-            Found::Through
-        };
-        let left = shown(alloc, &files)?;
-        last.left.tell(alloc, left, self)?;
-        if let Some(text) = self.otherwise(alloc, "left", last.left.told.as_slice(), is_answered)? {
-            return Ok(Found::Otherwise(text));
-        }
-        let left = crashed(alloc, files)?;
-        last.crashed.tell(alloc, left, self)?;
-        match self.otherwise(alloc, "crashed", last.crashed.told.as_slice(), is_answered)? {
-            Some(text) => Ok(Found::Otherwise(text)),
-            None => Ok(found),
-        }
-    }
-
-    /// Whether an archive may have refused what was asked behind the step.
-    fn may_refuse<D: Faulty>(&self, files: &Files<D>, outcome: &Outcome) -> bool {
-        match outcome {
-            Outcome::Partly => self.kind != Kind::Fails && have_failed(files),
-            Outcome::Shut => !have_failed_a_read(files) || self.kind != Kind::Fails,
-            _ => true,
-        }
-    }
-
-    /// Opens what is left of files in which no archive was opened or made. Where it was opened for a step, what is left is that of
-    /// the step `open`, and the database file is as it was.
-    fn unbegun<D: Faulty>(
-        &self,
-        alloc: Global,
-        files: Files<D>,
-        last: &mut Last,
-    ) -> Result<Found, Unread> {
-        match self.step {
-            Step::Create(_) | Step::Open => self.remains(alloc, files, false, last),
-            Step::Ask(_, _) if files.db.held().bytes() == self.before.db.bytes() => {
-                Ok(Found::NotBegun)
-            }
-            Step::Ask(_, _) => Ok(Found::Otherwise(said(alloc, "other bytes")?)),
-        }
-    }
-
-    /// Does the step in files of which one fails behind so many calls.
-    fn found<D: Faulty>(
-        &self,
-        alloc: Global,
-        calls: u64,
-        last: &mut Last,
-    ) -> Result<Found, Unread> {
-        let files = broken::<D>(alloc, self.before, self.which, self.kind, calls)?;
-        let Left { files, answer } = done(alloc, files, self.step.begin(), &self.attempt())?;
-        let outcome = self.outcome(alloc, answer)?;
-        if !self.may_refuse(&files, &outcome) {
-            return Ok(Found::Otherwise(said(alloc, "refused behind a read that failed")?));
-        }
-        match outcome {
-            Outcome::Answered => self.remains(alloc, files, true, last),
-            Outcome::Partly | Outcome::Shut => self.remains(alloc, files, false, last),
-            Outcome::Unopened => self.unbegun(alloc, files, last),
-            Outcome::Otherwise(text) => Ok(Found::Otherwise(text)),
-        }
-    }
-
-    /// Does the step behind ever more calls, until none fails.
-    fn verdict<D: Faulty>(&self, alloc: Global) -> Result<Vec<u8>, Unread> {
-        let mut last = Last {
-            left: LastTold::of(alloc, self.before, self.undone.as_slice())?,
-            crashed: LastTold::of(alloc, self.before, self.undone.as_slice())?,
-        };
-        let mut has_failed = false;
-        for calls in 0..MOST_CALLS {
-            match self.found::<D>(alloc, calls, &mut last)? {
-                Found::NotBegun => {}
-                Found::Whole => has_failed = true,
-                Found::Through if has_failed => return said(alloc, "whole"),
-                Found::Through => return said(alloc, "untouched"),
-                Found::Otherwise(text) => return noted(alloc, calls, text.as_slice()),
-            }
-        }
-        said(alloc, "ever more calls")
-    }
-}
-
-/// What files told. Files that hold the same tell the same, and are not opened again.
+/// What files told last. Files that hold the same tell the same, and are not opened again.
 #[derive(Drop)]
-struct LastTold {
+struct Last {
     files: Files<Memory>,
-    told: Vec<Vec<u8>>,
+    told: Told,
 }
 
-impl LastTold {
+impl Last {
     /// That files told this.
-    fn of(
-        alloc: Global,
-        files: &Files<Memory>,
-        pieces: &[Vec<u8>],
-    ) -> Result<LastTold, AllocError> {
-        let mut told = Vec::new(alloc);
-        for piece in pieces {
-            told.push(piece.clone()?)?;
-        }
-        Ok(LastTold {
+    fn new(alloc: Global, files: &Files<Memory>, told: &Told) -> Result<Last, AllocError> {
+        Ok(Last {
             files: copied(alloc, files)?,
-            told,
+            told: told.copy(alloc)?,
         })
     }
 
@@ -406,22 +78,215 @@ impl LastTold {
         }
         self.files = copied(alloc, &files)?;
         let paths = interruption.paths.as_slice();
-        self.told = told(alloc, files, interruption.step, paths)?;
+        self.told = told_of(alloc, files, interruption.step, paths)?;
         Ok(())
     }
 }
 
 /// What was told last of files as they stood, and as a crash left them.
 #[derive(Drop)]
-struct Last {
-    left: LastTold,
-    crashed: LastTold,
+struct Remains {
+    stood: Last,
+    crashed: Last,
+}
+
+/// The paths of the archive in files; none where there is no archive.
+fn paths_of(alloc: Global, files: &Files<Memory>) -> Result<Vec<String>, Unread> {
+    let left = done(alloc, copied(alloc, files)?, Begin::Opening, &Paths)?;
+    match left.answer {
+        Ok(paths) => Ok(paths),
+        Err(_) => Ok(Vec::new(alloc)),
+    }
+}
+
+/// Something that should not be, with a note.
+fn noted(alloc: Global, note: &str, text: &[u8]) -> Result<Found, Unread> {
+    let text = text.escape_ascii();
+    let text = format!(in alloc; "{note}: {text}")?;
+    Ok(Found::Otherwise(said(alloc, text.as_str())?))
+}
+
+impl<'a> Interruption<'a> {
+    /// Does the step on copies of the files, with disks that work, to see what is wanted of it.
+    fn new(
+        alloc: Global,
+        before: &'a Files<Memory>,
+        which: Which,
+        kind: Kind,
+        step: Step<'a>,
+    ) -> Result<Interruption<'a>, Unread> {
+        let left = done(alloc, copied(alloc, before)?, step.begin(), &Doing { step })?;
+        let mut paths = paths_of(alloc, before)?;
+        add_paths(alloc, paths_of(alloc, &left.files)?.as_slice(), &mut paths)?;
+        let undone = told_of(alloc, copied(alloc, before)?, step, paths.as_slice())?;
+        let done = told_of(alloc, left.files, step, paths.as_slice())?;
+        Ok(Interruption {
+            before,
+            which,
+            kind,
+            step,
+            paths,
+            right: left.answer,
+            undone,
+            done,
+        })
+    }
+
+    /// What is done with the archive in files of which one fails.
+    fn attempt(&self) -> Attempt<'_> {
+        Attempt {
+            step: self.step,
+            paths: self.paths.as_slice(),
+            right: match &self.right {
+                Ok(right) => right.as_slice(),
+                Err(_) => b"",
+            },
+            undone: &self.undone,
+            done: &self.done,
+        }
+    }
+
+    /// What came of the step, where the archive was not opened or made.
+    fn unopened(&self, alloc: Global, fault: KeepFault) -> Result<Outcome, Unread> {
+        match &self.right {
+            Err(right) if *right == fault => Ok(Outcome::Done),
+            _ if fault == KeepFault::Disk => Ok(Outcome::Unopened),
+            _ => Ok(Outcome::Otherwise(told_fault(alloc, fault)?)),
+        }
+    }
+
+    /// What came of the step.
+    fn outcome(
+        &self,
+        alloc: Global,
+        answer: Result<Outcome, KeepFault>,
+    ) -> Result<Outcome, Unread> {
+        match answer {
+            Ok(_) if self.right.is_err() => Ok(Outcome::Otherwise(said(alloc, "opened")?)),
+            Ok(outcome) => Ok(outcome),
+            Err(fault) => self.unopened(alloc, fault),
+        }
+    }
+
+    /// Whether files told that the step was done whole, or not at all where it was not answered.
+    fn is_whole(&self, told: &Told, is_answered: bool) -> bool {
+        if told.is_same(&self.done) {
+            return true;
+        }
+        !is_answered && told.is_same(&self.undone)
+    }
+
+    /// Opens what is left of files, as it stands and as a crash of the machine leaves it.
+    fn found_behind<D: Faulty>(
+        &self,
+        alloc: Global,
+        files: Files<D>,
+        is_answered: bool,
+        remains: &mut Remains,
+    ) -> Result<Found, Unread> {
+        let has_failed = have_failed(&files);
+        remains.stood.tell(alloc, shown(alloc, &files)?, self)?;
+        remains.crashed.tell(alloc, crashed(alloc, files)?, self)?;
+        for (note, last) in [("left", &remains.stood), ("crashed", &remains.crashed)] {
+            if !self.is_whole(&last.told, is_answered) {
+                let text = last.told.difference(alloc, &self.done)?;
+                return noted(alloc, note, text.as_slice());
+            }
+        }
+        Ok(if has_failed {
+            Found::Whole
+        } else {
+            Found::Through
+        })
+    }
+
+    /// Opens what is left of files in which no archive was opened or made. Where it was opened for a step, what is left is that of
+    /// the step `open`, and the database file is as it was.
+    fn found_unopened<D: Faulty>(
+        &self,
+        alloc: Global,
+        files: Files<D>,
+        remains: &mut Remains,
+    ) -> Result<Found, Unread> {
+        match self.step {
+            Step::Create(_) | Step::Open => self.found_behind(alloc, files, false, remains),
+            Step::Ask(_, _) if files.db.held().bytes() == self.before.db.bytes() => {
+                Ok(Found::NotOpened)
+            }
+            Step::Ask(_, _) => noted(alloc, "not opened", b"other bytes"),
+        }
+    }
+
+    /// Whether an archive may refuse behind a step that was refused: where one call alone fails, all or nothing, and nothing where
+    /// that was to read.
+    fn may_refuse<D: Faulty>(&self, files: &Files<D>, outcome: &Outcome) -> bool {
+        match (outcome, self.kind) {
+            (Outcome::Partly { is_done: _ }, Kind::Fails) => false,
+            (Outcome::Shut, Kind::Fails) => !have_failed_a_read(files),
+            (Outcome::Partly { is_done: _ } | Outcome::Shut, _) => have_failed(files),
+            (_, _) => true,
+        }
+    }
+
+    /// Does the step in files of which one fails behind so many calls.
+    fn found<D: Faulty>(
+        &self,
+        alloc: Global,
+        calls: u64,
+        remains: &mut Remains,
+    ) -> Result<Found, Unread> {
+        let files = broken::<D>(alloc, self.before, self.which, self.kind, calls)?;
+        let Left { files, answer } = done(alloc, files, self.step.begin(), &self.attempt())?;
+        let outcome = self.outcome(alloc, answer)?;
+        if !self.may_refuse(&files, &outcome) {
+            return noted(alloc, "still open", b"refused without need");
+        }
+        match outcome {
+            Outcome::Done => self.found_behind(alloc, files, true, remains),
+            Outcome::Partly { is_done } => self.found_behind(alloc, files, is_done, remains),
+            Outcome::Shut => self.found_behind(alloc, files, false, remains),
+            Outcome::Unopened => self.found_unopened(alloc, files, remains),
+            Outcome::Otherwise(text) => noted(alloc, "still open", text.as_slice()),
+        }
+    }
+
+    /// Behind how many calls the step begins: none where it is to make an archive or to open one, else those of an opening.
+    fn first_call<D: Faulty>(&self, alloc: Global) -> Result<u64, Unread> {
+        match self.step {
+            Step::Create(_) | Step::Open => Ok(0),
+            Step::Ask(_, _) => {
+                let files = broken::<D>(alloc, self.before, self.which, self.kind, u64::MAX)?;
+                let left = done(alloc, files, Begin::Opening, &Nothing)?;
+                Ok(calls_of(&left.files, self.which))
+            }
+        }
+    }
+
+    /// Does the step behind ever more calls, until none fails.
+    fn verdict<D: Faulty>(&self, alloc: Global) -> Result<Vec<u8>, Unread> {
+        let mut remains = Remains {
+            stood: Last::new(alloc, self.before, &self.undone)?,
+            crashed: Last::new(alloc, self.before, &self.undone)?,
+        };
+        let mut has_failed = false;
+        for calls in self.first_call::<D>(alloc)?..MOST_CALLS {
+            match self.found::<D>(alloc, calls, &mut remains)? {
+                Found::NotOpened => {}
+                Found::Whole => has_failed = true,
+                Found::Through if has_failed => return said(alloc, "whole"),
+                Found::Through => return said(alloc, "untouched"),
+                Found::Otherwise(text) => return told_at(alloc, calls, text.as_slice()),
+            }
+        }
+        said(alloc, "ever more calls")
+    }
 }
 
 /// Says behind how many calls something is otherwise.
-fn noted(alloc: Global, calls: u64, text: &[u8]) -> Result<Vec<u8>, Unread> {
-    let text = text.escape_ascii();
-    said(alloc, format!(in alloc; "{calls} calls, {text}")?.as_str())
+fn told_at(alloc: Global, calls: u64, text: &[u8]) -> Result<Vec<u8>, Unread> {
+    let mut line = said(alloc, format!(in alloc; "{calls} calls, ")?.as_str())?;
+    line.extend_from_slice(text)?;
+    Ok(line)
 }
 
 /// What becomes of a step while one of the files fails.

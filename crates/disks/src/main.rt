@@ -4,6 +4,7 @@
 //! be read, and none differs; else 1.
 #![tactic(auto)]
 
+mod attempt;
 mod case;
 mod edits;
 mod failing;
@@ -16,6 +17,7 @@ mod observed;
 mod steps;
 mod tampered;
 mod tasks;
+mod told;
 
 use crate::case::Case;
 use std::process::ExitCode;

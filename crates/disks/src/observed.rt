@@ -108,7 +108,7 @@ impl Task for Paths {
 }
 
 /// A piece of what is shown: its name and what stands there.
-pub fn piece(alloc: Global, name: &str, bytes: &[u8]) -> Result<Vec<u8>, AllocError> {
+fn piece(alloc: Global, name: &str, bytes: &[u8]) -> Result<Vec<u8>, AllocError> {
     let mut text = Vec::from_slice(alloc, name.as_bytes())?;
     text.extend_from_slice(b":\n")?;
     text.extend_from_slice(bytes)?;
@@ -121,13 +121,13 @@ pub fn is_refused(piece: &[u8]) -> bool {
     piece.ends_with(b":\nQ4 K2\n")
 }
 
-/// Adds all that an archive shows: the lists, and what stands at these paths.
+/// All that an archive shows: the lists, and what stands at these paths.
 pub fn observe<K: Keeper>(
     alloc: Global,
     archive: &mut Archive<K>,
     paths: &[String],
-    pieces: &mut Vec<Vec<u8>>,
-) -> Result<(), Unread> {
+) -> Result<Vec<Vec<u8>>, Unread> {
+    let mut pieces = Vec::new(alloc);
     for verb in ["waiting", "verdicts"] {
         let found = asked(alloc, archive, verb, &[])?;
         pieces.push(piece(alloc, verb, found.as_slice())?)?;
@@ -136,7 +136,7 @@ pub fn observe<K: Keeper>(
         let found = show(alloc, archive, path.as_str())?;
         pieces.push(piece(alloc, path.as_str(), found.as_slice())?)?;
     }
-    Ok(())
+    Ok(pieces)
 }
 
 /// All that an archive shows.
@@ -152,8 +152,7 @@ impl Task for Observed {
         archive: &mut Archive<K>,
     ) -> Result<Vec<u8>, Unread> {
         let paths = Paths.perform(alloc, archive)?;
-        let mut pieces = Vec::new(alloc);
-        observe(alloc, archive, paths.as_slice(), &mut pieces)?;
+        let pieces = observe(alloc, archive, paths.as_slice())?;
         Ok(pieces.as_slice().concat(alloc)?)
     }
 }

@@ -1,7 +1,8 @@
 //! Steps of a story, and what files tell of one.
 
-use crate::observed::{observe, piece};
+use crate::observed::observe;
 use crate::tasks::{Begin, Left, Task, done, told_fault};
+use crate::told::Told;
 use keep::{KeepFault, Keeper};
 use queue::Archive;
 use rows::{Unread, text_of};
@@ -81,60 +82,59 @@ pub struct Telling<'a> {
 }
 
 impl Task for Telling<'_> {
-    type Answer = Vec<Vec<u8>>;
+    type Answer = Told;
 
-    fn perform<K: Keeper>(
-        &self,
-        alloc: Global,
-        archive: &mut Archive<K>,
-    ) -> Result<Vec<Vec<u8>>, Unread> {
-        let mut pieces = Vec::new(alloc);
-        observe(alloc, archive, self.paths, &mut pieces)?;
-        if let Step::Ask(verb, words) = self.step {
-            let answer = asked(alloc, archive, verb, words)?;
-            pieces.push(piece(alloc, "answer", answer.as_slice())?)?;
-            observe(alloc, archive, self.paths, &mut pieces)?;
-        }
-        Ok(pieces)
+    fn perform<K: Keeper>(&self, alloc: Global, archive: &mut Archive<K>) -> Result<Told, Unread> {
+        let before = observe(alloc, archive, self.paths)?;
+        let answer = answered(alloc, archive, self.step)?;
+        let behind = match self.step {
+            Step::Create(_) | Step::Open => Vec::new(alloc),
+            Step::Ask(_, _) => observe(alloc, archive, self.paths)?,
+        };
+        Ok(Told {
+            before,
+            answer,
+            behind,
+        })
     }
 }
 
-/// Adds what an archive told, or the fault where there was none.
-fn add_told(
-    alloc: Global,
-    name: &str,
-    told: Result<Vec<Vec<u8>>, KeepFault>,
-    pieces: &mut Vec<Vec<u8>>,
-) -> Result<(), Unread> {
+/// What was told, or the fault where there was no archive.
+fn told_or_fault(alloc: Global, told: Result<Told, KeepFault>) -> Result<Told, Unread> {
     match told {
-        Ok(more) => {
-            pieces.push(piece(alloc, name, b"done")?)?;
-            for one in more {
-                pieces.push(one)?;
-            }
-        }
-        Err(fault) => {
-            let fault = told_fault(alloc, fault)?;
-            pieces.push(piece(alloc, name, fault.as_slice())?)?;
-        }
+        Ok(told) => Ok(told),
+        Err(fault) => Ok(Told {
+            before: Vec::new(alloc),
+            answer: told_fault(alloc, fault)?,
+            behind: Vec::new(alloc),
+        }),
     }
-    Ok(())
 }
 
-/// What the archive in files tells of a step, which is done with it.
-pub fn told(
+/// What the archive in files tells of a step, which is done with it. Where the step makes an archive, it tells what there was before,
+/// the fault or nothing, and what there is then.
+pub fn told_of(
     alloc: Global,
     files: Files<Memory>,
     step: Step<'_>,
     paths: &[String],
-) -> Result<Vec<Vec<u8>>, Unread> {
+) -> Result<Told, Unread> {
     let telling = Telling { step, paths };
-    let mut pieces = Vec::new(alloc);
     let Left { files, answer } = done(alloc, files, Begin::Opening, &telling)?;
-    add_told(alloc, "open", answer, &mut pieces)?;
-    if let Step::Create(_) = step {
-        let left = done(alloc, files, step.begin(), &telling)?;
-        add_told(alloc, "create", left.answer, &mut pieces)?;
-    }
-    Ok(pieces)
+    let found = told_or_fault(alloc, answer)?;
+    let Step::Create(_) = step else {
+        return Ok(found);
+    };
+    let left = done(alloc, files, step.begin(), &telling)?;
+    let Told {
+        before: mut made,
+        answer: fault,
+        behind: _,
+    } = told_or_fault(alloc, left.answer)?;
+    made.push(fault)?;
+    Ok(Told {
+        before: found.before,
+        answer: found.answer,
+        behind: made,
+    })
 }
