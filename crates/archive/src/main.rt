@@ -1,39 +1,11 @@
 //! The program: an archive on the command line.
 #![tactic(auto)]
 
-mod act;
-mod answers;
-mod database;
-mod fault;
-mod serve;
-#[cfg(test)]
-mod tests;
-mod words;
-
-use command_line::LineFault;
+use commands::{act, explain};
 use std::process::ExitCode;
 use std::{env, io};
 
-/// Prints why a line asks for nothing, and answers the exit status: the help that was asked for on standard output, or
-/// what is wrong with the words on standard error.
-fn explain(rt: &(impl Print + Eprint), fault: &LineFault) -> io::Result<u8> {
-    match fault {
-        LineFault::OutOfMemory => {
-            rt.eprintln(format_args!("archive: {fault}"))?;
-            Ok(3)
-        }
-        LineFault::Help(text) => {
-            rt.print(text)?;
-            Ok(0)
-        }
-        LineFault::Refused(text) => {
-            rt.eprint(text)?;
-            Ok(2)
-        }
-    }
-}
-
-/// Does the line that the program was given, and answers its exit status.
+/// Does what the program's words say, and answers its exit status.
 fn run(rt: &HostRuntime) -> io::Result<u8> {
     let alloc = rt.alloc();
     let mut given = Vec::new(alloc);
@@ -44,9 +16,10 @@ fn run(rt: &HostRuntime) -> io::Result<u8> {
     for word in &given {
         words.push(word.as_str())?;
     }
+    let (mut out, mut err) = (io::writer(rt), rt.stderr());
     match command_line::line(alloc, &words) {
-        Ok(line) => Ok(act::act(rt, &line, &mut io::writer(rt), &mut rt.stderr())),
-        Err(fault) => explain(rt, &fault),
+        Ok(line) => Ok(act(rt, &line, &mut out, &mut err)),
+        Err(fault) => Ok(explain(&fault, &mut out, &mut err)),
     }
 }
 

@@ -33,7 +33,7 @@ fn yes_or_no(is_so: bool) -> &'static str {
 }
 
 /// A text with pieces of it replaced: each word of an even place by the next.
-fn replaced(alloc: Global, text: &str, words: &[Vec<u8>]) -> Result<String, Unread> {
+fn edited(alloc: Global, text: &str, words: &[Vec<u8>]) -> Result<String, Unread> {
     let mut text = String::from_str(alloc, text)?;
     let mut old: Option<&str> = None;
     for word in words {
@@ -53,6 +53,15 @@ fn replaced(alloc: Global, text: &str, words: &[Vec<u8>]) -> Result<String, Unre
         None => Ok(text),
         Some(_) => Err(Unread::BadWords),
     }
+}
+
+/// The bytes of a text in which pieces are replaced, if there are any. Only where there are some need it be UTF-8.
+fn replaced(alloc: Global, text: &Vec<u8>, edits: &[Vec<u8>]) -> Result<Vec<u8>, Unread> {
+    if edits.is_empty() {
+        return Ok(text.clone()?);
+    }
+    let text = edited(alloc, text_of(text)?, edits)?;
+    said(alloc, text.as_str())
 }
 
 /// What is answered to a question on versions, paragraphs or lists.

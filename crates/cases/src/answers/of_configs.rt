@@ -11,9 +11,9 @@ fn config(alloc: Global, words: &[Vec<u8>]) -> Result<Vec<u8>, Unread> {
     let Some((text, edits)) = words.split_first() else {
         return Err(Unread::BadWords);
     };
-    let text = replaced(alloc, text_of(text)?, edits)?;
-    match Config::read(alloc, text.as_bytes()) {
-        Ok(config) if config.text() == text.as_bytes() => said(alloc, "read"),
+    let text = replaced(alloc, text, edits)?;
+    match Config::read(alloc, text.as_slice()) {
+        Ok(config) if config.text() == text.as_slice() => said(alloc, "read"),
         Ok(_) => said(alloc, "another text is kept"),
         Err(fault) => said(alloc, fault.to_string(alloc)?.as_str()),
     }
@@ -101,9 +101,9 @@ fn judged(alloc: Global, words: &[Vec<u8>]) -> Result<Vec<u8>, Unread> {
     let [config, changes, edits @ ..] = words else {
         return Err(Unread::BadWords);
     };
-    let text = replaced(alloc, text_of(changes)?, edits)?;
+    let text = replaced(alloc, changes, edits)?;
     let config = config_of(alloc, config)?;
-    match Changes::read(alloc, text.as_bytes()) {
+    match Changes::read(alloc, text.as_slice()) {
         Ok(changes) => verdict(alloc, &config, &changes),
         Err(_) => Err(Unread::BadWords),
     }

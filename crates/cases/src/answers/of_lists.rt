@@ -112,8 +112,8 @@ fn lists(alloc: Global, words: &[Vec<u8>], tells: bool) -> Result<Vec<u8>, Unrea
     let [kind, text, edits @ ..] = words else {
         return Err(Unread::BadWords);
     };
-    let text = replaced(alloc, text_of(text)?, edits)?;
-    listed(alloc, kind_of(kind)?, text.as_bytes(), tells)
+    let text = replaced(alloc, text, edits)?;
+    listed(alloc, kind_of(kind)?, text.as_slice(), tells)
 }
 
 /// What is answered to a question on lists of files.

@@ -1,8 +1,9 @@
 //! Paragraphs.
 
 use super::answer_or_fault;
-use para::{Field, ParaFault, Paragraph, fold, read_many, read_one, simple, write};
-use para::{write_field, write_line};
+use para::{
+    Field, ParaFault, Paragraph, fold, read_many, read_one, simple, write, write_field, write_line,
+};
 use rows::{Unread, number_of, text_of};
 use std::alloc::Global;
 

@@ -73,8 +73,8 @@ fn read_record(
     let Some((text, edits)) = words.split_first() else {
         return Err(Unread::BadWords);
     };
-    let text = replaced(alloc, text_of(text)?, edits)?;
-    match told(alloc, record, text.as_bytes()) {
+    let text = replaced(alloc, text, edits)?;
+    match told(alloc, record, text.as_slice()) {
         Ok(out) if tells => Ok(out),
         Ok(_) => said(alloc, "read"),
         Err(fault) => said(alloc, fault.to_string(alloc)?.as_str()),

@@ -1,0 +1,126 @@
+//! What the program prints of an archive, over any keeper.
+
+use crate::doing::{body_of, file_name};
+use crate::fault::Stop;
+use keep::Keeper;
+use queue::{Archive, Arrived, Fault, Report};
+use std::alloc::Global;
+use std::io::{self, Write};
+use std::rt::Files;
+
+/// Prints the lines of a report.
+fn print_report<W: Write>(report: &Report, out: &mut W) -> io::Result<()> {
+    for line in &report.lines {
+        writeln!(out, "{line}")?;
+    }
+    Ok(())
+}
+
+/// Delivers a file, prints `new NAME`, `again NAME` or `refused FAULT NAME`, and says whether it was taken. Want of
+/// memory and a fault of the keeper end the program instead.
+fn put_file<'a, K: Keeper, W: Write>(
+    alloc: Global,
+    archive: &mut Archive<K>,
+    at: u64,
+    name: &str,
+    body: &[u8],
+    out: &mut W,
+) -> Result<bool, Stop<'a>> {
+    match archive.deliver(alloc, name, body, at) {
+        Ok(Arrived::New) => writeln!(out, "new {name}")?,
+        Ok(Arrived::Again) => writeln!(out, "again {name}")?,
+        Err(fault @ (Fault::OutOfMemory | Fault::Keeper(_))) => return Err(Stop::Refused(fault)),
+        Err(fault) => {
+            writeln!(out, "refused {fault} {name}")?;
+            return Ok(false);
+        }
+    }
+    Ok(true)
+}
+
+/// Delivers files at a moment, in seconds since 1970-01-01 00:00:00 UTC, each under the text behind its path's last
+/// slash, and prints a line for each. It goes on behind a file that is refused, and says whether all were taken. Each
+/// file is read just before it is delivered.
+pub fn put_files<'a, R: Files + AllocGlobal, K: Keeper, W: Write>(
+    rt: &R,
+    archive: &mut Archive<K>,
+    at: u64,
+    paths: &[&'a str],
+    out: &mut W,
+) -> Result<bool, Stop<'a>> {
+    let mut all = true;
+    for path in paths {
+        let body = body_of(rt, path)?;
+        if !put_file(rt.alloc(), archive, at, file_name(path), &body, out)? {
+            all = false;
+        }
+    }
+    Ok(all)
+}
+
+/// Runs the queue at a moment, and prints the lines of the report.
+pub fn run<'a, K: Keeper, W: Write>(
+    alloc: Global,
+    archive: &mut Archive<K>,
+    at: u64,
+    out: &mut W,
+) -> Result<(), Stop<'a>> {
+    let report = archive.run(alloc, at)?;
+    print_report(&report, out)?;
+    Ok(())
+}
+
+/// Copies a source's packages from the suite `from` to the suite `to` at a moment, and prints how many items of `to`
+/// are new.
+pub fn copy<'a, K: Keeper, W: Write>(
+    alloc: Global,
+    archive: &mut Archive<K>,
+    at: u64,
+    from: &str,
+    to: &str,
+    source: &str,
+    out: &mut W,
+) -> Result<(), Stop<'a>> {
+    let items = archive.copy(alloc, from, to, source, at)?;
+    writeln!(out, "{items}")?;
+    Ok(())
+}
+
+/// Prints the bytes of the index or the file of the pool at a path.
+pub fn show<'a, K: Keeper, W: Write>(
+    alloc: Global,
+    archive: &mut Archive<K>,
+    path: &str,
+    out: &mut W,
+) -> Result<(), Stop<'a>> {
+    match archive.fetch(alloc, path)? {
+        Some(body) => {
+            out.write_all(&body)?;
+            Ok(())
+        }
+        None => Err(Stop::NotFound),
+    }
+}
+
+/// Prints a line for each upload that has no verdict.
+pub fn waiting<'a, K: Keeper, W: Write>(
+    alloc: Global,
+    archive: &mut Archive<K>,
+    at: u64,
+    out: &mut W,
+) -> Result<(), Stop<'a>> {
+    let report = archive.waiting(alloc, at)?;
+    print_report(&report, out)?;
+    Ok(())
+}
+
+/// Prints the lines of all runs.
+pub fn verdicts<'a, K: Keeper, W: Write>(
+    alloc: Global,
+    archive: &mut Archive<K>,
+    out: &mut W,
+) -> Result<(), Stop<'a>> {
+    let report = archive.verdicts(alloc)?;
+    print_report(&report, out)?;
+    Ok(())
+}

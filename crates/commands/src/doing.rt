@@ -1,0 +1,251 @@
+//! What the program does for a line.
+
+use crate::database::{FileKeeper, InFile};
+use crate::fault::Stop;
+use crate::words::{self, Word};
+use command_line::{CommandLine, LineFault};
+use keep::{Keeper, PlainKeeper};
+use queue::{Archive, Fault};
+use rules::Config;
+use std::alloc::Global;
+use std::cmp::Ordering;
+use std::fs::File;
+use std::io::{self, Read, Write};
+use std::rt::Files;
+use vers::Version;
+
+/// The configuration of the archive that `try` makes.
+const BOX: &[u8] = b"Codename: box\nArchitectures: amd64 source\nComponents: main\n";
+
+/// The index that `try` prints.
+const BOX_PACKAGES: &str = "dists/box/main/binary-amd64/Packages";
+
+/// One byte more than a delivered body may have, so that a longer file is refused as one.
+const MOST_READ: u64 = 4_194_305;
+
+/// The text behind a path's last slash.
+pub fn file_name(path: &str) -> &str {
+    match path.rsplit_once('/') {
+        Some((_, name)) => name,
+        None => path,
+    }
+}
+
+fn read_file<R: Files + AllocGlobal>(rt: &R, path: &str) -> io::Result<Vec<u8>> {
+    let mut body = Vec::new(rt.alloc());
+    File::open(rt, path)?
+        .take(MOST_READ)
+        .read_to_end(&mut body)?;
+    Ok(body)
+}
+
+/// A file that was given.
+pub fn body_of<'a, R: Files + AllocGlobal>(rt: &R, path: &'a str) -> Result<Vec<u8>, Stop<'a>> {
+    match read_file(rt, path) {
+        Ok(body) => Ok(body),
+        Err(error) if error.kind() == io::ErrorKind::OutOfMemory => {
+            Err(Stop::Refused(Fault::OutOfMemory))
+        }
+        Err(_) => Err(Stop::Unreadable(path)),
+    }
+}
+
+/// An archive of its own, with the configuration that `try` has.
+fn box_archive(alloc: Global) -> Result<Archive<PlainKeeper>, Fault> {
+    match Config::read(alloc, BOX) {
+        Ok(config) => Ok(Archive::new(PlainKeeper::new(alloc, config, 0)?)),
+        Err(_) => Err(Fault::OutOfMemory),
+    }
+}
+
+/// Delivers a file at 0, under the text behind its path's last slash.
+fn deliver_file<'a, R: Files + AllocGlobal, K: Keeper>(
+    rt: &R,
+    archive: &mut Archive<K>,
+    path: &'a str,
+) -> Result<(), Stop<'a>> {
+    let body = body_of(rt, path)?;
+    archive.deliver(rt.alloc(), file_name(path), &body, 0)?;
+    Ok(())
+}
+
+/// Prints the Packages of what was accepted.
+fn print_packages<'a, K: Keeper, W: Write>(
+    alloc: Global,
+    archive: &mut Archive<K>,
+    out: &mut W,
+) -> Result<(), Stop<'a>> {
+    if let Some(text) = archive.fetch(alloc, BOX_PACKAGES)? {
+        out.write_all(&text)?;
+    }
+    Ok(())
+}
+
+/// Delivers the files to an archive, runs its queue, and prints the Packages of what was accepted.
+fn try_files<'a, R: Files + AllocGlobal, K: Keeper, W: Write>(
+    rt: &R,
+    archive: &mut Archive<K>,
+    paths: &[&'a str],
+    out: &mut W,
+) -> Result<(), Stop<'a>> {
+    for path in paths {
+        deliver_file(rt, archive, path)?;
+    }
+    archive.run(rt.alloc(), 0)?;
+    print_packages(rt.alloc(), archive, out)
+}
+
+/// The same with an archive of their own.
+fn try_upload<'a, R: Files + AllocGlobal, W: Write>(
+    rt: &R,
+    paths: &[&'a str],
+    out: &mut W,
+) -> Result<(), Stop<'a>> {
+    let mut archive = box_archive(rt.alloc())?;
+    try_files(rt, &mut archive, paths, out)
+}
+
+/// Prints how two versions compare.
+fn compare<'a, W: Write>(
+    alloc: Global,
+    left: &str,
+    right: &str,
+    out: &mut W,
+) -> Result<(), Stop<'a>> {
+    let left = Version::parse(alloc, left)?;
+    let right = Version::parse(alloc, right)?;
+    let word: &[u8] = match left.order(&right) {
+        Ordering::Less => b"less\n",
+        Ordering::Equal => b"equal\n",
+        Ordering::Greater => b"greater\n",
+    };
+    out.write_all(word)?;
+    Ok(())
+}
+
+/// Does a line over keepers of this type, and says whether all that was given was taken.
+fn done<'a, K: InFile + Keeper, W: Write>(
+    rt: &HostRuntime,
+    line: &CommandLine<'a>,
+    out: &mut W,
+) -> Result<bool, Stop<'a>> {
+    let (db, word) = match line {
+        CommandLine::Try { paths } => {
+            try_upload(rt, paths, out)?;
+            return Ok(true);
+        }
+        CommandLine::Compare { left, right } => {
+            compare(rt.alloc(), left, right, out)?;
+            return Ok(true);
+        }
+        CommandLine::Init { db, at, conf } => {
+            words::init::<K>(rt, db, *at, conf)?;
+            return Ok(true);
+        }
+        CommandLine::Put { db, at, paths } => (*db, Word::Put { at: *at, paths }),
+        CommandLine::Run { db, at } => (*db, Word::Run { at: *at }),
+        CommandLine::Copy {
+            db,
+            at,
+            from,
+            to,
+            source,
+        } => (
+            *db,
+            Word::Copy {
+                at: *at,
+                from,
+                to,
+                source,
+            },
+        ),
+        CommandLine::Show { db, path } => (*db, Word::Show { path }),
+        CommandLine::Waiting { db, at } => (*db, Word::Waiting { at: *at }),
+        CommandLine::Verdicts { db } => (*db, Word::Verdicts),
+        CommandLine::Serve {
+            db,
+            at,
+            address,
+            count,
+        } => (
+            *db,
+            Word::Serve {
+                at: *at,
+                address,
+                count: *count,
+            },
+        ),
+    };
+    words::ask_file::<K, W>(rt, db, word, out)
+}
+
+/// The same, with its output written out.
+fn finished<'a, K: InFile + Keeper, W: Write>(
+    rt: &HostRuntime,
+    line: &CommandLine<'a>,
+    out: &mut W,
+) -> Result<bool, Stop<'a>> {
+    let all = done::<K, W>(rt, line, out)?;
+    out.flush()?;
+    Ok(all)
+}
+
+/// Does a line over keepers of this type, and answers the exit status.
+fn act_over<K: InFile + Keeper, W: Write, E: Write>(
+    rt: &HostRuntime,
+    line: &CommandLine<'_>,
+    out: &mut W,
+    err: &mut E,
+) -> u8 {
+    match finished::<K, W>(rt, line, out) {
+        Ok(true) => 0,
+        Ok(false) => 1,
+        Err(Stop::Unwritten) => 3,
+        Err(stop) => match writeln!(err, "{stop}") {
+            Ok(()) => stop.status(),
+            Err(_) => 3,
+        },
+    }
+}
+
+/// Does a line, and answers the exit status: 0 where it is done; 1 where something is refused or a file can't be read;
+/// 3 where memory runs out, a disk fails or is full, the address can't be used, or an output fails. What was refused is
+/// a line on `err`, but for the files of a `put`, which have their lines on `out`; where an output fails nothing more
+/// is printed.
+pub fn act<W: Write, E: Write>(
+    rt: &HostRuntime,
+    line: &CommandLine<'_>,
+    out: &mut W,
+    err: &mut E,
+) -> u8 {
+    act_over::<FileKeeper, W, E>(rt, line, out, err)
+}
+
+/// Prints why words are no line, and has it written out: the help that was asked for on `out`, or what is wrong with the
+/// words on `err`.
+fn explained<W: Write, E: Write>(fault: &LineFault, out: &mut W, err: &mut E) -> io::Result<u8> {
+    match fault {
+        LineFault::OutOfMemory => {
+            writeln!(err, "archive: {fault}")?;
+            Ok(3)
+        }
+        LineFault::Help(text) => {
+            write!(out, "{text}")?;
+            out.flush()?;
+            Ok(0)
+        }
+        LineFault::Refused(text) => {
+            write!(err, "{text}")?;
+            Ok(2)
+        }
+    }
+}
+
+/// Prints why words are no line, and answers the exit status: 0 for the help that was asked for, which is printed on
+/// `out`; 2 for words that are refused, with a text on `err` that says why; 3 where memory runs out or an output fails.
+pub fn explain<W: Write, E: Write>(fault: &LineFault, out: &mut W, err: &mut E) -> u8 {
+    match explained(fault, out, err) {
+        Ok(status) => status,
+        Err(_) => 3,
+    }
+}

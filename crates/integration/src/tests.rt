@@ -1,0 +1,13 @@
+//! The tests, a module for each subject.
+
+mod all_rows;
+mod attended;
+mod checks;
+mod counted;
+mod item_rows;
+mod kept_values;
+mod messages;
+mod served;
+mod text_rows;
+mod uploads;
+mod wanting;

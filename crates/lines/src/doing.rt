@@ -1,0 +1,147 @@
+//! Lines of the program, and what they print.
+
+use crate::output::Output;
+use crate::words::texts_of;
+use command_line::{CommandLine, LineFault};
+use commands::{act, explain};
+use rows::{Unread, number_of};
+use std::alloc::{AllocError, Global};
+
+/// How much room the outputs of a line have.
+#[derive(Clone, Copy)]
+struct Room {
+    out: usize,
+    err: usize,
+}
+
+/// Room for all that a line prints.
+const ALL: Room = Room {
+    out: usize::MAX,
+    err: usize::MAX,
+};
+
+/// What a line has printed, and its exit status.
+#[derive(Drop)]
+struct Ended {
+    out: Output,
+    err: Output,
+    status: u8,
+}
+
+/// Does a line.
+fn done(rt: &HostRuntime, line: &CommandLine<'_>, room: Room) -> Ended {
+    let mut out = Output::new(rt.alloc(), room.out);
+    let mut err = Output::new(rt.alloc(), room.err);
+    let status = act(rt, line, &mut out, &mut err);
+    Ended { out, err, status }
+}
+
+/// Says why words are no line.
+fn refused(alloc: Global, fault: &LineFault, room: Room) -> Ended {
+    let mut out = Output::new(alloc, room.out);
+    let mut err = Output::new(alloc, room.err);
+    let status = explain(fault, &mut out, &mut err);
+    Ended { out, err, status }
+}
+
+/// Adds what an output has taken, and says where its last line has no end.
+fn add_lines(text: &mut Vec<u8>, lines: &[u8]) -> Result<(), AllocError> {
+    text.extend_from_slice(lines)?;
+    match lines.last() {
+        None | Some(b'\n') => Ok(()),
+        Some(_) => Ok(text.extend_from_slice(b"\n(no newline)\n")?),
+    }
+}
+
+/// What a line has printed: its output, its errors behind a line `errors:`, and its exit status.
+fn told(alloc: Global, done: &Ended) -> Result<Vec<u8>, AllocError> {
+    let mut text = Vec::new(alloc);
+    add_lines(&mut text, &done.out.text)?;
+    if !done.err.text.is_empty() {
+        text.extend_from_slice(b"errors:\n")?;
+        add_lines(&mut text, &done.err.text)?;
+    }
+    let status = done.status;
+    let end = format!(in alloc; "status {status}\n")?;
+    text.extend_from_slice(end.as_bytes())?;
+    Ok(text)
+}
+
+/// A line at another moment, which may be one that no words have.
+fn at_moment(line: CommandLine<'_>, at: u64) -> CommandLine<'_> {
+    match line {
+        CommandLine::Init { db, at: _, conf } => CommandLine::Init { db, at, conf },
+        CommandLine::Put { db, at: _, paths } => CommandLine::Put { db, at, paths },
+        CommandLine::Run { db, at: _ } => CommandLine::Run { db, at },
+        CommandLine::Copy {
+            db,
+            at: _,
+            from,
+            to,
+            source,
+        } => CommandLine::Copy {
+            db,
+            at,
+            from,
+            to,
+            source,
+        },
+        CommandLine::Waiting { db, at: _ } => CommandLine::Waiting { db, at },
+        other => other,
+    }
+}
+
+/// Does the line of the words with so much room for its outputs, and tells what it has printed.
+fn line(
+    rt: &HostRuntime,
+    words: &[Vec<u8>],
+    room: Room,
+    moment: Option<u64>,
+) -> Result<Vec<u8>, Unread> {
+    let texts = texts_of(rt.alloc(), words)?;
+    let done = match (command_line::line(rt.alloc(), &texts), moment) {
+        (Ok(line), None) => done(rt, &line, room),
+        (Ok(line), Some(at)) => done(rt, &at_moment(line, at), room),
+        (Err(fault), _) => refused(rt.alloc(), &fault, room),
+    };
+    Ok(told(rt.alloc(), &done)?)
+}
+
+/// A number, and the words behind it.
+fn number_and_words(words: &[Vec<u8>]) -> Result<(u64, &[Vec<u8>]), Unread> {
+    match words.split_first() {
+        Some((number, words)) => Ok((number_of(number)?, words)),
+        None => Err(Unread::BadWords),
+    }
+}
+
+/// `line-at MOMENT WORD..`: the same as `line`, at a moment that may be one that no words have.
+fn line_at(rt: &HostRuntime, words: &[Vec<u8>]) -> Result<Vec<u8>, Unread> {
+    let (at, words) = number_and_words(words)?;
+    line(rt, words, ALL, Some(at))
+}
+
+/// `cut-output ROOM WORD..`: the same as `line`, where standard output fails behind so many bytes.
+fn cut_output(rt: &HostRuntime, words: &[Vec<u8>]) -> Result<Vec<u8>, Unread> {
+    let (room, words) = number_and_words(words)?;
+    let out = room as usize;
+    line(rt, words, Room { out, ..ALL }, None)
+}
+
+/// `cut-errors ROOM WORD..`: the same, where standard error does.
+fn cut_errors(rt: &HostRuntime, words: &[Vec<u8>]) -> Result<Vec<u8>, Unread> {
+    let (room, words) = number_and_words(words)?;
+    let err = room as usize;
+    line(rt, words, Room { err, ..ALL }, None)
+}
+
+/// `line WORD..`: what the line of these words prints and how it ends; or the answer to one of the questions above.
+pub fn answer(rt: &HostRuntime, verb: &str, words: &[Vec<u8>]) -> Result<Option<Vec<u8>>, Unread> {
+    Ok(Some(match verb {
+        "line" => line(rt, words, ALL, None)?,
+        "line-at" => line_at(rt, words)?,
+        "cut-output" => cut_output(rt, words)?,
+        "cut-errors" => cut_errors(rt, words)?,
+        _ => return Ok(None),
+    }))
+}

@@ -1,0 +1,130 @@
+#!/usr/bin/env python3
+"""Tests of check_pages: the pages as they are, and copies of which one thing is wrong."""
+import importlib.machinery
+import importlib.util
+import pathlib
+import re
+import shutil
+import subprocess
+import sys
+import tempfile
+import unittest
+
+HERE = pathlib.Path(__file__).resolve().parent
+ROOT = HERE.parent
+FAULTS = "docs/FAULTS.md"
+
+sys.dont_write_bytecode = True
+loader = importlib.machinery.SourceFileLoader("check_pages", str(HERE / "check_pages"))
+pages = importlib.util.module_from_spec(importlib.util.spec_from_loader("check_pages", loader))
+loader.exec_module(pages)
+
+
+def without(text, line):
+    """A text without this line, which stands in it once."""
+    return text.replace(f"{line}\n", "", 1)
+
+
+class Pages(unittest.TestCase):
+    @classmethod
+    def setUpClass(cls):
+        cls.repository = pages.Repository(ROOT)
+        cls.faults = cls.repository.pages[FAULTS]
+        cls.told = pages.told_by(cls.repository.sources())
+        cls.found = {}
+
+    def other(self, check, path, text):
+        """What a check finds more where this page is another text."""
+        kept = self.repository.pages[path]
+        if check not in self.found:
+            self.found[check] = set(check(self.repository))
+        self.repository.pages[path] = text
+        found = set(check(self.repository))
+        self.repository.pages[path] = kept
+        return found - self.found[check]
+
+    def row(self, path, front):
+        """The row of a page's tables that begins so."""
+        return next(line for line in self.repository.pages[path].split("\n") if line.startswith(front))
+
+    def test_the_pages_are_right(self):
+        self.assertEqual("\n".join(pages.wrong_in(ROOT)), "")
+
+    def test_the_sources_tell_something_of_each_kind(self):
+        for one in ("P10", "N3", "S9", "C10", "F6", "Q8", "K4", "H2", "L0", "accepted", "refused 9", "payload too large", "status 2", "archive: not found"):
+            self.assertIn(one, self.told)
+
+    def test_each_row_of_faults_is_wanted(self):
+        for row in (line for line in self.faults.split("\n") if line.startswith("| `")):
+            name = pages.key(row.split("|")[1].strip())
+            self.assertIn(f"{FAULTS}: {name} is missing", pages.differences(without(self.faults, row), self.told))
+
+    def test_each_line_of_a_fault_is_wanted(self):
+        """Each line of a source that alone gives a fault, a verdict or a line of the program is taken out."""
+        gone = set()
+        for text in self.repository.sources():
+            for line in re.findall(r'^.*(?:"[A-Z]\d|Verdict::\w+ => \d|Fault::\w+(?:\(_\))? => \d|#\[error\("archive: [^{]).*$', text, re.M):
+                gone |= pages.told_in(text) - pages.told_in(without(text, line))
+        alone = {name for name in self.told if re.fullmatch(r"[A-Z]\d+|refused \d+|accepted|archive: .*", name)}
+        self.assertEqual(alone - gone, set())
+        for name in gone:
+            self.assertIn(f"{FAULTS}: {name} is in no source", pages.differences(self.faults, self.told - {name}))
+
+    def test_each_reply_of_the_sources_is_wanted(self):
+        sources = "\n".join(self.repository.sources())
+        for constant in set(re.findall(r"StatusCode::([A-Z_]+)\b", sources)):
+            told = self.told - pages.told_in(f"StatusCode::{constant}") | pages.told_in("StatusCode::IM_A_TEAPOT")
+            name = constant.replace("_", " ").lower()
+            self.assertLessEqual({f"{FAULTS}: {name} is in no source", f"{FAULTS}: im a teapot is missing"}, set(pages.differences(self.faults, told)))
+
+    def test_a_row_has_a_meaning_and_something_to_do(self):
+        row = self.row(FAULTS, "| `Q6`")
+        bare = "|".join([*row.split("|")[:3], " ", ""])
+        self.assertNotEqual(list(pages.differences(self.faults.replace(row, bare), self.told)), [])
+        self.assertIn(f"{FAULTS}: Q6 stands twice", pages.differences(self.faults.replace(row, f"{row}\n{row}"), self.told))
+
+    def test_a_long_readme_is_refused(self):
+        for text, count in (("a\n" * 100, 0), ("a\n" * 101, 1), ("a" * 100, 0), ("a" * 101, 1)):
+            self.assertEqual(len(self.other(pages.check_lengths, "README.md", text)), count)
+
+    def test_what_is_not_there_is_refused(self):
+        for named in (
+            "`crates/keep/src/nothing.rt`",
+            "tools/nothing",
+            "docs/NOTHING.md",
+            "`specs/Nothing`",
+            "`no_such_" "function`",
+            "`Keeper::nosuch" "call`",
+            "`NoSuch" "Type`",
+        ):
+            self.assertEqual(len(self.other(pages.check_names, "docs/OPEN.md", f"It is {named}, says a page.")), 1, named)
+
+    def test_what_is_there_is_taken(self):
+        for named in ("`crates/keep/src/lib.rt`", "tools/check_pages", "`specs/Book`", "`Keeper`", "`Archive::drive`", "crates/NAME/src", "[it](DECISIONS.md)"):
+            self.assertEqual(self.other(pages.check_names, "docs/OPEN.md", f"It is {named}, says a page."), set(), named)
+
+    def test_a_crate_without_a_room_is_refused(self):
+        path = "docs/ARCHITECTURE.md"
+        page, row = self.repository.pages[path], self.row(path, "| vers |")
+        self.assertIn(f"{path}: the crate vers is missing", self.other(pages.check_crates, path, without(page, row)))
+        more = page.replace(row, f"{row}\n{row.replace('vers', 'nothing', 1)}")
+        self.assertIn(f"{path}: there is no crate nothing", self.other(pages.check_crates, path, more))
+
+    def test_a_diary_is_refused(self):
+        for words in ("The state before this one was well.", "No fault was seen.", "On 2026-01-02 it was so.", "It has 261 wrong bodies.", "It takes GATE_MINUTES."):
+            self.assertEqual(len(self.other(pages.check_diary, "docs/OPEN.md", words)), 1, words)
+
+    def test_the_command_tells_it(self):
+        with tempfile.TemporaryDirectory() as room:
+            for name in ("crates", "tools", "docs", ".ci"):
+                shutil.copytree(ROOT / name, f"{room}/{name}", ignore=shutil.ignore_patterns("out", "__pycache__"))
+            for name in ("README.md", "CONTRIBUTING.md", "crates.txt", "Makefile", "HANDLES"):
+                shutil.copy(ROOT / name, room)
+            pathlib.Path(room, FAULTS).write_text(without(self.faults, self.row(FAULTS, "| `K2`")), encoding="utf-8")
+            ran = subprocess.run([f"{room}/tools/check_pages"], capture_output=True, text=True, check=False)
+        self.assertEqual(ran.returncode, 1)
+        self.assertIn(f"{FAULTS}: K2 is missing\n", ran.stdout)
+
+
+if __name__ == "__main__":
+    unittest.main()

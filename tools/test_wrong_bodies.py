@@ -1,0 +1,112 @@
+"""Tests of what try_wrong_bodies reads, on a small repository."""
+import importlib.machinery
+import importlib.util
+import pathlib
+import tempfile
+import unittest
+
+TOOL = str(pathlib.Path(__file__).resolve().parent / "try_wrong_bodies")
+LOADER = importlib.machinery.SourceFileLoader("try_wrong_bodies", TOOL)
+tool = importlib.util.module_from_spec(importlib.util.spec_from_loader("try_wrong_bodies", LOADER))
+LOADER.exec_module(tool)
+
+SOURCE = "fn one() -> u8 {\n    1\n}\n\nfn two() -> u8 {\n    one() + 1\n}\n"
+
+
+class WrongBodies(unittest.TestCase):
+    def setUp(self):
+        room = tempfile.TemporaryDirectory()
+        self.addCleanup(room.cleanup)
+        self.root = pathlib.Path(room.name)
+        self.write("crates/low/src/lib.rt", SOURCE)
+        self.write("tools/wrong_bodies/low/is_three.edit", "file: src/lib.rt\nold: one() + 1\nnew: one() + 2\n")
+
+    def write(self, path, text):
+        (self.root / path).parent.mkdir(parents=True, exist_ok=True)
+        (self.root / path).write_text(text)
+
+    def changed(self, text):
+        return tool.changed(text, str(self.root / "crates/low"))
+
+    def assert_fault(self, part):
+        """One fault is found, and its line has this part."""
+        faults = tool.faults_in(str(self.root))
+        self.assertEqual(len(faults), 1, faults)
+        self.assertIn(part, faults[0])
+
+    def test_pairs_are_made_in_order(self):
+        made = self.changed("file: src/lib.rt\nold: one() + 1\nnew: 9\nold: 9\nnew: 7\n")
+        self.assertEqual(made, {"src/lib.rt": SOURCE.replace("one() + 1", "7")})
+
+    def test_a_fitting_edit_has_no_fault(self):
+        self.assertEqual(tool.faults_in(str(self.root)), [])
+
+    def test_an_old_text_that_stands_twice(self):
+        self.write("crates/low/must-fail/twice.edit", "file: src/lib.rt\nold: -> u8\nnew: -> u16\n")
+        self.assert_fault("stands there 2 times")
+
+    def test_an_old_text_that_is_gone(self):
+        self.write("crates/low/src/lib.rt", SOURCE.replace("one() + 1", "2"))
+        self.assert_fault("stands there 0 times")
+
+    def test_a_file_that_is_gone(self):
+        self.write("crates/low/must-fail/gone.edit", "file: src/two.rt\nold: a\nnew: b\n")
+        self.assert_fault("there is no src/two.rt")
+
+    def test_a_file_of_definitions(self):
+        self.write("crates/low/must-fail/specs.edit", "file: specs/Two.antt\nold: a\nnew: b\n")
+        self.assert_fault("no path below src/")
+
+    def test_nothing_changed(self):
+        self.write("crates/low/must-fail/same.edit", "file: src/lib.rt\nold: one() + 1\nnew: one() + 1\n")
+        self.assert_fault("changes nothing")
+
+    def test_an_old_text_alone(self):
+        self.write("crates/low/must-fail/alone.edit", "file: src/lib.rt\nold: one() + 1\n")
+        self.assert_fault("no new one")
+
+    def test_a_second_line(self):
+        self.write("crates/low/must-fail/lines.edit", "file: src/lib.rt\nold: one() + 1\nnew: one()\n    + 2\n")
+        self.assert_fault("out of place")
+
+    def test_a_name_in_capitals(self):
+        self.write("crates/low/must-fail/IsThree.edit", "file: src/lib.rt\nold: one() + 1\nnew: one() + 2\n")
+        self.assert_fault("lower-case")
+
+    def test_a_name_that_stands_twice(self):
+        self.write("crates/low/must-fail/is_three.edit", "file: src/lib.rt\nold: one() + 1\nnew: one() + 2\n")
+        self.assertEqual(len(tool.faults_in(str(self.root))), 2)
+
+    def test_the_ninth_of_a_crate(self):
+        for number in range(9):
+            self.write(f"crates/low/must-fail/by_{number}.edit", f"file: src/lib.rt\nold: one() + 1\nnew: one() + {number + 3}\n")
+        self.assert_fault("at most 8 of a crate")
+
+    def test_the_ninety_first_of_all(self):
+        for number in range(91):
+            crate = f"crate_{number // 8}"
+            self.write(f"crates/{crate}/src/lib.rt", SOURCE)
+            self.write(f"crates/{crate}/must-fail/by_{number}.edit", f"file: src/lib.rt\nold: one() + 1\nnew: one() + {number + 3}\n")
+        self.assert_fault("at most 90")
+
+    def test_a_record_forgets_what_is_gone_or_changed(self):
+        path = str(self.root / "TRIED")
+        record = tool.Record(path, {"low/a", "low/b"})
+        record.add("low/a", "refused", "1", "2")
+        record.add("low/b", "not-refused", "3", "2")
+        again = tool.Record(path, {"low/b"})
+        self.assertEqual([*again.tried], ["low/b"])
+        self.assertTrue(again.has("low/b", "3", "2"))
+        self.assertFalse(again.has("low/b", "4", "2"))
+        self.assertFalse(again.has("low/b", "3", "5"))
+
+    def test_what_rt_says_of_an_edit(self):
+        self.assertEqual(tool.result_of("refused, as it must be: src/lib.rt:7:5: error"), "refused")
+        self.assertEqual(tool.result_of("refused, as it must be (only by a limit of the prover, ..): x"), "refused-by-a-limit")
+        self.assertEqual(tool.result_of("NOT REFUSED: the crate is still proved with this edit"), "not-refused")
+        self.assertEqual(tool.result_of("BAD EDIT: it did not reach the prover"), "bad")
+        self.assertIsNone(tool.result_of("NOT TRIED: its check was killed"))
+
+
+if __name__ == "__main__":
+    unittest.main()
