@@ -1,0 +1,114 @@
+//! Statements that are given to databases past the archive.
+
+use crate::filed::{Unopened, closed, connected};
+use keep::KeepFault;
+use keep_open::open;
+use rows::{Unread, said, text_of};
+use sqlite::{Alter, Connection, Error, Files};
+use sqlite_disk::Memory;
+use std::alloc::Global;
+
+/// What is done with a database.
+pub trait Edit {
+    /// Does it, and answers a number of rows.
+    fn edit<S: Alter>(&self, connection: &mut Connection<S>) -> Result<usize, Error>;
+}
+
+/// Runs a list of statements.
+#[derive(Clone, Copy)]
+pub struct Batch<'a>(pub &'a str);
+
+impl Edit for Batch<'_> {
+    fn edit<S: Alter>(&self, connection: &mut Connection<S>) -> Result<usize, Error> {
+        connection.execute_batch(self.0)?;
+        Ok(0)
+    }
+}
+
+/// Counts the rows that a query answers.
+#[derive(Clone, Copy)]
+pub struct Count<'a>(pub &'a str);
+
+impl Edit for Count<'_> {
+    fn edit<S: Alter>(&self, connection: &mut Connection<S>) -> Result<usize, Error> {
+        Ok(connection.query_all(self.0, &[])?.len())
+    }
+}
+
+/// Files behind an edit, the log copied into the database file, and what the edit answered; nothing where there is no database.
+#[derive(Drop)]
+pub struct Edited {
+    pub files: Files<Memory>,
+    pub rows: Option<usize>,
+}
+
+/// Edits the database that files hold.
+pub fn edit_files<E: Edit>(alloc: Global, files: Files<Memory>, edit: &E) -> Edited {
+    match connected(alloc, files) {
+        Ok(mut connection) => {
+            let rows = edit.edit(&mut connection).ok();
+            Edited {
+                files: closed(connection),
+                rows,
+            }
+        }
+        Err(Unopened { files, fault: _ }) => Edited { files, rows: None },
+    }
+}
+
+/// The files behind these lists of statements, where they can be run.
+pub fn changed(
+    alloc: Global,
+    files: Files<Memory>,
+    lists: &[Vec<u8>],
+) -> Result<Option<Files<Memory>>, Unread> {
+    let mut files = files;
+    for list in lists {
+        let edited = edit_files(alloc, files, &Batch(text_of(list)?));
+        if edited.rows.is_none() {
+            return Ok(None);
+        }
+        files = edited.files;
+    }
+    Ok(Some(files))
+}
+
+/// What an opening makes of a database behind the end of its transaction, where it was refused in that with a fault.
+fn opening_behind<S: Alter + Drop>(
+    alloc: Global,
+    connection: Connection<S>,
+    fault: KeepFault,
+) -> Result<Vec<u8>, Unread> {
+    let mut connection = connection;
+    if connection.execute("COMMIT", &[]).is_err() {
+        return said(alloc, "no transaction");
+    }
+    let text = match open(alloc, connection) {
+        Ok(_keeper) => format!(in alloc; "{fault} open")?,
+        Err((_connection, again)) => format!(in alloc; "{fault} {again}")?,
+    };
+    said(alloc, text.as_str())
+}
+
+/// What an opening makes of a database in a transaction, and then behind its end.
+fn opening_within<S: Alter + Drop>(
+    alloc: Global,
+    connection: Connection<S>,
+) -> Result<Vec<u8>, Unread> {
+    let mut connection = connection;
+    if connection.execute("BEGIN", &[]).is_err() {
+        return said(alloc, "no transaction");
+    }
+    match open(alloc, connection) {
+        Ok(_keeper) => said(alloc, "open"),
+        Err((connection, fault)) => opening_behind(alloc, connection, fault),
+    }
+}
+
+/// What an opening makes of the database that files hold, in a transaction and behind its end.
+pub fn in_transaction(alloc: Global, files: Files<Memory>) -> Result<Vec<u8>, Unread> {
+    match connected(alloc, files) {
+        Ok(connection) => opening_within(alloc, connection),
+        Err(_unopened) => said(alloc, "no database"),
+    }
+}

@@ -1,0 +1,140 @@
+//! Steps of a story, and what files tell of one.
+
+use crate::observed::observe;
+use crate::tasks::{Begin, Left, Task, done, told_fault};
+use crate::told::Told;
+use keep::{KeepFault, Keeper};
+use queue::Archive;
+use rows::{Unread, text_of};
+use sqlite::Files;
+use sqlite_disk::Memory;
+use std::alloc::Global;
+use story::asked;
+
+/// A step of a story.
+#[derive(Clone, Copy)]
+pub enum Step<'a> {
+    /// Makes an archive of a configuration.
+    Create(&'a [u8]),
+    /// Opens the archive that is there.
+    Open,
+    /// Asks the archive that is there.
+    Ask(&'a str, &'a [Vec<u8>]),
+}
+
+impl<'a> Step<'a> {
+    /// The step of these words.
+    pub fn read(words: &'a [Vec<u8>]) -> Result<Step<'a>, Unread> {
+        let Some((verb, words)) = words.split_first() else {
+            return Err(Unread::BadWords);
+        };
+        match (text_of(verb)?, words) {
+            ("create", [config]) => Ok(Step::Create(config.as_slice())),
+            ("open", []) => Ok(Step::Open),
+            (verb, words) => Ok(Step::Ask(verb, words)),
+        }
+    }
+
+    /// How the archive comes to be that it is done with.
+    pub fn begin(self) -> Begin<'a> {
+        match self {
+            Step::Create(config) => Begin::Making(config),
+            Step::Open | Step::Ask(_, _) => Begin::Opening,
+        }
+    }
+}
+
+/// What an archive answers to a step.
+pub fn answered<K: Keeper>(
+    alloc: Global,
+    archive: &mut Archive<K>,
+    step: Step<'_>,
+) -> Result<Vec<u8>, Unread> {
+    match step {
+        Step::Create(_) | Step::Open => Ok(Vec::new(alloc)),
+        Step::Ask(verb, words) => asked(alloc, archive, verb, words),
+    }
+}
+
+/// Does a step.
+#[derive(Clone, Copy)]
+pub struct Doing<'a> {
+    pub step: Step<'a>,
+}
+
+impl Task for Doing<'_> {
+    type Answer = Vec<u8>;
+
+    fn perform<K: Keeper>(
+        &self,
+        alloc: Global,
+        archive: &mut Archive<K>,
+    ) -> Result<Vec<u8>, Unread> {
+        answered(alloc, archive, self.step)
+    }
+}
+
+/// Tells what an archive shows at these paths; where the step asks it, what it answers and what it shows then, too.
+#[derive(Clone, Copy)]
+pub struct Telling<'a> {
+    pub step: Step<'a>,
+    pub paths: &'a [String],
+}
+
+impl Task for Telling<'_> {
+    type Answer = Told;
+
+    fn perform<K: Keeper>(&self, alloc: Global, archive: &mut Archive<K>) -> Result<Told, Unread> {
+        let before = observe(alloc, archive, self.paths)?;
+        let answer = answered(alloc, archive, self.step)?;
+        let behind = match self.step {
+            Step::Create(_) | Step::Open => Vec::new(alloc),
+            Step::Ask(_, _) => observe(alloc, archive, self.paths)?,
+        };
+        Ok(Told {
+            before,
+            answer,
+            behind,
+        })
+    }
+}
+
+/// What was told, or the fault where there was no archive.
+fn told_or_fault(alloc: Global, told: Result<Told, KeepFault>) -> Result<Told, Unread> {
+    match told {
+        Ok(told) => Ok(told),
+        Err(fault) => Ok(Told {
+            before: Vec::new(alloc),
+            answer: told_fault(alloc, fault)?,
+            behind: Vec::new(alloc),
+        }),
+    }
+}
+
+/// What the archive in files tells of a step, which is done with it. Where the step makes an archive, it tells what there was before,
+/// the fault or nothing, and what there is then.
+pub fn told_of(
+    alloc: Global,
+    files: Files<Memory>,
+    step: Step<'_>,
+    paths: &[String],
+) -> Result<Told, Unread> {
+    let telling = Telling { step, paths };
+    let Left { files, answer } = done(alloc, files, Begin::Opening, &telling)?;
+    let found = told_or_fault(alloc, answer)?;
+    let Step::Create(_) = step else {
+        return Ok(found);
+    };
+    let left = done(alloc, files, step.begin(), &telling)?;
+    let Told {
+        before: mut made,
+        answer: fault,
+        behind: _,
+    } = told_or_fault(alloc, left.answer)?;
+    made.push(fault)?;
+    Ok(Told {
+        before: found.before,
+        answer: found.answer,
+        behind: made,
+    })
+}
