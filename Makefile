@@ -1,8 +1,6 @@
-# try: the main job on stored files; build: prove and build the program; install: copy it to PREFIX/bin; test: whether the wrong
-# bodies fit the text, the gate, the tests of tools/with_sidecars, and one of database files with SQLite itself; wrong: the wrong
-# bodies that the gate leaves out, from where the last run was cut off.
+# try: the main job on stored files; build: prove and build the program; install: copy it to PREFIX/bin; test: the gate and all other
+# tests (tools/run_tests); wrong: the wrong bodies that the gate leaves out, from where the last run was cut off.
 PREFIX ?= /usr/local
-STORED = crates/archive/data
 PROGRAM = crates/archive/out/archive
 
 .PHONY: try build install test wrong
@@ -18,11 +16,7 @@ install: build
 	install -D -m 755 $(PROGRAM) $(PREFIX)/bin/archive
 
 test:
-	tools/try_wrong_bodies --read
-	python3 tools/test_wrong_bodies.py
-	rt ci
-	python3 tools/test_with_sidecars.py -v
-	python3 tools/test_database.py -v
+	@tools/run_tests
 
 wrong:
 	tools/try_wrong_bodies

@@ -1,8 +1,8 @@
 //! A step that is tried with an archive whose disk may fail.
 
+use crate::account::{Told, is_fault, is_refusal};
 use crate::steps::{Step, Telling, answered};
 use crate::tasks::Task;
-use crate::told::{Told, is_fault, is_refusal};
 use keep::Keeper;
 use queue::Archive;
 use rows::Unread;

@@ -1,5 +1,6 @@
 //! A step that is done while a disk stops, fails or is full.
 
+use crate::account::Told;
 use crate::attempt::{Attempt, Outcome};
 use crate::failing::Failing;
 use crate::faulty::{
@@ -10,7 +11,6 @@ use crate::full::Full;
 use crate::observed::{Paths, add_paths};
 use crate::steps::{Doing, Step, told_of};
 use crate::tasks::{Begin, Left, Nothing, done, told_fault};
-use crate::told::Told;
 use keep::KeepFault;
 use rows::{Unread, said};
 use sqlite::Files;

@@ -4,6 +4,7 @@
 //! be read, and none differs; else 1.
 #![tactic(auto)]
 
+mod account;
 mod attempt;
 mod case;
 mod edits;
@@ -17,7 +18,6 @@ mod observed;
 mod steps;
 mod tampered;
 mod tasks;
-mod told;
 
 use crate::case::Case;
 use std::process::ExitCode;

@@ -1,8 +1,8 @@
 //! Steps of a story, and what files tell of one.
 
+use crate::account::Told;
 use crate::observed::observe;
 use crate::tasks::{Begin, Left, Task, done, told_fault};
-use crate::told::Told;
 use keep::{KeepFault, Keeper};
 use queue::Archive;
 use rows::{Unread, text_of};

@@ -138,7 +138,7 @@ fn whole_reply<K: Keeper>(
 }
 
 /// The replies of a new archive to a request that is made twice.
-fn twice<'a, K: Keeper>(
+fn asked_twice<'a, K: Keeper>(
     alloc: Global,
     archive: &mut Archive<K>,
     bytes: &'a [u8],
@@ -197,7 +197,7 @@ pub fn writer_fails<K: Keepers>(
     config: &[u8],
     words: &[Vec<u8>],
 ) -> Result<Vec<u8>, Unread> {
-    let twice = twice(alloc, &mut fresh::<K>(alloc, config)?, only_word(words)?)?;
+    let twice = asked_twice(alloc, &mut fresh::<K>(alloc, config)?, only_word(words)?)?;
     let length = twice.first.len();
     for room in 0..length {
         for full in [Full::Fails, Full::TakesNothing] {

@@ -1,5 +1,7 @@
 //! Keepers of new archives.
 
+ghost use Rattle.std.specs.Prelude.{◌≤◌};
+
 use keep::{KeepFault, Keeper, LATEST};
 use rules::Config;
 use std::alloc::Global;

@@ -1,5 +1,7 @@
 //! The keepers that stories are told over.
 
+ghost use Rattle.std.specs.Prelude.{◌≤◌};
+
 use keep::{KeepFault, LATEST, PlainKeeper};
 use keep_open::open;
 use keep_tables::TableKeeper;
