@@ -1,7 +1,6 @@
 //! What an archive tells of a step.
 
 use crate::observed::is_refused;
-use rows::{Unread, said};
 use std::alloc::{AllocError, Global};
 
 /// The answer of an archive whose disk failed.
@@ -64,7 +63,7 @@ impl Told {
     }
 
     /// Says where this is not what another told.
-    pub fn difference(&self, alloc: Global, other: &Told) -> Result<Vec<u8>, Unread> {
+    pub fn difference(&self, alloc: Global, other: &Told) -> Result<Vec<u8>, AllocError> {
         let (found, wanted) = differing(self.before.as_slice(), other.before.as_slice());
         if found != wanted {
             return told_difference(alloc, found, wanted);
@@ -78,12 +77,11 @@ impl Told {
 }
 
 /// Says what was found, and what is wanted.
-fn told_difference(alloc: Global, found: &[u8], wanted: &[u8]) -> Result<Vec<u8>, Unread> {
-    let (found, wanted) = (found.escape_ascii(), wanted.escape_ascii());
-    said(
-        alloc,
-        format!(in alloc; "{found} in the place of {wanted}")?.as_str(),
-    )
+fn told_difference(alloc: Global, found: &[u8], wanted: &[u8]) -> Result<Vec<u8>, AllocError> {
+    let mut text = Vec::from_slice(alloc, found)?;
+    text.extend_from_slice(b" in the place of ")?;
+    text.extend_from_slice(wanted)?;
+    Ok(text)
 }
 
 /// The first two pieces that differ, or the last of the longer one.

@@ -101,9 +101,10 @@ fn paths_of(alloc: Global, files: &Files<Memory>) -> Result<Vec<String>, Unread>
 
 /// Something that should not be, with a note.
 fn noted(alloc: Global, note: &str, text: &[u8]) -> Result<Found, Unread> {
-    let text = text.escape_ascii();
-    let text = format!(in alloc; "{note}: {text}")?;
-    Ok(Found::Otherwise(said(alloc, text.as_str())?))
+    let mut line = said(alloc, note)?;
+    line.extend_from_slice(b": ")?;
+    line.extend_from_slice(text)?;
+    Ok(Found::Otherwise(line))
 }
 
 impl<'a> Interruption<'a> {
