@@ -128,7 +128,7 @@ class Server:
                 return
             if self.process.poll() is not None:
                 stop(f"{self.process.args[0]} ended with status {self.process.returncode}, and no server came up")
-            time.sleep(0.01)
+            time.sleep(0.001)
 
     def ask(self, method, path, body=b""):
         """Makes a request over a connection of its own, and answers the status and the body of the reply."""

@@ -107,7 +107,7 @@ class Served(Lines):
         self.ending = contextlib.ExitStack()
 
     def serve(self):
-        words = [self.program, "serve", "--db", self.db, "--at", "0", "127.0.0.1:{port}", "1000000000"]
+        words = [self.program, "serve", "--db", self.db, "--at", "0", "127.0.0.1:{port}", "1000000"]
         self.server = self.ending.enter_context(measure.Server(words))
 
     def make(self):
