@@ -1,6 +1,6 @@
 //! Requests that are cut, and readers and writers that fail, at each byte.
 
-use crate::keepers::Keepers;
+use crate::keepers::Makes;
 use crate::readers::{Full, Narrow, Pieces};
 use crate::requests::reply_to;
 use desk::{DeskFault, answer};
@@ -113,11 +113,11 @@ struct Twice<'a> {
 }
 
 /// A new archive of a configuration.
-fn fresh<K: Keepers>(alloc: Global, config: &[u8]) -> Result<Archive<K::Kept>, Unread> {
+fn fresh<K: Keeper, M: Makes<K>>(alloc: Global, config: &[u8]) -> Result<Archive<K>, Unread> {
     let Ok(config) = Config::read(alloc, config) else {
         return Err(Unread::BadWords);
     };
-    match K::made(alloc, config, 0) {
+    match M::made(alloc, config, 0) {
         Ok(keeper) => Ok(Archive::new(keeper)),
         Err(_) => Err(Unread::OutOfMemory),
     }
@@ -178,35 +178,35 @@ fn beside_full<K: Keeper>(
 }
 
 /// The same of a new archive.
-fn beside_full_of<K: Keepers>(
+fn beside_full_of<K: Keeper + Drop, M: Makes<K>>(
     alloc: Global,
     config: &[u8],
     twice: &Twice<'_>,
     room: usize,
     full: Full,
 ) -> Result<Option<Vec<u8>>, Unread> {
-    let mut archive = fresh::<K>(alloc, config)?;
+    let mut archive = fresh::<K, M>(alloc, config)?;
     beside_full(alloc, &mut archive, twice, room, full)
 }
 
 /// `writer-fails BYTES`: `done`, where a new archive whose reply can't be written from any of its bytes on, or can't be flushed, tells
 /// this as H2, writes the bytes before, and answers the same request then as if the reply had been written; else where it was
 /// otherwise.
-pub fn writer_fails<K: Keepers>(
+pub fn writer_fails<K: Keeper + Drop, M: Makes<K>>(
     alloc: Global,
     config: &[u8],
     words: &[Vec<u8>],
 ) -> Result<Vec<u8>, Unread> {
-    let twice = asked_twice(alloc, &mut fresh::<K>(alloc, config)?, only_word(words)?)?;
+    let twice = asked_twice(alloc, &mut fresh::<K, M>(alloc, config)?, only_word(words)?)?;
     let length = twice.first.len();
     for room in 0..length {
         for full in [Full::Fails, Full::TakesNothing] {
-            if let Some(found) = beside_full_of::<K>(alloc, config, &twice, room, full)? {
+            if let Some(found) = beside_full_of::<K, M>(alloc, config, &twice, room, full)? {
                 return otherwise(alloc, room, found.as_slice());
             }
         }
     }
-    match beside_full_of::<K>(alloc, config, &twice, length, Full::FailsToFlush)? {
+    match beside_full_of::<K, M>(alloc, config, &twice, length, Full::FailsToFlush)? {
         Some(found) => otherwise(alloc, length, found.as_slice()),
         None => said(alloc, "done"),
     }

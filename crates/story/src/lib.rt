@@ -14,5 +14,5 @@ mod requests;
 mod steps;
 mod telling;
 
-pub use keepers::Keepers;
+pub use keepers::Makes;
 pub use telling::{Story, asked};

@@ -2,7 +2,7 @@
 
 use crate::drives::drive;
 use crate::failures::{cut, reader_fails, writer_fails};
-use crate::keepers::Keepers;
+use crate::keepers::Makes;
 use crate::numbers::numbers;
 use crate::reading::{status, wanted};
 use crate::requests::request;
@@ -12,11 +12,13 @@ use queue::Archive;
 use rows::{Answers, Unread, said, text_of};
 use rules::Config;
 use std::alloc::Global;
+use std::marker::PhantomData;
 
-/// A story over a keeper. The archive is there behind its row.
+/// A story over keepers of one type, and what makes them. The archive is there behind its row.
 #[derive(Drop)]
-pub struct Story<K: Keepers> {
-    archive: Option<Archive<K::Kept>>,
+pub struct Story<K: Keeper + Drop, M: Makes<K>> {
+    archive: Option<Archive<K>>,
+    makes: PhantomData<M>,
 }
 
 /// What an archive answers to a question on requests.
@@ -63,12 +65,12 @@ fn keeper_text(alloc: Global, fault: KeepFault) -> Result<Vec<u8>, Unread> {
     }
 }
 
-impl<K: Keepers> Story<K> {
+impl<K: Keeper + Drop, M: Makes<K>> Story<K, M> {
     /// Has an archive over a keeper from here on, and says so; or none, and says why.
     fn keep(
         &mut self,
         alloc: Global,
-        keeper: Result<K::Kept, KeepFault>,
+        keeper: Result<K, KeepFault>,
         done: &str,
     ) -> Result<Vec<u8>, Unread> {
         match keeper {
@@ -93,7 +95,7 @@ impl<K: Keepers> Story<K> {
             return Err(Unread::BadWords);
         }
         match Config::read(alloc, text.as_slice()) {
-            Ok(config) => self.keep(alloc, K::made(alloc, config, moment), "made"),
+            Ok(config) => self.keep(alloc, M::made(alloc, config, moment), "made"),
             Err(fault) => said(alloc, fault.to_string(alloc)?.as_str()),
         }
     }
@@ -102,7 +104,7 @@ impl<K: Keepers> Story<K> {
     fn reopen(&mut self, alloc: Global) -> Result<Vec<u8>, Unread> {
         match self.archive.take() {
             Some(archive) => {
-                let keeper = K::reopened(alloc, archive.into_keeper());
+                let keeper = M::reopened(alloc, archive.into_keeper());
                 self.keep(alloc, keeper, "opened")
             }
             None => Err(Unread::BadWords),
@@ -113,7 +115,7 @@ impl<K: Keepers> Story<K> {
     fn ask(&mut self, alloc: Global, verb: &str, words: &[Vec<u8>]) -> Result<Vec<u8>, Unread> {
         match &mut self.archive {
             Some(archive) if verb == "writer-fails" => {
-                writer_fails::<K>(alloc, archive.keeper.config().text(), words)
+                writer_fails::<K, M>(alloc, archive.keeper.config().text(), words)
             }
             Some(archive) => asked(alloc, archive, verb, words),
             None => Err(Unread::BadWords),
@@ -133,9 +135,12 @@ impl<K: Keepers> Story<K> {
     }
 }
 
-impl<K: Keepers, R: AllocGlobal> Answers<R> for Story<K> {
-    fn fresh(_rt: &R) -> Story<K> {
-        Story { archive: None }
+impl<K: Keeper + Drop, M: Makes<K>, R: AllocGlobal> Answers<R> for Story<K, M> {
+    fn fresh(_rt: &R) -> Story<K, M> {
+        Story {
+            archive: None,
+            makes: PhantomData,
+        }
     }
 
     fn answer(&mut self, rt: &R, words: &[Vec<u8>]) -> Result<Vec<u8>, Unread> {

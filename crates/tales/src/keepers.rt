@@ -8,15 +8,19 @@ use keep_tables::TableKeeper;
 use rules::Config;
 use sqlite::{Connection, MemStore};
 use std::alloc::Global;
-use story::Keepers;
+use story::{Makes, Story};
 
-/// Plain keepers.
+/// A story over a plain keeper.
+pub type OverLists = Story<PlainKeeper, Lists>;
+
+/// A story over a keeper over tables in memory.
+pub type OverTables = Story<TableKeeper<MemStore>, Tables>;
+
+/// Makes plain keepers.
 #[derive(Clone, Copy)]
 pub struct Lists;
 
-impl Keepers for Lists {
-    type Kept = PlainKeeper;
-
+impl Makes<PlainKeeper> for Lists {
     fn made(alloc: Global, config: Config, moment: u64) -> Result<PlainKeeper, KeepFault>
         requires { moment ≤ LATEST }
     {
@@ -28,13 +32,11 @@ impl Keepers for Lists {
     }
 }
 
-/// Keepers over tables in memory. Stories have them from here alone, since each function that names them takes the prover long.
+/// Makes keepers over tables in memory. Stories have these from here alone, since each function that names them takes the prover long.
 #[derive(Clone, Copy)]
 pub struct Tables;
 
-impl Keepers for Tables {
-    type Kept = TableKeeper<MemStore>;
-
+impl Makes<TableKeeper<MemStore>> for Tables {
     fn made(alloc: Global, config: Config, moment: u64) -> Result<TableKeeper<MemStore>, KeepFault>
         requires { moment ≤ LATEST }
     {

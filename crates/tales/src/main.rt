@@ -6,16 +6,15 @@
 
 mod keepers;
 
-use crate::keepers::{Lists, Tables};
+use crate::keepers::{OverLists, OverTables};
 use rows::report_files;
 use std::io;
 use std::process::ExitCode;
-use story::Story;
 
 /// Tells the stories over both keepers.
 fn tell(rt: &HostRuntime) -> io::Result<bool> {
-    let over_lists = report_files::<Story<Lists>, HostRuntime>(rt, "over lists: ")?;
-    let over_tables = report_files::<Story<Tables>, HostRuntime>(rt, "over tables: ")?;
+    let over_lists = report_files::<OverLists, HostRuntime>(rt, "over lists: ")?;
+    let over_tables = report_files::<OverTables, HostRuntime>(rt, "over tables: ")?;
     Ok(over_lists && over_tables)
 }
 
