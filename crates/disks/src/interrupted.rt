@@ -92,8 +92,8 @@ struct Remains {
 
 /// The paths of the archive in files; none where there is no archive.
 fn paths_of(alloc: Global, files: &Files<Memory>) -> Result<Vec<String>, Unread> {
-    let left = done(alloc, copied(alloc, files)?, Begin::Opening, &Paths)?;
-    match left.answer {
+    let Left { files: _, answer } = done(alloc, copied(alloc, files)?, Begin::Opening, &Paths)?;
+    match answer {
         Ok(paths) => Ok(paths),
         Err(_) => Ok(Vec::new(alloc)),
     }
@@ -169,12 +169,22 @@ impl<'a> Interruption<'a> {
         }
     }
 
-    /// Whether files told that the step was done whole, or not at all where it was not answered.
-    fn is_whole(&self, told: &Told, is_answered: bool) -> bool {
+    /// Where files told that the step was neither done whole nor, where it was not answered, not at all.
+    fn otherwise(
+        &self,
+        alloc: Global,
+        note: &str,
+        told: &Told,
+        is_answered: bool,
+    ) -> Result<Option<Found>, Unread> {
         if told.is_same(&self.done) {
-            return true;
+            return Ok(None);
         }
-        !is_answered && told.is_same(&self.undone)
+        if !is_answered && told.is_same(&self.undone) {
+            return Ok(None);
+        }
+        let text = told.difference(alloc, &self.done)?;
+        Ok(Some(noted(alloc, note, text.as_slice())?))
     }
 
     /// Opens what is left of files, as it stands and as a crash of the machine leaves it.
@@ -188,11 +198,11 @@ impl<'a> Interruption<'a> {
         let has_failed = have_failed(&files);
         remains.stood.tell(alloc, shown(alloc, &files)?, self)?;
         remains.crashed.tell(alloc, crashed(alloc, files)?, self)?;
-        for (note, last) in [("left", &remains.stood), ("crashed", &remains.crashed)] {
-            if !self.is_whole(&last.told, is_answered) {
-                let text = last.told.difference(alloc, &self.done)?;
-                return noted(alloc, note, text.as_slice());
-            }
+        if let Some(found) = self.otherwise(alloc, "left", &remains.stood.told, is_answered)? {
+            return Ok(found);
+        }
+        if let Some(found) = self.otherwise(alloc, "crashed", &remains.crashed.told, is_answered)? {
+            return Ok(found);
         }
         Ok(if has_failed {
             Found::Whole
