@@ -5,6 +5,7 @@ import ctypes
 import dataclasses
 import os
 import platform
+import shlex
 import socket
 import subprocess
 import sys
@@ -176,7 +177,7 @@ def heading(*more):
     system = f"{platform.system()} {platform.release()}, {platform.machine()}"
     machine = f"{system}, {os.cpu_count()} processors, load {os.getloadavg()[0]:.1f}."
     cells = "Each cell: processor time / time that passes, most memory."
-    return f"`{' '.join(words)}`\n\n{' '.join([machine, cells, *filter(None, more)])}\n"
+    return f"`{shlex.join(words)}`\n\n{' '.join([machine, cells, *filter(None, more)])}\n"
 
 
 def table(head, rows):
