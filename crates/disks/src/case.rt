@@ -95,58 +95,6 @@ impl Case {
             None => said(alloc, "not run"),
         }
     }
-
-    /// `observed`: all that the archive shows.
-    fn observe(&mut self, alloc: Global) -> Result<Vec<u8>, Unread> {
-        let answer = self.with(alloc, Begin::Opening, &Observed)?;
-        told(alloc, answer)
-    }
-
-    /// `interrupted FILE KIND STEP..`: what becomes of a step while one of the files fails.
-    fn interrupt(&self, alloc: Global, words: &[Vec<u8>]) -> Result<Vec<u8>, Unread> {
-        let [file, kind, step @ ..] = words else {
-            return Err(Unread::BadWords);
-        };
-        let (which, kind) = (which_of(file)?, kind_of(kind)?);
-        interrupted(alloc, &self.files, which, kind, Step::read(step)?)
-    }
-
-    /// Does a row on the archive and its files.
-    fn tell(&mut self, alloc: Global, verb: &str, words: &[Vec<u8>]) -> Result<Vec<u8>, Unread> {
-        match (verb, words) {
-            ("archive", [config]) => {
-                self.files = no_files(alloc);
-                self.step(alloc, Step::Create(config.as_slice()))
-            }
-            ("empty", []) => {
-                self.files = no_files(alloc);
-                said(alloc, "empty")
-            }
-            ("reopen", []) => self.reopen(alloc),
-            ("observed", []) => self.observe(alloc),
-            ("interrupted", words) => self.interrupt(alloc, words),
-            (verb, words) => self.tell_past(alloc, verb, words),
-        }
-    }
-
-    /// Does a row on databases past the archive; any other is a step.
-    fn tell_past(
-        &mut self,
-        alloc: Global,
-        verb: &str,
-        words: &[Vec<u8>],
-    ) -> Result<Vec<u8>, Unread> {
-        match (verb, words) {
-            ("tampered", lists) => tampered(alloc, &self.files, lists),
-            ("changed", lists) => self.change(alloc, lists),
-            ("transaction", []) => in_transaction(alloc, copied(alloc, &self.files)?),
-            ("count", [query]) => counted(alloc, &self.files, text_of(query)?),
-            ("opens", [bytes]) => opening_of(alloc, bytes.as_slice()),
-            ("front", [count]) => front(alloc, &self.files, number_of(count)?),
-            ("without-end", [count]) => without_end(alloc, &self.files, number_of(count)?),
-            (verb, words) => self.step(alloc, Step::of(verb, words)),
-        }
-    }
 }
 
 impl<R: AllocGlobal> Answers<R> for Case {
@@ -157,9 +105,38 @@ impl<R: AllocGlobal> Answers<R> for Case {
     }
 
     fn answer(&mut self, rt: &R, words: &[Vec<u8>]) -> Result<Vec<u8>, Unread> {
-        match words.split_first() {
-            Some((verb, words)) => self.tell(rt.alloc(), text_of(verb)?, words),
-            None => Err(Unread::BadWords),
+        let alloc = rt.alloc();
+        let Some((verb, words)) = words.split_first() else {
+            return Err(Unread::BadWords);
+        };
+        match (text_of(verb)?, words) {
+            ("archive", [config]) => {
+                self.files = no_files(alloc);
+                self.step(alloc, Step::Create(config.as_slice()))
+            }
+            ("empty", []) => {
+                self.files = no_files(alloc);
+                said(alloc, "empty")
+            }
+            ("reopen", []) => self.reopen(alloc),
+            ("observed", []) => {
+                let answer = self.with(alloc, Begin::Opening, &Observed)?;
+                told(alloc, answer)
+            }
+            ("interrupted", [file, kind, step @ ..]) => {
+                let (which, kind) = (which_of(file)?, kind_of(kind)?);
+                interrupted(alloc, &self.files, which, kind, Step::read(step)?)
+            }
+            ("tampered", lists) => tampered(alloc, &self.files, lists),
+            ("changed", lists) => self.change(alloc, lists),
+            ("transaction", []) => in_transaction(alloc, copied(alloc, &self.files)?),
+            ("count", [query]) => counted(alloc, &self.files, text_of(query)?),
+            ("opens", [bytes]) => opening_of(alloc, bytes.as_slice()),
+            ("front", [count]) => front(alloc, &self.files, number_of(count)?),
+            ("without-end", [count]) => without_end(alloc, &self.files, number_of(count)?),
+            ("create", [config]) => self.step(alloc, Step::Create(config.as_slice())),
+            ("open", []) => self.step(alloc, Step::Open),
+            (verb, words) => self.step(alloc, Step::Ask(verb, words)),
         }
     }
 }

@@ -204,11 +204,11 @@ impl<'a> Interruption<'a> {
         if let Some(found) = self.otherwise(alloc, "crashed", &remains.crashed.told, is_answered)? {
             return Ok(found);
         }
-        match (has_failed, is_answered) {
-            (true, _) => Ok(Found::Whole),
-            (false, true) => Ok(Found::Through),
-            (false, false) => noted(alloc, "refused", b"no call failed"),
-        }
+        Ok(if has_failed {
+            Found::Whole
+        } else {
+            Found::Through
+        })
     }
 
     /// Opens what is left of files in which no archive was opened or made. Where it was opened for a step, what is left is that of
@@ -234,6 +234,7 @@ impl<'a> Interruption<'a> {
         match (outcome, self.kind) {
             (Outcome::Partly { is_done: _ }, Kind::Fails) => false,
             (Outcome::Shut, Kind::Fails) => !have_failed_a_read(files),
+            (Outcome::Partly { is_done: _ } | Outcome::Shut, _) => have_failed(files),
             (_, _) => true,
         }
     }

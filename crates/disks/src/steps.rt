@@ -23,20 +23,15 @@ pub enum Step<'a> {
 }
 
 impl<'a> Step<'a> {
-    /// The step of a verb and its words.
-    pub fn of(verb: &'a str, words: &'a [Vec<u8>]) -> Step<'a> {
-        match (verb, words) {
-            ("create", [config]) => Step::Create(config.as_slice()),
-            ("open", []) => Step::Open,
-            (verb, words) => Step::Ask(verb, words),
-        }
-    }
-
     /// The step of these words.
     pub fn read(words: &'a [Vec<u8>]) -> Result<Step<'a>, Unread> {
-        match words.split_first() {
-            Some((verb, words)) => Ok(Step::of(text_of(verb)?, words)),
-            None => Err(Unread::BadWords),
+        let Some((verb, words)) = words.split_first() else {
+            return Err(Unread::BadWords);
+        };
+        match (text_of(verb)?, words) {
+            ("create", [config]) => Ok(Step::Create(config.as_slice())),
+            ("open", []) => Ok(Step::Open),
+            (verb, words) => Ok(Step::Ask(verb, words)),
         }
     }
 
