@@ -1,9 +1,9 @@
 //! Stories of archives, as rows: deliveries, runs, copies, look-ups and requests, over any keeper.
 #![tactic(auto)]
 
-mod cuts;
 mod delivery;
 mod drives;
+mod failures;
 mod keepers;
 mod numbers;
 mod outcomes;
@@ -13,7 +13,6 @@ mod reading;
 mod requests;
 mod steps;
 mod telling;
-mod writers;
 
 pub use keepers::Makes;
 pub use telling::{Story, asked};

@@ -8,11 +8,8 @@ use queue::Archive;
 use rows::{Unread, number_of, said};
 use std::alloc::{AllocError, Global};
 
-/// The most bytes a read, where a row says how many.
-const LARGEST: u64 = 8_388_608;
-
-/// How many bytes come a read, where no row says it.
-pub const MOST: usize = 7;
+/// The most bytes a read.
+const MOST: u64 = 8_388_608;
 
 /// Whether what was written is the reply that is told of.
 fn is_told(alloc: Global, served: Served, written: &[u8]) -> Result<bool, AllocError> {
@@ -59,38 +56,8 @@ pub fn request<K: Keeper>(
     replace_pieces(alloc, &mut Vec::new(alloc), &mut bytes, pairs)?;
     let mut reader = Pieces {
         bytes: bytes.as_slice(),
-        most: number_of(most)?.min(LARGEST) as usize,
+        most: number_of(most)?.min(MOST) as usize,
         fails: false,
     };
     reply_to(alloc, archive, &mut reader, number_of(moment)?)
-}
-
-/// The bytes of the request, which are some, of a row that has no other word.
-pub fn only_word(words: &[Vec<u8>]) -> Result<&[u8], Unread> {
-    match words {
-        [bytes] if !bytes.is_empty() => Ok(bytes.as_slice()),
-        _ => Err(Unread::BadWords),
-    }
-}
-
-/// Where it was otherwise, and what was written there.
-pub fn otherwise(alloc: Global, place: usize, written: &[u8]) -> Result<Vec<u8>, Unread> {
-    let text = format!(in alloc; "behind {place} bytes: ")?;
-    let mut text = Vec::from_slice(alloc, text.as_bytes())?;
-    text.extend_from_slice(written)?;
-    Ok(text)
-}
-
-/// The reply to the whole request.
-pub fn whole_reply<K: Keeper>(
-    alloc: Global,
-    archive: &mut Archive<K>,
-    bytes: &[u8],
-) -> Result<Vec<u8>, Unread> {
-    let mut reader = Pieces {
-        bytes,
-        most: MOST,
-        fails: false,
-    };
-    reply_to(alloc, archive, &mut reader, 0)
 }

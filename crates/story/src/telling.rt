@@ -1,13 +1,12 @@
 //! A story: an archive, and what is asked of it.
 
-use crate::cuts::{cut, reader_fails};
 use crate::drives::drive;
+use crate::failures::{cut, reader_fails, writer_fails};
 use crate::keepers::Makes;
 use crate::numbers::numbers;
 use crate::reading::{status, wanted};
 use crate::requests::request;
 use crate::steps::{copy, deliver, has, moment_of, run, show, verdicts, waiting};
-use crate::writers::writer_fails;
 use keep::{KeepFault, Keeper, LATEST};
 use queue::Archive;
 use rows::{Answers, Unread, said, text_of};
