@@ -2,24 +2,42 @@
 #![tactic(auto)]
 
 use commands::{act, explain};
+use std::io::Write;
 use std::process::ExitCode;
 use std::{env, io};
 
-/// Does what the program's words say, and answers its exit status.
-fn run(rt: &HostRuntime) -> io::Result<u8> {
-    let alloc = rt.alloc();
-    let mut given = Vec::new(alloc);
+/// The program's words, its name not among them.
+fn given_words(rt: &HostRuntime) -> io::Result<Vec<String>> {
+    let mut given = Vec::new(rt.alloc());
     for word in env::args(rt)?.skip(1) {
         given.push(word)?;
     }
+    Ok(given)
+}
+
+/// Does what these words say, and answers the exit status.
+fn do_words(rt: &HostRuntime, given: &[String]) -> io::Result<u8> {
+    let alloc = rt.alloc();
     let mut words = Vec::new(alloc);
-    for word in &given {
+    for word in given {
         words.push(word.as_str())?;
     }
     let (mut out, mut err) = (io::writer(rt), rt.stderr());
     match command_line::line(alloc, &words) {
         Ok(line) => Ok(act(rt, &line, &mut out, &mut err)),
         Err(fault) => Ok(explain(&fault, &mut out, &mut err)),
+    }
+}
+
+/// Does what the program's words say, and answers its exit status.
+fn run(rt: &HostRuntime) -> io::Result<u8> {
+    match given_words(rt) {
+        Ok(given) => do_words(rt, &given),
+        Err(error) if error.kind() == io::ErrorKind::InvalidData => {
+            writeln!(rt.stderr(), "archive: a word is not UTF-8")?;
+            Ok(2)
+        }
+        Err(error) => Err(error),
     }
 }
 

@@ -1,5 +1,7 @@
 -- What a command line says, as clap reads its words.
-use Rattle.std.specs.Prelude.{◌≡◌, ◌≢◌, ◌≤◌, ℕ, codes, List, [], map, Option, Some, Ok}
+use Rattle.std.specs.Prelude.{◌≡◌, ◌≢◌, ◌≤◌, ℕ, Bool, false, codes, List, [], map, Option, Some, Ok}
+use Rattle.std.specs.Option.{option_map, option_map_or}
+use Rattle.std.specs.Str.{bytes_eq}
 use Rattle.std.specs.Str.Parse.{ParsesUnsigned}
 use Rattle.std.specs.declared.vec.Vec.{Vec}
 use Rattle.std.specs.declared.alloc.Global.{Global}
@@ -20,6 +22,14 @@ IsNamed found name P = (rows : List Row) × (found ≡ Some (name, rows)) × P r
 -- the word is the value of this argument
 abbrev pub IsWord : Text → List Row → Bor (List ℕ) → Type 0
 IsWord id rows word = first_of id rows ≡ Some word.now
+
+-- the word is the value of this argument, where it was given one
+abbrev pub IsOptionalWord : Text → List Row → Option (Bor (List ℕ)) → Type 0
+IsOptionalWord id rows word = option_map (λ text. text.now) word ≡ first_of id rows
+
+-- whether this flag was given
+abbrev pub is_true : Text → List Row → Bool
+is_true id rows = option_map_or (λ text. bytes_eq text (codes "true")) (first_of id rows) false
 
 -- the paths are those given, one or more
 abbrev pub HasPaths : List Row → Vec (Bor (List ℕ)) Global → Type 0
@@ -54,6 +64,7 @@ IsLine found (Show db path) = IsNamed found (codes "show") (λ rows.
     IsWord (codes "db") rows db × IsWord (codes "PATH") rows path)
 IsLine found (Waiting db at) = IsNamed found (codes "waiting") (λ rows. IsWord (codes "db") rows db × IsMoment rows at)
 IsLine found (Verdicts db) = IsNamed found (codes "verdicts") (λ rows. IsWord (codes "db") rows db)
-IsLine found (Serve db at address count) = IsNamed found (codes "serve") (λ rows.
-    IsWord (codes "db") rows db × IsMoment rows at × IsWord (codes "ADDRESS") rows address
+IsLine found (Serve db at moments log address count) = IsNamed found (codes "serve") (λ rows.
+    IsWord (codes "db") rows db × IsMoment rows at × IsOptionalWord (codes "moments") rows moments
+    × (log ≡ is_true (codes "log") rows) × IsWord (codes "ADDRESS") rows address
     × IsNumber (codes "COUNT") rows 1 most_connections count)

@@ -3,7 +3,7 @@ use Rattle.std.specs.Prelude.{◌≡◌, true, false, codes, Some}
 use Rattle.clap.specs.Words.{App, Rule, Text, app_of, new_app, new_rule, with_rule, with_subcommand}
 use Rattle.clap.specs.declared.builder.command.Command.TheViews.{out-Command}
 use Rattle.clap.specs.declared.builder.command.Command.{Command}
-use Rattle.clap.specs.declared.builder.ArgAction.TheVariants.{Set, Append}
+use Rattle.clap.specs.declared.builder.ArgAction.TheVariants.{Set, Append, SetTrue}
 use Rattle.clap.specs.declared.builder.value_parser.ValueParser.TheVariants as parser
 use Rattle.keep.specs.Book.{latest}
 use Rattle.command_line.specs.CommandLines.{most_connections}
@@ -27,6 +27,14 @@ db_rule = record (word_rule (codes "db")) { long = Some (codes "db"); value_name
 -- --at N
 abbrev pub at_rule : Rule
 at_rule = record (word_rule (codes "at")) { long = Some (codes "at"); value_names = 1; parser = Some (parser.Unsigned 0 latest) }
+
+-- --moments MOMENTS, which may be left out
+abbrev pub moments_rule : Rule
+moments_rule = record (new_rule (codes "moments")) { long = Some (codes "moments"); value_names = 1; action = Some Set }
+
+-- --log
+abbrev pub log_rule : Rule
+log_rule = record (new_rule (codes "log")) { long = Some (codes "log"); action = Some SetTrue }
 
 -- COUNT
 abbrev pub count_rule : Rule
@@ -60,11 +68,20 @@ abbrev pub show_app : App
 show_app = with_rule (db_app (codes "show")) (word_rule (codes "PATH"))
 
 abbrev pub serve_app : App
-serve_app = with_rule (with_rule (timed_app (codes "serve")) (word_rule (codes "ADDRESS"))) count_rule
+serve_app =
+    with_rule (with_rule (with_rule (with_rule (timed_app (codes "serve")) moments_rule) log_rule) (word_rule (codes "ADDRESS")))
+    count_rule
 
--- `archive`, its name not among the words, with one command
+-- `archive`, its name not among the words, with its version: one command is wanted, and where there are no words, help is given
 abbrev pub new_archive : App
-new_archive = record (new_app (codes "archive")) { top = record (new_app (codes "archive")).top { no_binary_name = true; subcommand_required = true } }
+new_archive = record (new_app (codes "archive")) {
+  top = record (new_app (codes "archive")).top {
+    no_binary_name = true;
+    has_version = true;
+    subcommand_required = true;
+    arg_required_else_help = true;
+  };
+}
 
 -- with the commands that change an archive
 abbrev pub with_changes : App → App

@@ -2,7 +2,7 @@
 
 ghost use Rattle.std.specs.Prelude.{◌≡◌, false};
 ghost use Rattle.clap.specs.Words.{rule_of};
-ghost use Rattle.command_line.specs.Shape.{at_rule, count_rule, db_rule, path_rule, word_rule};
+ghost use Rattle.command_line.specs.Shape.{at_rule, count_rule, db_rule, log_rule, moments_rule, path_rule, word_rule};
 
 use clap::{Arg, ArgAction, value_parser};
 use keep::LATEST;
@@ -11,16 +11,19 @@ use std::alloc::Global;
 /// The most connections that one call of the program serves.
 pub const MOST_CONNECTIONS: u64 = 1_000_000;
 
-/// One word.
-pub fn word<'a>(alloc: Global, name: &'a str) -> Arg<'a>
+/// One word, and what it means.
+pub fn word<'a>(alloc: Global, name: &'a str, meaning: &'a str) -> Arg<'a>
     ensures rule { rule_of result ≡ word_rule name.now }
     ensures local { result.global ≡ false }
 {
-    Arg::new(alloc, name).required(true).action(ArgAction::Set)
+    Arg::new(alloc, name)
+        .required(true)
+        .action(ArgAction::Set)
+        .help(meaning)
 }
 
-/// One path or more.
-pub fn paths<'a>(alloc: Global) -> Arg<'a>
+/// One path or more, and what each means.
+pub fn paths<'a>(alloc: Global, meaning: &'a str) -> Arg<'a>
     ensures rule { rule_of result ≡ path_rule }
     ensures local { result.global ≡ false }
 {
@@ -28,6 +31,7 @@ pub fn paths<'a>(alloc: Global) -> Arg<'a>
         .required(true)
         .action(ArgAction::Append)
         .num_args(1..)
+        .help(meaning)
 }
 
 /// `--db FILE`, the database.
@@ -40,6 +44,7 @@ pub fn db<'a>(alloc: Global) -> Arg<'a>
         .value_name("FILE")
         .required(true)
         .action(ArgAction::Set)
+        .help("The database file of the archive")
 }
 
 /// `--at N`, the moment.
@@ -53,6 +58,32 @@ pub fn at<'a>(alloc: Global) -> Arg<'a>
         .required(true)
         .action(ArgAction::Set)
         .value_parser(value_parser!(u64).range(0..=LATEST as i64))
+        .help("The moment, in seconds since 1970-01-01 00:00:00 UTC; it must never fall")
+}
+
+/// `--moments MOMENTS`, a file whose numbers the moments of later connections are.
+pub fn moments<'a>(alloc: Global) -> Arg<'a>
+    ensures rule { rule_of result ≡ moments_rule }
+    ensures local { result.global ≡ false }
+{
+    Arg::new(alloc, "moments")
+        .long("moments")
+        .value_name("MOMENTS")
+        .action(ArgAction::Set)
+        .help("A file with a number: each connection has the greatest moment that was read so far")
+}
+
+/// `--log`.
+pub fn log<'a>(alloc: Global) -> Arg<'a>
+    ensures rule { rule_of result ≡ log_rule }
+    ensures local { result.global ≡ false }
+{
+    Arg::new(alloc, "log")
+        .long("log")
+        .action(ArgAction::SetTrue)
+        .help(
+            "Prints a line for each connection: moment, method, path, status, bytes, milliseconds",
+        )
 }
 
 /// How many connections to serve.
@@ -64,4 +95,5 @@ pub fn count<'a>(alloc: Global) -> Arg<'a>
         .required(true)
         .action(ArgAction::Set)
         .value_parser(value_parser!(u64).range(1..=MOST_CONNECTIONS as i64))
+        .help("How many connections to answer before it ends")
 }

@@ -1,117 +1,192 @@
 //! The commands of the program, each with its arguments.
 
-ghost use Rattle.std.specs.Prelude.{IfOk};
+ghost use Rattle.std.specs.Prelude.{IfOk, codes};
 ghost use Rattle.clap.specs.Words.{App, with_subcommand};
 ghost use Rattle.command_line.specs.Shape.{archive_app, new_archive, IsCommand, try_app, compare_app, init_app, put_app, db_app, timed_app, copy_app, show_app, serve_app, with_changes, with_questions};
 
-use crate::arguments::{at, count, db, paths, word};
+use crate::arguments::{at, count, db, log, moments, paths, word};
+use crate::version::VERSION;
 use clap::Command;
 use std::alloc::{AllocError, Global};
 
 fn try_command<'a>(alloc: Global) -> Result<Command<'a>, AllocError>
     ensures { IfOk result (IsCommand try_app) }
 {
-    Command::new(alloc, "try").arg(paths(alloc))
+    Command::new(alloc, "try")
+        .about(
+            "Delivers files to a fresh archive in memory, runs its queue and prints its Packages",
+        )
+        .arg(paths(alloc, "A file to deliver, in this order"))
 }
 
 fn compare_command<'a>(alloc: Global) -> Result<Command<'a>, AllocError>
     ensures { IfOk result (IsCommand compare_app) }
 {
     Command::new(alloc, "compare")
-        .arg(word(alloc, "A"))?
-        .arg(word(alloc, "B"))
+        .about("Says how two versions compare: less, equal or greater")
+        .arg(word(alloc, "A", "A version"))?
+        .arg(word(alloc, "B", "The version that it is compared with"))
 }
 
-/// A command on the archive of a database.
-fn db_command<'a>(alloc: Global, name: &'a str) -> Result<Command<'a>, AllocError>
+/// A command on the archive of a database, and what it does.
+fn db_command<'a>(alloc: Global, name: &'a str, about: &'a str) -> Result<Command<'a>, AllocError>
     ensures { IfOk result (IsCommand (db_app name.now)) }
 {
-    Command::new(alloc, name).arg(db(alloc))
+    Command::new(alloc, name).about(about).arg(db(alloc))
 }
 
-/// A command on the archive of a database that is handed a moment.
-fn timed_command<'a>(alloc: Global, name: &'a str) -> Result<Command<'a>, AllocError>
+/// A command on the archive of a database that is handed a moment, and what it does.
+fn timed_command<'a>(
+    alloc: Global,
+    name: &'a str,
+    about: &'a str,
+) -> Result<Command<'a>, AllocError>
     ensures { IfOk result (IsCommand (timed_app name.now)) }
 {
-    db_command(alloc, name)?.arg(at(alloc))
+    db_command(alloc, name, about)?.arg(at(alloc))
 }
 
 fn init_command<'a>(alloc: Global) -> Result<Command<'a>, AllocError>
     ensures { IfOk result (IsCommand init_app) }
 {
-    timed_command(alloc, "init")?.arg(word(alloc, "CONF"))
+    timed_command(alloc, "init", "Makes an archive in a database file")?.arg(word(
+        alloc,
+        "CONF",
+        "The file of its configuration",
+    ))
 }
 
 fn put_command<'a>(alloc: Global) -> Result<Command<'a>, AllocError>
     ensures { IfOk result (IsCommand put_app) }
 {
-    timed_command(alloc, "put")?.arg(paths(alloc))
+    timed_command(
+        alloc,
+        "put",
+        "Delivers files: new, again or refused, a line for each",
+    )?
+    .arg(paths(
+        alloc,
+        "A file, delivered under the text behind its last slash",
+    ))
+}
+
+fn run_command<'a>(alloc: Global) -> Result<Command<'a>, AllocError>
+    ensures { IfOk result (IsCommand (timed_app (codes "run"))) }
+{
+    timed_command(
+        alloc,
+        "run",
+        "Runs the queue: a line for each upload that is judged",
+    )
 }
 
 fn copy_command<'a>(alloc: Global) -> Result<Command<'a>, AllocError>
     ensures { IfOk result (IsCommand copy_app) }
 {
-    timed_command(alloc, "copy")?
-        .arg(word(alloc, "FROM"))?
-        .arg(word(alloc, "TO"))?
-        .arg(word(alloc, "SOURCE"))
+    timed_command(
+        alloc,
+        "copy",
+        "Copies a source's packages to another suite, prints how many are new",
+    )?
+    .arg(word(alloc, "FROM", "The suite that shows them"))?
+    .arg(word(alloc, "TO", "The suite that is to show them"))?
+    .arg(word(alloc, "SOURCE", "The name of the source"))
 }
 
 fn show_command<'a>(alloc: Global) -> Result<Command<'a>, AllocError>
     ensures { IfOk result (IsCommand show_app) }
 {
-    db_command(alloc, "show")?.arg(word(alloc, "PATH"))
+    db_command(alloc, "show", "Prints an index or a file of the pool")?.arg(word(
+        alloc,
+        "PATH",
+        "Where it stands, such as dists/box/Release",
+    ))
+}
+
+fn waiting_command<'a>(alloc: Global) -> Result<Command<'a>, AllocError>
+    ensures { IfOk result (IsCommand (timed_app (codes "waiting"))) }
+{
+    timed_command(
+        alloc,
+        "waiting",
+        "Lists the uploads without a verdict, each with how many files it lacks",
+    )
+}
+
+fn verdicts_command<'a>(alloc: Global) -> Result<Command<'a>, AllocError>
+    ensures { IfOk result (IsCommand (db_app (codes "verdicts"))) }
+{
+    db_command(alloc, "verdicts", "Lists the verdicts of all runs")
 }
 
 fn serve_command<'a>(alloc: Global) -> Result<Command<'a>, AllocError>
     ensures { IfOk result (IsCommand serve_app) }
 {
-    timed_command(alloc, "serve")?
-        .arg(word(alloc, "ADDRESS"))?
-        .arg(count(alloc))
+    timed_command(
+        alloc,
+        "serve",
+        "Answers HTTP connections, one after the other",
+    )?
+    .arg(moments(alloc))?
+    .arg(log(alloc))?
+    .arg(word(alloc, "ADDRESS", "Where to listen, such as 127.0.0.1:8080"))?
+    .arg(count(alloc))
 }
 
-fn archive<'a>(alloc: Global) -> Command<'a>
-    ensures { IsCommand new_archive result }
+fn archive<'a>(alloc: Global) -> Result<Command<'a>, AllocError>
+    ensures { IfOk result (IsCommand new_archive) }
 {
     Command::new(alloc, "archive")
+        .about("A Debian package archive with an incoming queue, in one database file")
+        .version(VERSION)
         .no_binary_name(true)
         .subcommand_required(true)
+        .arg_required_else_help(true)
+        .bin_name("archive")
 }
 
 /// A command with one more subcommand.
-fn with<'a>(command: Command<'a>, sub: Command<'a>) -> Result<Command<'a>, AllocError>
-    ensures { (app part : App) → IsCommand app command.entry → IsCommand part sub.entry → IfOk result (IsCommand (with_subcommand app part.top)) }
+fn with<'a>(
+    command: Result<Command<'a>, AllocError>,
+    sub: Result<Command<'a>, AllocError>,
+) -> Result<Command<'a>, AllocError>
+    ensures { (app part : App) → IfOk command.entry (IsCommand app) → IfOk sub.entry (IsCommand part) → IfOk result (IsCommand (with_subcommand app part.top)) }
 {
-    command.subcommand(sub)
+    command?.subcommand(sub?)
 }
 
 /// A command with those subcommands that change an archive.
-fn with_changing<'a>(alloc: Global, command: Command<'a>) -> Result<Command<'a>, AllocError>
-    ensures { (app : App) → IsCommand app command.entry → IfOk result (IsCommand (with_changes app)) }
+fn with_changing<'a>(
+    alloc: Global,
+    command: Result<Command<'a>, AllocError>,
+) -> Result<Command<'a>, AllocError>
+    ensures { (app : App) → IfOk command.entry (IsCommand app) → IfOk result (IsCommand (with_changes app)) }
 {
-    let command = with(command, init_command(alloc)?)?;
-    let command = with(command, put_command(alloc)?)?;
-    let command = with(command, timed_command(alloc, "run")?)?;
-    with(command, copy_command(alloc)?)
+    let command = with(command, init_command(alloc));
+    let command = with(command, put_command(alloc));
+    let command = with(command, run_command(alloc));
+    with(command, copy_command(alloc))
 }
 
 /// A command with those subcommands that ask an archive, and the one that serves it.
-fn with_asking<'a>(alloc: Global, command: Command<'a>) -> Result<Command<'a>, AllocError>
-    ensures { (app : App) → IsCommand app command.entry → IfOk result (IsCommand (with_questions app)) }
+fn with_asking<'a>(
+    alloc: Global,
+    command: Result<Command<'a>, AllocError>,
+) -> Result<Command<'a>, AllocError>
+    ensures { (app : App) → IfOk command.entry (IsCommand app) → IfOk result (IsCommand (with_questions app)) }
 {
-    let command = with(command, show_command(alloc)?)?;
-    let command = with(command, timed_command(alloc, "waiting")?)?;
-    let command = with(command, db_command(alloc, "verdicts")?)?;
-    with(command, serve_command(alloc)?)
+    let command = with(command, show_command(alloc));
+    let command = with(command, waiting_command(alloc));
+    let command = with(command, verdicts_command(alloc));
+    with(command, serve_command(alloc))
 }
 
 /// The commands of the program.
 pub fn commands<'a>(alloc: Global) -> Result<Command<'a>, AllocError>
     ensures { IfOk result (IsCommand archive_app) }
 {
-    let command = with(archive(alloc), try_command(alloc)?)?;
-    let command = with(command, compare_command(alloc)?)?;
-    let command = with_changing(alloc, command)?;
+    let command = with(archive(alloc), try_command(alloc));
+    let command = with(command, compare_command(alloc));
+    let command = with_changing(alloc, command);
     with_asking(alloc, command)
 }

@@ -56,10 +56,13 @@ pub enum CommandLine<'a> {
     Verdicts {
         db: &'a str,
     },
-    /// Serves so many connections, one after the other.
+    /// Serves so many connections, one after the other. With `moments`, each has the greatest moment that the file at that
+    /// path has held so far; with `log`, each has a line on standard error.
     Serve {
         db: &'a str,
         at: u64,
+        moments: Option<&'a str>,
+        log: bool,
         address: &'a str,
         count: u64,
     },
@@ -70,7 +73,7 @@ pub enum CommandLine<'a> {
 pub enum LineFault {
     /// No memory was left.
     OutOfMemory,
-    /// Help was asked for, which is this text.
+    /// Help or the version was asked for, which is this text.
     Help(Error),
     /// The words are no line, for which this text says why.
     Refused(Error),
@@ -117,7 +120,7 @@ impl From<Error> for LineFault {
     fn from(error: Error) -> LineFault {
         match error.kind() {
             ErrorKind::OutOfMemory => LineFault::OutOfMemory,
-            ErrorKind::DisplayHelp => LineFault::Help(error),
+            ErrorKind::DisplayHelp | ErrorKind::DisplayVersion => LineFault::Help(error),
             _ => LineFault::Refused(error),
         }
     }

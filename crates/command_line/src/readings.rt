@@ -6,7 +6,7 @@ ghost use Rattle.command_line.specs.CommandLines.{IsLine};
 
 use crate::arguments::MOST_CONNECTIONS;
 use crate::parsed::{CommandLine, LineFault};
-use crate::values::{lacking, moment, number, paths, required};
+use crate::values::{is_set, lacking, moment, number, optional, paths, required};
 use clap::ArgMatches;
 use std::alloc::Global;
 
@@ -100,6 +100,8 @@ fn read_serve<'a>(alloc: Global, found: &ArgMatches<'a>) -> Result<CommandLine<'
     Ok(CommandLine::Serve {
         db: required(alloc, found, "db")?,
         at: moment(alloc, found)?,
+        moments: optional(found, "moments"),
+        log: is_set(found, "log"),
         address: required(alloc, found, "ADDRESS")?,
         count: number(alloc, found, "COUNT", 1, MOST_CONNECTIONS)?,
     })

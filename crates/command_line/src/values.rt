@@ -3,7 +3,7 @@
 ghost use Rattle.std.specs.Prelude.{◌≡◌, codes, map, IfOk};
 ghost use Rattle.std.specs.Option.{option_map};
 ghost use Rattle.clap.specs.Words.{all_of, first_of, found_of, rows_of};
-ghost use Rattle.command_line.specs.CommandLines.{HasPaths, IsMoment, IsNumber, IsWord};
+ghost use Rattle.command_line.specs.CommandLines.{HasPaths, IsMoment, IsNumber, IsOptionalWord, IsWord, is_true};
 
 use crate::commands::commands;
 use crate::parsed::LineFault;
@@ -30,6 +30,23 @@ fn word_value<'a>(found: &ArgMatches<'a>, id: &str) -> Option<&'a str>
     ensures { option_map (λ value. value.now) result ≡ first_of id.now (rows_of (found_of found.now)) }
 {
     found.get_str(id)
+}
+
+/// The value of an argument that may be left out.
+pub fn optional<'a>(found: &ArgMatches<'a>, id: &str) -> Option<&'a str>
+    ensures { IsOptionalWord id.now (rows_of (found_of found.now)) result }
+{
+    word_value(found, id)
+}
+
+/// Whether a flag was given.
+pub fn is_set(found: &ArgMatches<'_>, id: &str) -> bool
+    ensures { result ≡ is_true id.now (rows_of (found_of found.now)) }
+{
+    match word_value(found, id) {
+        Some(value) => value == "true",
+        None => false,
+    }
 }
 
 /// The value of an argument.

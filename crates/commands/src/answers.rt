@@ -1,5 +1,6 @@
 //! What the program prints of an archive, over any keeper.
 
+use crate::database::is_of_database;
 use crate::doing::{body_of, file_name};
 use crate::fault::Stop;
 use keep::Keeper;
@@ -40,16 +41,20 @@ fn put_file<'a, K: Keeper, W: Write>(
 
 /// Delivers files at a moment, in seconds since 1970-01-01 00:00:00 UTC, each under the text behind its path's last
 /// slash, and prints a line for each. It goes on behind a file that is refused, and says whether all were taken. Each
-/// file is read just before it is delivered.
+/// file is read just before it is delivered. The files of the database itself can't be read.
 pub fn put_files<'a, R: Files + AllocGlobal, K: Keeper, W: Write>(
     rt: &R,
     archive: &mut Archive<K>,
+    db: &str,
     at: u64,
     paths: &[&'a str],
     out: &mut W,
 ) -> Result<bool, Stop<'a>> {
     let mut all = true;
     for path in paths {
+        if is_of_database(rt, db, path)? {
+            return Err(Stop::Unreadable(path));
+        }
         let body = body_of(rt, path)?;
         if !put_file(rt.alloc(), archive, at, file_name(path), &body, out)? {
             all = false;

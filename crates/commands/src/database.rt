@@ -8,11 +8,13 @@ use keep_rows::fault_of;
 use keep_tables::TableKeeper;
 use queue::{Archive, Fault};
 use rules::Config;
-use sqlite::{Alter, Connection, Error, FileFrom, FileStore, Start, Wary};
+use sqlite::{Alter, Connection, Error, ErrorCode, FileFrom, FileStore, Wary};
 use sqlite_disk::Disk;
-use std::alloc::Global;
+use std::alloc::{AllocError, Global};
+use std::os::unix::fs::MetadataExt;
 use std::rt::Files;
-use std::{fs, io};
+use std::time::Duration;
+use std::{fs, io, thread};
 
 /// The keeper over the tables of a database file.
 pub type FileKeeper = TableKeeper<FileStore<FileFrom<Wary>>>;
@@ -32,7 +34,7 @@ pub trait InFile: Drop {
 
 impl InFile for FileKeeper {
     fn opened(rt: &HostRuntime, path: &str) -> Result<FileKeeper, KeepFault> {
-        opened_over(rt.alloc(), connect(rt, path, Wary))
+        opened_over(rt.alloc(), connect(rt, path))
     }
 
     fn made(
@@ -41,7 +43,7 @@ impl InFile for FileKeeper {
         config: Config,
         moment: u64,
     ) -> Result<FileKeeper, KeepFault> {
-        made_over(rt.alloc(), connect(rt, path, Wary), config, moment)
+        made_over(rt.alloc(), connect(rt, path), config, moment)
     }
 
     fn closed(self) {
@@ -49,21 +51,43 @@ impl InFile for FileKeeper {
     }
 }
 
-/// The connection to a database, or why there is none.
-fn connected<C, L: Drop>(connection: Result<C, (Error, L)>) -> Result<C, KeepFault> {
+/// How often a database that another process holds is tried again, and how long is waited before each: 10 seconds in all.
+const TRIES: u32 = 100;
+
+const BETWEEN_TRIES: Duration = Duration::from_millis(100);
+
+/// The connection to a database, none while another process holds it, or why there is none.
+fn connected<C, L: Drop>(connection: Result<C, (Error, L)>) -> Result<Option<C>, KeepFault> {
     match connection {
-        Ok(connection) => Ok(connection),
+        Ok(connection) => Ok(Some(connection)),
+        Err((Error::SqliteFailure(ErrorCode::DatabaseBusy), _)) => Ok(None),
         Err((error, _)) => Err(fault_of(error)),
     }
 }
 
-/// The connection to the database of a file that held what `S` says.
-fn connect<S: Start>(
+/// The connection to the database of a file, none while another process holds it, or why there is none.
+fn connect_once(
     rt: &HostRuntime,
     path: &str,
-    start: S,
-) -> Result<Connection<FileStore<FileFrom<S>>>, KeepFault> {
-    connected(Connection::open_from(rt, path, false, start))
+) -> Result<Option<Connection<FileStore<FileFrom<Wary>>>>, KeepFault> {
+    connected(Connection::open_from(rt, path, false, Wary))
+}
+
+/// The connection to the database of a file. One that another process holds is waited for, up to 10 seconds.
+fn connect(
+    rt: &HostRuntime,
+    path: &str,
+) -> Result<Connection<FileStore<FileFrom<Wary>>>, KeepFault> {
+    for _ in 0..TRIES {
+        if let Some(connection) = connect_once(rt, path)? {
+            return Ok(connection);
+        }
+        thread::sleep(rt, BETWEEN_TRIES);
+    }
+    match connect_once(rt, path)? {
+        Some(connection) => Ok(connection),
+        None => Err(KeepFault::Disk),
+    }
 }
 
 /// The connection of a keeper.
@@ -133,6 +157,43 @@ fn would_make<R: Files>(rt: &R, path: &str) -> bool {
     }
 }
 
+/// How many bytes the file at a path has, where there is one.
+fn length_of<R: Files>(rt: &R, path: &str) -> Option<u64> {
+    match fs::metadata(rt, path) {
+        Ok(found) if found.is_file() => Some(found.len()),
+        _ => None,
+    }
+}
+
+/// Whether the file at a path has no bytes, and none are in a log beside it.
+fn is_blank<R: Files + AllocGlobal>(rt: &R, path: &str) -> Result<bool, AllocError> {
+    let log = format!(in rt.alloc(); "{path}-wal")?;
+    Ok(length_of(rt, path) == Some(0) && matches!(length_of(rt, log.as_str()), None | Some(0)))
+}
+
+/// Whether two paths lead to one file.
+fn is_one_file<R: Files>(rt: &R, one: &str, other: &str) -> bool {
+    match (fs::metadata(rt, one), fs::metadata(rt, other)) {
+        (Ok(one), Ok(other)) => one.dev() == other.dev() && one.ino() == other.ino(),
+        _ => false,
+    }
+}
+
+/// Whether a path leads to the file of a database, or to one that SQLite keeps beside it.
+pub fn is_of_database<R: Files + AllocGlobal>(
+    rt: &R,
+    db: &str,
+    path: &str,
+) -> Result<bool, AllocError> {
+    for end in ["", "-wal", "-journal", "-shm"] {
+        let own = format!(in rt.alloc(); "{db}{end}")?;
+        if is_one_file(rt, own.as_str(), path) {
+            return Ok(true);
+        }
+    }
+    Ok(false)
+}
+
 /// The archive over a keeper, or why there is none.
 fn archive_over<'a, K: Keeper>(keeper: Result<K, KeepFault>) -> Result<Archive<K>, Stop<'a>> {
     match keeper {
@@ -141,12 +202,12 @@ fn archive_over<'a, K: Keeper>(keeper: Result<K, KeepFault>) -> Result<Archive<K
     }
 }
 
-/// Opens the archive of a database file. A file that is not there is no archive, and is not made.
+/// Opens the archive of a database file. A file that is not there or has no bytes is no archive, and nothing is made.
 pub fn open_archive<'a, K: InFile + Keeper>(
     rt: &HostRuntime,
     path: &str,
 ) -> Result<Archive<K>, Stop<'a>> {
-    if would_make(rt, path) {
+    if would_make(rt, path) || is_blank(rt, path)? {
         return Err(Stop::NoArchive(KeepFault::Tables));
     }
     archive_over(K::opened(rt, path))

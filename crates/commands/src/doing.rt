@@ -2,7 +2,7 @@
 
 use crate::database::{FileKeeper, InFile};
 use crate::fault::Stop;
-use crate::words::{self, Word};
+use crate::words::{self, Serving, Word};
 use command_line::{CommandLine, LineFault};
 use keep::{Keeper, PlainKeeper};
 use queue::{Archive, Fault};
@@ -54,6 +54,7 @@ pub fn body_of<'a, R: Files + AllocGlobal>(rt: &R, path: &'a str) -> Result<Vec<
 fn box_archive(alloc: Global) -> Result<Archive<PlainKeeper>, Fault> {
     match Config::read(alloc, BOX) {
         Ok(config) => Ok(Archive::new(PlainKeeper::new(alloc, config, 0)?)),
+        // The text is a configuration, so that nothing but want of memory is left.
         Err(_) => Err(Fault::OutOfMemory),
     }
 }
@@ -124,10 +125,11 @@ fn compare<'a, W: Write>(
 }
 
 /// Does a line over keepers of this type, and says whether all that was given was taken.
-fn done<'a, K: InFile + Keeper, W: Write>(
+fn done<'a, K: InFile + Keeper, W: Write, E: Write>(
     rt: &HostRuntime,
     line: &CommandLine<'a>,
     out: &mut W,
+    err: &mut E,
 ) -> Result<bool, Stop<'a>> {
     let (db, word) = match line {
         CommandLine::Try { paths } => {
@@ -165,27 +167,33 @@ fn done<'a, K: InFile + Keeper, W: Write>(
         CommandLine::Serve {
             db,
             at,
+            moments,
+            log,
             address,
             count,
-        } => (
-            *db,
-            Word::Serve {
+        } => {
+            let serving = Serving {
                 at: *at,
+                moments: *moments,
+                log: *log,
                 address,
                 count: *count,
-            },
-        ),
+            };
+            words::serve_file::<K, E>(rt, db, serving, err)?;
+            return Ok(true);
+        }
     };
     words::ask_file::<K, W>(rt, db, word, out)
 }
 
 /// The same, with its output written out.
-fn finished<'a, K: InFile + Keeper, W: Write>(
+fn finished<'a, K: InFile + Keeper, W: Write, E: Write>(
     rt: &HostRuntime,
     line: &CommandLine<'a>,
     out: &mut W,
+    err: &mut E,
 ) -> Result<bool, Stop<'a>> {
-    let all = done::<K, W>(rt, line, out)?;
+    let all = done::<K, W, E>(rt, line, out, err)?;
     out.flush()?;
     Ok(all)
 }
@@ -197,7 +205,7 @@ fn act_over<K: InFile + Keeper, W: Write, E: Write>(
     out: &mut W,
     err: &mut E,
 ) -> u8 {
-    match finished::<K, W>(rt, line, out) {
+    match finished::<K, W, E>(rt, line, out, err) {
         Ok(true) => 0,
         Ok(false) => 1,
         Err(Stop::Unwritten) => 3,
@@ -211,7 +219,7 @@ fn act_over<K: InFile + Keeper, W: Write, E: Write>(
 /// Does a line, and answers the exit status: 0 where it is done; 1 where something is refused or a file can't be read;
 /// 3 where memory runs out, a disk fails or is full, the address can't be used, or an output fails. What was refused is
 /// a line on `err`, but for the files of a `put`, which have their lines on `out`; where an output fails nothing more
-/// is printed.
+/// is printed. The log of a `serve` is on `err` too.
 pub fn act<W: Write, E: Write>(
     rt: &HostRuntime,
     line: &CommandLine<'_>,
@@ -221,7 +229,7 @@ pub fn act<W: Write, E: Write>(
     act_over::<FileKeeper, W, E>(rt, line, out, err)
 }
 
-/// Prints why words are no line, and has it written out: the help that was asked for on `out`, or what is wrong with the
+/// Prints why words are no line, and has it written out: the help or the version that was asked for on `out`, or what is wrong with the
 /// words on `err`.
 fn explained<W: Write, E: Write>(fault: &LineFault, out: &mut W, err: &mut E) -> io::Result<u8> {
     match fault {
@@ -241,8 +249,8 @@ fn explained<W: Write, E: Write>(fault: &LineFault, out: &mut W, err: &mut E) ->
     }
 }
 
-/// Prints why words are no line, and answers the exit status: 0 for the help that was asked for, which is printed on
-/// `out`; 2 for words that are refused, with a text on `err` that says why; 3 where memory runs out or an output fails.
+/// Prints why words are no line, and answers the exit status: 0 for the help or the version that was asked for, which
+/// is printed on `out`; 2 for words that are refused, with a text on `err` that says why; 3 where memory runs out or an output fails.
 pub fn explain<W: Write, E: Write>(fault: &LineFault, out: &mut W, err: &mut E) -> u8 {
     match explained(fault, out, err) {
         Ok(status) => status,

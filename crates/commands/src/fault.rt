@@ -3,6 +3,7 @@
 use keep::KeepFault;
 use queue::Fault;
 use rules::ConfigFault;
+use std::alloc::AllocError;
 use std::io;
 use thiserror::Error;
 use vers::VersionFault;
@@ -28,6 +29,12 @@ pub enum Stop<'a> {
     /// The address can't be used, or a connection can't be accepted.
     #[error("archive: cannot listen")]
     CannotListen,
+    /// The keeper that was served is shut, and so many connections are left to be answered.
+    #[error("archive: Q4 K2")]
+    Shut(u64),
+    /// The archive that was served can't be opened again.
+    #[error("archive: {0}")]
+    Lost(KeepFault),
     /// An output failed. Nothing more is printed.
     #[error("archive: cannot write")]
     Unwritten,
@@ -36,6 +43,12 @@ pub enum Stop<'a> {
 impl From<Fault> for Stop<'_> {
     fn from(fault: Fault) -> Self {
         Stop::Refused(fault)
+    }
+}
+
+impl From<AllocError> for Stop<'_> {
+    fn from(_error: AllocError) -> Self {
+        Stop::Refused(Fault::OutOfMemory)
     }
 }
 
@@ -65,7 +78,7 @@ impl From<io::Error> for Stop<'_> {
 
 impl Stop<'_> {
     /// The exit status: 1 where something is refused or can't be read, 3 for want of memory, a disk that fails, a size
-    /// that is too large, an address that can't be used or an output that fails.
+    /// that is too large, an address that can't be used, an archive that can't be served on, or an output that fails.
     pub fn status(&self) -> u8 {
         match self {
             Stop::Unreadable(_) | Stop::NotFound | Stop::NoArchive(KeepFault::Tables) => 1,
@@ -76,7 +89,7 @@ impl Stop<'_> {
             Stop::NoConfig(_) => 1,
             Stop::NoVersion(VersionFault::OutOfMemory) => 3,
             Stop::NoVersion(_) => 1,
-            Stop::CannotListen | Stop::Unwritten => 3,
+            Stop::CannotListen | Stop::Shut(_) | Stop::Lost(_) | Stop::Unwritten => 3,
         }
     }
 }

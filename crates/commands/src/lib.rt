@@ -3,13 +3,17 @@
 #![tactic(auto)]
 
 mod answers;
+mod client;
 mod database;
 mod doing;
 mod fault;
+mod log;
+mod moments;
 mod serving;
 mod words;
 
+pub use client::Patience;
 pub use database::{FileKeeper, InFile, close, create_archive, open_archive};
 pub use doing::{act, explain};
 pub use fault::Stop;
-pub use serving::{Patience, serve, serve_within};
+pub use serving::{serve, serve_within};

@@ -1,22 +1,25 @@
 //! The archive served over HTTP, one connection after the other.
 
+use crate::client::{Client, FirstLine, FromClient, Patience, ToClient};
 use crate::fault::Stop;
-use desk::{DeskFault, Served, answer};
-use keep::Keeper;
-use queue::Archive;
+use crate::log::{Ended, write_line};
+use crate::moments::Moments;
+use desk::{Connection, DeskFault, Served, attend};
+use keep::{KeepFault, Keeper};
+use queue::{Archive, Fault};
 use std::alloc::Global;
 use std::io::{self, BufWriter, Read, Write};
 use std::net::{Shutdown, TcpListener, TcpStream};
+use std::rt::Files;
 use std::time::{Clock, Duration, Instant};
 
-/// How long a connection may last.
-#[derive(Clone, Copy)]
-pub struct Patience {
-    /// How long a read or a write may wait for the client.
-    pub silence: Duration,
-    /// How long a client may go on sending behind its reply.
-    pub parting: Duration,
-}
+/// The patience of the program.
+pub const PATIENCE: Patience = Patience {
+    first: Duration::from_secs(5),
+    silence: Duration::from_secs(30),
+    parting: Duration::from_secs(2),
+    whole: Duration::from_secs(120),
+};
 
 /// The most bytes that are read behind a reply.
 const MOST_DRAINED: u32 = 4_194_304;
@@ -27,30 +30,27 @@ const ROOM: usize = 16_777_216;
 /// Has the allocator keep the memory of a reply for the next. The C library's gives back what lies free at the end of its
 /// memory, if that is more than twice the largest piece that was ever given back to it; taken anew for each reply it costs
 /// more than the reply.
-fn keep_room(alloc: Global) {
+pub fn keep_room(alloc: Global) {
     let _ = Vec::<u8>::with_capacity(alloc, ROOM);
 }
 
 /// Answers so many connections of a listener, one after the other, each at the moment, in seconds since 1970-01-01
-/// 00:00:00 UTC. A client that is silent for 30 seconds loses its connection. A connection that fails counts, and the
-/// next is answered. It ends early only where one can't be accepted.
-pub fn serve<'a, R: Clock + AllocGlobal, K: Keeper>(
+/// 00:00:00 UTC. A client whose first byte does not come within 5 seconds, that is silent for 30, or whose connection lasts
+/// for 120 loses it. A connection that fails counts, and the next is answered. It ends early where one can't be accepted, and
+/// with the number of those that are left where the keeper is shut.
+pub fn serve<'a, R: Clock + Files + AllocGlobal, K: Keeper>(
     rt: &R,
     archive: &mut Archive<K>,
     listener: &TcpListener,
     count: u64,
     moment: u64,
 ) -> Result<(), Stop<'a>> {
-    let patience = Patience {
-        silence: Duration::from_secs(30),
-        parting: Duration::from_secs(2),
-    };
     keep_room(rt.alloc());
-    serve_within(rt, archive, listener, count, moment, patience)
+    serve_within(rt, archive, listener, count, moment, PATIENCE)
 }
 
 /// The same, with this patience.
-pub fn serve_within<'a, R: Clock + AllocGlobal, K: Keeper>(
+pub fn serve_within<'a, R: Clock + Files + AllocGlobal, K: Keeper>(
     rt: &R,
     archive: &mut Archive<K>,
     listener: &TcpListener,
@@ -58,78 +58,149 @@ pub fn serve_within<'a, R: Clock + AllocGlobal, K: Keeper>(
     moment: u64,
     patience: Patience,
 ) -> Result<(), Stop<'a>> {
-    for _ in 0..count {
-        match listener.accept() {
+    let mut moments = Moments::new(moment, None);
+    let no_log: Option<&mut Vec<u8>> = None;
+    serve_at(rt, archive, listener, count, &mut moments, patience, no_log)
+}
+
+/// The same, at the moments, with a line of the log for each connection where there is one.
+pub fn serve_at<'a, R: Clock + Files + AllocGlobal, K: Keeper, E: Write>(
+    rt: &R,
+    archive: &mut Archive<K>,
+    listener: &TcpListener,
+    count: u64,
+    moments: &mut Moments<'_>,
+    patience: Patience,
+    mut log: Option<&mut E>,
+) -> Result<(), Stop<'a>> {
+    for served in 0..count {
+        let end = match listener.accept() {
             // What comes of the connection is its client's alone.
             Ok((stream, _)) => {
-                let _ = attend(rt, archive, &stream, moment, patience);
+                let moment = moments.next(rt);
+                answer_client(rt, archive, &stream, moment, patience, &mut log)
             }
             // The client left before its turn came.
-            Err(error) if error.kind() == io::ErrorKind::ConnectionAborted => {}
+            Err(error) if error.kind() == io::ErrorKind::ConnectionAborted => continue,
             Err(_) => return Err(Stop::CannotListen),
+        };
+        if is_insufficient_storage(end) && is_shut(rt.alloc(), archive) {
+            return Err(Stop::Shut(count - served - 1));
         }
     }
     Ok(())
 }
 
-/// Answers one connection, and lets its client read the reply.
-fn attend<R: Clock + AllocGlobal, K: Keeper>(
+/// Whether the reply was 507.
+fn is_insufficient_storage(end: io::Result<Result<Served, DeskFault>>) -> bool {
+    match end {
+        Ok(Ok(Served::Status(status))) => status.as_u16() == 507,
+        _ => false,
+    }
+}
+
+/// Whether the keeper of an archive is shut, or can't be read.
+fn is_shut<K: Keeper>(alloc: Global, archive: &mut Archive<K>) -> bool {
+    matches!(
+        archive.fetch(alloc, ""),
+        Err(Fault::Keeper(KeepFault::Disk))
+    )
+}
+
+/// Answers one connection, lets its client read the reply, and writes its line.
+fn answer_client<R: Clock + AllocGlobal, K: Keeper, E: Write>(
     rt: &R,
     archive: &mut Archive<K>,
     stream: &TcpStream,
     moment: u64,
     patience: Patience,
-) -> io::Result<()> {
-    stream.set_read_timeout(Some(patience.silence))?;
-    stream.set_write_timeout(Some(patience.silence))?;
-    if let Ok(Served::Status(_)) = answer_stream(rt.alloc(), archive, stream, moment) {
-        stream.shutdown(Shutdown::Write)?;
-        drain(rt, stream, patience.parting)?;
+    log: &mut Option<&mut E>,
+) -> io::Result<Result<Served, DeskFault>> {
+    let client = Client {
+        rt,
+        stream,
+        accepted: Instant::now(rt)?,
+        patience,
+    };
+    let (mut line, mut sent) = (FirstLine::new(rt.alloc()), 0);
+    let end = answered(archive, &client, moment, &mut line, &mut sent);
+    if let Ok(Served::Status(_)) = end {
+        let _ = part(&client);
     }
-    Ok(())
+    if let Some(log) = log {
+        let ended = Ended {
+            moment,
+            line: line.as_bytes(),
+            end,
+            sent,
+            lasted: client.accepted.elapsed(rt)?,
+        };
+        write_line(rt.alloc(), &ended, *log);
+    }
+    Ok(end)
 }
 
-/// Answers the request that a reader has.
-fn answer_to<K: Keeper, R: Read, W: Write>(
+/// Answers the request of a client. The reply goes through a buffer, where there is memory for one.
+fn answered<R: Clock + AllocGlobal, K: Keeper>(
+    archive: &mut Archive<K>,
+    client: &Client<'_, R>,
+    moment: u64,
+    line: &mut FirstLine,
+    sent: &mut u64,
+) -> Result<Served, DeskFault> {
+    let alloc = client.rt.alloc();
+    let reader = FromClient {
+        client,
+        line,
+        has_begun: false,
+    };
+    match BufWriter::new(
+        alloc,
+        ToClient {
+            client,
+            sent: &mut *sent,
+        },
+    ) {
+        Ok(writer) => attended(alloc, archive, reader, writer, moment),
+        Err(_) => attended(alloc, archive, reader, ToClient { client, sent }, moment),
+    }
+}
+
+/// Attends to a connection of this reader and this writer: a list of one.
+fn attended<K: Keeper, R: Read + Drop, W: Write + Drop>(
     alloc: Global,
     archive: &mut Archive<K>,
-    reader: &mut R,
-    writer: &mut W,
+    reader: R,
+    writer: W,
     moment: u64,
 ) -> Result<Served, DeskFault> {
-    answer(alloc, archive, reader, writer, moment)
+    let mut connections = [Connection {
+        reader,
+        writer,
+        moment,
+        end: None,
+    }];
+    attend(alloc, archive, &mut connections);
+    let [connection] = &connections;
+    connection.end.unwrap_or(Ok(Served::Nothing))
 }
 
-/// Answers the request of a stream. The reply goes through a buffer, where there is memory for one.
-fn answer_stream<K: Keeper>(
-    alloc: Global,
-    archive: &mut Archive<K>,
-    stream: &TcpStream,
-    moment: u64,
-) -> Result<Served, DeskFault> {
-    let mut reader = stream;
-    match BufWriter::new(alloc, stream) {
-        Ok(mut writer) => answer_to(alloc, archive, &mut reader, &mut writer, moment),
-        Err(_) => {
-            let mut writer = stream;
-            answer_to(alloc, archive, &mut reader, &mut writer, moment)
-        }
-    }
-}
-
-/// Reads on to the end of a stream, for this long and so many bytes. A stream that is closed with bytes unread is
-/// reset, and then a client that is still sending loses the reply.
-fn drain<R: Clock>(rt: &R, stream: &TcpStream, parting: Duration) -> io::Result<()> {
-    let begun = Instant::now(rt)?;
+/// Ends what a client is sent, and reads on to the end of what it sends, for the patience with its parting and so many bytes. A
+/// stream that is closed with bytes unread is reset, and then a client that is still sending loses the reply.
+fn part<R: Clock>(client: &Client<'_, R>) -> io::Result<()> {
+    client.stream.shutdown(Shutdown::Write)?;
+    let begun = Instant::now(client.rt)?;
     let mut buffer = [0; 16_384];
-    let (mut reader, mut drained) = (stream, 0usize);
+    let mut drained = 0usize;
     for _ in 0..MOST_DRAINED {
-        let left = parting.saturating_sub(begun.elapsed(rt)?);
+        let left = client
+            .patience
+            .parting
+            .saturating_sub(begun.elapsed(client.rt)?);
         if left.is_zero() || drained >= MOST_DRAINED as usize {
             return Ok(());
         }
-        stream.set_read_timeout(Some(left))?;
-        let count = reader.read(&mut buffer)?;
+        let count = client.read_within(left, &mut buffer)?;
         if count == 0 {
             return Ok(());
         }

@@ -1,13 +1,15 @@
 //! The words that ask for the archive of a database file.
 
+use crate::answers;
 use crate::database::{InFile, close, create_archive, open_archive};
 use crate::doing::body_of;
 use crate::fault::Stop;
-use crate::{answers, serving};
+use crate::moments::Moments;
+use crate::serving::{PATIENCE, keep_room, serve_at};
 use keep::Keeper;
 use queue::Archive;
 use rules::Config;
-use std::io::Write;
+use std::io::{self, Write};
 use std::net::TcpListener;
 
 /// What is asked of an archive that stands. Moments are in seconds since 1970-01-01 00:00:00 UTC.
@@ -39,12 +41,20 @@ pub enum Word<'w, 'a> {
     },
     /// Prints the lines of all runs.
     Verdicts,
-    /// Serves so many connections at an address.
-    Serve {
-        at: u64,
-        address: &'w str,
-        count: u64,
-    },
+}
+
+/// How an archive is served.
+#[derive(Clone, Copy)]
+pub struct Serving<'w> {
+    /// The moment of the first connection, in seconds since 1970-01-01 00:00:00 UTC.
+    pub at: u64,
+    /// The file that the moments of later ones are read from.
+    pub moments: Option<&'w str>,
+    /// Whether each connection has a line on standard error.
+    pub log: bool,
+    pub address: &'w str,
+    /// How many connections are answered.
+    pub count: u64,
 }
 
 /// Makes an archive in a database file at a moment, in seconds since 1970-01-01 00:00:00 UTC, with the configuration of
@@ -62,30 +72,86 @@ pub fn init<'a, K: InFile + Keeper>(
     Ok(())
 }
 
-/// Serves so many connections at an address.
-fn listen<'a, K: Keeper>(
+/// Serves so many connections of a listener, or says that there is none.
+fn serve_listener<'a, K: Keeper, E: Write>(
     rt: &HostRuntime,
     archive: &mut Archive<K>,
-    at: u64,
-    address: &str,
-    count: u64,
+    listener: &io::Result<TcpListener>,
+    left: u64,
+    moments: &mut Moments<'_>,
+    log: Option<&mut E>,
 ) -> Result<(), Stop<'a>> {
-    match TcpListener::bind(rt, address) {
-        Ok(listener) => serving::serve(rt, archive, &listener, count, at),
+    match listener {
+        Ok(listener) => serve_at(rt, archive, listener, left, moments, PATIENCE, log),
         Err(_) => Err(Stop::CannotListen),
     }
+}
+
+/// Opens the archive of a database file and serves so many connections. Answers how many are left where its keeper is shut
+/// before, and else none.
+fn serve_some<'a, K: InFile + Keeper, E: Write>(
+    rt: &HostRuntime,
+    db: &str,
+    listener: &io::Result<TcpListener>,
+    left: u64,
+    moments: &mut Moments<'_>,
+    log: Option<&mut E>,
+) -> Result<u64, Stop<'a>> {
+    let mut archive: Archive<K> = open_archive(rt, db)?;
+    let served = serve_listener(rt, &mut archive, listener, left, moments, log);
+    close(archive);
+    match served {
+        Ok(()) => Ok(0),
+        Err(Stop::Shut(left)) => Ok(left),
+        Err(stop) => Err(stop),
+    }
+}
+
+/// What an opening of an archive that was served before ends with.
+fn again<'a>(stop: Stop<'a>) -> Stop<'a> {
+    match stop {
+        Stop::NoArchive(fault) => Stop::Lost(fault),
+        stop => stop,
+    }
+}
+
+/// Serves the archive of a database file. The listener is made before the file is opened, so that clients wait meanwhile, and
+/// ends behind it. Where the keeper is shut by a disk that fails, the file is opened again, and the rest of the connections is
+/// answered from what is found then.
+pub fn serve_file<'a, K: InFile + Keeper, E: Write>(
+    rt: &HostRuntime,
+    db: &str,
+    serving: Serving<'_>,
+    err: &mut E,
+) -> Result<(), Stop<'a>> {
+    keep_room(rt.alloc());
+    let listener = TcpListener::bind(rt, serving.address);
+    let mut moments = Moments::new(serving.at, serving.moments);
+    let log = |err| if serving.log { Some(err) } else { None };
+    let mut left = serve_some::<K, E>(rt, db, &listener, serving.count, &mut moments, log(err))?;
+    for _ in 1..serving.count {
+        if left == 0 {
+            break;
+        }
+        left = match serve_some::<K, E>(rt, db, &listener, left, &mut moments, log(err)) {
+            Ok(left) => left,
+            Err(stop) => return Err(again(stop)),
+        };
+    }
+    Ok(())
 }
 
 /// Asks an archive, and says whether all that was given was taken.
 fn ask<'a, K: Keeper, W: Write>(
     rt: &HostRuntime,
     archive: &mut Archive<K>,
+    db: &str,
     word: Word<'_, 'a>,
     out: &mut W,
 ) -> Result<bool, Stop<'a>> {
     let alloc = rt.alloc();
     match word {
-        Word::Put { at, paths } => return answers::put_files(rt, archive, at, paths, out),
+        Word::Put { at, paths } => return answers::put_files(rt, archive, db, at, paths, out),
         Word::Run { at } => answers::run(alloc, archive, at, out)?,
         Word::Copy {
             at,
@@ -96,7 +162,6 @@ fn ask<'a, K: Keeper, W: Write>(
         Word::Show { path } => answers::show(alloc, archive, path, out)?,
         Word::Waiting { at } => answers::waiting(alloc, archive, at, out)?,
         Word::Verdicts => answers::verdicts(alloc, archive, out)?,
-        Word::Serve { at, address, count } => listen(rt, archive, at, address, count)?,
     }
     Ok(true)
 }
@@ -109,7 +174,7 @@ pub fn ask_file<'a, K: InFile + Keeper, W: Write>(
     out: &mut W,
 ) -> Result<bool, Stop<'a>> {
     let mut archive: Archive<K> = open_archive(rt, db)?;
-    let done = ask(rt, &mut archive, word, out);
+    let done = ask(rt, &mut archive, db, word, out);
     close(archive);
     done
 }

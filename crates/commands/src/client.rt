@@ -1,0 +1,140 @@
+//! The client of one connection: what it sends, and what it is sent, for as long as the connection may last.
+
+use std::alloc::Global;
+use std::io::{self, Read, Write};
+use std::net::TcpStream;
+use std::time::{Clock, Duration, Instant};
+
+/// How long a connection may last.
+#[derive(Clone, Copy)]
+pub struct Patience {
+    /// How long the client may take to its first byte.
+    pub first: Duration,
+    /// How long a read or a write may wait for the client.
+    pub silence: Duration,
+    /// How long a client may go on sending behind its reply.
+    pub parting: Duration,
+    /// How long the whole connection may last.
+    pub whole: Duration,
+}
+
+/// The most bytes of a first line that are kept.
+const MOST_LINE: usize = 1_024;
+
+/// The first line that a client sends, for the log.
+#[derive(Drop)]
+pub struct FirstLine {
+    text: Vec<u8>,
+    is_whole: bool,
+}
+
+impl FirstLine {
+    /// A line of which nothing has come.
+    pub fn new(alloc: Global) -> FirstLine {
+        FirstLine {
+            text: Vec::new(alloc),
+            is_whole: false,
+        }
+    }
+
+    /// Takes a byte, where the line goes on. What there is no memory for is left out.
+    fn take(&mut self, byte: u8) {
+        if byte == b'\n' || byte == b'\r' || self.text.len() >= MOST_LINE {
+            self.is_whole = true;
+        } else if self.text.push(byte).is_err() {
+            self.is_whole = true;
+        }
+    }
+
+    /// Takes what came next.
+    fn take_all(&mut self, bytes: &[u8]) {
+        for byte in bytes {
+            if self.is_whole {
+                return;
+            }
+            self.take(*byte);
+        }
+    }
+
+    /// The bytes of the line.
+    pub fn as_bytes(&self) -> &[u8] {
+        &self.text
+    }
+}
+
+/// A client's stream, when it was accepted, and how long it may last.
+pub struct Client<'c, R> {
+    pub rt: &'c R,
+    pub stream: &'c TcpStream,
+    pub accepted: Instant,
+    pub patience: Patience,
+}
+
+impl<R: Clock> Client<'_, R> {
+    /// How long the next call may wait: so long, or what is left of the whole. Fails where nothing is.
+    fn wait(&self, most: Duration) -> io::Result<Duration> {
+        let left = self
+            .patience
+            .whole
+            .saturating_sub(self.accepted.elapsed(self.rt)?);
+        if left.is_zero() {
+            return Err(io::Error::from(io::ErrorKind::TimedOut));
+        }
+        Ok(left.min(most))
+    }
+
+    /// Reads what comes within so long.
+    pub fn read_within(&self, most: Duration, buf: &mut [u8]) -> io::Result<usize> {
+        self.stream.set_read_timeout(Some(self.wait(most)?))?;
+        let mut stream = self.stream;
+        stream.read(buf)
+    }
+
+    /// Writes what the client takes within the patience with its silence.
+    fn write_within(&self, buf: &[u8]) -> io::Result<usize> {
+        let wait = self.wait(self.patience.silence)?;
+        self.stream.set_write_timeout(Some(wait))?;
+        let mut stream = self.stream;
+        stream.write(buf)
+    }
+}
+
+/// What a client sends.
+pub struct FromClient<'f, 'c, R> {
+    pub client: &'f Client<'c, R>,
+    pub line: &'f mut FirstLine,
+    pub has_begun: bool,
+}
+
+impl<R: Clock> Read for FromClient<'_, '_, R> {
+    fn read(&mut self, buf: &mut [u8]) -> io::Result<usize> {
+        let patience = self.client.patience;
+        let most = if self.has_begun {
+            patience.silence
+        } else {
+            patience.first
+        };
+        let count = self.client.read_within(most, buf)?;
+        self.has_begun = true;
+        self.line.take_all(buf.get(..count).unwrap_or(&[]));
+        Ok(count)
+    }
+}
+
+/// What a client is sent, and how many bytes it has been sent so far.
+pub struct ToClient<'t, 'c, R> {
+    pub client: &'t Client<'c, R>,
+    pub sent: &'t mut u64,
+}
+
+impl<R: Clock> Write for ToClient<'_, '_, R> {
+    fn write(&mut self, buf: &[u8]) -> io::Result<usize> {
+        let count = self.client.write_within(buf)?;
+        *self.sent = self.sent.saturating_add(count as u64);
+        Ok(count)
+    }
+
+    fn flush(&mut self) -> io::Result<()> {
+        Ok(())
+    }
+}

@@ -1,0 +1,57 @@
+//! The moments of connections.
+
+use keep::LATEST;
+use std::fs::File;
+use std::io::{self, Read};
+use std::rt::Files;
+
+/// The most bytes that are read of a file of moments: ten digits, the end of a line, and one more.
+const MOST_READ: u64 = 12;
+
+/// The moments that connections have, one after the other, in seconds since 1970-01-01 00:00:00 UTC. They never fall.
+#[derive(Clone, Copy)]
+pub struct Moments<'p> {
+    file: Option<&'p str>,
+    greatest: u64,
+}
+
+/// The moment that a text has: a decimal number of one to ten digits, at most the latest moment, and perhaps the end of a line
+/// behind it.
+fn moment_in(text: &[u8]) -> Option<u64> {
+    let digits = text.strip_suffix(b"\n").unwrap_or(text);
+    if digits.len() > 10 || !digits.iter().all(u8::is_ascii_digit) {
+        return None;
+    }
+    let number = str::from_utf8(digits).ok()?.parse::<u64>().ok()?;
+    (number <= LATEST).then_some(number)
+}
+
+/// The first bytes of a file.
+fn beginning_of<R: Files + AllocGlobal>(rt: &R, path: &str) -> io::Result<Vec<u8>> {
+    let mut text = Vec::new(rt.alloc());
+    File::open(rt, path)?
+        .take(MOST_READ)
+        .read_to_end(&mut text)?;
+    Ok(text)
+}
+
+impl<'p> Moments<'p> {
+    /// The greatest of this moment and all numbers that the file has held so far. Without a file each connection has the moment.
+    pub fn new(moment: u64, file: Option<&'p str>) -> Moments<'p> {
+        Moments {
+            file,
+            greatest: moment,
+        }
+    }
+
+    /// The moment of the next connection. A file that can't be read or that holds no moment changes nothing.
+    pub fn next<R: Files + AllocGlobal>(&mut self, rt: &R) -> u64 {
+        if let Some(path) = self.file
+            && let Ok(text) = beginning_of(rt, path)
+            && let Some(moment) = moment_in(&text)
+        {
+            self.greatest = self.greatest.max(moment);
+        }
+        self.greatest
+    }
+}
