@@ -8,6 +8,7 @@ mod item_rows;
 mod kept_values;
 mod messages;
 mod served;
+mod shut;
 mod text_rows;
 mod uploads;
 mod wanting;

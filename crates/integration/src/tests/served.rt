@@ -146,23 +146,48 @@ const SILENT: &[u8] = b"PUT /incoming/a.deb HTTP/1.1\r\nContent-Le";
 /// A body that ends early.
 const STUCK: &[u8] = b"PUT /incoming/a.deb HTTP/1.1\r\nContent-Length: 4\r\n\r\nabc";
 
-/// A client that falls silent in the middle of a head or of a body gets no reply, and does not keep the next from theirs.
+/// A client that sends nothing, or falls silent in the middle of a head or of a body, gets no reply, and does not keep the next from
+/// theirs.
 #[test]
 fn a_silent_client_is_left(rt: HostRuntime) -> Result<(), Fail> {
     let alloc = rt.alloc();
     let mut archive = archive_of(alloc, BOX)?;
     let listener = listening(&rt)?;
     let patience = Patience {
+        first: Duration::from_millis(50),
         silence: Duration::from_millis(50),
         parting: Duration::from_millis(50),
+        whole: Duration::from_secs(30),
     };
+    let mute = client(&rt, &listener, b"")?;
     let silent = client(&rt, &listener, SILENT)?;
     let stuck = client(&rt, &listener, STUCK)?;
     let last = client(&rt, &listener, PUT)?;
-    expect_served_within(&rt, &rt, &mut archive, &listener, 3, patience);
+    expect_served_within(&rt, &rt, &mut archive, &listener, 4, patience);
+    expect_received(&rt, alloc, mute, b"")?;
     expect_received(&rt, alloc, silent, b"")?;
     expect_received(&rt, alloc, stuck, b"")?;
     expect_received(&rt, alloc, last, CREATED)
+}
+
+/// A connection that has lasted for the whole that it may is ended, however quick its client is.
+#[test]
+fn a_whole_connection_has_an_end(rt: HostRuntime) -> Result<(), Fail> {
+    let mut archive = archive_of(rt.alloc(), BOX)?;
+    let listener = listening(&rt)?;
+    let patience = Patience {
+        first: Duration::from_secs(30),
+        silence: Duration::from_secs(30),
+        parting: Duration::from_secs(30),
+        whole: Duration::ZERO,
+    };
+    let stream = client(&rt, &listener, PUT)?;
+    expect_served_within(&rt, &rt, &mut archive, &listener, 1, patience);
+    // Its request was not read, so the stream is reset, or ends.
+    if let Ok(reply) = received(rt.alloc(), stream) {
+        same(&rt, &reply.as_slice(), &b"".as_slice());
+    }
+    expect_answer(&rt, &rt, &mut archive, &listener, PUT, CREATED)
 }
 
 /// As much of a body as the way to a server that is not reading yet takes.
@@ -190,8 +215,10 @@ fn a_refused_body_has_its_reply(rt: HostRuntime) -> Result<(), Fail> {
     let mut archive = archive_of(alloc, BOX)?;
     let listener = listening(&rt)?;
     let patience = Patience {
+        first: Duration::from_secs(30),
         silence: Duration::from_secs(30),
         parting: Duration::from_millis(200),
+        whole: Duration::from_secs(30),
     };
     let stream = client(&rt, &listener, LARGE)?;
     let sent = send_much(alloc, &stream)?;

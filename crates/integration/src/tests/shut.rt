@@ -1,0 +1,124 @@
+//! A server whose keeper is shut.
+
+use super::checks::{holds, same};
+use super::messages::PUT;
+use super::uploads::{BOX, archive_of};
+use commands::{Stop, serve};
+use keep::{Change, Judgement, KeepFault, Keeper, Waiting};
+use queue::Archive;
+use rules::Config;
+use std::alloc::Global;
+use std::io::{Read, Write};
+use std::net::{Shutdown, TcpListener, TcpStream};
+use std::process::Abort;
+use std::test::Fail;
+use suites::{Shelves, Upload};
+
+/// A keeper whose disk fails at each call.
+#[derive(Drop)]
+struct Shut<K: Keeper> {
+    inner: K,
+}
+
+impl<K: Keeper> Keeper for Shut<K> {
+    ghost is_clean = { λ k. K.Keeper.is_clean k.inner };
+
+    ghost is_open = { λ k. K.Keeper.is_open k.inner };
+
+    ghost book = { λ k. K.Keeper.book k.inner };
+
+    ghost may_fail = { true };
+
+    ghost may_leave = { λ k. K.Keeper.may_leave k.inner };
+
+    fn config(&self) -> &Config {
+        self.inner.config()
+    }
+
+    fn arrive(
+        &mut self,
+        _alloc: Global,
+        _name: &str,
+        _body: &[u8],
+        _moment: u64,
+    ) -> Result<bool, KeepFault> {
+        Err(KeepFault::Disk)
+    }
+
+    fn complete_uploads(&mut self, _alloc: Global, _moment: u64) -> Result<Vec<Upload>, KeepFault> {
+        Err(KeepFault::Disk)
+    }
+
+    fn shelves(&mut self, _alloc: Global) -> Result<Shelves, KeepFault> {
+        Err(KeepFault::Disk)
+    }
+
+    fn apply(&mut self, _alloc: Global, _change: &Change) -> Result<(), KeepFault> {
+        Err(KeepFault::Disk)
+    }
+
+    fn file(&mut self, _alloc: Global, _path: &str) -> Result<Option<Vec<u8>>, KeepFault> {
+        Err(KeepFault::Disk)
+    }
+
+    fn text(&mut self, _alloc: Global, _path: &str) -> Result<Option<Vec<u8>>, KeepFault> {
+        Err(KeepFault::Disk)
+    }
+
+    fn waiting(&mut self, _alloc: Global, _moment: u64) -> Result<Vec<Waiting>, KeepFault> {
+        Err(KeepFault::Disk)
+    }
+
+    fn verdicts(&mut self, _alloc: Global) -> Result<Vec<Judgement>, KeepFault> {
+        Err(KeepFault::Disk)
+    }
+
+    ghost settled = { λ k. K.Keeper.settled k.inner };
+}
+
+const UNAVAILABLE: &[u8] =
+    b"HTTP/1.1 507 Insufficient Storage\r\nContent-Type: text/plain; charset=utf-8\r\nContent-Length: 25\r\nConnection: close\r\n\r\n507 Insufficient Storage\n";
+
+/// A client that has delivered a file and is done.
+fn delivering(rt: &HostRuntime, listener: &TcpListener) -> Result<TcpStream, Fail> {
+    let mut stream = TcpStream::connect(rt, listener.local_addr()?)?;
+    stream.write_all(PUT)?;
+    stream.shutdown(Shutdown::Write)?;
+    Ok(stream)
+}
+
+/// Checks the whole reply that a client is sent.
+fn expect_received(
+    abort: &impl Abort,
+    alloc: Global,
+    mut stream: TcpStream,
+    wanted: &[u8],
+) -> Result<(), Fail> {
+    let mut reply = Vec::new(alloc);
+    stream.read_to_end(&mut reply)?;
+    same(abort, &reply.as_slice(), &wanted);
+    Ok(())
+}
+
+/// Serves three connections, of which the first finds the keeper shut.
+fn expect_two_left<K: Keeper>(
+    rt: &HostRuntime,
+    abort: &impl Abort,
+    archive: &mut Archive<K>,
+    listener: &TcpListener,
+) {
+    let end = serve(rt, archive, listener, 3, 0);
+    holds(abort, matches!(end, Err(Stop::Shut(2))));
+}
+
+/// Behind a 507 of a keeper that is shut the serving ends, and says how many connections are left.
+#[test]
+fn a_shut_keeper_ends_the_serving(rt: HostRuntime) -> Result<(), Fail> {
+    let alloc = rt.alloc();
+    let inner = archive_of(alloc, BOX)?.into_keeper();
+    let mut archive = Archive::new(Shut { inner });
+    let listener = TcpListener::bind(&rt, "127.0.0.1:0")?;
+    let stream = delivering(&rt, &listener)?;
+    expect_two_left(&rt, &rt, &mut archive, &listener);
+    expect_received(&rt, alloc, stream, UNAVAILABLE)
+}
