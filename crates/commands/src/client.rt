@@ -1,6 +1,7 @@
 //! The client of one connection: what it sends, and what it is sent, for as long as the connection may last.
 
 use std::alloc::Global;
+use std::cell::Cell;
 use std::io::{self, Read, Write};
 use std::net::TcpStream;
 use std::time::{Clock, Duration, Instant};
@@ -63,6 +64,7 @@ impl FirstLine {
 }
 
 /// A client's stream, when it was accepted, and how long it may last.
+#[derive(Drop)]
 pub struct Client<'c, R> {
     pub rt: &'c R,
     pub stream: &'c TcpStream,
@@ -100,6 +102,7 @@ impl<R: Clock> Client<'_, R> {
 }
 
 /// What a client sends.
+#[derive(Drop)]
 pub struct FromClient<'f, 'c, R> {
     pub client: &'f Client<'c, R>,
     pub line: &'f mut FirstLine,
@@ -122,15 +125,16 @@ impl<R: Clock> Read for FromClient<'_, '_, R> {
 }
 
 /// What a client is sent, and how many bytes it has been sent so far.
+#[derive_where(Clone, Copy)]
 pub struct ToClient<'t, 'c, R> {
     pub client: &'t Client<'c, R>,
-    pub sent: &'t mut u64,
+    pub sent: &'t Cell<u64>,
 }
 
 impl<R: Clock> Write for ToClient<'_, '_, R> {
     fn write(&mut self, buf: &[u8]) -> io::Result<usize> {
         let count = self.client.write_within(buf)?;
-        *self.sent = self.sent.saturating_add(count as u64);
+        self.sent.set(self.sent.get().saturating_add(count as u64));
         Ok(count)
     }
 

@@ -51,10 +51,11 @@ impl InFile for FileKeeper {
     }
 }
 
-/// How often a database that another process holds is tried again, and how long is waited before each: 10 seconds in all.
+/// How often a database that another process holds is tried again.
 const TRIES: u32 = 100;
 
-const BETWEEN_TRIES: Duration = Duration::from_millis(100);
+/// How many milliseconds are waited behind each try: 10 seconds in all.
+const BETWEEN_TRIES: u64 = 100;
 
 /// The connection to a database, none while another process holds it, or why there is none.
 fn connected<C, L: Drop>(connection: Result<C, (Error, L)>) -> Result<Option<C>, KeepFault> {
@@ -82,7 +83,7 @@ fn connect(
         if let Some(connection) = connect_once(rt, path)? {
             return Ok(connection);
         }
-        thread::sleep(rt, BETWEEN_TRIES);
+        thread::sleep(rt, Duration::from_millis(BETWEEN_TRIES));
     }
     match connect_once(rt, path)? {
         Some(connection) => Ok(connection),

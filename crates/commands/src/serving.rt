@@ -8,18 +8,21 @@ use desk::{Connection, DeskFault, Served, attend};
 use keep::{KeepFault, Keeper};
 use queue::{Archive, Fault};
 use std::alloc::Global;
+use std::cell::Cell;
 use std::io::{self, BufWriter, Read, Write};
 use std::net::{Shutdown, TcpListener, TcpStream};
 use std::rt::Files;
 use std::time::{Clock, Duration, Instant};
 
 /// The patience of the program.
-pub const PATIENCE: Patience = Patience {
-    first: Duration::from_secs(5),
-    silence: Duration::from_secs(30),
-    parting: Duration::from_secs(2),
-    whole: Duration::from_secs(120),
-};
+pub fn patience() -> Patience {
+    Patience {
+        first: Duration::from_secs(5),
+        silence: Duration::from_secs(30),
+        parting: Duration::from_secs(2),
+        whole: Duration::from_secs(120),
+    }
+}
 
 /// The most bytes that are read behind a reply.
 const MOST_DRAINED: u32 = 4_194_304;
@@ -46,7 +49,7 @@ pub fn serve<'a, R: Clock + Files + AllocGlobal, K: Keeper>(
     moment: u64,
 ) -> Result<(), Stop<'a>> {
     keep_room(rt.alloc());
-    serve_within(rt, archive, listener, count, moment, PATIENCE)
+    serve_within(rt, archive, listener, count, moment, patience())
 }
 
 /// The same, with this patience.
@@ -122,8 +125,8 @@ fn answer_client<R: Clock + AllocGlobal, K: Keeper, E: Write>(
         accepted: Instant::now(rt)?,
         patience,
     };
-    let (mut line, mut sent) = (FirstLine::new(rt.alloc()), 0);
-    let end = answered(archive, &client, moment, &mut line, &mut sent);
+    let (mut line, sent) = (FirstLine::new(rt.alloc()), Cell::new(0));
+    let end = answered(archive, &client, moment, &mut line, &sent);
     if let Ok(Served::Status(_)) = end {
         let _ = part(&client);
     }
@@ -132,7 +135,7 @@ fn answer_client<R: Clock + AllocGlobal, K: Keeper, E: Write>(
             moment,
             line: line.as_bytes(),
             end,
-            sent,
+            sent: sent.get(),
             lasted: client.accepted.elapsed(rt)?,
         };
         write_line(rt.alloc(), &ended, *log);
@@ -146,7 +149,7 @@ fn answered<R: Clock + AllocGlobal, K: Keeper>(
     client: &Client<'_, R>,
     moment: u64,
     line: &mut FirstLine,
-    sent: &mut u64,
+    sent: &Cell<u64>,
 ) -> Result<Served, DeskFault> {
     let alloc = client.rt.alloc();
     let reader = FromClient {
@@ -154,15 +157,10 @@ fn answered<R: Clock + AllocGlobal, K: Keeper>(
         line,
         has_begun: false,
     };
-    match BufWriter::new(
-        alloc,
-        ToClient {
-            client,
-            sent: &mut *sent,
-        },
-    ) {
-        Ok(writer) => attended(alloc, archive, reader, writer, moment),
-        Err(_) => attended(alloc, archive, reader, ToClient { client, sent }, moment),
+    let writer = ToClient { client, sent };
+    match BufWriter::new(alloc, writer) {
+        Ok(buffered) => attended(alloc, archive, reader, buffered, moment),
+        Err(_) => attended(alloc, archive, reader, writer, moment),
     }
 }
 

@@ -5,7 +5,7 @@ use crate::database::{InFile, close, create_archive, open_archive};
 use crate::doing::body_of;
 use crate::fault::Stop;
 use crate::moments::Moments;
-use crate::serving::{PATIENCE, keep_room, serve_at};
+use crate::serving::{keep_room, patience, serve_at};
 use keep::Keeper;
 use queue::Archive;
 use rules::Config;
@@ -82,7 +82,7 @@ fn serve_listener<'a, K: Keeper, E: Write>(
     log: Option<&mut E>,
 ) -> Result<(), Stop<'a>> {
     match listener {
-        Ok(listener) => serve_at(rt, archive, listener, left, moments, PATIENCE, log),
+        Ok(listener) => serve_at(rt, archive, listener, left, moments, patience(), log),
         Err(_) => Err(Stop::CannotListen),
     }
 }
@@ -115,6 +115,11 @@ fn again<'a>(stop: Stop<'a>) -> Stop<'a> {
     }
 }
 
+/// The output that a log goes to, where one is wanted.
+fn log_on<E>(is_wanted: bool, err: &mut E) -> Option<&mut E> {
+    if is_wanted { Some(err) } else { None }
+}
+
 /// Serves the archive of a database file. The listener is made before the file is opened, so that clients wait meanwhile, and
 /// ends behind it. Where the keeper is shut by a disk that fails, the file is opened again, and the rest of the connections is
 /// answered from what is found then.
@@ -127,13 +132,26 @@ pub fn serve_file<'a, K: InFile + Keeper, E: Write>(
     keep_room(rt.alloc());
     let listener = TcpListener::bind(rt, serving.address);
     let mut moments = Moments::new(serving.at, serving.moments);
-    let log = |err| if serving.log { Some(err) } else { None };
-    let mut left = serve_some::<K, E>(rt, db, &listener, serving.count, &mut moments, log(err))?;
+    let mut left = serve_some::<K, E>(
+        rt,
+        db,
+        &listener,
+        serving.count,
+        &mut moments,
+        log_on(serving.log, err),
+    )?;
     for _ in 1..serving.count {
         if left == 0 {
             break;
         }
-        left = match serve_some::<K, E>(rt, db, &listener, left, &mut moments, log(err)) {
+        left = match serve_some::<K, E>(
+            rt,
+            db,
+            &listener,
+            left,
+            &mut moments,
+            log_on(serving.log, err),
+        ) {
             Ok(left) => left,
             Err(stop) => return Err(again(stop)),
         };
