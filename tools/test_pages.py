@@ -120,10 +120,10 @@ class Pages(unittest.TestCase):
 
     def test_a_file_at_the_top_that_no_page_names_is_refused(self):
         kept = self.repository.tops
-        self.repository.tops = [*kept, "NOTES", "notes.md", "akefile", "Make", ".git-blame"]
+        self.repository.tops = [*kept, "NOTES", "notes.md", "akefile", "Makefil", ".git-blame"]
         found = list(pages.check_tops(self.repository))
         self.repository.tops = kept
-        self.assertEqual(found, [f"{it}: no page says what it is" for it in ("NOTES", "notes.md", "akefile", "Make", ".git-blame")])
+        self.assertEqual(found, [f"{it}: no page says what it is" for it in ("NOTES", "notes.md", "akefile", "Makefil", ".git-blame")])
 
     def test_the_command_tells_it(self):
         row = self.row(FAULTS, "| `K2`")
