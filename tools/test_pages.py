@@ -114,16 +114,32 @@ class Pages(unittest.TestCase):
         for words in ("The state before this one was well.", "No fault was seen.", "On 2026-01-02 it was so.", "It has 261 wrong bodies.", "It takes GATE_MINUTES."):
             self.assertEqual(len(self.other(pages.check_diary, "docs/OPEN.md", words)), 1, words)
 
+    def test_a_comment_is_refused(self):
+        for text, count in (("A line.\n<!-- a note\nof two lines -->\n", 1), ("a <! b, c -- d and e --> f", 0)):
+            self.assertEqual(len(self.other(pages.check_comments, "docs/OPEN.md", text)), count, text)
+
+    def test_a_file_at_the_top_that_no_page_names_is_refused(self):
+        kept = self.repository.tops
+        self.repository.tops = [*kept, "NOTES", "notes.md", "akefile", "Makefil", ".git-blame"]
+        found = list(pages.check_tops(self.repository))
+        self.repository.tops = kept
+        self.assertEqual(found, [f"{it}: no page says what it is" for it in ("NOTES", "notes.md", "akefile", "Makefil", ".git-blame")])
+
     def test_the_command_tells_it(self):
+        row = self.row(FAULTS, "| `K2`")
         with tempfile.TemporaryDirectory() as room:
             for name in ("crates", "tools", "docs", ".ci"):
                 shutil.copytree(ROOT / name, f"{room}/{name}", ignore=shutil.ignore_patterns("out", "__pycache__"))
-            for name in ("README.md", "CONTRIBUTING.md", "crates.txt", "Makefile", "HANDLES"):
+            for name in self.repository.tops:
                 shutil.copy(ROOT / name, room)
-            pathlib.Path(room, FAULTS).write_text(without(self.faults, self.row(FAULTS, "| `K2`")), encoding="utf-8")
-            ran = subprocess.run([f"{room}/tools/check_pages"], capture_output=True, text=True, check=False)
-        self.assertEqual(ran.returncode, 1)
-        self.assertIn(f"{FAULTS}: K2 is missing\n", ran.stdout)
+            well = subprocess.run([f"{room}/tools/check_pages"], capture_output=True, text=True, check=False)
+            pathlib.Path(room, FAULTS).write_text("<!-- -->\n" + without(self.faults, row), encoding="utf-8")
+            pathlib.Path(room, "NOTES").write_text("A stray file.\n", encoding="utf-8")
+            ill = subprocess.run([f"{room}/tools/check_pages"], capture_output=True, text=True, check=False)
+        self.assertEqual((well.returncode, well.stdout), (0, ""))
+        self.assertEqual(ill.returncode, 1)
+        wanted = [f"{FAULTS}: K2 is missing", "NOTES: no page says what it is", f"{FAULTS}:1: a comment that a reader does not see"]
+        self.assertEqual(ill.stdout.splitlines(), wanted)
 
 
 if __name__ == "__main__":
