@@ -30,7 +30,7 @@ pub enum Stop<'a> {
     #[error("archive: cannot listen")]
     CannotListen,
     /// The keeper that was served is shut, and so many connections are left to be answered.
-    #[error("archive: Q4 K2")]
+    #[error("archive: {0} connections are left")]
     Shut(u64),
     /// The archive that was served can't be opened again.
     #[error("archive: {0}")]
