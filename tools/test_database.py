@@ -69,7 +69,7 @@ class Lines(unittest.TestCase):
 
     def line(self, status, word, db, *words):
         """Runs a line of the program, and answers what it prints, on both outputs."""
-        ran = subprocess.run([PROGRAM, word, "--db", db, *words], capture_output=True, text=True, check=False)
+        ran = subprocess.run([PROGRAM, word, "--db", db, *words], capture_output=True, text=True, check=False, timeout=120)
         self.assertEqual(ran.returncode, status, ran.stderr)
         return ran.stdout + ran.stderr
 
