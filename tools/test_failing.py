@@ -111,7 +111,7 @@ class FailingCalls(Lines):
                 self.assertEqual(serving.answer(request), reply)
             self.assertEqual(serving.ended(30), (0, "", ""))
         with open(self.trace, encoding="utf-8") as it:
-            return re.findall(r"(?m)^\d+ +(accept|\w+)\w*\(", it.read().replace("accept4(", "accept("))
+            return re.findall(r"(?m)^(?:\d+ +)?(\w+)\(", it.read().replace("accept4(", "accept("))
 
     def failures(self):
         """Each call behind the first connection, as its name and how many of this name there are up to it."""

@@ -86,8 +86,7 @@ class Kills(Lines):
     def each(self):
         """The signals, each with a new database."""
         for number in (signal.SIGTERM, signal.SIGINT):
-            with self.subTest(number.name):
-                yield number, self.made()
+            yield number, self.made()
 
     def test_between_connections(self):
         for number, db in self.each():
