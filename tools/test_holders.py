@@ -73,7 +73,7 @@ class Holders(Lines):
 
     @contextlib.contextmanager
     def kept(self, holder):
-        """Keeps a server with its last connection busy: a byte comes now and then, so that it is not closed."""
+        """Keeps a server busy with its last connection, whose client sends a byte and no more."""
         with holder.connected() as client:
             client.sendall(b"G")
             yield

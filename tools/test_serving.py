@@ -1,6 +1,7 @@
 #!/usr/bin/env python3
 """Tests of how `serve` begins, waits for its clients, and ends: clients that are silent or stay, a program that is killed, one that
 begins while another has the file. The program is that of test_database.py. Waits of more than some seconds are in test_waits.py."""
+import contextlib
 import os
 import signal
 import socket
@@ -146,20 +147,19 @@ class Kills(Lines):
 
 
 class Beginnings(Lines):
-    def test_a_client_that_comes_before_the_archive_is_open_is_answered(self):
+    def test_clients_that_come_before_the_archive_is_open_are_answered(self):
         db = self.accepted()
-        with Serving(db, 1) as holder, holder.connected() as held, Serving(db, 2) as serving:
-            with serving.connected() as first, serving.connected() as second:
-                for client in (first, second):
-                    client.sendall(get("verdicts"))
-                    client.shutdown(socket.SHUT_WR)
-                first.settimeout(1)
-                with self.assertRaises(TimeoutError):
-                    first.recv(1)
-                first.settimeout(60)
-                held.close()
-                self.assertEqual(holder.ended(), (0, "", ""))
-                self.assertEqual((rest(first), rest(second)), (ACCEPTED, ACCEPTED))
+        with Serving(db, 2) as holder, contextlib.ExitStack() as stack:
+            self.assertEqual(holder.answer(b""), b"")
+            held, serving = holder.connected(), stack.enter_context(Serving(db, 20))
+            clients = [serving.sent(get("verdicts")) for _ in range(20)]
+            clients[0].settimeout(1)
+            with self.assertRaises(TimeoutError):
+                clients[0].recv(1)
+            clients[0].settimeout(60)
+            held.close()
+            self.assertEqual(holder.ended(), (0, "", ""))
+            self.assertEqual([rest(it) for it in clients], [ACCEPTED] * 20)
             self.assertEqual(serving.ended(), (0, "", ""))
 
     def test_which_fault_is_told(self):
