@@ -1,9 +1,9 @@
 # try: the main job on stored files; build: prove and build the program; install: copy it to PREFIX/bin; test: the gate and all other
-# tests (tools/run_tests); wrong: the wrong bodies that the gate leaves out, from where the last run was cut off.
+# tests (tools/run_tests); test-long: the tests of the built program that take minutes (tools/run_long_tests); wrong: the wrong bodies that the gate leaves out, from where the last run was cut off.
 PREFIX ?= /usr/local
 PROGRAM = crates/archive/out/archive
 
-.PHONY: try build install test wrong
+.PHONY: try build install test test-long wrong
 
 try:
 	@echo 'The stored files of an upload go through an archive in memory, which prints its index. Compiling takes about a minute.' >&2
@@ -17,6 +17,9 @@ install: build
 
 test:
 	@tools/run_tests
+
+test-long:
+	@tools/run_long_tests
 
 wrong:
 	tools/try_wrong_bodies

@@ -1,0 +1,183 @@
+#!/usr/bin/env python3
+"""Tests of how `serve` begins, waits for its clients, and ends: clients that are silent or stay, a program that is killed, one that
+begins while another has the file. The program is that of test_database.py. Waits of more than some seconds are in test_waits.py."""
+import contextlib
+import os
+import signal
+import socket
+import sys
+import tempfile
+import time
+import unittest
+
+sys.dont_write_bytecode = True
+from clients import Serving, free_address, put_of, reset, rest, seconds_since, status_of
+from test_database import DATA, NAMES, Lines
+from test_served import get, put, replied
+
+NOTHING = replied("200 OK", b"")
+NEW = replied("201 Created", b"new\n")
+RUN = b"POST /queue/run HTTP/1.1\r\n\r\n"
+ACCEPTED = replied("200 OK", f"accepted {NAMES[0]}\n".encode())
+DEB = "pool/main/h/hello/hello_1.0-1_amd64.deb"
+
+
+class Deadlines(Lines):
+    def test_a_silent_client_is_closed_and_a_quick_one_beside_it_answered(self):
+        with Serving(self.made(), 2) as serving:
+            silent, start = serving.connected(), time.monotonic()
+            self.assertEqual(serving.answer(get("verdicts")), NOTHING)
+            waited = seconds_since(start)
+            self.assertEqual(rest(silent), b"")
+            self.assertEqual(serving.ended(), (0, "", ""))
+        print(f"The quick client beside a silent one was answered behind {waited:.2f} s.")
+        self.assertGreaterEqual(waited, 4.9)
+        self.assertLess(waited, 7)
+
+    def test_a_client_with_a_first_byte_may_be_silent_for_longer(self):
+        request = get("verdicts")
+        with Serving(self.made(), 1) as serving, serving.connected() as client:
+            time.sleep(4)
+            client.sendall(request[:1])
+            time.sleep(6)
+            client.sendall(request[1:])
+            self.assertEqual(rest(client), NOTHING)
+            self.assertEqual(serving.ended(), (0, "", ""))
+
+    def test_a_client_that_stays_behind_its_reply_is_let_go(self):
+        with Serving(self.made(), 2) as serving, serving.connected() as staying:
+            staying.sendall(get("verdicts"))
+            start = time.monotonic()
+            self.assertEqual(serving.answer(get("verdicts")), NOTHING)
+            waited = seconds_since(start)
+            self.assertEqual(rest(staying), NOTHING)
+            self.assertEqual(serving.ended(), (0, "", ""))
+        self.assertGreaterEqual(waited, 1.9)
+        self.assertLess(waited, 4)
+
+    def test_a_client_that_goes_on_sending_behind_its_reply_is_let_go(self):
+        with Serving(self.made(), 2) as serving, serving.connected() as sending:
+            start = time.monotonic()
+            with self.assertRaises(ConnectionError):
+                sending.sendall(get("verdicts") + b"." * 64_000_000)
+            self.assertEqual(serving.answer(get("verdicts")), NOTHING)
+            self.assertLess(seconds_since(start), 4)
+            self.assertEqual(serving.ended(), (0, "", ""))
+
+    def test_a_connection_counts_however_it_ends(self):
+        with Serving(self.made(), 6) as serving:
+            reset(serving.connected())
+            serving.connected().close()
+            half = serving.connected()
+            half.sendall(b"PUT /inco")
+            reset(half)
+            self.assertEqual(status_of(serving.answer(b"GET /verdicts HT")), 400)
+            self.assertEqual(status_of(serving.answer(put("hello_1.0-1_amd64.deb")[:-1])), 400)
+            self.assertEqual(serving.answer(get("verdicts")), NOTHING)
+            self.assertEqual(serving.ended(), (0, "", ""))
+
+
+class Kills(Lines):
+    """`serve` that is killed by a signal: what it answered is kept."""
+
+    def killed(self, serving, number):
+        serving.kill(number)
+        self.assertEqual(serving.ended(), (-number, "", ""))
+
+    def each(self):
+        """The signals, each with a new database."""
+        for number in (signal.SIGTERM, signal.SIGINT):
+            yield number, self.made()
+
+    def test_between_connections(self):
+        for number, db in self.each():
+            with Serving(db, 10) as serving:
+                for name in NAMES:
+                    self.assertEqual(serving.answer(put(name)), NEW)
+                self.assertEqual(serving.answer(RUN), ACCEPTED)
+                self.killed(serving, number)
+            self.assertEqual(self.line(0, "verdicts", db), f"accepted {NAMES[0]}\n")
+            self.assertEqual(self.line(0, "show", db, DEB), "abc")
+
+    def test_before_the_first_connection(self):
+        for number, db in self.each():
+            with Serving(db, 10) as serving:
+                serving.connected().close()
+                self.killed(serving, number)
+            self.assertEqual(self.line(0, "verdicts", db), "")
+
+    def test_in_a_request_that_is_sent_by_half(self):
+        for number, db in self.each():
+            with Serving(db, 10) as serving:
+                self.assertEqual(serving.answer(put(NAMES[0])), NEW)
+                with serving.connected() as client:
+                    client.sendall(put(NAMES[1])[:-1])
+                    time.sleep(0.2)
+                    self.killed(serving, number)
+                    self.assertEqual(rest(client), b"")
+            self.assertEqual(self.line(0, "waiting", db, "--at", "0"), f"2 {NAMES[0]}\n")
+            self.assertEqual(self.line(0, "put", db, "--at", "0", f"{DATA}/{NAMES[1]}"), f"new {NAMES[1]}\n")
+
+    def test_behind_an_answer_whose_client_stays(self):
+        for number, db in self.each():
+            with Serving(db, 10) as serving, serving.connected() as client:
+                client.sendall(put(NAMES[1]))
+                self.assertEqual(rest(client), NEW)
+                self.killed(serving, number)
+            self.assertEqual(self.line(0, "put", db, "--at", "0", f"{DATA}/{NAMES[1]}"), f"again {NAMES[1]}\n")
+
+    def test_while_a_request_is_answered(self):
+        """A body is there whole or not at all, whenever the kill comes; and where it was answered it is there."""
+        db = self.made()
+        room = tempfile.TemporaryDirectory()
+        self.addCleanup(room.cleanup)
+        for number in range(12):
+            name, body = f"file{number}_1.0-1_amd64.deb", bytes([number]) * 1_000_000
+            with open(f"{room.name}/{name}", "wb") as it:
+                it.write(body)
+            with Serving(db, 1) as serving, serving.connected() as client:
+                client.sendall(put_of(name, body))
+                time.sleep(0.003 * number)
+                serving.kill(signal.SIGTERM)
+                reply = rest(client)
+                status = serving.ended()[0]
+            self.assertIn((reply, status), ((b"", -signal.SIGTERM), (NEW, -signal.SIGTERM), (NEW, 0)))
+            words = ("again",) if reply else ("new", "again")
+            self.assertIn(self.line(0, "put", db, "--at", "0", f"{room.name}/{name}"), [f"{word} {name}\n" for word in words])
+
+
+class Beginnings(Lines):
+    def test_clients_that_come_before_the_archive_is_open_are_answered(self):
+        db = self.accepted()
+        with Serving(db, 2) as holder, contextlib.ExitStack() as stack:
+            self.assertEqual(holder.answer(b""), b"")
+            held, serving = holder.connected(), stack.enter_context(Serving(db, 20))
+            clients = [serving.sent(get("verdicts")) for _ in range(20)]
+            clients[0].settimeout(1)
+            with self.assertRaises(TimeoutError):
+                clients[0].recv(1)
+            clients[0].settimeout(60)
+            held.close()
+            self.assertEqual(holder.ended(), (0, "", ""))
+            self.assertEqual([rest(it) for it in clients], [ACCEPTED] * 20)
+            self.assertEqual(serving.ended(), (0, "", ""))
+
+    def test_which_fault_is_told(self):
+        db = self.made()
+        folder = os.path.dirname(db)
+        with socket.create_server(("127.0.0.1", 0)) as taken:
+            busy, free = ("%s:%d" % it for it in (taken.getsockname(), free_address()))
+            for path, address, status, told in (
+                (f"{folder}/absent.db", free, 1, "archive: K4\n"),
+                (f"{folder}/absent.db", busy, 1, "archive: K4\n"),
+                (f"{folder}/absent/a.db", busy, 3, "archive: K2\n"),
+                (f"{folder}/box.conf", busy, 3, "archive: K2\n"),
+                (db, busy, 3, "archive: cannot listen\n"),
+                (db, "nowhere", 3, "archive: cannot listen\n"),
+            ):
+                with self.subTest(path=path, address=address):
+                    self.assertEqual(self.line(status, "serve", path, "--at", "0", address, "1"), told)
+
+
+if __name__ == "__main__":
+    unittest.main()
