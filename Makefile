@@ -1,5 +1,6 @@
 # try: the main job on stored files; build: prove and build the program; install: copy it to PREFIX/bin; test: the gate and all other
-# tests (tools/run_tests); test-long: the tests of the built program that take minutes (tools/run_long_tests); wrong: the wrong bodies that the gate leaves out, from where the last run was cut off.
+# tests (tools/run_tests); test-long: tests of the built program that take minutes (tools/run_long_tests); wrong: the wrong bodies that
+# the gate leaves out, from where the last run was cut off.
 PREFIX ?= /usr/local
 PROGRAM = crates/archive/out/archive
 

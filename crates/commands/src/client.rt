@@ -1,5 +1,7 @@
 //! The client of one connection: what it sends, and what it is sent, for as long as the connection may last.
 
+ghost use Rattle.std.specs.Io.{ReadsAtMost, WritesAtMost};
+
 use std::alloc::Global;
 use std::cell::Cell;
 use std::io::{self, Read, Write};
@@ -86,14 +88,18 @@ impl<R: Clock> Client<'_, R> {
     }
 
     /// Reads what comes within so long.
-    pub fn read_within(&self, most: Duration, buf: &mut [u8]) -> io::Result<usize> {
+    pub fn read_within(&self, most: Duration, buf: &mut [u8]) -> io::Result<usize>
+        ensures { ReadsAtMost result buf.new }
+    {
         self.stream.set_read_timeout(Some(self.wait(most)?))?;
         let mut stream = self.stream;
         stream.read(buf)
     }
 
     /// Writes what the client takes within the patience with its silence.
-    fn write_within(&self, buf: &[u8]) -> io::Result<usize> {
+    fn write_within(&self, buf: &[u8]) -> io::Result<usize>
+        ensures { WritesAtMost result buf.now }
+    {
         let wait = self.wait(self.patience.silence)?;
         self.stream.set_write_timeout(Some(wait))?;
         let mut stream = self.stream;

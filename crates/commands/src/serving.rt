@@ -12,6 +12,7 @@ use std::cell::Cell;
 use std::io::{self, BufWriter, Read, Write};
 use std::net::{Shutdown, TcpListener, TcpStream};
 use std::rt::Files;
+use std::slice;
 use std::time::{Clock, Duration, Instant};
 
 /// The patience of the program.
@@ -172,14 +173,13 @@ fn attended<K: Keeper, R: Read + Drop, W: Write + Drop>(
     writer: W,
     moment: u64,
 ) -> Result<Served, DeskFault> {
-    let mut connections = [Connection {
+    let mut connection = Connection {
         reader,
         writer,
         moment,
         end: None,
-    }];
-    attend(alloc, archive, &mut connections);
-    let [connection] = &connections;
+    };
+    attend(alloc, archive, slice::from_mut(&mut connection));
     connection.end.unwrap_or(Ok(Served::Nothing))
 }
 
