@@ -1,6 +1,7 @@
 //! The log: a line for each connection.
 
 use desk::{DeskFault, Served};
+use http::StatusCode;
 use std::alloc::{AllocError, Global};
 use std::io::Write;
 use std::time::Duration;
@@ -40,13 +41,16 @@ fn word_or_dash(word: Option<&str>) -> &str {
     }
 }
 
+/// The number of a status.
+fn number_text(alloc: Global, status: &StatusCode) -> Result<String, AllocError> {
+    let number = status.as_u16();
+    Ok(format!(in alloc; "{number}")?)
+}
+
 /// The status of a whole reply, or `-`.
-fn status_text(alloc: Global, end: Result<Served, DeskFault>) -> Result<String, AllocError> {
+fn status_text(alloc: Global, end: &Result<Served, DeskFault>) -> Result<String, AllocError> {
     match end {
-        Ok(Served::Status(status)) => {
-            let number = status.as_u16();
-            Ok(format!(in alloc; "{number}")?)
-        }
+        Ok(Served::Status(status)) => number_text(alloc, status),
         _ => String::from_str(alloc, "-"),
     }
 }
@@ -56,7 +60,7 @@ fn line_of(alloc: Global, ended: &Ended<'_>) -> Result<String, AllocError> {
     let line = shown(alloc, ended.line)?;
     let mut words = line.as_str().split(' ');
     let (method, path) = (word_or_dash(words.next()), word_or_dash(words.next()));
-    let status = status_text(alloc, ended.end)?;
+    let status = status_text(alloc, &ended.end)?;
     let (moment, sent, milliseconds) = (ended.moment, ended.sent, ended.lasted.as_millis());
     Ok(format!(in alloc; "{moment} {method} {path} {status} {sent} {milliseconds}\n")?)
 }

@@ -4,7 +4,8 @@ use crate::client::{Client, FirstLine, FromClient, Patience, ToClient};
 use crate::fault::Stop;
 use crate::log::{Ended, write_line};
 use crate::moments::Moments;
-use desk::{Connection, DeskFault, Served, attend};
+use desk::{Connection, DeskFault, Served};
+use http::StatusCode;
 use keep::{KeepFault, Keeper};
 use queue::{Archive, Fault};
 use std::alloc::Global;
@@ -12,7 +13,6 @@ use std::cell::Cell;
 use std::io::{self, BufWriter, Read, Write};
 use std::net::{Shutdown, TcpListener, TcpStream};
 use std::rt::Files;
-use std::slice;
 use std::time::{Clock, Duration, Instant};
 
 /// The patience of the program.
@@ -63,8 +63,16 @@ pub fn serve_within<'a, R: Clock + Files + AllocGlobal, K: Keeper>(
     patience: Patience,
 ) -> Result<(), Stop<'a>> {
     let mut moments = Moments::new(moment, None);
-    let no_log: Option<&mut Vec<u8>> = None;
-    serve_at(rt, archive, listener, count, &mut moments, patience, no_log)
+    let mut no_log: Option<&mut Vec<u8>> = None;
+    serve_at(
+        rt,
+        archive,
+        listener,
+        count,
+        &mut moments,
+        patience,
+        &mut no_log,
+    )
 }
 
 /// The same, at the moments, with a line of the log for each connection where there is one.
@@ -75,30 +83,35 @@ pub fn serve_at<'a, R: Clock + Files + AllocGlobal, K: Keeper, E: Write>(
     count: u64,
     moments: &mut Moments<'_>,
     patience: Patience,
-    mut log: Option<&mut E>,
+    log: &mut Option<&mut E>,
 ) -> Result<(), Stop<'a>> {
     for served in 0..count {
         let end = match listener.accept() {
             // What comes of the connection is its client's alone.
             Ok((stream, _)) => {
                 let moment = moments.next(rt);
-                answer_client(rt, archive, &stream, moment, patience, &mut log)
+                answer_client(rt, archive, &stream, moment, patience, log)
             }
             // The client left before its turn came.
             Err(error) if error.kind() == io::ErrorKind::ConnectionAborted => continue,
             Err(_) => return Err(Stop::CannotListen),
         };
-        if is_insufficient_storage(end) && is_shut(rt.alloc(), archive) {
+        if is_insufficient_storage(&end) && is_shut(rt.alloc(), archive) {
             return Err(Stop::Shut(count - served - 1));
         }
     }
     Ok(())
 }
 
+/// Whether a status is 507.
+fn is_507(status: &StatusCode) -> bool {
+    status.as_u16() == 507
+}
+
 /// Whether the reply was 507.
-fn is_insufficient_storage(end: io::Result<Result<Served, DeskFault>>) -> bool {
+fn is_insufficient_storage(end: &io::Result<Result<Served, DeskFault>>) -> bool {
     match end {
-        Ok(Ok(Served::Status(status))) => status.as_u16() == 507,
+        Ok(Ok(Served::Status(status))) => is_507(status),
         _ => false,
     }
 }
@@ -165,7 +178,7 @@ fn answered<R: Clock + AllocGlobal, K: Keeper>(
     }
 }
 
-/// Attends to a connection of this reader and this writer: a list of one.
+/// Answers a connection of this reader and this writer.
 fn attended<K: Keeper, R: Read + Drop, W: Write + Drop>(
     alloc: Global,
     archive: &mut Archive<K>,
@@ -179,7 +192,7 @@ fn attended<K: Keeper, R: Read + Drop, W: Write + Drop>(
         moment,
         end: None,
     };
-    attend(alloc, archive, slice::from_mut(&mut connection));
+    connection.serve(alloc, archive);
     connection.end.unwrap_or(Ok(Served::Nothing))
 }
 

@@ -79,7 +79,7 @@ fn serve_listener<'a, K: Keeper, E: Write>(
     listener: &io::Result<TcpListener>,
     left: u64,
     moments: &mut Moments<'_>,
-    log: Option<&mut E>,
+    log: &mut Option<&mut E>,
 ) -> Result<(), Stop<'a>> {
     match listener {
         Ok(listener) => serve_at(rt, archive, listener, left, moments, patience(), log),
@@ -95,7 +95,7 @@ fn serve_some<'a, K: InFile + Keeper, E: Write>(
     listener: &io::Result<TcpListener>,
     left: u64,
     moments: &mut Moments<'_>,
-    log: Option<&mut E>,
+    log: &mut Option<&mut E>,
 ) -> Result<u64, Stop<'a>> {
     let mut archive: Archive<K> = open_archive(rt, db)?;
     let served = serve_listener(rt, &mut archive, listener, left, moments, log);
@@ -138,7 +138,7 @@ pub fn serve_file<'a, K: InFile + Keeper, E: Write>(
         &listener,
         serving.count,
         &mut moments,
-        log_on(serving.log, err),
+        &mut log_on(serving.log, err),
     )?;
     for _ in 1..serving.count {
         if left == 0 {
@@ -150,7 +150,7 @@ pub fn serve_file<'a, K: InFile + Keeper, E: Write>(
             &listener,
             left,
             &mut moments,
-            log_on(serving.log, err),
+            &mut log_on(serving.log, err),
         ) {
             Ok(left) => left,
             Err(stop) => return Err(again(stop)),
