@@ -63,7 +63,7 @@ class Pages(unittest.TestCase):
         """Each line of a source that alone gives a fault, a verdict or a line of the program is taken out."""
         gone = set()
         for text in self.repository.sources():
-            for line in re.findall(r'^.*(?:"[A-Z]\d|Verdict::\w+ => \d|Fault::\w+(?:\(_\))? => \d|#\[error\("archive: [^{]).*$', text, re.M):
+            for line in re.findall(r'^.*(?:"[A-Z]\d|Verdict::\w+ => \d|Fault::\w+(?:\(_\))? => \d|(?:#\[error\(|writeln!\(rt\.stderr\(\), )"archive: [^{]).*$', text, re.M):
                 gone |= pages.told_in(text) - pages.told_in(without(text, line))
         alone = {name for name in self.told if re.fullmatch(r"[A-Z]\d+|refused \d+|accepted|archive: .*", name)}
         self.assertEqual(alone - gone, set())
