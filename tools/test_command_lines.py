@@ -78,7 +78,7 @@ class NoArchive(Words):
 
     def test_a_link_that_leads_nowhere_stays_as_it_is(self):
         os.symlink("real.db", f"{self.folder}/a.db")
-        self.assertEqual(self.ran("verdicts", "--db", "a.db"), (1, "", "archive: K4\n"))
+        self.assertEqual(self.ran("verdicts", "--db", "a.db"), (3, "", "archive: K2\n"))
         self.assertEqual(os.listdir(self.folder), ["a.db"])
 
     def test_an_archive_is_made_in_an_empty_file(self):

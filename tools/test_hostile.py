@@ -194,17 +194,32 @@ class Hostile(Lines):
         self.assertEqual(deb, replied("200 OK", f"the body of {package}".encode(), "application/octet-stream"))
         return len(files) + 2
 
+    def deliver_again(self, serving, number):
+        """Delivers an upload that was judged, and runs the queue. Answers how many connections that took."""
+        files = upload_of(f"pkg{number:05}")
+        for name, body in files.items():
+            self.assertEqual(serving.answer(put_of(name, body)), replied("200 OK", b"again\n"))
+        self.assertEqual(serving.answer(RUN), replied("200 OK", b""))
+        return len(files) + 1
+
     def test_each_good_answer_is_right(self):
+        """The store's cache is full before the first of them, and each kind of good request has come among the first hundred."""
         chance, db, start = random.Random(1), self.made(), time.monotonic()
         uploads, made = [], 0
         silent = {count * COUNT // 8 for count in range(1, 3)}
         with Serving(db, 1_000_000, "--log") as serving:
             self.assertEqual(serving.answer(get("queue")), replied("200 OK", b""))
             made += 1
+            for byte in b"abc":
+                large = put_of(f"large{byte}.deb", bytes([byte]) * 4_000_000)
+                self.assertEqual(serving.answer(large), replied("201 Created", b"new\n"))
+                made += 1
             for number in range(COUNT):
-                if number in (5, 50) or number % (COUNT // 20) == COUNT // 20 - 1:
+                if number < 88 and number % 4 == 3:
                     made += self.deliver(serving, number)
                     uploads.append(f"accepted pkg{number:05}_1.0-1_amd64.changes\n")
+                elif number == 95 or number >= 100 and number % (COUNT // 20) == COUNT // 20 - 1:
+                    made += self.deliver_again(serving, number % 22 * 4 + 3)
                 if number % 10 == 9:
                     verdicts = serving.answer(get("verdicts"))
                     self.assertEqual(verdicts, replied("200 OK", "".join(uploads).encode()))

@@ -108,7 +108,7 @@ class Log(Lines):
             (put(NAMES[1])[:-1], "PUT", f"/incoming/{NAMES[1]}", "400 Bad Request", b"400 Bad Request\n"),
             (get("nothing"), "GET", "/nothing", "404 Not Found", b"404 Not Found\n"),
             (get("verdicts?a=b%20&c#d"), "GET", "/verdicts?a=b%20&c#d", "400 Bad Request", b"400 Bad Request\n"),
-            (get('"\\%'), "GET", '/"\\%', "400 Bad Request", b"400 Bad Request\n"),
+            (get('"\\%'), "GET", '/"\\%', "404 Not Found", b"404 Not Found\n"),
             (b"GET /a\x01\x1b[\xff\x7f\x80b HTTP/1.1\r\n\r\n", "GET", "/a??[???b", "400 Bad Request", b"400 Bad Request\n"),
             (b"G\xc3\x9cT /a HTTP/1.1\r\n\r\n", "G??T", "/a", "400 Bad Request", b"400 Bad Request\n"),
             (b"GET\r\n\r\n", "GET", "-", "400 Bad Request", b"400 Bad Request\n"),

@@ -1,5 +1,7 @@
 //! A server whose keeper is shut.
 
+ghost use Rattle.std.specs.Prelude.{true};
+
 use super::checks::{holds, same};
 use super::messages::PUT;
 use super::uploads::{BOX, archive_of};
