@@ -211,7 +211,7 @@ class Hostile(Lines):
             self.assertEqual(serving.answer(get("queue")), replied("200 OK", b""))
             made += 1
             for byte in b"abc":
-                large = put_of(f"large{byte}.deb", bytes([byte]) * 4_000_000)
+                large = put_of(f"large{byte}.deb", bytes([byte]) * 4_194_304)
                 self.assertEqual(serving.answer(large), replied("201 Created", b"new\n"))
                 made += 1
             for number in range(COUNT):
