@@ -72,16 +72,18 @@ pub struct Client<'c, R> {
     pub stream: &'c TcpStream,
     pub accepted: Instant,
     pub patience: Patience,
+    /// Whether a write has failed. No other is tried then: a buffer that is dropped would wait for the client once more.
+    pub is_lost: Cell<bool>,
 }
 
 impl<R: Clock> Client<'_, R> {
-    /// How long the next call may wait: so long, or what is left of the whole. Fails where nothing is.
+    /// How long the next call may wait: so long, or what is left of the whole. Fails where nothing is, or the client is lost.
     fn wait(&self, most: Duration) -> io::Result<Duration> {
         let left = self
             .patience
             .whole
             .saturating_sub(self.accepted.elapsed(self.rt)?);
-        if left.is_zero() {
+        if left.is_zero() || self.is_lost.get() {
             return Err(io::Error::from(io::ErrorKind::TimedOut));
         }
         Ok(left.min(most))
@@ -103,7 +105,11 @@ impl<R: Clock> Client<'_, R> {
         let wait = self.wait(self.patience.silence)?;
         self.stream.set_write_timeout(Some(wait))?;
         let mut stream = self.stream;
-        stream.write(buf)
+        let written = stream.write(buf);
+        if written.is_err() {
+            self.is_lost.set(true);
+        }
+        written
     }
 }
 

@@ -138,6 +138,7 @@ fn answer_client<R: Clock + AllocGlobal, K: Keeper, E: Write>(
         stream,
         accepted: Instant::now(rt)?,
         patience,
+        is_lost: Cell::new(false),
     };
     let (mut line, sent) = (FirstLine::new(rt.alloc()), Cell::new(0));
     let end = answered(archive, &client, moment, &mut line, &sent);
