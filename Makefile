@@ -1,6 +1,6 @@
-# try: the main job on stored files; build: prove and build the program; install: copy it to PREFIX/bin; test: the gate and all other
-# tests (tools/run_tests); test-long: tests of the built program that take minutes (tools/run_long_tests); wrong: the wrong bodies that
-# the gate leaves out, from where the last run was cut off.
+# try: the main job on stored files; build: prove and build the program; install: copy what was built, and with_sidecars, to
+# PREFIX/bin; test: the gate and all other tests (tools/run_tests); test-long: tests of the built program that take minutes
+# (tools/run_long_tests); wrong: the wrong bodies that the gate leaves out, from where the last run was cut off.
 PREFIX ?= /usr/local
 PROGRAM = crates/archive/out/archive
 
@@ -13,8 +13,10 @@ try:
 build:
 	cd crates/archive && rt run -- compare 1.0-1 1.0-2
 
-install: build
+install:
+	@test -x $(PROGRAM) || { echo 'There is no $(PROGRAM) yet: run make build first.' >&2; exit 1; }
 	install -D -m 755 $(PROGRAM) $(PREFIX)/bin/archive
+	install -D -m 755 tools/with_sidecars $(PREFIX)/bin/with_sidecars
 
 test:
 	@tools/run_tests

@@ -211,6 +211,11 @@ class Uploads(unittest.TestCase):
         self.assertEqual(run(sys.executable, HERE / "with_sidecars").returncode, 2)
         self.assertFalse(self.ready.exists())
 
+    def test_help(self):
+        done = run(sys.executable, HERE / "with_sidecars", "--help")
+        self.assertEqual((done.stderr, done.returncode), ("", 0))
+        self.assertIn("with_sidecars FILE.changes FOLDER\n", done.stdout)
+
     def test_a_package_under_another_name(self):
         deb = self.built / self.build("hallo", "1.0-1")
         deb.rename(self.built / "other_1.0-1_all.deb")
