@@ -28,6 +28,21 @@ class WrongBodies(unittest.TestCase):
     def changed(self, text):
         return tool.changed(text, str(self.root / "crates/low"))
 
+    def edit(self, name):
+        return tool.Edit("low", f"{name}.edit", str(self.root / "tools/wrong_bodies/low"), False)
+
+    def written(self, name, old, new):
+        self.write(f"tools/wrong_bodies/low/{name}.edit", f"file: src/lib.rt\nold: {old}\nnew: {new}\n")
+        return self.edit(name)
+
+    def groups(self, *edits):
+        return tool.groups_of(edits, str(self.root / "crates/low"))
+
+    def refused(self, group, *lines):
+        """The names of those of a group that a check refuses which says these lines."""
+        said = "\n".join([*lines, "logic=not-proved crate=low"])
+        return {it.file.removesuffix(".edit") for it in tool.refused_in(said, group, str(self.root / "crates/low"))}
+
     def assert_fault(self, part):
         """One fault is found, and its line has this part."""
         faults = tool.faults_in(str(self.root))
@@ -99,6 +114,40 @@ class WrongBodies(unittest.TestCase):
         self.assertTrue(again.has("low/b", "3", "2"))
         self.assertFalse(again.has("low/b", "4", "2"))
         self.assertFalse(again.has("low/b", "3", "5"))
+
+    def test_functions_stand_between_their_lines(self):
+        found = tool.functions_of("src/lib.rt", SOURCE + "\nimpl Low {\n    pub fn three(&self) -> u8\n        ensures { result ≡ 3 }\n    {\n        3\n    }\n}\n")
+        self.assertEqual([(it.name, it.first, it.last) for it in found], [("one", 1, 3), ("two", 5, 7), ("three", 10, 14)])
+
+    def test_those_of_two_functions_are_tried_together(self):
+        is_two, is_three, is_nine = self.written("is_two", "    1", "    2"), self.edit("is_three"), self.written("is_nine", "one() + 1", "9")
+        self.assertEqual([[*it] for it in self.groups(is_two, is_three, is_nine)], [[is_two, is_three], [is_nine]])
+
+    def test_what_stands_in_no_function_is_tried_by_itself(self):
+        self.assertEqual(self.groups(self.written("answers_more", "fn one() -> u8 {", "fn one() -> u16 {")), [])
+
+    def test_a_check_refuses_those_whose_functions_it_names(self):
+        (group,) = self.groups(self.written("is_two", "    1", "    2"), self.edit("is_three"))
+        one, two = "note: src/lib.rt:2:5: it is not proved that", "note: src/lib.rt:5:1: it is not proved that"
+        self.assertEqual(self.refused(group, one), {"is_two"})
+        self.assertEqual(self.refused(group, two, one), {"is_two", "is_three"})
+        self.assertEqual(self.refused(group, "proofs/two/Answers.antt:3:1: error: expected"), {"is_three"})
+
+    def test_a_check_that_says_nothing_of_a_function_refuses_nothing_of_it(self):
+        (group,) = self.groups(self.written("is_two", "    1", "    2"), self.edit("is_three"))
+        for line in (
+            "fn low::two: no proof: it calls `low::one`, which is not proved",
+            "note: src/other.rt:2:5: it is not proved that",
+            "proofs/Type/deeper/two/Answers.antt:3:1: error: expected",
+            "proofs/two/Answers.antt:3:1: error: `one`: is not in scope",
+        ):
+            self.assertEqual(self.refused(group, line), set(), line)
+
+    def test_a_check_that_did_not_read_its_text_refuses_nothing(self):
+        (group,) = self.groups(self.written("is_two", "    1", "    2"), self.edit("is_three"))
+        self.assertEqual(self.refused(group, "src/lib.rt:2:5: error: `x`: is not in scope", "src/lib.rt:6:1: error: expected"), set())
+        found = tool.refused_in("note: src/lib.rt:2:5: it is not proved that", group, str(self.root / "crates/low"))
+        self.assertEqual(found, {})
 
     def test_what_rt_says_of_an_edit(self):
         self.assertEqual(tool.result_of("refused, as it must be: src/lib.rt:7:5: error"), "refused")
