@@ -116,8 +116,9 @@ class WrongBodies(unittest.TestCase):
         self.assertFalse(again.has("low/b", "3", "5"))
 
     def test_functions_stand_between_their_lines(self):
-        found = tool.functions_of("src/lib.rt", SOURCE + "\nimpl Low {\n    pub fn three(&self) -> u8\n        ensures { result ≡ 3 }\n    {\n        3\n    }\n}\n")
-        self.assertEqual([(it.name, it.first, it.last) for it in found], [("one", 1, 3), ("two", 5, 7), ("three", 10, 14)])
+        text = SOURCE + "\nimpl<A> Low<A> for Deep<A> {\n    /// Three.\n    #[inline]\n    pub fn three(&self) -> u8\n        ensures { result ≡ 3 }\n    {\n        3\n    }\n}\n"
+        found = tool.functions_of("src/at/it.rt", text)
+        self.assertEqual([it[1:] for it in found], [(("at", "it"), "one", 1, 1, 3), (("at", "it"), "two", 5, 5, 7), (("at", "it", "DeepLow"), "three", 10, 14, 16)])
 
     def test_those_of_two_functions_are_tried_together(self):
         is_two, is_three, is_nine = self.written("is_two", "    1", "    2"), self.edit("is_three"), self.written("is_nine", "one() + 1", "9")
