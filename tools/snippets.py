@@ -5,8 +5,11 @@ in place of those of the page. tools/test_using.py looks whether each text has a
 import contextlib
 import os
 import pathlib
+import pty
 import re
+import select
 import shlex
+import shutil
 import signal
 import socket
 import subprocess
@@ -147,18 +150,40 @@ class Room:
         ran = subprocess.run(["sh", "-ec", text], capture_output=True, text=True, errors="backslashreplace", check=False, **words)
         return ran.returncode, ran.stdout, ran.stderr
 
-    def start(self, words, cwd=None, port=None, out=None):
-        """Starts a program, which is ended with the room, and waits until it listens at a port."""
-        out = out or subprocess.DEVNULL
-        streams = {"stdin": subprocess.DEVNULL, "stdout": out, "stderr": subprocess.STDOUT}
-        process = subprocess.Popen(words, cwd=cwd or self.work, env=self.variables, start_new_session=True, **streams)
+    def read(self, name):
+        """The text of a file, which has a path from the folder."""
+        return pathlib.Path(self.folder, name).read_text(encoding="utf-8", errors="backslashreplace")
+
+    def start(self, words, port=None):
+        """Starts a program, which is ended with the room, and waits until it listens at a port. What it prints goes to the file `told`."""
+        words = [shutil.which(words[0], path=self.variables["PATH"]), *words[1:]]
+        with open(f"{self.folder}/told", "ab") as out:
+            streams = {"stdin": subprocess.DEVNULL, "stdout": out, "stderr": subprocess.STDOUT}
+            process = subprocess.Popen(words, cwd=self.work, env=self.variables, start_new_session=True, **streams)
         self.ending.callback(self.end, process)
         end = time.monotonic() + 20
         while port and not is_open(port):
             if process.poll() is not None or time.monotonic() > end:
-                raise RuntimeError(f"nothing listens at {port}: {words}")
+                raise RuntimeError(f"nothing listens at {port}: {words}: {self.read('told')}")
             time.sleep(0.01)
         return process
+
+    def typed(self, text, password):
+        """Runs a text by a shell at a terminal, at which this password is typed wherever one is asked for. Answers the status, and all
+        that was printed."""
+        number, terminal = pty.fork()
+        if not number:
+            os.chdir(self.work)
+            os.execvpe("sh", ["sh", "-ec", text], self.variables)
+        printed, asked = b"", 0
+        with contextlib.suppress(OSError):  # which is how a terminal ends
+            while select.select([terminal], [], [], 60)[0] and (part := os.read(terminal, 1 << 16)):
+                printed += part
+                if len(re.findall(rb"(?i)password[^\n]*: ?", printed)) > asked:
+                    asked += 1
+                    os.write(terminal, f"{password}\n".encode())
+        os.close(terminal)
+        return os.waitstatus_to_exitcode(os.waitpid(number, 0)[1]), printed.decode(errors="backslashreplace")
 
     def end(self, process):
         """Ends a program and all that it started."""

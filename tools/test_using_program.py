@@ -8,6 +8,7 @@ import os
 import pathlib
 import re
 import shutil
+import socket
 import subprocess
 import sys
 import threading
@@ -20,6 +21,7 @@ import uploads
 from clients import put_of
 from snippets import ROOT, built, commands_of, free_port, snippet
 from test_database import PROGRAM
+from test_failing import mounted
 
 HELLO = uploads.Package("hello", source=True)
 CHANGES = "hello_1.0-1_amd64.changes"
@@ -47,11 +49,11 @@ class Case(snippets.Case):
         """Serves the archive, and answers the port."""
         port = free_port()
         line = ["archive", "serve", "--db", "box.db", "--at", str(int(time.time())), *words, f"127.0.0.1:{port}", "1000"]
-        self.process = self.room.start(line, port=port, out=open(f"{self.room.folder}/told", "wb"))
+        self.process = self.room.start(line, port=port)
         return port
 
     def names(self):
-        return [os.path.basename(path) for path in pathlib.Path(self.room.work, "files").read_text().split()]
+        return [os.path.basename(path) for path in self.room.read("work/files").split()]
 
     def fails(self, text):
         """Runs a text that fails. Answers the status, and all that it prints."""
@@ -96,13 +98,9 @@ class Commands(Case):
         for last, wanted in ((None, now), (now - 1000, now), (now + 1000, now + 1000)):
             if last:
                 self.room.write("work/moment", f"{last}\n")
-            self.assertEqual(self.shell(f'{snippet("moment")}echo "$at"'), (self.room.folder and f"{self.moment(wanted)}\n"))
-
-    def moment(self, wanted):
-        """The moment that was remembered, which is this one or a few seconds more."""
-        found = int(pathlib.Path(self.room.work, "moment").read_text())
-        self.assertIn(found - wanted, range(60))
-        return found
+            printed = self.shell(f'{snippet("moment")}echo "$at"')
+            self.assertEqual(printed, self.room.read("work/moment"))
+            self.assertIn(int(printed) - wanted, range(60))
 
 
 class Rules(Case):
@@ -182,29 +180,24 @@ class Serving(Case):
 
     def check_log(self, line):
         """Checks that the log has such a line as the page's, with other numbers."""
-        told = pathlib.Path(self.room.folder, "told").read_text()
-        self.assertRegex(told, "(?m)^" + re.sub(r"(?<= )\\?\d+(?= |$)|^\d+", r"\\d+", re.escape(line.strip()).replace(r"\ ", " ")) + "$")
+        self.assertRegex(self.room.read("told"), "(?m)^" + re.sub(r"(?<= )\\?\d+(?= |$)|^\d+", r"\\d+", re.escape(line.strip()).replace(r"\ ", " ")) + "$")
 
     @needs("dpkg-deb", "curl")
     def test_a_refusal_by_curl_tells_the_fault(self):
         self.ready()
         self.spoil()
         text = snippet("curl", self.at(self.serve()))
-        with open(f"{self.room.folder}/printed", "wb") as out:
-            self.room.start(["sh", "-ec", text], out=out)
-        self.wait_for("printed", "Q3 C4\n")
+        self.room.start(["sh", "-ec", text])
+        end = time.monotonic() + 20
+        while "Q3 C4\n" not in self.room.read("told"):
+            self.assertLess(time.monotonic(), end)
+            time.sleep(0.05)
 
     def spoil(self):
         """Has the .changes be of another format, which is refused, and be the one file that is uploaded."""
         path = pathlib.Path(self.room.work, "ready", CHANGES)
         path.write_text(snippets.changed(path.read_text(), {"Format: 1.8": "Format: 1.7"}))
         self.room.write("work/files", f"ready/{CHANGES}\n")
-
-    def wait_for(self, name, text):
-        end = time.monotonic() + 20
-        while text not in pathlib.Path(self.room.folder, name).read_text():
-            self.assertLess(time.monotonic(), end, text)
-            time.sleep(0.05)
 
     @needs("dpkg-deb", "dput")
     def test_uploading_by_dput(self):
@@ -239,7 +232,7 @@ class Serving(Case):
         port = free_port()
         address = {"127.0.0.1:8080": f"127.0.0.1:{port}"}
         [serve] = commands_of(snippet("box.service", {**address, "/usr/local/bin/archive": "archive"}))
-        self.room.start(serve, port=port, out=open(f"{self.room.folder}/told", "wb"))
+        self.room.start(serve, port=port)
         self.shell(snippet("curl", self.at(port)))
         # The moment that the service began with is the least; a greater one in the file is taken up.
         commands = commands_of(snippet("queue.service", {**address, "date +%%s": f"echo {int(time.time()) + 3600}"}))
@@ -247,8 +240,8 @@ class Serving(Case):
             ran = subprocess.run(words, cwd=self.room.work, env=self.room.variables, capture_output=True, text=True, check=False, timeout=60)
             self.assertEqual((ran.returncode, ran.stderr), (0, ""))
         self.assertEqual(ran.stdout, f"accepted {CHANGES}\n")
-        moment = pathlib.Path(self.room.work, "now").read_text().strip()
-        self.assertIn(f"{moment} POST /queue/run 200 ", pathlib.Path(self.room.folder, "told").read_text())
+        moment = self.room.read("work/now").strip()
+        self.assertIn(f"{moment} POST /queue/run 200 ", self.room.read("told"))
         [moment, run] = commands_of(snippet("queue.service"))
         self.assertEqual(moment, ["/bin/sh", "-c", "date +%s > now.new && mv now.new now"])
 
@@ -269,8 +262,6 @@ class Copies(Case):
 
     def asked(self, port, request):
         """The status that is answered."""
-        import socket
-
         with socket.create_connection(("127.0.0.1", port), timeout=60) as it:
             it.sendall(request)
             return int(it.makefile("rb").readline().split()[1])
@@ -387,8 +378,6 @@ class Refusals(Case):
 
     @unittest.skipUnless(os.geteuid() == 0 and shutil.which("mount"), "only root can mount a file system that fills")
     def test_a_full_disk(self):
-        from test_failing import mounted
-
         with mounted(4_000_000) as folder:
             if not folder:
                 self.skipTest("no file system can be mounted here")
