@@ -81,10 +81,13 @@ def commands_of(unit):
     return [shlex.split(line.replace("%%", "%")) for line in re.findall(r"^ExecStart=(.*)$", unit, re.M)]
 
 
-def free_port():
-    with socket.socket() as it:
-        it.bind(("127.0.0.1", 0))
-        return it.getsockname()[1]
+def free_port(ports=(0,)):
+    """A port of these that is free. Of 0 it is any."""
+    for port in ports:
+        with contextlib.suppress(OSError), socket.socket() as it:
+            it.bind(("127.0.0.1", port))
+            return it.getsockname()[1]
+    raise OSError("no port is free")
 
 
 def built(folder, package):

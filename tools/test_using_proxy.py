@@ -20,6 +20,8 @@ from test_using_program import needs
 HELLO = uploads.Package("hello", source=True)
 DEB = "pool/main/h/hello/hello_1.0-1_amd64.deb"
 PASSWORD = "a secret"
+# apt-cacher-ng takes none above.
+LOW_PORTS = range(20_000, 32_768)
 KEYRING = "/usr/share/keyrings/box.gpg"
 MISSING = [name for name in ("curl", "dpkg-deb", "nginx", "openssl") if not shutil.which(name)]
 
@@ -29,7 +31,7 @@ class Site(snippets.Room):
 
     def __init__(self):
         super().__init__()
-        self.behind, self.front = free_port(), free_port()
+        self.behind, self.front = free_port(), free_port(LOW_PORTS)
         self.url = f"https://localhost:{self.front}"
         self.keyring = f"{self.work}/signed/box.gpg"
         certificate = self.certificate()[0]
@@ -174,21 +176,22 @@ class Proxy(unittest.TestCase):
     def test_a_cache_at_a_site(self):
         changes = self.signed()
         del changes["https://archive.example.org"]
-        port, folder = free_port(), f"{self.site.folder}/cacher"
+        port, folder = free_port(LOW_PORTS), f"{self.site.folder}/cacher"
         self.site.write("cacher/box.conf", snippet("cache", {"https://archive.example.org": self.site.url}))
         os.mkdir(f"{folder}/cache")
-        words = ["ForeGround=1", f"Port={port}", "BindAddress=localhost", f"CacheDir={folder}/cache", f"LogDir={folder}"]
+        words = ["ForeGround=1", f"Port={port}", "BindAddress=127.0.0.1", f"CacheDir={folder}/cache", f"LogDir={folder}"]
         words += [f"SocketPath={folder}/socket", f"CAfile={self.site.folder}/certificate.pem", "CApath=", "SupportDir=/usr/lib/apt-cacher-ng"]
         self.site.start(["apt-cacher-ng", "-c", folder, *words], port=port)
-        sources = snippet("cached", {**changes, "cache.example.org:3142": f"localhost:{port}"})
+        sources = snippet("cached", {**changes, "cache.example.org:3142": f"127.0.0.1:{port}"})
         self.check_installs(sources)
         # A new release is seen by the next update, and what was fetched is there without the archive.
+        time.sleep(1.1)  # since a file of the same second counts as the same
         self.site.upload(uploads.Package("another"))
         self.site.sign()
         self.check_installs(sources)
         self.site.sure("apt-get download another")
         self.site.end(self.site.serving)
-        self.assertEqual(self.site.sure(f"curl -sS --fail -o cached http://localhost:{port}/box/{DEB}; cmp cached ../hello_1.0-1_amd64.deb"), "")
+        self.assertEqual(self.site.sure(f"curl -sS --fail -o cached http://127.0.0.1:{port}/box/{DEB}; cmp cached ../hello_1.0-1_amd64.deb"), "")
 
     @needs("gpg", "apt-get", "debmirror")
     def test_a_static_mirror(self):
