@@ -106,6 +106,7 @@ Dir::State::status "{base}/status";
 APT::Architecture "amd64";
 APT::Architectures {{ "amd64"; }};
 APT::Sandbox::User "root";
+Acquire::Retries "1";
 Acquire::https::CAInfo "{certificate}";
 """
 
@@ -116,6 +117,12 @@ uwsgi_temp_path {folder}/uwsgi; scgi_temp_path {folder}/scgi;
 {text}
 }}
 """
+
+
+def needs(*names):
+    """Skips a test where one of these programs is not there."""
+    missing = [name for name in names if not shutil.which(name)]
+    return unittest.skipIf(missing, f"there is no {', no '.join(missing)}")
 
 
 class Room:
@@ -203,23 +210,24 @@ class Room:
             subprocess.run(words, check=True, capture_output=True, timeout=60)
         return paths
 
-    def nginx(self, port, behind):
+    def nginx(self, port, behind, changes=()):
         """Writes the page's text for nginx as a whole configuration, which listens at a port, and has the archive at another, with all
-        its files in the room. Answers its path."""
+        its files in the room, and other words in place of some. Answers its path."""
         certificate, key = self.certificate()
-        os.makedirs(f"{self.folder}/nginx", exist_ok=True)
+        folder = tempfile.mkdtemp(dir=self.folder)
         text = snippet("nginx", {
             "/etc/nginx/archive.pem": certificate,
             "/etc/nginx/archive.key": key,
             "/etc/nginx/uploaders": f"{self.folder}/uploaders",
-            "/var/cache/nginx/box": f"{self.folder}/nginx/cache",
+            "/var/cache/nginx/box": f"{folder}/cache",
             "/srv/box/signed": f"{self.work}/signed",
             "listen 443 ssl": f"listen 127.0.0.1:{port} ssl",
             "http://127.0.0.1:8080": f"http://127.0.0.1:{behind}",
             "archive.example.org": "localhost",
+            **dict(changes),
         })
         user = "user root; " if os.geteuid() == 0 else ""
-        return self.write("nginx/nginx.conf", NGINX.format(user=user, folder=f"{self.folder}/nginx", text=text))
+        return self.write(f"{folder}/nginx.conf", NGINX.format(user=user, folder=folder, text=text))
 
     def apt(self, sources):
         """Makes an apt of its own, with a sources.list of this text, which apt-get uses from then on."""

@@ -19,19 +19,13 @@ sys.dont_write_bytecode = True
 import snippets
 import uploads
 from clients import put_of
-from snippets import ROOT, built, commands_of, free_port, snippet
+from snippets import ROOT, built, commands_of, free_port, needs, snippet
 from test_database import PROGRAM
 from test_failing import mounted
 
 HELLO = uploads.Package("hello", source=True)
 CHANGES = "hello_1.0-1_amd64.changes"
 PACKAGES = "dists/box/main/binary-amd64/Packages"
-
-
-def needs(*names):
-    """Skips a test where one of these programs is not there."""
-    missing = [name for name in names if not shutil.which(name)]
-    return unittest.skipIf(missing, f"there is no {', no '.join(missing)}")
 
 
 @unittest.skipUnless(os.path.exists(PROGRAM), f"there is no program {PROGRAM}")

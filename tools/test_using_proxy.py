@@ -4,7 +4,6 @@ test's own; logins, dput over https, the signature beside the archive with apt, 
 program is that of test_database.py. Where a tool is not there, the test says that it was skipped."""
 import os
 import pathlib
-import shutil
 import subprocess
 import sys
 import time
@@ -13,9 +12,8 @@ import unittest
 sys.dont_write_bytecode = True
 import snippets
 import uploads
-from snippets import built, free_port, snippet
+from snippets import built, free_port, needs, snippet
 from test_database import PROGRAM
-from test_using_program import needs
 
 HELLO = uploads.Package("hello", source=True)
 DEB = "pool/main/h/hello/hello_1.0-1_amd64.deb"
@@ -23,7 +21,6 @@ PASSWORD = "a secret"
 # apt-cacher-ng takes none above.
 LOW_PORTS = range(20_000, 32_768)
 KEYRING = "/usr/share/keyrings/box.gpg"
-MISSING = [name for name in ("curl", "dpkg-deb", "nginx", "openssl") if not shutil.which(name)]
 
 
 class Site(snippets.Room):
@@ -64,7 +61,7 @@ class Site(snippets.Room):
 
     def log_in(self):
         """Makes the login of the page."""
-        text = snippet("login", {"/var/cache/nginx": f"{self.folder}/nginx", "/etc/nginx": self.folder})
+        text = snippet("login", {"/var/cache/nginx": f"{self.folder}/cache", "/etc/nginx": self.folder})
         return self.typed(text, PASSWORD)
 
     def sign(self):
@@ -77,7 +74,7 @@ class Site(snippets.Room):
 
 
 @unittest.skipUnless(os.path.exists(PROGRAM), f"there is no program {PROGRAM}")
-@unittest.skipIf(MISSING, f"there is no {', no '.join(MISSING)}")
+@needs("curl", "dpkg-deb", "nginx", "openssl")
 class Proxy(unittest.TestCase):
     def setUp(self):
         self.site = Site()
@@ -114,12 +111,13 @@ class Proxy(unittest.TestCase):
         self.assertEqual(self.site.sure(f"curl -sS {login} {self.site.url}/verdicts"), "accepted hello_1.0-1_amd64.changes\n")
 
     def test_what_is_not_listed_cannot_be_reached(self):
+        self.site.write("uploaders", f"ann:{{PLAIN}}{PASSWORD}\n")
         for path, words, wanted in (
             ("queue/run", "-X POST", "404 405"),
             ("copy/box/box/hello", "-X POST", "404 405"),
             ("queue", "-X POST", "403"),
             ("incoming/hello_1.0-1_amd64.deb", "-T box.conf", "401"),
-            ("incoming/hello_1.0-1_amd64.deb", "-T box.conf -u ann:guess", "401 403 500"),
+            ("incoming/hello_1.0-1_amd64.deb", "-T box.conf -u ann:guess", "401"),
             ("verdicts", "", "401"),
             ("other", "", "404"),
             ("dists/box/Release", "", "200"),
@@ -138,8 +136,15 @@ class Proxy(unittest.TestCase):
 
     def test_the_pool_is_handed_out_while_the_archive_is_away(self):
         self.site.upload(HELLO)
+        # A second proxy holds files to be new for a second, and not for ten minutes.
+        port = free_port()
+        self.site.start(["nginx", "-c", self.site.nginx(port, self.site.behind, {"valid 200 10m": "valid 200 1s"})], port=port)
+        other = f"curl -sS --fail -o other https://localhost:{port}/{DEB}; cmp other ../hello_1.0-1_amd64.deb"
+        self.site.sure(other)
         self.assertEqual((self.status(DEB), self.status("dists/box/Release")), ("200", "200"))
         self.site.end(self.site.serving)
+        time.sleep(1.1)
+        self.site.sure(other)
         self.assertEqual((self.status(DEB), self.status("dists/box/Release")), ("200", "502"))
         self.site.serve()
         self.assertEqual(self.status("dists/box/Release"), "200")
