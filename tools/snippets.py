@@ -54,10 +54,13 @@ PIECES = {
 }
 
 
+def page():
+    return (ROOT / "docs/USING.md").read_text(encoding="utf-8")
+
+
 def all_snippets():
     """The texts of the page that are set in by four blanks or more, each without them."""
-    page = (ROOT / "docs/USING.md").read_text(encoding="utf-8")
-    found = re.findall(r"(?:^ {4,}\S.*\n(?:\n(?= {4}))*)+", page, re.M)
+    found = re.findall(r"(?:^ {4,}\S.*\n(?:\n(?= {4}))*)+", page(), re.M)
     return [textwrap.dedent(text) for text in found]
 
 
@@ -210,12 +213,12 @@ class Room:
             subprocess.run(words, check=True, capture_output=True, timeout=60)
         return paths
 
-    def nginx(self, port, behind, changes=()):
+    def nginx(self, text, port, behind):
         """Writes the page's text for nginx as a whole configuration, which listens at a port, and has the archive at another, with all
-        its files in the room, and other words in place of some. Answers its path."""
+        its files in the room. Answers its path."""
         certificate, key = self.certificate()
         folder = tempfile.mkdtemp(dir=self.folder)
-        text = snippet("nginx", {
+        text = changed(text, {
             "/etc/nginx/archive.pem": certificate,
             "/etc/nginx/archive.key": key,
             "/etc/nginx/uploaders": f"{self.folder}/uploaders",
@@ -224,7 +227,6 @@ class Room:
             "listen 443 ssl": f"listen 127.0.0.1:{port} ssl",
             "http://127.0.0.1:8080": f"http://127.0.0.1:{behind}",
             "archive.example.org": "localhost",
-            **dict(changes),
         })
         user = "user root; " if os.geteuid() == 0 else ""
         return self.write(f"{folder}/nginx.conf", NGINX.format(user=user, folder=folder, text=text))

@@ -24,6 +24,7 @@ class Using(snippets.Case):
         return ran.stderr
 
     def test_each_text_that_is_set_in_has_one_name(self):
+        self.assertNotIn("```", snippets.page())
         for text in snippets.all_snippets():
             with self.subTest(text):
                 self.assertEqual(len([name for name, piece in snippets.PIECES.items() if piece in text]), 1)
@@ -49,7 +50,7 @@ class Using(snippets.Case):
     @unittest.skipUnless(shutil.which("nginx") and shutil.which("openssl"), "there is no nginx, or no openssl")
     def test_the_text_for_nginx_is_right(self):
         """It is taken with other paths for the certificate, the cache and the logins, and with a port that needs no right."""
-        path = self.room.nginx(snippets.free_port(), 8080)
+        path = self.room.nginx(snippet("nginx"), snippets.free_port(), 8080)
         self.assertIn("test is successful", self.passes("nginx", "-t", "-c", path))
 
 
