@@ -1,84 +1,56 @@
 #!/usr/bin/env python3
-"""Tests of docs/USING.md: its units of systemd and its text for nginx are right as they stand there. Where systemd-analyze, nginx or
-openssl is not there, the test says that it was skipped."""
+"""Tests of docs/USING.md that need no built program: each text that is set in there is one that a test asks for, its units of systemd
+and its text for nginx are right as they stand there. Where systemd-analyze, nginx or openssl is not there, the test says that it was
+skipped. What it shows is run by test_using_program.py and test_using_proxy.py."""
 import os
+import pathlib
+import re
 import shutil
 import subprocess
-import tempfile
+import sys
 import unittest
 
-ROOT = os.path.dirname(os.path.dirname(os.path.abspath(__file__)))
-# How each unit begins in the page.
-UNITS = {
-    "box.service": "    Description=The package archive box\n",
-    "queue.service": "    Description=One run of the queue of box\n",
-    "queue.timer": "    Description=Runs the queue of box each minute\n",
-}
+sys.dont_write_bytecode = True
+import snippets
+from snippets import snippet
+
+HERE = pathlib.Path(__file__).resolve().parent
 
 
-def snippets():
-    """The texts of the page that are set in by four blanks, each without them. A unit is cut before the next one."""
-    with open(f"{ROOT}/docs/USING.md", encoding="utf-8") as it:
-        lines = it.read().split("\n")
-    found = [[]]
-    for line in lines:
-        if line.startswith("    ") or (not line and found[-1]):
-            if line == "    [Unit]":
-                found.append([])
-            found[-1].append(line)
-        elif found[-1]:
-            found.append([])
-    return ["\n".join(line[4:] for line in text).rstrip("\n") + "\n" for text in found if text]
-
-
-class Using(unittest.TestCase):
-    def setUp(self):
-        room = tempfile.TemporaryDirectory()
-        self.addCleanup(room.cleanup)
-        self.folder = room.name
-
-    def written(self, name, text):
-        path = f"{self.folder}/{name}"
-        with open(path, "w", encoding="utf-8") as it:
-            it.write(text)
-        return path
-
+class Using(snippets.Case):
     def passes(self, *words):
-        ran = subprocess.run(words, capture_output=True, text=True, check=False, timeout=60)
+        ran = subprocess.run(words, capture_output=True, text=True, check=False, timeout=60, env={**os.environ, **self.room.variables})
         self.assertEqual((ran.returncode, ran.stdout), (0, ""), ran.stderr)
         return ran.stderr
 
-    def one(self, piece):
-        """The one snippet that has this piece."""
-        found = [text for text in snippets() if piece in text]
-        self.assertEqual(len(found), 1, piece)
-        return found[0]
+    def test_each_text_that_is_set_in_has_one_name(self):
+        self.assertNotIn("```", snippets.page())
+        for text in snippets.all_snippets():
+            with self.subTest(text):
+                self.assertEqual(len([name for name, piece in snippets.PIECES.items() if piece in text]), 1)
+        for name in snippets.PIECES:
+            with self.subTest(name):
+                self.assertTrue(snippet(name))
+
+    def test_each_name_is_one_that_a_test_asks_for(self):
+        tests = "".join(it.read_text(encoding="utf-8") for it in HERE.glob("test_using*.py"))
+        self.assertEqual(set(snippets.PIECES) - set(re.findall(r'snippet\("([^"]+)"', tests)), set())
 
     @unittest.skipUnless(shutil.which("systemd-analyze"), "there is no systemd-analyze")
     def test_the_units_are_right(self):
-        for name, line in UNITS.items():
-            text = self.one(line.removeprefix("    "))
-            # The program need not be installed here.
-            path = self.written(name, text.replace("/usr/local/bin/archive", "/bin/true"))
-            self.assertEqual(self.passes("systemd-analyze", "verify", path), "")
+        # The programs need not be installed here.
+        self.room.write("units/box.service", snippet("box.service", {"/usr/local/bin/archive": "/bin/true"}))
+        self.room.write("units/queue.service", snippet("queue.service"))
+        self.room.write("units/queue.service.d/sign.conf", snippet("sign.conf", {"/srv/box/sign": "/bin/true"}))
+        self.room.write("units/queue.timer", snippet("queue.timer"))
+        self.room.variables["SYSTEMD_UNIT_PATH"] = f"{self.room.folder}/units:"
+        for name in ("box.service", "queue.service", "queue.timer"):
+            self.assertEqual(self.passes("systemd-analyze", "verify", f"{self.room.folder}/units/{name}"), "")
 
     @unittest.skipUnless(shutil.which("nginx") and shutil.which("openssl"), "there is no nginx, or no openssl")
     def test_the_text_for_nginx_is_right(self):
         """It is taken with other paths for the certificate, the cache and the logins, and with a port that needs no right."""
-        key, certificate = f"{self.folder}/key.pem", f"{self.folder}/certificate.pem"
-        self.passes("openssl", "req", "-x509", "-newkey", "rsa:2048", "-nodes", "-keyout", key, "-out", certificate, "-days", "2", "-subj", "/CN=localhost")
-        text = self.one("proxy_cache_path")
-        for there, here in (
-            ("/etc/nginx/archive.pem", certificate),
-            ("/etc/nginx/archive.key", key),
-            ("/etc/nginx/uploaders", self.written("uploaders", "ann:{PLAIN}x\n")),
-            ("/var/cache/nginx/box", f"{self.folder}/cache"),
-            ("listen 443 ssl", "listen 127.0.0.1:18443 ssl"),
-        ):
-            self.assertIn(there, text)
-            text = text.replace(there, here)
-        around = "pid {0}/pid; error_log {0}/errors; events {{}} http {{ access_log off; {1} }}"
-        path = self.written("nginx.conf", around.format(self.folder, text))
+        path = self.room.nginx(snippet("nginx"), snippets.free_port(), 8080)
         self.assertIn("test is successful", self.passes("nginx", "-t", "-c", path))
 
 
