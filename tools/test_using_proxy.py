@@ -127,6 +127,18 @@ class Proxy(unittest.TestCase):
                 self.assertIn(self.status(path, words), wanted.split())
         self.assertEqual(self.site.sure(f"curl -sS http://127.0.0.1:{self.site.behind}/queue"), "")
 
+    def test_each_way_to_write_a_path(self):
+        """As apt writes it, with two slashes as debmirror does, and with escapes."""
+        self.site.upload(uploads.Package("libc++1", version="1.0~rc1+b2-1"))
+        wanted = pathlib.Path(self.site.folder, "libc++1_1.0~rc1+b2-1_amd64.deb").read_bytes()
+        for name in ("libc++1/libc++1_1.0~rc1+b2-1_amd64.deb", "libc%2b%2b1/libc%2B%2B1_1.0%7erc1%2bb2-1_amd64.deb"):
+            for front in ("pool/", "/pool/", "pool//", "pool/", "dists/../pool/"):
+                path = f"{front}main/libc/{name}"
+                self.site.sure(f"curl -sS --fail --path-as-is -o got {self.site.url}/{path}")
+                self.assertEqual(pathlib.Path(self.site.work, "got").read_bytes(), wanted, path)
+        for path in ("dists/box/Release", "/dists/box/Release", "/dists/box//main/binary-amd64/Packages", "dists/box/main/source/Sources"):
+            self.assertEqual(self.status(path, "--path-as-is"), "200", path)
+
     def test_the_largest_file_passes(self):
         body = uploads.deb_of(uploads.Package("large", pad=4_190_000))
         self.site.write("uploaders", f"ann:{{PLAIN}}{PASSWORD}\n")
