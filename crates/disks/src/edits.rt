@@ -1,11 +1,11 @@
 //! Statements that are given to databases past the archive.
 
+use crate::broken::Broken;
 use crate::filed::{Unopened, closed, connected};
 use keep::KeepFault;
 use keep_open::open;
 use rows::{Unread, said, text_of};
 use sqlite::{Alter, Connection, Error, Files};
-use sqlite_disk::Memory;
 use std::alloc::Global;
 
 /// What is done with a database.
@@ -38,12 +38,12 @@ impl Edit for Count<'_> {
 /// Files behind an edit, the log copied into the database file, and what the edit answered; nothing where there is no database.
 #[derive(Drop)]
 pub struct Edited {
-    pub files: Files<Memory>,
+    pub files: Files<Broken>,
     pub rows: Option<usize>,
 }
 
 /// Edits the database that files hold.
-pub fn edit_files<E: Edit>(alloc: Global, files: Files<Memory>, edit: &E) -> Edited {
+pub fn edit_files<E: Edit>(alloc: Global, files: Files<Broken>, edit: &E) -> Edited {
     match connected(alloc, files) {
         Ok(mut connection) => {
             let rows = edit.edit(&mut connection).ok();
@@ -59,9 +59,9 @@ pub fn edit_files<E: Edit>(alloc: Global, files: Files<Memory>, edit: &E) -> Edi
 /// The files behind these lists of statements, where they can be run.
 pub fn changed(
     alloc: Global,
-    files: Files<Memory>,
+    files: Files<Broken>,
     lists: &[Vec<u8>],
-) -> Result<Option<Files<Memory>>, Unread> {
+) -> Result<Option<Files<Broken>>, Unread> {
     let mut files = files;
     for list in lists {
         let edited = edit_files(alloc, files, &Batch(text_of(list)?));
@@ -106,7 +106,7 @@ fn opening_within<S: Alter + Drop>(
 }
 
 /// What an opening makes of the database that files hold, in a transaction and behind its end.
-pub fn in_transaction(alloc: Global, files: Files<Memory>) -> Result<Vec<u8>, Unread> {
+pub fn in_transaction(alloc: Global, files: Files<Broken>) -> Result<Vec<u8>, Unread> {
     match connected(alloc, files) {
         Ok(connection) => opening_within(alloc, connection),
         Err(_unopened) => said(alloc, "no database"),
