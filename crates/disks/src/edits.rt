@@ -6,6 +6,7 @@ use keep::KeepFault;
 use keep_open::open;
 use rows::{Unread, said, text_of};
 use sqlite::{Alter, Connection, Error, Files};
+use sqlite_disk::Disk;
 use std::alloc::Global;
 
 /// What is done with a database.
@@ -37,13 +38,13 @@ impl Edit for Count<'_> {
 
 /// Files behind an edit, the log copied into the database file, and what the edit answered; nothing where there is no database.
 #[derive(Drop)]
-pub struct Edited {
-    pub files: Files<Broken>,
+pub struct Edited<D: Disk> {
+    pub files: Files<D>,
     pub rows: Option<usize>,
 }
 
-/// Edits the database that files hold.
-pub fn edit_files<E: Edit>(alloc: Global, files: Files<Broken>, edit: &E) -> Edited {
+/// Edits the database that files hold, on any disks.
+fn edited_on<D: Disk + Drop, E: Edit>(alloc: Global, files: Files<D>, edit: &E) -> Edited<D> {
     match connected(alloc, files) {
         Ok(mut connection) => {
             let rows = edit.edit(&mut connection).ok();
@@ -54,6 +55,11 @@ pub fn edit_files<E: Edit>(alloc: Global, files: Files<Broken>, edit: &E) -> Edi
         }
         Err(Unopened { files, fault: _ }) => Edited { files, rows: None },
     }
+}
+
+/// Edits the database that files hold.
+pub fn edit_files<E: Edit>(alloc: Global, files: Files<Broken>, edit: &E) -> Edited<Broken> {
+    edited_on::<Broken, E>(alloc, files, edit)
 }
 
 /// The files behind these lists of statements, where they can be run.
@@ -105,8 +111,8 @@ fn opening_within<S: Alter + Drop>(
     }
 }
 
-/// What an opening makes of the database that files hold, in a transaction and behind its end.
-pub fn in_transaction(alloc: Global, files: Files<Broken>) -> Result<Vec<u8>, Unread> {
+/// What an opening makes of the database that files hold, on any disks, in a transaction and behind its end.
+pub fn in_transaction<D: Disk + Drop>(alloc: Global, files: Files<D>) -> Result<Vec<u8>, Unread> {
     match connected(alloc, files) {
         Ok(connection) => opening_within(alloc, connection),
         Err(_unopened) => said(alloc, "no database"),

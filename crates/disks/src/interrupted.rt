@@ -256,7 +256,7 @@ impl<'a> Interruption<'a> {
     }
 
     /// Does the step in files of which one fails behind so many calls.
-    fn tried(&self, alloc: Global, calls: u64) -> Result<Left<Outcome>, Unread> {
+    fn tried(&self, alloc: Global, calls: u64) -> Result<Left<Broken, Outcome>, Unread> {
         let files = failing_copies(alloc, self.before, self.which, self.kind, calls)?;
         done(alloc, files, self.step.begin(), &self.attempt())
     }

@@ -1,4 +1,5 @@
-//! What is done with archives in files.
+//! What is done with archives in files. Functions that name the store of files are over any disk: where both are named, the prover
+//! runs out of steps.
 
 use crate::broken::Broken;
 use crate::filed::{Filed, Tabled, Unopened};
@@ -7,6 +8,7 @@ use queue::Archive;
 use rows::{Unread, said};
 use rules::Config;
 use sqlite::Files;
+use sqlite_disk::Disk;
 use std::alloc::Global;
 
 /// What is done with an archive.
@@ -45,17 +47,17 @@ pub enum Begin<'a> {
 
 /// What is left of files, and what came of a task, or the fault where there was no archive.
 #[derive(Drop)]
-pub struct Left<A> {
-    pub files: Files<Broken>,
+pub struct Left<D: Disk, A> {
+    pub files: Files<D>,
     pub answer: Result<A, KeepFault>,
 }
 
 /// The keeper of an archive in files.
-fn begun<K: Filed<Broken>>(
+fn begun<D: Disk + Drop, K: Filed<D>>(
     alloc: Global,
-    files: Files<Broken>,
+    files: Files<D>,
     begin: Begin<'_>,
-) -> Result<Result<K, Unopened<Broken>>, Unread> {
+) -> Result<Result<K, Unopened<D>>, Unread> {
     match begin {
         Begin::Opening => Ok(K::of_files(alloc, files)),
         Begin::Making(config) => match Config::read(alloc, config) {
@@ -66,11 +68,11 @@ fn begun<K: Filed<Broken>>(
 }
 
 /// Does a task with the archive of a keeper, and gives its files back.
-fn performed<K: Filed<Broken>, T: Task>(
+fn performed<D: Disk + Drop, K: Filed<D>, T: Task>(
     alloc: Global,
     keeper: K,
     task: &T,
-) -> Result<Left<T::Answer>, Unread> {
+) -> Result<Left<D, T::Answer>, Unread> {
     let mut archive = Archive::new(keeper);
     let answer = task.perform(alloc, &mut archive)?;
     Ok(Left {
@@ -80,13 +82,13 @@ fn performed<K: Filed<Broken>, T: Task>(
 }
 
 /// Does a task with the archive in files, over any keeper.
-fn done_over<K: Filed<Broken>, T: Task>(
+fn done_over<D: Disk + Drop, K: Filed<D>, T: Task>(
     alloc: Global,
-    files: Files<Broken>,
+    files: Files<D>,
     begin: Begin<'_>,
     task: &T,
-) -> Result<Left<T::Answer>, Unread> {
-    match begun::<K>(alloc, files, begin)? {
+) -> Result<Left<D, T::Answer>, Unread> {
+    match begun::<D, K>(alloc, files, begin)? {
         Ok(keeper) => performed(alloc, keeper, task),
         Err(Unopened { files, fault }) => Ok(Left {
             files,
@@ -95,18 +97,28 @@ fn done_over<K: Filed<Broken>, T: Task>(
     }
 }
 
+/// Does a task with the archive in files, on any disks.
+fn done_on<D: Disk + Drop, T: Task>(
+    alloc: Global,
+    files: Files<D>,
+    begin: Begin<'_>,
+    task: &T,
+) -> Result<Left<D, T::Answer>, Unread> {
+    done_over::<D, Tabled<D>, T>(alloc, files, begin, task)
+}
+
 /// Does a task with the archive in files.
 pub fn done<T: Task>(
     alloc: Global,
     files: Files<Broken>,
     begin: Begin<'_>,
     task: &T,
-) -> Result<Left<T::Answer>, Unread> {
-    done_over::<Tabled<Broken>, T>(alloc, files, begin, task)
+) -> Result<Left<Broken, T::Answer>, Unread> {
+    done_on::<Broken, T>(alloc, files, begin, task)
 }
 
 /// The files of the archive in files, the log copied into the database file, over any keeper.
-fn closed_over<K: Filed<Broken>>(alloc: Global, files: Files<Broken>) -> Left<()> {
+fn closed_over<D: Disk + Drop, K: Filed<D>>(alloc: Global, files: Files<D>) -> Left<D, ()> {
     match K::of_files(alloc, files) {
         Ok(keeper) => Left {
             files: keeper.into_closed_files(),
@@ -119,9 +131,9 @@ fn closed_over<K: Filed<Broken>>(alloc: Global, files: Files<Broken>) -> Left<()
     }
 }
 
-/// Opens the archive in files, and copies the log into the database file.
-pub fn reopened(alloc: Global, files: Files<Broken>) -> Left<()> {
-    closed_over::<Tabled<Broken>>(alloc, files)
+/// Opens the archive in files, on any disks, and copies the log into the database file.
+pub fn reopened<D: Disk + Drop>(alloc: Global, files: Files<D>) -> Left<D, ()> {
+    closed_over::<D, Tabled<D>>(alloc, files)
 }
 
 /// A fault of a keeper, as it is printed.
