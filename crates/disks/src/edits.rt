@@ -1,4 +1,4 @@
-//! Statements that are given to databases past the archive.
+//! Statements that are given to databases past the archive. As in `tasks`, functions that name the store of files are over any disk.
 
 use crate::broken::Broken;
 use crate::filed::{Unopened, closed, connected};
@@ -111,10 +111,15 @@ fn opening_within<S: Alter + Drop>(
     }
 }
 
-/// What an opening makes of the database that files hold, on any disks, in a transaction and behind its end.
-pub fn in_transaction<D: Disk + Drop>(alloc: Global, files: Files<D>) -> Result<Vec<u8>, Unread> {
+/// The same of the database that files hold, on any disks.
+fn in_transaction_on<D: Disk + Drop>(alloc: Global, files: Files<D>) -> Result<Vec<u8>, Unread> {
     match connected(alloc, files) {
         Ok(connection) => opening_within(alloc, connection),
         Err(_unopened) => said(alloc, "no database"),
     }
+}
+
+/// What an opening makes of the database that files hold, in a transaction and behind its end.
+pub fn in_transaction(alloc: Global, files: Files<Broken>) -> Result<Vec<u8>, Unread> {
+    in_transaction_on::<Broken>(alloc, files)
 }

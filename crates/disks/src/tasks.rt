@@ -132,8 +132,13 @@ fn closed_over<D: Disk + Drop, K: Filed<D>>(alloc: Global, files: Files<D>) -> L
 }
 
 /// Opens the archive in files, on any disks, and copies the log into the database file.
-pub fn reopened<D: Disk + Drop>(alloc: Global, files: Files<D>) -> Left<D, ()> {
+fn reopened_on<D: Disk + Drop>(alloc: Global, files: Files<D>) -> Left<D, ()> {
     closed_over::<D, Tabled<D>>(alloc, files)
+}
+
+/// Opens the archive in files, and copies the log into the database file.
+pub fn reopened(alloc: Global, files: Files<Broken>) -> Left<Broken, ()> {
+    reopened_on::<Broken>(alloc, files)
 }
 
 /// A fault of a keeper, as it is printed.
