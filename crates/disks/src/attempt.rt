@@ -23,6 +23,17 @@ pub enum Outcome {
     Otherwise(Vec<u8>),
 }
 
+impl Outcome {
+    /// Whether the step was done, as far as its outcome tells.
+    pub fn is_done(&self) -> bool {
+        match self {
+            Outcome::Done => true,
+            Outcome::Partly { is_done } => *is_done,
+            _ => false,
+        }
+    }
+}
+
 /// Gives the step to an archive, and again where it is refused: it was not done then, and is now, or is refused again. Of a list of
 /// commands that was refused in part, the part that was not may have been done.
 #[derive(Clone, Copy)]

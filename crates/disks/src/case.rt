@@ -1,23 +1,22 @@
 //! An archive in files in memory, and what is asked of it.
 
+use crate::broken::{Broken, Kind};
 use crate::edits::{changed, in_transaction};
-use crate::faulty::{Kind, Which};
-use crate::filed::{copied, no_files};
 use crate::interrupted::interrupted;
 use crate::observed::Observed;
+use crate::pair::{Which, copied, no_files};
 use crate::steps::{Doing, Step};
 use crate::tampered::{counted, front, opening, opening_of, tampered, without_end};
 use crate::tasks::{Begin, Left, Task, done, reopened, told_fault};
 use keep::KeepFault;
 use rows::{Answers, Unread, number_of, said, text_of};
 use sqlite::Files;
-use sqlite_disk::Memory;
 use std::alloc::Global;
 
 /// The files of an archive, which is opened for each step.
 #[derive(Drop)]
 pub struct Case {
-    files: Files<Memory>,
+    files: Files<Broken>,
 }
 
 /// Which of the two files a word names.
@@ -49,7 +48,7 @@ fn told(alloc: Global, answer: Result<Vec<u8>, KeepFault>) -> Result<Vec<u8>, Un
 
 impl Case {
     /// The files, with none in their place.
-    fn take(&mut self, alloc: Global) -> Files<Memory> {
+    fn take(&mut self, alloc: Global) -> Files<Broken> {
         std::mem::replace(&mut self.files, no_files(alloc))
     }
 

@@ -1,11 +1,12 @@
-//! Statements that are given to databases past the archive.
+//! Statements that are given to databases past the archive. As in `tasks`, functions that name the store of files are over any disk.
 
+use crate::broken::Broken;
 use crate::filed::{Unopened, closed, connected};
 use keep::KeepFault;
 use keep_open::open;
 use rows::{Unread, said, text_of};
 use sqlite::{Alter, Connection, Error, Files};
-use sqlite_disk::Memory;
+use sqlite_disk::Disk;
 use std::alloc::Global;
 
 /// What is done with a database.
@@ -37,13 +38,13 @@ impl Edit for Count<'_> {
 
 /// Files behind an edit, the log copied into the database file, and what the edit answered; nothing where there is no database.
 #[derive(Drop)]
-pub struct Edited {
-    pub files: Files<Memory>,
+pub struct Edited<D: Disk> {
+    pub files: Files<D>,
     pub rows: Option<usize>,
 }
 
-/// Edits the database that files hold.
-pub fn edit_files<E: Edit>(alloc: Global, files: Files<Memory>, edit: &E) -> Edited {
+/// Edits the database that files hold, on any disks.
+fn edited_on<D: Disk + Drop, E: Edit>(alloc: Global, files: Files<D>, edit: &E) -> Edited<D> {
     match connected(alloc, files) {
         Ok(mut connection) => {
             let rows = edit.edit(&mut connection).ok();
@@ -56,12 +57,17 @@ pub fn edit_files<E: Edit>(alloc: Global, files: Files<Memory>, edit: &E) -> Edi
     }
 }
 
+/// Edits the database that files hold.
+pub fn edit_files<E: Edit>(alloc: Global, files: Files<Broken>, edit: &E) -> Edited<Broken> {
+    edited_on::<Broken, E>(alloc, files, edit)
+}
+
 /// The files behind these lists of statements, where they can be run.
 pub fn changed(
     alloc: Global,
-    files: Files<Memory>,
+    files: Files<Broken>,
     lists: &[Vec<u8>],
-) -> Result<Option<Files<Memory>>, Unread> {
+) -> Result<Option<Files<Broken>>, Unread> {
     let mut files = files;
     for list in lists {
         let edited = edit_files(alloc, files, &Batch(text_of(list)?));
@@ -105,10 +111,15 @@ fn opening_within<S: Alter + Drop>(
     }
 }
 
-/// What an opening makes of the database that files hold, in a transaction and behind its end.
-pub fn in_transaction(alloc: Global, files: Files<Memory>) -> Result<Vec<u8>, Unread> {
+/// The same of the database that files hold, on any disks.
+fn in_transaction_on<D: Disk + Drop>(alloc: Global, files: Files<D>) -> Result<Vec<u8>, Unread> {
     match connected(alloc, files) {
         Ok(connection) => opening_within(alloc, connection),
         Err(_unopened) => said(alloc, "no database"),
     }
+}
+
+/// What an opening makes of the database that files hold, in a transaction and behind its end.
+pub fn in_transaction(alloc: Global, files: Files<Broken>) -> Result<Vec<u8>, Unread> {
+    in_transaction_on::<Broken>(alloc, files)
 }

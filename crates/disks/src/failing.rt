@@ -4,21 +4,21 @@ ghost use Rattle.std.specs.Prelude.{◌≡◌, ◌+◌, ◌&&◌, not, false};
 ghost use Rattle.sqlite_disk.specs.Disk.{CountsFault};
 ghost use Rattle.sqlite_disk.specs.Refusal.{finds_no_room};
 
-use crate::faulty::{Faulty, Kind};
-use sqlite_disk::{Crash, Disk, Memory, Tally};
+use sqlite_disk::{Crash, Disk, Tally};
 use std::io;
 
 /// A disk that passes so many calls on, and fails one, or that one and each one after.
 #[derive(Drop)]
 pub struct Failing<D: Disk> {
-    inner: D,
-    /// How many calls it passes on before one fails; nothing once no other will.
-    calls_left: Option<u64>,
+    pub inner: D,
+    /// How many calls it passes on before one fails; nothing where none will.
+    pub calls_left: Option<u64>,
     /// Whether it stops, and each call after fails, too.
-    stops: bool,
-    refused: u64,
-    sync_refused: bool,
-    read_refused: bool,
+    pub stops: bool,
+    /// How many calls have failed.
+    pub refused: u64,
+    pub sync_refused: bool,
+    pub read_refused: bool,
 }
 
 /// Counts a call, or refuses it.
@@ -132,34 +132,5 @@ impl<D: Crash> Crash for Failing<D> {
         self.inner.crash();
         self.calls_left = None;
         self.sync_refused = false;
-    }
-}
-
-impl Faulty for Failing<Memory> {
-    fn behind(inner: Memory, calls: u64, kind: Kind) -> Failing<Memory> {
-        Failing {
-            inner,
-            calls_left: Some(calls),
-            stops: matches!(kind, Kind::Stops),
-            refused: 0,
-            sync_refused: false,
-            read_refused: false,
-        }
-    }
-
-    fn held(&self) -> &Memory {
-        &self.inner
-    }
-
-    fn calls_left(&self) -> u64 {
-        self.calls_left.unwrap_or(u64::MAX)
-    }
-
-    fn has_failed(&self) -> bool {
-        self.refused > 0
-    }
-
-    fn has_failed_a_read(&self) -> bool {
-        self.read_refused
     }
 }

@@ -5,9 +5,9 @@ use keep_open::open;
 use keep_rows::fault_of;
 use keep_tables::TableKeeper;
 use rules::Config;
-use sqlite::{Connection, FileStore, Files, Options};
-use sqlite_disk::{Disk, Memory};
-use std::alloc::{AllocError, Global};
+use sqlite::{Alter, Connection, FileStore, Files, Options};
+use sqlite_disk::Disk;
+use std::alloc::Global;
 
 /// How long the log grows before a transaction copies it into the database file.
 const CHECKPOINT_FRAMES: usize = 4;
@@ -57,6 +57,16 @@ pub fn closed<D: Disk + Drop>(connection: Connection<FileStore<D>>) -> Files<D> 
     }
 }
 
+/// The files of a connection, as they are.
+fn released<D: Disk + Drop>(connection: Connection<FileStore<D>>) -> Files<D> {
+    connection.into_store().close()
+}
+
+/// The connection of a keeper.
+fn connection_of<S: Alter + Drop>(keeper: TableKeeper<S>) -> Connection<S> {
+    keeper.into_connection()
+}
+
 /// The keeper over a connection, or its files.
 fn kept<D: Disk + Drop>(
     keeper: Result<Tabled<D>, (Connection<FileStore<D>>, KeepFault)>,
@@ -64,7 +74,7 @@ fn kept<D: Disk + Drop>(
     match keeper {
         Ok(keeper) => Ok(keeper),
         Err((connection, fault)) => Err(Unopened {
-            files: connection.into_store().close(),
+            files: released(connection),
             fault,
         }),
     }
@@ -104,38 +114,10 @@ impl<D: Disk + Drop> Filed<D> for Tabled<D> {
     }
 
     fn into_files(self) -> Files<D> {
-        self.into_connection().into_store().close()
+        released(connection_of(self))
     }
 
     fn into_closed_files(self) -> Files<D> {
-        closed(self.into_connection())
+        closed(connection_of(self))
     }
-}
-
-/// Two files with nothing in them.
-pub fn no_files(alloc: Global) -> Files<Memory> {
-    Files {
-        log: Memory::new(alloc),
-        db: Memory::new(alloc),
-    }
-}
-
-/// A file with these bytes.
-pub fn file_of(alloc: Global, bytes: &[u8]) -> Result<Memory, AllocError> {
-    let mut file = Memory::new(alloc);
-    if file.write_at(0, bytes).is_err() {
-        return Err(AllocError);
-    }
-    match file.sync() {
-        Ok(()) => Ok(file),
-        Err(_) => Err(AllocError),
-    }
-}
-
-/// Files that hold what others do.
-pub fn copied(alloc: Global, files: &Files<Memory>) -> Result<Files<Memory>, AllocError> {
-    Ok(Files {
-        log: file_of(alloc, files.log.bytes())?,
-        db: file_of(alloc, files.db.bytes())?,
-    })
 }

@@ -5,16 +5,26 @@ ghost use Rattle.sqlite_disk.specs.Disk.{CountsFault};
 ghost use Rattle.sqlite_disk.specs.Refusal.{finds_no_room};
 ghost use Rattle.sqlite_disk.specs.Tally.{both_counts};
 
-use crate::faulty::{Faulty, Kind};
-use sqlite_disk::{Crash, Disk, Memory, Tally};
+use sqlite_disk::{Crash, Disk, Tally};
 use std::io;
 
 /// A disk that takes so many writes, and has no room for more.
-#[derive(Drop)]
 pub struct Full<D: Disk> {
-    inner: D,
-    writes_left: u64,
-    refused: u64,
+    pub inner: D,
+    pub writes_left: u64,
+    /// How many writes found no room.
+    pub refused: u64,
+}
+
+// It is written out, so that a caller does not prove again how each part is dropped.
+impl<D: Disk + Drop> Drop for Full<D> {
+    fn drop(self) {
+        let Full {
+            inner: _,
+            writes_left: _,
+            refused: _,
+        } = self;
+    }
 }
 
 /// Counts a write, or finds no room for it.
@@ -106,31 +116,5 @@ impl<D: Crash> Crash for Full<D> {
     fn crash(&mut self) {
         self.inner.crash();
         self.writes_left = u64::MAX;
-    }
-}
-
-impl Faulty for Full<Memory> {
-    fn behind(inner: Memory, calls: u64, _kind: Kind) -> Full<Memory> {
-        Full {
-            inner,
-            writes_left: calls,
-            refused: 0,
-        }
-    }
-
-    fn held(&self) -> &Memory {
-        &self.inner
-    }
-
-    fn calls_left(&self) -> u64 {
-        self.writes_left
-    }
-
-    fn has_failed(&self) -> bool {
-        self.refused > 0
-    }
-
-    fn has_failed_a_read(&self) -> bool {
-        false
     }
 }

@@ -2,19 +2,16 @@
 
 use crate::account::Told;
 use crate::attempt::{Attempt, Outcome};
-use crate::failing::Failing;
-use crate::faulty::{
-    Faulty, Kind, Which, broken, calls_of, crashed, have_failed, have_failed_a_read, shown,
-};
-use crate::filed::copied;
-use crate::full::Full;
+use crate::broken::{Broken, Kind, held};
 use crate::observed::{Paths, add_paths};
+use crate::pair::{
+    Which, calls_of, copied, crashed, failing_copies, have_failed, have_failed_a_read,
+};
 use crate::steps::{Doing, Step, told_of};
 use crate::tasks::{Begin, Left, Nothing, done, told_fault};
 use keep::KeepFault;
 use rows::{Unread, said};
 use sqlite::Files;
-use sqlite_disk::Memory;
 use std::alloc::{AllocError, Global};
 
 /// More calls than any step here makes of a file.
@@ -23,7 +20,7 @@ const MOST_CALLS: u64 = 4000;
 /// A step that is interrupted, and what is wanted of it.
 #[derive(Drop)]
 struct Interruption<'a> {
-    before: &'a Files<Memory>,
+    before: &'a Files<Broken>,
     which: Which,
     kind: Kind,
     step: Step<'a>,
@@ -51,13 +48,13 @@ enum Found {
 /// What files told last. Files that hold the same tell the same, and are not opened again.
 #[derive(Drop)]
 struct Last {
-    files: Files<Memory>,
+    files: Files<Broken>,
     told: Told,
 }
 
 impl Last {
     /// That files told this.
-    fn new(alloc: Global, files: &Files<Memory>, told: &Told) -> Result<Last, AllocError> {
+    fn new(alloc: Global, files: &Files<Broken>, told: &Told) -> Result<Last, AllocError> {
         Ok(Last {
             files: copied(alloc, files)?,
             told: told.copy(alloc)?,
@@ -68,11 +65,11 @@ impl Last {
     fn tell(
         &mut self,
         alloc: Global,
-        files: Files<Memory>,
+        files: Files<Broken>,
         interruption: &Interruption<'_>,
     ) -> Result<(), Unread> {
-        let is_same_log = files.log.bytes() == self.files.log.bytes();
-        let is_same_database = files.db.bytes() == self.files.db.bytes();
+        let is_same_log = held(&files.log) == held(&self.files.log);
+        let is_same_database = held(&files.db) == held(&self.files.db);
         if is_same_log && is_same_database {
             return Ok(());
         }
@@ -90,8 +87,30 @@ struct Remains {
     crashed: Last,
 }
 
+impl Remains {
+    /// That files told this, as they stood and as a crash left them.
+    fn new(alloc: Global, files: &Files<Broken>, told: &Told) -> Result<Remains, AllocError> {
+        let stood = Last::new(alloc, files, told)?;
+        let crashed = Last::new(alloc, files, told)?;
+        Ok(Remains { stood, crashed })
+    }
+
+    /// Has files tell, as they stand and as a crash of the machine leaves them.
+    fn tell(
+        &mut self,
+        alloc: Global,
+        files: Files<Broken>,
+        interruption: &Interruption<'_>,
+    ) -> Result<(), Unread> {
+        self.stood
+            .tell(alloc, copied(alloc, &files)?, interruption)?;
+        self.crashed
+            .tell(alloc, crashed(alloc, files)?, interruption)
+    }
+}
+
 /// The paths of the archive in files; none where there is no archive.
-fn paths_of(alloc: Global, files: &Files<Memory>) -> Result<Vec<String>, Unread> {
+fn paths_of(alloc: Global, files: &Files<Broken>) -> Result<Vec<String>, Unread> {
     let Left { files: _, answer } = done(alloc, copied(alloc, files)?, Begin::Opening, &Paths)?;
     match answer {
         Ok(paths) => Ok(paths),
@@ -111,7 +130,7 @@ impl<'a> Interruption<'a> {
     /// Does the step on copies of the files, with disks that work, to see what is wanted of it.
     fn new(
         alloc: Global,
-        before: &'a Files<Memory>,
+        before: &'a Files<Broken>,
         which: Which,
         kind: Kind,
         step: Step<'a>,
@@ -188,16 +207,15 @@ impl<'a> Interruption<'a> {
     }
 
     /// Opens what is left of files, as it stands and as a crash of the machine leaves it.
-    fn found_behind<D: Faulty>(
+    fn found_behind(
         &self,
         alloc: Global,
-        files: Files<D>,
+        files: Files<Broken>,
         is_answered: bool,
         remains: &mut Remains,
     ) -> Result<Found, Unread> {
         let has_failed = have_failed(&files);
-        remains.stood.tell(alloc, shown(alloc, &files)?, self)?;
-        remains.crashed.tell(alloc, crashed(alloc, files)?, self)?;
+        remains.tell(alloc, files, self)?;
         if let Some(found) = self.otherwise(alloc, "left", &remains.stood.told, is_answered)? {
             return Ok(found);
         }
@@ -213,24 +231,22 @@ impl<'a> Interruption<'a> {
 
     /// Opens what is left of files in which no archive was opened or made. Where it was opened for a step, what is left is that of
     /// the step `open`, and the database file is as it was.
-    fn found_unopened<D: Faulty>(
+    fn found_unopened(
         &self,
         alloc: Global,
-        files: Files<D>,
+        files: Files<Broken>,
         remains: &mut Remains,
     ) -> Result<Found, Unread> {
         match self.step {
             Step::Create(_) | Step::Open => self.found_behind(alloc, files, false, remains),
-            Step::Ask(_, _) if files.db.held().bytes() == self.before.db.bytes() => {
-                Ok(Found::NotOpened)
-            }
+            Step::Ask(_, _) if held(&files.db) == held(&self.before.db) => Ok(Found::NotOpened),
             Step::Ask(_, _) => noted(alloc, "not opened", b"other bytes"),
         }
     }
 
     /// Whether an archive may refuse behind a step that was refused: where one call alone fails, all or nothing, and nothing where
     /// that was to read.
-    fn may_refuse<D: Faulty>(&self, files: &Files<D>, outcome: &Outcome) -> bool {
+    fn may_refuse(&self, files: &Files<Broken>, outcome: &Outcome) -> bool {
         match (outcome, self.kind) {
             (Outcome::Partly { is_done: _ }, Kind::Fails) => false,
             (Outcome::Shut, Kind::Fails) => !have_failed_a_read(files),
@@ -240,48 +256,69 @@ impl<'a> Interruption<'a> {
     }
 
     /// Does the step in files of which one fails behind so many calls.
-    fn found<D: Faulty>(
+    fn tried(&self, alloc: Global, calls: u64) -> Result<Left<Broken, Outcome>, Unread> {
+        let files = failing_copies(alloc, self.before, self.which, self.kind, calls)?;
+        done(alloc, files, self.step.begin(), &self.attempt())
+    }
+
+    /// What came of the step in files; what should not be, where an archive refused without need.
+    fn judged(
         &self,
         alloc: Global,
-        calls: u64,
+        files: &Files<Broken>,
+        answer: Result<Outcome, KeepFault>,
+    ) -> Result<Outcome, Unread> {
+        let outcome = self.outcome(alloc, answer)?;
+        if self.may_refuse(files, &outcome) {
+            return Ok(outcome);
+        }
+        Ok(Outcome::Otherwise(said(alloc, "refused without need")?))
+    }
+
+    /// What is found in files behind a step with this outcome.
+    fn found_with(
+        &self,
+        alloc: Global,
+        files: Files<Broken>,
+        outcome: &Outcome,
         remains: &mut Remains,
     ) -> Result<Found, Unread> {
-        let files = broken::<D>(alloc, self.before, self.which, self.kind, calls)?;
-        let Left { files, answer } = done(alloc, files, self.step.begin(), &self.attempt())?;
-        let outcome = self.outcome(alloc, answer)?;
-        if !self.may_refuse(&files, &outcome) {
-            return noted(alloc, "still open", b"refused without need");
-        }
         match outcome {
-            Outcome::Done => self.found_behind(alloc, files, true, remains),
-            Outcome::Partly { is_done } => self.found_behind(alloc, files, is_done, remains),
-            Outcome::Shut => self.found_behind(alloc, files, false, remains),
-            Outcome::Unopened => self.found_unopened(alloc, files, remains),
             Outcome::Otherwise(text) => noted(alloc, "still open", text.as_slice()),
+            Outcome::Unopened => self.found_unopened(alloc, files, remains),
+            outcome => self.found_behind(alloc, files, outcome.is_done(), remains),
         }
     }
 
+    /// Does the step in files of which one fails behind so many calls, and opens what is left of them.
+    fn found(&self, alloc: Global, calls: u64, remains: &mut Remains) -> Result<Found, Unread> {
+        let Left { files, answer } = self.tried(alloc, calls)?;
+        let outcome = self.judged(alloc, &files, answer)?;
+        self.found_with(alloc, files, &outcome, remains)
+    }
+
     /// Behind how many calls the step begins: none where it is to make an archive or to open one, else those of an opening.
-    fn first_call<D: Faulty>(&self, alloc: Global) -> Result<u64, Unread> {
+    fn first_call(&self, alloc: Global) -> Result<u64, Unread> {
         match self.step {
             Step::Create(_) | Step::Open => Ok(0),
             Step::Ask(_, _) => {
-                let files = broken::<D>(alloc, self.before, self.which, self.kind, u64::MAX)?;
+                let files = failing_copies(alloc, self.before, self.which, self.kind, u64::MAX)?;
                 let left = done(alloc, files, Begin::Opening, &Nothing)?;
-                Ok(calls_of(&left.files, self.which))
+                Ok(calls_of(&left.files, self.which, self.kind))
             }
         }
     }
 
-    /// Does the step behind ever more calls, until none fails.
-    fn verdict<D: Faulty>(&self, alloc: Global) -> Result<Vec<u8>, Unread> {
-        let mut remains = Remains {
-            stood: Last::new(alloc, self.before, &self.undone)?,
-            crashed: Last::new(alloc, self.before, &self.undone)?,
-        };
+    /// Does the step behind ever more calls, from so many on, until none fails.
+    fn verdict_from(
+        &self,
+        alloc: Global,
+        first: u64,
+        remains: &mut Remains,
+    ) -> Result<Vec<u8>, Unread> {
         let mut has_failed = false;
-        for calls in self.first_call::<D>(alloc)?..MOST_CALLS {
-            match self.found::<D>(alloc, calls, &mut remains)? {
+        for calls in first..MOST_CALLS {
+            match self.found(alloc, calls, remains)? {
                 Found::NotOpened => {}
                 Found::Whole => has_failed = true,
                 Found::Through if has_failed => return said(alloc, "whole"),
@@ -290,6 +327,13 @@ impl<'a> Interruption<'a> {
             }
         }
         said(alloc, "ever more calls")
+    }
+
+    /// Does the step behind ever more calls, until none fails.
+    fn verdict(&self, alloc: Global) -> Result<Vec<u8>, Unread> {
+        let first = self.first_call(alloc)?;
+        let mut remains = Remains::new(alloc, self.before, &self.undone)?;
+        self.verdict_from(alloc, first, &mut remains)
     }
 }
 
@@ -303,7 +347,7 @@ fn told_at(alloc: Global, calls: u64, text: &[u8]) -> Result<Vec<u8>, Unread> {
 /// What becomes of a step while one of the files fails.
 pub fn interrupted(
     alloc: Global,
-    files: &Files<Memory>,
+    files: &Files<Broken>,
     which: Which,
     kind: Kind,
     step: Step<'_>,
@@ -311,9 +355,6 @@ pub fn interrupted(
     let interruption = Interruption::new(alloc, files, which, kind, step)?;
     match (step, &interruption.right) {
         (Step::Ask(_, _), Err(fault)) => told_fault(alloc, *fault),
-        _ => match kind {
-            Kind::Stops | Kind::Fails => interruption.verdict::<Failing<Memory>>(alloc),
-            Kind::Full => interruption.verdict::<Full<Memory>>(alloc),
-        },
+        _ => interruption.verdict(alloc),
     }
 }

@@ -6,15 +6,16 @@
 
 mod account;
 mod attempt;
+mod broken;
 mod case;
 mod edits;
 mod failing;
-mod faulty;
 mod filed;
 mod full;
 mod interrupted;
 mod named;
 mod observed;
+mod pair;
 mod steps;
 mod tampered;
 mod tasks;

@@ -1,13 +1,13 @@
 //! Steps of a story, and what files tell of one.
 
 use crate::account::Told;
+use crate::broken::Broken;
 use crate::observed::observe;
 use crate::tasks::{Begin, Left, Task, done, told_fault};
 use keep::{KeepFault, Keeper};
 use queue::Archive;
 use rows::{Unread, text_of};
 use sqlite::Files;
-use sqlite_disk::Memory;
 use std::alloc::Global;
 use story::asked;
 
@@ -111,30 +111,49 @@ fn told_or_fault(alloc: Global, told: Result<Told, KeepFault>) -> Result<Told, U
     }
 }
 
-/// What the archive in files tells of a step, which is done with it. Where the step makes an archive, it tells what there was before,
-/// the fault or nothing, and what there is then.
-pub fn told_of(
+/// What the archive in files tells that begins so, or the fault where there is none; and the files.
+fn told_by(
     alloc: Global,
-    files: Files<Memory>,
-    step: Step<'_>,
-    paths: &[String],
-) -> Result<Told, Unread> {
-    let telling = Telling { step, paths };
-    let Left { files, answer } = done(alloc, files, Begin::Opening, &telling)?;
-    let found = told_or_fault(alloc, answer)?;
-    let Step::Create(_) = step else {
-        return Ok(found);
-    };
-    let left = done(alloc, files, step.begin(), &telling)?;
+    files: Files<Broken>,
+    begin: Begin<'_>,
+    telling: &Telling<'_>,
+) -> Result<(Files<Broken>, Told), Unread> {
+    let Left { files, answer } = done(alloc, files, begin, telling)?;
+    let told = told_or_fault(alloc, answer)?;
+    Ok((files, told))
+}
+
+/// What there is in files in which the step makes an archive, and the fault or nothing.
+fn told_where_made(
+    alloc: Global,
+    files: Files<Broken>,
+    telling: &Telling<'_>,
+) -> Result<Vec<Vec<u8>>, Unread> {
+    let (_files, told) = told_by(alloc, files, telling.step.begin(), telling)?;
     let Told {
         before: mut made,
         answer: fault,
         behind: _,
-    } = told_or_fault(alloc, left.answer)?;
+    } = told;
     made.push(fault)?;
-    Ok(Told {
-        before: found.before,
-        answer: found.answer,
-        behind: made,
-    })
+    Ok(made)
+}
+
+/// What the archive in files tells of a step, which is done with it. Where the step makes an archive, it tells what there was before,
+/// the fault or nothing, and what there is then.
+pub fn told_of(
+    alloc: Global,
+    files: Files<Broken>,
+    step: Step<'_>,
+    paths: &[String],
+) -> Result<Told, Unread> {
+    let telling = Telling { step, paths };
+    let (files, mut told) = told_by(alloc, files, Begin::Opening, &telling)?;
+    match step {
+        Step::Create(_) => {
+            told.behind = told_where_made(alloc, files, &telling)?;
+            Ok(told)
+        }
+        Step::Open | Step::Ask(_, _) => Ok(told),
+    }
 }

@@ -1,5 +1,7 @@
-//! What is done with archives in files.
+//! What is done with archives in files. Functions that name the store of files are over any disk: where both are named, the prover
+//! runs out of steps.
 
+use crate::broken::Broken;
 use crate::filed::{Filed, Tabled, Unopened};
 use keep::{KeepFault, Keeper};
 use queue::Archive;
@@ -95,14 +97,24 @@ fn done_over<D: Disk + Drop, K: Filed<D>, T: Task>(
     }
 }
 
-/// Does a task with the archive in files.
-pub fn done<D: Disk + Drop, T: Task>(
+/// Does a task with the archive in files, on any disks.
+fn done_on<D: Disk + Drop, T: Task>(
     alloc: Global,
     files: Files<D>,
     begin: Begin<'_>,
     task: &T,
 ) -> Result<Left<D, T::Answer>, Unread> {
     done_over::<D, Tabled<D>, T>(alloc, files, begin, task)
+}
+
+/// Does a task with the archive in files.
+pub fn done<T: Task>(
+    alloc: Global,
+    files: Files<Broken>,
+    begin: Begin<'_>,
+    task: &T,
+) -> Result<Left<Broken, T::Answer>, Unread> {
+    done_on::<Broken, T>(alloc, files, begin, task)
 }
 
 /// The files of the archive in files, the log copied into the database file, over any keeper.
@@ -119,9 +131,14 @@ fn closed_over<D: Disk + Drop, K: Filed<D>>(alloc: Global, files: Files<D>) -> L
     }
 }
 
-/// Opens the archive in files, and copies the log into the database file.
-pub fn reopened<D: Disk + Drop>(alloc: Global, files: Files<D>) -> Left<D, ()> {
+/// Opens the archive in files, on any disks, and copies the log into the database file.
+fn reopened_on<D: Disk + Drop>(alloc: Global, files: Files<D>) -> Left<D, ()> {
     closed_over::<D, Tabled<D>>(alloc, files)
+}
+
+/// Opens the archive in files, and copies the log into the database file.
+pub fn reopened(alloc: Global, files: Files<Broken>) -> Left<Broken, ()> {
+    reopened_on::<Broken>(alloc, files)
 }
 
 /// A fault of a keeper, as it is printed.
