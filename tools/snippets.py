@@ -200,6 +200,9 @@ class Room:
 
     def end(self, process):
         """Ends a program and all that it started."""
+        process.terminate()
+        with contextlib.suppress(subprocess.TimeoutExpired):
+            process.wait(timeout=5)
         with contextlib.suppress(ProcessLookupError):
             os.killpg(process.pid, signal.SIGKILL)
         process.wait()
