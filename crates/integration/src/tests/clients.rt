@@ -67,7 +67,7 @@ pub fn expect_received(
 pub type Row<'a> = (&'a [u8], &'a [u8]);
 
 /// Clients that have sent what rows say, one behind the other, and may go on.
-pub fn clients(
+pub fn clients_of(
     rt: &HostRuntime,
     listener: &TcpListener,
     rows: &[Row<'_>],

@@ -2,7 +2,7 @@
 
 use super::checks::{holds, same};
 use super::clients::{
-    Row, Visit, client, clients, done_client, end_all, expect_all_received, expect_received,
+    Row, Visit, client, clients_of, done_client, end_all, expect_all_received, expect_received,
     visited,
 };
 use super::messages::{CREATED, MISSING, PUT};
@@ -91,7 +91,7 @@ fn expect_answers<K: Keeper>(
     listener: &TcpListener,
     rows: &[Row<'_>],
 ) -> Result<(), Fail> {
-    let streams = clients(rt, listener, rows)?;
+    let streams = clients_of(rt, listener, rows)?;
     end_all(streams.as_slice())?;
     expect_served(rt, abort, archive, listener, rows.len() as u64);
     expect_all_received(abort, rt.alloc(), streams.as_slice(), rows)
@@ -159,7 +159,7 @@ impl Visit for FallingSilent {
         archive: &mut Archive<K>,
         listener: &TcpListener,
     ) -> Result<(), Fail> {
-        let streams = clients(rt, listener, &SILENT)?;
+        let streams = clients_of(rt, listener, &SILENT)?;
         expect_served_within(rt, abort, archive, listener, 4, short_patience());
         expect_all_received(abort, rt.alloc(), streams.as_slice(), &SILENT)
     }
