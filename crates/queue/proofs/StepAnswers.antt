@@ -164,14 +164,25 @@ delivered_step may_fail h name body moment is_open old new fresh stands faithful
 pub stands_answered : (may_fail : Bool) (h : History) (call : Call) (reply : Reply) (left : Book) → IsStep may_fail h call (Ok reply) ⊤ left → Stands left (followed h call (answer h call))
 stands_answered may_fail h call reply left step = subst (λ (o : Result Reply Fault). Stands left (followed h call o)) step.answered (step.kept.stands tt)
 
-pub delivered_left : (may_fail : Bool) (h : History) (name body : List ℕ) (moment : ℕ) (old left : Book)
+pub delivered_left : (may_fail : Bool) (h : History) (name body : List ℕ) (moment : ℕ) (old : Book) (left : Option Book)
     → Stands old h → IsFaithful h (Delivery name body moment ∷ []) → delivery_fault name body moment ≡ None
-    → ((bodies : List (List ℕ)) → NoCollision bodies → HasBodies bodies old → Contains bodies body → left ≡ with_delivery old (record { name = name; body = body; moment = moment }))
-    → Stands left (followed h (Delivery name body moment) (answer h (Delivery name body moment)))
+    → ((bodies : List (List ℕ)) → NoCollision bodies → HasBodies bodies old → Contains bodies body → left ≡ Some (with_delivery old (record { name = name; body = body; moment = moment })))
+    → left ≡ Some (book_of (followed h (Delivery name body moment) (answer h (Delivery name body moment))))
 delivered_left may_fail h name body moment old left stands faithful none is =
-    let fresh = not (has_arrival old.arrivals (record { name = name; body = body; moment = moment })) in
-    stands_answered may_fail h (Delivery name body moment) (Stored fresh) left
-    (delivered_step may_fail h name body moment ⊤ old left fresh stands faithful none (λ bodies apart have there. refl) is)
+    let a : Arrival = record { name = name; body = body; moment = moment } in
+    let fresh = not (has_arrival old.arrivals a) in
+    let bodies = [] ∷ faithful.bodies in
+    let have : HasBodies bodies old = subst (HasBodies bodies) (sym stands) (known h (Delivery name body moment ∷ []) faithful) in
+    let there : Contains bodies body = contains_later [] faithful.bodies body (faithful.delivered body (delivered_last h name body moment)) in
+    is bodies (apart_with_empty faithful.bodies faithful.apart) have there
+    ∙ ap Some (stands_answered may_fail h (Delivery name body moment) (Stored fresh) (with_delivery old a)
+    (delivered_step may_fail h name body moment ⊤ old (with_delivery old a) fresh stands faithful none (λ bodies apart have there. refl) (λ bodies apart have there. refl)))
+
+-- what a crash leaves that has all of a change, where what the keeper says holds for all bodies without collision
+pub left_whole : (h : History) (calls : List Call) (faithful : IsFaithful h calls) (now whole : Book) (left : Option Book) → now ≡ book_of h
+    → ((bodies : List (List ℕ)) → NoCollision bodies → HasBodies bodies now → left ≡ Some whole) → left ≡ Some whole
+left_whole h calls faithful now whole left is told =
+    told ([] ∷ faithful.bodies) (apart_with_empty faithful.bodies faithful.apart) (subst (HasBodies ([] ∷ faithful.bodies)) (sym is) (known h calls faithful))
 
 -- ---- look-ups
 

@@ -1,12 +1,13 @@
 //! The archive over a keeper.
 
-ghost use Rattle.std.specs.Prelude.{◌≡◌, ◌⊎◌, ◌<◌, ◌∷◌, [], Some, None, Err, IfOk, IfErr};
+ghost use Rattle.std.specs.Prelude.{◌≡◌, ◌⊎◌, ◌<◌, ◌∷◌, [], Option, Some, None, Err, IfOk, IfErr, OnOk, OnErr};
 ghost use Rattle.queue.specs.Answers.{IsFaithful, IsKept, IsStep, answer};
-ghost use Rattle.queue.specs.Archives.{Stands};
+ghost use Rattle.queue.specs.Archives.{book_of};
 ghost use Rattle.queue.specs.Commands.{stored, reported, counted, found};
 ghost use Rattle.queue.specs.Copies.{copy_fault};
 ghost use Rattle.queue.specs.Histories.{History, followed, Delivery, QueueRun, Copying, Lookup, WaitingList, VerdictList};
 ghost use Rattle.keep.specs.Book.{Book, latest};
+ghost use Rattle.keep.specs.Keeping.{Lasts};
 ghost use Rattle.queue.specs.Deliveries.{delivery_fault, IsKeepers};
 
 use crate::command::{Arrived, Report};
@@ -53,12 +54,15 @@ impl<K: Keeper> Archive<K> {
         moment: u64,
     ) -> Result<Arrived, Fault>
         ensures clean { K.is_clean self.new.keeper → K.is_clean self.old.keeper }
+        ensures lasts { Lasts K.is_clean K.is_open K.faults K.book self.old.keeper self.new.keeper }
+        ensures served { K.is_clean self.new.keeper → OnOk result (K.is_open self.new.keeper) }
+        ensures err { K.is_clean self.new.keeper → K.is_open self.new.keeper → OnErr result (K.book self.new.keeper ≡ K.book self.old.keeper) }
         ensures step { (h : History) → IsKept (K.is_open self.old.keeper) (K.book self.old.keeper) h → IsFaithful h (Delivery name.now body.now moment ∷ [])
             → K.is_clean self.new.keeper → IsStep K.may_fail h (Delivery name.now body.now moment) (stored result) (K.is_open self.new.keeper) (K.book self.new.keeper) }
         // A crash leaves what it would have left before, or all that the call does.
         ensures crash { (h : History) → IsKept (K.is_open self.old.keeper) (K.book self.old.keeper) h → IsFaithful h (Delivery name.now body.now moment ∷ [])
-            → K.is_clean self.new.keeper → (left : Book) → K.may_leave self.new.keeper left
-            → K.may_leave self.old.keeper left ⊎ Stands left (followed h (Delivery name.now body.now moment) (answer h (Delivery name.now body.now moment))) }
+            → K.is_clean self.new.keeper → (left : Option Book) → K.may_leave self.new.keeper left
+            → K.may_leave self.old.keeper left ⊎ (left ≡ Some (book_of (followed h (Delivery name.now body.now moment) (answer h (Delivery name.now body.now moment))))) }
         ensures done { IfOk result (λ _. delivery_fault name.now body.now moment ≡ None) }
         // The fault by name, body and moment, or else one of the keeper's own.
         ensures refused { IfErr result (λ e. (delivery_fault name.now body.now moment ≡ Some e) ⊎ IsKeepers e) }
@@ -75,12 +79,15 @@ impl<K: Keeper> Archive<K> {
     /// and reports a line for each. Refused for a moment after 2099. Where it is refused no upload was judged.
     pub fn run(&mut self, alloc: Global, moment: u64) -> Result<Report, Fault>
         ensures clean { K.is_clean self.new.keeper → K.is_clean self.old.keeper }
+        ensures lasts { Lasts K.is_clean K.is_open K.faults K.book self.old.keeper self.new.keeper }
+        ensures served { K.is_clean self.new.keeper → OnOk result (K.is_open self.new.keeper) }
+        ensures err { K.is_clean self.new.keeper → K.is_open self.new.keeper → OnErr result (K.book self.new.keeper ≡ K.book self.old.keeper) }
         ensures step { (h : History) → IsKept (K.is_open self.old.keeper) (K.book self.old.keeper) h → IsFaithful h (QueueRun moment ∷ [])
             → K.is_clean self.new.keeper → IsStep K.may_fail h (QueueRun moment) (reported result) (K.is_open self.new.keeper) (K.book self.new.keeper) }
         // A crash leaves what it would have left before, or all that the call does.
         ensures crash { (h : History) → IsKept (K.is_open self.old.keeper) (K.book self.old.keeper) h → IsFaithful h (QueueRun moment ∷ [])
-            → K.is_clean self.new.keeper → (left : Book) → K.may_leave self.new.keeper left
-            → K.may_leave self.old.keeper left ⊎ Stands left (followed h (QueueRun moment) (answer h (QueueRun moment))) }
+            → K.is_clean self.new.keeper → (left : Option Book) → K.may_leave self.new.keeper left
+            → K.may_leave self.old.keeper left ⊎ (left ≡ Some (book_of (followed h (QueueRun moment) (answer h (QueueRun moment))))) }
         ensures late { latest < moment → result ≡ Err Fault.Moment }
         ensures refused { IfErr result (λ e. (latest < moment) ⊎ IsKeepers e) }
     {
@@ -114,12 +121,15 @@ impl<K: Keeper> Archive<K> {
         moment: u64,
     ) -> Result<u64, Fault>
         ensures clean { K.is_clean self.new.keeper → K.is_clean self.old.keeper }
+        ensures lasts { Lasts K.is_clean K.is_open K.faults K.book self.old.keeper self.new.keeper }
+        ensures served { K.is_clean self.new.keeper → OnOk result (K.is_open self.new.keeper) }
+        ensures err { K.is_clean self.new.keeper → K.is_open self.new.keeper → OnErr result (K.book self.new.keeper ≡ K.book self.old.keeper) }
         ensures step { (h : History) → IsKept (K.is_open self.old.keeper) (K.book self.old.keeper) h → IsFaithful h (Copying from.now to.now source.now moment ∷ [])
             → K.is_clean self.new.keeper → IsStep K.may_fail h (Copying from.now to.now source.now moment) (counted result) (K.is_open self.new.keeper) (K.book self.new.keeper) }
         // A crash leaves what it would have left before, or all that the call does.
         ensures crash { (h : History) → IsKept (K.is_open self.old.keeper) (K.book self.old.keeper) h → IsFaithful h (Copying from.now to.now source.now moment ∷ [])
-            → K.is_clean self.new.keeper → (left : Book) → K.may_leave self.new.keeper left
-            → K.may_leave self.old.keeper left ⊎ Stands left (followed h (Copying from.now to.now source.now moment) (answer h (Copying from.now to.now source.now moment))) }
+            → K.is_clean self.new.keeper → (left : Option Book) → K.may_leave self.new.keeper left
+            → K.may_leave self.old.keeper left ⊎ (left ≡ Some (book_of (followed h (Copying from.now to.now source.now moment) (answer h (Copying from.now to.now source.now moment))))) }
         ensures done { K.is_clean self.new.keeper → IfOk result (λ _. copy_fault (K.book self.old.keeper) from.now to.now source.now moment ≡ None) }
         ensures late { latest < moment → result ≡ Err Fault.Moment }
         // The fault by the moment, the configuration and what is shown, or else one of the keeper's own.
@@ -146,10 +156,13 @@ impl<K: Keeper> Archive<K> {
     /// The index text or the file of the pool at a path without a leading slash.
     pub fn fetch(&mut self, alloc: Global, path: &str) -> Result<Option<Vec<u8>>, Fault>
         ensures clean { K.is_clean self.new.keeper → K.is_clean self.old.keeper }
+        ensures lasts { Lasts K.is_clean K.is_open K.faults K.book self.old.keeper self.new.keeper }
+        ensures served { K.is_clean self.new.keeper → OnOk result (K.is_open self.new.keeper) }
+        ensures err { K.is_clean self.new.keeper → K.is_open self.new.keeper → OnErr result (K.book self.new.keeper ≡ K.book self.old.keeper) }
         ensures step { (h : History) → IsKept (K.is_open self.old.keeper) (K.book self.old.keeper) h → IsFaithful h (Lookup path.now ∷ [])
             → K.is_clean self.new.keeper → IsStep K.may_fail h (Lookup path.now) (found result) (K.is_open self.new.keeper) (K.book self.new.keeper) }
         // A crash leaves what it would have left before.
-        ensures crash { K.is_clean self.new.keeper → (left : Book) → K.may_leave self.new.keeper left → K.may_leave self.old.keeper left }
+        ensures crash { K.is_clean self.new.keeper → (left : Option Book) → K.may_leave self.new.keeper left → K.may_leave self.old.keeper left }
         ensures refused { IfErr result IsKeepers }
     {
         match self.keeper.file(alloc, path)? {
@@ -162,10 +175,13 @@ impl<K: Keeper> Archive<K> {
     /// of the .changes. Refused for a moment after 2099.
     pub fn waiting(&mut self, alloc: Global, moment: u64) -> Result<Report, Fault>
         ensures clean { K.is_clean self.new.keeper → K.is_clean self.old.keeper }
+        ensures lasts { Lasts K.is_clean K.is_open K.faults K.book self.old.keeper self.new.keeper }
+        ensures served { K.is_clean self.new.keeper → OnOk result (K.is_open self.new.keeper) }
+        ensures err { K.is_clean self.new.keeper → K.is_open self.new.keeper → OnErr result (K.book self.new.keeper ≡ K.book self.old.keeper) }
         ensures step { (h : History) → IsKept (K.is_open self.old.keeper) (K.book self.old.keeper) h → IsFaithful h (WaitingList moment ∷ [])
             → K.is_clean self.new.keeper → IsStep K.may_fail h (WaitingList moment) (reported result) (K.is_open self.new.keeper) (K.book self.new.keeper) }
         // A crash leaves what it would have left before.
-        ensures crash { K.is_clean self.new.keeper → (left : Book) → K.may_leave self.new.keeper left → K.may_leave self.old.keeper left }
+        ensures crash { K.is_clean self.new.keeper → (left : Option Book) → K.may_leave self.new.keeper left → K.may_leave self.old.keeper left }
         ensures late { latest < moment → result ≡ Err Fault.Moment }
         ensures refused { IfErr result (λ e. (latest < moment) ⊎ IsKeepers e) }
     {
@@ -181,10 +197,13 @@ impl<K: Keeper> Archive<K> {
     /// All lines that runs have reported, in the order in which the uploads were judged.
     pub fn verdicts(&mut self, alloc: Global) -> Result<Report, Fault>
         ensures clean { K.is_clean self.new.keeper → K.is_clean self.old.keeper }
+        ensures lasts { Lasts K.is_clean K.is_open K.faults K.book self.old.keeper self.new.keeper }
+        ensures served { K.is_clean self.new.keeper → OnOk result (K.is_open self.new.keeper) }
+        ensures err { K.is_clean self.new.keeper → K.is_open self.new.keeper → OnErr result (K.book self.new.keeper ≡ K.book self.old.keeper) }
         ensures step { (h : History) → IsKept (K.is_open self.old.keeper) (K.book self.old.keeper) h → IsFaithful h (VerdictList ∷ [])
             → K.is_clean self.new.keeper → IsStep K.may_fail h VerdictList (reported result) (K.is_open self.new.keeper) (K.book self.new.keeper) }
         // A crash leaves what it would have left before.
-        ensures crash { K.is_clean self.new.keeper → (left : Book) → K.may_leave self.new.keeper left → K.may_leave self.old.keeper left }
+        ensures crash { K.is_clean self.new.keeper → (left : Option Book) → K.may_leave self.new.keeper left → K.may_leave self.old.keeper left }
         ensures refused { IfErr result IsKeepers }
     {
         let judged = self.keeper.verdicts(alloc)?;

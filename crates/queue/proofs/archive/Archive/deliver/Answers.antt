@@ -18,7 +18,7 @@ pub returns-in_err-arrive-clause-step : goal.returns-in_err-arrive-clause-step
 returns-in_err-arrive-clause-step g c h kept faithful clean =
     let p = err_from_is_err_and c.from_residual-in_err-arrive.result c.from_residual-in_err-arrive.ensures.1 in
     rw p.1 (keeper_step g.K.Keeper.may_fail h (Delivery c.args.name.now c.args.body.now c.args.moment) c.in_err-arrive.field-0.0 p.0 _ _ _ _ p.2 kept
-    (same_by c.in_err-arrive.ensures.lasts clean c.in_err-arrive.ensures.config c.in_err-arrive.ensures.err) c.in_err-arrive.ensures.cause
+    (same_by c.in_err-arrive.ensures.lasts clean c.in_err-arrive.ensures.err) c.in_err-arrive.ensures.cause
     (free_delivery h c.args.name.now c.args.body.now c.args.moment c.in_ok-check_delivery.ensures.judged))
 
 pub returns-then-branch-clause-step : goal.returns-then-branch-clause-step
