@@ -1,5 +1,5 @@
 -- Reads of a keeper one after the other.
-use Rattle.std.proofs.Common.{◌≡◌, ◌⊎◌, ◌≤◌, ℕ, Option, inl, inr, ◌∙◌, arith}
+use Rattle.std.proofs.Common.{◌≡◌, ◌⊎◌, ◌≤◌, ℕ, Option, inl, inr, refl, ◌∙◌, arith}
 use Rattle.keep.specs.Book.{Book}
 use Rattle.keep.specs.Keeping.{Lasts, MoreFaults, Reads}
 
@@ -10,6 +10,9 @@ more_before : (a b c : ℕ) → a ≤ b → MoreFaults b c → MoreFaults a c
 more_before a b c counts more = omega (arith, more, counts)
 
 module _ {K : Type 0} {is_clean is_open : K → Type 0} {faults : K → ℕ} {book : K → Book} where
+  pub lasts_itself : (a : K) → Lasts is_clean is_open faults book a a
+  lasts_itself a = record { clean = λ clean. clean; counts = omega arith; was_open = λ clean up. up; stays = λ clean up. inl up; config = refl }
+
   pub lasts_more : {a b c : K} → Lasts is_clean is_open faults book a b → Lasts is_clean is_open faults book b c → Lasts is_clean is_open faults book a c
   lasts_more {a} {b} {c} one two = record {
     clean = λ clean. one.clean (two.clean clean);
@@ -21,6 +24,10 @@ module _ {K : Type 0} {is_clean is_open : K → Type 0} {faults : K → ℕ} {bo
     ];
     config = two.config ∙ one.config;
   }
+
+  -- none
+  pub reads_none : {may_leave : K → Option Book → Type 0} (a : K) → Reads is_clean is_open faults book may_leave a a
+  reads_none a = record { lasts = lasts_itself a; same = λ c o. refl; crash = λ c left l. l }
 
   -- some, and others behind them
   pub reads_more : {may_leave : K → Option Book → Type 0} {a b c : K} → Reads is_clean is_open faults book may_leave a b → Reads is_clean is_open faults book may_leave b c → Reads is_clean is_open faults book may_leave a c

@@ -20,7 +20,7 @@ use Rattle.keep.specs.declared.fault.KeepFault.{KeepFault}
 use Rattle.keep.specs.declared.fault.KeepFault.TheVariants as keep_faults
 use Rattle.queue.specs.Answers.{IsAnswer, IsFaithful, IsKept, IsStep, answer, delivery_answer, found_at, is_refused, line_on_waiting, report_line, unless_late, waiting_line}
 use Rattle.queue.specs.Archives.{Stands, archive, book_of, book_from}
-use Rattle.queue.specs.Deliveries.{delivery_fault, fault_of_read, most_bytes, or_else, record_fault}
+use Rattle.queue.specs.Deliveries.{IsKeepers, delivery_fault, fault_of_read, most_bytes, or_else, record_fault}
 use Rattle.queue.specs.Fault.{of_keeper}
 use Rattle.queue.specs.Histories.{Call, Delivery, QueueRun, Copying, Lookup, WaitingList, VerdictList, Reply, Stored, Lines, Found, Step, History, arrived, bodies_of, bodies_of_call, calls_of, followed, waiting_after}
 use Rattle.queue.specs.declared.fault.Fault.{Fault}
@@ -62,6 +62,19 @@ pub memory_step : (may_fail : Bool) (h : History) (call : Call) (told : Fault) (
     → IsStep may_fail h call (Err told) is_open new
 memory_step may_fail h call told was_open is_open old new is kept same =
     refused_step may_fail h call told was_open is_open old new kept same (subst (λ (f : Fault). IsAnswer may_fail h call (Err f)) (sym is) tt)
+
+keepers_of : (may_fail : Bool) (free : Type 0) (fault : KeepFault) → MayAnswer may_fail fault → free → IsKeepers may_fail free (of_keeper fault)
+keepers_of may_fail free keep_faults.OutOfMemory may here = tt
+keepers_of may_fail free keep_faults.Disk may here = (may, tt, here)
+keepers_of may_fail free keep_faults.Size may here = (may, tt, here)
+keepers_of may_fail free keep_faults.Tables may here = absurd may
+
+-- what a keeper refuses is a refusal of its own, and so is want of memory
+pub keepers_own : (may_fail : Bool) (free : Type 0) (fault : KeepFault) (told : Fault) → told ≡ of_keeper fault → MayAnswer may_fail fault → free → IsKeepers may_fail free told
+keepers_own may_fail free fault told is may here = subst (λ (f : Fault). IsKeepers may_fail free f) (sym is) (keepers_of may_fail free fault may here)
+
+pub memory_own : (may_fail : Bool) (free : Type 0) (told : Fault) → told ≡ OutOfMemory → IsKeepers may_fail free told
+memory_own may_fail free told is = subst (λ (f : Fault). IsKeepers may_fail free f) (sym is) tt
 
 -- a fault that is the answer, whichever it is
 answered_fault : (may_fail : Bool) (h : History) (call : Call) (fault : Fault) → answer h call ≡ Err fault → ((own : KeepFault) → fault ≡ Keeper own → ⊥) → IsAnswer may_fail h call (Err fault)

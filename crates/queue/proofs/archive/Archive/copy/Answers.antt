@@ -1,16 +1,17 @@
-use Rattle.std.proofs.Common.{◌<◌, length, Some, [], ◌∷◌, inl, inr, refl, sym, ap, subst, ◌∙◌}
+use Rattle.std.proofs.Common.{◌≡◌, ◌<◌, true, length, Some, [], ◌∷◌, inl, inr, refl, sym, ap, subst, ◌∙◌}
 use Rattle.std.specs.Prelude.{⊤}
 use Rattle.std.proofs.lemmas.Result.{err_from_is_err_and}
 use Rattle.rules.specs.Values.{ConfigValue}
 use Rattle.suites.specs.Plan as plans
+use Rattle.queue.specs.Answers.{is_free_copy}
 use Rattle.queue.specs.Archives.{book_of}
 use Rattle.queue.specs.Copies.{AreSuites, copy_fault}
 use Rattle.queue.specs.Histories.{Copying, Count}
 use Rattle.queue.specs.declared.fault.Fault.TheVariants.{Moment}
-use Rattle.queue.proofs.CopyAnswers.{done_copy, free_copy, late_fault, named_fault, named_in, copy_past, copy_steps, named_place, no_fault, nothing_fault, refused_copy, sound_copy}
+use Rattle.queue.proofs.CopyAnswers.{done_copy, free_copy, late_fault, may_copy, named_fault, named_in, copy_past, copy_steps, named_place, no_fault, nothing_fault, refused_copy, sound_copy}
 use Rattle.queue.proofs.RunAnswers.{renewed_change}
 use Rattle.queue.proofs.Kept.{same_by, same_past, untouched}
-use Rattle.queue.proofs.StepAnswers.{keeper_step, left_whole, memory_step, stands_answered}
+use Rattle.queue.proofs.StepAnswers.{keeper_step, keepers_own, left_whole, memory_own, memory_step, stands_answered}
 use Rattle.queue.proofs.archive.Archive.copy.Goals as goal
 
 pub returns-then-moment-gt-LATEST-clause-step : goal.returns-then-moment-gt-LATEST-clause-step
@@ -147,6 +148,32 @@ pub returns-clause-done : goal.returns-clause-done
 returns-clause-done g c clean =
     no_fault (g.K.Keeper.book c.args.self.now.keeper) c.config.result.now c.in_ok-shelves.shelves c.args.from.now c.args.to.now c.args.source.now c.args.moment c.in_ok-from.from c.in_ok-from.to
     c.if-moment-gt-LATEST.false c.config.ensures (c.in_ok-shelves.ensures.shelves (c.in_ok-texts.ensures.reads.lasts.clean (c.in_ok-apply.ensures.lasts.clean clean))) c.in_ok-from.ensures.suites c.in_ok-plan.ensures.plan.shows
+
+pub returns-in_err-shelves-clause-refused : goal.returns-in_err-shelves-clause-refused
+returns-in_err-shelves-clause-refused g c clean =
+    let p = err_from_is_err_and c.from_residual-in_err-shelves.result c.from_residual-in_err-shelves.ensures.1 in
+    rw p.1 (inr (keepers_own g.K.Keeper.may_fail (is_free_copy (g.K.Keeper.book c.args.self.now.keeper).config c.args.from.now c.args.to.now c.args.moment ≡ true) c.in_err-shelves.field-0.0 p.0 p.2 c.in_err-shelves.ensures.cause
+    (may_copy (g.K.Keeper.book c.args.self.now.keeper) c.config.result.now c.args.from.now c.args.to.now c.args.moment c.in_ok-from.from c.in_ok-from.to
+    c.config.ensures c.if-moment-gt-LATEST.false c.in_ok-from.ensures.suites)))
+
+pub returns-in_err-steps-clause-refused : goal.returns-in_err-steps-clause-refused
+returns-in_err-steps-clause-refused g c clean =
+    let p = err_from_is_err_and c.from_residual-in_err-steps.result c.from_residual-in_err-steps.ensures.1 in
+    rw p.1 (inr (memory_own g.K.Keeper.may_fail (is_free_copy (g.K.Keeper.book c.args.self.now.keeper).config c.args.from.now c.args.to.now c.args.moment ≡ true) p.0 p.2))
+
+pub returns-in_err-texts-clause-refused : goal.returns-in_err-texts-clause-refused
+returns-in_err-texts-clause-refused g c clean =
+    let p = err_from_is_err_and c.from_residual-in_err-texts.result c.from_residual-in_err-texts.ensures.1 in
+    rw p.1 (inr (keepers_own g.K.Keeper.may_fail (is_free_copy (g.K.Keeper.book c.args.self.now.keeper).config c.args.from.now c.args.to.now c.args.moment ≡ true) c.in_err-texts.field-0.0 p.0 p.2 c.in_err-texts.ensures.cause
+    (may_copy (g.K.Keeper.book c.args.self.now.keeper) c.config.result.now c.args.from.now c.args.to.now c.args.moment c.in_ok-from.from c.in_ok-from.to
+    c.config.ensures c.if-moment-gt-LATEST.false c.in_ok-from.ensures.suites)))
+
+pub returns-in_err-apply-clause-refused : goal.returns-in_err-apply-clause-refused
+returns-in_err-apply-clause-refused g c clean =
+    let p = err_from_is_err_and c.from_residual-in_err-apply.result c.from_residual-in_err-apply.ensures.1 in
+    rw p.1 (inr (keepers_own g.K.Keeper.may_fail (is_free_copy (g.K.Keeper.book c.args.self.now.keeper).config c.args.from.now c.args.to.now c.args.moment ≡ true) c.in_err-apply.field-0.0 p.0 p.2 c.in_err-apply.ensures.cause
+    (may_copy (g.K.Keeper.book c.args.self.now.keeper) c.config.result.now c.args.from.now c.args.to.now c.args.moment c.in_ok-from.from c.in_ok-from.to
+    c.config.ensures c.if-moment-gt-LATEST.false c.in_ok-from.ensures.suites)))
 
 pub returns-then-moment-gt-LATEST-clause-crash : goal.returns-then-moment-gt-LATEST-clause-crash
 returns-then-moment-gt-LATEST-clause-crash g c h kept faithful clean left may = inl may

@@ -1,10 +1,12 @@
 use Rattle.std.proofs.Common.{ap, ◌∙◌}
+use Rattle.std.specs.Prelude.{⊤}
 use Rattle.std.specs.Option.{option_or}
 use Rattle.std.proofs.lemmas.Result.{err_from_is_err_and}
 use Rattle.keep.specs.Book.{text_at}
 use Rattle.queue.specs.Histories.{Lookup}
 use Rattle.queue.proofs.Kept.{same_by, same_past}
-use Rattle.queue.proofs.StepAnswers.{found_step, free_lookup, keeper_step}
+use Rattle.queue.proofs.ReadLemmas.{reads_more}
+use Rattle.queue.proofs.StepAnswers.{found_step, free_lookup, keeper_step, keepers_own}
 use Rattle.queue.proofs.archive.Archive.fetch.Goals as goal
 
 pub returns-in_err-body-clause-step : goal.returns-in_err-body-clause-step
@@ -41,14 +43,24 @@ returns-in_ok-text-in-None-clause-step g c h kept faithful clean =
     ∙ ap (λ f. option_or f (text_at (g.K.Keeper.book c.args.self.now.keeper) c.args.path.now)) (rw c.in-None.is at file))
     (c.in_ok-text-in-None.ensures.reads.same clean up ∙ same)
 
-pub returns-in_err-body-clause-crash : goal.returns-in_err-body-clause-crash
-returns-in_err-body-clause-crash g c clean left may = c.in_err-body.ensures.reads.crash clean left may
+pub returns-in_err-body-clause-refused : goal.returns-in_err-body-clause-refused
+returns-in_err-body-clause-refused g c =
+    let p = err_from_is_err_and c.from_residual.result c.from_residual.ensures.1 in
+    rw p.1 (keepers_own g.K.Keeper.may_fail ⊤ c.in_err-body.field-0.0 p.0 p.2 c.in_err-body.ensures.cause tt)
 
-pub returns-in_err-text-in-None-clause-crash : goal.returns-in_err-text-in-None-clause-crash
-returns-in_err-text-in-None-clause-crash g c clean left may = c.in_ok-body.ensures.reads.crash (c.in_err-text-in-None.ensures.reads.lasts.clean clean) left (c.in_err-text-in-None.ensures.reads.crash clean left may)
+pub returns-in_err-text-in-None-clause-refused : goal.returns-in_err-text-in-None-clause-refused
+returns-in_err-text-in-None-clause-refused g c =
+    let p = err_from_is_err_and c.from_residual-in_err-text-in-None.result c.from_residual-in_err-text-in-None.ensures.1 in
+    rw p.1 (keepers_own g.K.Keeper.may_fail ⊤ c.in_err-text-in-None.field-0.0 p.0 p.2 c.in_err-text-in-None.ensures.cause tt)
 
-pub returns-in-Some-clause-crash : goal.returns-in-Some-clause-crash
-returns-in-Some-clause-crash g c clean left may = c.in_ok-body.ensures.reads.crash clean left may
+pub returns-in_err-body-clause-reads : goal.returns-in_err-body-clause-reads
+returns-in_err-body-clause-reads g c = c.in_err-body.ensures.reads
 
-pub returns-in_ok-text-in-None-clause-crash : goal.returns-in_ok-text-in-None-clause-crash
-returns-in_ok-text-in-None-clause-crash g c clean left may = c.in_ok-body.ensures.reads.crash (c.in_ok-text-in-None.ensures.reads.lasts.clean clean) left (c.in_ok-text-in-None.ensures.reads.crash clean left may)
+pub returns-in_err-text-in-None-clause-reads : goal.returns-in_err-text-in-None-clause-reads
+returns-in_err-text-in-None-clause-reads g c = reads_more c.in_ok-body.ensures.reads c.in_err-text-in-None.ensures.reads
+
+pub returns-in-Some-clause-reads : goal.returns-in-Some-clause-reads
+returns-in-Some-clause-reads g c = c.in_ok-body.ensures.reads
+
+pub returns-in_ok-text-in-None-clause-reads : goal.returns-in_ok-text-in-None-clause-reads
+returns-in_ok-text-in-None-clause-reads g c = reads_more c.in_ok-body.ensures.reads c.in_ok-text-in-None.ensures.reads

@@ -1,12 +1,12 @@
-use Rattle.std.proofs.Common.{inl, inr, [], ◌∷◌, Some, refl, sym, ap, ◌∙◌}
+use Rattle.std.proofs.Common.{◌≤◌, inl, inr, [], ◌∷◌, Some, refl, sym, ap, ◌∙◌}
 use Rattle.std.specs.Prelude.{⊤, map}
 use Rattle.std.proofs.lemmas.Result.{err_from_is_err_and}
-use Rattle.keep.specs.Book.{Book, judgements}
+use Rattle.keep.specs.Book.{Book, judgements, latest}
 use Rattle.queue.specs.Answers.{report_line}
 use Rattle.queue.specs.Histories.{Lines, QueueRun}
 use Rattle.queue.specs.declared.fault.Fault.TheVariants.{Moment}
 use Rattle.queue.proofs.Kept.{same_by, same_past, untouched}
-use Rattle.queue.proofs.StepAnswers.{keeper_step, left_whole, memory_step, refused_step, stands_answered}
+use Rattle.queue.proofs.StepAnswers.{keeper_step, keepers_own, left_whole, memory_own, memory_step, refused_step, stands_answered}
 use Rattle.queue.proofs.RunAnswers.{free_run, late_run, ran_step, renewed_change, run_past, run_steps, sound_run}
 use Rattle.queue.proofs.archive.Archive.run.Goals as goal
 
@@ -119,6 +119,39 @@ returns-clause-step g c h kept faithful clean =
     c.in_ok-steps.ensures.steps
     (c.in_ok-apply.ensures.ok clean)
     (c.in_ok-lines.ensures ∙ ap (λ steps. map report_line (judgements steps)) c.deref-2.ensures.value)
+
+pub returns-then-moment-gt-LATEST-clause-refused : goal.returns-then-moment-gt-LATEST-clause-refused
+returns-then-moment-gt-LATEST-clause-refused g c = inl c.if-moment-gt-LATEST.true
+
+pub returns-in_err-uploads-clause-refused : goal.returns-in_err-uploads-clause-refused
+returns-in_err-uploads-clause-refused g c =
+    let p = err_from_is_err_and c.from_residual.result c.from_residual.ensures.1 in
+    rw p.1 (inr (keepers_own g.K.Keeper.may_fail (c.args.moment ≤ latest) c.in_err-uploads.field-0.0 p.0 p.2 c.in_err-uploads.ensures.cause c.if-moment-gt-LATEST.false))
+
+pub returns-in_err-shelves-clause-refused : goal.returns-in_err-shelves-clause-refused
+returns-in_err-shelves-clause-refused g c =
+    let p = err_from_is_err_and c.from_residual-in_err-shelves.result c.from_residual-in_err-shelves.ensures.1 in
+    rw p.1 (inr (keepers_own g.K.Keeper.may_fail (c.args.moment ≤ latest) c.in_err-shelves.field-0.0 p.0 p.2 c.in_err-shelves.ensures.cause c.if-moment-gt-LATEST.false))
+
+pub returns-in_err-steps-clause-refused : goal.returns-in_err-steps-clause-refused
+returns-in_err-steps-clause-refused g c =
+    let p = err_from_is_err_and c.from_residual-in_err-steps.result c.from_residual-in_err-steps.ensures.1 in
+    rw p.1 (inr (memory_own g.K.Keeper.may_fail (c.args.moment ≤ latest) p.0 p.2))
+
+pub returns-in_err-lines-clause-refused : goal.returns-in_err-lines-clause-refused
+returns-in_err-lines-clause-refused g c =
+    let p = err_from_is_err_and c.from_residual-in_err-lines.result c.from_residual-in_err-lines.ensures.1 in
+    rw p.1 (inr (memory_own g.K.Keeper.may_fail (c.args.moment ≤ latest) p.0 p.2))
+
+pub returns-in_err-texts-clause-refused : goal.returns-in_err-texts-clause-refused
+returns-in_err-texts-clause-refused g c =
+    let p = err_from_is_err_and c.from_residual-in_err-texts.result c.from_residual-in_err-texts.ensures.1 in
+    rw p.1 (inr (keepers_own g.K.Keeper.may_fail (c.args.moment ≤ latest) c.in_err-texts.field-0.0 p.0 p.2 c.in_err-texts.ensures.cause c.if-moment-gt-LATEST.false))
+
+pub returns-in_err-apply-clause-refused : goal.returns-in_err-apply-clause-refused
+returns-in_err-apply-clause-refused g c =
+    let p = err_from_is_err_and c.from_residual-in_err-apply.result c.from_residual-in_err-apply.ensures.1 in
+    rw p.1 (inr (keepers_own g.K.Keeper.may_fail (c.args.moment ≤ latest) c.in_err-apply.field-0.0 p.0 p.2 c.in_err-apply.ensures.cause c.if-moment-gt-LATEST.false))
 
 pub returns-then-moment-gt-LATEST-clause-crash : goal.returns-then-moment-gt-LATEST-clause-crash
 returns-then-moment-gt-LATEST-clause-crash g c h kept faithful clean left may = inl may
