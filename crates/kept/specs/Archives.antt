@@ -9,6 +9,7 @@ use Rattle.suites.specs.Shelves.{ShelvesValue}
 use Rattle.keep.specs.Book.{Book}
 use Rattle.keep.specs.declared.change.Judgement.{Judgement}
 use Rattle.tables.specs.Rows.{Tables, Holds, IsArchive, tables_in}
+use Rattle.kept.specs.Finished.{finished}
 use Rattle.kept.specs.Kept.{IsKept, book_in}
 
 -- The database is that of an archive of this configuration, with these judged uploads, this shown, and these dates.
@@ -23,6 +24,11 @@ book_of db config judged shown dates = book_in config judged shown dates (tables
 -- The database keeps this book.
 abbrev pub KeepsBook : Database → ConfigValue → Book → Type 0
 KeepsBook db config b = ∥ ((judged : List Judgement) × (shown : ShelvesValue) × (dates : List ℕ) × KeepsArchive db config judged shown dates × (b ≡ book_of db config judged shown dates)) ∥₁
+
+-- The database keeps this book, once the bodies that are not whole are away.
+abbrev pub KeepsFinished : Database → ConfigValue → Book → Type 0
+KeepsFinished db config b = ∥ ((judged : List Judgement) × (shown : ShelvesValue) × (dates : List ℕ) × IsArchive db
+    × IsKept (finished (tables_in db)) config judged shown dates × (b ≡ book_in config judged shown dates (finished (tables_in db)))) ∥₁
 
 -- What trees keep that a crash leaves: an archive of this configuration with this book, or none of this configuration.
 abbrev pub KeepsLeft : Trees → ConfigValue → Option Book → Type 0

@@ -9,4 +9,3 @@ pub mod Steps
 pub mod Commands
 pub mod Judging
 pub mod Renewal
-pub mod Openings

@@ -1,10 +1,9 @@
 //! Laws of histories.
 
 ghost use Rattle.std.specs.Prelude.{◌≡◌, ◌⊎◌, ℕ, List, [], ◌∷◌, Option, Some};
-ghost use Rattle.keep.specs.Book.{Book};
+ghost use Rattle.keep.specs.Book.{Book, HasItsFiles};
 ghost use Rattle.queue.specs.Archives.{book_of, Stands};
-ghost use Rattle.queue.specs.Histories.{Call, History, followed};
-ghost use Rattle.queue.specs.Openings.{HasItsFiles};
+ghost use Rattle.queue.specs.Histories.{Call, History, followed, opened_with};
 ghost use Rattle.rules.specs.Values.{ConfigValue};
 ghost use Rattle.std.specs.FinMap.{values};
 ghost use Rattle.suites.specs.Pool.{AreAgreed, files_of};
@@ -23,14 +22,14 @@ pub fn nothing_is_an_opening()
 /// A book whose files are those of its pool, each a body of the print that is shown, stands for the history that opens with
 /// it.
 pub fn a_book_opens_its_history()
-    ensures { (book : Book) → HasItsFiles book → Stands book (record { opening = book; steps = [] }) }
+    ensures { (book : Book) → HasItsFiles book → Stands book (opened_with book) }
 {}
 
 /// Where the promise holds for calls behind a history, it holds for them behind the book that the history leaves, as a
 /// keeper has it that was opened again: what is shown there agrees on the contents at each path.
 pub fn a_history_goes_on_from_its_book()
     ensures { (h : History) (calls : List Call) → AreAgreed (files_of (values (book_of h).shown)) → IsFaithful h calls
-        → IsFaithful (record { opening = book_of h; steps = [] }) calls }
+        → IsFaithful (opened_with (book_of h)) calls }
 {}
 
 /// A stop during a call of an open keeper, or behind it, leaves the book that the history leaves, or the one that it leaves with
