@@ -1,0 +1,4 @@
+use Rattle.keep_tables.proofs.meaning.a_keeper_is_its_tables.Goals as goal
+
+pub returns-clause-leaves : goal.returns-clause-leaves
+returns-clause-leaves g c k trees left may keeps = (trees, may, keeps)
