@@ -6,7 +6,7 @@ use Rattle.keep.specs.Keeping.{Lasts, MoreFaults, Reads}
 more_behind : (a b c : ℕ) → MoreFaults a b → b ≤ c → MoreFaults a c
 more_behind a b c more counts = omega (arith, more, counts)
 
-more_before : (a b c : ℕ) → a ≤ b → MoreFaults b c → MoreFaults a c
+pub more_before : (a b c : ℕ) → a ≤ b → MoreFaults b c → MoreFaults a c
 more_before a b c counts more = omega (arith, more, counts)
 
 module _ {K : Type 0} {is_clean is_open : K → Type 0} {faults : K → ℕ} {book : K → Book} where
