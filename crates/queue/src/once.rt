@@ -1,6 +1,6 @@
 //! The promise from the first call on, over a keeper in memory.
 
-ghost use Rattle.std.specs.Prelude.{◌≡◌, ⊤, false, IfOk, map};
+ghost use Rattle.std.specs.Prelude.{◌≡◌, ◌≤◌, ⊤, false, IfOk, map};
 ghost use Rattle.keep.specs.Keeping.{NoCollision};
 ghost use Rattle.keep.specs.Plain.{fresh_book, plain_book};
 ghost use Rattle.queue.specs.Answers.{IsRun};
