@@ -1,17 +1,22 @@
--- One connection more behind those that were served.
-use Rattle.std.proofs.Common.{◌≡◌, ℕ, Bool, List, [], ◌∷◌, ◌++◌, Option, Some, Result, refl, sym, ap, subst, ◌∙◌, append_assoc, append-nil, arith}
+-- Connections that were served, and others behind them.
+use Rattle.std.proofs.Common.{◌≡◌, ℕ, List, [], ◌∷◌, ◌++◌, Option, Result, refl, sym, ap, subst, ◌∙◌, append_assoc, arith}
 use Rattle.std.proofs.lemmas.Grind.{flat_map-append}
 use Rattle.std.proofs.lemmas.List.Elements.{Contains-append_left}
 use Rattle.std.specs.Prelude.{Contains, length}
-use Rattle.keep.specs.Book.{Book}
+use Rattle.keep.specs.Book.{HasItsFiles}
+use Rattle.keep.specs.Keeping.{HasBodies, NoCollision}
+use Rattle.keep.specs.declared.keeper.Keeper.{Ghosts}
 use Rattle.queue.specs.Answers.{IsFaithful, IsKept, IsRun}
-use Rattle.queue.specs.Histories.{Call, Reply, History, followed, bodies_of, bodies_of_call, calls_of}
+use Rattle.queue.specs.Archives.{Stands}
+use Rattle.queue.specs.Histories.{Call, Reply, History, followed, bodies_of, bodies_of_call, calls_of, opened_with}
+use Rattle.queue.specs.Steps.{Does, Reads}
 use Rattle.queue.specs.declared.fault.Fault.{Fault}
+use Rattle.queue.proofs.Kept.{stands_kept}
+use Rattle.queue.proofs.Reopening.{opens_itself}
 use Rattle.queue.proofs.Runs.{IsFaithful-rest}
 use Rattle.desk.specs.Calls.{call_wanted}
-use Rattle.desk.specs.Connections.{Visit, visit, visits, Went, AllWent, AreServed, IsServed, IsAt, calls_in, calls_of_course, outcomes_in, outcomes_of_course}
+use Rattle.desk.specs.Connections.{Visit, visit, visits, AllWent, AreServed, IsServed, IsAt, calls_in, calls_of_course, outcomes_in, outcomes_of_course}
 use Rattle.desk.specs.Exchange.{Course, Silent, TurnedAway, Short, Broken, Called, Leaves}
-use Rattle.desk.specs.Steps.{Does}
 use Rattle.desk.specs.declared.connection.Connection.{Connection}
 
 -- what is faithful with calls to come is so without the last of them
@@ -26,11 +31,12 @@ IsFaithful-front h calls more faithful =
       delivered = λ body there. faithful.delivered body (subst (λ all. Contains all body) (sym regrouped) (Contains-append_left (bodies_of (calls_of h.steps ++ calls)) (bodies_of more) body there));
     }
 
-pub AllWent-snoc : (vs : List Visit) (courses : List Course) (v : Visit) (course : Course) → AllWent vs courses → Went v course → AllWent (vs ++ v ∷ []) (courses ++ course ∷ [])
-AllWent-snoc [] [] v course all went = (went, tt)
-AllWent-snoc (w ∷ ws) (c ∷ cs) v course (first, all) went = (first, AllWent-snoc ws cs v course all went)
-AllWent-snoc [] (c ∷ cs) v course all went = absurd all
-AllWent-snoc (w ∷ ws) [] v course all went = absurd all
+-- courses of connections, and of others behind them
+AllWent-append : (vs : List Visit) (courses : List Course) (ws : List Visit) (others : List Course) → AllWent vs courses → AllWent ws others → AllWent (vs ++ ws) (courses ++ others)
+AllWent-append [] [] ws others all more = more
+AllWent-append (v ∷ vs) (course ∷ courses) ws others (first, all) more = (first, AllWent-append vs courses ws others all more)
+AllWent-append [] (course ∷ courses) ws others all more = absurd all
+AllWent-append (v ∷ vs) [] ws others all more = absurd all
 
 module _ {R W : Type 0} (remaining : R → Option (List ℕ)) (contents : W → Option (List ℕ)) where
   pub visits-snoc : (olds news : List (Connection R W)) (old new : Connection R W) → length olds ≡ length news
@@ -40,73 +46,83 @@ module _ {R W : Type 0} (remaining : R → Option (List ℕ)) (contents : W → 
   visits-snoc [] (n ∷ ns) old new same = absurd (omega (arith, same))
   visits-snoc (o ∷ os) [] old new same = absurd (omega (arith, same))
 
-module _ {K : Type 0} (may_fail : Bool) (is_clean is_open : K → Type 0) (book : K → Book) where
-  -- one call more behind a run
-  pub IsRun-snoc : (h : History) (calls : List Call) (outcomes : List (Result Reply Fault)) (mid after : K) (call : Call) (outcome : Result Reply Fault)
-      → IsRun may_fail h calls outcomes (is_open mid) (book mid) → Does may_fail is_clean is_open book mid call outcome after → is_clean after
-      → IsFaithful h (calls ++ call ∷ []) → IsRun may_fail h (calls ++ call ∷ []) (outcomes ++ outcome ∷ []) (is_open after) (book after)
-  IsRun-snoc h [] [] mid after call outcome kept does clean faithful =
-      let step = does h kept faithful clean in
-      (step.answered, step.kept)
-  IsRun-snoc h (c ∷ cs) (o ∷ os) mid after call outcome (answered, run) does clean faithful =
-      (answered, IsRun-snoc (followed h c o) cs os mid after call outcome run does clean (IsFaithful-rest h c o (cs ++ call ∷ []) faithful))
-  IsRun-snoc h [] (o ∷ os) mid after call outcome run does clean faithful = absurd run
-  IsRun-snoc h (c ∷ cs) [] mid after call outcome run does clean faithful = absurd run
+module _ {K : Type 0} (g : Ghosts K) where
+  -- a run, and calls behind it that are a run behind each history whose book is then kept
+  IsRun-append : (h : History) (calls : List Call) (outcomes : List (Result Reply Fault)) (more : List Call) (others : List (Result Reply Fault)) (mid after : K)
+      → IsRun g.may_fail h calls outcomes (g.is_open mid) (g.book mid)
+      → ((later : History) → IsKept (g.is_open mid) (g.book mid) later → IsFaithful later more → IsRun g.may_fail later more others (g.is_open after) (g.book after))
+      → IsFaithful h (calls ++ more) → IsRun g.may_fail h (calls ++ more) (outcomes ++ others) (g.is_open after) (g.book after)
+  IsRun-append h [] [] more others mid after kept runs faithful = runs h kept faithful
+  IsRun-append h (c ∷ cs) (o ∷ os) more others mid after (answered, run) runs faithful =
+      (answered, IsRun-append (followed h c o) cs os more others mid after run runs (IsFaithful-rest h c o (cs ++ more) faithful))
+  IsRun-append h [] (o ∷ os) more others mid after run runs faithful = absurd run
+  IsRun-append h (c ∷ cs) [] more others mid after run runs faithful = absurd run
 
-  pub at_of : (moment : ℕ) (before after : K) (course : Course) → Leaves (Does may_fail is_clean is_open book) moment before after course → IsAt moment course
+  pub at_of : (moment : ℕ) (before after : K) (course : Course) → Leaves (Does g) moment before after course → IsAt moment course
   at_of moment before after Silent leaves = tt
   at_of moment before after (TurnedAway e) leaves = tt
   at_of moment before after Short leaves = tt
   at_of moment before after Broken leaves = tt
   at_of moment before after (Called want body at outcome) leaves = leaves.0
 
-  -- where no call was made
-  run_same : (h : History) (mid after : K) (cs : List Course) (course : Course) → calls_of_course course ≡ [] → outcomes_of_course course ≡ [] → after ≡ mid
-      → IsRun may_fail h (calls_in cs) (outcomes_in cs) (is_open mid) (book mid)
-      → IsRun may_fail h (calls_in (cs ++ course ∷ [])) (outcomes_in (cs ++ course ∷ [])) (is_open after) (book after)
-  run_same h mid after cs course no_call no_outcome same run =
-      let calls : calls_in (cs ++ course ∷ []) ≡ calls_in cs =
-      flat_map-append calls_of_course cs (course ∷ []) ∙ ap (λ xs. calls_in cs ++ (xs ++ [])) no_call ∙ append-nil (calls_in cs) in
-      let outcomes : outcomes_in (cs ++ course ∷ []) ≡ outcomes_in cs =
-      flat_map-append outcomes_of_course cs (course ∷ []) ∙ ap (λ xs. outcomes_in cs ++ (xs ++ [])) no_outcome ∙ append-nil (outcomes_in cs) in
-      subst (λ (xs : List Call). IsRun may_fail h xs (outcomes_in (cs ++ course ∷ [])) (is_open after) (book after)) (sym calls)
-      (subst (λ (os : List (Result Reply Fault)). IsRun may_fail h (calls_in cs) os (is_open after) (book after)) (sym outcomes)
-      (subst (λ (k : K). IsRun may_fail h (calls_in cs) (outcomes_in cs) (is_open k) (book k)) (sym same) run))
+  -- where no call was made what was kept is kept
+  still_kept : (h : History) (before after : K) → after ≡ before → IsKept (g.is_open before) (g.book before) h → IsKept (g.is_open after) (g.book after) h
+  still_kept h before after same kept = subst (λ (k : K). IsKept (g.is_open k) (g.book k) h) (sym same) kept
 
-  run_more : (h : History) (moment : ℕ) (mid after : K) (cs : List Course) (course : Course) → Leaves (Does may_fail is_clean is_open book) moment mid after course
-      → IsFaithful h (calls_in (cs ++ course ∷ [])) → is_clean after → IsRun may_fail h (calls_in cs) (outcomes_in cs) (is_open mid) (book mid)
-      → IsRun may_fail h (calls_in (cs ++ course ∷ [])) (outcomes_in (cs ++ course ∷ [])) (is_open after) (book after)
-  run_more h moment mid after cs Silent same faithful clean run = run_same h mid after cs Silent refl refl same run
-  run_more h moment mid after cs (TurnedAway e) same faithful clean run = run_same h mid after cs (TurnedAway e) refl refl same run
-  run_more h moment mid after cs Short same faithful clean run = run_same h mid after cs Short refl refl same run
-  run_more h moment mid after cs Broken same faithful clean run = run_same h mid after cs Broken refl refl same run
-  run_more h moment mid after cs (Called want body at outcome) (at_is, done) faithful clean run =
-      let course = Called want body at outcome in
-      let call = call_wanted want body at in
-      let calls : calls_in (cs ++ course ∷ []) ≡ calls_in cs ++ call ∷ [] = flat_map-append calls_of_course cs (course ∷ []) in
-      let outcomes : outcomes_in (cs ++ course ∷ []) ≡ outcomes_in cs ++ outcome ∷ [] = flat_map-append outcomes_of_course cs (course ∷ []) in
-      let does = subst (λ (m : ℕ). Does may_fail is_clean is_open book mid (call_wanted want body m) outcome after) (sym at_is) done in
-      let whole = IsRun-snoc h (calls_in cs) (outcomes_in cs) mid after call outcome run does clean (subst (λ (xs : List Call). IsFaithful h xs) calls faithful) in
-      subst (λ (xs : List Call). IsRun may_fail h xs (outcomes_in (cs ++ course ∷ [])) (is_open after) (book after)) (sym calls)
-      (subst (λ (os : List (Result Reply Fault)). IsRun may_fail h (calls_in cs ++ call ∷ []) os (is_open after) (book after)) (sym outcomes) whole)
+  -- what the one connection asked is a run
+  one_run : (h : History) (moment : ℕ) (before after : K) (course : Course) → Leaves (Does g) moment before after course → IsKept (g.is_open before) (g.book before) h
+      → IsFaithful h (calls_in (course ∷ [])) → g.is_clean after → IsRun g.may_fail h (calls_in (course ∷ [])) (outcomes_in (course ∷ [])) (g.is_open after) (g.book after)
+  one_run h moment before after Silent same kept faithful clean = still_kept h before after same kept
+  one_run h moment before after (TurnedAway e) same kept faithful clean = still_kept h before after same kept
+  one_run h moment before after Short same kept faithful clean = still_kept h before after same kept
+  one_run h moment before after Broken same kept faithful clean = still_kept h before after same kept
+  one_run h moment before after (Called want body at outcome) (at_is, done) kept faithful clean =
+      let does = subst (λ (m : ℕ). Does g before (call_wanted want body m) outcome after) (sym at_is) done in
+      let step = does h kept faithful clean in
+      (step.answered, step.kept)
 
-  pub served_none : (before : K) → AreServed may_fail is_clean is_open book before before []
-  served_none before = record { courses = []; went = tt; run = λ h kept faithful clean. kept }
-
-  -- one connection more was answered
-  pub served_more : (before mid after : K) (vs : List Visit) (v : Visit) → (is_clean after → is_clean mid)
-      → AreServed may_fail is_clean is_open book before mid vs → IsServed (Does may_fail is_clean is_open book) v mid after
-      → AreServed may_fail is_clean is_open book before after (vs ++ v ∷ [])
-  served_more before mid after vs v clean_before so_far served =
-      let cs = so_far.courses in
+  pub served_one : (before after : K) (v : Visit) → IsServed (Does g) v before after → AreServed g before after (v ∷ [])
+  served_one before after v served =
       let answered = served.answered in
       let course = answered.course in
       record {
-        courses = cs ++ course ∷ [];
-        went = AllWent-snoc vs cs v course so_far.went
-            (record { read = answered.read; at = at_of v.moment mid after course answered.leaves; result = served.result; end_is = served.end_is; written = answered.written });
-        run = λ h kept faithful clean.
-            let parts = subst (λ (xs : List Call). IsFaithful h xs) (flat_map-append calls_of_course cs (course ∷ [])) faithful in
-            run_more h v.moment mid after cs course answered.leaves faithful clean
-            (so_far.run h kept (IsFaithful-front h (calls_in cs) (calls_in (course ∷ [])) parts) (clean_before clean));
+        courses = course ∷ [];
+        went = (record { read = answered.read; at = at_of v.moment before after course answered.leaves; result = served.result; end_is = served.end_is; written = answered.written }, tt);
+        run = λ h kept faithful clean. one_run h v.moment before after course answered.leaves kept faithful clean;
       }
+
+  -- no connection was answered, and reads at most were made
+  pub served_none : (before after : K) → Reads g before after → AreServed g before after []
+  served_none before after reads = record {
+    courses = [];
+    went = tt;
+    run = λ h kept faithful clean. record { config = reads.lasts.config ∙ kept.config; stands = λ up. reads.same clean up ∙ kept.stands (reads.lasts.was_open clean up) };
+  }
+
+  -- connections were answered, and others behind them
+  pub served_joined : (before mid after : K) (vs ws : List Visit) → (g.is_clean after → g.is_clean mid) → AreServed g before mid vs → AreServed g mid after ws
+      → AreServed g before after (vs ++ ws)
+  served_joined before mid after vs ws clean_before first rest =
+      let cs = first.courses in
+      let ds = rest.courses in
+      let calls : calls_in (cs ++ ds) ≡ calls_in cs ++ calls_in ds = flat_map-append calls_of_course cs ds in
+      let outcomes : outcomes_in (cs ++ ds) ≡ outcomes_in cs ++ outcomes_in ds = flat_map-append outcomes_of_course cs ds in
+      record {
+        courses = cs ++ ds;
+        went = AllWent-append vs cs ws ds first.went rest.went;
+        run = λ h kept faithful clean.
+            let parts = subst (λ (xs : List Call). IsFaithful h xs) calls faithful in
+            let run = first.run h kept (IsFaithful-front h (calls_in cs) (calls_in ds) parts) (clean_before clean) in
+            subst (λ (xs : List Call). IsRun g.may_fail h xs (outcomes_in (cs ++ ds)) (g.is_open after) (g.book after)) (sym calls)
+            (subst (λ (os : List (Result Reply Fault)). IsRun g.may_fail h (calls_in cs ++ calls_in ds) os (g.is_open after) (g.book after)) (sym outcomes)
+            (IsRun-append h (calls_in cs) (outcomes_in cs) (calls_in ds) (outcomes_in ds) mid after run (λ later stays holds. rest.run later stays holds clean) parts));
+      }
+
+  -- the answers begin behind the book that is kept before, where that has its files
+  pub served_behind : (before after : K) (vs : List Visit) (served : AreServed g before after vs) (bodies : List (List ℕ)) → HasItsFiles (g.book before) → NoCollision bodies → HasBodies bodies (g.book before)
+      → ((body : List ℕ) → Contains (bodies_of (calls_in served.courses)) body → Contains bodies body) → g.is_clean after
+      → IsRun g.may_fail (opened_with (g.book before)) (calls_in served.courses) (outcomes_in served.courses) (g.is_open after) (g.book after)
+  served_behind before after vs served bodies files apart have there clean =
+      let whole : Stands (g.book before) (opened_with (g.book before)) = opens_itself (g.book before) files in
+      served.run (opened_with (g.book before)) (stands_kept (g.is_open before) (g.book before) (opened_with (g.book before)) whole)
+      (record { bodies = bodies; apart = apart; opened = record { known = have; whole = whole }; delivered = there }) clean

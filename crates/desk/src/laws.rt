@@ -1,12 +1,20 @@
-//! Laws of requests and of the routes.
+//! Laws of requests, of the routes and of connections.
 
-ghost use Rattle.std.specs.Prelude.{◌≡◌, ◌≢◌, ℕ, List, [], ◌∷◌, ◌++◌, true, codes, Ok, Err};
+ghost use Rattle.std.specs.Prelude.{◌≡◌, ◌≢◌, ℕ, List, [], ◌∷◌, ◌++◌, true, codes, Contains, Ok, Err};
 ghost use Rattle.std.specs.List.{list_all};
+ghost use Rattle.keep.specs.Book.{HasItsFiles};
+ghost use Rattle.keep.specs.Keeping.{HasBodies, NoCollision};
+ghost use Rattle.queue.specs.Answers.{IsRun};
+ghost use Rattle.queue.specs.Histories.{bodies_of, opened_with};
+ghost use Rattle.queue.specs.Steps.{Lasts, Reads};
+ghost use Rattle.desk.specs.Connections.{AreServed, Visit, calls_in, outcomes_in};
 ghost use Rattle.desk.specs.Paths.{IsPart, IsPlace, IsRest, Place, is_byte, print_path, route_of, wanted_of, to_incoming, to_copy, to_dists, to_pool, to_run, to_queue, to_verdicts};
 ghost use Rattle.desk.specs.Request.{Asked, IsRequest};
 ghost use Rattle.desk.specs.Want.{Want, asked_at, beside, route_for};
 ghost use Rattle.desk.specs.declared.head.Refusal.TheVariants.{NotFound};
 ghost use Rattle.desk.specs.declared.routes.Route.TheVariants.{Copy, Deliver, Dists, Pool, Run, Verdicts, Waiting};
+
+use keep::Keeper;
 
 /// The bytes of a connection ask for one thing, and one part of them is used for it. Nothing is done: the law is the
 /// contract.
@@ -30,4 +38,23 @@ pub fn paths_with_a_route()
 /// Every other path has no route. Nothing is done: the law is the contract.
 pub fn other_paths()
     ensures { (path : List ℕ) → list_all is_byte path ≡ true → ((place : Place) → IsPlace place → path ≢ print_path place) → asked_at path ≡ Err NotFound }
+{}
+
+/// Connections that are answered in turns are answered as one list: what `attend` says of a first list, and of another behind
+/// it, it says of the whole. Reads of the archive in between change nothing. So a server that hands over one connection at a
+/// time answers all of them as `attend` answers the list of them. Nothing is done: the law is the contract.
+pub fn turns_are_one_list<K: Keeper>()
+    ensures turns { (before mid after : K) (first others : List Visit) → Lasts K.Keeper mid after
+        → AreServed K.Keeper before mid first → AreServed K.Keeper mid after others → AreServed K.Keeper before after (first ++ others) }
+    ensures between { (before after : K) → Reads K.Keeper before after → AreServed K.Keeper before after [] }
+{}
+
+/// The first connection finds the book that the keeper has, as one that was opened has what the database kept. Where that book
+/// has its files, and no two bodies of it and of what comes have one print, the answers are those of the plain archive behind
+/// it. Nothing is done: the law is the contract.
+pub fn the_first_finds_the_book<K: Keeper>()
+    ensures { (before after : K) (visits : List Visit) (served : AreServed K.Keeper before after visits) (bodies : List (List ℕ))
+        → HasItsFiles (K.book before) → NoCollision bodies → HasBodies bodies (K.book before)
+        → ((body : List ℕ) → Contains (bodies_of (calls_in served.courses)) body → Contains bodies body) → K.is_clean after
+        → IsRun K.may_fail (opened_with (K.book before)) (calls_in served.courses) (outcomes_in served.courses) (K.is_open after) (K.book after) }
 {}

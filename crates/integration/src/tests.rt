@@ -9,6 +9,8 @@ mod databases;
 mod item_rows;
 mod kept_values;
 mod messages;
+mod promised;
+mod refusals;
 mod served;
 mod shut;
 mod text_rows;

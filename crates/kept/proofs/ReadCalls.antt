@@ -1,5 +1,5 @@
 -- How a read of a keeper joins: the database is asked whether it serves, and then for its rows.
-use Rattle.std.proofs.Common.{◌≡◌, ◌⊎◌, ℕ, Bool, List, [], ◌∷◌, map, find, Option, Some, None, option_map, true, false, cond, bytes_eq, inl, inr, IsTrue, Result, Ok, Err, OnOk, OnErr, IfOk, refl, sym, subst, ap, ◌∙◌, arith}
+use Rattle.std.proofs.Common.{◌≡◌, ℕ, Bool, List, [], ◌∷◌, map, find, Option, Some, None, option_map, true, false, bytes_eq, inl, inr, IsTrue, Result, Ok, Err, OnOk, OnErr, IfOk, refl, sym, subst, ap, ◌∙◌, arith}
 use Rattle.std.proofs.Math.Logic.{∥∥₁_elim}
 use Rattle.std.proofs.Props.{props}
 use mathlib.Core.HLevel.{collapsible→set}
@@ -13,12 +13,12 @@ use Rattle.rules.specs.Values.{ConfigValue}
 use Rattle.suites.specs.Shelves.{ShelvesValue}
 use Rattle.keep.specs.declared.change.Judgement.{Judgement}
 use Rattle.texts.specs.Indices.{PathText, text_at}
-use Rattle.tables.specs.Rows.{Fails, Holds, IsArchive, Numbered, Tables, rows_of, tables_in}
+use Rattle.tables.specs.Rows.{Fails, Holds, IsArchive, tables_in}
 use Rattle.tables.specs.Texts.{has_path}
 use Rattle.tables.specs.declared.rows.IndexText.{IndexText}
 use Rattle.kept.specs.Archives.{IsRead, KeepsArchive}
 use Rattle.kept.specs.Transactions.{IsUndone}
-use Rattle.kept.proofs.ReadsLemmas.{undone_if_failed, undone_if_unchanged}
+use Rattle.kept.proofs.ReadsLemmas.{undone_if_unchanged}
 
 -- an expression as what is put on a stack, one piece after the other
 abbrev Piece : Type 0
@@ -116,7 +116,9 @@ module _ (a b : State) where
   pub read_refused : (HasCleanDisk b → Fails a b) → Survives a b (λ _. ⊥) → IsRead a b
   read_refused fails lasts = record {
     clean = λ h. omega (arith, lasts.clean, h);
+    counts = lasts.counts;
     was_open = λ h up. open_before (fails h) up;
+    closes = lasts.closes;
     committed = λ h is up. committed_before (fails h) up;
     crash = λ h is trees might. elim (lasts.crash h trees might) [ inl before ↦ before | inr none ↦ absurd none ];
   }
@@ -143,7 +145,12 @@ module _ (a b c : State) (same : HasCleanDisk b → IsUnchanged a b) (settled : 
       let mid : HasCleanDisk c → HasCleanDisk b = λ h. omega (arith, later.clean, h) in (
       record {
         clean = λ h. omega (arith, first.clean, later.clean, h);
+        counts = omega (arith, first.counts, later.counts);
         was_open = λ h up. (same (mid h)).0.was_open;
+        closes = λ h up. elim (first.closes (mid h) up) [
+          | inl still ↦ elim (later.closes h still) [ inl last ↦ inl last | inr fault ↦ inr (omega (arith, first.counts, fault)) ]
+          | inr fault ↦ inr (omega (arith, later.counts, fault))
+        ];
         committed = λ h is up.
             let s = same (mid h) in
             ∥∥₁_elim (is s.0.was_open) (database_set _ _) (λ archive. (undone h (now_archive (mid h) archive)).committed up ∙ s.0.committed_is);

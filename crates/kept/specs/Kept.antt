@@ -1,5 +1,5 @@
 -- How the tables of an archive keep it: what their rows are, told from what is kept.
-use Rattle.std.specs.Prelude.{◌≡◌, ◌≢◌, ◌≤◌, ◌<◌, ℕ, ◌+◌, ◌*◌, ◌/◌, Bool, true, false, not, ◌&&◌, nat_eq, List, [], ◌∷◌, map, filter, find, take, drop, length, All, Option, Some, None, option_map, unwrap_or, slice_get, IsTrue, Ok}
+use Rattle.std.specs.Prelude.{◌≡◌, ◌≢◌, ◌≤◌, ◌<◌, ℕ, ◌+◌, ◌*◌, ◌/◌, Bool, true, false, not, ◌&&◌, nat_eq, List, [], ◌∷◌, map, filter, find, take, drop, length, All, Option, Some, None, option_map, slice_get, IsTrue, Ok}
 use Rattle.std.specs.List.{AllPairs, list_any, flat_map, enumerate_from, zip, range_with_len}
 use Rattle.std.specs.Option.{option_and_then, option_map_or}
 use Rattle.std.specs.FinMap.{get}
@@ -29,14 +29,12 @@ use Rattle.tables.specs.Items.{is_item}
 use Rattle.tables.specs.Pieces.{is_of}
 use Rattle.tables.specs.Real.{IsRealPrint}
 use Rattle.tables.specs.Refs.{is_ref_of}
-use Rattle.tables.specs.Rows.{Tables, Numbered, Rises, rows_of}
+use Rattle.tables.specs.Rows.{Tables, Rises, rows_of}
 use Rattle.tables.specs.Uploads.{is_judged as has_place}
 use Rattle.tables.specs.Wants.{is_wanted_by}
 use Rattle.tables.specs.declared.rows.Arrival as rows_arrival
-use Rattle.tables.specs.declared.rows.Body.{Body}
 use Rattle.tables.specs.declared.rows.Date.{Date}
 use Rattle.tables.specs.declared.rows.Item.{Item}
-use Rattle.tables.specs.declared.rows.Meta.{Meta}
 use Rattle.tables.specs.declared.rows.Piece.{Piece}
 use Rattle.tables.specs.declared.rows.Ref.{Ref}
 use Rattle.tables.specs.declared.rows.Upload.{Upload}

@@ -79,12 +79,12 @@ fn told(alloc: Global, ended: &Ended) -> Result<Vec<u8>, AllocError> {
 /// Sets the moment of a line that has one. It may be a moment that no words have.
 fn set_moment(line: &mut CommandLine<'_>, moment: u64) {
     match line {
-        CommandLine::Init { at, .. }
-        | CommandLine::Put { at, .. }
-        | CommandLine::Run { at, .. }
-        | CommandLine::Copy { at, .. }
-        | CommandLine::Waiting { at, .. }
-        | CommandLine::Serve { at, .. } => *at = moment,
+        CommandLine::Init { at, .. } => *at = moment,
+        CommandLine::Put { at, .. } => *at = moment,
+        CommandLine::Run { at, .. } => *at = moment,
+        CommandLine::Copy { at, .. } => *at = moment,
+        CommandLine::Waiting { at, .. } => *at = moment,
+        CommandLine::Serve { at, .. } => *at = moment,
         CommandLine::Try { .. }
         | CommandLine::Compare { .. }
         | CommandLine::Show { .. }

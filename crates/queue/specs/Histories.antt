@@ -1,5 +1,5 @@
 -- Histories of calls and their outcomes: what has arrived, and which uploads are complete.
-use Rattle.std.specs.Prelude.{◌≡◌, ℕ, Bool, true, false, ◌&&◌, ◌||◌, not, List, [], ◌∷◌, ◌++◌, map, filter, bytes_eq, Option, Result, Ok, Err}
+use Rattle.std.specs.Prelude.{ℕ, Bool, true, false, ◌&&◌, ◌||◌, not, List, [], ◌∷◌, ◌++◌, map, filter, bytes_eq, Option, Result, Ok}
 use Rattle.std.specs.List.{list_any, flat_map, fold}
 use Rattle.keep.specs.Book.{Book, Candidate, candidates, in_order, is_complete, is_judged, with_arrival}
 use Rattle.keep.specs.declared.arrival.Arrival.{Arrival}
@@ -77,6 +77,10 @@ bodies_of calls = flat_map bodies_of_call calls
 
 abbrev pub calls_of : List Step → List Call
 calls_of steps = map (λ step. step.call) steps
+
+-- the history without calls that opens with this book
+abbrev pub opened_with : Book → History
+opened_with book = record { opening = book; steps = [] }
 
 -- the history with one more call behind it
 abbrev pub followed : History → Call → Result Reply Fault → History

@@ -9,7 +9,7 @@ use std::alloc::{AllocError, AllocFailed};
 use std::error::Error;
 use std::fmt;
 
-/// Why a call of the archive is refused. Nothing has changed then.
+/// Why a call of the archive is refused. Nothing has changed then while the keeper is open.
 #[derive(Clone, Copy, Debug, PartialEq, Eq)]
 pub enum Fault {
     /// No memory was left.

@@ -2,7 +2,7 @@ use Rattle.std.proofs.Common.{◌≡◌, OnErr, OnOk, sym, subst, arith, rules}
 use Rattle.sqlite.specs.State.{HasCleanDisk, Survives}
 use Rattle.sqlite.specs.Held.{state}
 use Rattle.sqlite.proofs.StateLemmas.{survives_weaker}
-use Rattle.tables.proofs.TransactionLemmas.{keeps_if_changed, on_err, on_ok}
+use Rattle.tables.proofs.TransactionLemmas.{on_err, on_ok}
 use Rattle.kept.specs.Transactions.{IsDone, IsUndone, MayCommit}
 use Rattle.kept.proofs.AmendLemmas.{begun_inside, changes_if_made, commit_undone, crash_from, done_from, undone_by, undone_from, undone_from_if_err}
 use Rattle.std.specs.Prelude.{⊤}

@@ -1,9 +1,8 @@
-use Rattle.std.proofs.Common.{◌<◌, ◌∙◌, arith}
+use Rattle.std.proofs.Common.{◌∙◌, arith}
 use Rattle.std.proofs.lemmas.List.{get_or_default}
 use Rattle.sqlite.specs.State.{HasCleanDisk}
 use Rattle.sqlite.specs.Held.{state}
 use Rattle.kept.proofs.AmendLemmas.{one_more, all_made, survives_both, makes_if_changed}
-use Rattle.tables.proofs.TransactionLemmas.{on_err}
 use Rattle.keep_open.specs.Finishing.{without_whole}
 use Rattle.keep_open.proofs.FinishLemmas.{some_length}
 use Rattle.keep_open.proofs.finishing.remove_bodies.Goals as goal

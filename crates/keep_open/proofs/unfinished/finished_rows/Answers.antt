@@ -1,4 +1,4 @@
-use Rattle.std.proofs.Common.{◌≡◌, ap, ◌∙◌}
+use Rattle.std.proofs.Common.{ap, ◌∙◌}
 use Rattle.tables.specs.Rows.{without}
 use Rattle.tables_read.specs.All.{tables_with}
 use Rattle.keep_open.specs.Finishing.{is_among}

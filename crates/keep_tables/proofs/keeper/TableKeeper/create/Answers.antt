@@ -1,12 +1,11 @@
-use Rattle.std.proofs.Common.{rules, ◌≡◌, [], length, replicate, sym, ap, subst, ◌∙◌, IsTrue}
+use Rattle.std.proofs.Common.{rules, ◌≡◌, [], length, replicate, sym, ap, subst, ◌∙◌}
 use Rattle.std.proofs.lemmas.List.Elements.{All-replicate}
 use Rattle.std.specs.Prelude.{All, ◌≤◌}
 use Rattle.sqlite.specs.Held.{state}
-use Rattle.sqlite.specs.State.{HasCleanDisk}
 use Rattle.tables.specs.Schema.{no_schema}
-use Rattle.tables.specs.Rows.{Holds, tables_in}
+use Rattle.tables.specs.Rows.{tables_in}
 use Rattle.kept.specs.Archives.{KeepsArchive, book_of}
-use Rattle.kept.specs.Founding.{first_dates, founded}
+use Rattle.kept.specs.Founding.{first_dates}
 use Rattle.kept.specs.Shown.{shown_in}
 use Rattle.kept.proofs.CallLemmas.{kept_here}
 use Rattle.kept.proofs.MakeLemmas.{founded_archive, founded_here}

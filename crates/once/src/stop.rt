@@ -1,0 +1,40 @@
+//! A stop, the opening behind it, and what follows.
+
+ghost use Rattle.std.specs.Prelude.{◌≡◌, ◌⊎◌, ℕ, List, Contains};
+ghost use Rattle.sqlite.specs.Effect.{Database};
+ghost use Rattle.rules.specs.Values.{ConfigValue};
+ghost use Rattle.keep.specs.Book.{Book};
+ghost use Rattle.keep.specs.Keeping.{HasBodies, NoCollision};
+ghost use Rattle.tables.specs.Schema.{archive_schema};
+ghost use Rattle.kept.specs.Archives.{KeepsFinished};
+ghost use Rattle.keep_tables.specs.Keepers.{connection_of};
+ghost use Rattle.keep_tables.specs.declared.keeper.TableKeeper.{TableKeeper};
+ghost use Rattle.keep_open.specs.Opened.{IsNoArchive};
+ghost use Rattle.queue.specs.Answers.{IsFaithful, answer};
+ghost use Rattle.queue.specs.Archives.{book_of};
+ghost use Rattle.queue.specs.Histories.{Call, History, bodies_of, followed, opened_with};
+ghost use Rattle.once.specs.Stops.{IsCalled};
+
+use keep::Keeper;
+use keep_tables::TableKeeper;
+use queue::a_stop_leaves_a_book;
+use sqlite::Alter;
+
+/// Stop, open, go on. A stop during a call of an open keeper, or behind it, leaves a database. Opening it is not refused as no
+/// archive; the book that it keeps is the one that the history leaves, or the one that it leaves with the whole call; and where no
+/// two bodies of that book and of the calls to come have one print, these go on behind the book as behind any history.
+pub fn a_stop_goes_on<S: Alter + Drop>()
+    // Where the database that is found lists the tables of an archive, its rows are those of one.
+    ensures opens { (before after : TableKeeper S S.Store) (h : History) (call : Call) (found : Database)
+        → IsCalled ⟦<TableKeeper<S> as Keeper>⟧ before after h call → (connection_of after).may_leave found.trees
+        → found.schema ≡ archive_schema → IsNoArchive found → ⊥ }
+    ensures book { (before after : TableKeeper S S.Store) (h : History) (call : Call) (found : Database) (config : ConfigValue) (b : Book)
+        → IsCalled ⟦<TableKeeper<S> as Keeper>⟧ before after h call → (connection_of after).may_leave found.trees
+        → KeepsFinished found config b → (b ≡ book_of h) ⊎ (b ≡ book_of (followed h call (answer h call))) }
+    ensures goes_on { (found : Database) (config : ConfigValue) (b : Book) (calls : List Call) (bodies : List (List ℕ))
+        → KeepsFinished found config b → NoCollision bodies → HasBodies bodies b
+        → ((body : List ℕ) → Contains (bodies_of calls) body → Contains bodies body) → IsFaithful (opened_with b) calls }
+{
+    // For the prover alone: what a stop of any keeper leaves.
+    a_stop_leaves_a_book::<TableKeeper<S>>();
+}
