@@ -1,10 +1,13 @@
 //! The archive served over HTTP, one connection after the other.
 
+ghost use Rattle.desk.specs.Connections.{HasServed};
+ghost use Rattle.queue.specs.Steps.{Reads};
+
 use crate::client::{Client, FirstLine, FromClient, Patience, ToClient};
 use crate::fault::Stop;
 use crate::log::{Ended, write_line};
 use crate::moments::Moments;
-use desk::{Connection, DeskFault, Served};
+use desk::{Connection, DeskFault, Served, attend};
 use http::StatusCode;
 use keep::{KeepFault, Keeper};
 use queue::{Archive, Fault};
@@ -13,6 +16,7 @@ use std::cell::Cell;
 use std::io::{self, BufWriter, Read, Write};
 use std::net::{Shutdown, TcpListener, TcpStream};
 use std::rt::Files;
+use std::slice;
 use std::time::{Clock, Duration, Instant};
 
 /// The patience of the program.
@@ -38,17 +42,20 @@ pub fn keep_room(alloc: Global) {
     let _ = Vec::<u8>::with_capacity(alloc, ROOM);
 }
 
-/// Answers so many connections of a listener, one after the other, each at the moment, in seconds since 1970-01-01
-/// 00:00:00 UTC. A client whose first byte does not come within 5 seconds, that is silent for 30, or whose connection lasts
-/// for 120 loses it. A connection that fails counts, and the next is answered. It ends early where one can't be accepted, and
-/// with the number of those that are left where the keeper is shut.
+/// Answers so many connections of a listener, one after the other, each as a list of it alone, at the moment, in seconds
+/// since 1970-01-01 00:00:00 UTC. A client whose first byte does not come within 5 seconds, that is silent for 30, or whose
+/// connection lasts for 120 loses it. A connection that fails counts, and the next is answered. It ends early where one
+/// can't be accepted, and with the number of those that are left where the keeper is shut.
 pub fn serve<'a, R: Clock + Files + AllocGlobal, K: Keeper>(
     rt: &R,
     archive: &mut Archive<K>,
     listener: &TcpListener,
     count: u64,
     moment: u64,
-) -> Result<(), Stop<'a>> {
+) -> Result<(), Stop<'a>>
+    // Whatever clients send, and whenever they leave: the archive is as `attend` leaves it of some list of connections.
+    ensures served { HasServed K.Keeper archive.old.keeper archive.new.keeper }
+{
     keep_room(rt.alloc());
     serve_within(rt, archive, listener, count, moment, patience())
 }
@@ -61,7 +68,9 @@ pub fn serve_within<'a, R: Clock + Files + AllocGlobal, K: Keeper>(
     count: u64,
     moment: u64,
     patience: Patience,
-) -> Result<(), Stop<'a>> {
+) -> Result<(), Stop<'a>>
+    ensures served { HasServed K.Keeper archive.old.keeper archive.new.keeper }
+{
     let mut moments = Moments::new(moment, None);
     let mut no_log: Option<&mut Vec<u8>> = None;
     serve_at(
@@ -84,23 +93,42 @@ pub fn serve_at<'a, R: Clock + Files + AllocGlobal, K: Keeper, E: Write>(
     moments: &mut Moments<'_>,
     patience: Patience,
     log: &mut Option<&mut E>,
-) -> Result<(), Stop<'a>> {
+) -> Result<(), Stop<'a>>
+    ensures served { HasServed K.Keeper archive.old.keeper archive.new.keeper }
+{
     for served in 0..count {
-        let end = match listener.accept() {
+        match listener.accept() {
             // What comes of the connection is its client's alone.
             Ok((stream, _)) => {
                 let moment = moments.next(rt);
-                answer_client(rt, archive, &stream, moment, patience, log)
+                if leaves_shut(rt, archive, &stream, moment, patience, log) {
+                    return Err(Stop::Shut(count - served - 1));
+                }
             }
             // The client left before its turn came.
-            Err(error) if error.kind() == io::ErrorKind::ConnectionAborted => continue,
+            Err(error) if error.kind() == io::ErrorKind::ConnectionAborted => {}
             Err(_) => return Err(Stop::CannotListen),
-        };
-        if is_insufficient_storage(&end) && is_shut(rt.alloc(), archive) {
-            return Err(Stop::Shut(count - served - 1));
         }
     }
     Ok(())
+}
+
+/// Answers one connection, and says whether the keeper is shut behind it.
+fn leaves_shut<R: Clock + AllocGlobal, K: Keeper, E: Write>(
+    rt: &R,
+    archive: &mut Archive<K>,
+    stream: &TcpStream,
+    moment: u64,
+    patience: Patience,
+    log: &mut Option<&mut E>,
+) -> bool
+    ensures served { HasServed K.Keeper archive.old.keeper archive.new.keeper }
+{
+    let end = answer_client(rt, archive, stream, moment, patience, log);
+    if !is_insufficient_storage(&end) {
+        return false;
+    }
+    is_shut(rt.alloc(), archive)
 }
 
 /// Whether a status is 507.
@@ -117,7 +145,9 @@ fn is_insufficient_storage(end: &io::Result<Result<Served, DeskFault>>) -> bool 
 }
 
 /// Whether the keeper of an archive is shut, or can't be read.
-fn is_shut<K: Keeper>(alloc: Global, archive: &mut Archive<K>) -> bool {
+fn is_shut<K: Keeper>(alloc: Global, archive: &mut Archive<K>) -> bool
+    ensures reads { Reads K.Keeper archive.old.keeper archive.new.keeper }
+{
     matches!(
         archive.fetch(alloc, ""),
         Err(Fault::Keeper(KeepFault::Disk))
@@ -132,7 +162,9 @@ fn answer_client<R: Clock + AllocGlobal, K: Keeper, E: Write>(
     moment: u64,
     patience: Patience,
     log: &mut Option<&mut E>,
-) -> io::Result<Result<Served, DeskFault>> {
+) -> io::Result<Result<Served, DeskFault>>
+    ensures served { HasServed K.Keeper archive.old.keeper archive.new.keeper }
+{
     let client = Client {
         rt,
         stream,
@@ -165,7 +197,9 @@ fn answered<R: Clock + AllocGlobal, K: Keeper>(
     moment: u64,
     line: &mut FirstLine,
     sent: &Cell<u64>,
-) -> Result<Served, DeskFault> {
+) -> Result<Served, DeskFault>
+    ensures served { HasServed K.Keeper archive.old.keeper archive.new.keeper }
+{
     let alloc = client.rt.alloc();
     let reader = FromClient {
         client,
@@ -174,27 +208,40 @@ fn answered<R: Clock + AllocGlobal, K: Keeper>(
     };
     let writer = ToClient { client, sent };
     match BufWriter::new(alloc, writer) {
-        Ok(buffered) => attended(alloc, archive, reader, buffered, moment),
-        Err(_) => attended(alloc, archive, reader, writer, moment),
+        Ok(buffered) => {
+            let mut one = connection(reader, buffered, moment);
+            attended(alloc, archive, slice::from_mut(&mut one))
+        }
+        Err(_) => {
+            let mut one = connection(reader, writer, moment);
+            attended(alloc, archive, slice::from_mut(&mut one))
+        }
     }
 }
 
-/// Answers a connection of this reader and this writer.
-fn attended<K: Keeper, R: Read + Drop, W: Write + Drop>(
-    alloc: Global,
-    archive: &mut Archive<K>,
-    reader: R,
-    writer: W,
-    moment: u64,
-) -> Result<Served, DeskFault> {
-    let mut connection = Connection {
+/// A connection of this reader and this writer, which is to be answered.
+fn connection<R, W>(reader: R, writer: W, moment: u64) -> Connection<R, W> {
+    Connection {
         reader,
         writer,
         moment,
         end: None,
-    };
-    connection.serve(alloc, archive);
-    connection.end.unwrap_or(Ok(Served::Nothing))
+    }
+}
+
+/// Answers connections, and says how the first of them ended.
+fn attended<K: Keeper, R: Read, W: Write>(
+    alloc: Global,
+    archive: &mut Archive<K>,
+    connections: &mut [Connection<R, W>],
+) -> Result<Served, DeskFault>
+    ensures served { HasServed K.Keeper archive.old.keeper archive.new.keeper }
+{
+    attend(alloc, archive, connections);
+    match connections.first() {
+        Some(Connection { end: Some(end), .. }) => *end,
+        _ => Ok(Served::Nothing),
+    }
 }
 
 /// Ends what a client is sent, and reads on to the end of what it sends, for the patience with its parting and so many bytes. A

@@ -1,5 +1,7 @@
 //! The words that ask for the archive of a database file.
 
+ghost use Rattle.desk.specs.Connections.{HasServed};
+
 use crate::answers;
 use crate::database::{InFile, close, create_archive, open_archive};
 use crate::doing::body_of;
@@ -80,7 +82,9 @@ fn serve_listener<'a, K: Keeper, E: Write>(
     left: u64,
     moments: &mut Moments<'_>,
     log: &mut Option<&mut E>,
-) -> Result<(), Stop<'a>> {
+) -> Result<(), Stop<'a>>
+    ensures served { HasServed K.Keeper archive.old.keeper archive.new.keeper }
+{
     match listener {
         Ok(listener) => serve_at(rt, archive, listener, left, moments, patience(), log),
         Err(_) => Err(Stop::CannotListen),

@@ -9,13 +9,14 @@ use Rattle.keep.specs.declared.keeper.Keeper.{Ghosts}
 use Rattle.queue.specs.Answers.{IsFaithful, IsKept, IsRun}
 use Rattle.queue.specs.Archives.{Stands}
 use Rattle.queue.specs.Histories.{Call, Reply, History, followed, bodies_of, bodies_of_call, calls_of, opened_with}
-use Rattle.queue.specs.Steps.{Does, Reads}
+use Rattle.queue.specs.Steps.{Does, Lasts, Reads}
 use Rattle.queue.specs.declared.fault.Fault.{Fault}
 use Rattle.queue.proofs.Kept.{stands_kept}
+use Rattle.queue.proofs.ReadLemmas.{lasts_itself, lasts_more, reads_none}
 use Rattle.queue.proofs.Reopening.{opens_itself}
 use Rattle.queue.proofs.Runs.{IsFaithful-rest}
 use Rattle.desk.specs.Calls.{call_wanted}
-use Rattle.desk.specs.Connections.{Visit, visit, visits, AllWent, AreServed, IsServed, IsAt, calls_in, calls_of_course, outcomes_in, outcomes_of_course}
+use Rattle.desk.specs.Connections.{Visit, visit, visits, AllWent, AreServed, HasServed, IsServed, IsAt, calls_in, calls_of_course, outcomes_in, outcomes_of_course}
 use Rattle.desk.specs.Exchange.{Course, Silent, TurnedAway, Short, Broken, Called, Leaves}
 use Rattle.desk.specs.declared.connection.Connection.{Connection}
 
@@ -126,3 +127,24 @@ module _ {K : Type 0} (g : Ghosts K) where
       let whole : Stands (g.book before) (opened_with (g.book before)) = opens_itself (g.book before) files in
       served.run (opened_with (g.book before)) (stands_kept (g.is_open before) (g.book before) (opened_with (g.book before)) whole)
       (record { bodies = bodies; apart = apart; opened = record { known = have; whole = whole }; delivered = there }) clean
+
+  -- one turn of connections, and a read between two turns
+  pub a_turn : (before after : K) (vs : List Visit) → Lasts g before after → AreServed g before after vs → HasServed g before after
+  a_turn before after vs lasts served = record { visits = vs; lasts = lasts; served = served }
+
+  pub no_turn : (k : K) → HasServed g k k
+  no_turn k = a_turn k k [] (lasts_itself k) (served_none k k (reads_none k))
+
+  pub turn_and_read : (before mid after : K) → HasServed g before mid → Reads g mid after → HasServed g before after
+  turn_and_read before mid after turn reads = record {
+    visits = turn.visits ++ [];
+    lasts = lasts_more turn.lasts reads.lasts;
+    served = served_joined before mid after turn.visits [] reads.lasts.clean turn.served (served_none mid after reads);
+  }
+
+  pub two_turns : (before mid after : K) → HasServed g before mid → HasServed g mid after → HasServed g before after
+  two_turns before mid after first others = record {
+    visits = first.visits ++ others.visits;
+    lasts = lasts_more first.lasts others.lasts;
+    served = served_joined before mid after first.visits others.visits others.lasts.clean first.served others.served;
+  }

@@ -4,6 +4,7 @@ use Rattle.std.specs.List.{flat_map}
 use Rattle.keep.specs.declared.keeper.Keeper.{Ghosts}
 use Rattle.queue.specs.Answers.{IsFaithful, IsKept, IsRun}
 use Rattle.queue.specs.Histories.{Call, Reply, History}
+use Rattle.queue.specs.Steps.{Lasts}
 use Rattle.queue.specs.declared.fault.Fault.{Fault}
 use Rattle.desk.specs.Calls.{call_wanted}
 use Rattle.desk.specs.Exchange.{Course, Silent, TurnedAway, Short, Broken, Called, HasRead, HasWritten, IsAnswered}
@@ -88,3 +89,9 @@ pub record AreServed {K : Type 0} (g : Ghosts K) (before after : K) (vs : List V
   pub went : AllWent vs courses
   pub run : (h : History) → IsKept (g.is_open before) (g.book before) h → IsFaithful h (calls_in courses) → g.is_clean after
       → IsRun g.may_fail h (calls_in courses) (outcomes_in courses) (g.is_open after) (g.book after)
+
+-- Some connections were served, and what else was asked of the archive was read.
+pub record HasServed {K : Type 0} (g : Ghosts K) (before after : K) : Type 0 where
+  pub visits : List Visit
+  pub lasts : Lasts g before after
+  pub served : AreServed g before after visits
