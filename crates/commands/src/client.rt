@@ -24,6 +24,9 @@ pub struct Patience {
 /// The most bytes of a first line that are kept.
 const MOST_LINE: usize = 1_024;
 
+/// The most bytes that are handed to the system at once. It waits until it has taken all of them, or until the time is over.
+const MOST_PIECE: usize = 65_536;
+
 /// The first line that a client sends, for the log.
 #[derive(Drop)]
 pub struct FirstLine {
@@ -72,7 +75,7 @@ pub struct Client<'c, R> {
     pub stream: &'c TcpStream,
     pub accepted: Instant,
     pub patience: Patience,
-    /// Whether a write has failed. No other is tried then: a buffer that is dropped would wait for the client once more.
+    /// Whether a write has failed, or was cut short. No other is tried then: it would wait for the client once more.
     pub is_lost: Cell<bool>,
 }
 
@@ -98,17 +101,16 @@ impl<R: Clock> Client<'_, R> {
         stream.read(buf)
     }
 
-    /// Writes what the client takes within the patience with its silence.
-    fn write_within(&self, buf: &[u8]) -> io::Result<usize>
-        ensures { WritesAtMost result buf.now }
+    /// Writes a piece, within the patience with the client's silence. A client that does not take all of a piece in that time is lost.
+    fn write_within(&self, piece: &[u8]) -> io::Result<usize>
+        ensures { WritesAtMost result piece.now }
     {
         let wait = self.wait(self.patience.silence)?;
         self.stream.set_write_timeout(Some(wait))?;
         let mut stream = self.stream;
-        let written = stream.write(buf);
-        if written.is_err() {
-            self.is_lost.set(true);
-        }
+        let written = stream.write(piece);
+        let is_whole = matches!(written, Ok(count) if count == piece.len());
+        self.is_lost.set(!is_whole);
         written
     }
 }
@@ -145,7 +147,8 @@ pub struct ToClient<'t, 'c, R> {
 
 impl<R: Clock> Write for ToClient<'_, '_, R> {
     fn write(&mut self, buf: &[u8]) -> io::Result<usize> {
-        let count = self.client.write_within(buf)?;
+        let piece = buf.get(..MOST_PIECE).unwrap_or(buf);
+        let count = self.client.write_within(piece)?;
         self.sent.set(self.sent.get().saturating_add(count as u64));
         Ok(count)
     }
