@@ -1,17 +1,17 @@
 -- One connection more behind those that were served.
-use Rattle.std.proofs.Common.{◌≡◌, ℕ, Bool, List, [], ◌∷◌, ◌++◌, Option, Some, Result, refl, sym, ap, subst, ◌∙◌, append_assoc, append-nil, arith}
+use Rattle.std.proofs.Common.{◌≡◌, ℕ, List, [], ◌∷◌, ◌++◌, Option, Some, Result, refl, sym, ap, subst, ◌∙◌, append_assoc, append-nil, arith}
 use Rattle.std.proofs.lemmas.Grind.{flat_map-append}
 use Rattle.std.proofs.lemmas.List.Elements.{Contains-append_left}
 use Rattle.std.specs.Prelude.{Contains, length}
-use Rattle.keep.specs.Book.{Book}
+use Rattle.keep.specs.declared.keeper.Keeper.{Ghosts}
 use Rattle.queue.specs.Answers.{IsFaithful, IsKept, IsRun}
 use Rattle.queue.specs.Histories.{Call, Reply, History, followed, bodies_of, bodies_of_call, calls_of}
+use Rattle.queue.specs.Steps.{Does}
 use Rattle.queue.specs.declared.fault.Fault.{Fault}
 use Rattle.queue.proofs.Runs.{IsFaithful-rest}
 use Rattle.desk.specs.Calls.{call_wanted}
 use Rattle.desk.specs.Connections.{Visit, visit, visits, Went, AllWent, AreServed, IsServed, IsAt, calls_in, calls_of_course, outcomes_in, outcomes_of_course}
 use Rattle.desk.specs.Exchange.{Course, Silent, TurnedAway, Short, Broken, Called, Leaves}
-use Rattle.desk.specs.Steps.{Does}
 use Rattle.desk.specs.declared.connection.Connection.{Connection}
 
 -- what is faithful with calls to come is so without the last of them
@@ -40,11 +40,11 @@ module _ {R W : Type 0} (remaining : R → Option (List ℕ)) (contents : W → 
   visits-snoc [] (n ∷ ns) old new same = absurd (omega (arith, same))
   visits-snoc (o ∷ os) [] old new same = absurd (omega (arith, same))
 
-module _ {K : Type 0} (may_fail : Bool) (is_clean is_open : K → Type 0) (book : K → Book) where
+module _ {K : Type 0} (g : Ghosts K) where
   -- one call more behind a run
   pub IsRun-snoc : (h : History) (calls : List Call) (outcomes : List (Result Reply Fault)) (mid after : K) (call : Call) (outcome : Result Reply Fault)
-      → IsRun may_fail h calls outcomes (is_open mid) (book mid) → Does may_fail is_clean is_open book mid call outcome after → is_clean after
-      → IsFaithful h (calls ++ call ∷ []) → IsRun may_fail h (calls ++ call ∷ []) (outcomes ++ outcome ∷ []) (is_open after) (book after)
+      → IsRun g.may_fail h calls outcomes (g.is_open mid) (g.book mid) → Does g mid call outcome after → g.is_clean after
+      → IsFaithful h (calls ++ call ∷ []) → IsRun g.may_fail h (calls ++ call ∷ []) (outcomes ++ outcome ∷ []) (g.is_open after) (g.book after)
   IsRun-snoc h [] [] mid after call outcome kept does clean faithful =
       let step = does h kept faithful clean in
       (step.answered, step.kept)
@@ -53,7 +53,7 @@ module _ {K : Type 0} (may_fail : Bool) (is_clean is_open : K → Type 0) (book 
   IsRun-snoc h [] (o ∷ os) mid after call outcome run does clean faithful = absurd run
   IsRun-snoc h (c ∷ cs) [] mid after call outcome run does clean faithful = absurd run
 
-  pub at_of : (moment : ℕ) (before after : K) (course : Course) → Leaves (Does may_fail is_clean is_open book) moment before after course → IsAt moment course
+  pub at_of : (moment : ℕ) (before after : K) (course : Course) → Leaves (Does g) moment before after course → IsAt moment course
   at_of moment before after Silent leaves = tt
   at_of moment before after (TurnedAway e) leaves = tt
   at_of moment before after Short leaves = tt
@@ -62,20 +62,20 @@ module _ {K : Type 0} (may_fail : Bool) (is_clean is_open : K → Type 0) (book 
 
   -- where no call was made
   run_same : (h : History) (mid after : K) (cs : List Course) (course : Course) → calls_of_course course ≡ [] → outcomes_of_course course ≡ [] → after ≡ mid
-      → IsRun may_fail h (calls_in cs) (outcomes_in cs) (is_open mid) (book mid)
-      → IsRun may_fail h (calls_in (cs ++ course ∷ [])) (outcomes_in (cs ++ course ∷ [])) (is_open after) (book after)
+      → IsRun g.may_fail h (calls_in cs) (outcomes_in cs) (g.is_open mid) (g.book mid)
+      → IsRun g.may_fail h (calls_in (cs ++ course ∷ [])) (outcomes_in (cs ++ course ∷ [])) (g.is_open after) (g.book after)
   run_same h mid after cs course no_call no_outcome same run =
       let calls : calls_in (cs ++ course ∷ []) ≡ calls_in cs =
       flat_map-append calls_of_course cs (course ∷ []) ∙ ap (λ xs. calls_in cs ++ (xs ++ [])) no_call ∙ append-nil (calls_in cs) in
       let outcomes : outcomes_in (cs ++ course ∷ []) ≡ outcomes_in cs =
       flat_map-append outcomes_of_course cs (course ∷ []) ∙ ap (λ xs. outcomes_in cs ++ (xs ++ [])) no_outcome ∙ append-nil (outcomes_in cs) in
-      subst (λ (xs : List Call). IsRun may_fail h xs (outcomes_in (cs ++ course ∷ [])) (is_open after) (book after)) (sym calls)
-      (subst (λ (os : List (Result Reply Fault)). IsRun may_fail h (calls_in cs) os (is_open after) (book after)) (sym outcomes)
-      (subst (λ (k : K). IsRun may_fail h (calls_in cs) (outcomes_in cs) (is_open k) (book k)) (sym same) run))
+      subst (λ (xs : List Call). IsRun g.may_fail h xs (outcomes_in (cs ++ course ∷ [])) (g.is_open after) (g.book after)) (sym calls)
+      (subst (λ (os : List (Result Reply Fault)). IsRun g.may_fail h (calls_in cs) os (g.is_open after) (g.book after)) (sym outcomes)
+      (subst (λ (k : K). IsRun g.may_fail h (calls_in cs) (outcomes_in cs) (g.is_open k) (g.book k)) (sym same) run))
 
-  run_more : (h : History) (moment : ℕ) (mid after : K) (cs : List Course) (course : Course) → Leaves (Does may_fail is_clean is_open book) moment mid after course
-      → IsFaithful h (calls_in (cs ++ course ∷ [])) → is_clean after → IsRun may_fail h (calls_in cs) (outcomes_in cs) (is_open mid) (book mid)
-      → IsRun may_fail h (calls_in (cs ++ course ∷ [])) (outcomes_in (cs ++ course ∷ [])) (is_open after) (book after)
+  run_more : (h : History) (moment : ℕ) (mid after : K) (cs : List Course) (course : Course) → Leaves (Does g) moment mid after course
+      → IsFaithful h (calls_in (cs ++ course ∷ [])) → g.is_clean after → IsRun g.may_fail h (calls_in cs) (outcomes_in cs) (g.is_open mid) (g.book mid)
+      → IsRun g.may_fail h (calls_in (cs ++ course ∷ [])) (outcomes_in (cs ++ course ∷ [])) (g.is_open after) (g.book after)
   run_more h moment mid after cs Silent same faithful clean run = run_same h mid after cs Silent refl refl same run
   run_more h moment mid after cs (TurnedAway e) same faithful clean run = run_same h mid after cs (TurnedAway e) refl refl same run
   run_more h moment mid after cs Short same faithful clean run = run_same h mid after cs Short refl refl same run
@@ -85,18 +85,18 @@ module _ {K : Type 0} (may_fail : Bool) (is_clean is_open : K → Type 0) (book 
       let call = call_wanted want body at in
       let calls : calls_in (cs ++ course ∷ []) ≡ calls_in cs ++ call ∷ [] = flat_map-append calls_of_course cs (course ∷ []) in
       let outcomes : outcomes_in (cs ++ course ∷ []) ≡ outcomes_in cs ++ outcome ∷ [] = flat_map-append outcomes_of_course cs (course ∷ []) in
-      let does = subst (λ (m : ℕ). Does may_fail is_clean is_open book mid (call_wanted want body m) outcome after) (sym at_is) done in
+      let does = subst (λ (m : ℕ). Does g mid (call_wanted want body m) outcome after) (sym at_is) done in
       let whole = IsRun-snoc h (calls_in cs) (outcomes_in cs) mid after call outcome run does clean (subst (λ (xs : List Call). IsFaithful h xs) calls faithful) in
-      subst (λ (xs : List Call). IsRun may_fail h xs (outcomes_in (cs ++ course ∷ [])) (is_open after) (book after)) (sym calls)
-      (subst (λ (os : List (Result Reply Fault)). IsRun may_fail h (calls_in cs ++ call ∷ []) os (is_open after) (book after)) (sym outcomes) whole)
+      subst (λ (xs : List Call). IsRun g.may_fail h xs (outcomes_in (cs ++ course ∷ [])) (g.is_open after) (g.book after)) (sym calls)
+      (subst (λ (os : List (Result Reply Fault)). IsRun g.may_fail h (calls_in cs ++ call ∷ []) os (g.is_open after) (g.book after)) (sym outcomes) whole)
 
-  pub served_none : (before : K) → AreServed may_fail is_clean is_open book before before []
+  pub served_none : (before : K) → AreServed g before before []
   served_none before = record { courses = []; went = tt; run = λ h kept faithful clean. kept }
 
   -- one connection more was answered
-  pub served_more : (before mid after : K) (vs : List Visit) (v : Visit) → (is_clean after → is_clean mid)
-      → AreServed may_fail is_clean is_open book before mid vs → IsServed (Does may_fail is_clean is_open book) v mid after
-      → AreServed may_fail is_clean is_open book before after (vs ++ v ∷ [])
+  pub served_more : (before mid after : K) (vs : List Visit) (v : Visit) → (g.is_clean after → g.is_clean mid)
+      → AreServed g before mid vs → IsServed (Does g) v mid after
+      → AreServed g before after (vs ++ v ∷ [])
   served_more before mid after vs v clean_before so_far served =
       let cs = so_far.courses in
       let answered = served.answered in

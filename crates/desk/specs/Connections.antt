@@ -1,7 +1,7 @@
 -- Connections, served one after the other.
-use Rattle.std.specs.Prelude.{◌≡◌, ℕ, Bool, List, [], ◌∷◌, Option, Some, Result, ⊤}
+use Rattle.std.specs.Prelude.{◌≡◌, ℕ, List, [], ◌∷◌, Option, Some, Result, ⊤}
 use Rattle.std.specs.List.{flat_map}
-use Rattle.keep.specs.Book.{Book}
+use Rattle.keep.specs.declared.keeper.Keeper.{Ghosts}
 use Rattle.queue.specs.Answers.{IsFaithful, IsKept, IsRun}
 use Rattle.queue.specs.Histories.{Call, Reply, History}
 use Rattle.queue.specs.declared.fault.Fault.{Fault}
@@ -83,8 +83,8 @@ AllWent (v ∷ vs) [] = ⊥
 -- The connections were served in order. Each was answered what its course says; and where a history was kept before that
 -- is faithful to what they asked, the outcomes are the answers of its plain archive, each at its place, and what the longer
 -- history leaves is kept then.
-pub record AreServed {K : Type 0} (may_fail : Bool) (is_clean is_open : K → Type 0) (book : K → Book) (before after : K) (vs : List Visit) : Type 0 where
+pub record AreServed {K : Type 0} (g : Ghosts K) (before after : K) (vs : List Visit) : Type 0 where
   pub courses : List Course
   pub went : AllWent vs courses
-  pub run : (h : History) → IsKept (is_open before) (book before) h → IsFaithful h (calls_in courses) → is_clean after
-      → IsRun may_fail h (calls_in courses) (outcomes_in courses) (is_open after) (book after)
+  pub run : (h : History) → IsKept (g.is_open before) (g.book before) h → IsFaithful h (calls_in courses) → g.is_clean after
+      → IsRun g.may_fail h (calls_in courses) (outcomes_in courses) (g.is_open after) (g.book after)

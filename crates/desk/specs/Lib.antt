@@ -14,4 +14,3 @@ pub mod FaultText
 pub mod Message
 pub mod Parts
 pub mod Reply
-pub mod Steps

@@ -1,7 +1,7 @@
 //! Many connections, one after the other.
 ghost use Rattle.std.specs.Prelude.{◌≡◌};
 ghost use Rattle.desk.specs.Connections.{AreServed, IsServed, visit, visits};
-ghost use Rattle.desk.specs.Steps.{Does};
+ghost use Rattle.queue.specs.Steps.{Does, Lasts};
 
 use crate::exchange::{DeskFault, Served, answer};
 use keep::Keeper;
@@ -22,9 +22,9 @@ pub struct Connection<R, W> {
 impl<R: Read, W: Write> Connection<R, W> {
     /// Answers the connection.
     pub fn serve<K: Keeper>(&mut self, alloc: Global, archive: &mut Archive<K>)
-        ensures clean { K.is_clean archive.new.keeper → K.is_clean archive.old.keeper }
+        ensures lasts { Lasts K.Keeper archive.old.keeper archive.new.keeper }
         ensures moment { self.new.moment ≡ self.old.moment }
-        ensures served { IsServed (Does K.may_fail K.is_clean K.is_open K.book) (visit R.remaining W.contents self.old self.new)
+        ensures served { IsServed (Does K.Keeper) (visit R.remaining W.contents self.old self.new)
             archive.old.keeper archive.new.keeper }
     {
         self.end = Some(answer(
@@ -43,8 +43,8 @@ pub fn attend<K: Keeper, R: Read, W: Write>(
     archive: &mut Archive<K>,
     connections: &mut [Connection<R, W>],
 )
-    ensures clean { K.is_clean archive.new.keeper → K.is_clean archive.old.keeper }
-    ensures served { AreServed K.may_fail K.is_clean K.is_open K.book archive.old.keeper archive.new.keeper
+    ensures lasts { Lasts K.Keeper archive.old.keeper archive.new.keeper }
+    ensures served { AreServed K.Keeper archive.old.keeper archive.new.keeper
         (visits R.remaining W.contents connections.old connections.new) }
 {
     for connection in connections.iter_mut() {

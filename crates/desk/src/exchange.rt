@@ -8,9 +8,9 @@ ghost use Rattle.desk.specs.Incoming.{ReadsBeginning};
 ghost use Rattle.desk.specs.Message.{message_of};
 ghost use Rattle.desk.specs.Reply.{line};
 ghost use Rattle.desk.specs.Request.{want_of};
-ghost use Rattle.desk.specs.Steps.{Does};
 ghost use Rattle.queue.specs.Commands.{found, lines_of, is_new};
 ghost use Rattle.queue.specs.Histories.{Stored, Lines, Count, Found};
+ghost use Rattle.queue.specs.Steps.{Does, Lasts};
 
 use crate::fault_text::{FaultText, record_text};
 use crate::head::{Refusal, Wanted};
@@ -83,8 +83,8 @@ pub fn answer<K: Keeper, R: Read, W: Write>(
     writer: &mut W,
     moment: u64,
 ) -> Result<Served, DeskFault>
-    ensures clean { K.is_clean archive.new.keeper → K.is_clean archive.old.keeper }
-    ensures answered { IsAnswered (Does K.may_fail K.is_clean K.is_open K.book) (R.remaining reader.old) (R.remaining reader.new)
+    ensures lasts { Lasts K.Keeper archive.old.keeper archive.new.keeper }
+    ensures answered { IsAnswered (Does K.Keeper) (R.remaining reader.old) (R.remaining reader.new)
         archive.old.keeper archive.new.keeper (W.contents writer.old) (W.contents writer.new) moment result }
 {
     match reply_to(alloc, archive, reader, moment) {
@@ -104,8 +104,8 @@ fn reply_to<K: Keeper, R: Read>(
     reader: &mut R,
     moment: u64,
 ) -> Result<Option<Reply>, ReaderFailed>
-    ensures clean { K.is_clean archive.new.keeper → K.is_clean archive.old.keeper }
-    ensures ok { IfOk result (λ reply. IsHandled (Does K.may_fail K.is_clean K.is_open K.book) (R.remaining reader.old) (R.remaining reader.new)
+    ensures lasts { Lasts K.Keeper archive.old.keeper archive.new.keeper }
+    ensures ok { IfOk result (λ reply. IsHandled (Does K.Keeper) (R.remaining reader.old) (R.remaining reader.new)
         archive.old.keeper archive.new.keeper moment (option_map message_of reply)) }
     ensures err { OnErr result (ReadsBeginning (R.remaining reader.old) (R.remaining reader.new) × (archive.new.keeper ≡ archive.old.keeper)) }
 {
@@ -127,8 +127,8 @@ fn carry_out<K: Keeper>(
     body: &[u8],
     moment: u64,
 ) -> Reply
-    ensures clean { K.is_clean archive.new.keeper → K.is_clean archive.old.keeper }
-    ensures carried_out { IsCarriedOut (Does K.may_fail K.is_clean K.is_open K.book) archive.old.keeper archive.new.keeper (want_of wanted.now) body.now moment (message_of result) }
+    ensures lasts { Lasts K.Keeper archive.old.keeper archive.new.keeper }
+    ensures carried_out { IsCarriedOut (Does K.Keeper) archive.old.keeper archive.new.keeper (want_of wanted.now) body.now moment (message_of result) }
 {
     match wanted {
         Wanted::Deliver { name, .. } => {

@@ -7,6 +7,7 @@ mod counted;
 mod item_rows;
 mod kept_values;
 mod messages;
+mod once;
 mod served;
 mod shut;
 mod text_rows;

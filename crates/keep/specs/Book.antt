@@ -1,11 +1,11 @@
 -- What a keeper keeps, as contracts see it: the book.
-use Rattle.std.specs.Prelude.{ℕ, Bool, ◌&&◌, ◌||◌, not, nat_eq, nat_lt, if◌then◌else◌, List, [], ◌∷◌, ◌++◌, map, filter, find, length, codes, bytes_eq, Option, Some, None, option_map, option_and_then, unwrap_or}
+use Rattle.std.specs.Prelude.{◌≡◌, ℕ, Bool, ◌&&◌, ◌||◌, not, nat_eq, nat_lt, if◌then◌else◌, List, [], ◌∷◌, ◌++◌, map, filter, find, length, codes, bytes_eq, Option, Some, None, option_map, option_and_then, unwrap_or}
 use Rattle.std.specs.Ordering.{ordering_then, nat_cmp, is_gt}
 use Rattle.std.specs.declared.cmp.Ordering.{Ordering}
 use Rattle.std.specs.List.{list_any, list_all, ends_with, filter_map, fold, enumerate_from}
 use Rattle.std.specs.Option.{option_or}
 use Rattle.std.specs.Result.{result_ok}
-use Rattle.std.specs.FinMap.{get}
+use Rattle.std.specs.FinMap.{get, values}
 use Rattle.records.specs.Values.{ChangesValue}
 use Rattle.records.specs.Records.{changes_in}
 use Rattle.rules.specs.Values.{ConfigValue}
@@ -14,6 +14,7 @@ use Rattle.sums.specs.declared.entries.Entry.{Entry}
 use Rattle.sums.specs.declared.print.Print.{Print}
 use Rattle.suites.specs.Keys.{text_order}
 use Rattle.suites.specs.Plan.{applied}
+use Rattle.suites.specs.Pool.{AreAgreed, files_of}
 use Rattle.suites.specs.Shelves.{ShelvesValue, pool}
 use Rattle.suites.specs.Upload.{UploadValue, has_text}
 use Rattle.suites.specs.declared.plan.Plan.{Plan}
@@ -193,3 +194,9 @@ amended book change = record {
   files = files_showing book (shown_past book.shown change.steps);
   dates = dates_past change.moment book.dates change.steps;
 }
+
+-- The shown items agree on the contents at each path, and the files of the book are those of its pool, each a body of the
+-- print that is shown there.
+pub record HasItsFiles (book : Book) : Type 0 where
+  pub agreed : AreAgreed (files_of (values book.shown))
+  pub files : (path : List ℕ) → get (pool book.shown) path ≡ option_map print_of (book.files path)

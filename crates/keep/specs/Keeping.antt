@@ -1,5 +1,5 @@
 -- What the calls of a keeper ask and answer.
-use Rattle.std.specs.Prelude.{◌≡◌, ◌≢◌, ◌≤◌, All, AllPairs, ℕ, Bool, true, IsTrue, List, [], ◌∷◌, map, take, length, Ok, Contains, ⊤, ◌⊎◌, Some}
+use Rattle.std.specs.Prelude.{◌≡◌, ◌≢◌, ◌≤◌, ◌+◌, ◌-◌, ◌^◌, min, Option, All, AllPairs, ℕ, Bool, true, IsTrue, List, [], ◌∷◌, map, take, length, Ok, Contains, ⊤, ◌⊎◌, Some}
 use Rattle.records.specs.Values.{ChangesValue}
 use Rattle.records.specs.Records.{changes_in}
 use Rattle.sums.specs.Lines.{is_file_name}
@@ -58,12 +58,36 @@ pub record IsSound (book : Book) (change : Change) : Type 0 where
   pub texts : AreRenewed book (amended book change) change.texts
   pub told : AreTold book.config.suites book.shown → AreTold book.config.suites (shown_past book.shown change.steps)
 
--- What a call leaves of a store: one that is clean was clean, one that is open was open, and only a keeper that may fail is
--- ever shut.
-pub record Lasts (may_fail : Bool) (clean_before clean_after open_before open_after : Type 0) : Type 0 where
-  pub clean : clean_after → clean_before
-  pub was_open : clean_after → open_after → open_before
-  pub stays : clean_after → open_before → open_after ⊎ IsTrue may_fail
+-- The disk failed meanwhile: the count of its failures rose, unless it is at the top of a `u64`.
+abbrev pub MoreFaults : ℕ → ℕ → Type 0
+MoreFaults before after = min (before + 1) (2 ^ 64 - 1) ≤ after
+
+-- What each call leaves of a keeper: one that is clean was clean, one that is open was open, and only a failure of the disk shuts
+-- it. The configuration stays.
+pub record Lasts {K : Type 0} (is_clean is_open : K → Type 0) (faults : K → ℕ) (book : K → Book) (old new : K) : Type 0 where
+  pub clean : is_clean new → is_clean old
+  pub counts : faults old ≤ faults new
+  pub was_open : is_clean new → is_open new → is_open old
+  pub stays : is_clean new → is_open old → is_open new ⊎ MoreFaults (faults old) (faults new)
+  pub config : (book new).config ≡ (book old).config
+
+-- What a read leaves: the book of a keeper that is open, and nothing that a crash would not have left before.
+pub record Reads {K : Type 0} (is_clean is_open : K → Type 0) (faults : K → ℕ) (book : K → Book) (may_leave : K → Option Book → Type 0) (old new : K) : Type 0 where
+  pub lasts : Lasts is_clean is_open faults book old new
+  pub same : is_clean new → is_open new → book new ≡ book old
+  pub crash : is_clean new → (left : Option Book) → may_leave new left → may_leave old left
+
+-- What a crash may leave behind a call that writes: what it would have left before, or all that the call does.
+abbrev pub Leaves : {K : Type 0} → (is_clean is_open : K → Type 0) → (may_leave : K → Option Book → Type 0) → K → K → (Option Book → Type 0) → Type 0
+Leaves is_clean is_open may_leave old new Whole = is_clean new → (left : Option Book) → may_leave new left → may_leave old left ⊎ (is_open old × Whole left)
+
+-- Where of these bodies, which are those of the book and perhaps others, no two have one print.
+abbrev pub Apart : Book → Type 0 → Type 0
+Apart book P = (bodies : List (List ℕ)) → NoCollision bodies → HasBodies bodies book → P
+
+-- the same, where this body is among them
+abbrev pub ApartWith : Book → List ℕ → Type 0 → Type 0
+ApartWith book body P = (bodies : List (List ℕ)) → NoCollision bodies → HasBodies bodies book → Contains bodies body → P
 
 -- Want of memory may always be answered, a fault of the disk or of size only by a keeper that can fail, and that the
 -- tables are not what is needed by no call of a keeper.

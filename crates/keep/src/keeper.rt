@@ -1,9 +1,9 @@
 //! The trait of keepers.
 
-ghost use Rattle.std.specs.Prelude.{◌≡◌, ◌≤◌, ◌∷◌, ◌⊎◌, ℕ, Bool, List, Contains, Option, IfOk, IfErr, OnOk, OnErr, map, not};
+ghost use Rattle.std.specs.Prelude.{◌≡◌, ◌≤◌, ℕ, Bool, Option, Some, IfOk, IfErr, OnOk, OnErr, map, not};
 ghost use Rattle.std.specs.Option.{option_map};
 ghost use Rattle.keep.specs.Book.{Book, amended, due, has_arrival, latest, text_at, upload_of, waiting_list, with_delivery};
-ghost use Rattle.keep.specs.Keeping.{HasBodies, IsDeliverable, IsSound, Lasts, MayAnswer, NoCollision, sign_of};
+ghost use Rattle.keep.specs.Keeping.{Apart, ApartWith, IsDeliverable, IsSound, Lasts, Leaves, MayAnswer, Reads, sign_of};
 
 use crate::change::{Change, Judgement, Waiting};
 use crate::fault::KeepFault;
@@ -24,14 +24,17 @@ pub trait Keeper {
     /// No fault of the disk has shut the keeper. A shut one serves no more and doesn't come back.
     ghost is_open: { Self → Type 0 };
 
+    /// How many times the disk has failed or refused.
+    ghost faults: { Self → ℕ };
+
     /// What is kept, however it is kept. Of a keeper that is shut it says something of the configuration alone.
     ghost book: { Self → Book };
 
     /// Whether the keeper can answer a fault of a disk or of size at all.
     ghost may_fail: { Bool };
 
-    /// What an opening of the store may find after a crash at this moment.
-    ghost may_leave: { Self → Book → Type 0 };
+    /// What an opening of the store may find after a crash at this moment: a book, or no archive of this configuration.
+    ghost may_leave: { Self → Option Book → Type 0 };
 
     /// The configuration that the archive was made with.
     fn config(&self) -> &Config
@@ -49,103 +52,78 @@ pub trait Keeper {
     ) -> Result<bool, KeepFault>
         requires in_time { moment ≤ latest }
         requires deliverable { IsDeliverable name.now body.now }
-        ensures lasts { Lasts may_fail (is_clean self.old) (is_clean self.new) (is_open self.old) (is_open self.new) }
+        ensures lasts { Lasts is_clean is_open faults book self.old self.new }
         ensures served { is_clean self.new → OnOk result (is_open self.new) }
-        ensures config { (book self.new).config ≡ (book self.old).config }
-        ensures new { is_clean self.new → IfOk result (λ new. (bodies : List (List ℕ)) → NoCollision bodies → HasBodies bodies (book self.old) → Contains bodies body.now
-            → new ≡ not (has_arrival (book self.old).arrivals (record { name = name.now; body = body.now; moment = moment }))) }
-        ensures ok { is_clean self.new → OnOk result ((bodies : List (List ℕ)) → NoCollision bodies → HasBodies bodies (book self.old) → Contains bodies body.now
-            → book self.new ≡ with_delivery (book self.old) (record { name = name.now; body = body.now; moment = moment })) }
+        ensures new { is_clean self.new → IfOk result (λ new. ApartWith (book self.old) body.now
+            (new ≡ not (has_arrival (book self.old).arrivals (record { name = name.now; body = body.now; moment = moment })))) }
+        ensures ok { is_clean self.new → OnOk result (ApartWith (book self.old) body.now
+            (book self.new ≡ with_delivery (book self.old) (record { name = name.now; body = body.now; moment = moment }))) }
         ensures err { is_clean self.new → is_open self.new → OnErr result (book self.new ≡ book self.old) }
         ensures cause { IfErr result (MayAnswer may_fail) }
-        ensures crash { is_clean self.new → (left : Book) → may_leave self.new left → may_leave self.old left
-            ⊎ (is_open self.old × ((bodies : List (List ℕ)) → NoCollision bodies → HasBodies bodies (book self.old) → Contains bodies body.now
-            → left ≡ with_delivery (book self.old) (record { name = name.now; body = body.now; moment = moment }))) };
+        ensures crash { Leaves is_clean is_open may_leave self.old self.new (λ left. ApartWith (book self.old) body.now
+            (left ≡ Some (with_delivery (book self.old) (record { name = name.now; body = body.now; moment = moment })))) };
 
     /// The uploads without a verdict of whose entries all have arrived, in the order of the bytes of their names, then of
     /// their SHA-256, SHA-1, MD5 and sizes.
     fn complete_uploads(&mut self, alloc: Global, moment: u64) -> Result<Vec<Upload>, KeepFault>
         requires { moment ≤ latest }
-        ensures lasts { Lasts may_fail (is_clean self.old) (is_clean self.new) (is_open self.old) (is_open self.new) }
+        ensures reads { Reads is_clean is_open faults book may_leave self.old self.new }
         ensures served { is_clean self.new → OnOk result (is_open self.new) }
-        ensures config { (book self.new).config ≡ (book self.old).config }
         // By their names and prints, of whatever bodies.
         ensures signs { is_clean self.new → IfOk result (λ uploads. map (λ u. (u.name, u.print)) uploads.items ≡ map sign_of (due (book self.old))) }
-        ensures uploads { is_clean self.new → IfOk result (λ uploads. (bodies : List (List ℕ)) → NoCollision bodies → HasBodies bodies (book self.old)
-            → uploads.items ≡ map (upload_of (book self.old).arrivals) (due (book self.old))) }
-        ensures same { is_clean self.new → is_open self.new → book self.new ≡ book self.old }
-        ensures cause { IfErr result (MayAnswer may_fail) }
-        ensures crash { is_clean self.new → (left : Book) → may_leave self.new left → may_leave self.old left };
+        ensures uploads { is_clean self.new → IfOk result (λ uploads. Apart (book self.old)
+            (uploads.items ≡ map (upload_of (book self.old).arrivals) (due (book self.old)))) }
+        ensures cause { IfErr result (MayAnswer may_fail) };
 
     /// What the suites show.
     fn shelves(&mut self, alloc: Global) -> Result<Shelves, KeepFault>
-        ensures lasts { Lasts may_fail (is_clean self.old) (is_clean self.new) (is_open self.old) (is_open self.new) }
+        ensures reads { Reads is_clean is_open faults book may_leave self.old self.new }
         ensures served { is_clean self.new → OnOk result (is_open self.new) }
-        ensures config { (book self.new).config ≡ (book self.old).config }
         ensures shelves { is_clean self.new → IfOk result (λ shelves. shelves ≡ (book self.old).shown) }
-        ensures same { is_clean self.new → is_open self.new → book self.new ≡ book self.old }
-        ensures cause { IfErr result (MayAnswer may_fail) }
-        ensures crash { is_clean self.new → (left : Book) → may_leave self.new left → may_leave self.old left };
+        ensures cause { IfErr result (MayAnswer may_fail) };
 
     /// Makes the whole change, or none of it. A crash leaves what it would have left before, or the book with the whole
     /// change.
     fn apply(&mut self, alloc: Global, change: &Change) -> Result<(), KeepFault>
         requires in_time { change.now.moment ≤ latest }
         requires sound { is_clean self.now → is_open self.now → IsSound (book self.now) change.now }
-        ensures lasts { Lasts may_fail (is_clean self.old) (is_clean self.new) (is_open self.old) (is_open self.new) }
+        ensures lasts { Lasts is_clean is_open faults book self.old self.new }
         ensures served { is_clean self.new → OnOk result (is_open self.new) }
-        ensures config { (book self.new).config ≡ (book self.old).config }
-        ensures ok { is_clean self.new → OnOk result ((bodies : List (List ℕ)) → NoCollision bodies → HasBodies bodies (book self.old)
-            → book self.new ≡ amended (book self.old) change.now) }
+        ensures ok { is_clean self.new → OnOk result (Apart (book self.old) (book self.new ≡ amended (book self.old) change.now)) }
         ensures err { is_clean self.new → is_open self.new → OnErr result (book self.new ≡ book self.old) }
         ensures cause { IfErr result (MayAnswer may_fail) }
-        ensures crash { is_clean self.new → (left : Book) → may_leave self.new left → may_leave self.old left
-            ⊎ (is_open self.old × ((bodies : List (List ℕ)) → NoCollision bodies → HasBodies bodies (book self.old)
-            → left ≡ amended (book self.old) change.now)) };
+        ensures crash { Leaves is_clean is_open may_leave self.old self.new (λ left. Apart (book self.old) (left ≡ Some (amended (book self.old) change.now))) };
 
     /// The file of the pool at a path without a leading slash.
     fn file(&mut self, alloc: Global, path: &str) -> Result<Option<Vec<u8>>, KeepFault>
-        ensures lasts { Lasts may_fail (is_clean self.old) (is_clean self.new) (is_open self.old) (is_open self.new) }
+        ensures reads { Reads is_clean is_open faults book may_leave self.old self.new }
         ensures served { is_clean self.new → OnOk result (is_open self.new) }
-        ensures config { (book self.new).config ≡ (book self.old).config }
         ensures file { is_clean self.new → IfOk result (λ file. option_map (λ body. body.items) file ≡ (book self.old).files path.now) }
-        ensures same { is_clean self.new → is_open self.new → book self.new ≡ book self.old }
-        ensures cause { IfErr result (MayAnswer may_fail) }
-        ensures crash { is_clean self.new → (left : Book) → may_leave self.new left → may_leave self.old left };
+        ensures cause { IfErr result (MayAnswer may_fail) };
 
     /// The index text at a path without a leading slash.
     fn text(&mut self, alloc: Global, path: &str) -> Result<Option<Vec<u8>>, KeepFault>
-        ensures lasts { Lasts may_fail (is_clean self.old) (is_clean self.new) (is_open self.old) (is_open self.new) }
+        ensures reads { Reads is_clean is_open faults book may_leave self.old self.new }
         ensures served { is_clean self.new → OnOk result (is_open self.new) }
-        ensures config { (book self.new).config ≡ (book self.old).config }
         ensures text { is_clean self.new → IfOk result (λ text. option_map (λ body. body.items) text ≡ text_at (book self.old) path.now) }
-        ensures same { is_clean self.new → is_open self.new → book self.new ≡ book self.old }
-        ensures cause { IfErr result (MayAnswer may_fail) }
-        ensures crash { is_clean self.new → (left : Book) → may_leave self.new left → may_leave self.old left };
+        ensures cause { IfErr result (MayAnswer may_fail) };
 
     /// The uploads without a verdict, in the order of `complete_uploads`, each with the number of its entries that have
     /// not arrived.
     fn waiting(&mut self, alloc: Global, moment: u64) -> Result<Vec<Waiting>, KeepFault>
         requires { moment ≤ latest }
-        ensures lasts { Lasts may_fail (is_clean self.old) (is_clean self.new) (is_open self.old) (is_open self.new) }
+        ensures reads { Reads is_clean is_open faults book may_leave self.old self.new }
         ensures served { is_clean self.new → OnOk result (is_open self.new) }
-        ensures config { (book self.new).config ≡ (book self.old).config }
-        ensures waiting { is_clean self.new → IfOk result (λ waiting. (bodies : List (List ℕ)) → NoCollision bodies → HasBodies bodies (book self.old)
-            → waiting.items ≡ waiting_list (book self.old)) }
-        ensures same { is_clean self.new → is_open self.new → book self.new ≡ book self.old }
-        ensures cause { IfErr result (MayAnswer may_fail) }
-        ensures crash { is_clean self.new → (left : Book) → may_leave self.new left → may_leave self.old left };
+        ensures waiting { is_clean self.new → IfOk result (λ waiting. Apart (book self.old) (waiting.items ≡ waiting_list (book self.old))) }
+        ensures cause { IfErr result (MayAnswer may_fail) };
 
     /// The judged uploads in the order in which they were judged.
     fn verdicts(&mut self, alloc: Global) -> Result<Vec<Judgement>, KeepFault>
-        ensures lasts { Lasts may_fail (is_clean self.old) (is_clean self.new) (is_open self.old) (is_open self.new) }
+        ensures reads { Reads is_clean is_open faults book may_leave self.old self.new }
         ensures served { is_clean self.new → OnOk result (is_open self.new) }
-        ensures config { (book self.new).config ≡ (book self.old).config }
         ensures verdicts { is_clean self.new → IfOk result (λ judged. judged.items ≡ (book self.old).judged) }
-        ensures same { is_clean self.new → is_open self.new → book self.new ≡ book self.old }
-        ensures cause { IfErr result (MayAnswer may_fail) }
-        ensures crash { is_clean self.new → (left : Book) → may_leave self.new left → may_leave self.old left };
+        ensures cause { IfErr result (MayAnswer may_fail) };
 
     /// While the keeper is open a crash leaves what is kept, and nothing else.
-    ghost settled: { (k : Self) (b : Book) → is_clean k → is_open k → may_leave k b → b ≡ book k };
+    ghost settled: { (k : Self) (left : Option Book) → is_clean k → is_open k → may_leave k left → left ≡ Some (book k) };
 }

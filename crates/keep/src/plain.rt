@@ -31,14 +31,16 @@ pub struct PlainKeeper {
 
 impl PlainKeeper {
     ghost use Rattle.std.specs.Prelude.{◌≡◌, IfErr};
-    ghost use Rattle.keep.specs.Plain.{plain_book, fresh_book};
+    ghost use Rattle.keep.specs.Plain.{fresh_book};
     ghost use Rattle.keep.specs.declared.fault.KeepFault.TheVariants.{OutOfMemory};
 
     /// An archive of this configuration in which nothing is yet, made at the moment, in seconds since 1970-01-01
     /// 00:00:00 UTC.
     pub fn new(alloc: Global, config: Config, moment: u64) -> Result<PlainKeeper, KeepFault>
         requires { moment ≤ LATEST }
-        ensures made { IfOk result (λ keeper. plain_book keeper ≡ fresh_book config moment) }
+        ensures clean { IfOk result (λ keeper. ⟦<PlainKeeper as Keeper>⟧.is_clean keeper) }
+        ensures open { IfOk result (λ keeper. ⟦<PlainKeeper as Keeper>⟧.is_open keeper) }
+        ensures made { IfOk result (λ keeper. ⟦<PlainKeeper as Keeper>⟧.book keeper ≡ fresh_book config moment) }
         ensures refused { IfErr result (λ e. e ≡ OutOfMemory) }
     {
         let dates = vec![in alloc; moment; config.suites().len()]?;
@@ -60,6 +62,8 @@ impl Keeper for PlainKeeper {
     ghost is_clean = { λ _. ⊤ };
 
     ghost is_open = { λ _. ⊤ };
+
+    ghost faults = { λ _. 0 };
 
     ghost book = { plain_book };
 
@@ -140,5 +144,5 @@ impl Keeper for PlainKeeper {
         Ok(copied_judgements(alloc, &self.judged)?)
     }
 
-    ghost settled = { λ k b clean up none. absurd none };
+    ghost settled = { λ k left clean up none. absurd none };
 }

@@ -8,16 +8,17 @@ use Rattle.sqlite.specs.Effect.{Database}
 use Rattle.sqlite.specs.State.{State, IsUnchanged}
 use Rattle.sqlite.specs.Tree.{Trees}
 use Rattle.rules.specs.Values.{ConfigValue}
+use Rattle.keep.specs.Book.{Book}
 use Rattle.keep.specs.declared.change.Judgement.{Judgement}
 use Rattle.tables.proofs.BookLemmas.{held_tables, is_archive}
 use Rattle.tables.specs.Rows.{Tables, Holds, IsArchive, Numbered, Rises, rows_of, tables_in, without}
 use Rattle.tables.specs.Schema.{archive_schema}
 use Rattle.tables.specs.declared.rows.Body.{Body}
 use Rattle.tables.specs.Real.{AreReal, IsRealBody, IsRealPrint}
-use Rattle.kept.specs.Archives.{KeepsArchive}
-use Rattle.kept.specs.Kept.{AreReadable, IsKept}
+use Rattle.kept.specs.Archives.{KeepsArchive, KeepsFinished, book_of}
+use Rattle.kept.specs.Kept.{AreReadable, IsKept, book_in}
 use Rattle.kept.specs.Shown.{shown_in}
-use Rattle.kept.proofs.CallLemmas.{kept_here}
+use Rattle.kept.proofs.CallLemmas.{kept_here, shown_here}
 use Rattle.kept.proofs.RealRows.{kept_readable, kept_real}
 use Rattle.kept.specs.Finished.{finished, is_unfinished}
 use Rattle.kept.specs.Transactions.{IsDone, IsUndone, MayCommit}
@@ -98,6 +99,19 @@ module _ (s : State) (config : ConfigValue) (judged : List Judgement) (dates ids
       let held = finished_now new t found.archive.0 (now t found.archive.0) in
       archive_shown new config judged dates (is_archive new (finished t) held) (subst (λ u. KeepsSome u config judged dates) (sym (held_tables new (finished t) held)) found.archive.1)
 
+  -- and its book is that of the finished rows
+  pub finished_book : (new : Database) → ((t : Tables) → Holds s.now t → Holds new (without_all ids t))
+      → KeepsFinished s.committed config (book_of new config judged (shown_in config.suites (tables_in new)) dates)
+  finished_book new now =
+      let t = tables_in s.now in
+      let held : Holds new (finished t) = finished_now new t found.archive.0 (now t found.archive.0) in
+      let is : tables_in new ≡ finished t = held_tables new (finished t) held in
+      subst (λ db. KeepsFinished db config (book_of new config judged (shown_in config.suites (tables_in new)) dates)) found.rests
+      (∥∥₁_map found.archive.1 (λ some.
+      let kept : IsKept (tables_in new) config judged some.0 dates = subst (λ u. IsKept u config judged some.0 dates) (sym is) some.1 in
+      let shows : shown_in config.suites (tables_in new) ≡ some.0 = shown_here new (record { held = is_archive new (finished t) held; kept = kept }) in
+      (judged, some.0, dates, found.archive.0, some.1, λ i. book_in config judged (shows i) dates (is i))))
+
   -- numbers of none
   none_if_whole : (t : Tables) → Holds s.committed t → filter is_unfinished t.bodies ≡ [] → ids ≡ []
   none_if_whole t held none =
@@ -125,6 +139,10 @@ module _ (s : State) (config : ConfigValue) (judged : List Judgement) (dates ids
   pub may_finish : (trees : Trees) → MayCommit s (without_all ids) trees → MayCommit s finished trees
   may_finish trees h = (h.0, h.1, h.2, λ t held. finished_now h.0 t held (h.3 t held))
 
+  -- without any numbers it has the book itself
+  pub same_book_finished : ids ≡ [] → KeepsFinished s.committed config (book_of s.committed config judged (shown_in config.suites (tables_in s.committed)) dates)
+  same_book_finished none = finished_book s.committed (λ t held. subst (λ l. Holds s.committed (without_all l t)) (sym none) (subst (λ db. Holds db t) found.rests held))
+
   -- without any numbers the database is the archive's
   pub keeps_same : ids ≡ [] → ∥ KeepsArchive s.committed config judged (shown_in config.suites (tables_in s.committed)) dates ∥₁
   keeps_same none = keeps_finished s.committed (λ t held. subst (λ l. Holds s.committed (without_all l t)) (sym none) (subst (λ db. Holds db t) found.rests held))
@@ -147,6 +165,9 @@ module _ (old mid : State) (same : IsUnchanged old mid) where
     held = λ t held. h.held t (subst (λ db. Holds db t) (sym same.0.committed_is) held);
     same = λ t held whole. h.same t (subst (λ db. Holds db t) (sym same.0.committed_is) held) whole ∙ same.0.committed_is;
   }
+
+  pub book_from : {config : ConfigValue} {b : Book} → KeepsFinished mid.committed config b → KeepsFinished old.committed config b
+  book_from {config} {b} h = subst (λ db. KeepsFinished db config b) same.0.committed_is h
 
   pub undone_after : (new : State) → IsUndone mid new → IsUndone old new
   undone_after new h = record { was_open = λ _. same.0.was_open; committed = λ up. h.committed up ∙ same.0.committed_is }

@@ -9,10 +9,11 @@ ghost use Rattle.tables.specs.Rows.{Fails, Rises, Stands, tables_in};
 ghost use Rattle.tables.specs.Schema.{archive_schema};
 ghost use Rattle.tables_read.specs.All.{AreConstrained, tables_with};
 ghost use Rattle.kept.specs.Kept.{AreReadable};
-ghost use Rattle.kept.specs.Archives.{KeepsArchive};
+ghost use Rattle.kept.specs.Archives.{KeepsArchive, KeepsFinished};
 ghost use Rattle.kept.specs.Finished.{finished};
 ghost use Rattle.kept.specs.Shown.{shown_in};
 ghost use Rattle.kept.specs.Transactions.{IsUndone, MayCommit};
+ghost use Rattle.keep_tables.specs.Keepers.{config_in_use, table_book};
 ghost use Rattle.keep_open.specs.Finishing.{unfinished_ids};
 ghost use Rattle.audit.specs.Whole.{KeepsNone, KeepsSome};
 ghost use Rattle.keep_open.specs.Opened.{HasUnfinished, IsArchiveOf, IsFinished, IsFound, IsNoArchive};
@@ -95,7 +96,8 @@ fn keeper_over<S: Alter + Drop>(connection: Connection<S>, held: Held) -> TableK
     requires idle { connection.in_transaction ≡ false }
     requires kept { HasCleanDisk (state S.Store connection) → IsTrue (state S.Store connection).is_open
         → ∥ KeepsArchive (state S.Store connection).committed held.config held.judged.items (shown_in held.config.suites (tables_in (state S.Store connection).committed)) held.dates.items ∥₁ }
-    ensures { result.conn ≡ connection }
+    ensures conn { result.conn ≡ connection }
+    ensures held { (result.config ≡ held.config) × (result.judged ≡ held.judged) × (result.dates ≡ held.dates) }
 {
     let Held {
         config,
@@ -112,7 +114,8 @@ fn keeper_of<S: Alter + Drop>(
 ) -> Result<TableKeeper<S>, (Connection<S>, KeepFault)>
     requires idle { connection.in_transaction ≡ false }
     requires found { HasCleanDisk (state S.Store connection) → IsFound (state S.Store connection) found.held.config found.held.judged.items found.held.dates.items found.unfinished.items }
-    ensures opened { IfOk result (λ keeper. HasCleanDisk (state S.Store keeper.conn) → IsFinished (state S.Store connection) (state S.Store keeper.conn)) }
+    ensures opened { IfOk result (λ keeper. HasCleanDisk (state S.Store keeper.conn) → IsFinished (state S.Store connection) (state S.Store keeper.conn)
+        × KeepsFinished (state S.Store connection).committed (config_in_use keeper) (table_book keeper)) }
     ensures fault { IfErr result (λ e. e.1 ≢ NoArchive) }
     ensures told { IfErr result (λ e. HasCleanDisk (state S.Store e.0) → HasUnfinished (state S.Store connection).now) }
     ensures undone { IfErr result (λ e. HasCleanDisk (state S.Store e.0) → IsUndone (state S.Store connection) (state S.Store e.0)) }
@@ -138,7 +141,8 @@ pub fn open<S: Alter + Drop>(
     alloc: Global,
     mut connection: Connection<S>,
 ) -> Result<TableKeeper<S>, (Connection<S>, KeepFault)>
-    ensures opened { IfOk result (λ keeper. HasCleanDisk (state S.Store keeper.conn) → IsFinished (state S.Store connection) (state S.Store keeper.conn)) }
+    ensures opened { IfOk result (λ keeper. HasCleanDisk (state S.Store keeper.conn) → IsFinished (state S.Store connection) (state S.Store keeper.conn)
+        × KeepsFinished (state S.Store connection).committed (config_in_use keeper) (table_book keeper)) }
     ensures refused { IfErr result (λ e. e.1 ≡ NoArchive → HasCleanDisk (state S.Store e.0) → (connection.in_transaction ≡ true) ⊎ IsNoArchive (state S.Store connection).now) }
     ensures told { IfErr result (λ e. HasCleanDisk (state S.Store e.0) → (e.1 ≡ NoArchive) ⊎ ((e.1 ≡ OutOfMemory) ⊎ (MayFail (state S.Store connection) (state S.Store e.0) ⊎ HasUnfinished (state S.Store connection).now))) }
     ensures busy { connection.in_transaction ≡ true → IsErrAnd result (λ e. (e.1 ≡ NoArchive) × (e.0 ≡ connection)) }

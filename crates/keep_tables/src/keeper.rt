@@ -41,7 +41,6 @@ impl<S: Alter + Drop> TableKeeper<S> {
     ghost use Rattle.keep.specs.Plain.{fresh_book};
     ghost use Rattle.keep.specs.declared.fault.KeepFault.TheVariants.{Tables as NotEmpty};
     ghost use Rattle.tables.specs.Schema.{no_schema};
-    ghost use Rattle.kept.specs.Archives.{book_of};
     ghost use Rattle.kept.specs.Founding.{MayFound, founded};
     ghost use Rattle.kept.specs.Transactions.{IsUndone};
 
@@ -57,8 +56,8 @@ impl<S: Alter + Drop> TableKeeper<S> {
         moment: u64,
     ) -> Result<TableKeeper<S>, (Connection<S>, KeepFault)>
         requires { moment ≤ LATEST }
-        ensures made { IfOk result (λ keeper. HasCleanDisk (state S.Store keeper.conn) → IsTrue (state S.Store keeper.conn).is_open
-            × (book_of (state S.Store keeper.conn).committed keeper.config keeper.judged.items (shown_in keeper.config.suites (tables_in (state S.Store keeper.conn).committed)) keeper.dates.items ≡ fresh_book config moment)) }
+        ensures made { IfOk result (λ keeper. HasCleanDisk (state S.Store keeper.conn) → ⟦<TableKeeper<S> as Keeper>⟧.is_open keeper
+            × (⟦<TableKeeper<S> as Keeper>⟧.book keeper ≡ fresh_book config moment)) }
         ensures taken { (connection.in_transaction ≡ true) ⊎ ((state S.Store connection).now.schema ≢ no_schema) → IsErrAnd result (λ e. (e.1 ≡ NotEmpty) × (e.0 ≡ connection)) }
         ensures free { IfErr result (λ e. e.1 ≡ NotEmpty → (connection.in_transaction ≡ true) ⊎ ((state S.Store connection).now.schema ≢ no_schema)) }
         ensures undone { IfErr result (λ e. HasCleanDisk (state S.Store e.0) → IsUndone (state S.Store connection) (state S.Store e.0)) }
@@ -124,20 +123,22 @@ impl<S: Alter + Drop> TableKeeper<S> {
 
 impl<S: Alter + Drop> Keeper for TableKeeper<S> {
     ghost use Rattle.std.specs.Prelude.{true};
-    ghost use Rattle.sqlite.specs.Effect.{Database};
-    ghost use Rattle.kept.specs.Archives.{KeepsBook, book_of};
-    ghost use Rattle.kept.specs.KeeperLemmas.{left_settled};
+    ghost use Rattle.sqlite.specs.Tree.{Trees};
+    ghost use Rattle.kept.specs.Archives.{KeepsLeft, book_of};
+    ghost use Rattle.kept.specs.KeeperLemmas.{left_is};
 
     ghost is_clean = { λ k. HasCleanDisk (state S.Store k.conn) };
 
     ghost is_open = { λ k. IsTrue (state S.Store k.conn).is_open };
 
+    ghost faults = { λ k. (state S.Store k.conn).faults };
+
     ghost book = { λ k. book_of (state S.Store k.conn).committed k.config k.judged.items (shown_in k.config.suites (tables_in (state S.Store k.conn).committed)) k.dates.items };
 
     ghost may_fail = { true };
 
-    /// A crash leaves databases that an opening may find; each keeps its book.
-    ghost may_leave = { λ k left. (db : Database) × (state S.Store k.conn).may_leave db.trees × KeepsBook db k.config left };
+    /// A crash leaves trees that an opening may find, with a book in them or none.
+    ghost may_leave = { λ k left. (trees : Trees) × (state S.Store k.conn).may_leave trees × KeepsLeft trees k.config left };
 
     #[tactic(auto, unfolding(kept::specs::Kept::book_in))]
     fn config(&self) -> &Config {
@@ -229,5 +230,5 @@ impl<S: Alter + Drop> Keeper for TableKeeper<S> {
         }
     }
 
-    ghost settled = { λ k b clean up left. left_settled left.0 _ (S.settled k.conn.store left.0.trees up left.1) (k.kept clean up) left.2 };
+    ghost settled = { λ k left clean up might. left_is might.0 _ (S.settled k.conn.store might.0 up might.1) (k.kept clean up) left might.2 };
 }

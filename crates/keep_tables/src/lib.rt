@@ -8,6 +8,7 @@ mod due;
 mod keeper;
 pub mod laws;
 mod listing;
+mod meaning;
 mod reads;
 mod showing;
 mod taking;
@@ -15,3 +16,4 @@ mod waiting;
 mod wanting;
 
 pub use keeper::TableKeeper;
+pub use meaning::a_keeper_is_its_tables;

@@ -1,15 +1,16 @@
 -- From what a call does to the database to what a keeper's book becomes.
-use Rattle.std.proofs.Common.{◌≡◌, ℕ, List, sym, ap, subst, ◌∙◌, IsTrue, Result, Ok, Err, OnOk, OnErr}
+use Rattle.std.proofs.Common.{◌≡◌, ℕ, List, Option, Some, sym, ap, subst, ◌∙◌, IsTrue, Result, Ok, Err, OnOk, OnErr}
 use Rattle.std.proofs.Math.Logic.{∥∥₁_elim, ∥∥₁_map}
 use Rattle.sqlite.specs.Effect.{Database}
 use Rattle.sqlite.specs.State.{State}
+use Rattle.sqlite.specs.Tree.{Trees}
 use Rattle.rules.specs.Values.{ConfigValue}
 use Rattle.suites.specs.Shelves.{ShelvesValue}
 use Rattle.keep.specs.Book.{Book}
 use Rattle.keep.specs.declared.change.Judgement.{Judgement}
 use Rattle.tables.specs.Rows.{tables_in}
-use Rattle.kept.specs.Archives.{KeepsArchive, KeepsBook, Turns, book_of}
-use Rattle.kept.specs.KeeperLemmas.{book_set, left_settled}
+use Rattle.kept.specs.Archives.{KeepsArchive, KeepsLeft, Turns, book_of}
+use Rattle.kept.specs.KeeperLemmas.{left_is}
 use Rattle.kept.specs.Shown.{shown_in}
 use Rattle.kept.specs.Transactions.{IsUndone}
 use Rattle.kept.proofs.NameLemmas.{config_codenames}
@@ -41,7 +42,7 @@ pub done_book : {config : ConfigValue} {judged judged_after : List Judgement} {s
 done_book {config} {judged_after = judged_after} {dates_after = dates_after} old new turn =
     ap (λ s. book_of new config judged_after s dates_after) (shown_here new turn.kept) ∙ turn.book
 
--- the book that a crash leaves of it
-pub done_left : {config : ConfigValue} {judged judged_after : List Judgement} {shown shown_after : ShelvesValue} {dates dates_after : List ℕ} {step : Book → Book} {left : Book} (old found new : Database) → found.trees ≡ new.trees
-    → KeepsBook found config left → Turns old new config judged shown dates judged_after shown_after dates_after step → left ≡ step (book_of old config judged shown dates)
-done_left old found new same here turn = left_settled found new same ∣ turn.kept ∣₁ here ∙ turn.book
+-- what a crash leaves of it
+pub turn_left : {config : ConfigValue} {judged judged_after : List Judgement} {shown shown_after : ShelvesValue} {dates dates_after : List ℕ} {step : Book → Book} (old new : Database) (trees : Trees) → trees ≡ new.trees → (left : Option Book)
+    → KeepsLeft trees config left → Turns old new config judged shown dates judged_after shown_after dates_after step → left ≡ Some (step (book_of old config judged shown dates))
+turn_left old new trees same left here turn = left_is trees new same ∣ turn.kept ∣₁ left here ∙ ap Some turn.book

@@ -1,13 +1,14 @@
 -- From what a read does to the connection to what a keeper's book is after it.
-use Rattle.std.proofs.Common.{◌≡◌, ℕ, List, sym, ap, subst, IsTrue}
+use Rattle.std.proofs.Common.{◌≡◌, ℕ, List, Option, sym, ap, subst, IsTrue}
 use Rattle.std.proofs.Math.Logic.{∥∥₁_map}
 use Rattle.sqlite.specs.Effect.{Database}
 use Rattle.sqlite.specs.State.{State, HasCleanDisk}
+use Rattle.sqlite.specs.Tree.{Trees}
 use Rattle.rules.specs.Values.{ConfigValue}
 use Rattle.keep.specs.Book.{Book}
 use Rattle.keep.specs.declared.change.Judgement.{Judgement}
 use Rattle.tables.specs.Rows.{IsArchive, tables_in}
-use Rattle.kept.specs.Archives.{IsRead, KeepsArchive, KeepsBook, book_of}
+use Rattle.kept.specs.Archives.{IsRead, KeepsArchive, KeepsLeft, book_of}
 use Rattle.kept.specs.Shown.{shown_in}
 
 -- the database keeps an archive of this configuration, which shows what its rows show
@@ -35,5 +36,5 @@ module _ {config : ConfigValue} {judged : List Judgement} {dates : List ℕ} (a 
   same_after clean up = ap (λ db. book_of db config judged (shown_in config.suites (tables_in db)) dates) (still_committed clean up)
 
   -- a crash leaves nothing new
-  pub left_before : HasCleanDisk b → (left : Book) → ((db : Database) × b.may_leave db.trees × KeepsBook db config left) → (db : Database) × a.may_leave db.trees × KeepsBook db config left
-  left_before clean left might = (might.0, read.crash clean (was_archive clean) might.0.trees might.1, might.2)
+  pub left_before : HasCleanDisk b → (left : Option Book) → ((trees : Trees) × b.may_leave trees × KeepsLeft trees config left) → (trees : Trees) × a.may_leave trees × KeepsLeft trees config left
+  left_before clean left might = (might.0, read.crash clean (was_archive clean) might.0 might.1, might.2)

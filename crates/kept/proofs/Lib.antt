@@ -49,3 +49,4 @@ pub mod CallLemmas
 pub mod KeeperReads
 pub mod ReadCalls
 pub mod MakeLemmas
+pub mod BookFiles

@@ -116,7 +116,9 @@ module _ (a b : State) where
   pub read_refused : (HasCleanDisk b → Fails a b) → Survives a b (λ _. ⊥) → IsRead a b
   read_refused fails lasts = record {
     clean = λ h. omega (arith, lasts.clean, h);
+    counts = lasts.counts;
     was_open = λ h up. open_before (fails h) up;
+    closes = lasts.closes;
     committed = λ h is up. committed_before (fails h) up;
     crash = λ h is trees might. elim (lasts.crash h trees might) [ inl before ↦ before | inr none ↦ absurd none ];
   }
@@ -143,7 +145,12 @@ module _ (a b c : State) (same : HasCleanDisk b → IsUnchanged a b) (settled : 
       let mid : HasCleanDisk c → HasCleanDisk b = λ h. omega (arith, later.clean, h) in (
       record {
         clean = λ h. omega (arith, first.clean, later.clean, h);
+        counts = omega (arith, first.counts, later.counts);
         was_open = λ h up. (same (mid h)).0.was_open;
+        closes = λ h up. elim (first.closes (mid h) up) [
+          | inl still ↦ elim (later.closes h still) [ inl last ↦ inl last | inr fault ↦ inr (omega (arith, first.counts, fault)) ]
+          | inr fault ↦ inr (omega (arith, later.counts, fault))
+        ];
         committed = λ h is up.
             let s = same (mid h) in
             ∥∥₁_elim (is s.0.was_open) (database_set _ _) (λ archive. (undone h (now_archive (mid h) archive)).committed up ∙ s.0.committed_is);

@@ -1,5 +1,6 @@
 -- The archive that a database keeps, as a keeper sees it.
-use Rattle.std.specs.Prelude.{◌≡◌, ℕ, List, IsTrue}
+use Rattle.std.specs.Prelude.{◌≡◌, ◌≤◌, ◌⊎◌, ℕ, List, Option, Some, None, IsTrue}
+use Rattle.sqlite_disk.specs.Disk.{MoreFaults}
 use Rattle.sqlite.specs.Effect.{Database}
 use Rattle.sqlite.specs.State.{State, HasCleanDisk}
 use Rattle.sqlite.specs.Tree.{Trees}
@@ -8,6 +9,7 @@ use Rattle.suites.specs.Shelves.{ShelvesValue}
 use Rattle.keep.specs.Book.{Book}
 use Rattle.keep.specs.declared.change.Judgement.{Judgement}
 use Rattle.tables.specs.Rows.{Tables, Holds, IsArchive, tables_in}
+use Rattle.kept.specs.Finished.{finished}
 use Rattle.kept.specs.Kept.{IsKept, book_in}
 
 -- The database is that of an archive of this configuration, with these judged uploads, this shown, and these dates.
@@ -23,6 +25,16 @@ book_of db config judged shown dates = book_in config judged shown dates (tables
 abbrev pub KeepsBook : Database → ConfigValue → Book → Type 0
 KeepsBook db config b = ∥ ((judged : List Judgement) × (shown : ShelvesValue) × (dates : List ℕ) × KeepsArchive db config judged shown dates × (b ≡ book_of db config judged shown dates)) ∥₁
 
+-- The database keeps this book, once the bodies that are not whole are away.
+abbrev pub KeepsFinished : Database → ConfigValue → Book → Type 0
+KeepsFinished db config b = ∥ ((judged : List Judgement) × (shown : ShelvesValue) × (dates : List ℕ) × IsArchive db
+    × IsKept (finished (tables_in db)) config judged shown dates × (b ≡ book_in config judged shown dates (finished (tables_in db)))) ∥₁
+
+-- What trees keep that a crash leaves: an archive of this configuration with this book, or none of this configuration.
+abbrev pub KeepsLeft : Trees → ConfigValue → Option Book → Type 0
+KeepsLeft trees config (Some b) = (db : Database) × (db.trees ≡ trees) × KeepsBook db config b
+KeepsLeft trees config None = (db : Database) → db.trees ≡ trees → (b : Book) → KeepsBook db config b → ⊥
+
 -- What one database keeps becomes what another keeps: the judged uploads, what is shown and the dates become these, and the
 -- book that of the step.
 pub record Turns (before after : Database) (config : ConfigValue) (judged : List Judgement) (shown : ShelvesValue) (dates : List ℕ)
@@ -33,6 +45,8 @@ pub record Turns (before after : Database) (config : ConfigValue) (judged : List
 -- What a read of a keeper leaves of its connection, where its database is that of an archive.
 pub record IsRead (old new : State) : Type 0 where
   pub clean : HasCleanDisk new → HasCleanDisk old
+  pub counts : old.faults ≤ new.faults
   pub was_open : HasCleanDisk new → IsTrue new.is_open → IsTrue old.is_open
+  pub closes : HasCleanDisk new → IsTrue old.is_open → IsTrue new.is_open ⊎ MoreFaults old.faults new.faults
   pub committed : HasCleanDisk new → (IsTrue old.is_open → ∥ IsArchive old.committed ∥₁) → IsTrue new.is_open → new.committed ≡ old.committed
   pub crash : HasCleanDisk new → (IsTrue old.is_open → ∥ IsArchive old.committed ∥₁) → (trees : Trees) → new.may_leave trees → old.may_leave trees

@@ -1,10 +1,11 @@
 -- What a keeper's calls leave, from what its connection shows.
-use Rattle.std.proofs.Common.{◌≡◌, ℕ, List, ap, subst, ◌∙◌}
+use Rattle.std.proofs.Common.{◌≡◌, ℕ, List, Option, Some, None, refl, sym, ap, subst, ◌∙◌}
 use Rattle.std.proofs.Math.Logic.{∥∥₁_elim, ∥∥₁_map}
 use Rattle.std.proofs.Props.{props}
 use mathlib.Core.HLevel.{collapsible→set}
 use Rattle.std.specs.FinMap.{entries, same_entries_map}
 use Rattle.sqlite.specs.Effect.{Database}
+use Rattle.sqlite.specs.Tree.{Trees}
 use Rattle.rules.specs.Values.{ConfigValue}
 use Rattle.suites.specs.Shelves.{ShelvesValue}
 use Rattle.suites.specs.declared.item.Item.{Item}
@@ -13,7 +14,7 @@ use Rattle.keep.specs.Book.{Book}
 use Rattle.keep.specs.declared.change.Judgement.{Judgement}
 use Rattle.tables.specs.Rows.{Tables, Holds, tables_in, tables_of}
 use Rattle.kept.specs.Kept.{IsKept, book_in}
-use Rattle.kept.specs.Archives.{KeepsArchive, KeepsBook, book_of}
+use Rattle.kept.specs.Archives.{KeepsArchive, KeepsBook, KeepsLeft, book_of}
 use Rattle.kept.specs.OneBook.{one_archive}
 
 entries_set : IsSet (List (ShelfKey × Item))
@@ -25,6 +26,9 @@ shelves_set = collapsible→set (λ x y p. same_entries_map x y (ap entries p)) 
 
 pub book_set : IsSet Book
 book_set = hlevel (props, shelves_set)
+
+pub left_set : IsSet (Option Book)
+left_set = hlevel (props, shelves_set)
 
 -- two archives in one list of rows are one
 pub same_book : {config : ConfigValue} {judged judged' : List Judgement} {shown shown' : ShelvesValue} {dates dates' : List ℕ} (t : Tables)
@@ -41,3 +45,10 @@ left_settled {config} {judged} {shown} {dates} {left} db now trees is was =
     let same = ap tables_of trees in
     w.4 ∙ ap (book_in config w.0 w.1 w.2) same
     ∙ same_book (tables_in now) here.kept (subst (λ t. IsKept t config w.0 w.1 w.2) same w.3.kept)))
+
+-- trees that are those of an archive keep its book, and nothing else
+pub left_is : {config : ConfigValue} {judged : List Judgement} {shown : ShelvesValue} {dates : List ℕ} (trees : Trees) (now : Database) → trees ≡ now.trees
+    → ∥ KeepsArchive now config judged shown dates ∥₁ → (left : Option Book) → KeepsLeft trees config left → left ≡ Some (book_of now config judged shown dates)
+left_is trees now same is (Some b) here = ap Some (left_settled here.0 now (here.1 ∙ same) is here.2)
+left_is {config} {judged} {shown} {dates} trees now same is None none =
+    absurd (none now (sym same) (book_of now config judged shown dates) (∥∥₁_map is (λ h. (judged, shown, dates, h, refl))))

@@ -9,8 +9,8 @@ pub mod Transactions
 pub mod Planned
 pub mod Reads
 pub mod Shown
+pub mod Finished
 pub mod Archives
 pub mod Taking
 pub mod OneBook
 pub mod KeeperLemmas
-pub mod Finished

@@ -1,2 +1,6 @@
-//! What the rows of an archive's tables say: definitions, which the crates that write and read the rows cite, and lemmas.
+//! What the rows of an archive's tables say: definitions, which the crates that write and read the rows cite, lemmas, and laws.
 #![tactic(auto)]
+
+mod laws;
+
+pub use laws::{a_database_keeps_one_book, a_kept_book_has_its_files};

@@ -1,6 +1,6 @@
 -- The answers of copies, from what the keeper and the plan say.
 use Rattle.std.proofs.Common.{◌≡◌, ◌<◌, ◌≤◌, ℕ, Bool, true, false, List, [], ◌∷◌, map, take, length, Option, Some, None, Ok, Err, refl, sym, ap, subst, ◌∙◌, nat_lt, nat_eq, if◌then◌else◌}
-use Rattle.std.specs.Prelude.{bytes_eq, position}
+use Rattle.std.specs.Prelude.{bytes_eq, not, position}
 use Rattle.std.specs.FinMap.{entries}
 use Rattle.std.specs.List.{list_any}
 use Rattle.std.proofs.lemmas.Bool.{lt-ltb, le-ltb}
@@ -17,7 +17,7 @@ use Rattle.keep.specs.Book.{Book, amended, due, judgements, latest, shown_past}
 use Rattle.keep.specs.Keeping.{AreRenewed, AreSteps, HasBodies, IsSound, NoCollision, sign_of, sign_on}
 use Rattle.keep.specs.declared.change.IndexText.{IndexText}
 use Rattle.keep.specs.declared.change.Step.{Step}
-use Rattle.queue.specs.Answers.{IsAnswer, IsFaithful, IsKept, IsStep, answer, is_refused}
+use Rattle.queue.specs.Answers.{IsAnswer, IsFaithful, IsKept, IsStep, answer, is_free_copy, is_refused}
 use Rattle.queue.specs.Archives.{Stands, archive, book_from, book_of, is_shown_of, shown_by_print, shown_in, suite_named}
 use Rattle.queue.specs.Copies.{AreSuites, IsCopy, copy_fault, is_item_of, shows_source, source_fault, suites_fault}
 use Rattle.queue.specs.Deliveries.{or_else}
@@ -137,6 +137,12 @@ unfolding is_refused
 free_copy h old config from to source moment f t is_open kept is_config in_time suites =
     let here = subst (λ c. AreSuites c from to f t) (is_config ∙ kept.config) suites in
     rw (le-ltb latest moment in_time, here.from_named, here.to_named) here.other
+
+pub may_copy : (old : Book) (config : ConfigValue) (from to : List ℕ) (moment f t : ℕ) → config ≡ old.config → moment ≤ latest → AreSuites config from to f t → is_free_copy old.config from to moment ≡ true
+unfolding is_free_copy
+may_copy old config from to moment f t is_config in_time suites =
+    let here = subst (λ c. AreSuites c from to f t) is_config suites in
+    rw (le-ltb latest moment in_time, here.from_named, here.to_named) (ap not here.other)
 
 -- ---- a copy that is done
 

@@ -1,5 +1,5 @@
 -- What is kept behind a call that changes nothing, and what the keeper was before one that it served.
-use Rattle.std.specs.Prelude.{◌≡◌, Bool, refl}
+use Rattle.std.specs.Prelude.{◌≡◌, ℕ, refl}
 use Rattle.std.proofs.Common.{ap, ◌∙◌}
 use Rattle.keep.specs.Book.{Book}
 use Rattle.keep.specs.Keeping.{Lasts}
@@ -25,9 +25,9 @@ pub untouched : (is_open : Type 0) (book : Book) → IsSame is_open is_open book
 untouched is_open book = record { config = refl; was_open = λ up. up; book = λ up. refl }
 
 -- what the clauses of a keeper's call say of one that is clean
-pub same_by : {may_fail : Bool} {was_clean is_clean was_open is_open : Type 0} {old new : Book} → Lasts may_fail was_clean is_clean was_open is_open → is_clean
-    → new.config ≡ old.config → (is_clean → is_open → new ≡ old) → IsSame was_open is_open old new
-same_by lasts clean config same = record { config = config; was_open = λ up. lasts.was_open clean up; book = λ up. same clean up }
+pub same_by : {K : Type 0} {is_clean is_open : K → Type 0} {faults : K → ℕ} {book : K → Book} {old new : K} → Lasts is_clean is_open faults book old new → is_clean new
+    → (is_clean new → is_open new → book new ≡ book old) → IsSame (is_open old) (is_open new) (book old) (book new)
+same_by lasts clean same = record { config = lasts.config; was_open = λ up. lasts.was_open clean up; book = λ up. same clean up }
 
 pub same_past : {first second third : Type 0} {a b c : Book} → IsSame first second a b → IsSame second third b c → IsSame first third a c
 same_past one two = record {

@@ -10,10 +10,10 @@ use Rattle.suites.specs.declared.key.ShelfKey.{ShelfKey}
 use Rattle.suites.specs.Shelves.{ShelvesValue, shown}
 use Rattle.keep.specs.Book.{Book}
 use Rattle.keep.specs.Plain.{fresh_book}
-use Rattle.keep.specs.Keeping.{HasBodies}
-use Rattle.queue.specs.Answers.{IsOpening}
+use Rattle.keep.specs.Keeping.{HasBodies, NoCollision}
+use Rattle.queue.specs.Answers.{IsFaithful, IsOpening}
 use Rattle.queue.specs.Archives.{BodyItem, PlainArchive, Stands, all_acts, archive, archive_of, book_from, book_of, printed, shown_by_print, with_bodies, pool_in}
-use Rattle.queue.specs.Histories.{arrived}
+use Rattle.queue.specs.Histories.{Call, arrived, bodies_of, opened_with}
 use Rattle.queue.proofs.ContentsMaps.{entries-empty}
 
 nothing : (config : ConfigValue) (moment : ℕ) → PlainArchive
@@ -57,4 +57,13 @@ unfolding fresh_book
 fresh_opening config moment bodies = record {
   known = record { arrivals = λ a h. absurd (omega (arith, h.1)); files = λ path body e. cc };
   whole = fresh_stands config moment;
+}
+
+-- of a history that opens with it, where no two bodies of the calls to come have one print
+pub faithful_anew : (config : ConfigValue) (moment : ℕ) (calls : List Call) → NoCollision (bodies_of calls) → IsFaithful (opened_with (fresh_book config moment)) calls
+faithful_anew config moment calls apart = record {
+  bodies = bodies_of calls;
+  apart = apart;
+  opened = fresh_opening config moment (bodies_of calls);
+  delivered = λ body there. there;
 }

@@ -18,11 +18,10 @@ use Rattle.suites.specs.declared.item.PoolFile.{PoolFile}
 use Rattle.suites.specs.declared.key.ShelfKey.{ShelfKey}
 use Rattle.suites.proofs.HeldLemmas.{append_nil}
 use Rattle.suites.proofs.ShownLemmas.{shown_after-none}
-use Rattle.keep.specs.Book.{Book}
+use Rattle.keep.specs.Book.{Book, HasItsFiles}
 use Rattle.queue.specs.Archives.{BodyItem, Stands, all_acts, archive, archive_of, book_from, book_of, pool_in, printed, shown_by_print, with_bodies}
 use Rattle.queue.specs.Answers.{IsFaithful}
 use Rattle.queue.specs.Histories.{Call, History, arrived, bodies_of, bodies_of_call, calls_of}
-use Rattle.queue.specs.Openings.{HasItsFiles}
 use Rattle.queue.proofs.Contents.{pool_item, shown_member}
 use Rattle.queue.proofs.ContentsMaps.{Contains-found, find-Contains}
 use Rattle.queue.proofs.Known.{apart_with_empty, known}

@@ -5,9 +5,11 @@ use Rattle.std.proofs.lemmas.List.{map-append}
 use Rattle.std.proofs.lemmas.Grind.{flat_map-append}
 use Rattle.std.proofs.lemmas.List.Elements.{Contains-append_left}
 use Rattle.keep.specs.Book.{Book}
+use Rattle.keep.specs.declared.keeper.Keeper.{Ghosts}
 use Rattle.queue.specs.Histories.{Call, Reply, Step, History, followed, bodies_of, bodies_of_call, calls_of}
 use Rattle.queue.specs.Answers.{IsFaithful, IsKept, IsRun, IsStep}
 use Rattle.queue.specs.Commands.{call_of, outcome_of}
+use Rattle.queue.specs.Steps.{IsServed, IsServedLast}
 use Rattle.queue.specs.declared.command.Command.{Command}
 use Rattle.queue.specs.declared.command.Outcome.{Outcome}
 use Rattle.queue.specs.declared.fault.Fault.{Fault}
@@ -35,6 +37,12 @@ IsFaithful-rest h call outcome calls faithful =
       opened = faithful.opened;
       delivered = λ body there. faithful.delivered body (subst (λ (cs : List Call). Contains (bodies_of cs) body) (sym regrouped) there);
     }
+
+-- the last of outcomes is the one that comes behind them
+pub served_last : {K : Type 0} (g : Ghosts K) (k : K) (outcomes : List (Result Reply Fault)) (last : Result Reply Fault) → IsServed g k last → IsServedLast g k (outcomes ++ last ∷ [])
+served_last g k [] last served = served
+served_last g k (one ∷ []) last served = served
+served_last g k (one ∷ two ∷ rest) last served = served_last g k (two ∷ rest) last served
 
 -- Of all the calls after h, those before the ones left have been told. What is kept now is what some history leaves, and
 -- whatever the calls left are told there, the whole is a run.

@@ -20,7 +20,7 @@ use Rattle.keep.specs.declared.fault.KeepFault.{KeepFault}
 use Rattle.keep.specs.declared.fault.KeepFault.TheVariants as keep_faults
 use Rattle.queue.specs.Answers.{IsAnswer, IsFaithful, IsKept, IsStep, answer, delivery_answer, found_at, is_refused, line_on_waiting, report_line, unless_late, waiting_line}
 use Rattle.queue.specs.Archives.{Stands, archive, book_of, book_from}
-use Rattle.queue.specs.Deliveries.{delivery_fault, fault_of_read, most_bytes, or_else, record_fault}
+use Rattle.queue.specs.Deliveries.{IsKeepers, delivery_fault, fault_of_read, most_bytes, or_else, record_fault}
 use Rattle.queue.specs.Fault.{of_keeper}
 use Rattle.queue.specs.Histories.{Call, Delivery, QueueRun, Copying, Lookup, WaitingList, VerdictList, Reply, Stored, Lines, Found, Step, History, arrived, bodies_of, bodies_of_call, calls_of, followed, waiting_after}
 use Rattle.queue.specs.declared.fault.Fault.{Fault}
@@ -62,6 +62,19 @@ pub memory_step : (may_fail : Bool) (h : History) (call : Call) (told : Fault) (
     → IsStep may_fail h call (Err told) is_open new
 memory_step may_fail h call told was_open is_open old new is kept same =
     refused_step may_fail h call told was_open is_open old new kept same (subst (λ (f : Fault). IsAnswer may_fail h call (Err f)) (sym is) tt)
+
+keepers_of : (may_fail : Bool) (free : Type 0) (fault : KeepFault) → MayAnswer may_fail fault → free → IsKeepers may_fail free (of_keeper fault)
+keepers_of may_fail free keep_faults.OutOfMemory may here = tt
+keepers_of may_fail free keep_faults.Disk may here = (may, tt, here)
+keepers_of may_fail free keep_faults.Size may here = (may, tt, here)
+keepers_of may_fail free keep_faults.Tables may here = absurd may
+
+-- what a keeper refuses is a refusal of its own, and so is want of memory
+pub keepers_own : (may_fail : Bool) (free : Type 0) (fault : KeepFault) (told : Fault) → told ≡ of_keeper fault → MayAnswer may_fail fault → free → IsKeepers may_fail free told
+keepers_own may_fail free fault told is may here = subst (λ (f : Fault). IsKeepers may_fail free f) (sym is) (keepers_of may_fail free fault may here)
+
+pub memory_own : (may_fail : Bool) (free : Type 0) (told : Fault) → told ≡ OutOfMemory → IsKeepers may_fail free told
+memory_own may_fail free told is = subst (λ (f : Fault). IsKeepers may_fail free f) (sym is) tt
 
 -- a fault that is the answer, whichever it is
 answered_fault : (may_fail : Bool) (h : History) (call : Call) (fault : Fault) → answer h call ≡ Err fault → ((own : KeepFault) → fault ≡ Keeper own → ⊥) → IsAnswer may_fail h call (Err fault)
@@ -164,14 +177,25 @@ delivered_step may_fail h name body moment is_open old new fresh stands faithful
 pub stands_answered : (may_fail : Bool) (h : History) (call : Call) (reply : Reply) (left : Book) → IsStep may_fail h call (Ok reply) ⊤ left → Stands left (followed h call (answer h call))
 stands_answered may_fail h call reply left step = subst (λ (o : Result Reply Fault). Stands left (followed h call o)) step.answered (step.kept.stands tt)
 
-pub delivered_left : (may_fail : Bool) (h : History) (name body : List ℕ) (moment : ℕ) (old left : Book)
+pub delivered_left : (may_fail : Bool) (h : History) (name body : List ℕ) (moment : ℕ) (old : Book) (left : Option Book)
     → Stands old h → IsFaithful h (Delivery name body moment ∷ []) → delivery_fault name body moment ≡ None
-    → ((bodies : List (List ℕ)) → NoCollision bodies → HasBodies bodies old → Contains bodies body → left ≡ with_delivery old (record { name = name; body = body; moment = moment }))
-    → Stands left (followed h (Delivery name body moment) (answer h (Delivery name body moment)))
+    → ((bodies : List (List ℕ)) → NoCollision bodies → HasBodies bodies old → Contains bodies body → left ≡ Some (with_delivery old (record { name = name; body = body; moment = moment })))
+    → left ≡ Some (book_of (followed h (Delivery name body moment) (answer h (Delivery name body moment))))
 delivered_left may_fail h name body moment old left stands faithful none is =
-    let fresh = not (has_arrival old.arrivals (record { name = name; body = body; moment = moment })) in
-    stands_answered may_fail h (Delivery name body moment) (Stored fresh) left
-    (delivered_step may_fail h name body moment ⊤ old left fresh stands faithful none (λ bodies apart have there. refl) is)
+    let a : Arrival = record { name = name; body = body; moment = moment } in
+    let fresh = not (has_arrival old.arrivals a) in
+    let bodies = [] ∷ faithful.bodies in
+    let have : HasBodies bodies old = subst (HasBodies bodies) (sym stands) (known h (Delivery name body moment ∷ []) faithful) in
+    let there : Contains bodies body = contains_later [] faithful.bodies body (faithful.delivered body (delivered_last h name body moment)) in
+    is bodies (apart_with_empty faithful.bodies faithful.apart) have there
+    ∙ ap Some (stands_answered may_fail h (Delivery name body moment) (Stored fresh) (with_delivery old a)
+    (delivered_step may_fail h name body moment ⊤ old (with_delivery old a) fresh stands faithful none (λ bodies apart have there. refl) (λ bodies apart have there. refl)))
+
+-- what a crash leaves that has all of a change, where what the keeper says holds for all bodies without collision
+pub left_whole : (h : History) (calls : List Call) (faithful : IsFaithful h calls) (now whole : Book) (left : Option Book) → now ≡ book_of h
+    → ((bodies : List (List ℕ)) → NoCollision bodies → HasBodies bodies now → left ≡ Some whole) → left ≡ Some whole
+left_whole h calls faithful now whole left is told =
+    told ([] ∷ faithful.bodies) (apart_with_empty faithful.bodies faithful.apart) (subst (HasBodies ([] ∷ faithful.bodies)) (sym is) (known h calls faithful))
 
 -- ---- look-ups
 

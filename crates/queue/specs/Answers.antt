@@ -13,10 +13,8 @@ use Rattle.keep.specs.Keeping.{NoCollision, HasBodies}
 use Rattle.keep.specs.declared.arrival.Arrival.{Arrival}
 use Rattle.keep.specs.declared.change.Judgement.{Judgement}
 use Rattle.keep.specs.declared.change.Waiting.{Waiting}
-use Rattle.keep.specs.declared.fault.KeepFault.{KeepFault}
-use Rattle.keep.specs.declared.fault.KeepFault.TheVariants.{Disk, Size}
 use Rattle.queue.specs.Archives.{PlainArchive, archive, acted, acts_of, book_of, book_from, pool_in, shown_in, shown_by_print, suite_named, is_shown_of, copied, Stands}
-use Rattle.queue.specs.Deliveries.{delivery_fault}
+use Rattle.queue.specs.Deliveries.{IsOfDisk, delivery_fault}
 use Rattle.queue.specs.Histories.{Call, Delivery, QueueRun, Copying, Lookup, WaitingList, VerdictList, Reply, Stored, Lines, Count, Found, Step, History, arrived, waiting_after, bodies_of, calls_of, followed}
 use Rattle.queue.specs.declared.fault.Fault.{Fault}
 use Rattle.queue.specs.declared.fault.Fault.TheVariants.{OutOfMemory, Keeper, Moment, UnknownSuite, SameSuite, NothingToCopy}
@@ -91,6 +89,11 @@ abbrev pub are_no_two : Option ℕ → Option ℕ → Bool
 are_no_two (Some from) (Some to) = nat_eq from to
 are_no_two _ _ = true
 
+-- whether a copy is refused by neither its moment nor its suites: these are two of the configuration, and not the same
+unfoldable pub is_free_copy : ConfigValue → List ℕ → List ℕ → ℕ → Bool
+is_free_copy config from to moment =
+    not (nat_lt latest moment) && not (are_no_two (suite_named config from) (suite_named config to))
+
 -- whether a call is refused by its arguments and the configuration alone
 unfoldable pub is_refused : History → Call → Bool
 is_refused h (Delivery name body moment) = is_some (delivery_fault name body moment)
@@ -99,12 +102,6 @@ is_refused h (Copying from to source moment) =
     nat_lt latest moment || are_no_two (suite_named h.opening.config from) (suite_named h.opening.config to)
 is_refused h (WaitingList moment) = nat_lt latest moment
 is_refused h call = false
-
--- a fault of the disk or of size
-abbrev pub IsOfDisk : KeepFault → Type 0
-IsOfDisk Disk = ⊤
-IsOfDisk Size = ⊤
-IsOfDisk fault = ⊥
 
 -- The outcome is the answer. In its place want of memory may stand, and a fault of the keeper where it may have one and
 -- the call is not refused anyhow.

@@ -1,7 +1,9 @@
 -- Which deliveries are refused, whatever the archive holds.
-use Rattle.std.specs.Prelude.{ℕ, Bool, not, nat_eq, nat_lt, if◌then◌else◌, List, length, codes, Option, Some, None, Result, Ok, Err}
+use Rattle.std.specs.Prelude.{ℕ, Bool, IsTrue, ⊤, not, nat_eq, nat_lt, if◌then◌else◌, List, length, codes, Option, Some, None, Result, Ok, Err}
 use Rattle.sums.specs.Lines.{is_file_name}
 use Rattle.keep.specs.Book.{is_changes_name, latest}
+use Rattle.keep.specs.declared.fault.KeepFault.{KeepFault}
+use Rattle.keep.specs.declared.fault.KeepFault.TheVariants as keep_faults
 use Rattle.records.specs.Records.{changes_in}
 use Rattle.records.specs.Values.{ChangesValue}
 use Rattle.records.specs.declared.fault.RecordFault.{RecordFault}
@@ -32,8 +34,15 @@ delivery_fault name body moment =
     else (if nat_lt most_bytes (length body) then Some TooLarge
     else or_else (record_fault name body) (if nat_lt latest moment then Some Moment else None))
 
--- The refusal is the keeper's own: want of memory, or a disk or size that failed.
-abbrev pub IsKeepers : Fault → Type 0
-IsKeepers OutOfMemory = Unit {0}
-IsKeepers (Keeper fault) = Unit {0}
-IsKeepers fault = ⊥
+-- a fault of the disk or of size
+abbrev pub IsOfDisk : KeepFault → Type 0
+IsOfDisk keep_faults.Disk = ⊤
+IsOfDisk keep_faults.Size = ⊤
+IsOfDisk fault = ⊥
+
+-- The refusal is the keeper's own: want of memory, or a disk or size that failed, where the keeper can have one and the call
+-- is free of any other refusal.
+abbrev pub IsKeepers : Bool → (free : Type 0) → Fault → Type 0
+IsKeepers may_fail free OutOfMemory = ⊤
+IsKeepers may_fail free (Keeper fault) = IsTrue may_fail × IsOfDisk fault × free
+IsKeepers may_fail free fault = ⊥

@@ -78,6 +78,10 @@ bodies_of calls = flat_map bodies_of_call calls
 abbrev pub calls_of : List Step → List Call
 calls_of steps = map (λ step. step.call) steps
 
+-- the history without calls that opens with this book
+abbrev pub opened_with : Book → History
+opened_with book = record { opening = book; steps = [] }
+
 -- the history with one more call behind it
 abbrev pub followed : History → Call → Result Reply Fault → History
 followed h call outcome = record h { steps = h.steps ++ record { call = call; outcome = outcome } ∷ [] }

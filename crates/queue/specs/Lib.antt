@@ -5,7 +5,7 @@ pub mod Histories
 pub mod Archives
 pub mod Copies
 pub mod Answers
+pub mod Steps
 pub mod Commands
 pub mod Judging
 pub mod Renewal
-pub mod Openings

@@ -2,8 +2,6 @@
 use Rattle.std.specs.Prelude.{◌≡◌, ℕ, ◌+◌, Bool, true, false, ◌||◌, if◌then◌else◌, List, [], ◌∷◌, ◌++◌, map, codes, bytes_eq, Option, Some, None, is_some, unwrap_or}
 use Rattle.std.specs.List.{flat_map, list_any}
 use Rattle.rules.specs.declared.suite.Suite.{Suite}
-use Rattle.keep.specs.Book.{Book}
-use Rattle.keep.specs.Keeping.{Lasts}
 use Rattle.keep.specs.Scan.{some_touches}
 use Rattle.keep.specs.declared.change.IndexText.{IndexText}
 use Rattle.keep.specs.declared.change.Step.{Step}
@@ -18,14 +16,6 @@ use Rattle.texts.specs.Stanzas.{is_in_packages, is_in_sources}
 use Rattle.texts.specs.declared.index.Index.{Index}
 use Rattle.queue.specs.declared.renewal.Folder.{Folder}
 use Rattle.queue.specs.declared.renewal.Place.{Place}
-
--- What reads leave of a keeper: no more of its store than of any other call, the book of one that is open, and nothing that
--- a crash would not have left before.
-pub record AreReads (may_fail : Bool) (clean_before clean_after open_before open_after : Type 0) (before now : Book) (left_before left_now : Book → Type 0) : Type 0 where
-  pub lasts : Lasts may_fail clean_before clean_after open_before open_after
-  pub config : now.config ≡ before.config
-  pub same : clean_after → open_after → now ≡ before
-  pub crash : clean_after → (left : Book) → left_now left → left_before left
 
 -- ---- which indices a step changes
 

@@ -1,13 +1,13 @@
 //! The archive over a keeper.
 
-ghost use Rattle.std.specs.Prelude.{◌≡◌, ◌⊎◌, ◌<◌, ◌∷◌, [], Some, None, Err, IfOk, IfErr};
-ghost use Rattle.queue.specs.Answers.{IsFaithful, IsKept, IsStep, answer};
-ghost use Rattle.queue.specs.Archives.{Stands};
+ghost use Rattle.std.specs.Prelude.{◌≡◌, ◌⊎◌, ◌<◌, ◌≤◌, ⊤, true, Some, None, Err, IfOk, IfErr, OnErr};
+ghost use Rattle.queue.specs.Answers.{is_free_copy};
 ghost use Rattle.queue.specs.Commands.{stored, reported, counted, found};
 ghost use Rattle.queue.specs.Copies.{copy_fault};
-ghost use Rattle.queue.specs.Histories.{History, followed, Delivery, QueueRun, Copying, Lookup, WaitingList, VerdictList};
-ghost use Rattle.keep.specs.Book.{Book, latest};
+ghost use Rattle.queue.specs.Histories.{Delivery, QueueRun, Copying, Lookup, WaitingList, VerdictList};
+ghost use Rattle.keep.specs.Book.{latest};
 ghost use Rattle.queue.specs.Deliveries.{delivery_fault, IsKeepers};
+ghost use Rattle.queue.specs.Steps.{Does, IsServed, IsUndone, Lasts, LeavesStep, Reads};
 
 use crate::command::{Arrived, Report};
 use crate::copy::{copy_plan, only_step, two_suites};
@@ -52,16 +52,17 @@ impl<K: Keeper> Archive<K> {
         body: &[u8],
         moment: u64,
     ) -> Result<Arrived, Fault>
-        ensures clean { K.is_clean self.new.keeper → K.is_clean self.old.keeper }
-        ensures step { (h : History) → IsKept (K.is_open self.old.keeper) (K.book self.old.keeper) h → IsFaithful h (Delivery name.now body.now moment ∷ [])
-            → K.is_clean self.new.keeper → IsStep K.may_fail h (Delivery name.now body.now moment) (stored result) (K.is_open self.new.keeper) (K.book self.new.keeper) }
+        ensures lasts { Lasts K.Keeper self.old.keeper self.new.keeper }
+        // Behind a success the keeper is open.
+        ensures served { IsServed K.Keeper self.new.keeper (stored result) }
+        ensures step { Does K.Keeper self.old.keeper (Delivery name.now body.now moment) (stored result) self.new.keeper }
+        // A refusal leaves the book as it was, whatever the history.
+        ensures err { OnErr result (IsUndone K.Keeper self.old.keeper self.new.keeper) }
         // A crash leaves what it would have left before, or all that the call does.
-        ensures crash { (h : History) → IsKept (K.is_open self.old.keeper) (K.book self.old.keeper) h → IsFaithful h (Delivery name.now body.now moment ∷ [])
-            → K.is_clean self.new.keeper → (left : Book) → K.may_leave self.new.keeper left
-            → K.may_leave self.old.keeper left ⊎ Stands left (followed h (Delivery name.now body.now moment) (answer h (Delivery name.now body.now moment))) }
+        ensures crash { LeavesStep K.Keeper self.old.keeper (Delivery name.now body.now moment) self.new.keeper }
         ensures done { IfOk result (λ _. delivery_fault name.now body.now moment ≡ None) }
         // The fault by name, body and moment, or else one of the keeper's own.
-        ensures refused { IfErr result (λ e. (delivery_fault name.now body.now moment ≡ Some e) ⊎ IsKeepers e) }
+        ensures refused { IfErr result (λ e. (delivery_fault name.now body.now moment ≡ Some e) ⊎ IsKeepers K.may_fail (delivery_fault name.now body.now moment ≡ None) e) }
     {
         check_delivery(alloc, name, body, moment)?;
         if self.keeper.arrive(alloc, name, body, moment)? {
@@ -74,15 +75,16 @@ impl<K: Keeper> Archive<K> {
     /// Judges each upload that is complete and has no verdict, at a moment, in seconds since 1970-01-01 00:00:00 UTC,
     /// and reports a line for each. Refused for a moment after 2099. Where it is refused no upload was judged.
     pub fn run(&mut self, alloc: Global, moment: u64) -> Result<Report, Fault>
-        ensures clean { K.is_clean self.new.keeper → K.is_clean self.old.keeper }
-        ensures step { (h : History) → IsKept (K.is_open self.old.keeper) (K.book self.old.keeper) h → IsFaithful h (QueueRun moment ∷ [])
-            → K.is_clean self.new.keeper → IsStep K.may_fail h (QueueRun moment) (reported result) (K.is_open self.new.keeper) (K.book self.new.keeper) }
+        ensures lasts { Lasts K.Keeper self.old.keeper self.new.keeper }
+        // Behind a success the keeper is open.
+        ensures served { IsServed K.Keeper self.new.keeper (reported result) }
+        ensures step { Does K.Keeper self.old.keeper (QueueRun moment) (reported result) self.new.keeper }
+        // A refusal leaves the book as it was, whatever the history.
+        ensures err { OnErr result (IsUndone K.Keeper self.old.keeper self.new.keeper) }
         // A crash leaves what it would have left before, or all that the call does.
-        ensures crash { (h : History) → IsKept (K.is_open self.old.keeper) (K.book self.old.keeper) h → IsFaithful h (QueueRun moment ∷ [])
-            → K.is_clean self.new.keeper → (left : Book) → K.may_leave self.new.keeper left
-            → K.may_leave self.old.keeper left ⊎ Stands left (followed h (QueueRun moment) (answer h (QueueRun moment))) }
+        ensures crash { LeavesStep K.Keeper self.old.keeper (QueueRun moment) self.new.keeper }
         ensures late { latest < moment → result ≡ Err Fault.Moment }
-        ensures refused { IfErr result (λ e. (latest < moment) ⊎ IsKeepers e) }
+        ensures refused { IfErr result (λ e. (latest < moment) ⊎ IsKeepers K.may_fail (moment ≤ latest) e) }
     {
         if moment > LATEST {
             return Err(Fault::Moment);
@@ -113,17 +115,19 @@ impl<K: Keeper> Archive<K> {
         source: &str,
         moment: u64,
     ) -> Result<u64, Fault>
-        ensures clean { K.is_clean self.new.keeper → K.is_clean self.old.keeper }
-        ensures step { (h : History) → IsKept (K.is_open self.old.keeper) (K.book self.old.keeper) h → IsFaithful h (Copying from.now to.now source.now moment ∷ [])
-            → K.is_clean self.new.keeper → IsStep K.may_fail h (Copying from.now to.now source.now moment) (counted result) (K.is_open self.new.keeper) (K.book self.new.keeper) }
+        ensures lasts { Lasts K.Keeper self.old.keeper self.new.keeper }
+        // Behind a success the keeper is open.
+        ensures served { IsServed K.Keeper self.new.keeper (counted result) }
+        ensures step { Does K.Keeper self.old.keeper (Copying from.now to.now source.now moment) (counted result) self.new.keeper }
+        // A refusal leaves the book as it was, whatever the history.
+        ensures err { OnErr result (IsUndone K.Keeper self.old.keeper self.new.keeper) }
         // A crash leaves what it would have left before, or all that the call does.
-        ensures crash { (h : History) → IsKept (K.is_open self.old.keeper) (K.book self.old.keeper) h → IsFaithful h (Copying from.now to.now source.now moment ∷ [])
-            → K.is_clean self.new.keeper → (left : Book) → K.may_leave self.new.keeper left
-            → K.may_leave self.old.keeper left ⊎ Stands left (followed h (Copying from.now to.now source.now moment) (answer h (Copying from.now to.now source.now moment))) }
+        ensures crash { LeavesStep K.Keeper self.old.keeper (Copying from.now to.now source.now moment) self.new.keeper }
         ensures done { K.is_clean self.new.keeper → IfOk result (λ _. copy_fault (K.book self.old.keeper) from.now to.now source.now moment ≡ None) }
         ensures late { latest < moment → result ≡ Err Fault.Moment }
         // The fault by the moment, the configuration and what is shown, or else one of the keeper's own.
-        ensures refused { K.is_clean self.new.keeper → IfErr result (λ e. (copy_fault (K.book self.old.keeper) from.now to.now source.now moment ≡ Some e) ⊎ IsKeepers e) }
+        ensures refused { K.is_clean self.new.keeper → IfErr result (λ e. (copy_fault (K.book self.old.keeper) from.now to.now source.now moment ≡ Some e)
+            ⊎ IsKeepers K.may_fail (is_free_copy (K.book self.old.keeper).config from.now to.now moment ≡ true) e) }
     {
         if moment > LATEST {
             return Err(Fault::Moment);
@@ -145,12 +149,11 @@ impl<K: Keeper> Archive<K> {
 
     /// The index text or the file of the pool at a path without a leading slash.
     pub fn fetch(&mut self, alloc: Global, path: &str) -> Result<Option<Vec<u8>>, Fault>
-        ensures clean { K.is_clean self.new.keeper → K.is_clean self.old.keeper }
-        ensures step { (h : History) → IsKept (K.is_open self.old.keeper) (K.book self.old.keeper) h → IsFaithful h (Lookup path.now ∷ [])
-            → K.is_clean self.new.keeper → IsStep K.may_fail h (Lookup path.now) (found result) (K.is_open self.new.keeper) (K.book self.new.keeper) }
-        // A crash leaves what it would have left before.
-        ensures crash { K.is_clean self.new.keeper → (left : Book) → K.may_leave self.new.keeper left → K.may_leave self.old.keeper left }
-        ensures refused { IfErr result IsKeepers }
+        // The book stays as it was, and a crash leaves what it would have left before.
+        ensures reads { Reads K.Keeper self.old.keeper self.new.keeper }
+        ensures served { IsServed K.Keeper self.new.keeper (found result) }
+        ensures step { Does K.Keeper self.old.keeper (Lookup path.now) (found result) self.new.keeper }
+        ensures refused { IfErr result (IsKeepers K.may_fail ⊤) }
     {
         match self.keeper.file(alloc, path)? {
             Some(body) => Ok(Some(body)),
@@ -161,13 +164,12 @@ impl<K: Keeper> Archive<K> {
     /// The uploads without a verdict, a line for each: the number of listed files that have not arrived, and the name
     /// of the .changes. Refused for a moment after 2099.
     pub fn waiting(&mut self, alloc: Global, moment: u64) -> Result<Report, Fault>
-        ensures clean { K.is_clean self.new.keeper → K.is_clean self.old.keeper }
-        ensures step { (h : History) → IsKept (K.is_open self.old.keeper) (K.book self.old.keeper) h → IsFaithful h (WaitingList moment ∷ [])
-            → K.is_clean self.new.keeper → IsStep K.may_fail h (WaitingList moment) (reported result) (K.is_open self.new.keeper) (K.book self.new.keeper) }
-        // A crash leaves what it would have left before.
-        ensures crash { K.is_clean self.new.keeper → (left : Book) → K.may_leave self.new.keeper left → K.may_leave self.old.keeper left }
+        // The book stays as it was, and a crash leaves what it would have left before.
+        ensures reads { Reads K.Keeper self.old.keeper self.new.keeper }
+        ensures served { IsServed K.Keeper self.new.keeper (reported result) }
+        ensures step { Does K.Keeper self.old.keeper (WaitingList moment) (reported result) self.new.keeper }
         ensures late { latest < moment → result ≡ Err Fault.Moment }
-        ensures refused { IfErr result (λ e. (latest < moment) ⊎ IsKeepers e) }
+        ensures refused { IfErr result (λ e. (latest < moment) ⊎ IsKeepers K.may_fail (moment ≤ latest) e) }
     {
         if moment > LATEST {
             return Err(Fault::Moment);
@@ -180,12 +182,11 @@ impl<K: Keeper> Archive<K> {
 
     /// All lines that runs have reported, in the order in which the uploads were judged.
     pub fn verdicts(&mut self, alloc: Global) -> Result<Report, Fault>
-        ensures clean { K.is_clean self.new.keeper → K.is_clean self.old.keeper }
-        ensures step { (h : History) → IsKept (K.is_open self.old.keeper) (K.book self.old.keeper) h → IsFaithful h (VerdictList ∷ [])
-            → K.is_clean self.new.keeper → IsStep K.may_fail h VerdictList (reported result) (K.is_open self.new.keeper) (K.book self.new.keeper) }
-        // A crash leaves what it would have left before.
-        ensures crash { K.is_clean self.new.keeper → (left : Book) → K.may_leave self.new.keeper left → K.may_leave self.old.keeper left }
-        ensures refused { IfErr result IsKeepers }
+        // The book stays as it was, and a crash leaves what it would have left before.
+        ensures reads { Reads K.Keeper self.old.keeper self.new.keeper }
+        ensures served { IsServed K.Keeper self.new.keeper (reported result) }
+        ensures step { Does K.Keeper self.old.keeper VerdictList (reported result) self.new.keeper }
+        ensures refused { IfErr result (IsKeepers K.may_fail ⊤) }
     {
         let judged = self.keeper.verdicts(alloc)?;
         Ok(Report {

@@ -1,9 +1,10 @@
 //! Lists of commands.
 
-ghost use Rattle.std.specs.Prelude.{◌≡◌, ◌∷◌, [], IfOk, OnErr, map};
-ghost use Rattle.queue.specs.Answers.{IsFaithful, IsKept, IsRun, IsStep};
+ghost use Rattle.std.specs.Prelude.{◌≡◌, IfOk, OnErr, map};
+ghost use Rattle.queue.specs.Answers.{IsFaithful, IsKept, IsRun};
 ghost use Rattle.queue.specs.Commands.{call_of, kind_of_command, kind_of_outcome, outcome_of};
 ghost use Rattle.queue.specs.Histories.{History};
+ghost use Rattle.queue.specs.Steps.{Does, IsServed, IsServedLast, Lasts};
 
 use crate::archive::Archive;
 use crate::command::{Command, Outcome};
@@ -14,9 +15,9 @@ impl<K: Keeper> Archive<K> {
     /// Makes one command.
     fn make(&mut self, alloc: Global, command: &Command) -> Outcome
         ensures kind { kind_of_outcome result ≡ kind_of_command command.now }
-        ensures clean { K.is_clean self.new.keeper → K.is_clean self.old.keeper }
-        ensures step { (h : History) → IsKept (K.is_open self.old.keeper) (K.book self.old.keeper) h → IsFaithful h (call_of command.now ∷ [])
-            → K.is_clean self.new.keeper → IsStep K.may_fail h (call_of command.now) (outcome_of result) (K.is_open self.new.keeper) (K.book self.new.keeper) }
+        ensures lasts { Lasts K.Keeper self.old.keeper self.new.keeper }
+        ensures served { IsServed K.Keeper self.new.keeper (outcome_of result) }
+        ensures step { Does K.Keeper self.old.keeper (call_of command.now) (outcome_of result) self.new.keeper }
     {
         match command {
             Command::Deliver { name, body, moment } => {
@@ -38,8 +39,10 @@ impl<K: Keeper> Archive<K> {
     /// Makes commands in order, and gives the outcome of each. A command that is refused is an outcome, and the next is
     /// made. An `Err` means that none was made, for want of memory for the outcomes.
     pub fn drive(&mut self, alloc: Global, commands: &[Command]) -> Result<Vec<Outcome>, AllocError>
-        ensures clean { K.is_clean self.new.keeper → K.is_clean self.old.keeper }
+        ensures lasts { Lasts K.Keeper self.old.keeper self.new.keeper }
         ensures kinds { IfOk result (λ outcomes. map kind_of_outcome outcomes.items ≡ map kind_of_command commands.now) }
+        // Where the last is done the keeper is open.
+        ensures served { IfOk result (λ outcomes. IsServedLast K.Keeper self.new.keeper (map outcome_of outcomes.items)) }
         // Where the keeper keeps what a history leaves, the outcomes are the answers of the plain archive, and it then
         // keeps what the longer history leaves.
         ensures once { IfOk result (λ outcomes. (h : History) → IsKept (K.is_open self.old.keeper) (K.book self.old.keeper) h → IsFaithful h (map call_of commands.now)

@@ -1,15 +1,17 @@
 //! Laws of histories.
 
-ghost use Rattle.std.specs.Prelude.{◌≤◌, ℕ, List, []};
-ghost use Rattle.keep.specs.Book.{Book};
+ghost use Rattle.std.specs.Prelude.{◌≡◌, ◌⊎◌, ℕ, List, [], ◌∷◌, Option, Some};
+ghost use Rattle.keep.specs.Book.{Book, HasItsFiles};
 ghost use Rattle.queue.specs.Archives.{book_of, Stands};
-ghost use Rattle.queue.specs.Histories.{Call, History};
-ghost use Rattle.queue.specs.Openings.{HasItsFiles};
+ghost use Rattle.queue.specs.Histories.{Call, History, followed, opened_with};
 ghost use Rattle.rules.specs.Values.{ConfigValue};
 ghost use Rattle.std.specs.FinMap.{values};
 ghost use Rattle.suites.specs.Pool.{AreAgreed, files_of};
 ghost use Rattle.keep.specs.Plain.{fresh_book};
-ghost use Rattle.queue.specs.Answers.{IsFaithful, IsOpening};
+ghost use Rattle.queue.specs.Answers.{IsFaithful, IsKept, IsOpening, answer};
+ghost use Rattle.queue.specs.Steps.{LeavesStep};
+
+use keep::Keeper;
 
 /// A history may open with the book of an archive in which nothing is yet, as the plain keeper makes it: that book is the
 /// one of its own plain archive, and stands for the history without calls.
@@ -20,12 +22,20 @@ pub fn nothing_is_an_opening()
 /// A book whose files are those of its pool, each a body of the print that is shown, stands for the history that opens with
 /// it.
 pub fn a_book_opens_its_history()
-    ensures { (book : Book) → HasItsFiles book → Stands book (record { opening = book; steps = [] }) }
+    ensures { (book : Book) → HasItsFiles book → Stands book (opened_with book) }
 {}
 
 /// Where the promise holds for calls behind a history, it holds for them behind the book that the history leaves, as a
 /// keeper has it that was opened again: what is shown there agrees on the contents at each path.
 pub fn a_history_goes_on_from_its_book()
     ensures { (h : History) (calls : List Call) → AreAgreed (files_of (values (book_of h).shown)) → IsFaithful h calls
-        → IsFaithful (record { opening = book_of h; steps = [] }) calls }
+        → IsFaithful (opened_with (book_of h)) calls }
+{}
+
+/// A stop during a call of an open keeper, or behind it, leaves the book that the history leaves, or the one that it leaves with
+/// the whole call; and it does leave one.
+pub fn a_stop_leaves_a_book<K: Keeper>()
+    ensures { (before after : K) (h : History) (call : Call) → K.is_clean before → K.is_open before → IsKept (K.is_open before) (K.book before) h → IsFaithful h (call ∷ [])
+        → K.is_clean after → LeavesStep K.Keeper before call after → (left : Option Book) → K.may_leave after left
+        → (left ≡ Some (book_of h)) ⊎ (left ≡ Some (book_of (followed h call (answer h call)))) }
 {}

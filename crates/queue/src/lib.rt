@@ -8,6 +8,7 @@ mod delivery;
 mod drive;
 mod fault;
 mod laws;
+mod once;
 mod renewal;
 mod report;
 mod run;
@@ -15,4 +16,8 @@ mod run;
 pub use archive::Archive;
 pub use command::{Arrived, Command, Outcome, Report};
 pub use fault::Fault;
-pub use laws::{a_book_opens_its_history, a_history_goes_on_from_its_book, nothing_is_an_opening};
+pub use laws::{
+    a_book_opens_its_history, a_history_goes_on_from_its_book, a_stop_leaves_a_book,
+    nothing_is_an_opening,
+};
+pub use once::drive_anew;

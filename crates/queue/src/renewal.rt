@@ -3,12 +3,12 @@
 ghost use Rattle.std.specs.Prelude.{◌≡◌, ◌≤◌, ◌<◌, ◌++◌, Bool, List, ℕ, IfOk, IfErr, OnOk, is_some, length, map, slice_get, Some, option_map, string_bytes, if◌then◌else◌};
 ghost use Rattle.std.specs.List.{flat_map, list_any};
 ghost use Rattle.keep.specs.Book.{amended, latest, shown_past, text_at};
-ghost use Rattle.keep.specs.Keeping.{AreRenewed, AreSteps, MayAnswer};
+ghost use Rattle.keep.specs.Keeping.{AreRenewed, AreSteps, MayAnswer, Reads};
 ghost use Rattle.keep.specs.declared.change.Change.{Change};
 ghost use Rattle.rules.specs.declared.suite.Suite.{Suite as SuiteValue};
 ghost use Rattle.texts.specs.Positions.{release_at};
 ghost use Rattle.texts.specs.Release.{index_of};
-ghost use Rattle.queue.specs.Renewal.{AreReads, changes_index, folder_of, index_after, is_kept, is_listed, path_in, place_at, place_path, place_text, places_in, print_kept, renewed_at, renewed_folder, renewed_from, renewed_index, renewed_suite, some_changes_index, text_after};
+ghost use Rattle.queue.specs.Renewal.{changes_index, folder_of, index_after, is_kept, is_listed, path_in, place_at, place_path, place_text, places_in, print_kept, renewed_at, renewed_folder, renewed_from, renewed_index, renewed_suite, some_changes_index, text_after};
 
 use keep::{IndexText, KeepFault, Keeper, Step, some_changes_suite};
 use para::{Listed, Text};
@@ -190,7 +190,7 @@ fn renew_index<K: Keeper>(
     place: &Place,
     texts: &mut Vec<IndexText>,
 ) -> Result<Index, KeepFault>
-    ensures reads { AreReads K.may_fail (K.is_clean keeper.old) (K.is_clean keeper.new) (K.is_open keeper.old) (K.is_open keeper.new) (K.book keeper.old) (K.book keeper.new) (K.may_leave keeper.old) (K.may_leave keeper.new) }
+    ensures reads { Reads K.is_clean K.is_open K.faults K.book K.may_leave keeper.old keeper.new }
     ensures served { K.is_clean keeper.new → OnOk result (K.is_open keeper.new) }
     ensures index { K.is_clean keeper.new → IfOk result (λ index. index ≡ index_after (text_at (K.book keeper.old)) shelves.now steps.now folder.now place.now) }
     ensures texts { K.is_clean keeper.new → OnOk result (texts.new.items ≡ texts.old.items ++ renewed_index (text_at (K.book keeper.old)) shelves.now steps.now folder.now place.now) }
@@ -226,7 +226,7 @@ fn renew_indices<K: Keeper>(
     folder: &Folder,
     texts: &mut Vec<IndexText>,
 ) -> Result<Vec<Index>, KeepFault>
-    ensures reads { AreReads K.may_fail (K.is_clean keeper.old) (K.is_clean keeper.new) (K.is_open keeper.old) (K.is_open keeper.new) (K.book keeper.old) (K.book keeper.new) (K.may_leave keeper.old) (K.may_leave keeper.new) }
+    ensures reads { Reads K.is_clean K.is_open K.faults K.book K.may_leave keeper.old keeper.new }
     ensures served { K.is_clean keeper.new → K.is_open keeper.old → OnOk result (K.is_open keeper.new) }
     ensures indices { K.is_clean keeper.new → IfOk result (λ indices. indices.items ≡ map (index_after (text_at (K.book keeper.old)) shelves.now steps.now folder.now) folder.now.places) }
     ensures texts { K.is_clean keeper.new → OnOk result (texts.new.items ≡ texts.old.items ++ flat_map (renewed_index (text_at (K.book keeper.old)) shelves.now steps.now folder.now) folder.now.places) }
@@ -254,7 +254,7 @@ fn renew_folder<K: Keeper>(
 ) -> Result<(), KeepFault>
     requires moment { moment ≤ latest }
     requires suite { folder.now.suite < length (K.book keeper.now).config.suites }
-    ensures reads { AreReads K.may_fail (K.is_clean keeper.old) (K.is_clean keeper.new) (K.is_open keeper.old) (K.is_open keeper.new) (K.book keeper.old) (K.book keeper.new) (K.may_leave keeper.old) (K.may_leave keeper.new) }
+    ensures reads { Reads K.is_clean K.is_open K.faults K.book K.may_leave keeper.old keeper.new }
     ensures served { K.is_clean keeper.new → OnOk result (K.is_open keeper.new) }
     ensures texts { K.is_clean keeper.new → OnOk result (texts.new.items ≡ texts.old.items ++ renewed_folder (text_at (K.book keeper.old)) shelves.now steps.now folder.now (release_at (K.book keeper.old).config folder.now.suite moment)) }
     ensures cause { IfErr result (MayAnswer K.may_fail) }
@@ -290,7 +290,7 @@ fn renew_suite<K: Keeper>(
 ) -> Result<(), KeepFault>
     requires moment { moment ≤ latest }
     requires suite { suite < length (K.book keeper.now).config.suites }
-    ensures reads { AreReads K.may_fail (K.is_clean keeper.old) (K.is_clean keeper.new) (K.is_open keeper.old) (K.is_open keeper.new) (K.book keeper.old) (K.book keeper.new) (K.may_leave keeper.old) (K.may_leave keeper.new) }
+    ensures reads { Reads K.is_clean K.is_open K.faults K.book K.may_leave keeper.old keeper.new }
     ensures served { K.is_clean keeper.new → OnOk result (K.is_open keeper.new) }
     ensures texts { K.is_clean keeper.new → OnOk result ((s : SuiteValue) → slice_get (K.book keeper.old).config.suites suite ≡ Some s
         → texts.new.items ≡ texts.old.items ++ renewed_suite (text_at (K.book keeper.old)) shelves.now steps.now moment suite s) }
@@ -309,7 +309,7 @@ fn renewed_suites<K: Keeper>(
     moment: u64,
 ) -> Result<Vec<IndexText>, KeepFault>
     requires { moment ≤ latest }
-    ensures reads { AreReads K.may_fail (K.is_clean keeper.old) (K.is_clean keeper.new) (K.is_open keeper.old) (K.is_open keeper.new) (K.book keeper.old) (K.book keeper.new) (K.may_leave keeper.old) (K.may_leave keeper.new) }
+    ensures reads { Reads K.is_clean K.is_open K.faults K.book K.may_leave keeper.old keeper.new }
     ensures served { K.is_clean keeper.new → K.is_open keeper.old → OnOk result (K.is_open keeper.new) }
     ensures texts { K.is_clean keeper.new → IfOk result (λ texts. texts.items ≡ renewed_from (text_at (K.book keeper.old)) shelves.now steps.now moment 0 (K.book keeper.old).config.suites) }
     ensures cause { IfErr result (MayAnswer K.may_fail) }
@@ -335,7 +335,7 @@ pub fn renewed_texts<K: Keeper>(
     moment: u64,
 ) -> Result<Vec<IndexText>, KeepFault>
     requires { moment ≤ latest }
-    ensures reads { AreReads K.may_fail (K.is_clean keeper.old) (K.is_clean keeper.new) (K.is_open keeper.old) (K.is_open keeper.new) (K.book keeper.old) (K.book keeper.new) (K.may_leave keeper.old) (K.may_leave keeper.new) }
+    ensures reads { Reads K.is_clean K.is_open K.faults K.book K.may_leave keeper.old keeper.new }
     ensures served { K.is_clean keeper.new → K.is_open keeper.old → OnOk result (K.is_open keeper.new) }
     ensures renewed { K.is_clean keeper.new → IfOk result (λ texts. (change : Change) → change.moment ≡ moment → change.steps ≡ steps.now
         → AreSteps (K.book keeper.old).shown steps.now → shelves.now ≡ shown_past (K.book keeper.old).shown steps.now

@@ -23,6 +23,8 @@ impl<K: Keeper> Keeper for Counting<K> {
 
     ghost is_open = { λ k. K.Keeper.is_open k.inner };
 
+    ghost faults = { λ k. K.Keeper.faults k.inner };
+
     ghost book = { λ k. K.Keeper.book k.inner };
 
     ghost may_fail = { K.Keeper.may_fail };

@@ -27,6 +27,8 @@ impl<K: Keeper> Keeper for Shut<K> {
 
     ghost is_open = { λ k. K.Keeper.is_open k.inner };
 
+    ghost faults = { λ k. K.Keeper.faults k.inner };
+
     ghost book = { λ k. K.Keeper.book k.inner };
 
     ghost may_fail = { true };

@@ -1,6 +1,7 @@
 use Rattle.std.proofs.Common.{◌≡◌, ◌<◌, ◌+◌, List, [], ◌∷◌, ◌++◌, drop, take, get_or, length, sym, ap, ap₂, subst, ◌∙◌, arith, length-set, set}
 use Rattle.std.proofs.lemmas.List.{drop_more, drop-set-lt, take_more, take_more_set, length-take-le}
 use Rattle.std.proofs.lemmas.Grind.{drop_more_same}
+use Rattle.queue.proofs.ReadLemmas.{lasts_more}
 use Rattle.desk.specs.Connections.{AreServed, Visit, visit, visits}
 use Rattle.desk.specs.declared.connection.Connection.{Connection}
 use Rattle.desk.proofs.ConnectionLemmas.{served_more, visits-snoc}
@@ -29,7 +30,7 @@ loop-connection-preserved g c =
     record {
       to_come = drop-set-lt (i + 1) news i new (omega arith) ∙ drop_more_same news olds i sofar.to_come;
       size = length-set news i new ∙ size;
-      clean = λ clean. sofar.clean (c.serve.ensures.clean clean);
-      served = subst (λ (vs : List Visit). AreServed g.K.Keeper.may_fail g.K.Keeper.is_clean g.K.Keeper.is_open g.K.Keeper.book c.args.archive.now.keeper c.serve.new.archive.keeper vs) (sym grown)
-          (served_more g.K.Keeper.may_fail g.K.Keeper.is_clean g.K.Keeper.is_open g.K.Keeper.book _ c.loop-connection.archive.keeper _ _ _ c.serve.ensures.clean sofar.served c.serve.ensures.served);
+      lasts = lasts_more sofar.lasts c.serve.ensures.lasts;
+      served = subst (λ (vs : List Visit). AreServed g.K.Keeper c.args.archive.now.keeper c.serve.new.archive.keeper vs) (sym grown)
+          (served_more g.K.Keeper _ c.loop-connection.archive.keeper _ _ _ c.serve.ensures.lasts.clean sofar.served c.serve.ensures.served);
     }

@@ -57,3 +57,21 @@ returns-in-Ok-verdicts-clause-carried_out g c =
 pub returns-in-Err-verdicts-clause-carried_out : goal.returns-in-Err-verdicts-clause-carried_out
 returns-in-Err-verdicts-clause-carried_out g c =
     rw c.in-Verdicts.is (record { outcome = Err c.in-Err-verdicts.fault; done = c.in-Err-verdicts.ensures.step; message_is = c.fault_reply-in-Err-verdicts.ensures })
+
+pub returns-in-Ok-fetch-clause-lasts : goal.returns-in-Ok-fetch-clause-lasts
+returns-in-Ok-fetch-clause-lasts g c = c.in-Ok-fetch.ensures.reads.lasts
+
+pub returns-in-Err-fetch-clause-lasts : goal.returns-in-Err-fetch-clause-lasts
+returns-in-Err-fetch-clause-lasts g c = c.in-Err-fetch.ensures.reads.lasts
+
+pub returns-in-Ok-waiting-clause-lasts : goal.returns-in-Ok-waiting-clause-lasts
+returns-in-Ok-waiting-clause-lasts g c = c.in-Ok-waiting.ensures.reads.lasts
+
+pub returns-in-Err-waiting-clause-lasts : goal.returns-in-Err-waiting-clause-lasts
+returns-in-Err-waiting-clause-lasts g c = c.in-Err-waiting.ensures.reads.lasts
+
+pub returns-in-Ok-verdicts-clause-lasts : goal.returns-in-Ok-verdicts-clause-lasts
+returns-in-Ok-verdicts-clause-lasts g c = c.in-Ok-verdicts.ensures.reads.lasts
+
+pub returns-in-Err-verdicts-clause-lasts : goal.returns-in-Err-verdicts-clause-lasts
+returns-in-Err-verdicts-clause-lasts g c = c.in-Err-verdicts.ensures.reads.lasts

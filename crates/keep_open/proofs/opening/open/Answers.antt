@@ -9,7 +9,7 @@ use Rattle.keep_open.specs.Finishing.{unfinished_ids}
 use Rattle.keep_open.specs.Opened.{IsArchiveOf, IsNoArchive}
 use Rattle.audit.proofs.WholeLemmas.{if_ok}
 use Rattle.audit.proofs.WholeLemmas.{err_both, if_err, ok_both}
-use Rattle.keep_open.proofs.OpenLemmas.{finished_from, found_after, may_from, undone_after, unfinished_from}
+use Rattle.keep_open.proofs.OpenLemmas.{book_from, finished_from, found_after, may_from, undone_after, unfinished_from}
 use Rattle.keep_open.proofs.opening.open.Goals as goal
 
 pub keeper_of-requires-clause-found : goal.keeper_of-requires-clause-found
@@ -29,7 +29,7 @@ returns-in-Ok-Some-clause-opened g c =
     ok_both _ _ _ c.keeper_of.result (λ k done crash clean.
     let early : HasCleanDisk mid = omega (arith, crash.clean, clean) in
     let found : IsUnchanged old mid × IsArchiveOf old.now f.held.config f.held.judged.items f.held.dates.items × (f.unfinished.items ≡ unfinished_ids (tables_in old.now).bodies) = search rules in
-    finished_from old mid found.0 (state g.S.Store k.conn) (done clean)) c.keeper_of.ensures.opened c.keeper_of.ensures.crash
+    (finished_from old mid found.0 (state g.S.Store k.conn) (done clean).0, book_from old mid found.0 (done clean).1)) c.keeper_of.ensures.opened c.keeper_of.ensures.crash
 
 pub returns-in-Ok-Some-clause-told : goal.returns-in-Ok-Some-clause-told
 returns-in-Ok-Some-clause-told g c =

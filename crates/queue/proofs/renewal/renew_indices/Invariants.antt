@@ -1,7 +1,8 @@
 use Rattle.std.proofs.Common.{◌≡◌, ◌++◌, map, take}
 use Rattle.std.specs.List.{flat_map}
 use Rattle.keep.specs.Book.{text_at}
-use Rattle.queue.specs.Renewal.{AreReads, index_after, renewed_index}
+use Rattle.keep.specs.Keeping.{Reads}
+use Rattle.queue.specs.Renewal.{index_after, renewed_index}
 use Rattle.queue.proofs.renewal.renew_indices.Given as goal
 
 abbrev pub invariant-loop-place : goal.invariant-loop-place
@@ -9,7 +10,7 @@ invariant-loop-place g l =
     let k = g.K.Keeper in
     let before = l.fn.keeper in
     record {
-      reads : AreReads k.may_fail (k.is_clean before) (k.is_clean l.keeper) (k.is_open before) (k.is_open l.keeper) (k.book before) (k.book l.keeper) (k.may_leave before) (k.may_leave l.keeper);
+      reads : Reads k.is_clean k.is_open k.faults k.book k.may_leave before l.keeper;
       served : k.is_clean l.keeper → k.is_open before → k.is_open l.keeper;
       indices : k.is_clean l.keeper → l.indices.items ≡ map (index_after (text_at (k.book before)) l.shelves l.steps l.folder) (take l.place-index l.folder.places);
       texts : k.is_clean l.keeper → l.texts.items ≡ l.fn.texts.items ++ flat_map (renewed_index (text_at (k.book before)) l.shelves l.steps l.folder) (take l.place-index l.folder.places);

@@ -1,6 +1,7 @@
 use Rattle.std.proofs.Common.{◌≡◌, ◌≤◌, ◌++◌, drop}
 use Rattle.keep.specs.Book.{text_at}
-use Rattle.queue.specs.Renewal.{AreReads, renewed_from}
+use Rattle.keep.specs.Keeping.{Reads}
+use Rattle.queue.specs.Renewal.{renewed_from}
 use Rattle.queue.proofs.renewal.renewed_suites.Given as goal
 
 abbrev pub invariant-loop-suite : goal.invariant-loop-suite
@@ -9,7 +10,7 @@ invariant-loop-suite g l =
     let before = l.fn.keeper in
     let suites = (k.book before).config.suites in
     record {
-      reads : AreReads k.may_fail (k.is_clean before) (k.is_clean l.keeper) (k.is_open before) (k.is_open l.keeper) (k.book before) (k.book l.keeper) (k.may_leave before) (k.may_leave l.keeper);
+      reads : Reads k.is_clean k.is_open k.faults k.book k.may_leave before l.keeper;
       served : k.is_clean l.keeper → k.is_open before → k.is_open l.keeper;
       texts : k.is_clean l.keeper → l.texts.items ++ renewed_from (text_at (k.book before)) l.shelves l.steps l.moment l.suite (drop l.suite suites) ≡ renewed_from (text_at (k.book before)) l.shelves l.steps l.moment 0 suites;
     }

@@ -1,13 +1,14 @@
-use Rattle.std.proofs.Common.{◌≡◌, ◌++◌, inl, inr, sym, ap, subst, ◌∙◌, arith}
+use Rattle.std.proofs.Common.{◌≡◌, ◌++◌, inl, inr, refl, sym, ap, subst, ◌∙◌, arith}
 use Rattle.std.proofs.Math.Logic.{∥∥₁_elim, ∥∥₁_map}
 use Rattle.sqlite.specs.Held.{state}
 use Rattle.sqlite.specs.State.{HasCleanDisk}
 use Rattle.keep.specs.Book.{dates_past, judgements}
 use Rattle.tables.specs.Rows.{tables_in}
 use Rattle.kept.specs.Archives.{KeepsArchive, book_of}
-use Rattle.kept.specs.KeeperLemmas.{book_set}
+use Rattle.kept.specs.Kept.{book_in}
+use Rattle.kept.specs.KeeperLemmas.{book_set, left_set}
 use Rattle.kept.specs.Shown.{shown_in}
-use Rattle.kept.proofs.CallLemmas.{kept_here, done_book, done_left}
+use Rattle.kept.proofs.CallLemmas.{kept_here, turn_left, done_book}
 use Rattle.keep_tables.proofs.keeper.TableKeeperKeeper.apply.Goals as goal
 
 pub invariant_of-self-in-Ok : goal.invariant_of-self-in-Ok
@@ -34,6 +35,30 @@ invariant_of-self-in-Ok g c =
     }
     )
 
+pub returns-in-Ok-clause-lasts : goal.returns-in-Ok-clause-lasts
+unfolding book_in
+returns-in-Ok-clause-lasts g c =
+    let left = c.make_change.ensures.crash in
+    record {
+      clean = λ clean. let early : HasCleanDisk (state g.S.Store c.args.self.now.conn) = omega (arith, left.clean, clean) in early;
+      counts = left.counts;
+      was_open = λ clean up. (c.in-Ok.ensures.open clean).0;
+      stays = left.closes;
+      config = refl;
+    }
+
+pub returns-in-Err-clause-lasts : goal.returns-in-Err-clause-lasts
+unfolding book_in
+returns-in-Err-clause-lasts g c =
+    let left = c.make_change.ensures.crash in
+    record {
+      clean = λ clean. let early : HasCleanDisk (state g.S.Store c.args.self.now.conn) = omega (arith, left.clean, clean) in early;
+      counts = left.counts;
+      was_open = λ clean up. (c.in-Err.ensures.undone clean).was_open up;
+      stays = left.closes;
+      config = refl;
+    }
+
 pub returns-in-Ok-clause-ok : goal.returns-in-Ok-clause-ok
 returns-in-Ok-clause-ok g c clean bodies apart has =
     let old = state g.S.Store c.args.self.now.conn in
@@ -54,12 +79,12 @@ pub returns-in-Ok-clause-crash : goal.returns-in-Ok-clause-crash
 returns-in-Ok-clause-crash g c clean left might =
     let old = state g.S.Store c.args.self.now.conn in
     let early : HasCleanDisk old = omega (arith, c.make_change.ensures.crash.clean, clean) in
-    elim (c.make_change.ensures.crash.crash clean might.0.trees might.1) [
+    elim (c.make_change.ensures.crash.crash clean might.0 might.1) [
       | inl before ↦ inl (might.0, before, might.2)
       | inr new ↦ inr (
         new.2,
-        λ bodies apart has. ∥∥₁_elim (c.args.self.now.kept early new.2) (book_set _ _) (λ was.
-            done_left old.committed might.0 new.0 new.1 might.2 (new.3 _ _ _ was (sym (c.len.ensures ∙ c.args.self.now.judged.ok.0)) (c.requires.sound early new.2))),
+        λ bodies apart has. ∥∥₁_elim (c.args.self.now.kept early new.2) (left_set _ _) (λ was.
+            turn_left old.committed new.0 might.0 new.1 left might.2 (new.3 _ _ _ was (sym (c.len.ensures ∙ c.args.self.now.judged.ok.0)) (c.requires.sound early new.2))),
       )
     ]
 
@@ -67,11 +92,11 @@ pub returns-in-Err-clause-crash : goal.returns-in-Err-clause-crash
 returns-in-Err-clause-crash g c clean left might =
     let old = state g.S.Store c.args.self.now.conn in
     let early : HasCleanDisk old = omega (arith, c.make_change.ensures.crash.clean, clean) in
-    elim (c.make_change.ensures.crash.crash clean might.0.trees might.1) [
+    elim (c.make_change.ensures.crash.crash clean might.0 might.1) [
       | inl before ↦ inl (might.0, before, might.2)
       | inr new ↦ inr (
         new.2,
-        λ bodies apart has. ∥∥₁_elim (c.args.self.now.kept early new.2) (book_set _ _) (λ was.
-            done_left old.committed might.0 new.0 new.1 might.2 (new.3 _ _ _ was (sym (c.len.ensures ∙ c.args.self.now.judged.ok.0)) (c.requires.sound early new.2))),
+        λ bodies apart has. ∥∥₁_elim (c.args.self.now.kept early new.2) (left_set _ _) (λ was.
+            turn_left old.committed new.0 might.0 new.1 left might.2 (new.3 _ _ _ was (sym (c.len.ensures ∙ c.args.self.now.judged.ok.0)) (c.requires.sound early new.2))),
       )
     ]

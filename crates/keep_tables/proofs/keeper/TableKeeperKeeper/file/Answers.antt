@@ -1,6 +1,8 @@
+use Rattle.std.proofs.Common.{refl}
 use Rattle.std.proofs.Math.Logic.{∥∥₁_elim}
 use Rattle.std.proofs.Props.{props}
 use Rattle.sqlite.specs.Held.{state}
+use Rattle.kept.specs.Kept.{book_in}
 use Rattle.kept.proofs.KeeperReads.{left_before, same_after, still_kept, was_archive, was_kept}
 use Rattle.keep_tables.proofs.keeper.TableKeeperKeeper.file.Goals as goal
 
@@ -19,14 +21,28 @@ returns-in-Ok-clause-file g c clean =
     let kept = was_kept (state g.S.Store c.args.self.now.conn) (state g.S.Store c.read_file.new.conn) c.read_file.ensures.read c.args.self.now.kept clean (returns-in-Ok-clause-served g c clean) in
     ∥∥₁_elim kept (hlevel props) (λ was. c.in-Ok.ensures.file clean _ _ _ _ was)
 
-pub returns-in-Ok-clause-same : goal.returns-in-Ok-clause-same
-returns-in-Ok-clause-same g c clean up = same_after (state g.S.Store c.args.self.now.conn) (state g.S.Store c.read_file.new.conn) c.read_file.ensures.read c.args.self.now.kept clean up
+pub returns-in-Ok-clause-reads : goal.returns-in-Ok-clause-reads
+unfolding book_in
+returns-in-Ok-clause-reads g c =
+    let old = state g.S.Store c.args.self.now.conn in
+    let new = state g.S.Store c.read_file.new.conn in
+    let read = c.read_file.ensures.read in
+    let kept = c.args.self.now.kept in
+    record {
+      lasts = record { clean = read.clean; counts = read.counts; was_open = read.was_open; stays = read.closes; config = refl };
+      same = same_after old new read kept;
+      crash = left_before old new read kept;
+    }
 
-pub returns-in-Ok-clause-crash : goal.returns-in-Ok-clause-crash
-returns-in-Ok-clause-crash g c clean left might = left_before (state g.S.Store c.args.self.now.conn) (state g.S.Store c.read_file.new.conn) c.read_file.ensures.read c.args.self.now.kept clean left might
-
-pub returns-in-Err-clause-same : goal.returns-in-Err-clause-same
-returns-in-Err-clause-same g c clean up = same_after (state g.S.Store c.args.self.now.conn) (state g.S.Store c.read_file.new.conn) c.read_file.ensures.read c.args.self.now.kept clean up
-
-pub returns-in-Err-clause-crash : goal.returns-in-Err-clause-crash
-returns-in-Err-clause-crash g c clean left might = left_before (state g.S.Store c.args.self.now.conn) (state g.S.Store c.read_file.new.conn) c.read_file.ensures.read c.args.self.now.kept clean left might
+pub returns-in-Err-clause-reads : goal.returns-in-Err-clause-reads
+unfolding book_in
+returns-in-Err-clause-reads g c =
+    let old = state g.S.Store c.args.self.now.conn in
+    let new = state g.S.Store c.read_file.new.conn in
+    let read = c.read_file.ensures.read in
+    let kept = c.args.self.now.kept in
+    record {
+      lasts = record { clean = read.clean; counts = read.counts; was_open = read.was_open; stays = read.closes; config = refl };
+      same = same_after old new read kept;
+      crash = left_before old new read kept;
+    }

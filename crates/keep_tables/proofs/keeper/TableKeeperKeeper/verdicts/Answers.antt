@@ -1,4 +1,6 @@
+use Rattle.std.proofs.Common.{refl}
 use Rattle.sqlite.specs.Held.{state}
+use Rattle.kept.specs.Kept.{book_in}
 use Rattle.kept.proofs.KeeperReads.{left_before, same_after, still_kept}
 use Rattle.keep_tables.proofs.keeper.TableKeeperKeeper.verdicts.Goals as goal
 
@@ -9,20 +11,41 @@ invariant_of-self g c = record {
   kept = still_kept (state g.S.Store c.args.self.now.conn) (state g.S.Store c.read_nothing.new.conn) c.read_nothing.ensures.read c.args.self.now.kept;
 }
 
-pub returns-in_err-copied_judgements-in-Ok-clause-same : goal.returns-in_err-copied_judgements-in-Ok-clause-same
-returns-in_err-copied_judgements-in-Ok-clause-same g c clean up = same_after (state g.S.Store c.args.self.now.conn) (state g.S.Store c.read_nothing.new.conn) c.read_nothing.ensures.read c.args.self.now.kept clean up
+pub returns-in_err-copied_judgements-in-Ok-clause-reads : goal.returns-in_err-copied_judgements-in-Ok-clause-reads
+unfolding book_in
+returns-in_err-copied_judgements-in-Ok-clause-reads g c =
+    let old = state g.S.Store c.args.self.now.conn in
+    let new = state g.S.Store c.read_nothing.new.conn in
+    let read = c.read_nothing.ensures.read in
+    let kept = c.args.self.now.kept in
+    record {
+      lasts = record { clean = read.clean; counts = read.counts; was_open = read.was_open; stays = read.closes; config = refl };
+      same = same_after old new read kept;
+      crash = left_before old new read kept;
+    }
 
-pub returns-in_err-copied_judgements-in-Ok-clause-crash : goal.returns-in_err-copied_judgements-in-Ok-clause-crash
-returns-in_err-copied_judgements-in-Ok-clause-crash g c clean left might = left_before (state g.S.Store c.args.self.now.conn) (state g.S.Store c.read_nothing.new.conn) c.read_nothing.ensures.read c.args.self.now.kept clean left might
+pub returns-in_ok-copied_judgements-in-Ok-clause-reads : goal.returns-in_ok-copied_judgements-in-Ok-clause-reads
+unfolding book_in
+returns-in_ok-copied_judgements-in-Ok-clause-reads g c =
+    let old = state g.S.Store c.args.self.now.conn in
+    let new = state g.S.Store c.read_nothing.new.conn in
+    let read = c.read_nothing.ensures.read in
+    let kept = c.args.self.now.kept in
+    record {
+      lasts = record { clean = read.clean; counts = read.counts; was_open = read.was_open; stays = read.closes; config = refl };
+      same = same_after old new read kept;
+      crash = left_before old new read kept;
+    }
 
-pub returns-in_ok-copied_judgements-in-Ok-clause-same : goal.returns-in_ok-copied_judgements-in-Ok-clause-same
-returns-in_ok-copied_judgements-in-Ok-clause-same g c clean up = same_after (state g.S.Store c.args.self.now.conn) (state g.S.Store c.read_nothing.new.conn) c.read_nothing.ensures.read c.args.self.now.kept clean up
-
-pub returns-in_ok-copied_judgements-in-Ok-clause-crash : goal.returns-in_ok-copied_judgements-in-Ok-clause-crash
-returns-in_ok-copied_judgements-in-Ok-clause-crash g c clean left might = left_before (state g.S.Store c.args.self.now.conn) (state g.S.Store c.read_nothing.new.conn) c.read_nothing.ensures.read c.args.self.now.kept clean left might
-
-pub returns-in-Err-clause-same : goal.returns-in-Err-clause-same
-returns-in-Err-clause-same g c clean up = same_after (state g.S.Store c.args.self.now.conn) (state g.S.Store c.read_nothing.new.conn) c.read_nothing.ensures.read c.args.self.now.kept clean up
-
-pub returns-in-Err-clause-crash : goal.returns-in-Err-clause-crash
-returns-in-Err-clause-crash g c clean left might = left_before (state g.S.Store c.args.self.now.conn) (state g.S.Store c.read_nothing.new.conn) c.read_nothing.ensures.read c.args.self.now.kept clean left might
+pub returns-in-Err-clause-reads : goal.returns-in-Err-clause-reads
+unfolding book_in
+returns-in-Err-clause-reads g c =
+    let old = state g.S.Store c.args.self.now.conn in
+    let new = state g.S.Store c.read_nothing.new.conn in
+    let read = c.read_nothing.ensures.read in
+    let kept = c.args.self.now.kept in
+    record {
+      lasts = record { clean = read.clean; counts = read.counts; was_open = read.was_open; stays = read.closes; config = refl };
+      same = same_after old new read kept;
+      crash = left_before old new read kept;
+    }

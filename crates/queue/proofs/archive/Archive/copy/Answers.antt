@@ -1,16 +1,17 @@
-use Rattle.std.proofs.Common.{◌<◌, length, Some, inl, inr, refl, sym, ap, subst, ◌∙◌}
+use Rattle.std.proofs.Common.{◌≡◌, ◌<◌, true, length, Some, [], ◌∷◌, inl, inr, refl, sym, ap, subst, ◌∙◌}
 use Rattle.std.specs.Prelude.{⊤}
 use Rattle.std.proofs.lemmas.Result.{err_from_is_err_and}
 use Rattle.rules.specs.Values.{ConfigValue}
 use Rattle.suites.specs.Plan as plans
+use Rattle.queue.specs.Answers.{is_free_copy}
 use Rattle.queue.specs.Archives.{book_of}
 use Rattle.queue.specs.Copies.{AreSuites, copy_fault}
 use Rattle.queue.specs.Histories.{Copying, Count}
 use Rattle.queue.specs.declared.fault.Fault.TheVariants.{Moment}
-use Rattle.queue.proofs.CopyAnswers.{done_copy, free_copy, late_fault, named_fault, named_in, copy_past, copy_steps, named_place, no_fault, nothing_fault, refused_copy, sound_copy}
+use Rattle.queue.proofs.CopyAnswers.{done_copy, free_copy, late_fault, may_copy, named_fault, named_in, copy_past, copy_steps, named_place, no_fault, nothing_fault, refused_copy, sound_copy}
 use Rattle.queue.proofs.RunAnswers.{renewed_change}
 use Rattle.queue.proofs.Kept.{same_by, same_past, untouched}
-use Rattle.queue.proofs.StepAnswers.{keeper_step, memory_step, stands_answered}
+use Rattle.queue.proofs.StepAnswers.{keeper_step, keepers_own, left_whole, memory_own, memory_step, stands_answered}
 use Rattle.queue.proofs.archive.Archive.copy.Goals as goal
 
 pub returns-then-moment-gt-LATEST-clause-step : goal.returns-then-moment-gt-LATEST-clause-step
@@ -40,28 +41,28 @@ pub returns-in_err-shelves-clause-step : goal.returns-in_err-shelves-clause-step
 returns-in_err-shelves-clause-step g c h kept faithful clean =
     let p = err_from_is_err_and c.from_residual-in_err-shelves.result c.from_residual-in_err-shelves.ensures.1 in
     rw p.1 (keeper_step g.K.Keeper.may_fail h (Copying c.args.from.now c.args.to.now c.args.source.now c.args.moment) c.in_err-shelves.field-0.0 p.0 _ _ _ _ p.2 kept
-    (same_by c.in_err-shelves.ensures.lasts clean c.in_err-shelves.ensures.config c.in_err-shelves.ensures.same) c.in_err-shelves.ensures.cause
+    (same_by c.in_err-shelves.ensures.reads.lasts clean c.in_err-shelves.ensures.reads.same) c.in_err-shelves.ensures.cause
     (free_copy h (g.K.Keeper.book c.args.self.now.keeper) c.config.result.now c.args.from.now c.args.to.now c.args.source.now c.args.moment c.in_ok-from.from c.in_ok-from.to
     _ kept c.config.ensures c.if-moment-gt-LATEST.false c.in_ok-from.ensures.suites))
 
 pub copy_plan-requires-clause-from : goal.copy_plan-requires-clause-from
 copy_plan-requires-clause-from g c =
     subst (λ (config : ConfigValue). c.in_ok-from.from < length config.suites)
-    (c.config.ensures ∙ sym c.in_ok-shelves.ensures.config ∙ sym c.config-2.ensures)
+    (c.config.ensures ∙ sym c.in_ok-shelves.ensures.reads.lasts.config ∙ sym c.config-2.ensures)
     (named_place c.config.result.now c.args.from.now c.in_ok-from.from c.in_ok-from.ensures.suites.from_named)
 
 pub copy_plan-requires-clause-to : goal.copy_plan-requires-clause-to
 copy_plan-requires-clause-to g c =
     subst (λ (config : ConfigValue). c.in_ok-from.to < length config.suites)
-    (c.config.ensures ∙ sym c.in_ok-shelves.ensures.config ∙ sym c.config-2.ensures)
+    (c.config.ensures ∙ sym c.in_ok-shelves.ensures.reads.lasts.config ∙ sym c.config-2.ensures)
     (named_place c.config.result.now c.args.to.now c.in_ok-from.to c.in_ok-from.ensures.suites.to_named)
 
 pub returns-in_err-plan-clause-step : goal.returns-in_err-plan-clause-step
 returns-in_err-plan-clause-step g c h kept faithful clean =
     let p = err_from_is_err_and c.from_residual-in_err-plan.result c.from_residual-in_err-plan.ensures.1 in
     let up = c.in_ok-shelves.ensures.served clean in
-    let stands = kept.stands (c.in_ok-shelves.ensures.lasts.was_open clean up) in
-    let read = same_by c.in_ok-shelves.ensures.lasts clean c.in_ok-shelves.ensures.config c.in_ok-shelves.ensures.same in
+    let stands = kept.stands (c.in_ok-shelves.ensures.reads.lasts.was_open clean up) in
+    let read = same_by c.in_ok-shelves.ensures.reads.lasts clean c.in_ok-shelves.ensures.reads.same in
     rw (p.1, p.2) (elim c.in_err-plan.ensures.refused [
       | inl memory ↦ memory_step g.K.Keeper.may_fail h (Copying c.args.from.now c.args.to.now c.args.source.now c.args.moment) c.in_err-plan.field-0.0 _ _ _ _ memory kept read
       | inr nothing ↦ refused_copy g.K.Keeper.may_fail h c.args.from.now c.args.to.now c.args.source.now c.args.moment c.in_err-plan.field-0.0 _ _ _ _ kept read
@@ -83,7 +84,7 @@ pub returns-in_err-steps-clause-step : goal.returns-in_err-steps-clause-step
 returns-in_err-steps-clause-step g c h kept faithful clean =
     let p = err_from_is_err_and c.from_residual-in_err-steps.result c.from_residual-in_err-steps.ensures.1 in
     rw p.1 (memory_step g.K.Keeper.may_fail h (Copying c.args.from.now c.args.to.now c.args.source.now c.args.moment) p.0 _ _ _ _ p.2 kept
-    (same_by c.in_ok-shelves.ensures.lasts clean c.in_ok-shelves.ensures.config c.in_ok-shelves.ensures.same))
+    (same_by c.in_ok-shelves.ensures.reads.lasts clean c.in_ok-shelves.ensures.reads.same))
 
 pub only_step-requires : goal.only_step-requires
 only_step-requires g c = (plans.after_copy c.config-2.result.now c.in_ok-shelves.shelves c.in_ok-from.from c.in_ok-from.to c.args.source.now, c.in_ok-plan.ensures.plan.step)
@@ -92,9 +93,9 @@ pub returns-in_err-texts-clause-step : goal.returns-in_err-texts-clause-step
 returns-in_err-texts-clause-step g c h kept faithful clean =
     let p = err_from_is_err_and c.from_residual-in_err-texts.result c.from_residual-in_err-texts.ensures.1 in
     let reads = c.in_err-texts.ensures.reads in
-    let read = same_by c.in_ok-shelves.ensures.lasts (reads.lasts.clean clean) c.in_ok-shelves.ensures.config c.in_ok-shelves.ensures.same in
+    let read = same_by c.in_ok-shelves.ensures.reads.lasts (reads.lasts.clean clean) c.in_ok-shelves.ensures.reads.same in
     rw p.1 (keeper_step g.K.Keeper.may_fail h (Copying c.args.from.now c.args.to.now c.args.source.now c.args.moment) c.in_err-texts.field-0.0 p.0 _ _ _ _ p.2 kept
-    (same_past read (same_by reads.lasts clean reads.config reads.same)) c.in_err-texts.ensures.cause
+    (same_past read (same_by reads.lasts clean reads.same)) c.in_err-texts.ensures.cause
     (free_copy h (g.K.Keeper.book c.args.self.now.keeper) c.config.result.now c.args.from.now c.args.to.now c.args.source.now c.args.moment c.in_ok-from.from c.in_ok-from.to
     _ kept c.config.ensures c.if-moment-gt-LATEST.false c.in_ok-from.ensures.suites))
 
@@ -106,12 +107,12 @@ apply-requires-clause-sound g c clean up =
     let old = g.K.Keeper.book c.args.self.now.keeper in
     let then = g.K.Keeper.book c.shelves.new.self in
     let now = g.K.Keeper.book c.renewed_texts.new.keeper in
-    let same = c.in_ok-shelves.ensures.same clean_then up_then in
+    let same = c.in_ok-shelves.ensures.reads.same clean_then up_then in
     let is_shown = c.in_ok-shelves.ensures.shelves clean_then in
     let is_given = c.as_slice-2.ensures ∙ c.in_ok-steps.ensures.steps in
     sound_copy c.args.moment old now c.config-2.result.now c.in_ok-shelves.shelves c.in_ok-from.from c.in_ok-from.to
     c.args.source.now c.in_ok-plan.plan c.in_ok-steps.steps c.from_vec.result
-    (reads.same clean up ∙ same) (c.config-2.ensures ∙ sym reads.config) is_shown c.in_ok-steps.ensures.steps c.in_ok-plan.ensures.plan
+    (reads.same clean up ∙ same) (c.config-2.ensures ∙ sym reads.lasts.config) is_shown c.in_ok-steps.ensures.steps c.in_ok-plan.ensures.plan
     (renewed_change c.args.moment then now c.only_step.new.shelves c.as_slice-2.result.now c.in_ok-steps.steps c.in_ok-texts.texts.items c.from_vec.result
     (reads.same clean up) (sym c.as_slice-2.ensures) c.from_vec.ensures
     (c.in_ok-texts.ensures.renewed clean)
@@ -123,9 +124,9 @@ returns-in_err-apply-clause-step g c h kept faithful clean =
     let p = err_from_is_err_and c.from_residual-in_err-apply.result c.from_residual-in_err-apply.ensures.1 in
     let reads = c.in_ok-texts.ensures.reads in
     let clean_now = c.in_err-apply.ensures.lasts.clean clean in
-    let read = same_past (same_by c.in_ok-shelves.ensures.lasts (reads.lasts.clean clean_now) c.in_ok-shelves.ensures.config c.in_ok-shelves.ensures.same) (same_by reads.lasts clean_now reads.config reads.same) in
+    let read = same_past (same_by c.in_ok-shelves.ensures.reads.lasts (reads.lasts.clean clean_now) c.in_ok-shelves.ensures.reads.same) (same_by reads.lasts clean_now reads.same) in
     rw p.1 (keeper_step g.K.Keeper.may_fail h (Copying c.args.from.now c.args.to.now c.args.source.now c.args.moment) c.in_err-apply.field-0.0 p.0 _ _ _ _ p.2 kept
-    (same_past read (same_by c.in_err-apply.ensures.lasts clean c.in_err-apply.ensures.config c.in_err-apply.ensures.err)) c.in_err-apply.ensures.cause
+    (same_past read (same_by c.in_err-apply.ensures.lasts clean c.in_err-apply.ensures.err)) c.in_err-apply.ensures.cause
     (free_copy h (g.K.Keeper.book c.args.self.now.keeper) c.config.result.now c.args.from.now c.args.to.now c.args.source.now c.args.moment c.in_ok-from.from c.in_ok-from.to
     _ kept c.config.ensures c.if-moment-gt-LATEST.false c.in_ok-from.ensures.suites))
 
@@ -138,15 +139,41 @@ returns-clause-step g c h kept faithful clean =
     let up_then = reads.lasts.was_open clean_now up_now in
     done_copy g.K.Keeper.may_fail h c.args.from.now c.args.to.now c.args.source.now c.args.moment c.in_ok-from.from c.in_ok-from.to _
     (g.K.Keeper.book c.args.self.now.keeper) (g.K.Keeper.book c.renewed_texts.new.keeper) (g.K.Keeper.book c.apply.new.self) c.config-2.result.now c.in_ok-shelves.shelves c.in_ok-plan.plan c.in_ok-steps.steps c.from_vec.result _
-    (kept.stands (c.in_ok-shelves.ensures.lasts.was_open clean_then up_then)) faithful c.if-moment-gt-LATEST.false
-    (reads.same clean_now up_now ∙ c.in_ok-shelves.ensures.same clean_then up_then) (c.in_ok-shelves.ensures.shelves clean_then) c.in_ok-steps.ensures.steps
+    (kept.stands (c.in_ok-shelves.ensures.reads.lasts.was_open clean_then up_then)) faithful c.if-moment-gt-LATEST.false
+    (reads.same clean_now up_now ∙ c.in_ok-shelves.ensures.reads.same clean_then up_then) (c.in_ok-shelves.ensures.shelves clean_then) c.in_ok-steps.ensures.steps
     (subst (λ config. AreSuites config c.args.from.now c.args.to.now c.in_ok-from.from c.in_ok-from.to) c.config.ensures c.in_ok-from.ensures.suites)
-    (c.config-2.ensures ∙ sym reads.config) c.in_ok-plan.ensures.plan (c.in_ok-apply.ensures.ok clean) (ap length c.as_slice.ensures)
+    (c.config-2.ensures ∙ sym reads.lasts.config) c.in_ok-plan.ensures.plan (c.in_ok-apply.ensures.ok clean) (ap length c.as_slice.ensures)
 
 pub returns-clause-done : goal.returns-clause-done
 returns-clause-done g c clean =
     no_fault (g.K.Keeper.book c.args.self.now.keeper) c.config.result.now c.in_ok-shelves.shelves c.args.from.now c.args.to.now c.args.source.now c.args.moment c.in_ok-from.from c.in_ok-from.to
     c.if-moment-gt-LATEST.false c.config.ensures (c.in_ok-shelves.ensures.shelves (c.in_ok-texts.ensures.reads.lasts.clean (c.in_ok-apply.ensures.lasts.clean clean))) c.in_ok-from.ensures.suites c.in_ok-plan.ensures.plan.shows
+
+pub returns-in_err-shelves-clause-refused : goal.returns-in_err-shelves-clause-refused
+returns-in_err-shelves-clause-refused g c clean =
+    let p = err_from_is_err_and c.from_residual-in_err-shelves.result c.from_residual-in_err-shelves.ensures.1 in
+    rw p.1 (inr (keepers_own g.K.Keeper.may_fail (is_free_copy (g.K.Keeper.book c.args.self.now.keeper).config c.args.from.now c.args.to.now c.args.moment ≡ true) c.in_err-shelves.field-0.0 p.0 p.2 c.in_err-shelves.ensures.cause
+    (may_copy (g.K.Keeper.book c.args.self.now.keeper) c.config.result.now c.args.from.now c.args.to.now c.args.moment c.in_ok-from.from c.in_ok-from.to
+    c.config.ensures c.if-moment-gt-LATEST.false c.in_ok-from.ensures.suites)))
+
+pub returns-in_err-steps-clause-refused : goal.returns-in_err-steps-clause-refused
+returns-in_err-steps-clause-refused g c clean =
+    let p = err_from_is_err_and c.from_residual-in_err-steps.result c.from_residual-in_err-steps.ensures.1 in
+    rw p.1 (inr (memory_own g.K.Keeper.may_fail (is_free_copy (g.K.Keeper.book c.args.self.now.keeper).config c.args.from.now c.args.to.now c.args.moment ≡ true) p.0 p.2))
+
+pub returns-in_err-texts-clause-refused : goal.returns-in_err-texts-clause-refused
+returns-in_err-texts-clause-refused g c clean =
+    let p = err_from_is_err_and c.from_residual-in_err-texts.result c.from_residual-in_err-texts.ensures.1 in
+    rw p.1 (inr (keepers_own g.K.Keeper.may_fail (is_free_copy (g.K.Keeper.book c.args.self.now.keeper).config c.args.from.now c.args.to.now c.args.moment ≡ true) c.in_err-texts.field-0.0 p.0 p.2 c.in_err-texts.ensures.cause
+    (may_copy (g.K.Keeper.book c.args.self.now.keeper) c.config.result.now c.args.from.now c.args.to.now c.args.moment c.in_ok-from.from c.in_ok-from.to
+    c.config.ensures c.if-moment-gt-LATEST.false c.in_ok-from.ensures.suites)))
+
+pub returns-in_err-apply-clause-refused : goal.returns-in_err-apply-clause-refused
+returns-in_err-apply-clause-refused g c clean =
+    let p = err_from_is_err_and c.from_residual-in_err-apply.result c.from_residual-in_err-apply.ensures.1 in
+    rw p.1 (inr (keepers_own g.K.Keeper.may_fail (is_free_copy (g.K.Keeper.book c.args.self.now.keeper).config c.args.from.now c.args.to.now c.args.moment ≡ true) c.in_err-apply.field-0.0 p.0 p.2 c.in_err-apply.ensures.cause
+    (may_copy (g.K.Keeper.book c.args.self.now.keeper) c.config.result.now c.args.from.now c.args.to.now c.args.moment c.in_ok-from.from c.in_ok-from.to
+    c.config.ensures c.if-moment-gt-LATEST.false c.in_ok-from.ensures.suites)))
 
 pub returns-then-moment-gt-LATEST-clause-crash : goal.returns-then-moment-gt-LATEST-clause-crash
 returns-then-moment-gt-LATEST-clause-crash g c h kept faithful clean left may = inl may
@@ -155,18 +182,18 @@ pub returns-in_err-from-clause-crash : goal.returns-in_err-from-clause-crash
 returns-in_err-from-clause-crash g c h kept faithful clean left may = inl may
 
 pub returns-in_err-shelves-clause-crash : goal.returns-in_err-shelves-clause-crash
-returns-in_err-shelves-clause-crash g c h kept faithful clean left may = inl (c.in_err-shelves.ensures.crash clean left may)
+returns-in_err-shelves-clause-crash g c h kept faithful clean left may = inl (c.in_err-shelves.ensures.reads.crash clean left may)
 
 pub returns-in_err-plan-clause-crash : goal.returns-in_err-plan-clause-crash
-returns-in_err-plan-clause-crash g c h kept faithful clean left may = inl (c.in_ok-shelves.ensures.crash clean left may)
+returns-in_err-plan-clause-crash g c h kept faithful clean left may = inl (c.in_ok-shelves.ensures.reads.crash clean left may)
 
 pub returns-in_err-steps-clause-crash : goal.returns-in_err-steps-clause-crash
-returns-in_err-steps-clause-crash g c h kept faithful clean left may = inl (c.in_ok-shelves.ensures.crash clean left may)
+returns-in_err-steps-clause-crash g c h kept faithful clean left may = inl (c.in_ok-shelves.ensures.reads.crash clean left may)
 
 pub returns-in_err-texts-clause-crash : goal.returns-in_err-texts-clause-crash
 returns-in_err-texts-clause-crash g c h kept faithful clean left may =
     let reads = c.in_err-texts.ensures.reads in
-    inl (c.in_ok-shelves.ensures.crash (reads.lasts.clean clean) left (reads.crash clean left may))
+    inl (c.in_ok-shelves.ensures.reads.crash (reads.lasts.clean clean) left (reads.crash clean left may))
 
 pub returns-in_err-apply-clause-crash : goal.returns-in_err-apply-clause-crash
 returns-in_err-apply-clause-crash g c h kept faithful clean left may =
@@ -174,14 +201,15 @@ returns-in_err-apply-clause-crash g c h kept faithful clean left may =
     let clean_now = c.in_err-apply.ensures.lasts.clean clean in
     let clean_then = reads.lasts.clean clean_now in
     elim (c.in_err-apply.ensures.crash clean left may) [
-      | inl before ↦ inl (c.in_ok-shelves.ensures.crash clean_then left (reads.crash clean_now left before))
-      | inr made ↦ inr (stands_answered g.K.Keeper.may_fail h (Copying c.args.from.now c.args.to.now c.args.source.now c.args.moment) (Count (length c.in_ok-plan.plan.put)) left
+      | inl before ↦ inl (c.in_ok-shelves.ensures.reads.crash clean_then left (reads.crash clean_now left before))
+      | inr made ↦ inr (left_whole h ((Copying c.args.from.now c.args.to.now c.args.source.now c.args.moment) ∷ []) faithful (g.K.Keeper.book c.renewed_texts.new.keeper) _ left (reads.same clean_now made.0 ∙ c.in_ok-shelves.ensures.reads.same clean_then (reads.lasts.was_open clean_now made.0) ∙ kept.stands (c.in_ok-shelves.ensures.reads.lasts.was_open clean_then (reads.lasts.was_open clean_now made.0))) made.1
+          ∙ ap Some (stands_answered g.K.Keeper.may_fail h (Copying c.args.from.now c.args.to.now c.args.source.now c.args.moment) (Count (length c.in_ok-plan.plan.put)) _
           (done_copy g.K.Keeper.may_fail h c.args.from.now c.args.to.now c.args.source.now c.args.moment c.in_ok-from.from c.in_ok-from.to ⊤
-          (g.K.Keeper.book c.args.self.now.keeper) (g.K.Keeper.book c.renewed_texts.new.keeper) left c.config-2.result.now c.in_ok-shelves.shelves c.in_ok-plan.plan c.in_ok-steps.steps c.from_vec.result (length c.in_ok-plan.plan.put)
-          (kept.stands (c.in_ok-shelves.ensures.lasts.was_open clean_then (reads.lasts.was_open clean_now made.0))) faithful c.if-moment-gt-LATEST.false
-          (reads.same clean_now made.0 ∙ c.in_ok-shelves.ensures.same clean_then (reads.lasts.was_open clean_now made.0)) (c.in_ok-shelves.ensures.shelves clean_then) c.in_ok-steps.ensures.steps
+          (g.K.Keeper.book c.args.self.now.keeper) (g.K.Keeper.book c.renewed_texts.new.keeper) _ c.config-2.result.now c.in_ok-shelves.shelves c.in_ok-plan.plan c.in_ok-steps.steps c.from_vec.result (length c.in_ok-plan.plan.put)
+          (kept.stands (c.in_ok-shelves.ensures.reads.lasts.was_open clean_then (reads.lasts.was_open clean_now made.0))) faithful c.if-moment-gt-LATEST.false
+          (reads.same clean_now made.0 ∙ c.in_ok-shelves.ensures.reads.same clean_then (reads.lasts.was_open clean_now made.0)) (c.in_ok-shelves.ensures.shelves clean_then) c.in_ok-steps.ensures.steps
           (subst (λ config. AreSuites config c.args.from.now c.args.to.now c.in_ok-from.from c.in_ok-from.to) c.config.ensures c.in_ok-from.ensures.suites)
-          (c.config-2.ensures ∙ sym reads.config) c.in_ok-plan.ensures.plan made.1 refl))
+          (c.config-2.ensures ∙ sym reads.lasts.config) c.in_ok-plan.ensures.plan (λ bodies apart have. refl) refl)))
     ]
 
 pub returns-clause-crash : goal.returns-clause-crash
@@ -190,12 +218,13 @@ returns-clause-crash g c h kept faithful clean left may =
     let clean_now = c.in_ok-apply.ensures.lasts.clean clean in
     let clean_then = reads.lasts.clean clean_now in
     elim (c.in_ok-apply.ensures.crash clean left may) [
-      | inl before ↦ inl (c.in_ok-shelves.ensures.crash clean_then left (reads.crash clean_now left before))
-      | inr made ↦ inr (stands_answered g.K.Keeper.may_fail h (Copying c.args.from.now c.args.to.now c.args.source.now c.args.moment) (Count (length c.in_ok-plan.plan.put)) left
+      | inl before ↦ inl (c.in_ok-shelves.ensures.reads.crash clean_then left (reads.crash clean_now left before))
+      | inr made ↦ inr (left_whole h ((Copying c.args.from.now c.args.to.now c.args.source.now c.args.moment) ∷ []) faithful (g.K.Keeper.book c.renewed_texts.new.keeper) _ left (reads.same clean_now made.0 ∙ c.in_ok-shelves.ensures.reads.same clean_then (reads.lasts.was_open clean_now made.0) ∙ kept.stands (c.in_ok-shelves.ensures.reads.lasts.was_open clean_then (reads.lasts.was_open clean_now made.0))) made.1
+          ∙ ap Some (stands_answered g.K.Keeper.may_fail h (Copying c.args.from.now c.args.to.now c.args.source.now c.args.moment) (Count (length c.in_ok-plan.plan.put)) _
           (done_copy g.K.Keeper.may_fail h c.args.from.now c.args.to.now c.args.source.now c.args.moment c.in_ok-from.from c.in_ok-from.to ⊤
-          (g.K.Keeper.book c.args.self.now.keeper) (g.K.Keeper.book c.renewed_texts.new.keeper) left c.config-2.result.now c.in_ok-shelves.shelves c.in_ok-plan.plan c.in_ok-steps.steps c.from_vec.result (length c.in_ok-plan.plan.put)
-          (kept.stands (c.in_ok-shelves.ensures.lasts.was_open clean_then (reads.lasts.was_open clean_now made.0))) faithful c.if-moment-gt-LATEST.false
-          (reads.same clean_now made.0 ∙ c.in_ok-shelves.ensures.same clean_then (reads.lasts.was_open clean_now made.0)) (c.in_ok-shelves.ensures.shelves clean_then) c.in_ok-steps.ensures.steps
+          (g.K.Keeper.book c.args.self.now.keeper) (g.K.Keeper.book c.renewed_texts.new.keeper) _ c.config-2.result.now c.in_ok-shelves.shelves c.in_ok-plan.plan c.in_ok-steps.steps c.from_vec.result (length c.in_ok-plan.plan.put)
+          (kept.stands (c.in_ok-shelves.ensures.reads.lasts.was_open clean_then (reads.lasts.was_open clean_now made.0))) faithful c.if-moment-gt-LATEST.false
+          (reads.same clean_now made.0 ∙ c.in_ok-shelves.ensures.reads.same clean_then (reads.lasts.was_open clean_now made.0)) (c.in_ok-shelves.ensures.shelves clean_then) c.in_ok-steps.ensures.steps
           (subst (λ config. AreSuites config c.args.from.now c.args.to.now c.in_ok-from.from c.in_ok-from.to) c.config.ensures c.in_ok-from.ensures.suites)
-          (c.config-2.ensures ∙ sym reads.config) c.in_ok-plan.ensures.plan made.1 refl))
+          (c.config-2.ensures ∙ sym reads.lasts.config) c.in_ok-plan.ensures.plan (λ bodies apart have. refl) refl)))
     ]

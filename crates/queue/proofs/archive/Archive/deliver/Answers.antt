@@ -1,8 +1,9 @@
-use Rattle.std.proofs.Common.{inl, inr}
+use Rattle.std.proofs.Common.{◌≡◌, None, inl, inr}
 use Rattle.std.proofs.lemmas.Result.{err_from_is_err_and}
+use Rattle.queue.specs.Deliveries.{delivery_fault}
 use Rattle.queue.specs.Histories.{Delivery}
 use Rattle.queue.proofs.Kept.{same_by, untouched}
-use Rattle.queue.proofs.StepAnswers.{refused_step, refused_delivery, delivered_left, delivered_step, deliverable, free_delivery, keeper_step}
+use Rattle.queue.proofs.StepAnswers.{refused_step, refused_delivery, delivered_left, delivered_step, deliverable, free_delivery, keeper_step, keepers_own}
 use Rattle.queue.proofs.archive.Archive.deliver.Goals as goal
 
 pub returns-in_err-check_delivery-clause-step : goal.returns-in_err-check_delivery-clause-step
@@ -11,6 +12,11 @@ returns-in_err-check_delivery-clause-step g c h kept faithful clean =
     rw (p.1, p.2) (refused_step g.K.Keeper.may_fail h (Delivery c.args.name.now c.args.body.now c.args.moment) c.in_err-check_delivery.field-0.0 _ _ _ _ kept (untouched _ _)
     (refused_delivery g.K.Keeper.may_fail h c.args.name.now c.args.body.now c.args.moment c.in_err-check_delivery.field-0.0 c.in_err-check_delivery.ensures.judged))
 
+pub returns-in_err-check_delivery-clause-refused : goal.returns-in_err-check_delivery-clause-refused
+returns-in_err-check_delivery-clause-refused g c =
+    let p = err_from_is_err_and c.from_residual.result c.from_residual.ensures.1 in
+    rw (p.1, p.2) (elim c.in_err-check_delivery.ensures.judged [ inl memory ↦ inr (rw memory tt) | inr fault ↦ inl fault ])
+
 pub arrive-requires-clause-deliverable : goal.arrive-requires-clause-deliverable
 arrive-requires-clause-deliverable g c = deliverable c.args.name.now c.args.body.now c.args.moment c.in_ok-check_delivery.ensures.judged
 
@@ -18,8 +24,13 @@ pub returns-in_err-arrive-clause-step : goal.returns-in_err-arrive-clause-step
 returns-in_err-arrive-clause-step g c h kept faithful clean =
     let p = err_from_is_err_and c.from_residual-in_err-arrive.result c.from_residual-in_err-arrive.ensures.1 in
     rw p.1 (keeper_step g.K.Keeper.may_fail h (Delivery c.args.name.now c.args.body.now c.args.moment) c.in_err-arrive.field-0.0 p.0 _ _ _ _ p.2 kept
-    (same_by c.in_err-arrive.ensures.lasts clean c.in_err-arrive.ensures.config c.in_err-arrive.ensures.err) c.in_err-arrive.ensures.cause
+    (same_by c.in_err-arrive.ensures.lasts clean c.in_err-arrive.ensures.err) c.in_err-arrive.ensures.cause
     (free_delivery h c.args.name.now c.args.body.now c.args.moment c.in_ok-check_delivery.ensures.judged))
+
+pub returns-in_err-arrive-clause-refused : goal.returns-in_err-arrive-clause-refused
+returns-in_err-arrive-clause-refused g c =
+    let p = err_from_is_err_and c.from_residual-in_err-arrive.result c.from_residual-in_err-arrive.ensures.1 in
+    rw p.1 (inr (keepers_own g.K.Keeper.may_fail (delivery_fault c.args.name.now c.args.body.now c.args.moment ≡ None) c.in_err-arrive.field-0.0 p.0 p.2 c.in_err-arrive.ensures.cause c.in_ok-check_delivery.ensures.judged))
 
 pub returns-then-branch-clause-step : goal.returns-then-branch-clause-step
 returns-then-branch-clause-step g c h kept faithful clean =

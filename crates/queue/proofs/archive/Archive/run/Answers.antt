@@ -1,12 +1,12 @@
-use Rattle.std.proofs.Common.{inl, inr, refl, sym, ap, ◌∙◌}
+use Rattle.std.proofs.Common.{◌≤◌, inl, inr, [], ◌∷◌, Some, refl, sym, ap, ◌∙◌}
 use Rattle.std.specs.Prelude.{⊤, map}
 use Rattle.std.proofs.lemmas.Result.{err_from_is_err_and}
-use Rattle.keep.specs.Book.{Book, judgements}
+use Rattle.keep.specs.Book.{Book, judgements, latest}
 use Rattle.queue.specs.Answers.{report_line}
 use Rattle.queue.specs.Histories.{Lines, QueueRun}
 use Rattle.queue.specs.declared.fault.Fault.TheVariants.{Moment}
 use Rattle.queue.proofs.Kept.{same_by, same_past, untouched}
-use Rattle.queue.proofs.StepAnswers.{keeper_step, memory_step, refused_step, stands_answered}
+use Rattle.queue.proofs.StepAnswers.{keeper_step, keepers_own, left_whole, memory_own, memory_step, refused_step, stands_answered}
 use Rattle.queue.proofs.RunAnswers.{free_run, late_run, ran_step, renewed_change, run_past, run_steps, sound_run}
 use Rattle.queue.proofs.archive.Archive.run.Goals as goal
 
@@ -18,40 +18,40 @@ pub returns-in_err-uploads-clause-step : goal.returns-in_err-uploads-clause-step
 returns-in_err-uploads-clause-step g c h kept faithful clean =
     let p = err_from_is_err_and c.from_residual.result c.from_residual.ensures.1 in
     rw p.1 (keeper_step g.K.Keeper.may_fail h (QueueRun c.args.moment) c.in_err-uploads.field-0.0 p.0 _ _ _ _ p.2 kept
-    (same_by c.in_err-uploads.ensures.lasts clean c.in_err-uploads.ensures.config c.in_err-uploads.ensures.same) c.in_err-uploads.ensures.cause
+    (same_by c.in_err-uploads.ensures.reads.lasts clean c.in_err-uploads.ensures.reads.same) c.in_err-uploads.ensures.cause
     (free_run h c.args.moment c.if-moment-gt-LATEST.false))
 
 pub returns-in_err-shelves-clause-step : goal.returns-in_err-shelves-clause-step
 returns-in_err-shelves-clause-step g c h kept faithful clean =
     let p = err_from_is_err_and c.from_residual-in_err-shelves.result c.from_residual-in_err-shelves.ensures.1 in
-    let listed = same_by c.in_ok-uploads.ensures.lasts (c.in_err-shelves.ensures.lasts.clean clean) c.in_ok-uploads.ensures.config c.in_ok-uploads.ensures.same in
+    let listed = same_by c.in_ok-uploads.ensures.reads.lasts (c.in_err-shelves.ensures.reads.lasts.clean clean) c.in_ok-uploads.ensures.reads.same in
     rw p.1 (keeper_step g.K.Keeper.may_fail h (QueueRun c.args.moment) c.in_err-shelves.field-0.0 p.0 _ _ _ _ p.2 kept
-    (same_past listed (same_by c.in_err-shelves.ensures.lasts clean c.in_err-shelves.ensures.config c.in_err-shelves.ensures.same)) c.in_err-shelves.ensures.cause
+    (same_past listed (same_by c.in_err-shelves.ensures.reads.lasts clean c.in_err-shelves.ensures.reads.same)) c.in_err-shelves.ensures.cause
     (free_run h c.args.moment c.if-moment-gt-LATEST.false))
 
 pub returns-in_err-steps-clause-step : goal.returns-in_err-steps-clause-step
 returns-in_err-steps-clause-step g c h kept faithful clean =
     let p = err_from_is_err_and c.from_residual-in_err-steps.result c.from_residual-in_err-steps.ensures.1 in
-    let listed = same_by c.in_ok-uploads.ensures.lasts (c.in_ok-shelves.ensures.lasts.clean clean) c.in_ok-uploads.ensures.config c.in_ok-uploads.ensures.same in
+    let listed = same_by c.in_ok-uploads.ensures.reads.lasts (c.in_ok-shelves.ensures.reads.lasts.clean clean) c.in_ok-uploads.ensures.reads.same in
     rw p.1 (memory_step g.K.Keeper.may_fail h (QueueRun c.args.moment) p.0 _ _ _ _ p.2 kept
-    (same_past listed (same_by c.in_ok-shelves.ensures.lasts clean c.in_ok-shelves.ensures.config c.in_ok-shelves.ensures.same)))
+    (same_past listed (same_by c.in_ok-shelves.ensures.reads.lasts clean c.in_ok-shelves.ensures.reads.same)))
 
 pub returns-in_err-lines-clause-step : goal.returns-in_err-lines-clause-step
 returns-in_err-lines-clause-step g c h kept faithful clean =
     let p = err_from_is_err_and c.from_residual-in_err-lines.result c.from_residual-in_err-lines.ensures.1 in
-    let listed = same_by c.in_ok-uploads.ensures.lasts (c.in_ok-shelves.ensures.lasts.clean clean) c.in_ok-uploads.ensures.config c.in_ok-uploads.ensures.same in
+    let listed = same_by c.in_ok-uploads.ensures.reads.lasts (c.in_ok-shelves.ensures.reads.lasts.clean clean) c.in_ok-uploads.ensures.reads.same in
     rw p.1 (memory_step g.K.Keeper.may_fail h (QueueRun c.args.moment) p.0 _ _ _ _ p.2 kept
-    (same_past listed (same_by c.in_ok-shelves.ensures.lasts clean c.in_ok-shelves.ensures.config c.in_ok-shelves.ensures.same)))
+    (same_past listed (same_by c.in_ok-shelves.ensures.reads.lasts clean c.in_ok-shelves.ensures.reads.same)))
 
 pub returns-in_err-texts-clause-step : goal.returns-in_err-texts-clause-step
 returns-in_err-texts-clause-step g c h kept faithful clean =
     let p = err_from_is_err_and c.from_residual-in_err-texts.result c.from_residual-in_err-texts.ensures.1 in
     let reads = c.in_err-texts.ensures.reads in
     let clean_then = reads.lasts.clean clean in
-    let listed = same_by c.in_ok-uploads.ensures.lasts (c.in_ok-shelves.ensures.lasts.clean clean_then) c.in_ok-uploads.ensures.config c.in_ok-uploads.ensures.same in
-    let read = same_past listed (same_by c.in_ok-shelves.ensures.lasts clean_then c.in_ok-shelves.ensures.config c.in_ok-shelves.ensures.same) in
+    let listed = same_by c.in_ok-uploads.ensures.reads.lasts (c.in_ok-shelves.ensures.reads.lasts.clean clean_then) c.in_ok-uploads.ensures.reads.same in
+    let read = same_past listed (same_by c.in_ok-shelves.ensures.reads.lasts clean_then c.in_ok-shelves.ensures.reads.same) in
     rw p.1 (keeper_step g.K.Keeper.may_fail h (QueueRun c.args.moment) c.in_err-texts.field-0.0 p.0 _ _ _ _ p.2 kept
-    (same_past read (same_by reads.lasts clean reads.config reads.same)) c.in_err-texts.ensures.cause
+    (same_past read (same_by reads.lasts clean reads.same)) c.in_err-texts.ensures.cause
     (free_run h c.args.moment c.if-moment-gt-LATEST.false))
 
 pub apply-requires-clause-sound : goal.apply-requires-clause-sound
@@ -59,17 +59,17 @@ apply-requires-clause-sound g c clean up =
     let reads = c.in_ok-texts.ensures.reads in
     let clean_then = reads.lasts.clean clean in
     let up_then = reads.lasts.was_open clean up in
-    let clean_first = c.in_ok-shelves.ensures.lasts.clean clean_then in
-    let up_first = c.in_ok-shelves.ensures.lasts.was_open clean_then up_then in
-    let listed = c.in_ok-uploads.ensures.same clean_first up_first in
+    let clean_first = c.in_ok-shelves.ensures.reads.lasts.clean clean_then in
+    let up_first = c.in_ok-shelves.ensures.reads.lasts.was_open clean_then up_then in
+    let listed = c.in_ok-uploads.ensures.reads.same clean_first up_first in
     let then = g.K.Keeper.book c.shelves.new.self in
     let now = g.K.Keeper.book c.renewed_texts.new.keeper in
     let shown = c.in_ok-shelves.ensures.shelves clean_then in
-    let is_shown = shown ∙ sym (ap (λ (b : Book). b.shown) (c.in_ok-shelves.ensures.same clean_then up_then)) in
+    let is_shown = shown ∙ sym (ap (λ (b : Book). b.shown) (c.in_ok-shelves.ensures.reads.same clean_then up_then)) in
     sound_run c.args.moment (g.K.Keeper.book c.args.self.now.keeper) now c.config.result.now c.in_ok-shelves.shelves
     c.in_ok-uploads.uploads.items c.deref.result.now c.in_ok-steps.steps.items c.from_vec.result c.from_vec-2.result
-    (reads.same clean up ∙ c.in_ok-shelves.ensures.same clean_then up_then ∙ listed)
-    (c.config.ensures ∙ sym reads.config)
+    (reads.same clean up ∙ c.in_ok-shelves.ensures.reads.same clean_then up_then ∙ listed)
+    (c.config.ensures ∙ sym reads.lasts.config)
     (shown ∙ ap (λ (b : Book). b.shown) listed)
     c.deref.ensures.value
     c.from_vec.ensures
@@ -88,10 +88,10 @@ returns-in_err-apply-clause-step g c h kept faithful clean =
     let reads = c.in_ok-texts.ensures.reads in
     let clean_now = c.in_err-apply.ensures.lasts.clean clean in
     let clean_then = reads.lasts.clean clean_now in
-    let listed = same_by c.in_ok-uploads.ensures.lasts (c.in_ok-shelves.ensures.lasts.clean clean_then) c.in_ok-uploads.ensures.config c.in_ok-uploads.ensures.same in
-    let read = same_past (same_past listed (same_by c.in_ok-shelves.ensures.lasts clean_then c.in_ok-shelves.ensures.config c.in_ok-shelves.ensures.same)) (same_by reads.lasts clean_now reads.config reads.same) in
+    let listed = same_by c.in_ok-uploads.ensures.reads.lasts (c.in_ok-shelves.ensures.reads.lasts.clean clean_then) c.in_ok-uploads.ensures.reads.same in
+    let read = same_past (same_past listed (same_by c.in_ok-shelves.ensures.reads.lasts clean_then c.in_ok-shelves.ensures.reads.same)) (same_by reads.lasts clean_now reads.same) in
     rw p.1 (keeper_step g.K.Keeper.may_fail h (QueueRun c.args.moment) c.in_err-apply.field-0.0 p.0 _ _ _ _ p.2 kept
-    (same_past read (same_by c.in_err-apply.ensures.lasts clean c.in_err-apply.ensures.config c.in_err-apply.ensures.err)) c.in_err-apply.ensures.cause
+    (same_past read (same_by c.in_err-apply.ensures.lasts clean c.in_err-apply.ensures.err)) c.in_err-apply.ensures.cause
     (free_run h c.args.moment c.if-moment-gt-LATEST.false))
 
 pub returns-clause-step : goal.returns-clause-step
@@ -101,16 +101,16 @@ returns-clause-step g c h kept faithful clean =
     let up_now = c.in_ok-apply.ensures.lasts.was_open clean (c.in_ok-apply.ensures.served clean) in
     let clean_then = reads.lasts.clean clean_now in
     let up_then = reads.lasts.was_open clean_now up_now in
-    let clean_first = c.in_ok-shelves.ensures.lasts.clean clean_then in
-    let up_first = c.in_ok-shelves.ensures.lasts.was_open clean_then up_then in
-    let listed = c.in_ok-uploads.ensures.same clean_first up_first in
+    let clean_first = c.in_ok-shelves.ensures.reads.lasts.clean clean_then in
+    let up_first = c.in_ok-shelves.ensures.reads.lasts.was_open clean_then up_then in
+    let listed = c.in_ok-uploads.ensures.reads.same clean_first up_first in
     ran_step g.K.Keeper.may_fail h c.args.moment _ (g.K.Keeper.book c.args.self.now.keeper) (g.K.Keeper.book c.renewed_texts.new.keeper) (g.K.Keeper.book c.apply.new.self)
     c.config.result.now c.in_ok-shelves.shelves
     c.in_ok-uploads.uploads.items c.deref.result.now c.in_ok-steps.steps.items c.from_vec.result c.from_vec-2.result _
-    (kept.stands (c.in_ok-uploads.ensures.lasts.was_open clean_first up_first)) faithful
+    (kept.stands (c.in_ok-uploads.ensures.reads.lasts.was_open clean_first up_first)) faithful
     c.if-moment-gt-LATEST.false
-    (reads.same clean_now up_now ∙ c.in_ok-shelves.ensures.same clean_then up_then ∙ listed)
-    (c.config.ensures ∙ sym reads.config)
+    (reads.same clean_now up_now ∙ c.in_ok-shelves.ensures.reads.same clean_then up_then ∙ listed)
+    (c.config.ensures ∙ sym reads.lasts.config)
     (c.in_ok-shelves.ensures.shelves clean_then ∙ ap (λ (b : Book). b.shown) listed)
     c.deref.ensures.value
     c.from_vec.ensures
@@ -120,58 +120,92 @@ returns-clause-step g c h kept faithful clean =
     (c.in_ok-apply.ensures.ok clean)
     (c.in_ok-lines.ensures ∙ ap (λ steps. map report_line (judgements steps)) c.deref-2.ensures.value)
 
+pub returns-then-moment-gt-LATEST-clause-refused : goal.returns-then-moment-gt-LATEST-clause-refused
+returns-then-moment-gt-LATEST-clause-refused g c = inl c.if-moment-gt-LATEST.true
+
+pub returns-in_err-uploads-clause-refused : goal.returns-in_err-uploads-clause-refused
+returns-in_err-uploads-clause-refused g c =
+    let p = err_from_is_err_and c.from_residual.result c.from_residual.ensures.1 in
+    rw p.1 (inr (keepers_own g.K.Keeper.may_fail (c.args.moment ≤ latest) c.in_err-uploads.field-0.0 p.0 p.2 c.in_err-uploads.ensures.cause c.if-moment-gt-LATEST.false))
+
+pub returns-in_err-shelves-clause-refused : goal.returns-in_err-shelves-clause-refused
+returns-in_err-shelves-clause-refused g c =
+    let p = err_from_is_err_and c.from_residual-in_err-shelves.result c.from_residual-in_err-shelves.ensures.1 in
+    rw p.1 (inr (keepers_own g.K.Keeper.may_fail (c.args.moment ≤ latest) c.in_err-shelves.field-0.0 p.0 p.2 c.in_err-shelves.ensures.cause c.if-moment-gt-LATEST.false))
+
+pub returns-in_err-steps-clause-refused : goal.returns-in_err-steps-clause-refused
+returns-in_err-steps-clause-refused g c =
+    let p = err_from_is_err_and c.from_residual-in_err-steps.result c.from_residual-in_err-steps.ensures.1 in
+    rw p.1 (inr (memory_own g.K.Keeper.may_fail (c.args.moment ≤ latest) p.0 p.2))
+
+pub returns-in_err-lines-clause-refused : goal.returns-in_err-lines-clause-refused
+returns-in_err-lines-clause-refused g c =
+    let p = err_from_is_err_and c.from_residual-in_err-lines.result c.from_residual-in_err-lines.ensures.1 in
+    rw p.1 (inr (memory_own g.K.Keeper.may_fail (c.args.moment ≤ latest) p.0 p.2))
+
+pub returns-in_err-texts-clause-refused : goal.returns-in_err-texts-clause-refused
+returns-in_err-texts-clause-refused g c =
+    let p = err_from_is_err_and c.from_residual-in_err-texts.result c.from_residual-in_err-texts.ensures.1 in
+    rw p.1 (inr (keepers_own g.K.Keeper.may_fail (c.args.moment ≤ latest) c.in_err-texts.field-0.0 p.0 p.2 c.in_err-texts.ensures.cause c.if-moment-gt-LATEST.false))
+
+pub returns-in_err-apply-clause-refused : goal.returns-in_err-apply-clause-refused
+returns-in_err-apply-clause-refused g c =
+    let p = err_from_is_err_and c.from_residual-in_err-apply.result c.from_residual-in_err-apply.ensures.1 in
+    rw p.1 (inr (keepers_own g.K.Keeper.may_fail (c.args.moment ≤ latest) c.in_err-apply.field-0.0 p.0 p.2 c.in_err-apply.ensures.cause c.if-moment-gt-LATEST.false))
+
 pub returns-then-moment-gt-LATEST-clause-crash : goal.returns-then-moment-gt-LATEST-clause-crash
 returns-then-moment-gt-LATEST-clause-crash g c h kept faithful clean left may = inl may
 
 pub returns-in_err-uploads-clause-crash : goal.returns-in_err-uploads-clause-crash
-returns-in_err-uploads-clause-crash g c h kept faithful clean left may = inl (c.in_err-uploads.ensures.crash clean left may)
+returns-in_err-uploads-clause-crash g c h kept faithful clean left may = inl (c.in_err-uploads.ensures.reads.crash clean left may)
 
 pub returns-in_err-shelves-clause-crash : goal.returns-in_err-shelves-clause-crash
 returns-in_err-shelves-clause-crash g c h kept faithful clean left may =
-    inl (c.in_ok-uploads.ensures.crash (c.in_err-shelves.ensures.lasts.clean clean) left (c.in_err-shelves.ensures.crash clean left may))
+    inl (c.in_ok-uploads.ensures.reads.crash (c.in_err-shelves.ensures.reads.lasts.clean clean) left (c.in_err-shelves.ensures.reads.crash clean left may))
 
 pub returns-in_err-steps-clause-crash : goal.returns-in_err-steps-clause-crash
 returns-in_err-steps-clause-crash g c h kept faithful clean left may =
-    inl (c.in_ok-uploads.ensures.crash (c.in_ok-shelves.ensures.lasts.clean clean) left (c.in_ok-shelves.ensures.crash clean left may))
+    inl (c.in_ok-uploads.ensures.reads.crash (c.in_ok-shelves.ensures.reads.lasts.clean clean) left (c.in_ok-shelves.ensures.reads.crash clean left may))
 
 pub returns-in_err-lines-clause-crash : goal.returns-in_err-lines-clause-crash
 returns-in_err-lines-clause-crash g c h kept faithful clean left may =
-    inl (c.in_ok-uploads.ensures.crash (c.in_ok-shelves.ensures.lasts.clean clean) left (c.in_ok-shelves.ensures.crash clean left may))
+    inl (c.in_ok-uploads.ensures.reads.crash (c.in_ok-shelves.ensures.reads.lasts.clean clean) left (c.in_ok-shelves.ensures.reads.crash clean left may))
 
 pub returns-in_err-texts-clause-crash : goal.returns-in_err-texts-clause-crash
 returns-in_err-texts-clause-crash g c h kept faithful clean left may =
     let reads = c.in_err-texts.ensures.reads in
     let clean_then = reads.lasts.clean clean in
-    inl (c.in_ok-uploads.ensures.crash (c.in_ok-shelves.ensures.lasts.clean clean_then) left (c.in_ok-shelves.ensures.crash clean_then left (reads.crash clean left may)))
+    inl (c.in_ok-uploads.ensures.reads.crash (c.in_ok-shelves.ensures.reads.lasts.clean clean_then) left (c.in_ok-shelves.ensures.reads.crash clean_then left (reads.crash clean left may)))
 
 pub returns-in_err-apply-clause-crash : goal.returns-in_err-apply-clause-crash
 returns-in_err-apply-clause-crash g c h kept faithful clean left may =
     let reads = c.in_ok-texts.ensures.reads in
     let clean_now = c.in_err-apply.ensures.lasts.clean clean in
     let clean_then = reads.lasts.clean clean_now in
-    let clean_first = c.in_ok-shelves.ensures.lasts.clean clean_then in
+    let clean_first = c.in_ok-shelves.ensures.reads.lasts.clean clean_then in
     elim (c.in_err-apply.ensures.crash clean left may) [
-      | inl before ↦ inl (c.in_ok-uploads.ensures.crash clean_first left (c.in_ok-shelves.ensures.crash clean_then left (reads.crash clean_now left before)))
+      | inl before ↦ inl (c.in_ok-uploads.ensures.reads.crash clean_first left (c.in_ok-shelves.ensures.reads.crash clean_then left (reads.crash clean_now left before)))
       | inr made ↦
           let up_then = reads.lasts.was_open clean_now made.0 in
-          let up_first = c.in_ok-shelves.ensures.lasts.was_open clean_then up_then in
-          let listed = c.in_ok-uploads.ensures.same clean_first up_first in
-          inr (stands_answered g.K.Keeper.may_fail h (QueueRun c.args.moment) (Lines (map report_line (judgements c.in_ok-steps.steps.items))) left
-          (ran_step g.K.Keeper.may_fail h c.args.moment ⊤ (g.K.Keeper.book c.args.self.now.keeper) (g.K.Keeper.book c.renewed_texts.new.keeper) left
+          let up_first = c.in_ok-shelves.ensures.reads.lasts.was_open clean_then up_then in
+          let listed = c.in_ok-uploads.ensures.reads.same clean_first up_first in
+          inr (left_whole h ((QueueRun c.args.moment) ∷ []) faithful (g.K.Keeper.book c.renewed_texts.new.keeper) _ left (reads.same clean_now made.0 ∙ c.in_ok-shelves.ensures.reads.same clean_then up_then ∙ listed ∙ kept.stands (c.in_ok-uploads.ensures.reads.lasts.was_open clean_first up_first)) made.1
+          ∙ ap Some (stands_answered g.K.Keeper.may_fail h (QueueRun c.args.moment) (Lines (map report_line (judgements c.in_ok-steps.steps.items))) _
+          (ran_step g.K.Keeper.may_fail h c.args.moment ⊤ (g.K.Keeper.book c.args.self.now.keeper) (g.K.Keeper.book c.renewed_texts.new.keeper) _
           c.config.result.now c.in_ok-shelves.shelves
           c.in_ok-uploads.uploads.items c.deref.result.now c.in_ok-steps.steps.items c.from_vec.result c.from_vec-2.result (map report_line (judgements c.in_ok-steps.steps.items))
-          (kept.stands (c.in_ok-uploads.ensures.lasts.was_open clean_first up_first)) faithful
+          (kept.stands (c.in_ok-uploads.ensures.reads.lasts.was_open clean_first up_first)) faithful
           c.if-moment-gt-LATEST.false
-          (reads.same clean_now made.0 ∙ c.in_ok-shelves.ensures.same clean_then up_then ∙ listed)
-          (c.config.ensures ∙ sym reads.config)
+          (reads.same clean_now made.0 ∙ c.in_ok-shelves.ensures.reads.same clean_then up_then ∙ listed)
+          (c.config.ensures ∙ sym reads.lasts.config)
           (c.in_ok-shelves.ensures.shelves clean_then ∙ ap (λ (b : Book). b.shown) listed)
           c.deref.ensures.value
           c.from_vec.ensures
           (c.in_ok-uploads.ensures.uploads clean_first)
           c.in_ok-steps.ensures.sound
           c.in_ok-steps.ensures.steps
-          made.1
-          refl))
+          (λ bodies apart have. refl)
+          refl)))
     ]
 
 pub returns-clause-crash : goal.returns-clause-crash
@@ -179,27 +213,28 @@ returns-clause-crash g c h kept faithful clean left may =
     let reads = c.in_ok-texts.ensures.reads in
     let clean_now = c.in_ok-apply.ensures.lasts.clean clean in
     let clean_then = reads.lasts.clean clean_now in
-    let clean_first = c.in_ok-shelves.ensures.lasts.clean clean_then in
+    let clean_first = c.in_ok-shelves.ensures.reads.lasts.clean clean_then in
     elim (c.in_ok-apply.ensures.crash clean left may) [
-      | inl before ↦ inl (c.in_ok-uploads.ensures.crash clean_first left (c.in_ok-shelves.ensures.crash clean_then left (reads.crash clean_now left before)))
+      | inl before ↦ inl (c.in_ok-uploads.ensures.reads.crash clean_first left (c.in_ok-shelves.ensures.reads.crash clean_then left (reads.crash clean_now left before)))
       | inr made ↦
           let up_then = reads.lasts.was_open clean_now made.0 in
-          let up_first = c.in_ok-shelves.ensures.lasts.was_open clean_then up_then in
-          let listed = c.in_ok-uploads.ensures.same clean_first up_first in
-          inr (stands_answered g.K.Keeper.may_fail h (QueueRun c.args.moment) (Lines (map report_line (judgements c.in_ok-steps.steps.items))) left
-          (ran_step g.K.Keeper.may_fail h c.args.moment ⊤ (g.K.Keeper.book c.args.self.now.keeper) (g.K.Keeper.book c.renewed_texts.new.keeper) left
+          let up_first = c.in_ok-shelves.ensures.reads.lasts.was_open clean_then up_then in
+          let listed = c.in_ok-uploads.ensures.reads.same clean_first up_first in
+          inr (left_whole h ((QueueRun c.args.moment) ∷ []) faithful (g.K.Keeper.book c.renewed_texts.new.keeper) _ left (reads.same clean_now made.0 ∙ c.in_ok-shelves.ensures.reads.same clean_then up_then ∙ listed ∙ kept.stands (c.in_ok-uploads.ensures.reads.lasts.was_open clean_first up_first)) made.1
+          ∙ ap Some (stands_answered g.K.Keeper.may_fail h (QueueRun c.args.moment) (Lines (map report_line (judgements c.in_ok-steps.steps.items))) _
+          (ran_step g.K.Keeper.may_fail h c.args.moment ⊤ (g.K.Keeper.book c.args.self.now.keeper) (g.K.Keeper.book c.renewed_texts.new.keeper) _
           c.config.result.now c.in_ok-shelves.shelves
           c.in_ok-uploads.uploads.items c.deref.result.now c.in_ok-steps.steps.items c.from_vec.result c.from_vec-2.result (map report_line (judgements c.in_ok-steps.steps.items))
-          (kept.stands (c.in_ok-uploads.ensures.lasts.was_open clean_first up_first)) faithful
+          (kept.stands (c.in_ok-uploads.ensures.reads.lasts.was_open clean_first up_first)) faithful
           c.if-moment-gt-LATEST.false
-          (reads.same clean_now made.0 ∙ c.in_ok-shelves.ensures.same clean_then up_then ∙ listed)
-          (c.config.ensures ∙ sym reads.config)
+          (reads.same clean_now made.0 ∙ c.in_ok-shelves.ensures.reads.same clean_then up_then ∙ listed)
+          (c.config.ensures ∙ sym reads.lasts.config)
           (c.in_ok-shelves.ensures.shelves clean_then ∙ ap (λ (b : Book). b.shown) listed)
           c.deref.ensures.value
           c.from_vec.ensures
           (c.in_ok-uploads.ensures.uploads clean_first)
           c.in_ok-steps.ensures.sound
           c.in_ok-steps.ensures.steps
-          made.1
-          refl))
+          (λ bodies apart have. refl)
+          refl)))
     ]

@@ -1,0 +1,52 @@
+//! An archive that a database keeps, and commands in order behind the book that it has.
+
+ghost use Rattle.std.specs.Prelude.{◌≡◌, ◌⊎◌, true, ℕ, List, Contains, IsTrue, IfOk, IfErr, map};
+ghost use Rattle.sqlite.specs.Held.{state};
+ghost use Rattle.sqlite.specs.State.{HasCleanDisk};
+ghost use Rattle.keep.specs.Book.{Book};
+ghost use Rattle.keep.specs.Keeping.{HasBodies, MoreFaults, NoCollision};
+ghost use Rattle.kept.specs.Archives.{KeepsBook, KeepsFinished};
+ghost use Rattle.kept.specs.Transactions.{IsUndone};
+ghost use Rattle.keep_tables.specs.Keepers.{config_in_use, connection_of, table_book};
+ghost use Rattle.queue.specs.Answers.{IsRun};
+ghost use Rattle.queue.specs.Commands.{call_of, kind_of_command, kind_of_outcome, outcome_of};
+ghost use Rattle.queue.specs.Histories.{bodies_of, opened_with};
+
+use keep::KeepFault;
+use keep_open::open;
+use keep_tables::TableKeeper;
+use queue::{Archive, Command, Outcome};
+use sqlite::{Alter, Connection};
+use std::alloc::{AllocError, Global};
+
+/// Opens the archive that a database keeps, and makes commands in order behind the book that it has. It gives the archive and the
+/// outcome of each command, or in the place of the outcomes an `Err` where memory is wanting for them, and then no command was
+/// made. A fault is that of `open`: it gives the connection back, and what was committed is as before.
+pub fn drive_opened<S: Alter + Drop>(
+    alloc: Global,
+    connection: Connection<S>,
+    commands: &[Command],
+) -> Result<(Archive<TableKeeper<S>>, Result<Vec<Outcome>, AllocError>), (Connection<S>, KeepFault)>
+    ensures kinds { IfOk result (λ r. IfOk r.1 (λ outcomes. map kind_of_outcome outcomes.items ≡ map kind_of_command commands.now)) }
+    // The database kept a book. Where no two bodies of that book and of the deliveries have one print, each outcome is the answer
+    // of the plain archive behind it, or want of memory or a failure of the disk; and while the connection is open its tables keep
+    // the book that these calls leave.
+    ensures once { IfOk result (λ r. HasCleanDisk (connection_of r.0.keeper) → (b : Book) × KeepsFinished (state S.Store connection).committed (config_in_use r.0.keeper) b
+        × IfOk r.1 (λ outcomes. (bodies : List (List ℕ)) → NoCollision bodies → HasBodies bodies b → ((x : List ℕ) → Contains (bodies_of (map call_of commands.now)) x → Contains bodies x)
+        → IsRun true (opened_with b) (map call_of commands.now) (map outcome_of outcomes.items) (IsTrue (connection_of r.0.keeper).is_open) (table_book r.0.keeper))) }
+    // Only a counted failure shuts the connection.
+    ensures open { IfOk result (λ r. HasCleanDisk (connection_of r.0.keeper) → IsTrue (connection_of r.0.keeper).is_open
+        ⊎ MoreFaults (state S.Store connection).faults (connection_of r.0.keeper).faults) }
+    ensures kept { IfOk result (λ r. HasCleanDisk (connection_of r.0.keeper) → IsTrue (connection_of r.0.keeper).is_open
+        → KeepsBook (connection_of r.0.keeper).committed (config_in_use r.0.keeper) (table_book r.0.keeper)) }
+    ensures undone { IfErr result (λ e. HasCleanDisk (state S.Store e.0) → IsUndone (state S.Store connection) (state S.Store e.0)) }
+{
+    match open(alloc, connection) {
+        Ok(keeper) => {
+            let mut archive = Archive::new(keeper);
+            let outcomes = archive.drive(alloc, commands);
+            Ok((archive, outcomes))
+        }
+        Err(refused) => Err(refused),
+    }
+}

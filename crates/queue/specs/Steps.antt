@@ -1,0 +1,44 @@
+-- What a call of the archive leaves of its keeper.
+use Rattle.std.specs.Prelude.{◌≡◌, ◌⊎◌, ⊤, List, [], ◌∷◌, Option, Some, Result, Ok, Err}
+use Rattle.keep.specs.Book.{Book}
+use Rattle.keep.specs.Keeping as keeping
+use Rattle.keep.specs.declared.keeper.Keeper.{Ghosts}
+use Rattle.queue.specs.Answers.{IsFaithful, IsKept, IsStep, answer}
+use Rattle.queue.specs.Archives.{book_of}
+use Rattle.queue.specs.Histories.{Call, Reply, History, followed}
+use Rattle.queue.specs.declared.fault.Fault.{Fault}
+
+module _ {K : Type 0} (g : Ghosts K) (old : K) where
+  -- what each call leaves of the archive's keeper, and what one leaves that changes nothing
+  abbrev pub Lasts : K → Type 0
+  Lasts new = keeping.Lasts g.is_clean g.is_open g.faults g.book old new
+
+  abbrev pub Reads : K → Type 0
+  Reads new = keeping.Reads g.is_clean g.is_open g.faults g.book g.may_leave old new
+
+  -- The call, with this outcome, is a step behind each history whose book is kept: the outcome is the answer of its plain
+  -- archive, and what the longer history leaves is kept then.
+  abbrev pub Does : Call → Result Reply Fault → K → Type 0
+  Does call outcome new = (h : History) → IsKept (g.is_open old) (g.book old) h → IsFaithful h (call ∷ []) → g.is_clean new
+      → IsStep g.may_fail h call outcome (g.is_open new) (g.book new)
+
+  -- A crash leaves what it would have left before, or all that the call does.
+  abbrev pub LeavesStep : Call → K → Type 0
+  LeavesStep call new = (h : History) → IsKept (g.is_open old) (g.book old) h → IsFaithful h (call ∷ []) → g.is_clean new
+      → (left : Option Book) → g.may_leave new left → g.may_leave old left ⊎ (left ≡ Some (book_of (followed h call (answer h call))))
+
+  -- A keeper that is open has the book that it had.
+  abbrev pub IsUndone : K → Type 0
+  IsUndone new = g.is_clean new → g.is_open new → g.book new ≡ g.book old
+
+module _ {K : Type 0} (g : Ghosts K) (new : K) where
+  -- Where the call is done the keeper is open.
+  abbrev pub IsServed : Result Reply Fault → Type 0
+  IsServed (Ok reply) = g.is_clean new → g.is_open new
+  IsServed (Err fault) = ⊤
+
+  -- the same of the last of these outcomes
+  abbrev pub IsServedLast : List (Result Reply Fault) → Type 0
+  IsServedLast [] = ⊤
+  IsServedLast (outcome ∷ []) = IsServed outcome
+  IsServedLast (outcome ∷ next ∷ rest) = IsServedLast (next ∷ rest)
