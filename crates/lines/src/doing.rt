@@ -86,6 +86,17 @@ fn at_moment(line: CommandLine<'_>, at: u64) -> CommandLine<'_> {
             to,
             source,
         },
+        CommandLine::Remove {
+            db,
+            at: _,
+            suite,
+            name,
+        } => CommandLine::Remove {
+            db,
+            at,
+            suite,
+            name,
+        },
         CommandLine::Waiting { db, at: _ } => CommandLine::Waiting { db, at },
         other => other,
     }

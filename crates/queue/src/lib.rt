@@ -9,6 +9,7 @@ mod drive;
 mod fault;
 mod laws;
 mod once;
+mod removal;
 mod renewal;
 mod report;
 mod run;
