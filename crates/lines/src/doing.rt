@@ -76,15 +76,19 @@ fn told(alloc: Global, ended: &Ended) -> Result<Vec<u8>, AllocError> {
     Ok(text)
 }
 
-/// Gives a line another moment, which may be one that no words have, where it has one.
+/// Sets the moment of a line that has one. It may be a moment that no words have.
 fn set_moment(line: &mut CommandLine<'_>, moment: u64) {
     match line {
         CommandLine::Init { at, .. }
         | CommandLine::Put { at, .. }
         | CommandLine::Run { at, .. }
         | CommandLine::Copy { at, .. }
-        | CommandLine::Waiting { at, .. } => *at = moment,
-        _ => {}
+        | CommandLine::Waiting { at, .. }
+        | CommandLine::Serve { at, .. } => *at = moment,
+        CommandLine::Try { .. }
+        | CommandLine::Compare { .. }
+        | CommandLine::Show { .. }
+        | CommandLine::Verdicts { .. } => {}
     }
 }
 

@@ -9,7 +9,7 @@ use std::fmt::Display;
 use sums::ListFault;
 use vers::VersionFault;
 
-const OF_PARAGRAPHS: [ParaFault; 11] = [
+const PARAGRAPH_FAULTS: [ParaFault; 11] = [
     ParaFault::OutOfMemory,
     ParaFault::NotUtf8,
     ParaFault::RefusedByte(1),
@@ -23,7 +23,7 @@ const OF_PARAGRAPHS: [ParaFault; 11] = [
     ParaFault::TooLong,
 ];
 
-const OF_VERSIONS: [VersionFault; 6] = [
+const VERSION_FAULTS: [VersionFault; 6] = [
     VersionFault::OutOfMemory,
     VersionFault::TooLong,
     VersionFault::BadEpoch,
@@ -32,7 +32,7 @@ const OF_VERSIONS: [VersionFault; 6] = [
     VersionFault::EmptyRevision,
 ];
 
-const OF_LISTS: [ListFault; 10] = [
+const LIST_FAULTS: [ListFault; 10] = [
     ListFault::OutOfMemory,
     ListFault::ListAbsent,
     ListFault::TextOnFirstLine,
@@ -45,7 +45,7 @@ const OF_LISTS: [ListFault; 10] = [
     ListFault::BadCount,
 ];
 
-const OF_RECORDS: [RecordFault; 11] = [
+const RECORD_FAULTS: [RecordFault; 11] = [
     RecordFault::OutOfMemory,
     RecordFault::Paragraph(ParaFault::NoParagraph),
     RecordFault::Missing(FieldName::Date),
@@ -59,7 +59,7 @@ const OF_RECORDS: [RecordFault; 11] = [
     RecordFault::OwnField,
 ];
 
-const OF_CONFIGURATIONS: [ConfigFault; 7] = [
+const CONFIG_FAULTS: [ConfigFault; 7] = [
     ConfigFault::OutOfMemory,
     ConfigFault::Paragraph(ParaFault::NoParagraph),
     ConfigFault::Missing,
@@ -83,7 +83,7 @@ fn add_fault<F: Display>(
 
 /// Adds the faults of paragraphs.
 fn of_paragraphs(alloc: Global, out: &mut Vec<u8>) -> Result<(), Unread> {
-    for fault in OF_PARAGRAPHS {
+    for fault in PARAGRAPH_FAULTS {
         add_fault(alloc, fault.number(), &fault, out)?;
     }
     Ok(())
@@ -91,7 +91,7 @@ fn of_paragraphs(alloc: Global, out: &mut Vec<u8>) -> Result<(), Unread> {
 
 /// Adds the faults of versions.
 fn of_versions(alloc: Global, out: &mut Vec<u8>) -> Result<(), Unread> {
-    for fault in OF_VERSIONS {
+    for fault in VERSION_FAULTS {
         add_fault(alloc, fault.number(), &fault, out)?;
     }
     Ok(())
@@ -99,7 +99,7 @@ fn of_versions(alloc: Global, out: &mut Vec<u8>) -> Result<(), Unread> {
 
 /// Adds the faults of lists.
 fn of_lists(alloc: Global, out: &mut Vec<u8>) -> Result<(), Unread> {
-    for fault in OF_LISTS {
+    for fault in LIST_FAULTS {
         add_fault(alloc, fault.number(), &fault, out)?;
     }
     Ok(())
@@ -107,7 +107,7 @@ fn of_lists(alloc: Global, out: &mut Vec<u8>) -> Result<(), Unread> {
 
 /// Adds the faults of records.
 fn of_records(alloc: Global, out: &mut Vec<u8>) -> Result<(), Unread> {
-    for fault in OF_RECORDS {
+    for fault in RECORD_FAULTS {
         add_fault(alloc, fault.number(), &fault, out)?;
     }
     Ok(())
@@ -115,7 +115,7 @@ fn of_records(alloc: Global, out: &mut Vec<u8>) -> Result<(), Unread> {
 
 /// Adds the faults of configurations.
 fn of_configs(alloc: Global, out: &mut Vec<u8>) -> Result<(), Unread> {
-    for fault in OF_CONFIGURATIONS {
+    for fault in CONFIG_FAULTS {
         add_fault(alloc, fault.number(), &fault, out)?;
     }
     Ok(())

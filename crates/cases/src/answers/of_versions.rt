@@ -97,21 +97,21 @@ fn rising(alloc: Global, words: &[Vec<u8>]) -> Result<Vec<u8>, Unread> {
     Ok(out)
 }
 
-/// Whether a copy of a version is it.
-fn is_copied(version: &Version) -> Result<bool, VersionFault> {
+/// Whether a version equals a copy of it.
+fn equals_copy(version: &Version) -> Result<bool, VersionFault> {
     Ok(version.try_clone()? == *version)
 }
 
-/// Whether what is read of a version's text is it.
-fn is_read_again(alloc: Global, version: &Version) -> Result<bool, VersionFault> {
+/// Whether a version equals what is read of its text.
+fn equals_reading(alloc: Global, version: &Version) -> Result<bool, VersionFault> {
     Ok(Version::parse(alloc, version.text())? == *version)
 }
 
-/// The text of a version, the text without its epoch, and whether a copy, and what is read of its text, are it.
+/// The text of a version, the text without its epoch, and whether a copy, and what is read of its text, equal it.
 fn kept_text(alloc: Global, version: &Version) -> Result<Vec<u8>, VersionFault> {
-    let copied = is_copied(version)?;
-    let again = is_read_again(alloc, version)?;
-    let same = if copied && again { "same" } else { "other" };
+    let copied = equals_copy(version)?;
+    let read = equals_reading(alloc, version)?;
+    let same = if copied && read { "same" } else { "other" };
     let (text, without) = (version.text(), version.without_epoch());
     Ok(format!(in alloc; "{text} {without} {same}")?.into_bytes())
 }

@@ -22,7 +22,7 @@ pub trait Visit {
 }
 
 /// Has clients come to an archive by a listener at a free port of loopback.
-pub fn visited<A: Abort, K: Keeper, V: Visit>(
+pub fn on_loopback<A: Abort, K: Keeper, V: Visit>(
     rt: &HostRuntime,
     abort: &A,
     archive: &mut Archive<K>,

@@ -1,11 +1,11 @@
-//! New databases, and what is done with them.
+//! New databases, and what is done with them. Nothing here has a clause, so that the proof of a test does not carry the state
+//! of each call.
 
 use sqlite::{Alter, Connection, Error, MemStore, Transaction};
 use std::alloc::{AllocError, Global};
 use std::process::Abort;
 use std::test::Fail;
 
-// These and those that call them have no clause, so that the proof of a test does not carry the state of each call.
 /// What is done in a transaction.
 pub trait Edit {
     /// Does it, and answers a number of rows, or 0 where none is asked for.

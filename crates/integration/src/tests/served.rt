@@ -3,7 +3,7 @@
 use super::checks::{holds, same};
 use super::clients::{
     Row, Visit, client, clients_of, done_client, end_all, expect_all_received, expect_received,
-    visited,
+    on_loopback,
 };
 use super::messages::{CREATED, MISSING, PUT};
 use super::uploads::{BOX, archive_of};
@@ -122,7 +122,7 @@ impl Visit for Asking {
 /// came.
 #[test]
 fn requests_on_loopback(rt: HostRuntime) -> Result<(), Fail> {
-    visited(&rt, &rt, &mut archive_of(rt.alloc(), BOX)?, &Asking)
+    on_loopback(&rt, &rt, &mut archive_of(rt.alloc(), BOX)?, &Asking)
 }
 
 /// A client that sends nothing, ones that fall silent in the middle of a head and of a body, and one that goes on.
@@ -169,7 +169,7 @@ impl Visit for FallingSilent {
 /// theirs.
 #[test]
 fn a_silent_client_is_left(rt: HostRuntime) -> Result<(), Fail> {
-    visited(&rt, &rt, &mut archive_of(rt.alloc(), BOX)?, &FallingSilent)
+    on_loopback(&rt, &rt, &mut archive_of(rt.alloc(), BOX)?, &FallingSilent)
 }
 
 /// A patience that a quick client does not bring to its end.
@@ -216,7 +216,7 @@ impl Visit for Ending {
 /// A connection that has lasted for the whole that it may is ended, however quick its client is.
 #[test]
 fn a_whole_connection_has_an_end(rt: HostRuntime) -> Result<(), Fail> {
-    visited(&rt, &rt, &mut archive_of(rt.alloc(), BOX)?, &Ending)
+    on_loopback(&rt, &rt, &mut archive_of(rt.alloc(), BOX)?, &Ending)
 }
 
 /// Sends four pieces, or as many as the way to a server that is not reading takes, and answers how many bytes it took.
@@ -269,7 +269,7 @@ impl Visit for SendingMuch {
 /// A body that is too large is refused by its head, and its client, which has sent much of it, reads the refusal.
 #[test]
 fn a_refused_body_has_its_reply(rt: HostRuntime) -> Result<(), Fail> {
-    visited(&rt, &rt, &mut archive_of(rt.alloc(), BOX)?, &SendingMuch)
+    on_loopback(&rt, &rt, &mut archive_of(rt.alloc(), BOX)?, &SendingMuch)
 }
 
 /// Checks that a client that leaves before its reply counts as served, by the reply to the same delivery.
@@ -323,5 +323,5 @@ impl Visit for Leaving {
 /// A client that leaves before its reply counts as served. A connection that can't be accepted ends the serving.
 #[test]
 fn a_client_that_leaves_and_none(rt: HostRuntime) -> Result<(), Fail> {
-    visited(&rt, &rt, &mut archive_of(rt.alloc(), BOX)?, &Leaving)
+    on_loopback(&rt, &rt, &mut archive_of(rt.alloc(), BOX)?, &Leaving)
 }

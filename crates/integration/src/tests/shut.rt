@@ -3,7 +3,7 @@
 ghost use Rattle.std.specs.Prelude.{true};
 
 use super::checks::holds;
-use super::clients::{Visit, done_client, expect_received, visited};
+use super::clients::{Visit, done_client, expect_received, on_loopback};
 use super::messages::PUT;
 use super::uploads::{BOX, archive_of};
 use commands::{Stop, serve};
@@ -119,5 +119,5 @@ fn shut_archive(alloc: Global) -> Result<Archive<Shut<PlainKeeper>>, Fail> {
 /// Behind a 507 of a keeper that is shut the serving ends, and says how many connections are left.
 #[test]
 fn a_shut_keeper_ends_the_serving(rt: HostRuntime) -> Result<(), Fail> {
-    visited(&rt, &rt, &mut shut_archive(rt.alloc())?, &Delivering)
+    on_loopback(&rt, &rt, &mut shut_archive(rt.alloc())?, &Delivering)
 }

@@ -142,9 +142,9 @@ fn rows_are_kept_and_changed(rt: HostRuntime) -> Result<(), Fail> {
 
 /// A second row of one path is refused, and the rows stay.
 #[derive(Clone, Copy)]
-struct OncePath;
+struct PathOnce;
 
-impl Check for OncePath {
+impl Check for PathOnce {
     fn check<R: Abort, S: Alter>(
         &self,
         rt: &R,
@@ -160,14 +160,14 @@ impl Check for OncePath {
 /// A second row of one path is refused, and the rows stay.
 #[test]
 fn a_path_comes_once(rt: HostRuntime) -> Result<(), Fail> {
-    check_new(&rt, rt.alloc(), &OncePath)
+    check_new(&rt, rt.alloc(), &PathOnce)
 }
 
 /// Tables that are there are not made again.
 #[derive(Clone, Copy)]
-struct OnceTables;
+struct TablesOnce;
 
-impl Check for OnceTables {
+impl Check for TablesOnce {
     fn check<R: Abort, S: Alter>(
         &self,
         rt: &R,
@@ -183,5 +183,5 @@ impl Check for OnceTables {
 /// Tables that are there are not made again.
 #[test]
 fn tables_are_made_once(rt: HostRuntime) -> Result<(), Fail> {
-    check_new(&rt, rt.alloc(), &OnceTables)
+    check_new(&rt, rt.alloc(), &TablesOnce)
 }
