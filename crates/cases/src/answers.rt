@@ -27,32 +27,42 @@ fn answer_or_fault<F: Display + Drop>(
     }
 }
 
+/// What was read, where that is to be told, or else `read`; or the text of a fault.
+fn told_or_read<F: Display + Drop>(
+    alloc: Global,
+    told: Result<Vec<u8>, F>,
+    tells: bool,
+) -> Result<Vec<u8>, Unread> {
+    match told {
+        Ok(out) if tells => Ok(out),
+        Ok(_) => said(alloc, "read"),
+        Err(fault) => said(alloc, fault.to_string(alloc)?.as_str()),
+    }
+}
+
 /// `yes` or `no`.
 fn yes_or_no(is_so: bool) -> &'static str {
     if is_so { "yes" } else { "no" }
 }
 
+/// A text with a piece of it replaced, wherever that stands.
+fn with_new_piece(alloc: Global, text: &str, old: &str, new: &str) -> Result<String, Unread> {
+    if !text.contains(old) {
+        return Err(Unread::NothingToReplace);
+    }
+    Ok(text.replace(alloc, old, new)?)
+}
+
 /// A text with pieces of it replaced: each word of an even place by the next.
 fn edited(alloc: Global, text: &str, words: &[Vec<u8>]) -> Result<String, Unread> {
     let mut text = String::from_str(alloc, text)?;
-    let mut old: Option<&str> = None;
-    for word in words {
-        let word = text_of(word)?;
-        match old {
-            None => old = Some(word),
-            Some(piece) => {
-                if !text.as_str().contains(piece) {
-                    return Err(Unread::NothingToReplace);
-                }
-                text = text.as_str().replace(alloc, piece, word)?;
-                old = None;
-            }
-        }
+    for pair in words.chunks(2) {
+        let [old, new] = pair else {
+            return Err(Unread::BadWords);
+        };
+        text = with_new_piece(alloc, text.as_str(), text_of(old)?, text_of(new)?)?;
     }
-    match old {
-        None => Ok(text),
-        Some(_) => Err(Unread::BadWords),
-    }
+    Ok(text)
 }
 
 /// The bytes of a text in which pieces are replaced, if there are any. Only where there are some need it be UTF-8.

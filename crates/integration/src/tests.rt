@@ -3,7 +3,9 @@
 mod all_rows;
 mod attended;
 mod checks;
+mod clients;
 mod counted;
+mod databases;
 mod item_rows;
 mod kept_values;
 mod messages;

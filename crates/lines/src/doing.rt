@@ -53,52 +53,61 @@ fn add_lines(text: &mut Vec<u8>, lines: &[u8]) -> Result<(), AllocError> {
     }
 }
 
-/// What a line has printed: its output, its errors behind a line `errors:`, and its exit status.
-fn told(alloc: Global, done: &Ended) -> Result<Vec<u8>, AllocError> {
-    let mut text = Vec::new(alloc);
-    add_lines(&mut text, &done.out.text)?;
-    if !done.err.text.is_empty() {
+/// Adds the exit status.
+fn add_status(alloc: Global, text: &mut Vec<u8>, status: u8) -> Result<(), AllocError> {
+    let line = format!(in alloc; "status {status}\n")?;
+    text.extend_from_slice(line.as_bytes())
+}
+
+/// Adds what a line has printed: its output, its errors behind a line `errors:`, and its exit status.
+fn add_ended(alloc: Global, text: &mut Vec<u8>, ended: &Ended) -> Result<(), AllocError> {
+    add_lines(text, &ended.out.text)?;
+    if !ended.err.text.is_empty() {
         text.extend_from_slice(b"errors:\n")?;
-        add_lines(&mut text, &done.err.text)?;
+        add_lines(text, &ended.err.text)?;
     }
-    let status = done.status;
-    let end = format!(in alloc; "status {status}\n")?;
-    text.extend_from_slice(end.as_bytes())?;
+    add_status(alloc, text, ended.status)
+}
+
+/// What a line has printed, and its exit status.
+fn told(alloc: Global, ended: &Ended) -> Result<Vec<u8>, AllocError> {
+    let mut text = Vec::new(alloc);
+    add_ended(alloc, &mut text, ended)?;
     Ok(text)
 }
 
-/// A line at another moment, which may be one that no words have.
-fn at_moment(line: CommandLine<'_>, at: u64) -> CommandLine<'_> {
+/// Sets the moment of a line that has one. It may be a moment that no words have.
+fn set_moment(line: &mut CommandLine<'_>, moment: u64) {
     match line {
-        CommandLine::Init { db, at: _, conf } => CommandLine::Init { db, at, conf },
-        CommandLine::Put { db, at: _, paths } => CommandLine::Put { db, at, paths },
-        CommandLine::Run { db, at: _ } => CommandLine::Run { db, at },
-        CommandLine::Copy {
-            db,
-            at: _,
-            from,
-            to,
-            source,
-        } => CommandLine::Copy {
-            db,
-            at,
-            from,
-            to,
-            source,
-        },
-        CommandLine::Remove {
-            db,
-            at: _,
-            suite,
-            name,
-        } => CommandLine::Remove {
-            db,
-            at,
-            suite,
-            name,
-        },
-        CommandLine::Waiting { db, at: _ } => CommandLine::Waiting { db, at },
-        other => other,
+        CommandLine::Init { at, .. }
+        | CommandLine::Put { at, .. }
+        | CommandLine::Run { at, .. }
+        | CommandLine::Copy { at, .. }
+        | CommandLine::Remove { at, .. }
+        | CommandLine::Waiting { at, .. }
+        | CommandLine::Serve { at, .. } => *at = moment,
+        CommandLine::Try { .. }
+        | CommandLine::Compare { .. }
+        | CommandLine::Show { .. }
+        | CommandLine::Verdicts { .. } => {}
+    }
+}
+
+/// Does a line, at another moment where one is given; or says why words are no line.
+fn done_or_refused(
+    rt: &HostRuntime,
+    line: Result<CommandLine<'_>, LineFault>,
+    room: Room,
+    moment: Option<u64>,
+) -> Ended {
+    match line {
+        Ok(mut line) => {
+            if let Some(moment) = moment {
+                set_moment(&mut line, moment);
+            }
+            done(rt, &line, room)
+        }
+        Err(fault) => refused(rt.alloc(), &fault, room),
     }
 }
 
@@ -110,12 +119,8 @@ fn line(
     moment: Option<u64>,
 ) -> Result<Vec<u8>, Unread> {
     let texts = texts_of(rt.alloc(), words)?;
-    let done = match (command_line::line(rt.alloc(), &texts), moment) {
-        (Ok(line), None) => done(rt, &line, room),
-        (Ok(line), Some(at)) => done(rt, &at_moment(line, at), room),
-        (Err(fault), _) => refused(rt.alloc(), &fault, room),
-    };
-    Ok(told(rt.alloc(), &done)?)
+    let line = command_line::line(rt.alloc(), &texts);
+    Ok(told(rt.alloc(), &done_or_refused(rt, line, room, moment))?)
 }
 
 /// A number, and the words behind it.
@@ -148,11 +153,12 @@ fn cut_errors(rt: &HostRuntime, words: &[Vec<u8>]) -> Result<Vec<u8>, Unread> {
 
 /// `line WORD..`: what the line of these words prints and how it ends; or the answer to one of the questions above.
 pub fn answer(rt: &HostRuntime, verb: &str, words: &[Vec<u8>]) -> Result<Option<Vec<u8>>, Unread> {
-    Ok(Some(match verb {
-        "line" => line(rt, words, ALL, None)?,
-        "line-at" => line_at(rt, words)?,
-        "cut-output" => cut_output(rt, words)?,
-        "cut-errors" => cut_errors(rt, words)?,
+    let answer = match verb {
+        "line" => line(rt, words, ALL, None),
+        "line-at" => line_at(rt, words),
+        "cut-output" => cut_output(rt, words),
+        "cut-errors" => cut_errors(rt, words),
         _ => return Ok(None),
-    }))
+    };
+    Ok(Some(answer?))
 }

@@ -31,27 +31,34 @@ fn read<R: Files + AllocGlobal>(rt: &R, name: &str) -> Result<Vec<u8>, Unread> {
     }
 }
 
-/// `write NAME BODY`: `written`. `remove NAME`: `removed`. `copy-file FROM TO`: `copied`. Or `not there` or `failed`.
+/// `write NAME BODY`: `written`, `not there` or `failed`.
+fn write<R: Files + AllocGlobal>(rt: &R, name: &str, body: &[u8]) -> Result<Vec<u8>, Unread> {
+    changed(rt.alloc(), fs::write(rt, name, body), "written")
+}
+
+/// `remove NAME`: `removed`, `not there` or `failed`.
+fn remove<R: Files + AllocGlobal>(rt: &R, name: &str) -> Result<Vec<u8>, Unread> {
+    changed(rt.alloc(), fs::remove_file(rt, name), "removed")
+}
+
+/// `copy-file FROM TO`: `copied`, `not there` or `failed`.
+fn copy<R: Files + AllocGlobal>(rt: &R, from: &str, to: &str) -> Result<Vec<u8>, Unread> {
+    changed(rt.alloc(), fs::copy(rt, from, to), "copied")
+}
+
+/// What is answered to a question on files.
 pub fn answer<R: Files + AllocGlobal>(
     rt: &R,
     verb: &str,
     words: &[Vec<u8>],
 ) -> Result<Option<Vec<u8>>, Unread> {
-    let alloc = rt.alloc();
-    Ok(Some(match (verb, words) {
-        ("write", [name, body]) => {
-            changed(
-                alloc,
-                fs::write(rt, text_of(name)?, body.as_slice()),
-                "written",
-            )?
-        }
-        ("remove", [name]) => changed(alloc, fs::remove_file(rt, text_of(name)?), "removed")?,
-        ("copy-file", [from, to]) => {
-            changed(alloc, fs::copy(rt, text_of(from)?, text_of(to)?), "copied")?
-        }
-        ("exists", [name]) => exists(rt, text_of(name)?)?,
-        ("read", [name]) => read(rt, text_of(name)?)?,
+    let answer = match (verb, words) {
+        ("write", [name, body]) => write(rt, text_of(name)?, body.as_slice()),
+        ("remove", [name]) => remove(rt, text_of(name)?),
+        ("copy-file", [from, to]) => copy(rt, text_of(from)?, text_of(to)?),
+        ("exists", [name]) => exists(rt, text_of(name)?),
+        ("read", [name]) => read(rt, text_of(name)?),
         _ => return Ok(None),
-    }))
+    };
+    Ok(Some(answer?))
 }

@@ -1,6 +1,6 @@
 //! What the words of a line say.
 
-use command_line::{LineFault, line};
+use command_line::{CommandLine, LineFault, line};
 use rows::{Unread, said, text_of};
 use std::alloc::Global;
 
@@ -24,44 +24,56 @@ fn fault_text(alloc: Global, fault: &LineFault) -> Result<Vec<u8>, Unread> {
     }
 }
 
-/// `words WORD..`: the command and its values; or the fault, and the text that is printed for it.
-fn words_said(alloc: Global, words: &[Vec<u8>]) -> Result<Vec<u8>, Unread> {
-    let texts = texts_of(alloc, words)?;
-    match line(alloc, &texts) {
-        Ok(line) => {
-            let text = format!(in alloc; "{line:?}\n")?;
-            said(alloc, text.as_str())
-        }
+/// A line, or the fault of words that are none, as they are told.
+fn line_text(alloc: Global, line: Result<CommandLine<'_>, LineFault>) -> Result<Vec<u8>, Unread> {
+    match line {
+        Ok(line) => said(alloc, format!(in alloc; "{line:?}\n")?.as_str()),
         Err(fault) => fault_text(alloc, &fault),
     }
 }
 
-/// A fault and its number.
-fn numbered(alloc: Global, fault: &LineFault) -> Result<String, Unread> {
-    let number = fault.number();
-    Ok(format!(in alloc; "{fault} {number}\n")?)
+/// `words WORD..`: the command and its values; or the fault, and the text that is printed for it.
+fn words_said(alloc: Global, words: &[Vec<u8>]) -> Result<Vec<u8>, Unread> {
+    let texts = texts_of(alloc, words)?;
+    line_text(alloc, line(alloc, &texts))
 }
 
-/// The fault of words that are no line, and its number.
-fn numbered_words(alloc: Global, words: &[&str]) -> Result<String, Unread> {
+/// Adds a fault and its number.
+fn add_fault(alloc: Global, text: &mut Vec<u8>, fault: &LineFault) -> Result<(), Unread> {
+    let number = fault.number();
+    let line = format!(in alloc; "{fault} {number}\n")?;
+    text.extend_from_slice(line.as_bytes())?;
+    Ok(())
+}
+
+/// Adds the fault of words that are no line, and its number.
+fn add_fault_of(alloc: Global, text: &mut Vec<u8>, words: &[&str]) -> Result<(), Unread> {
     match line(alloc, words) {
         Ok(_) => Err(Unread::BadWords),
-        Err(fault) => numbered(alloc, &fault),
+        Err(fault) => add_fault(alloc, text, &fault),
     }
+}
+
+/// Adds each fault with its number.
+fn add_faults(alloc: Global, text: &mut Vec<u8>) -> Result<(), Unread> {
+    add_fault(alloc, text, &LineFault::OutOfMemory)?;
+    add_fault_of(alloc, text, &["--help"])?;
+    add_fault_of(alloc, text, &[])
 }
 
 /// `numbers`: each fault with its number.
 fn numbers(alloc: Global) -> Result<Vec<u8>, Unread> {
-    let mut text = numbered(alloc, &LineFault::OutOfMemory)?;
-    text.push_str(numbered_words(alloc, &["--help"])?.as_str())?;
-    text.push_str(numbered_words(alloc, &[])?.as_str())?;
-    said(alloc, text.as_str())
+    let mut text = Vec::new(alloc);
+    add_faults(alloc, &mut text)?;
+    Ok(text)
 }
 
+/// What is answered to a question on words.
 pub fn answer(alloc: Global, verb: &str, words: &[Vec<u8>]) -> Result<Option<Vec<u8>>, Unread> {
-    Ok(Some(match (verb, words) {
-        ("words", words) => words_said(alloc, words)?,
-        ("numbers", []) => numbers(alloc)?,
+    let answer = match (verb, words) {
+        ("words", words) => words_said(alloc, words),
+        ("numbers", []) => numbers(alloc),
         _ => return Ok(None),
-    }))
+    };
+    Ok(Some(answer?))
 }

@@ -3,8 +3,8 @@
 use super::{replaced, yes_or_no};
 use records::Changes;
 use rows::{Unread, number_of, said, text_of};
-use rules::{Config, Days, Suite, component_of_section, judge};
-use std::alloc::Global;
+use rules::{Config, Days, Place, Suite, Verdict, component_of_section, judge};
+use std::alloc::{AllocError, Global};
 
 /// `config TEXT [OLD NEW]..`: `read`, or the fault.
 fn config(alloc: Global, words: &[Vec<u8>]) -> Result<Vec<u8>, Unread> {
@@ -55,16 +55,21 @@ fn keep_seconds(alloc: Global, words: &[Vec<u8>]) -> Result<Vec<u8>, Unread> {
     seconds_of(alloc, config_of(alloc, text)?.keep_days())
 }
 
+/// The seconds for which a Release of the suite at a place is valid, or `none`.
+fn valid_at(alloc: Global, config: &Config, place: u64) -> Result<Vec<u8>, Unread> {
+    match config.suites().get(place as usize) {
+        Some(suite) => seconds_of(alloc, suite.valid_days),
+        None => Err(Unread::BadWords),
+    }
+}
+
 /// `valid-seconds PLACE TEXT`: the seconds for which a Release of the suite is valid, or `none`.
 fn valid_seconds(alloc: Global, words: &[Vec<u8>]) -> Result<Vec<u8>, Unread> {
     let [place, text] = words else {
         return Err(Unread::BadWords);
     };
-    let config = config_of(alloc, text)?;
-    match config.suites().get(number_of(place)? as usize) {
-        Some(suite) => seconds_of(alloc, suite.valid_days),
-        None => Err(Unread::BadWords),
-    }
+    let place = number_of(place)?;
+    valid_at(alloc, &config_of(alloc, text)?, place)
 }
 
 /// `suite-for NAME TEXT`: the place of the suite that claims the distribution, or `none`.
@@ -89,6 +94,20 @@ fn asked(suite: &Suite, question: &str, name: &str, more: &str) -> Result<bool, 
     }
 }
 
+/// What is asked of the suite at a place.
+fn asked_at(
+    config: &Config,
+    place: u64,
+    question: &Vec<u8>,
+    name: &Vec<u8>,
+    more: &Vec<u8>,
+) -> Result<bool, Unread> {
+    match config.suites().get(place as usize) {
+        Some(suite) => asked(suite, text_of(question)?, text_of(name)?, text_of(more)?),
+        None => Err(Unread::BadWords),
+    }
+}
+
 /// `suite PLACE architecture|component|claims NAME TEXT`, `suite PLACE allows SOURCE PERSON TEXT`: `yes` or `no`.
 fn suite(alloc: Global, words: &[Vec<u8>]) -> Result<Vec<u8>, Unread> {
     let (place, question, name, more, text) = match words {
@@ -96,12 +115,9 @@ fn suite(alloc: Global, words: &[Vec<u8>]) -> Result<Vec<u8>, Unread> {
         [place, question, name, more, text] => (place, question, name, more, text),
         _ => return Err(Unread::BadWords),
     };
-    let config = config_of(alloc, text)?;
-    let Some(suite) = config.suites().get(number_of(place)? as usize) else {
-        return Err(Unread::BadWords);
-    };
-    let is_so = asked(suite, text_of(question)?, text_of(name)?, text_of(more)?)?;
-    said(alloc, yes_or_no(is_so))
+    let place = number_of(place)?;
+    let is_so = asked_at(&config_of(alloc, text)?, place, question, name, more);
+    said(alloc, yes_or_no(is_so?))
 }
 
 /// `component SECTION`: its component.
@@ -112,19 +128,24 @@ fn component(alloc: Global, words: &[Vec<u8>]) -> Result<Vec<u8>, Unread> {
     said(alloc, component_of_section(text_of(section)?))
 }
 
-/// The verdict on an upload.
-fn verdict(alloc: Global, config: &Config, changes: &Changes) -> Result<Vec<u8>, Unread> {
-    let line = match judge(config, changes) {
+/// The places of an upload, or the number of the verdict.
+fn verdict_text(alloc: Global, judged: Result<Place, Verdict>) -> Result<String, AllocError> {
+    match judged {
         Ok(place) => {
             let (suite, component) = (place.suite, place.component);
-            format!(in alloc; "suite {suite} component {component}")?
+            format!(in alloc; "suite {suite} component {component}")
         }
         Err(verdict) => {
             let number = verdict.number();
-            format!(in alloc; "verdict {number}")?
+            format!(in alloc; "verdict {number}")
         }
-    };
-    said(alloc, line.as_str())
+    }
+}
+
+/// The verdict on an upload.
+fn verdict(alloc: Global, config: &Config, changes: &Changes) -> Result<Vec<u8>, Unread> {
+    let text = verdict_text(alloc, judge(config, changes))?;
+    said(alloc, text.as_str())
 }
 
 /// `judge CONFIG CHANGES [OLD NEW]..`: the places of suite and component, or the number of the verdict.
@@ -142,15 +163,16 @@ fn judged(alloc: Global, words: &[Vec<u8>]) -> Result<Vec<u8>, Unread> {
 
 /// What is answered to a question on configurations.
 pub fn answer(alloc: Global, verb: &str, words: &[Vec<u8>]) -> Result<Option<Vec<u8>>, Unread> {
-    Ok(Some(match verb {
-        "config" => config(alloc, words)?,
-        "suites" => suites(alloc, words)?,
-        "keep-seconds" => keep_seconds(alloc, words)?,
-        "valid-seconds" => valid_seconds(alloc, words)?,
-        "suite-for" => suite_for(alloc, words)?,
-        "suite" => suite(alloc, words)?,
-        "component" => component(alloc, words)?,
-        "judge" => judged(alloc, words)?,
+    let answer = match verb {
+        "config" => config(alloc, words),
+        "suites" => suites(alloc, words),
+        "keep-seconds" => keep_seconds(alloc, words),
+        "valid-seconds" => valid_seconds(alloc, words),
+        "suite-for" => suite_for(alloc, words),
+        "suite" => suite(alloc, words),
+        "component" => component(alloc, words),
+        "judge" => judged(alloc, words),
         _ => return Ok(None),
-    }))
+    };
+    Ok(Some(answer?))
 }

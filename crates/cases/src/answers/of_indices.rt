@@ -54,10 +54,11 @@ fn index(alloc: Global, words: &[Vec<u8>]) -> Result<Vec<u8>, Unread> {
     let [config, path, dates @ ..] = words else {
         return Err(Unread::BadWords);
     };
+    let path = text_of(path)?;
     let config = config_of(alloc, config)?;
     let dates = moments_of(alloc, dates)?;
     let shelves = Shelves::new(alloc);
-    match index_text(alloc, &config, &shelves, dates.as_slice(), text_of(path)?)? {
+    match index_text(alloc, &config, &shelves, dates.as_slice(), path)? {
         Some(text) => Ok(text),
         None => said(alloc, "none"),
     }
@@ -65,9 +66,10 @@ fn index(alloc: Global, words: &[Vec<u8>]) -> Result<Vec<u8>, Unread> {
 
 /// What is answered to a question on indices.
 pub fn answer(alloc: Global, verb: &str, words: &[Vec<u8>]) -> Result<Option<Vec<u8>>, Unread> {
-    Ok(Some(match verb {
-        "date" => date(alloc, words)?,
-        "index" => index(alloc, words)?,
+    let answer = match verb {
+        "date" => date(alloc, words),
+        "index" => index(alloc, words),
         _ => return Ok(None),
-    }))
+    };
+    Ok(Some(answer?))
 }

@@ -3,7 +3,7 @@
 ghost use Rattle.std.specs.Prelude.{◌≡◌};
 ghost use Rattle.sums.specs.Prints.{same_print};
 
-use super::{replaced, yes_or_no};
+use super::{replaced, told_or_read, yes_or_no};
 use para::{ParaFault, Paragraph, read_one};
 use rows::{Unread, said, text_of};
 use std::alloc::{AllocError, Global};
@@ -92,13 +92,10 @@ fn listed(alloc: Global, kind: ListKind, text: &[u8], tells: bool) -> Result<Vec
         Err(ParaFault::OutOfMemory) => return Err(Unread::OutOfMemory),
         Err(_) => return Err(Unread::BadWords),
     };
-    match entries_text(alloc, &paragraph, kind) {
-        Ok(out) if tells => Ok(out),
-        Ok(_) => said(alloc, "read"),
-        Err(fault) => said(alloc, fault.to_string(alloc)?.as_str()),
-    }
+    told_or_read(alloc, entries_text(alloc, &paragraph, kind), tells)
 }
 
+/// The kind of lists that a word names.
 fn kind_of(word: &Vec<u8>) -> Result<ListKind, Unread> {
     match text_of(word)? {
         "changes" => Ok(ListKind::Changes),
@@ -118,13 +115,14 @@ fn lists(alloc: Global, words: &[Vec<u8>], tells: bool) -> Result<Vec<u8>, Unrea
 
 /// What is answered to a question on lists of files.
 pub fn answer(alloc: Global, verb: &str, words: &[Vec<u8>]) -> Result<Option<Vec<u8>>, Unread> {
-    Ok(Some(match verb {
-        "print" => print(alloc, words)?,
-        "print-pieces" => print_pieces(alloc, words)?,
-        "same-print" => same_print(alloc, words)?,
-        "file-name" => file_name(alloc, words)?,
-        "lists" => lists(alloc, words, false)?,
-        "told-lists" => lists(alloc, words, true)?,
+    let answer = match verb {
+        "print" => print(alloc, words),
+        "print-pieces" => print_pieces(alloc, words),
+        "same-print" => same_print(alloc, words),
+        "file-name" => file_name(alloc, words),
+        "lists" => lists(alloc, words, false),
+        "told-lists" => lists(alloc, words, true),
         _ => return Ok(None),
-    }))
+    };
+    Ok(Some(answer?))
 }

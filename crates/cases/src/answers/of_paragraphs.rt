@@ -50,13 +50,24 @@ fn add_fields(
     Ok(())
 }
 
-/// What is read of a text's fields.
-fn told(alloc: Global, text: &[u8]) -> Result<Vec<u8>, ParaFault> {
-    let mut out = Vec::new(alloc);
-    for paragraph in &read_many(alloc, text, LIMIT)? {
-        add_fields(alloc, paragraph, &mut out)?;
+/// Adds a line for each field of each paragraph, and one behind each paragraph.
+fn add_paragraphs(
+    alloc: Global,
+    paragraphs: &[Paragraph<'_>],
+    out: &mut Vec<u8>,
+) -> Result<(), ParaFault> {
+    for paragraph in paragraphs {
+        add_fields(alloc, paragraph, out)?;
         out.extend_from_slice(b"--\n")?;
     }
+    Ok(())
+}
+
+/// What is read of a text's fields.
+fn told(alloc: Global, text: &[u8]) -> Result<Vec<u8>, ParaFault> {
+    let paragraphs = read_many(alloc, text, LIMIT)?;
+    let mut out = Vec::new(alloc);
+    add_paragraphs(alloc, paragraphs.as_slice(), &mut out)?;
     Ok(out)
 }
 
@@ -100,9 +111,10 @@ fn field_behind(alloc: Global, words: &[Vec<u8>]) -> Result<Vec<u8>, Unread> {
     let [front, name, first, more @ ..] = words else {
         return Err(Unread::BadWords);
     };
+    let (name, first) = (text_of(name)?, text_of(first)?);
     let more = texts_of(alloc, more)?;
     let mut out = front.clone()?;
-    match write_field(text_of(name)?, text_of(first)?, more.as_slice(), &mut out) {
+    match write_field(name, first, more.as_slice(), &mut out) {
         Ok(()) => Ok(out),
         Err(_) => Err(Unread::OutOfMemory),
     }
@@ -113,8 +125,9 @@ fn line_behind(words: &[Vec<u8>]) -> Result<Vec<u8>, Unread> {
     let [front, line] = words else {
         return Err(Unread::BadWords);
     };
+    let line = text_of(line)?;
     let mut out = front.clone()?;
-    match write_line(text_of(line)?, &mut out) {
+    match write_line(line, &mut out) {
         Ok(()) => Ok(out),
         Err(_) => Err(Unread::OutOfMemory),
     }
@@ -122,12 +135,13 @@ fn line_behind(words: &[Vec<u8>]) -> Result<Vec<u8>, Unread> {
 
 /// What is answered to a question on paragraphs.
 pub fn answer(alloc: Global, verb: &str, words: &[Vec<u8>]) -> Result<Option<Vec<u8>>, Unread> {
-    Ok(Some(match verb {
-        "paragraph" => paragraph(alloc, words)?,
-        "fields" => fields(alloc, words)?,
-        "field" => field(alloc, words)?,
-        "write-field" => field_behind(alloc, words)?,
-        "write-line" => line_behind(words)?,
+    let answer = match verb {
+        "paragraph" => paragraph(alloc, words),
+        "fields" => fields(alloc, words),
+        "field" => field(alloc, words),
+        "write-field" => field_behind(alloc, words),
+        "write-line" => line_behind(words),
         _ => return Ok(None),
-    }))
+    };
+    Ok(Some(answer?))
 }

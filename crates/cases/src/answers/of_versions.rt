@@ -77,32 +77,48 @@ fn note_not_before(
     Ok(())
 }
 
-/// `rising VERSION..`: each pair that does not rise, which is nothing.
-fn rising(alloc: Global, words: &[Vec<u8>]) -> Result<Vec<u8>, Unread> {
-    let mut out = Vec::new(alloc);
+/// Adds a line for each pair of versions that does not rise.
+fn note_not_rising(alloc: Global, words: &[Vec<u8>], out: &mut Vec<u8>) -> Result<(), Unread> {
     let mut behind = words;
     for word in words {
         behind = match behind.split_first() {
             Some((_, behind)) => behind,
             None => behind,
         };
-        note_not_before(alloc, text_of(word)?, behind, &mut out)?;
+        note_not_before(alloc, text_of(word)?, behind, out)?;
     }
+    Ok(())
+}
+
+/// `rising VERSION..`: each pair that does not rise, which is nothing.
+fn rising(alloc: Global, words: &[Vec<u8>]) -> Result<Vec<u8>, Unread> {
+    let mut out = Vec::new(alloc);
+    note_not_rising(alloc, words, &mut out)?;
     Ok(out)
 }
 
-/// What is kept of a version: its text, the text without its epoch, and whether a copy, and what is read of its text, are it.
-fn kept(alloc: Global, text: &str) -> Result<Vec<u8>, VersionFault> {
-    let version = Version::parse(alloc, text)?;
-    let again = Version::parse(alloc, version.text())?;
-    let copy = version.try_clone()?;
-    let is_same = version == again && version == copy;
-    let same = if is_same { "same" } else { "other" };
+/// Whether a version equals a copy of it.
+fn equals_copy(version: &Version) -> Result<bool, VersionFault> {
+    Ok(version.try_clone()? == *version)
+}
+
+/// Whether a version equals what is read of its text.
+fn equals_reading(alloc: Global, version: &Version) -> Result<bool, VersionFault> {
+    Ok(Version::parse(alloc, version.text())? == *version)
+}
+
+/// The text of a version, the text without its epoch, and whether a copy, and what is read of its text, equal it.
+fn kept_text(alloc: Global, version: &Version) -> Result<Vec<u8>, VersionFault> {
+    let copied = equals_copy(version)?;
+    let read = equals_reading(alloc, version)?;
+    let same = if copied && read { "same" } else { "other" };
     let (text, without) = (version.text(), version.without_epoch());
-    Ok(word(
-        alloc,
-        format!(in alloc; "{text} {without} {same}")?.as_str(),
-    )?)
+    Ok(format!(in alloc; "{text} {without} {same}")?.into_bytes())
+}
+
+/// What is kept of the version that a text is.
+fn kept(alloc: Global, text: &str) -> Result<Vec<u8>, VersionFault> {
+    kept_text(alloc, &Version::parse(alloc, text)?)
 }
 
 /// `kept TEXT`: the text, the text without its epoch, and `same`; or the fault.
@@ -131,12 +147,13 @@ fn same(alloc: Global, words: &[Vec<u8>]) -> Result<Vec<u8>, Unread> {
 
 /// What is answered to a question on versions.
 pub fn answer(alloc: Global, verb: &str, words: &[Vec<u8>]) -> Result<Option<Vec<u8>>, Unread> {
-    Ok(Some(match verb {
-        "version" => version(alloc, words)?,
-        "compare" => compare(alloc, words)?,
-        "rising" => rising(alloc, words)?,
-        "kept" => parts(alloc, words)?,
-        "same" => same(alloc, words)?,
+    let answer = match verb {
+        "version" => version(alloc, words),
+        "compare" => compare(alloc, words),
+        "rising" => rising(alloc, words),
+        "kept" => parts(alloc, words),
+        "same" => same(alloc, words),
         _ => return Ok(None),
-    }))
+    };
+    Ok(Some(answer?))
 }

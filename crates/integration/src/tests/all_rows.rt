@@ -1,6 +1,7 @@
 //! All rows of a database, read at once.
 
 use super::checks::same;
+use super::databases::{Check, Edit, check_new, in_transaction};
 use keep_rows::is_archive_schema;
 use sqlite::{Alter, Connection, Error, Transaction};
 use std::alloc::Global;
@@ -14,7 +15,6 @@ use tables::pieces::insert_piece;
 use tables::schema::create_tables;
 use tables_read::read_all;
 
-// These have no clause, so that the proof of a test does not carry the state of each call.
 /// Adds a body of these bytes, which has arrived.
 fn add_body<S: Alter>(tx: &mut Transaction<'_, S>, bytes: &[u8]) -> Result<(), Error> {
     let id = insert_body(tx, &print_of(bytes))?;
@@ -24,17 +24,20 @@ fn add_body<S: Alter>(tx: &mut Transaction<'_, S>, bytes: &[u8]) -> Result<(), E
 }
 
 /// Makes the tables, with so many bodies.
-fn make<S: Alter>(conn: &mut Connection<S>, count: u64) -> Result<(), Error> {
-    if !conn.is_autocommit() {
-        return Ok(());
+#[derive(Clone, Copy)]
+struct Making {
+    bodies: u64,
+}
+
+impl Edit for Making {
+    fn edit<S: Alter>(&self, _alloc: Global, tx: &mut Transaction<'_, S>) -> Result<usize, Error> {
+        create_tables(tx)?;
+        insert_meta(tx, 3, b"Codename: box\n")?;
+        for number in 0..self.bodies {
+            add_body(tx, &number.to_le_bytes())?;
+        }
+        Ok(0)
     }
-    let mut tx = conn.transaction();
-    create_tables(&mut tx)?;
-    insert_meta(&mut tx, 3, b"Codename: box\n")?;
-    for number in 0..count {
-        add_body(&mut tx, &number.to_le_bytes())?;
-    }
-    tx.commit()
 }
 
 /// How many bodies and dates there are, where the database has the tables of an archive and its rows can be read.
@@ -78,13 +81,26 @@ const INSERT: &str = "INSERT INTO dates (rowid, suite, moment) VALUES (7, 'box',
 
 const UPDATE: &str = "UPDATE dates SET rowid = -7";
 
+/// Twenty bodies are read, and a date; and nothing, once that has a negative number.
+#[derive(Clone, Copy)]
+struct Reading;
+
+impl Check for Reading {
+    fn check<R: Abort, S: Alter>(
+        &self,
+        rt: &R,
+        alloc: Global,
+        conn: &mut Connection<S>,
+    ) -> Result<(), Fail> {
+        in_transaction(alloc, conn, &Making { bodies: 20 })?;
+        expect_counts(rt, alloc, conn, Some((20, 0)))?;
+        expect_counts_after(rt, alloc, conn, INSERT, Some((20, 1)))?;
+        expect_counts_after(rt, alloc, conn, UPDATE, None)
+    }
+}
+
 /// All rows are read, unless one of them has a negative number.
 #[test]
 fn rows_are_read(rt: HostRuntime) -> Result<(), Fail> {
-    let alloc = rt.alloc();
-    let mut conn = Connection::open_in_memory(alloc)?;
-    make(&mut conn, 20)?;
-    expect_counts(&rt, alloc, &mut conn, Some((20, 0)))?;
-    expect_counts_after(&rt, alloc, &mut conn, INSERT, Some((20, 1)))?;
-    expect_counts_after(&rt, alloc, &mut conn, UPDATE, None)
+    check_new(&rt, rt.alloc(), &Reading)
 }

@@ -4,7 +4,9 @@ use super::checks::same;
 use super::messages::{CREATED, MISSING};
 use super::uploads::{File, HELLO, MOMENT, PAIR, archive_of};
 use desk::{Connection, attend};
-use std::alloc::Global;
+use keep::Keeper;
+use queue::Archive;
+use std::alloc::{AllocError, Global};
 use std::process::Abort;
 use std::test::Fail;
 
@@ -56,25 +58,39 @@ const ARRIVED: [Row<'_>; 8] = [
     ),
 ];
 
-/// A request that delivers a file.
-fn put(alloc: Global, file: &File) -> Result<Vec<u8>, Fail> {
+/// The head of a request that delivers a file.
+fn head(alloc: Global, file: &File) -> Result<Vec<u8>, AllocError> {
     let (name, length) = (file.name, file.body.len());
     let head = format!(in alloc;
         "PUT /incoming/{name} HTTP/1.1\r\nContent-Length: {length}\r\n\r\n"
     )?;
-    let mut request = Vec::from_slice(alloc, head.as_bytes())?;
+    Ok(head.into_bytes())
+}
+
+/// A request that delivers a file.
+fn put(alloc: Global, file: &File) -> Result<Vec<u8>, AllocError> {
+    let mut request = head(alloc, file)?;
     request.extend_from_slice(file.body)?;
     Ok(request)
+}
+
+/// Requests that deliver files.
+fn puts(alloc: Global, files: &[File]) -> Result<Vec<Vec<u8>>, AllocError> {
+    let mut requests = Vec::new(alloc);
+    for file in files {
+        requests.push(put(alloc, file)?)?;
+    }
+    Ok(requests)
 }
 
 /// The rows of an upload of three files, which are new.
 fn upload_rows<'a>(
     alloc: Global,
-    [changes, deb, control]: [&'a [u8]; 3],
-) -> Result<Vec<Row<'a>>, Fail> {
-    let mut rows = Vec::new(alloc);
-    rows.push((changes, CREATED))?;
-    rows.push((deb, CREATED))?;
+    changes: &'a [u8],
+    deb: &'a [u8],
+    control: &'a [u8],
+) -> Result<Vec<Row<'a>>, AllocError> {
+    let mut rows = Vec::from_slice(alloc, &[(changes, CREATED), (deb, CREATED)])?;
     rows.extend_from_slice(&WAITING)?;
     rows.push((control, CREATED))?;
     rows.extend_from_slice(&ARRIVED)?;
@@ -91,28 +107,62 @@ fn connection(alloc: Global, request: &[u8]) -> Connection<&[u8], Vec<u8>> {
     }
 }
 
-/// Answers the requests over connections, one after the other, and checks their replies.
-fn expect_rows(rt: &impl Abort, alloc: Global, rows: &[Row<'_>]) -> Result<(), Fail> {
-    let mut archive = archive_of(alloc, PAIR)?;
+/// Connections that bring the requests of rows.
+fn connections_of<'a>(
+    alloc: Global,
+    rows: &[Row<'a>],
+) -> Result<Vec<Connection<&'a [u8], Vec<u8>>>, AllocError> {
     let mut connections = Vec::new(alloc);
     for row in rows {
         connections.push(connection(alloc, row.0))?;
     }
-    attend(alloc, &mut archive, connections.as_mut_slice());
+    Ok(connections)
+}
+
+/// Checks the replies that were written to connections.
+fn expect_written(rt: &impl Abort, connections: &[Connection<&[u8], Vec<u8>>], rows: &[Row<'_>]) {
     for (connection, row) in connections.iter().zip(rows) {
         same(rt, &connection.writer.as_slice(), &row.1);
     }
+}
+
+/// Answers the requests over connections, one after the other, and checks their replies.
+fn expect_rows<K: Keeper>(
+    rt: &impl Abort,
+    alloc: Global,
+    archive: &mut Archive<K>,
+    rows: &[Row<'_>],
+) -> Result<(), Fail> {
+    let mut connections = connections_of(alloc, rows)?;
+    attend(alloc, archive, connections.as_mut_slice());
+    expect_written(rt, connections.as_slice(), rows);
     Ok(())
+}
+
+/// Checks the replies to the three deliveries of an upload, and to the requests before and behind the third.
+fn expect_upload<K: Keeper>(
+    rt: &impl Abort,
+    alloc: Global,
+    archive: &mut Archive<K>,
+    deliveries: &[Vec<u8>],
+) -> Result<(), Fail> {
+    let [changes, deb, control] = deliveries else {
+        return Err(Fail::from("an upload of other than three files"));
+    };
+    let rows = upload_rows(
+        alloc,
+        changes.as_slice(),
+        deb.as_slice(),
+        control.as_slice(),
+    )?;
+    expect_rows(rt, alloc, archive, rows.as_slice())
 }
 
 /// An upload from its delivery to a copy of its package.
 #[test]
 fn an_upload_goes_through(rt: HostRuntime) -> Result<(), Fail> {
     let alloc = rt.alloc();
-    let [changes, deb, control] = HELLO;
-    let changes = put(alloc, &changes)?;
-    let deb = put(alloc, &deb)?;
-    let control = put(alloc, &control)?;
-    let files = [changes.as_slice(), deb.as_slice(), control.as_slice()];
-    expect_rows(&rt, alloc, upload_rows(alloc, files)?.as_slice())
+    let deliveries = puts(alloc, &HELLO)?;
+    let mut archive = archive_of(alloc, PAIR)?;
+    expect_upload(&rt, alloc, &mut archive, deliveries.as_slice())
 }

@@ -131,6 +131,20 @@ fn expect_hello<K: Keeper>(
     expect_run(rt, alloc, archive, &[], MOMENT + 1, &[], 2)
 }
 
+/// Checks that a run of an equal version names no text behind the two of the run before, and leaves both indices as they
+/// were.
+fn expect_same_indices<K: Keeper>(
+    rt: &impl Abort,
+    alloc: Global,
+    archive: &mut Archive<Counting<K>>,
+    before: &(Option<Vec<u8>>, Option<Vec<u8>>),
+) -> Result<(), Fail> {
+    let lines = ["accepted tie_1.00_amd64.changes"];
+    expect_run(rt, alloc, archive, &TIE_AGAIN, MOMENT + 1, &lines, 2)?;
+    same(rt, &indices(alloc, archive)?, before);
+    Ok(())
+}
+
 /// Checks that a run that admits a version equal to the one that is shown names no text, and changes no index and no
 /// date.
 fn expect_tie<K: Keeper>(
@@ -141,10 +155,7 @@ fn expect_tie<K: Keeper>(
     let lines = ["accepted tie_1.0_amd64.changes"];
     expect_run(rt, alloc, archive, &TIE, MOMENT, &lines, 2)?;
     let before = indices(alloc, archive)?;
-    let lines = ["accepted tie_1.00_amd64.changes"];
-    expect_run(rt, alloc, archive, &TIE_AGAIN, MOMENT + 1, &lines, 2)?;
-    same(rt, &indices(alloc, archive)?, &before);
-    Ok(())
+    expect_same_indices(rt, alloc, archive, &before)
 }
 
 /// A run after which all indices are as before names no text to the keeper.

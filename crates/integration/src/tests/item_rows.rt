@@ -1,6 +1,7 @@
 //! Rows of items and files.
 
 use super::checks::{holds, same};
+use super::databases::{Check, Edit, check_new, in_transaction};
 use para::{Listed, Text};
 use sqlite::{Alter, Connection, Error, Transaction};
 use std::alloc::{AllocError, Global};
@@ -21,6 +22,7 @@ const PRINT: Print = Print {
     sha256: [3; 32],
 };
 
+/// The item hello of a kind.
 fn item(alloc: Global, kind: u64) -> Result<Item, AllocError> {
     Ok(Item {
         suite: Text::new(alloc, "box")?,
@@ -34,11 +36,12 @@ fn item(alloc: Global, kind: u64) -> Result<Item, AllocError> {
     })
 }
 
-// These have no clause, so that the proof of a test does not carry the state of each call.
+/// Adds hello of a kind.
 fn add_item<S: Alter>(alloc: Global, tx: &mut Transaction<'_, S>, kind: u64) -> Result<u64, Error> {
     insert_item(tx, &item(alloc, kind)?)
 }
 
+/// Adds a file of an item.
 fn add_ref<S: Alter>(
     alloc: Global,
     tx: &mut Transaction<'_, S>,
@@ -67,21 +70,24 @@ fn add_items<S: Alter>(alloc: Global, tx: &mut Transaction<'_, S>) -> Result<(),
     add_ref(alloc, tx, source, 2, "hello.tar.xz")
 }
 
+/// Adds two files of the pool, which have one body.
 fn add_files<S: Alter>(tx: &mut Transaction<'_, S>) -> Result<(), Error> {
     let body = insert_body(tx, &PRINT)?;
     insert_file(tx, "pool/hello.deb", body)?;
     insert_file(tx, "pool/hello.dsc", body)
 }
 
-fn make<S: Alter>(alloc: Global, conn: &mut Connection<S>) -> Result<(), Error> {
-    if !conn.is_autocommit() {
-        return Ok(());
+/// Makes the tables, with two items and their files.
+#[derive(Clone, Copy)]
+struct Making;
+
+impl Edit for Making {
+    fn edit<S: Alter>(&self, alloc: Global, tx: &mut Transaction<'_, S>) -> Result<usize, Error> {
+        create_tables(tx)?;
+        add_items(alloc, tx)?;
+        add_files(tx)?;
+        Ok(0)
     }
-    let mut tx = conn.transaction();
-    create_tables(&mut tx)?;
-    add_items(alloc, &mut tx)?;
-    add_files(&mut tx)?;
-    tx.commit()
 }
 
 /// Removes an item, and says how many files it had.
@@ -104,45 +110,44 @@ fn remove_dsc<S: Alter>(alloc: Global, tx: &mut Transaction<'_, S>) -> Result<()
     Ok(())
 }
 
-/// Removes what the suite shows as a source, and says how many files that had.
-fn remove_source<S: Alter>(alloc: Global, tx: &mut Transaction<'_, S>) -> Result<usize, Error> {
-    let Some((id, _)) = item_on(alloc, tx, "box", 0, "hello", "all")? else {
-        return Ok(0);
-    };
-    let files = remove_item(alloc, tx, id)?;
-    remove_dsc(alloc, tx)?;
-    Ok(files)
-}
+/// Removes what the suite shows as a source, and answers how many files that had.
+#[derive(Clone, Copy)]
+struct RemovingSource;
 
-fn remove<S: Alter>(alloc: Global, conn: &mut Connection<S>) -> Result<usize, Error> {
-    if !conn.is_autocommit() {
-        return Ok(0);
+impl Edit for RemovingSource {
+    fn edit<S: Alter>(&self, alloc: Global, tx: &mut Transaction<'_, S>) -> Result<usize, Error> {
+        let Some((id, _)) = item_on(alloc, tx, "box", 0, "hello", "all")? else {
+            return Ok(0);
+        };
+        let files = remove_item(alloc, tx, id)?;
+        remove_dsc(alloc, tx)?;
+        Ok(files)
     }
-    let mut tx = conn.transaction();
-    let files = remove_source(alloc, &mut tx)?;
-    tx.commit()?;
-    Ok(files)
 }
 
-/// Adds an item that is there already; the transaction is left behind.
-fn add_again<S: Alter>(alloc: Global, conn: &mut Connection<S>) -> Result<(), Error> {
-    if !conn.is_autocommit() {
-        return Ok(());
+/// Adds an item that is there already.
+#[derive(Clone, Copy)]
+struct AddingAgain;
+
+impl Edit for AddingAgain {
+    fn edit<S: Alter>(&self, alloc: Global, tx: &mut Transaction<'_, S>) -> Result<usize, Error> {
+        add_item(alloc, tx, 1)?;
+        Ok(0)
     }
-    let mut tx = conn.transaction();
-    add_item(alloc, &mut tx, 1)?;
-    Ok(())
 }
 
-/// Removes an item before its files; the transaction is left behind.
-fn remove_too_early<S: Alter>(conn: &mut Connection<S>) -> Result<(), Error> {
-    if !conn.is_autocommit() {
-        return Ok(());
+/// Removes an item before its files.
+#[derive(Clone, Copy)]
+struct RemovingTooEarly;
+
+impl Edit for RemovingTooEarly {
+    fn edit<S: Alter>(&self, _alloc: Global, tx: &mut Transaction<'_, S>) -> Result<usize, Error> {
+        delete_item(tx, 1)?;
+        Ok(0)
     }
-    let mut tx = conn.transaction();
-    delete_item(&mut tx, 1)
 }
 
+/// How many items, files of items and files of the pool there are.
 fn counts<S: Alter>(
     alloc: Global,
     conn: &mut Connection<S>,
@@ -189,40 +194,65 @@ fn expect_removed<S: Alter>(
     conn: &mut Connection<S>,
     files: usize,
 ) -> Result<(), Fail> {
-    same(rt, &remove(alloc, conn)?, &files);
+    same(rt, &in_transaction(alloc, conn, &RemovingSource)?, &files);
     Ok(())
+}
+
+/// An item is found and removed with its files.
+#[derive(Clone, Copy)]
+struct Removing;
+
+impl Check for Removing {
+    fn check<R: Abort, S: Alter>(
+        &self,
+        rt: &R,
+        alloc: Global,
+        conn: &mut Connection<S>,
+    ) -> Result<(), Fail> {
+        in_transaction(alloc, conn, &Making)?;
+        expect_counts(rt, alloc, conn, (2, 3, 2))?;
+        expect_source(rt, alloc, conn, 2, Some(1))?;
+        expect_removed(rt, alloc, conn, 2)?;
+        expect_counts(rt, alloc, conn, (1, 1, 1))?;
+        expect_source(rt, alloc, conn, 0, None)?;
+        expect_removed(rt, alloc, conn, 0)
+    }
 }
 
 /// An item is found under its suite, kind, name and architecture, and is removed with its files.
 #[test]
 fn items_are_found_and_removed(rt: HostRuntime) -> Result<(), Fail> {
-    let alloc = rt.alloc();
-    let mut conn = Connection::open_in_memory(alloc)?;
-    make(alloc, &mut conn)?;
-    expect_counts(&rt, alloc, &mut conn, (2, 3, 2))?;
-    expect_source(&rt, alloc, &mut conn, 2, Some(1))?;
-    expect_removed(&rt, alloc, &mut conn, 2)?;
-    expect_counts(&rt, alloc, &mut conn, (1, 1, 1))?;
-    expect_source(&rt, alloc, &mut conn, 0, None)?;
-    expect_removed(&rt, alloc, &mut conn, 0)
+    check_new(&rt, rt.alloc(), &Removing)
+}
+
+/// What is refused, and leaves the rows as they are.
+#[derive(Clone, Copy)]
+struct Refused<E> {
+    edit: E,
+}
+
+impl<E: Edit> Check for Refused<E> {
+    fn check<R: Abort, S: Alter>(
+        &self,
+        rt: &R,
+        alloc: Global,
+        conn: &mut Connection<S>,
+    ) -> Result<(), Fail> {
+        in_transaction(alloc, conn, &Making)?;
+        holds(rt, in_transaction(alloc, conn, &self.edit).is_err());
+        expect_counts(rt, alloc, conn, (2, 3, 2))
+    }
 }
 
 /// A second item of one suite, kind, name and architecture is refused, and the rows stay.
 #[test]
 fn a_suite_shows_one_item_under_a_name(rt: HostRuntime) -> Result<(), Fail> {
-    let alloc = rt.alloc();
-    let mut conn = Connection::open_in_memory(alloc)?;
-    make(alloc, &mut conn)?;
-    holds(&rt, add_again(alloc, &mut conn).is_err());
-    expect_counts(&rt, alloc, &mut conn, (2, 3, 2))
+    check_new(&rt, rt.alloc(), &Refused { edit: AddingAgain })
 }
 
 /// An item whose files are there is not removed, and the rows stay.
 #[test]
 fn an_item_goes_after_its_files(rt: HostRuntime) -> Result<(), Fail> {
-    let alloc = rt.alloc();
-    let mut conn = Connection::open_in_memory(alloc)?;
-    make(alloc, &mut conn)?;
-    holds(&rt, remove_too_early(&mut conn).is_err());
-    expect_counts(&rt, alloc, &mut conn, (2, 3, 2))
+    let edit = RemovingTooEarly;
+    check_new(&rt, rt.alloc(), &Refused { edit })
 }

@@ -2,16 +2,16 @@
 
 ghost use Rattle.std.specs.Prelude.{true};
 
-use super::checks::{holds, same};
+use super::checks::holds;
+use super::clients::{Visit, done_client, expect_received, on_loopback};
 use super::messages::PUT;
 use super::uploads::{BOX, archive_of};
 use commands::{Stop, serve};
-use keep::{Change, Judgement, KeepFault, Keeper, Waiting};
+use keep::{Change, Judgement, KeepFault, Keeper, PlainKeeper, Waiting};
 use queue::Archive;
 use rules::Config;
 use std::alloc::Global;
-use std::io::{Read, Write};
-use std::net::{Shutdown, TcpListener, TcpStream};
+use std::net::TcpListener;
 use std::process::Abort;
 use std::test::Fail;
 use suites::{Shelves, Upload};
@@ -83,27 +83,6 @@ impl<K: Keeper> Keeper for Shut<K> {
 const UNAVAILABLE: &[u8] =
     b"HTTP/1.1 507 Insufficient Storage\r\nContent-Type: text/plain; charset=utf-8\r\nContent-Length: 25\r\nConnection: close\r\n\r\n507 Insufficient Storage\n";
 
-/// A client that has delivered a file and is done.
-fn delivering(rt: &HostRuntime, listener: &TcpListener) -> Result<TcpStream, Fail> {
-    let mut stream = TcpStream::connect(rt, listener.local_addr()?)?;
-    stream.write_all(PUT)?;
-    stream.shutdown(Shutdown::Write)?;
-    Ok(stream)
-}
-
-/// Checks the whole reply that a client is sent.
-fn expect_received(
-    abort: &impl Abort,
-    alloc: Global,
-    mut stream: TcpStream,
-    wanted: &[u8],
-) -> Result<(), Fail> {
-    let mut reply = Vec::new(alloc);
-    stream.read_to_end(&mut reply)?;
-    same(abort, &reply.as_slice(), &wanted);
-    Ok(())
-}
-
 /// Serves three connections, of which the first finds the keeper shut.
 fn expect_two_left<K: Keeper>(
     rt: &HostRuntime,
@@ -115,14 +94,32 @@ fn expect_two_left<K: Keeper>(
     holds(abort, matches!(end, Err(Stop::Shut(2))));
 }
 
+/// A client that delivers a file, before two that do not come.
+#[derive(Clone, Copy)]
+struct Delivering;
+
+impl Visit for Delivering {
+    fn visit<A: Abort, K: Keeper>(
+        &self,
+        rt: &HostRuntime,
+        abort: &A,
+        archive: &mut Archive<K>,
+        listener: &TcpListener,
+    ) -> Result<(), Fail> {
+        let stream = done_client(rt, listener, PUT)?;
+        expect_two_left(rt, abort, archive, listener);
+        expect_received(abort, rt.alloc(), &stream, UNAVAILABLE)
+    }
+}
+
+/// An archive whose keeper is shut.
+fn shut_archive(alloc: Global) -> Result<Archive<Shut<PlainKeeper>>, Fail> {
+    let inner = archive_of(alloc, BOX)?.into_keeper();
+    Ok(Archive::new(Shut { inner }))
+}
+
 /// Behind a 507 of a keeper that is shut the serving ends, and says how many connections are left.
 #[test]
 fn a_shut_keeper_ends_the_serving(rt: HostRuntime) -> Result<(), Fail> {
-    let alloc = rt.alloc();
-    let inner = archive_of(alloc, BOX)?.into_keeper();
-    let mut archive = Archive::new(Shut { inner });
-    let listener = TcpListener::bind(&rt, "127.0.0.1:0")?;
-    let stream = delivering(&rt, &listener)?;
-    expect_two_left(&rt, &rt, &mut archive, &listener);
-    expect_received(&rt, alloc, stream, UNAVAILABLE)
+    on_loopback(&rt, &rt, &mut shut_archive(rt.alloc())?, &Delivering)
 }

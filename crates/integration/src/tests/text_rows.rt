@@ -1,6 +1,7 @@
 //! Rows of metadata, texts and dates.
 
 use super::checks::{holds, same};
+use super::databases::{Check, Edit, check_new, in_transaction};
 use sqlite::{Alter, Connection, Error, Transaction};
 use std::alloc::Global;
 use std::process::Abort;
@@ -10,53 +11,52 @@ use tables::meta::{insert_meta, select_meta};
 use tables::schema::create_tables;
 use tables::texts::{insert_text, select_text, select_texts, update_text};
 
-// These have no clause, so that the proof of a test does not carry the state of each call.
-fn fill<S: Alter>(tx: &mut Transaction<'_, S>) -> Result<(), Error> {
-    insert_meta(tx, 3, b"Codename: box\n")?;
-    insert_text(tx, "a/Release", b"one")?;
-    insert_text(tx, "b/Release", b"two")?;
-    insert_date(tx, "box", 4_102_444_799)
-}
+/// Makes the tables, with two texts and a date.
+#[derive(Clone, Copy)]
+struct Making;
 
-fn change<S: Alter>(tx: &mut Transaction<'_, S>) -> Result<(), Error> {
-    update_text(tx, "b/Release", b"three")?;
-    update_text(tx, "c/Release", b"four")?;
-    update_date(tx, "box", 0)
-}
-
-fn make<S: Alter>(conn: &mut Connection<S>) -> Result<(), Error> {
-    if !conn.is_autocommit() {
-        return Ok(());
+impl Edit for Making {
+    fn edit<S: Alter>(&self, _alloc: Global, tx: &mut Transaction<'_, S>) -> Result<usize, Error> {
+        create_tables(tx)?;
+        insert_meta(tx, 3, b"Codename: box\n")?;
+        insert_text(tx, "a/Release", b"one")?;
+        insert_text(tx, "b/Release", b"two")?;
+        insert_date(tx, "box", 4_102_444_799)?;
+        Ok(0)
     }
-    let mut tx = conn.transaction();
-    create_tables(&mut tx)?;
-    fill(&mut tx)?;
-    tx.commit()
 }
 
-fn amend<S: Alter>(conn: &mut Connection<S>) -> Result<(), Error> {
-    if !conn.is_autocommit() {
-        return Ok(());
+/// Changes a text, one that is not there, and the date.
+#[derive(Clone, Copy)]
+struct Amending;
+
+impl Edit for Amending {
+    fn edit<S: Alter>(&self, _alloc: Global, tx: &mut Transaction<'_, S>) -> Result<usize, Error> {
+        update_text(tx, "b/Release", b"three")?;
+        update_text(tx, "c/Release", b"four")?;
+        update_date(tx, "box", 0)?;
+        Ok(0)
     }
-    let mut tx = conn.transaction();
-    change(&mut tx)?;
-    tx.commit()
 }
 
-/// Adds a text twice; the transaction is left behind.
-fn add_twice<S: Alter>(conn: &mut Connection<S>) -> Result<(), Error> {
-    if !conn.is_autocommit() {
-        return Ok(());
+/// Adds two texts of one path.
+#[derive(Clone, Copy)]
+struct AddingTwice;
+
+impl Edit for AddingTwice {
+    fn edit<S: Alter>(&self, _alloc: Global, tx: &mut Transaction<'_, S>) -> Result<usize, Error> {
+        insert_text(tx, "d/Release", b"five")?;
+        insert_text(tx, "d/Release", b"six")?;
+        Ok(0)
     }
-    let mut tx = conn.transaction();
-    insert_text(&mut tx, "d/Release", b"five")?;
-    insert_text(&mut tx, "d/Release", b"six")
 }
 
+/// The version of the tables.
 fn version<S: Alter>(alloc: Global, conn: &mut Connection<S>) -> Result<Option<u64>, Error> {
     Ok(select_meta(alloc, conn)?.map(|meta| meta.version))
 }
 
+/// The text at a path.
 fn text<S: Alter>(
     alloc: Global,
     conn: &mut Connection<S>,
@@ -65,10 +65,12 @@ fn text<S: Alter>(
     Ok(select_text(alloc, conn, path)?.map(|text| text.body.into_vec()))
 }
 
+/// The date.
 fn moment<S: Alter>(alloc: Global, conn: &mut Connection<S>) -> Result<Option<u64>, Error> {
     Ok(select_date(alloc, conn, "box")?.map(|date| date.moment))
 }
 
+/// How many texts and dates there are.
 fn counts<S: Alter>(alloc: Global, conn: &mut Connection<S>) -> Result<(usize, usize), Error> {
     let texts = select_texts(alloc, conn)?.len();
     let dates = select_dates(alloc, conn)?.len();
@@ -115,31 +117,71 @@ fn expect_rows<S: Alter>(
 }
 
 /// Rows are read as they were put in, and as they were changed.
+#[derive(Clone, Copy)]
+struct Changing;
+
+impl Check for Changing {
+    fn check<R: Abort, S: Alter>(
+        &self,
+        rt: &R,
+        alloc: Global,
+        conn: &mut Connection<S>,
+    ) -> Result<(), Fail> {
+        in_transaction(alloc, conn, &Making)?;
+        expect_rows(rt, alloc, conn, b"two", 4_102_444_799)?;
+        in_transaction(alloc, conn, &Amending)?;
+        expect_rows(rt, alloc, conn, b"three", 0)
+    }
+}
+
+/// Rows are read as they were put in, and as they were changed.
 #[test]
 fn rows_are_kept_and_changed(rt: HostRuntime) -> Result<(), Fail> {
-    let alloc = rt.alloc();
-    let mut conn = Connection::open_in_memory(alloc)?;
-    make(&mut conn)?;
-    expect_rows(&rt, alloc, &mut conn, b"two", 4_102_444_799)?;
-    amend(&mut conn)?;
-    expect_rows(&rt, alloc, &mut conn, b"three", 0)
+    check_new(&rt, rt.alloc(), &Changing)
+}
+
+/// A second row of one path is refused, and the rows stay.
+#[derive(Clone, Copy)]
+struct PathOnce;
+
+impl Check for PathOnce {
+    fn check<R: Abort, S: Alter>(
+        &self,
+        rt: &R,
+        alloc: Global,
+        conn: &mut Connection<S>,
+    ) -> Result<(), Fail> {
+        in_transaction(alloc, conn, &Making)?;
+        holds(rt, in_transaction(alloc, conn, &AddingTwice).is_err());
+        expect_counts(rt, alloc, conn)
+    }
 }
 
 /// A second row of one path is refused, and the rows stay.
 #[test]
 fn a_path_comes_once(rt: HostRuntime) -> Result<(), Fail> {
-    let alloc = rt.alloc();
-    let mut conn = Connection::open_in_memory(alloc)?;
-    make(&mut conn)?;
-    holds(&rt, add_twice(&mut conn).is_err());
-    expect_counts(&rt, alloc, &mut conn)
+    check_new(&rt, rt.alloc(), &PathOnce)
+}
+
+/// Tables that are there are not made again.
+#[derive(Clone, Copy)]
+struct TablesOnce;
+
+impl Check for TablesOnce {
+    fn check<R: Abort, S: Alter>(
+        &self,
+        rt: &R,
+        alloc: Global,
+        conn: &mut Connection<S>,
+    ) -> Result<(), Fail> {
+        in_transaction(alloc, conn, &Making)?;
+        holds(rt, in_transaction(alloc, conn, &Making).is_err());
+        Ok(())
+    }
 }
 
 /// Tables that are there are not made again.
 #[test]
 fn tables_are_made_once(rt: HostRuntime) -> Result<(), Fail> {
-    let mut conn = Connection::open_in_memory(rt.alloc())?;
-    make(&mut conn)?;
-    holds(&rt, make(&mut conn).is_err());
-    Ok(())
+    check_new(&rt, rt.alloc(), &TablesOnce)
 }

@@ -1,15 +1,17 @@
 //! The uploads that want something are found without a look at those that were judged.
 
-use super::checks::holds;
+use super::checks::{holds, same};
+use super::databases::{Check, Edit, check_new, in_transaction};
 use sqlite::{Alter, Connection, Error, Transaction};
 use std::alloc::Global;
+use std::process::Abort;
 use std::test::Fail;
 use sums::print_of;
 use tables::schema::create_tables;
 use tables::uploads::{insert_upload, judged_uploads, set_verdict, upload_numbered};
 use tables::wants::{insert_want, next_wanting};
 
-// These have no clause, so that the proof of a test does not carry the state of each call.
+/// Adds an upload that is judged, at a place.
 fn add_judged<S: Alter>(tx: &mut Transaction<'_, S>, place: u64) -> Result<(), Error> {
     let id = insert_upload(tx, "a.changes", &print_of(&place.to_le_bytes()))?;
     set_verdict(tx, id, place, 0)
@@ -31,17 +33,20 @@ fn add_all_judged<S: Alter>(tx: &mut Transaction<'_, S>, judged: u64) -> Result<
     Ok(())
 }
 
-/// Makes an upload that waits, so many that are judged, and another one that waits.
-fn make<S: Alter>(conn: &mut Connection<S>, judged: u64) -> Result<(), Error> {
-    if !conn.is_autocommit() {
-        return Ok(());
+/// Makes the tables, with an upload that waits, so many that are judged, and another one that waits.
+#[derive(Clone, Copy)]
+struct Making {
+    judged: u64,
+}
+
+impl Edit for Making {
+    fn edit<S: Alter>(&self, _alloc: Global, tx: &mut Transaction<'_, S>) -> Result<usize, Error> {
+        create_tables(tx)?;
+        add_waiting(tx, "b.changes")?;
+        add_all_judged(tx, self.judged)?;
+        add_waiting(tx, "c.changes")?;
+        Ok(0)
     }
-    let mut tx = conn.transaction();
-    create_tables(&mut tx)?;
-    add_waiting(&mut tx, "b.changes")?;
-    add_all_judged(&mut tx, judged)?;
-    add_waiting(&mut tx, "c.changes")?;
-    tx.commit()
 }
 
 /// The numbers of the first three uploads that want something.
@@ -60,23 +65,35 @@ fn is_there<S: Alter>(alloc: Global, conn: &mut Connection<S>, id: u64) -> Resul
     Ok(upload_numbered(alloc, conn, id)?.is_some())
 }
 
+/// Whether the uploads that are judged can be read.
 fn can_read_judged<S: Alter>(alloc: Global, conn: &mut Connection<S>) -> bool {
     judged_uploads(alloc, conn).is_ok()
 }
 
 /// Ten steps, of which a scan takes one for each row, are enough among 300 uploads.
+#[derive(Clone, Copy)]
+struct TenSteps;
+
+impl Check for TenSteps {
+    fn check<R: Abort, S: Alter>(
+        &self,
+        rt: &R,
+        alloc: Global,
+        conn: &mut Connection<S>,
+    ) -> Result<(), Fail> {
+        in_transaction(alloc, conn, &Making { judged: 300 })?;
+        conn.set_step_limit(Some(10));
+        let wanted = (Some(1), Some(302), None);
+        same(rt, &first_three(alloc, conn)?, &wanted);
+        holds(rt, is_there(alloc, conn, 302)?);
+        holds(rt, !is_there(alloc, conn, 303)?);
+        holds(rt, !can_read_judged(alloc, conn));
+        Ok(())
+    }
+}
+
+/// Ten steps, of which a scan takes one for each row, are enough among 300 uploads.
 #[test]
 fn judged_uploads_are_not_read(rt: HostRuntime) -> Result<(), Fail> {
-    let alloc = rt.alloc();
-    let mut conn = Connection::open_in_memory(alloc)?;
-    make(&mut conn, 300)?;
-    conn.set_step_limit(Some(10));
-    holds(
-        &rt,
-        first_three(alloc, &mut conn)? == (Some(1), Some(302), None),
-    );
-    holds(&rt, is_there(alloc, &mut conn, 302)?);
-    holds(&rt, !is_there(alloc, &mut conn, 303)?);
-    holds(&rt, !can_read_judged(alloc, &mut conn));
-    Ok(())
+    check_new(&rt, rt.alloc(), &TenSteps)
 }
