@@ -1,6 +1,6 @@
 -- A removal by prints on what the book shows, and in the plain archive: the same.
-use Rattle.std.proofs.Common.{◌≡◌, ℕ, Bool, true, false, cond, not, ◌&&◌, ◌||◌, List, [], ◌∷◌, map, filter, length, Option, Some, None, option_to_list, fold, nat_eq, nat_lt, Ok, refl, sym, ap, ◌∙◌, subst, append-nil}
-use Rattle.std.specs.Prelude.{Contains, bytes_eq}
+use Rattle.std.proofs.Common.{◌≡◌, ℕ, Bool, true, false, cond, not, ◌&&◌, ◌||◌, List, [], ◌∷◌, map, filter, length, Option, Some, None, fold, nat_eq, nat_lt, Ok, refl, sym, ap, ◌∙◌, subst, append-nil}
+use Rattle.std.specs.Prelude.{Contains}
 use Rattle.std.specs.FinMap.{entries, get, values}
 use Rattle.std.specs.List.{enumerate_from, list_any}
 use mathlib.Core.Path.{fun_ext}

@@ -1,15 +1,14 @@
 -- A removal: what is shown of the items that are left, and the step that takes the others away.
-use Rattle.std.proofs.Common.{◌≡◌, ◌≢◌, ℕ, Bool, true, false, cond, not, ◌&&◌, List, [], ◌∷◌, ◌++◌, filter, map, refl, sym, ap, subst, ◌∙◌, Option, Some, None}
-use Rattle.std.specs.Prelude.{Contains, IsTrue, T, All, is_some, bytes_eq, nat_eq}
+use Rattle.std.proofs.Common.{◌≡◌, ◌≢◌, ℕ, Bool, true, false, cond, not, ◌&&◌, List, [], ◌∷◌, ◌++◌, filter, refl, sym, ap, subst, ◌∙◌, Option, Some, None}
+use Rattle.std.specs.Prelude.{Contains, is_some, bytes_eq, nat_eq}
 use Rattle.std.specs.Option.{option_map_or}
 use Rattle.std.specs.Ordering.{eq_by_cmp}
-use Rattle.std.specs.Cmp.{eq_by_cmp_equiv}
-use Rattle.std.specs.FinMap.{FinMap, entries, values, find, get, insert, get-from_entries, get-insert, get-entries, entries_sorted, same_map, is_sorted}
+use Rattle.std.specs.FinMap.{entries, values, find, get, insert, get-from_entries, get-insert, get-entries, entries_sorted, same_map}
 use Rattle.std.proofs.lemmas.List.Elements.{All-contains, All-nil, filter-append}
-use Rattle.sums.proofs.Members.{all_from, contains_map}
+use Rattle.sums.proofs.Members.{all_from}
 use Rattle.sums.specs.declared.print.Print.{Print}
 use Rattle.rules.specs.declared.suite.Suite.{Suite}
-use Rattle.suites.specs.Change.{IsChange, with_all, without}
+use Rattle.suites.specs.Change.{IsChange, with_all}
 use Rattle.suites.specs.Items.{IsAtHome}
 use Rattle.suites.specs.Keys.{key_order}
 use Rattle.suites.specs.KeyLemmas.{key_order_total, key_order-IsAntisymmetric}
@@ -21,7 +20,7 @@ use Rattle.suites.specs.Told.{AreTold, IsTold, is_kept_by}
 use Rattle.suites.specs.declared.item.Item.{Item}
 use Rattle.suites.specs.declared.key.ShelfKey.{ShelfKey}
 use Rattle.suites.specs.declared.plan.Plan.{Plan}
-use Rattle.suites.proofs.EntryLemmas.{found_at, same_keys, sorted-filter}
+use Rattle.suites.proofs.EntryLemmas.{same_keys, sorted-filter}
 use Rattle.suites.proofs.FileMembers.{entry_shown, files_contain, item_of_file, shown_entry, shown_value, value_shown}
 use Rattle.suites.proofs.HeldLemmas.{append_nil, by_pushes}
 use Rattle.suites.proofs.ListMembers.{from_filter}

@@ -1,4 +1,4 @@
--- What an upload and a copy change.
+-- What an upload, a copy and a removal change.
 use Rattle.std.specs.Prelude.{◌≡◌, ℕ, Bool, List, [], ◌∷◌, map, filter, bytes_eq, Option, option_to_list, ◌&&◌, nat_eq, slice_get, length}
 use Rattle.std.specs.List.{flat_map, enumerate_from}
 use Rattle.std.specs.FinMap.{entries}

@@ -1,10 +1,8 @@
 use Rattle.std.proofs.Common.{List, sym, ap, subst, ◌∙◌}
 use Rattle.suites.specs.Plan.{references}
 use Rattle.suites.specs.PoolChange.{ListsExactly, gained, lost}
-use Rattle.suites.specs.declared.item.PoolFile.{PoolFile}
 use Rattle.suites.specs.declared.plan.Plan.{Plan}
 use Rattle.suites.specs.declared.plan.Reference.{Reference}
-use Rattle.std.specs.Prelude.{IfOk}
 use Rattle.std.proofs.lemmas.Result.{IfOk-weaker}
 use Rattle.suites.proofs.AdmissionStep.{admission-step}
 use Rattle.suites.proofs.admission.plan_admission.Goals as goal

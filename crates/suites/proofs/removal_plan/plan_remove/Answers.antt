@@ -1,7 +1,6 @@
-use Rattle.std.proofs.Common.{◌≡◌, List, [], ap, subst, ◌∙◌}
+use Rattle.std.proofs.Common.{List, subst, ◌∙◌}
 use Rattle.std.proofs.lemmas.Result.{IfOk-weaker}
 use Rattle.suites.specs.PoolChange.{IsPlanOf}
-use Rattle.suites.specs.Plan.{removed}
 use Rattle.suites.specs.declared.item.Item.{Item}
 use Rattle.suites.specs.declared.key.ShelfKey.{ShelfKey}
 use Rattle.suites.specs.declared.plan.Plan.{Plan}
