@@ -16,7 +16,6 @@ pub struct PoolFile {
 }
 
 /// A source or a package of an accepted upload. The paragraph is the text of its .dsc or sidecar as delivered.
-#[derive(Drop)]
 pub struct Item {
     pub kind: Kind,
     pub package: Text,
@@ -26,6 +25,22 @@ pub struct Item {
     pub source: Text,
     pub paragraph: Text,
     pub files: Listed<PoolFile>,
+}
+
+// Written out, so that a caller does not prove again how each part is dropped.
+impl Drop for Item {
+    fn drop(self) {
+        let Item {
+            kind: _,
+            package: _,
+            architecture: _,
+            version: _,
+            component: _,
+            source: _,
+            paragraph: _,
+            files: _,
+        } = self;
+    }
 }
 
 impl PoolFile {

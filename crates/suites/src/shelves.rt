@@ -91,6 +91,13 @@ fn copied_files(
     Ok(copy)
 }
 
+/// Copies of the key of a shelf and of an item.
+fn copied(alloc: Global, key: &ShelfKey, item: &Item) -> Result<(ShelfKey, Item), AllocError>
+    ensures { IfOk result (λ copy. copy ≡ (key.now, item.now)) }
+{
+    Ok((key.try_clone()?, item.try_clone(alloc)?))
+}
+
 /// Copies of what a plan puts where these items are shown.
 fn copied_arrivals(
     alloc: Global,
@@ -103,7 +110,7 @@ fn copied_arrivals(
     let mut new = Vec::new(alloc);
     let mut replacing = Vec::new(alloc);
     for (key, item) in put {
-        let copy = (key.try_clone()?, item.try_clone(alloc)?);
+        let copy = copied(alloc, key, item)?;
         if items.contains_key(key) {
             replacing.push(copy)?;
         } else {

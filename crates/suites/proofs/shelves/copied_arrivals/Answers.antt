@@ -11,7 +11,7 @@ use Rattle.suites.specs.declared.key.ShelfKey.{ShelfKey}
 use Rattle.suites.proofs.ItemChanges.{kept_more, left_more}
 use Rattle.suites.proofs.MapLemmas.{get-view}
 use Rattle.suites.proofs.shelves.copied_arrivals.Goals as goal
-use Rattle.suites.proofs.shelves.copied_arrivals.Goals.{then-contains_key+in_ok-push, else-contains_key+in_ok-try_clone-3+in_ok-push-2+in_ok-push-3}
+use Rattle.suites.proofs.shelves.copied_arrivals.Goals.{then-contains_key+in_ok-push, else-contains_key+in_ok-try_clone+in_ok-push-2+in_ok-push-3}
 
 items_of : Vec (ShelfKey × Item) Global → List (ShelfKey × Item)
 items_of v = v.items
@@ -24,7 +24,7 @@ loop-key-preserved c =
     let put = c.args.put.now in
     let shelves : ShelvesValue = from_entries {R = key_order} c.args.items.now.entries in
     let shown : c.contains_key.result ≡ contains_key shelves e.0 = c.contains_key.ensures ∙ ap is_some (sym (get-view key_order_total c.args.items.now e.0)) in
-    let copy : ◌≡◌ {A = ShelfKey × Item} (c.in_ok-try_clone.field-0, c.in_ok-try_clone-2.field-0) e = λ j. (c.in_ok-try_clone.ensures j, c.in_ok-try_clone-2.ensures j) in
+    let copy : ◌≡◌ {A = ShelfKey × Item} c.in_ok-copy.copy e = c.in_ok-copy.ensures in
     elim c.if-contains_key.branch [
       | then-contains_key+in_ok-push w ↦ record {
         new = ap items_of w.new-is ∙ c.loop-key.invariant.new
@@ -34,13 +34,13 @@ loop-key-preserved c =
             ∙ (λ j. c.loop-key.invariant.replacing j ++ copy j ∷ [])
             ∙ kept_more (is_replacing shelves) put i e c.loop-key-test.true c.loop-key-item.is (sym shown ∙ w.if-contains_key.true);
       }
-      | else-contains_key+in_ok-try_clone-3+in_ok-push-2+in_ok-push-3 w ↦ record {
+      | else-contains_key+in_ok-try_clone+in_ok-push-2+in_ok-push-3 w ↦ record {
         new = ap items_of w.new-is ∙ w.in_ok-push-3.ensures.items
             ∙ (λ j. c.loop-key.invariant.new j ++ copy j ∷ [])
             ∙ kept_more (is_new shelves) put i e c.loop-key-test.true c.loop-key-item.is (ap not (sym shown ∙ w.if-contains_key.false));
         keys = ap (λ (v : Vec ShelfKey Global). v.items) w.new_keys-is ∙ w.in_ok-push-2.ensures.items
-            ∙ (λ j. c.loop-key.invariant.keys j ++ ((w.in_ok-try_clone-3.ensures ∙ sym c.in_ok-try_clone.ensures) j) ∷ [])
-            ∙ sym (ap (map (λ e. e.0)) (ap items_of w.new-is ∙ w.in_ok-push-3.ensures.items) ∙ map-append (λ e. e.0) c.loop-key.new.items ((c.in_ok-try_clone.field-0, c.in_ok-try_clone-2.field-0) ∷ []));
+            ∙ (λ j. c.loop-key.invariant.keys j ++ ((w.in_ok-try_clone.ensures ∙ sym (ap (λ (p : ShelfKey × Item). p.0) copy)) j) ∷ [])
+            ∙ sym (ap (map (λ e. e.0)) (ap items_of w.new-is ∙ w.in_ok-push-3.ensures.items) ∙ map-append (λ e. e.0) c.loop-key.new.items (c.in_ok-copy.copy ∷ []));
         replacing = ap items_of w.replacing-is ∙ c.loop-key.invariant.replacing
             ∙ left_more (is_replacing shelves) put i e c.loop-key-test.true c.loop-key-item.is (sym shown ∙ w.if-contains_key.false);
       }
