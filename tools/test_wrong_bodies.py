@@ -157,6 +157,18 @@ class WrongBodies(unittest.TestCase):
         self.assertEqual(tool.result_of("BAD EDIT: it did not reach the prover"), "bad")
         self.assertIsNone(tool.result_of("NOT TRIED: its check was killed"))
 
+    def test_what_the_compiler_has_to_refuse(self):
+        text = "error: mismatched-types\nfile: src/lib.rt\nold: one() + 1\nnew: b\"2\"\n"
+        self.write("tools/wrong_bodies/low/is_text.edit", text)
+        is_text, is_two = self.edit("is_text"), self.written("is_two", "    1", "    2")
+        self.assertEqual((tool.error_of(is_text), tool.error_of(is_two)), ("mismatched-types", None))
+        self.assertEqual(tool.faults_in(str(self.root)), [])
+        self.assertEqual([[*it] for it in self.groups(is_text, is_two)], [[is_two]])
+        said = "BAD EDIT: it did not reach the prover; the first lines of what it said:\nsrc/lib.rt:6:5: error[mismatched-types]: no"
+        self.assertEqual([tool.result_of(said, it) for it in ("mismatched-types", "unknown-name", None)], ["refused", "bad", "bad"])
+        self.write("crates/low/must-fail/is_bytes.edit", text)
+        self.assert_fault("the gate has none that the compiler refuses")
+
 
 if __name__ == "__main__":
     unittest.main()

@@ -1,11 +1,9 @@
 //! Paragraphs and their fields.
 
 ghost use Rattle.std.specs.Prelude.{◌≡◌};
-ghost use Rattle.std.specs.List.{find};
 ghost use Rattle.std.specs.Option.{option_map};
-ghost use Rattle.std.specs.Str.{str_eq_ignore_ascii_case};
 
-use crate::line::is_same_name;
+use crate::named::{Named, find_named};
 use std::marker::Model;
 
 /// A field of a paragraph, in slices of the text that it was read from.
@@ -25,10 +23,12 @@ pub struct Paragraph<'a> {
     pub(crate) fields: Vec<Field<'a>>,
 }
 
-fn find_field<'s, 'a>(fields: &'s [Field<'a>], name: &str) -> Option<&'s Field<'a>>
-    ensures { option_map (λ field. field.now) result ≡ find (λ field. str_eq_ignore_ascii_case field.name.now name.now) fields.now }
-{
-    fields.iter().find(|field| is_same_name(field.name, name))
+impl<'a> Named for Field<'a> {
+    ghost name_of = { λ field. field.name.now };
+
+    fn name(&self) -> &str {
+        self.name
+    }
 }
 
 impl<'a> Model for Paragraph<'a> {
@@ -55,6 +55,6 @@ impl<'a> Paragraph<'a> {
     pub fn get(&self, name: &str) -> Option<&Field<'a>>
         ensures { option_map (λ f. field_value f.now) result ≡ field_named name.now self.now }
     {
-        find_field(&self.fields, name)
+        find_named(&self.fields, name)
     }
 }

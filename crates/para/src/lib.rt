@@ -6,6 +6,7 @@ mod fault;
 mod field;
 mod laws;
 mod line;
+mod named;
 mod print;
 mod read;
 mod reader;

@@ -1,8 +1,9 @@
 //! What a field's value says.
 
-ghost use Rattle.std.specs.Prelude.{◌≡◌, ◌++◌, OnOk, IfOk, IfErr, map};
+ghost use Rattle.std.specs.Prelude.{◌≡◌, ◌++◌, if◌then◌else◌, OnOk, IfOk, IfErr, Some, None, map};
 ghost use Rattle.std.specs.Option.{option_map};
 ghost use Rattle.para.specs.declared.fault.ParaFault.TheVariants.{OutOfMemory};
+ghost use Rattle.para.specs.Bytes.{is_nil};
 ghost use Rattle.para.specs.Field.{field_value};
 ghost use Rattle.para.specs.Value.{simple_value, words, folded_value};
 
@@ -11,15 +12,18 @@ use crate::fault::ParaFault;
 use crate::field::Field;
 use std::alloc::{AllocError, Global};
 
+/// The first line, where no line follows it. No allocator can be reached here, so no memory is taken.
+fn only_line<'a>(first: &'a str, more: &[&str]) -> Option<&'a str>
+    ensures { option_map (λ line. line.now) result ≡ (if is_nil (map (λ line. line.now) more.now) then Some first.now else None) }
+{
+    if more.is_empty() { Some(first) } else { None }
+}
+
 /// The value of a field that has one line, and nothing where it has more (Debian Policy 5.1).
 pub fn simple<'a>(field: &Field<'a>) -> Option<&'a str>
     ensures { option_map (λ value. value.now) result ≡ simple_value (field_value field.now) }
 {
-    if field.more.is_empty() {
-        Some(field.first)
-    } else {
-        None
-    }
+    only_line(field.first, &field.more)
 }
 
 fn push_words<'a>(found: &mut Vec<&'a str>, line: &'a str) -> Result<(), AllocError>

@@ -4,7 +4,7 @@ use Rattle.std.specs.Prelude.{◌≡◌, ℕ, Bool, not, ◌||◌, List, [], ◌
 use Rattle.std.specs.Option.{option_map_or}
 use Rattle.std.specs.List.{list_any}
 use Rattle.records.specs.Values.{ChangesValue}
-use Rattle.rules.specs.Suites.{claiming, keeps_architecture, keeps_component, allows, component_of}
+use Rattle.rules.specs.Suites.{claiming, claiming_among, keeps_architecture, keeps_component, allows, component_of}
 use Rattle.rules.specs.Verdicts.{Row}
 use Rattle.rules.specs.Values.{ConfigValue}
 use Rattle.rules.specs.declared.suite.Suite.{Suite}
@@ -50,3 +50,21 @@ abbrev pub IsPlace : ConfigValue → ChangesValue → Place → Type 0
 IsPlace config c place =
     (claiming c.distribution config.suites ≡ Some place.suite)
     × (option_and_then (λ s. position (bytes_eq (component c)) s.components) (suite_of config c) ≡ Some place.component)
+
+-- ---- the same, where a function says which suites the elements of a list are
+
+-- the element that claims the distribution of the .changes
+unfoldable pub claimant : {S : Type 0} → (S → Suite) → List S → ChangesValue → Option S
+claimant suite suites c = option_and_then (slice_get suites) (claiming_among suite c.distribution suites)
+
+-- the rows of the verdicts 1 to 4
+abbrev pub rows_among : {S : Type 0} → (S → Suite) → List S → ChangesValue → List Row
+rows_among suite suites c =
+    (is_none (claimant suite suites c), verdict.Unclaimed)
+    ∷ option_map_or (λ s. suite_rows (suite s) c) (claimant suite suites c) []
+
+-- the positions of the element and of the component in its suite
+abbrev pub IsPlaceAmong : {S : Type 0} → (S → Suite) → List S → ChangesValue → Place → Type 0
+IsPlaceAmong suite suites c place =
+    (claiming_among suite c.distribution suites ≡ Some place.suite)
+    × (option_and_then (λ s. position (bytes_eq (component c)) (suite s).components) (claimant suite suites c) ≡ Some place.component)

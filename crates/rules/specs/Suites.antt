@@ -20,6 +20,10 @@ claims distribution s = is_among (distributions s) distribution
 abbrev pub claiming : List ℕ → List Suite → Option ℕ
 claiming distribution suites = position (claims distribution) suites
 
+-- the same, where a function says which suites the elements are
+abbrev pub claiming_among : {S : Type 0} → (S → Suite) → List ℕ → List S → Option ℕ
+claiming_among suite distribution suites = position (λ s. claims distribution (suite s)) suites
+
 -- An architecture that the suite keeps. Items of `all` are kept where there is an index for them.
 unfoldable pub keeps_architecture : Suite → List ℕ → Bool
 keeps_architecture s name =

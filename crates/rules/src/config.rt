@@ -7,7 +7,7 @@ ghost use Rattle.rules.specs.Configuration.{config_in};
 use crate::checks::check;
 use crate::fault::ConfigFault;
 use crate::paragraph::suites_of;
-use crate::suite::Suite;
+use crate::suite::{Suite, position_of_claiming};
 use para::{Listed, read_many};
 use std::alloc::Global;
 use std::marker::Model;
@@ -82,8 +82,6 @@ impl Config {
     pub fn suite_for(&self, distribution: &str) -> Option<usize>
         ensures { result ≡ claiming distribution.now self.now.suites }
     {
-        self.suites()
-            .iter()
-            .position(|suite| suite.claims(distribution))
+        position_of_claiming(self.suites(), distribution)
     }
 }

@@ -6,6 +6,7 @@ mod config;
 mod fault;
 mod judgement;
 mod laws;
+mod lent;
 mod names;
 mod paragraph;
 mod suite;

@@ -1,20 +1,27 @@
 //! Lists of names.
 
-ghost use Rattle.std.specs.Prelude.{◌≡◌, ◌||◌, IfOk, OnOk, map, ℕ, List};
+ghost use Rattle.std.specs.Prelude.{◌≡◌, ◌||◌, IfOk, OnOk, bytes_eq, map, position, ℕ, List};
 ghost use Rattle.std.specs.List.{list_all, list_any};
 ghost use Rattle.records.specs.Names.{is_plain_name};
-ghost use Rattle.records.specs.Records.{is_among};
 ghost use Rattle.rules.specs.Paragraphs.{is_listed_architecture};
 
+use crate::lent::Spelled;
 use para::{Listed, Text};
 use records::{is_architecture, is_plain};
 use std::alloc::{AllocError, Global};
 
 /// Whether the name is one of the names.
-pub fn is_one_of(names: &[Text], name: &str) -> bool
-    ensures { result ≡ is_among names.now name.now }
+pub fn is_one_of<N: Spelled>(names: &[N], name: &str) -> bool
+    ensures { result ≡ list_any (λ other. bytes_eq name.now (N.spelling other)) names.now }
 {
-    names.iter().any(|other| name == other.as_str())
+    names.iter().any(|other| name == other.spelled())
+}
+
+/// The position of the name among the names.
+pub fn position_of<N: Spelled>(names: &[N], name: &str) -> Option<usize>
+    ensures { result ≡ position (λ other. bytes_eq name.now (N.spelling other)) names.now }
+{
+    names.iter().position(|other| name == other.spelled())
 }
 
 /// Whether each word is a plain name.

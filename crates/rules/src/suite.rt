@@ -1,12 +1,13 @@
 //! Suites: what each claims, keeps and allows.
 
-ghost use Rattle.std.specs.Prelude.{◌≡◌, ◌==◌, not, Bool};
+ghost use Rattle.std.specs.Prelude.{◌≡◌, ◌==◌, ◌∷◌, ◌++◌, if◌then◌else◌, not, Bool, option_to_list};
 ghost use Rattle.std.specs.Prelude.{bytes_eq, codes};
 ghost use Rattle.std.specs.List.{list_any};
-ghost use Rattle.rules.specs.Suites.{claims, keeps_architecture, keeps_component, allows, component_of};
+ghost use Rattle.rules.specs.Suites.{claims, claiming_among, keeps_architecture, keeps_component, allows, component_of};
 
-use crate::names::is_one_of;
-use crate::uploader::{Rule, some_allows};
+use crate::lent::{Judging, Spelled};
+use crate::names::{is_one_of, position_of};
+use crate::uploader::{Rule, lines_allow};
 use para::{Listed, Text};
 
 /// A suite of the configuration (own rules of this archive).
@@ -33,10 +34,40 @@ pub struct Suite {
 }
 
 /// Whether there is another architecture than `source`.
-fn has_binary_architecture(names: &[Text]) -> bool
-    ensures { result ≡ list_any (λ a. not (bytes_eq a (codes "source"))) names.now }
+fn has_binary_architecture<N: Spelled>(names: &[N]) -> bool
+    ensures { result ≡ list_any (λ a. not (bytes_eq (N.spelling a) (codes "source"))) names.now }
 {
-    names.iter().any(|name| name.as_str() != "source")
+    names.iter().any(|name| name.spelled() != "source")
+}
+
+/// Whether items of the architecture are kept where these are listed.
+fn is_kept<N: Spelled>(architectures: &[N], name: &str) -> bool
+    ensures { result ≡ (if bytes_eq name.now (codes "all") then list_any (λ a. not (bytes_eq (N.spelling a) (codes "source"))) architectures.now
+        else list_any (λ a. bytes_eq name.now (N.spelling a)) architectures.now) }
+{
+    if name == "all" {
+        has_binary_architecture(architectures)
+    } else {
+        is_one_of(architectures, name)
+    }
+}
+
+/// Whether the distribution is the codename of a suite, its other name, or one of the further names.
+fn is_claimed<N: Spelled>(
+    codename: &N,
+    other: &Option<N>,
+    further: &[N],
+    distribution: &str,
+) -> bool
+    ensures { result ≡ list_any (λ name. bytes_eq distribution.now (N.spelling name)) (codename.now ∷ option_to_list other.now ++ further.now) }
+{
+    if distribution == codename.spelled() {
+        return true;
+    }
+    match other {
+        Some(name) => distribution == name.spelled() || is_one_of(further, distribution),
+        None => is_one_of(further, distribution),
+    }
 }
 
 impl Suite {
@@ -46,16 +77,12 @@ impl Suite {
     pub fn claims(&self, distribution: &str) -> bool
         ensures { result ≡ claims distribution.now self.now }
     {
-        if distribution == self.codename.as_str() {
-            return true;
-        }
-        match &self.suite {
-            Some(suite) => {
-                distribution == suite.as_str()
-                    || is_one_of(self.also_accept_for.as_slice(), distribution)
-            }
-            None => is_one_of(self.also_accept_for.as_slice(), distribution),
-        }
+        is_claimed(
+            &self.codename,
+            &self.suite,
+            self.also_accept_for.as_slice(),
+            distribution,
+        )
     }
 
     /// Whether items of the architecture are kept: it is one of the suite's Architectures, `source` among them. Items of
@@ -64,11 +91,7 @@ impl Suite {
     pub fn keeps_architecture(&self, name: &str) -> bool
         ensures { result ≡ keeps_architecture self.now name.now }
     {
-        if name == "all" {
-            has_binary_architecture(self.architectures.as_slice())
-        } else {
-            is_one_of(self.architectures.as_slice(), name)
-        }
+        is_kept(self.architectures.as_slice(), name)
     }
 
     /// Whether the component is one of the suite's.
@@ -85,11 +108,39 @@ impl Suite {
     pub fn allows(&self, source: &str, person: &str) -> bool
         ensures { result ≡ allows self.now source.now person.now }
     {
-        match &self.uploaders {
-            Some(rules) => some_allows(rules.as_slice(), source, person),
-            None => true,
-        }
+        lines_allow(&self.uploaders, source, person)
     }
+}
+
+impl Judging for Suite {
+    ghost as_suite = { λ suite. suite };
+
+    fn takes(&self, distribution: &str) -> bool {
+        self.claims(distribution)
+    }
+
+    fn has_architecture(&self, name: &str) -> bool {
+        self.keeps_architecture(name)
+    }
+
+    fn has_component(&self, name: &str) -> bool {
+        self.keeps_component(name)
+    }
+
+    fn component_at(&self, name: &str) -> Option<usize> {
+        position_of(self.components.as_slice(), name)
+    }
+
+    fn admits(&self, source: &str, person: &str) -> bool {
+        self.allows(source, person)
+    }
+}
+
+/// The position of the suite that claims the distribution.
+pub fn position_of_claiming<S: Judging>(suites: &[S], distribution: &str) -> Option<usize>
+    ensures { result ≡ claiming_among S.as_suite distribution.now suites.now }
+{
+    suites.iter().position(|suite| suite.takes(distribution))
 }
 
 /// The component of a section (Debian Policy 2.4): what stands before its first slash, or `main` where it has none.

@@ -1,13 +1,14 @@
 //! Uploader lines: who may upload which source packages.
 
-ghost use Rattle.std.specs.Prelude.{◌≡◌, not, ◌||◌, MatchOption, IfOk, IfErr, nat_eq, codes, map};
-ghost use Rattle.std.specs.Option.{option_map};
+ghost use Rattle.std.specs.Prelude.{◌≡◌, not, ◌||◌, MatchOption, IfOk, IfErr, nat_eq, codes, map, true};
+ghost use Rattle.std.specs.Option.{option_map, option_map_or};
 ghost use Rattle.std.specs.List.{list_all, list_any, starts_with, ends_with};
 ghost use Rattle.para.specs.Bytes.{begins_with_blank};
 ghost use Rattle.records.specs.Names.{is_lower_or_digit, is_package_byte};
 ghost use Rattle.rules.specs.Suites.{fits_source, rule_allows};
 ghost use Rattle.rules.specs.Uploaders.{divided, before_star, is_front, is_pattern, pattern_of, ends_with_blank, is_person, rule_parts, rule_of, is_rule_line, rules_in};
 
+use crate::lent::Allowing;
 use para::{Listed, Text};
 use records::is_package;
 use std::alloc::{AllocError, Global};
@@ -47,21 +48,42 @@ impl SourcePattern {
     }
 }
 
-impl Rule {
-    /// Whether the line allows an upload of the source package by the person.
-    fn allows(&self, source: &str, person: &str) -> bool
-        ensures { result ≡ rule_allows source.now person.now self.now }
-    {
+impl Allowing for Rule {
+    ghost as_rule = { λ rule. rule };
+
+    fn speaks_of(&self, source: &str) -> bool {
         self.source.fits(source)
-            && (self.person.as_str() == "anybody" || self.person.as_str() == person)
+    }
+
+    fn named_person(&self) -> &str {
+        self.person.as_str()
     }
 }
 
-/// Whether some line allows an upload of the source package by the person.
-pub fn some_allows(rules: &[Rule], source: &str, person: &str) -> bool
-    ensures { result ≡ list_any (rule_allows source.now person.now) rules.now }
+/// Whether the line allows an upload of the source package by the person.
+fn line_allows<L: Allowing>(line: &L, source: &str, person: &str) -> bool
+    ensures { result ≡ rule_allows source.now person.now (L.as_rule line.now) }
 {
-    rules.iter().any(|rule| rule.allows(source, person))
+    let named = line.named_person();
+    line.speaks_of(source) && (named == "anybody" || named == person)
+}
+
+/// Whether some line allows an upload of the source package by the person.
+fn some_allows<L: Allowing>(lines: &[L], source: &str, person: &str) -> bool
+    ensures { result ≡ list_any (λ line. rule_allows source.now person.now (L.as_rule line)) lines.now }
+{
+    lines.iter().any(|line| line_allows(line, source, person))
+}
+
+/// Whether the uploader lines allow an upload of the source package by the person. Where there is no such list, everybody
+/// may upload.
+pub fn lines_allow<L: Allowing>(uploaders: &Option<Listed<L>>, source: &str, person: &str) -> bool
+    ensures { result ≡ option_map_or (list_any (λ line. rule_allows source.now person.now (L.as_rule line))) uploaders.now true }
+{
+    match uploaders {
+        Some(lines) => some_allows(lines.as_slice(), source, person),
+        None => true,
+    }
 }
 
 /// The parts of a line round its first ` by `.

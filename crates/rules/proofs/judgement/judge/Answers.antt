@@ -1,9 +1,15 @@
-use Rattle.std.proofs.Common.{ap, ◌∙◌}
-use Rattle.rules.specs.Suites.{keeps_component}
-use Rattle.rules.proofs.JudgeLemmas.{keeps_component-accepted, IfErr-never}
+use Rattle.rules.specs.Judgement.{suite_of, claimant}
+use Rattle.rules.proofs.JudgeLemmas.{rows_among-suites, IfOk-rewritten, IfErr-rewritten}
 use Rattle.rules.proofs.judgement.judge.Goals as goal
 
-pub returns-in-Accepted-clause-refused : goal.returns-in-Accepted-clause-refused
-returns-in-Accepted-clause-refused c =
-    IfErr-never c.place_in.result _ _ c.place_in.ensures.none
-    (ap (keeps_component c.in-Some.claiming.now) c.component_of_changes.ensures ∙ keeps_component-accepted c.in-Some.claiming.now c.args.changes.now c.in-Accepted.ensures)
+pub returns-clause-accepted : goal.returns-clause-accepted
+returns-clause-accepted c =
+    IfOk-rewritten c.judge_among.result _ _ (rows_among-suites c.args.config.now c.args.changes.now _ c.suites.ensures) c.judge_among.ensures.accepted
+
+pub returns-clause-place : goal.returns-clause-place
+unfolding suite_of claimant
+returns-clause-place c = rw c.suites.ensures at c.judge_among.ensures.place
+
+pub returns-clause-refused : goal.returns-clause-refused
+returns-clause-refused c =
+    IfErr-rewritten c.judge_among.result _ _ (rows_among-suites c.args.config.now c.args.changes.now _ c.suites.ensures) c.judge_among.ensures.refused

@@ -20,7 +20,7 @@ found_entry (f ∷ fs) name = map_cond field_value (str_eq_ignore_ascii_case f.n
     ∙ ap (cond (str_eq_ignore_ascii_case f.name.now name) (Some (field_value f))) (found_entry fs name)
 
 pub returns : goal.returns
-returns c = map_map (λ f. f.now) field_value c.find_field.result
-    ∙ ap (option_map field_value) (c.find_field.ensures ∙ ap (find (λ field. str_eq_ignore_ascii_case field.name.now c.args.name.now)) c.deref.ensures.value)
+returns c = map_map (λ f. f.now) field_value c.find_named.result
+    ∙ ap (option_map field_value) (c.find_named.ensures ∙ ap (find (λ field. str_eq_ignore_ascii_case field.name.now c.args.name.now)) c.deref.ensures.value)
     ∙ found_entry c.self.inside.fields.items c.args.name.now
     ∙ ap (find (λ f. str_eq_ignore_ascii_case f.name c.args.name.now)) c.self.view_is
