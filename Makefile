@@ -7,7 +7,7 @@ PROGRAM = crates/archive/out/archive
 .PHONY: try build install test test-long wrong
 
 try:
-	@echo 'The stored files of an upload go through an archive in memory, which prints its index. Compiling takes about a minute.' >&2
+	@echo 'The stored files of an upload go through an archive in memory, which prints its index. Compiling takes about a minute. Nothing is proved by it: its last line says proved=no.' >&2
 	@cd crates/first && rt try -- data/hello_1.0-1_amd64.changes data/hello_1.0-1_amd64.deb data/hello_1.0-1_amd64.control
 
 build:
