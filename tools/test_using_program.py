@@ -134,6 +134,28 @@ class Rules(Case):
         self.assertEqual(self.shell("archive copy --db box.db --at 1 box lab hello"), "2\n")
 
     @needs("dpkg-deb")
+    def test_a_package_is_taken_out_and_brought_back(self):
+        self.made()
+        self.judged()
+        self.assertEqual(self.shell(snippet("remove")), "2\n")
+        self.assertEqual(self.shell(f"archive show --db box.db {PACKAGES}"), "")
+        self.assertEqual(self.judged(), "")
+        self.assertEqual(self.shell(f"archive show --db box.db {PACKAGES}"), "")
+        self.assertEqual(self.shell(snippet("again")), "new again.changes\naccepted again.changes\n")
+        self.assertIn("\nVersion: 1.0-1\n", self.shell(f"archive show --db box.db {PACKAGES}"))
+
+    @needs("dpkg-deb")
+    def test_going_back_to_an_older_version(self):
+        self.made()
+        for version in ("0.9-1", "1.0-1"):
+            self.judged(uploads.Package("hello", version=version, source=True), f"ready{version}")
+        self.shell(snippet("remove"))
+        older = {"ready/hello_1.0-1": "ready0.9-1/hello_0.9-1"}
+        self.assertEqual(self.shell(snippet("again", older)), "new again.changes\naccepted again.changes\n")
+        shown = self.shell(f"archive show --db box.db {PACKAGES}")
+        self.assertEqual(re.findall("^Version: (.*)$", shown, re.M), ["0.9-1"])
+
+    @needs("dpkg-deb")
     def test_a_moment_too_far_ahead_stays(self):
         self.made()
         self.ready()
@@ -219,6 +241,21 @@ class Serving(Case):
         for name in ("hello_1.0-1_amd64.deb", "hello_1.0-1.dsc", "hello_1.0.orig.tar.gz"):
             body = pathlib.Path(self.room.work, name).read_bytes()
             self.assertEqual(body, pathlib.Path(self.room.folder, name).read_bytes())
+
+    @needs("dpkg-deb", "apt-get")
+    def test_a_release_expires_and_is_renewed(self):
+        self.room.write("work/box.conf", snippet("configuration") + "ValidDays: 7\n")
+        self.shell(f"rm box.db*; archive init --db box.db --at {int(time.time()) - 8 * 86_400} box.conf")
+        address = self.at(self.serve())
+        self.room.apt(snippet("trusted", address))
+        self.assertIn(" is expired ", self.fails("apt-get update")[1])
+        self.room.apt(snippet("trusted", {**address, "trusted=yes": "trusted=yes check-valid-until=no"}))
+        self.assertEqual(self.room.run("apt-get update")[0], 0)
+        self.room.end(self.process)
+        self.ready()
+        self.shell('archive put --db box.db --at "$(date +%s)" $(cat files); archive run --db box.db --at "$(date +%s)"')
+        self.room.apt(snippet("trusted", self.at(self.serve())))
+        self.shell("apt-get update && apt-get download hello")
 
     @needs("dpkg-deb", "curl")
     def test_the_commands_of_the_units(self):

@@ -2,7 +2,7 @@
 
 ghost use Rattle.std.specs.Prelude.{IfOk, codes};
 ghost use Rattle.clap.specs.Words.{App, with_subcommand};
-ghost use Rattle.command_line.specs.Shape.{archive_app, new_archive, IsCommand, try_app, compare_app, init_app, put_app, db_app, timed_app, copy_app, show_app, serve_app, with_changes, with_questions};
+ghost use Rattle.command_line.specs.Shape.{archive_app, new_archive, IsCommand, try_app, compare_app, init_app, put_app, db_app, timed_app, copy_app, remove_app, show_app, serve_app, with_changes, with_questions};
 
 use crate::arguments::{at, count, db, log, moments, paths, word};
 use crate::version::VERSION;
@@ -93,6 +93,18 @@ fn copy_command<'a>(alloc: Global) -> Result<Command<'a>, AllocError>
     .arg(word(alloc, "SOURCE", "The name of the source"))
 }
 
+fn remove_command<'a>(alloc: Global) -> Result<Command<'a>, AllocError>
+    ensures { IfOk result (IsCommand remove_app) }
+{
+    timed_command(
+        alloc,
+        "remove",
+        "Removes a package from a suite, prints how many items it showed",
+    )?
+    .arg(word(alloc, "SUITE", "The suite that shows it"))?
+    .arg(word(alloc, "PACKAGE", "The name of the package or source"))
+}
+
 fn show_command<'a>(alloc: Global) -> Result<Command<'a>, AllocError>
     ensures { IfOk result (IsCommand show_app) }
 {
@@ -165,7 +177,8 @@ fn with_changing<'a>(
     let command = with(command, init_command(alloc));
     let command = with(command, put_command(alloc));
     let command = with(command, run_command(alloc));
-    with(command, copy_command(alloc))
+    let command = with(command, copy_command(alloc));
+    with(command, remove_command(alloc))
 }
 
 /// A command with those subcommands that ask an archive, and the one that serves it.

@@ -42,6 +42,13 @@ pub enum CommandLine<'a> {
         to: &'a str,
         source: &'a str,
     },
+    /// Removes all items of a package's name from a suite.
+    Remove {
+        db: &'a str,
+        at: u64,
+        suite: &'a str,
+        name: &'a str,
+    },
     /// Prints an index or a file of the pool.
     Show {
         db: &'a str,

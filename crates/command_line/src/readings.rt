@@ -68,6 +68,17 @@ fn read_copy<'a>(alloc: Global, found: &ArgMatches<'a>) -> Result<CommandLine<'a
     })
 }
 
+fn read_remove<'a>(alloc: Global, found: &ArgMatches<'a>) -> Result<CommandLine<'a>, LineFault>
+    ensures { IfOk result (IsLine (Some (codes "remove", rows_of (found_of found.now)))) }
+{
+    Ok(CommandLine::Remove {
+        db: required(alloc, found, "db")?,
+        at: moment(alloc, found)?,
+        suite: required(alloc, found, "SUITE")?,
+        name: required(alloc, found, "PACKAGE")?,
+    })
+}
+
 fn read_show<'a>(alloc: Global, found: &ArgMatches<'a>) -> Result<CommandLine<'a>, LineFault>
     ensures { IfOk result (IsLine (Some (codes "show", rows_of (found_of found.now)))) }
 {
@@ -122,6 +133,7 @@ pub fn command_of<'a>(
         "put" => read_put(alloc, found),
         "run" => read_run(alloc, found),
         "copy" => read_copy(alloc, found),
+        "remove" => read_remove(alloc, found),
         "show" => read_show(alloc, found),
         "waiting" => read_waiting(alloc, found),
         "verdicts" => read_verdicts(alloc, found),

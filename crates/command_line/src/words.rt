@@ -20,6 +20,7 @@ use std::alloc::Global;
 /// put --db FILE --at N PATH..
 /// run --db FILE --at N
 /// copy --db FILE --at N FROM TO SOURCE
+/// remove --db FILE --at N SUITE PACKAGE
 /// show --db FILE PATH
 /// waiting --db FILE --at N
 /// verdicts --db FILE

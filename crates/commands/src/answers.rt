@@ -91,6 +91,20 @@ pub fn copy<'a, K: Keeper, W: Write>(
     Ok(())
 }
 
+/// Removes all items of a package's name from a suite at a moment, and prints how many the suite showed.
+pub fn remove<'a, K: Keeper, W: Write>(
+    alloc: Global,
+    archive: &mut Archive<K>,
+    at: u64,
+    suite: &str,
+    name: &str,
+    out: &mut W,
+) -> Result<(), Stop<'a>> {
+    let items = archive.remove(alloc, suite, name, at)?;
+    writeln!(out, "{items}")?;
+    Ok(())
+}
+
 /// Prints the bytes of the index or the file of the pool at a path.
 pub fn show<'a, K: Keeper, W: Write>(
     alloc: Global,

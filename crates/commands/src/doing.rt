@@ -161,6 +161,19 @@ fn done<'a, K: InFile + Keeper, W: Write, E: Write>(
                 source,
             },
         ),
+        CommandLine::Remove {
+            db,
+            at,
+            suite,
+            name,
+        } => (
+            *db,
+            Word::Remove {
+                at: *at,
+                suite,
+                name,
+            },
+        ),
         CommandLine::Show { db, path } => (*db, Word::Show { path }),
         CommandLine::Waiting { db, at } => (*db, Word::Waiting { at: *at }),
         CommandLine::Verdicts { db } => (*db, Word::Verdicts),

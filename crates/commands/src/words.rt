@@ -33,6 +33,12 @@ pub enum Word<'w, 'a> {
         to: &'w str,
         source: &'w str,
     },
+    /// Removes a package from a suite, and prints how many items it showed.
+    Remove {
+        at: u64,
+        suite: &'w str,
+        name: &'w str,
+    },
     /// Prints the bytes of the index or the file of the pool at a path.
     Show {
         path: &'w str,
@@ -181,6 +187,9 @@ fn ask<'a, K: Keeper, W: Write>(
             to,
             source,
         } => answers::copy(alloc, archive, at, from, to, source, out)?,
+        Word::Remove { at, suite, name } => {
+            answers::remove(alloc, archive, at, suite, name, out)?;
+        }
         Word::Show { path } => answers::show(alloc, archive, path, out)?,
         Word::Waiting { at } => answers::waiting(alloc, archive, at, out)?,
         Word::Verdicts => answers::verdicts(alloc, archive, out)?,

@@ -13,7 +13,7 @@ use Rattle.desk.specs.declared.routes.Route.TheVariants as at
 use Rattle.desk.specs.Want.{◌>>=◌, Want, asked_at, beside, command_at, found_route, parameters, routes, wanted_at}
 use Rattle.desk.specs.declared.head.Refusal.{Refusal}
 use Rattle.desk.specs.declared.head.Refusal.TheVariants.{NotFound}
-use Rattle.desk.specs.Paths.{Place, to_incoming, to_run, to_copy, to_queue, to_verdicts, to_dists, to_pool, print_path, IsPlace, IsPart, IsRest, is_byte, is_slash, route_of, wanted_of}
+use Rattle.desk.specs.Paths.{Place, to_incoming, to_run, to_copy, to_queue, to_verdicts, to_dists, to_pool, to_remove, print_path, IsPlace, IsPart, IsRest, is_byte, is_slash, route_of, wanted_of}
 use Rattle.desk.proofs.FieldLemmas.{both}
 use Rattle.desk.proofs.SeekLemmas.{led, led_first, led_found, first_or, or_found, or_first, or_second, skip, enter, part_first, end_found, rest_first, last_first, last_found, cut_first, cut_found, slash_any}
 use Rattle.matchit.specs.Rows.{RowsOf}
@@ -52,12 +52,16 @@ place_row to_queue = row_of (parse_route (codes "/queue")) at.Waiting
 place_row to_verdicts = row_of (parse_route (codes "/verdicts")) at.Verdicts
 place_row (to_dists rest) = row_of (parse_route (codes "/dists/{*path}")) at.Dists
 place_row (to_pool rest) = row_of (parse_route (codes "/pool/{*path}")) at.Pool
+place_row (to_remove suite name) = row_of (parse_route (codes "/remove/{suite}/{package}")) at.Remove
 
 abbrev Rows : Type 0
 Rows = RowsOf (RouteOf Route)
 
 abbrev copies : Rows
 copies = (256 ∷ 47 ∷ 256 ∷ 47 ∷ 256 ∷ [], place_row (to_copy [] [] [])) ∷ []
+
+abbrev removes : Rows
+removes = (256 ∷ 47 ∷ 256 ∷ [], place_row (to_remove [] [])) ∷ []
 
 abbrev names : Rows
 names = (256 ∷ [], place_row (to_incoming [])) ∷ []
@@ -80,8 +84,11 @@ verdicts = ([], place_row to_verdicts) ∷ []
 abbrev after_queue : Rows
 after_queue = led (codes "/run") runs ++ queues
 
+abbrev from_remove : Rows
+from_remove = led (codes "remove/") removes ++ led (codes "verdicts") verdicts
+
 abbrev from_queue : Rows
-from_queue = led (codes "queue") after_queue ++ led (codes "verdicts") verdicts
+from_queue = led (codes "queue") after_queue ++ from_remove
 
 abbrev from_pool : Rows
 from_pool = led (codes "pool/") pools ++ from_queue
@@ -120,9 +127,28 @@ rest_found k row [] h f = absurd (none-some row f)
 rest_found k row (b ∷ rest) h f =
     (record { some = omega arith; bytes = h }, sym (same_Some k row (sym (rest_first k b rest (both (is_byte b) (list_all is_byte rest) h).0) ∙ f)))
 
-found_in_queue : (path : List ℕ) (row : RouteOf Route) (whole : List ℕ) → whole ≡ 47 ∷ path → first from_queue path ≡ Some row → IsFound whole row
-found_in_queue path row whole w f =
-    elim (or_found _ _ row (sym (first_or 113 (codes "ueue") after_queue (led (codes "verdicts") verdicts) path refl refl refl refl) ∙ f)) [
+found_in_remove : (path : List ℕ) (row : RouteOf Route) (whole : List ℕ) → list_all is_byte path ≡ true → whole ≡ 47 ∷ path → first from_remove path ≡ Some row → IsFound whole row
+found_in_remove path row whole h w f =
+    elim (or_found _ _ row (sym (first_or 114 (codes "emove/") removes (led (codes "verdicts") verdicts) path refl refl refl refl) ∙ f)) [
+      | inl q ↦
+          let (rest, split, found) = led_found (codes "remove/") removes path row refl q in
+          let one = cut_found (256 ∷ []) (place_row (to_remove [] [])) row rest (behind (codes "remove/") path rest h split) found in
+          let (is_part, is) = last_found (place_row (to_remove [] [])) row one.rest one.bytes one.found in
+          record {
+            place = to_remove one.part one.rest;
+            is_place = (one.is_part, is_part);
+            whole = w ∙ ap (λ l. 47 ∷ l) (split ∙ ap (λ l. codes "remove/" ++ l) one.whole);
+            row_is = is;
+          }
+      | inr v ↦
+          let (rest, split, found) = led_found (codes "verdicts") verdicts path row refl v in
+          let (empty, is) = end_found (place_row to_verdicts) row rest found in
+          record { place = to_verdicts; is_place = tt; whole = w ∙ ap (λ l. 47 ∷ l) (split ∙ ap (λ l. codes "verdicts" ++ l) empty); row_is = is }
+    ]
+
+found_in_queue : (path : List ℕ) (row : RouteOf Route) (whole : List ℕ) → list_all is_byte path ≡ true → whole ≡ 47 ∷ path → first from_queue path ≡ Some row → IsFound whole row
+found_in_queue path row whole h w f =
+    elim (or_found _ _ row (sym (first_or 113 (codes "ueue") after_queue from_remove path refl refl refl refl) ∙ f)) [
       | inl q ↦
           let (rest, split, found) = led_found (codes "queue") after_queue path row refl q in
           elim (or_found _ _ row (sym (first_or 47 (codes "run") runs queues rest refl refl refl refl) ∙ found)) [
@@ -134,10 +160,7 @@ found_in_queue path row whole w f =
                 let (empty, is) = end_found (place_row to_queue) row rest r in
                 record { place = to_queue; is_place = tt; whole = w ∙ ap (λ l. 47 ∷ l) (split ∙ ap (λ l. codes "queue" ++ l) empty); row_is = is }
           ]
-      | inr v ↦
-          let (rest, split, found) = led_found (codes "verdicts") verdicts path row refl v in
-          let (empty, is) = end_found (place_row to_verdicts) row rest found in
-          record { place = to_verdicts; is_place = tt; whole = w ∙ ap (λ l. 47 ∷ l) (split ∙ ap (λ l. codes "verdicts" ++ l) empty); row_is = is }
+      | inr v ↦ found_in_remove path row whole h w v
     ]
 
 found_in_pool : (path : List ℕ) (row : RouteOf Route) (whole : List ℕ) → list_all is_byte path ≡ true → whole ≡ 47 ∷ path → first from_pool path ≡ Some row → IsFound whole row
@@ -147,7 +170,7 @@ found_in_pool path row whole h w f =
           let (rest, split, found) = led_found (codes "pool/") pools path row refl q in
           let (is_rest, is) = rest_found (place_row (to_pool [])) row rest (behind (codes "pool/") path rest h split) found in
           record { place = to_pool rest; is_place = is_rest; whole = w ∙ ap (λ l. 47 ∷ l) split; row_is = is }
-      | inr v ↦ found_in_queue path row whole w v
+      | inr v ↦ found_in_queue path row whole h w v
     ]
 
 found_in_incoming : (path : List ℕ) (row : RouteOf Route) (whole : List ℕ) → list_all is_byte path ≡ true → whole ≡ 47 ∷ path → first from_incoming path ≡ Some row → IsFound whole row
@@ -237,6 +260,21 @@ pool_first rest h =
     ∙ enter 112 (codes "ool/") pools from_queue (codes "pool/" ++ rest) (place_row (to_pool [])) refl refl refl refl
     (led_first (codes "pool/") pools rest refl ∙ rest_of_path (place_row (to_pool [])) rest h)
 
+remove_first : (suite name : List ℕ) → IsPart suite → IsPart name → first routes (print_path (to_remove suite name)) ≡ Some (place_row (to_remove suite name))
+remove_first suite name h1 h2 =
+    let k = place_row (to_remove [] []) in
+    ap (λ rs. first rs (print_path (to_remove suite name))) rows_are
+    ∙ led_first (codes "/") from_copy (codes "remove/" ++ (suite ++ 47 ∷ name)) refl
+    ∙ skip 99 (codes "opy/") copies from_dists 114 (codes "emove/" ++ (suite ++ 47 ∷ name)) refl refl refl refl refl
+    ∙ skip 100 (codes "ists/") dists from_incoming 114 (codes "emove/" ++ (suite ++ 47 ∷ name)) refl refl refl refl refl
+    ∙ skip 105 (codes "ncoming/") names from_pool 114 (codes "emove/" ++ (suite ++ 47 ∷ name)) refl refl refl refl refl
+    ∙ skip 112 (codes "ool/") pools from_queue 114 (codes "emove/" ++ (suite ++ 47 ∷ name)) refl refl refl refl refl
+    ∙ skip 113 (codes "ueue") after_queue from_remove 114 (codes "emove/" ++ (suite ++ 47 ∷ name)) refl refl refl refl refl
+    ∙ enter 114 (codes "emove/") removes (led (codes "verdicts") verdicts) (codes "remove/" ++ (suite ++ 47 ∷ name)) k refl refl refl refl
+    (led_first (codes "remove/") removes (suite ++ 47 ∷ name) refl
+    ∙ part_first (256 ∷ []) k suite name h1
+    ∙ last_first k name h2)
+
 run_first : first routes (codes "/queue/run") ≡ Some (place_row to_run)
 unfolding routes matchit_on_literals
 run_first = refl
@@ -257,6 +295,7 @@ place_first to_queue h = queue_first
 place_first to_verdicts h = verdicts_first
 place_first (to_dists rest) h = dists_first rest h
 place_first (to_pool rest) h = pool_first rest h
+place_first (to_remove suite name) h = remove_first suite name h.0 h.1
 
 -- ---- its parameters
 
@@ -269,6 +308,7 @@ place_parameters to_queue = []
 place_parameters to_verdicts = []
 place_parameters (to_dists rest) = (codes "path", rest) ∷ []
 place_parameters (to_pool rest) = (codes "path", rest) ∷ []
+place_parameters (to_remove suite name) = (codes "suite", suite) ∷ (codes "package", name) ∷ []
 
 at_start : (pattern path : List ℕ) → IsAt pattern path 0 0 pattern path
 at_start pattern path = record { tokens_left = refl; bytes_left = refl; within = omega arith; fits = omega arith }
@@ -306,6 +346,17 @@ copy_parameters from to source h1 h2 =
     ∙ ap (λ l. (codes "to", to) ∷ l)
     (walk_last row.pattern row.text path (19, 25) 9 (0 + 6 + length from + 1 + length to) 256 (47 ∷ []) source refl refl s2))
 
+remove_parameters : (suite name : List ℕ) → IsPart suite → parameters (place_row (to_remove suite name)) (print_path (to_remove suite name)) ≡ place_parameters (to_remove suite name)
+unfolding matchit_on_literals
+remove_parameters suite name h =
+    let row : RouteOf Route = place_row (to_remove [] []) in
+    let path : List ℕ = print_path (to_remove suite name) in
+    let s0 : IsAt row.pattern path 0 0 (codes "/remove/" ++ 256 ∷ 47 ∷ 256 ∷ []) (codes "/remove/" ++ (suite ++ 47 ∷ name)) = at_start row.pattern path in
+    let s1 = cut_on row.pattern path 0 0 (codes "/remove/") (256 ∷ []) suite name s0 in
+    walk_cut row.pattern row.text path (9, 14) ((17, 24) ∷ []) 0 0 (codes "/remove/") (256 ∷ []) suite name refl (slash_any suite ∙ h.no_slash) (omega arith) s0
+    ∙ ap (λ l. (codes "suite", suite) ∷ l)
+    (walk_last row.pattern row.text path (17, 24) 9 (0 + 8 + length suite) 256 (47 ∷ []) name refl refl s1)
+
 no_parameters : (row : RouteOf Route) (path : List ℕ) → row.names ≡ [] → parameters row path ≡ []
 no_parameters row path e = ap (λ ns. walk row.pattern row.text path ns 0 0) e
 
@@ -329,6 +380,7 @@ parameters_are to_queue h = queue_parameters
 parameters_are to_verdicts h = verdicts_parameters
 parameters_are (to_dists rest) h = dists_parameters rest
 parameters_are (to_pool rest) h = pool_parameters rest
+parameters_are (to_remove suite name) h = remove_parameters suite name h.0
 
 -- ---- what a path asks for
 
@@ -344,6 +396,7 @@ row_value to_queue = refl
 row_value to_verdicts = refl
 row_value (to_dists rest) = refl
 row_value (to_pool rest) = refl
+row_value (to_remove suite name) = refl
 
 asked_place : (p : Place) → beside (route_of p) (wanted_at (route_of p) (place_parameters p) (print_path p)) ≡ beside (route_of p) (wanted_of p)
 asked_place (to_incoming name) = refl
@@ -353,6 +406,7 @@ asked_place to_queue = refl
 asked_place to_verdicts = refl
 asked_place (to_dists rest) = refl
 asked_place (to_pool rest) = refl
+asked_place (to_remove suite name) = refl
 
 -- the path of a place asks for its command
 pub place_asks : (p : Place) → IsPlace p → asked_at (print_path p) ≡ beside (route_of p) (wanted_of p)

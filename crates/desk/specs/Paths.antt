@@ -4,7 +4,7 @@ use Rattle.std.specs.List.{list_any, list_all}
 use Rattle.desk.specs.declared.routes.Route.{Route}
 use Rattle.desk.specs.declared.routes.Route.TheVariants as at
 use Rattle.desk.specs.declared.head.Refusal.{Refusal}
-use Rattle.desk.specs.Want.{◌>>=◌, Want, delivery, queue_run, copying, waiting_list, verdict_list, decoded, fetched_at}
+use Rattle.desk.specs.Want.{◌>>=◌, Want, delivery, queue_run, copying, waiting_list, verdict_list, removing, decoded, fetched_at}
 
 -- what a path names, its parameters as they were sent
 pub data Place : Type 0 where
@@ -15,6 +15,7 @@ pub data Place : Type 0 where
   to_verdicts : Place
   to_dists : (rest : List ℕ) → Place
   to_pool : (rest : List ℕ) → Place
+  to_remove : (suite name : List ℕ) → Place
 
 abbrev pub is_byte : ℕ → Bool
 is_byte b = nat_lt b 256
@@ -42,6 +43,7 @@ print_path to_queue = codes "/queue"
 print_path to_verdicts = codes "/verdicts"
 print_path (to_dists rest) = codes "/dists/" ++ rest
 print_path (to_pool rest) = codes "/pool/" ++ rest
+print_path (to_remove suite name) = codes "/remove/" ++ (suite ++ 47 ∷ name)
 
 -- each parameter has its form
 abbrev pub IsPlace : Place → Type 0
@@ -52,6 +54,7 @@ IsPlace to_queue = Unit {0}
 IsPlace to_verdicts = Unit {0}
 IsPlace (to_dists rest) = IsRest rest
 IsPlace (to_pool rest) = IsRest rest
+IsPlace (to_remove suite name) = IsPart suite × IsPart name
 
 -- the route of a place
 abbrev pub route_of : Place → Route
@@ -62,6 +65,7 @@ route_of to_queue = at.Waiting
 route_of to_verdicts = at.Verdicts
 route_of (to_dists rest) = at.Dists
 route_of (to_pool rest) = at.Pool
+route_of (to_remove suite name) = at.Remove
 
 -- what is wanted at a place, its parameters decoded
 abbrev pub wanted_of : Place → Result Want Refusal
@@ -78,3 +82,7 @@ wanted_of to_queue = Ok waiting_list
 wanted_of to_verdicts = Ok verdict_list
 wanted_of (to_dists rest) = fetched_at (codes "dists/" ++ rest) false
 wanted_of (to_pool rest) = fetched_at (codes "pool/" ++ rest) true
+wanted_of (to_remove suite name) = do
+  decoded_suite ← decoded suite
+  decoded_name ← decoded name
+  Ok (removing decoded_suite decoded_name)

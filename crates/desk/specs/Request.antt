@@ -8,7 +8,7 @@ use Rattle.desk.specs.declared.routes.Route.{Route}
 use Rattle.desk.specs.declared.head.Wanted.{Wanted}
 use Rattle.desk.specs.declared.head.Wanted.TheVariants as w
 use Rattle.desk.specs.Transfer.{IsBeginning, ends_head, NotEarlier}
-use Rattle.desk.specs.Want.{Want, wanted, delivery, queue_run, copying, fetching, waiting_list, verdict_list}
+use Rattle.desk.specs.Want.{Want, wanted, delivery, queue_run, copying, fetching, waiting_list, verdict_list, removing}
 
 -- a `Wanted` without where it lies in memory
 abbrev pub want_of : Wanted → Want
@@ -18,6 +18,7 @@ want_of (w.Copy from to source) = copying (string_bytes from) (string_bytes to) 
 want_of (w.Fetch path is_pool) = fetching (string_bytes path) is_pool
 want_of w.Waiting = waiting_list
 want_of w.Verdicts = verdict_list
+want_of (w.Remove suite name) = removing (string_bytes suite) (string_bytes name)
 
 -- the same beside its route
 abbrev pub found_want : Route × Wanted → Route × Want
@@ -63,6 +64,7 @@ body_length (copying a b c) = 0
 body_length (fetching p k) = 0
 body_length waiting_list = 0
 body_length verdict_list = 0
+body_length (removing a b) = 0
 
 -- what a connection asks for
 pub data Asked : Type 0 where

@@ -28,6 +28,7 @@ pub data Want : Type 0 where
   fetching : (path : List ℕ) → (is_pool : Bool) → Want
   waiting_list : Want
   verdict_list : Want
+  removing : (suite name : List ℕ) → Want
 
 infixl 10 ◌>>=◌
 -- what comes first may refuse, and else the rest goes on
@@ -56,6 +57,7 @@ route_texts =
     ∷ (codes "/verdicts", at.Verdicts)
     ∷ (codes "/dists/{*path}", at.Dists)
     ∷ (codes "/pool/{*path}", at.Pool)
+    ∷ (codes "/remove/{suite}/{package}", at.Remove)
     ∷ []
 
 -- a router's rows and one route more
@@ -104,6 +106,10 @@ wanted_at at.Waiting taken path = Ok waiting_list
 wanted_at at.Verdicts taken path = Ok verdict_list
 wanted_at at.Dists taken path = fetched_at (drop 1 path) false
 wanted_at at.Pool taken path = fetched_at (drop 1 path) true
+wanted_at at.Remove taken path = do
+  suite ← decoded (parameter taken (codes "suite"))
+  name ← decoded (parameter taken (codes "package"))
+  Ok (removing suite name)
 
 -- the method that a route wants (RFC 9110, section 9)
 abbrev pub method_of : Route → List ℕ
@@ -114,6 +120,7 @@ method_of at.Waiting = codes "GET"
 method_of at.Verdicts = codes "GET"
 method_of at.Dists = codes "GET"
 method_of at.Pool = codes "GET"
+method_of at.Remove = codes "POST"
 
 -- ---- the fields
 
@@ -147,6 +154,7 @@ with_length (copying a b c) length = if unwrap_or length 0 == 0 then Ok (copying
 with_length (fetching p k) length = if unwrap_or length 0 == 0 then Ok (fetching p k) else Err BadRequest
 with_length waiting_list length = if unwrap_or length 0 == 0 then Ok waiting_list else Err BadRequest
 with_length verdict_list length = if unwrap_or length 0 == 0 then Ok verdict_list else Err BadRequest
+with_length (removing a b) length = if unwrap_or length 0 == 0 then Ok (removing a b) else Err BadRequest
 
 -- ---- the head
 

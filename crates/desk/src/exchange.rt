@@ -159,6 +159,12 @@ fn carry_out<K: Keeper>(
             Ok(report) => report_reply(report),
             Err(fault) => fault_reply(fault),
         },
+        Wanted::Remove { suite, name } => {
+            match archive.remove(alloc, suite.as_str(), name.as_str(), moment) {
+                Ok(items) => Reply::new(StatusCode::OK, Body::Number(items)),
+                Err(fault) => fault_reply(fault),
+            }
+        }
     }
 }
 
@@ -204,6 +210,7 @@ fn fault_reply(fault: Fault) -> Reply
         Fault::UnknownSuite => FaultText::whole("Q6"),
         Fault::SameSuite => FaultText::whole("Q7"),
         Fault::NothingToCopy => FaultText::whole("Q8"),
+        Fault::NothingToRemove => FaultText::whole("Q11"),
     };
     Reply::new(StatusCode::UNPROCESSABLE_ENTITY, Body::Fault(text))
 }

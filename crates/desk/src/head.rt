@@ -114,6 +114,10 @@ pub enum Wanted {
     },
     Waiting,
     Verdicts,
+    Remove {
+        suite: String,
+        name: String,
+    },
 }
 
 impl Wanted {
@@ -127,7 +131,8 @@ impl Wanted {
             | Wanted::Copy { .. }
             | Wanted::Fetch { .. }
             | Wanted::Waiting
-            | Wanted::Verdicts => 0,
+            | Wanted::Verdicts
+            | Wanted::Remove { .. } => 0,
         }
     }
 }
@@ -296,6 +301,10 @@ fn read_route(
         Route::Verdicts => Ok(Wanted::Verdicts),
         Route::Dists => read_fetch(alloc, target, false),
         Route::Pool => read_fetch(alloc, target, true),
+        Route::Remove => Ok(Wanted::Remove {
+            suite: decode_param(alloc, params, "suite")?,
+            name: decode_param(alloc, params, "package")?,
+        }),
     }
 }
 

@@ -16,6 +16,7 @@ pub enum Route {
     Verdicts,
     Dists,
     Pool,
+    Remove,
 }
 
 impl Route {
@@ -25,7 +26,7 @@ impl Route {
     {
         match self {
             Route::Deliver => Method::PUT,
-            Route::Run | Route::Copy => Method::POST,
+            Route::Run | Route::Copy | Route::Remove => Method::POST,
             Route::Waiting | Route::Verdicts | Route::Dists | Route::Pool => Method::GET,
         }
     }
@@ -44,5 +45,6 @@ pub fn router(alloc: Global) -> Result<Router<Route>, InsertError>
     router.insert("/verdicts", Route::Verdicts)?;
     router.insert("/dists/{*path}", Route::Dists)?;
     router.insert("/pool/{*path}", Route::Pool)?;
+    router.insert("/remove/{suite}/{package}", Route::Remove)?;
     Ok(router)
 }

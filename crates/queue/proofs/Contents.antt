@@ -19,7 +19,7 @@ use Rattle.suites.specs.Pool.{files_with}
 use Rattle.suites.specs.Shelves.{beats, covers, shown}
 use Rattle.suites.specs.Upload.{UploadValue, items_of}
 use Rattle.suites.specs.Verdict.{path_of}
-use Rattle.queue.specs.Archives.{BodyItem, PlainArchive, WholeUpload, by_body, contents_of, items_given, pool_in, shown_in, version_with, whole, with_items}
+use Rattle.queue.specs.Archives.{BodyItem, PlainArchive, WholeUpload, by_body, contents_of, items_given, pool_in, shown_in, version_with, whole, with_admitted}
 use Rattle.queue.proofs.ContentsListed.{HasItsBodies}
 use Rattle.queue.proofs.ContentsMaps.{Contains-get, find-Contains}
 use Rattle.queue.proofs.ItemPrints.{verdict_in}
@@ -144,6 +144,6 @@ both_known bodies xs ys p q e at = elim (Contains-append_cases xs ys e at) [
 -- the archive with the upload has known bodies too
 pub whole_known : (bodies : List (List ℕ)) (config : ConfigValue) (moment : ℕ) (a : PlainArchive) (w : WholeUpload) → AreMadeOf bodies a.admitted → AreBrought bodies w → HasItsBodies w
     → AreMadeOf bodies (whole config moment a w).admitted
-unfolding whole with_items
+unfolding whole with_admitted
 whole_known bodies config moment a w made brought its =
     both_known bodies a.admitted (admitted_if (verdict_in config a w) (items_given config a w)) made (admitted_known bodies config a w made brought its)

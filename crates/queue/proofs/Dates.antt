@@ -165,7 +165,7 @@ more_at suite old new q y h at other =
     (get-Contains key_order_total key_order-IsAntisymmetric new q y h)
     (let at_suite : nat_eq q.suite suite ≡ true = (Decides-eqb q.suite suite).1 at in rw (at_suite, other) refl)
 
-no_more : (suite : ℕ) (old new : ShelvesWith BodyItem) → ((q : ShelfKey) (y : BodyItem) → get new q ≡ Some y → q.suite ≡ suite → has_version (get old q) y ≡ true) → has_more suite old new ≡ false
+pub no_more : (suite : ℕ) (old new : ShelvesWith BodyItem) → ((q : ShelfKey) (y : BodyItem) → get new q ≡ Some y → q.suite ≡ suite → has_version (get old q) y ≡ true) → has_more suite old new ≡ false
 unfolding has_more
 no_more suite old new h =
     any_none (λ (e : ShelfKey × BodyItem). nat_eq e.0.suite suite && not (has_version (get old e.0) e.1)) (entries new)

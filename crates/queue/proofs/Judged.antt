@@ -19,8 +19,8 @@ use Rattle.keep.specs.Keeping.{NoCollision}
 use Rattle.keep.specs.declared.arrival.Arrival.{Arrival}
 use Rattle.keep.specs.declared.change.Judgement.{Judgement}
 use Rattle.queue.specs.Before.{before_each, before_each-push}
-use Rattle.queue.specs.Histories.{Call, Delivery, QueueRun, Copying, Lookup, WaitingList, VerdictList, Reply, Step, History, arrived, bodies_of_call, due_after, has_come, is_run, waiting_after, was_judged}
-use Rattle.queue.specs.Archives.{PlainArchive, Act, Whole, Copy, acted, acts_of, all_acts, archive, archive_of, book_from, book_of, suite_named, whole, whole_of, with_items}
+use Rattle.queue.specs.Histories.{Call, Delivery, QueueRun, Copying, Lookup, WaitingList, Removing, VerdictList, Reply, Step, History, arrived, bodies_of_call, due_after, has_come, is_run, waiting_after, was_judged}
+use Rattle.queue.specs.Archives.{PlainArchive, Act, Whole, Copy, Remove, acted, acts_of, all_acts, archive, archive_of, book_from, book_of, removed, suite_named, whole, whole_of, with_admitted}
 use Rattle.queue.specs.Answers.{IsFaithful}
 use Rattle.queue.specs.declared.fault.Fault.{Fault}
 use Rattle.queue.proofs.Lists.{all_always, all_filter, all_filter_map, all_front, all_weaker, by_steps, filter_agree_on, list_any-map}
@@ -114,7 +114,7 @@ or_assoc : (a b c : Bool) → ((a || b) || c) ≡ (a || (b || c))
 or_assoc true b c = refl
 or_assoc false b c = refl
 
-any_filter : {X : Type 0} (t p : X → Bool) (xs : List X) → list_any t (filter p xs) ≡ list_any (λ x. p x && t x) xs
+pub any_filter : {X : Type 0} (t p : X → Bool) (xs : List X) → list_any t (filter p xs) ≡ list_any (λ x. p x && t x) xs
 any_filter t p [] = refl
 any_filter {X} t p (x ∷ xs) = kept (p x) ∙ ap (λ b. (p x && t x) || b) (any_filter t p xs)
   where
@@ -122,7 +122,7 @@ any_filter {X} t p (x ∷ xs) = kept (p x) ∙ ap (λ b. (p x && t x) || b) (any
     kept true = refl
     kept false = refl
 
-any_agree_on : {X : Type 0} (t s : X → Bool) (xs : List X) → AllByRecursion (λ x. t x ≡ s x) xs → list_any t xs ≡ list_any s xs
+pub any_agree_on : {X : Type 0} (t s : X → Bool) (xs : List X) → AllByRecursion (λ x. t x ≡ s x) xs → list_any t xs ≡ list_any s xs
 any_agree_on t s [] h = refl
 any_agree_on t s (x ∷ xs) h = ap (λ b. b || list_any t xs) h.0 ∙ ap (λ b. s x || b) (any_agree_on t s xs h.1)
 
@@ -155,7 +155,7 @@ any-in_order t (c ∷ cs) = any-put (in_order cs) ∙ ap (λ b. t c || b) (any-i
 -- what is judged after whole uploads
 judged_wholes : (config : ConfigValue) (moment : ℕ) (arrivals : List Arrival) (ds : List Candidate) (a : PlainArchive) (c : Candidate)
     → is_judged (fold (acted config) a (map (λ d. Whole (whole_of arrivals d) moment) ds)).judged c ≡ (is_judged a.judged c || list_any (is_signed c) ds)
-unfolding whole whole_of upload_of is_judged with_items
+unfolding whole whole_of upload_of is_judged with_admitted
 judged_wholes config moment arrivals [] a c = sym (or_no _)
 judged_wholes config moment arrivals (d ∷ ds) a c =
     judged_wholes config moment arrivals ds (whole config moment a (whole_of arrivals d)) c
@@ -164,10 +164,16 @@ judged_wholes config moment arrivals (d ∷ ds) a c =
 
 copies_judge : (config : ConfigValue) (from to : Option ℕ) (source : List ℕ) (moment : ℕ) (a : PlainArchive)
     → (fold (acted config) a (flat_map (λ f. map (λ t. Copy f t source moment) (option_to_list to)) (option_to_list from))).judged ≡ a.judged
-unfolding with_items
+unfolding with_admitted
 copies_judge config None to source moment a = refl
 copies_judge config (Some from) None source moment a = refl
 copies_judge config (Some from) (Some to) source moment a = refl
+
+removals_judge : (config : ConfigValue) (suite : Option ℕ) (name : List ℕ) (moment : ℕ) (a : PlainArchive)
+    → (fold (acted config) a (map (λ s. Remove s name moment) (option_to_list suite))).judged ≡ a.judged
+unfolding removed with_admitted
+removals_judge config None name moment a = refl
+removals_judge config (Some suite) name moment a = refl
 
 -- of the uploads that are due, one has the name and the print of c exactly where c has come, is complete and was not judged
 any_due : (bodies : List (List ℕ)) → NoCollision bodies → (opening : Book) (steps : List Step) → ArrivalsHave (Contains bodies) (arrived opening steps)
@@ -237,6 +243,10 @@ judged_push bodies apart h hs (QueueRun moment) (Ok reply) c hc sofar =
 judged_push bodies apart h hs (Copying from to source moment) (Ok reply) c hc sofar =
     ap (λ js. is_judged js c) (copies_judge h.opening.config (suite_named h.opening.config from) (suite_named h.opening.config to) source moment (archive h))
     ∙ sofar ∙ sym (or_no (was_judged h.opening h.steps c))
+judged_push bodies apart h hs (Removing suite name moment) (Ok reply) c hc sofar =
+    ap (λ js. is_judged js c) (removals_judge h.opening.config (suite_named h.opening.config suite) name moment (archive h))
+    ∙ sofar ∙ sym (or_no (was_judged h.opening h.steps c))
+judged_push bodies apart h hs (Removing suite name moment) (Err fault) c hc sofar = sofar ∙ sym (or_no (was_judged h.opening h.steps c))
 judged_push bodies apart h hs (QueueRun moment) (Err fault) c hc sofar = sofar ∙ sym (or_no (was_judged h.opening h.steps c))
 judged_push bodies apart h hs (Copying from to source moment) (Err fault) c hc sofar = sofar ∙ sym (or_no (was_judged h.opening h.steps c))
 judged_push bodies apart h hs (Delivery name body moment) outcome c hc sofar = sofar ∙ sym (or_no (was_judged h.opening h.steps c))

@@ -30,8 +30,8 @@ use Rattle.suites.specs.declared.key.ShelfKey.{ShelfKey}
 use Rattle.keep.specs.Book.{Book, Candidate, at_latest, body_for, has_arrival, is_same_pair, with_arrival}
 use Rattle.keep.specs.Keeping.{HasBodies, NoCollision}
 use Rattle.keep.specs.declared.arrival.Arrival.{Arrival}
-use Rattle.queue.specs.Histories.{Call, Delivery, QueueRun, Copying, Lookup, WaitingList, VerdictList, Reply, Step, History, arrived, arrivals_after, bodies_of, bodies_of_call, calls_of, due_after}
-use Rattle.queue.specs.Archives.{PlainArchive, Act, Whole, Copy, WholeUpload, BodyItem, acted, acts_of, archive, archive_of, all_acts, book_from, book_of, contents_of, copied, items_copied, items_given, listed_body, pool_in, shown_in, suite_named, version_with, whole, whole_of, with_bodies, with_items}
+use Rattle.queue.specs.Histories.{Call, Delivery, QueueRun, Copying, Lookup, WaitingList, Removing, VerdictList, Reply, Step, History, arrived, arrivals_after, bodies_of, bodies_of_call, calls_of, due_after}
+use Rattle.queue.specs.Archives.{PlainArchive, Act, Whole, Copy, Remove, WholeUpload, BodyItem, acted, acts_of, archive, archive_of, all_acts, book_from, book_of, contents_of, copied, items_copied, items_given, listed_body, pool_in, removed, shown_in, suite_named, version_with, whole, whole_of, with_bodies, with_admitted}
 use Rattle.queue.specs.Answers.{IsFaithful, IsOpening}
 use Rattle.queue.specs.declared.fault.Fault.{Fault}
 use Rattle.queue.proofs.Lists.{all_append, all_front, all_back, all_weaker, all_map, all_unmap, all_filter, all_filter_map, all_flat_map, all_from_flat_map, all_contained, all_from_contained, all_always, at_contained, at_some, by_steps, contains_cases, contains_later, find_have, map_have, or_have, unwrap_or_has}
@@ -148,19 +148,23 @@ items_given_have K empty' config a w ha hw =
     (items_of-have K (contents_of w (pool_in a)) (λ e. unwrap_or_has K _ [] (or_have K _ _ (listed_body_has K w hw e.name) (pool_has K a ha _)) empty') w.upload (component w.upload.changes))
 
 pub whole_has : (K : List ℕ → Type 0) → K [] → (config : ConfigValue) (moment : ℕ) (a : PlainArchive) (w : WholeUpload) → ItemsHave K a.admitted → AllByRecursion K w.bodies → ItemsHave K (whole config moment a w).admitted
-unfolding whole with_items
+unfolding whole with_admitted
 whole_has K empty' config moment a w ha hw =
     all_append (λ (e : Admitted (List ℕ)). ItemHas K e.1) a.admitted _ ha
     (admitted_if_have (λ (e : Admitted (List ℕ)). ItemHas K e.1) _ (items_given config a w) (items_given_have K empty' config a w ha hw))
 
 pub copied_has : (K : List ℕ → Type 0) (config : ConfigValue) (moment : ℕ) (a : PlainArchive) (from to : ℕ) (source : List ℕ) → ItemsHave K a.admitted → ItemsHave K (copied config moment a from to source).admitted
-unfolding with_items items_copied
+unfolding with_admitted items_copied
 copied_has K config moment a from to source ha =
     all_append (λ (e : Admitted (List ℕ)). ItemHas K e.1) a.admitted _ ha
     (all_flat_map (λ (e : Admitted (List ℕ)). ItemHas K e.1) _ (option_to_list (slice_get config.suites to))
     (all_always _ (λ target. all_map (λ (e : Admitted (List ℕ)). ItemHas K e.1) (λ (e : Admitted (List ℕ)). on_shelf to e.1) _
     (all_filter (λ (e : Admitted (List ℕ)). ItemHas K e.1) _ (entries (shown_in a)) (shown_have K a ha)))
     (option_to_list (slice_get config.suites to))))
+
+pub removed_has : (K : List ℕ → Type 0) (moment : ℕ) (a : PlainArchive) (suite : ℕ) (name : List ℕ) → ItemsHave K a.admitted → ItemsHave K (removed moment a suite name).admitted
+unfolding removed with_admitted
+removed_has K moment a suite name ha = all_filter (λ (e : Admitted (List ℕ)). ItemHas K e.1) _ a.admitted ha
 
 -- ---- arrivals
 
@@ -184,6 +188,7 @@ arrivals_after_have K arrivals (QueueRun moment) outcome h hb = h
 arrivals_after_have K arrivals (Copying from to source moment) outcome h hb = h
 arrivals_after_have K arrivals (Lookup path) outcome h hb = h
 arrivals_after_have K arrivals (WaitingList moment) outcome h hb = h
+arrivals_after_have K arrivals (Removing suite name moment) outcome h hb = h
 arrivals_after_have K arrivals VerdictList outcome h hb = h
 
 -- the bodies that have arrived are those of the opening and of the calls
@@ -212,10 +217,12 @@ whole_of_has K empty' arrivals h c = all_map K (body_for arrivals) c.changes.ent
 abbrev pub ActHas : (List ℕ → Type 0) → Act → Type 0
 ActHas K (Whole w moment) = AllByRecursion K w.bodies
 ActHas K (Copy from to source moment) = ⊤
+ActHas K (Remove suite name moment) = ⊤
 
 acted_has : (K : List ℕ → Type 0) → K [] → (config : ConfigValue) (a : PlainArchive) (act : Act) → ItemsHave K a.admitted → ActHas K act → ItemsHave K (acted config a act).admitted
 acted_has K empty' config a (Whole w moment) ha h = whole_has K empty' config moment a w ha h
 acted_has K empty' config a (Copy from to source moment) ha h = copied_has K config moment a from to source ha
+acted_has K empty' config a (Remove suite name moment) ha h = removed_has K moment a suite name ha
 
 pub all_acted_have : (K : List ℕ → Type 0) → K [] → (config : ConfigValue) (acts : List Act) (a : PlainArchive) → ItemsHave K a.admitted → AllByRecursion (ActHas K) acts → ItemsHave K (fold (acted config) a acts).admitted
 all_acted_have K empty' config [] a ha h = ha
@@ -227,6 +234,9 @@ acts_have K empty' opening steps (QueueRun moment) (Ok reply) h =
     all_map (ActHas K) _ (due_after opening steps) (all_always _ (whole_of_has K empty' (arrived opening steps) h) (due_after opening steps))
 acts_have K empty' opening steps (Copying from to source moment) (Ok reply) h =
     all_flat_map (ActHas K) _ _ (all_always _ (λ (f : ℕ). all_map (ActHas K) (λ (t : ℕ). Copy f t source moment) _ (all_always _ (λ t. tt) (option_to_list (suite_named opening.config to)))) (option_to_list (suite_named opening.config from)))
+acts_have K empty' opening steps (Removing suite name moment) (Ok reply) h =
+    all_map (ActHas K) (λ (s : ℕ). Remove s name moment) _ (all_always _ (λ s. tt) (option_to_list (suite_named opening.config suite)))
+acts_have K empty' opening steps (Removing suite name moment) (Err fault) h = tt
 acts_have K empty' opening steps (QueueRun moment) (Err fault) h = tt
 acts_have K empty' opening steps (Copying from to source moment) (Err fault) h = tt
 acts_have K empty' opening steps (Delivery name body moment) outcome h = tt

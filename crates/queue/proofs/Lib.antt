@@ -23,7 +23,9 @@ pub mod RunAnswers
 pub mod CopyShown
 pub mod DatesCounts
 pub mod SimulationCopies
+pub mod SimulationRemovals
 pub mod CopyAnswers
+pub mod RemovalAnswers
 pub mod Runs
 pub mod Openings
 pub mod RenewedLists

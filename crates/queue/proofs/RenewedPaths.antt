@@ -1,5 +1,5 @@
 -- The paths of a configuration's texts differ.
-use Rattle.std.proofs.Common.{◌≡◌, ◌≢◌, ◌⊎◌, inl, inr, ℕ, Bool, true, false, cond, not, ◌&&◌, ◌||◌, List, [], ◌∷◌, ◌++◌, get_or, map, codes, Option, Some, None, Ok, bytes_eq, refl, sym, ap, subst, ◌∙◌, append_assoc, arith}
+use Rattle.std.proofs.Common.{◌≡◌, ◌≢◌, ◌⊎◌, inl, inr, ℕ, Bool, true, false, cond, not, ◌&&◌, ◌||◌, List, [], ◌∷◌, ◌++◌, drop, get_or, map, codes, Option, Some, None, Ok, bytes_eq, refl, sym, ap, subst, ◌∙◌, append_assoc, arith}
 use Rattle.std.specs.List.{flat_map, list_all, list_any}
 use Rattle.std.specs.Option.{option_map, option_map_or}
 use Rattle.std.specs.Prelude.{All, AllPairs, Contains, ⊤, length, nat_le, option_to_list, unwrap_or}
@@ -11,8 +11,8 @@ use Rattle.para.specs.Field.{FieldValue}
 use Rattle.std.specs.Char.{is_ascii_alphanumeric, is_ascii_lowercase}
 use Rattle.records.specs.Names.{begins_with, is_architecture_byte, is_architecture_name, is_plain_byte, is_plain_name}
 use Rattle.records.specs.Records.{are_different, is_among}
-use Rattle.rules.specs.Configuration.{claims_again, config_fault, config_in, ClaimApart}
-use Rattle.rules.specs.Paragraphs.{are_names, first_line, has_bad_value, has_good_lines, has_good_names, is_filled_line, is_listed_architecture, is_plain_line, are_plain_words, lacks_field, names_claimed, passes, suite_of, words}
+use Rattle.rules.specs.Configuration.{claims_again, config_fault, config_in, have_bad_value, ClaimApart}
+use Rattle.rules.specs.Paragraphs.{are_names, first_line, has_bad_value, has_good_lines, has_good_names, has_keep_days, is_days_line, is_filled_line, is_listed_architecture, is_plain_line, are_plain_words, lacks_field, names_claimed, passes, suite_of, words}
 use Rattle.rules.specs.Suites.{claims, distributions}
 use Rattle.rules.specs.Values.{ConfigValue}
 use Rattle.rules.specs.declared.fault.ConfigFault.{ConfigFault}
@@ -164,7 +164,11 @@ has_codename p h =
     let origin = passes is_filled_line (codes "Origin") p in
     let label = passes is_filled_line (codes "Label") p in
     let description = passes is_filled_line (codes "Description") p in
-    let four = both (codename && suite && origin && label) description h in
+    let keep = passes is_days_line (codes "KeepDays") p in
+    let valid = passes is_days_line (codes "ValidDays") p in
+    let six = both (codename && suite && origin && label && description && keep) valid h in
+    let five = both (codename && suite && origin && label && description) keep six.0 in
+    let four = both (codename && suite && origin && label) description five.0 in
     let three = both (codename && suite && origin) label four.0 in
     let two = both (codename && suite) origin three.0 in
     subst NoSlash (unwrapped o) (codename_no_slash o (both codename suite two.0).0)
@@ -200,8 +204,8 @@ second_passes false true rest h = cc
 second_passes false false rest h = refl
 
 good_values : (ps : List Fields) → config_fault ps ≡ None → list_any has_bad_value ps ≡ false
-unfolding config_fault
-good_values ps h = second_passes (list_any lacks_field ps) (list_any has_bad_value ps) _ h
+unfolding config_fault have_bad_value
+good_values ps h = (neither (list_any has_bad_value ps) (list_any has_keep_days (drop 1 ps)) (second_passes (list_any lacks_field ps) (have_bad_value ps) _ h)).0
 
 claims_own : (s : Suite) → claims s.codename s ≡ true
 unfolding claims

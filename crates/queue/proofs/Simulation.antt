@@ -13,7 +13,7 @@ use Rattle.std.specs.List.{cons_option}
 use Rattle.rules.specs.declared.verdict.Verdict.{Verdict}
 use Rattle.suites.specs.Shelves.{ShelvesValue, shown, shown_after, version_of}
 use Rattle.suites.specs.declared.plan.Plan.{Plan}
-use Rattle.queue.specs.Archives.{PlainArchive, Whole, WholeUpload, acted, items_given, printed, shown_by_print, shown_in, version_with, whole, with_items}
+use Rattle.queue.specs.Archives.{PlainArchive, Whole, WholeUpload, acted, items_given, printed, shown_by_print, shown_in, version_with, whole, with_admitted, with_items}
 use Rattle.queue.specs.Judging.{AreJudged, IsJudged, judgement_on}
 use Rattle.queue.proofs.Contents.{AreBrought, AreMadeOf, are_known, whole_known}
 use Rattle.queue.proofs.ContentsListed.{HasItsBodies}
@@ -27,14 +27,14 @@ use Rattle.queue.proofs.VerdictPrints.{AreKnown, verdict-printed}
 -- the archive with more items, by prints
 pub shown-with_items : (moment : ℕ) (items : List (Admitted (List ℕ))) (a : PlainArchive)
     → shown_by_print (with_items moment items a) ≡ shown_after version_of (shown_by_print a) (map printed items)
-unfolding with_items shown_by_print
+unfolding with_admitted shown_by_print
 shown-with_items moment items a = shown_by_print-append a items
 
 -- its dates are those after a plan for that step
 pub dates-with_items : (moment : ℕ) (items : List (Admitted (List ℕ))) (a : PlainArchive) (after : ShelvesValue) (plan : Plan)
     → shown_by_print (with_items moment items a) ≡ after → IsStep (shown_by_print a) after plan
     → (with_items moment items a).dates ≡ dates_after moment a.dates plan
-unfolding with_items shown_by_print
+unfolding with_admitted shown_by_print
 dates-with_items moment items a after plan is step =
     dates-after moment a.dates (shown_in a) (shown version_with (a.admitted ++ items)) (shown_by_print a) after plan
     (get-shown_by_print a)
@@ -52,7 +52,7 @@ shown-whole bodies config moment a w known its =
 
 pub judged-whole : (bodies : List (List ℕ)) (config : ConfigValue) (moment : ℕ) (a : PlainArchive) (w : WholeUpload) → AreKnown bodies a w → HasItsBodies w
     → (whole config moment a w).judged ≡ a.judged ++ judgement_on config (shown_by_print a) w.upload ∷ []
-unfolding whole with_items
+unfolding whole with_admitted
 judged-whole bodies config moment a w known its =
     let judgement : Verdict → Judgement = λ v. record { name = w.upload.name; print = w.upload.print; verdict = v } in
     ap (λ v. a.judged ++ judgement v ∷ []) (sym (verdict-printed bodies config a w known its))

@@ -19,7 +19,7 @@ use Rattle.suites.specs.declared.item.Item.{Item}
 use Rattle.suites.specs.declared.key.ShelfKey.{ShelfKey}
 use Rattle.suites.specs.declared.plan.Plan.{Plan}
 use Rattle.queue.specs.Answers.{IsFaithful, IsStep, answer, count_of_new}
-use Rattle.queue.specs.Archives.{BodyItem, PlainArchive, Stands, acted, acts_of, archive, book_from, book_of, copied, is_kept_by, is_shown_of, items_copied, printed, shown_by_print, shown_in, suite_named, version_with, with_items}
+use Rattle.queue.specs.Archives.{BodyItem, PlainArchive, Stands, acted, acts_of, archive, book_from, book_of, copied, is_kept_by, is_shown_of, items_copied, printed, shown_by_print, shown_in, suite_named, version_with, with_admitted}
 use Rattle.queue.specs.Histories.{Copying, Count, History, arrivals_after, arrived, followed}
 use Rattle.queue.proofs.Contents.{AreMadeOf, both_known, from_flat_map, shown_member}
 use Rattle.queue.proofs.Dates.{shown_grows}
@@ -109,7 +109,7 @@ shown-copied config moment a from to source =
 
 pub copied_known : (bodies : List (List ℕ)) (config : ConfigValue) (moment : ℕ) (a : PlainArchive) (from to : ℕ) (source : List ℕ) → AreMadeOf bodies a.admitted
     → AreMadeOf bodies (copied config moment a from to source).admitted
-unfolding with_items
+unfolding with_admitted
 copied_known bodies config moment a from to source made =
     both_known bodies a.admitted (items_copied config a from to source) made
     (λ e at file within.
@@ -118,7 +118,7 @@ copied_known bodies config moment a from to source made =
 
 pub copied_stored : (arrivals : List Arrival) (config : ConfigValue) (moment : ℕ) (a : PlainArchive) (from to : ℕ) (source : List ℕ) → AreStored arrivals a (entries (shown_in a))
     → AreStored arrivals a (entries (shown_in (copied config moment a from to source)))
-unfolding with_items
+unfolding with_admitted
 copied_stored arrivals config moment a from to source stored =
     more_stored arrivals a a.admitted (items_copied config a from to source) stored
     (λ e at file within.
@@ -132,7 +132,7 @@ copy_step_of plan = record { judgement = None; plan = plan }
 module _ (config : ConfigValue) (moment : ℕ) (a : PlainArchive) (from to : ℕ) (source : List ℕ) (plan : Plan)
     (step : plans.IsStep (shown_by_print a) (plans.after_copy config (shown_by_print a) from to source) plan) where
   copied_judged : (copied config moment a from to source).judged ≡ a.judged
-  unfolding with_items
+  unfolding with_admitted
   copied_judged = refl
 
   pub copied-simulated : AreSimulated moment a (copy_step_of plan ∷ []) (copied config moment a from to source)
@@ -152,7 +152,7 @@ module _ (config : ConfigValue) (moment : ℕ) (a : PlainArchive) (from to : ℕ
 
   -- as many items are new as the plan puts
   pub copied-count : count_of_new to a (copied config moment a from to source) ≡ length plan.put
-  unfolding count_of_new with_items
+  unfolding count_of_new with_admitted
   copied-count =
       let items = items_copied config a from to source in
       let after = plans.after_copy config (shown_by_print a) from to source in

@@ -22,7 +22,7 @@ use Rattle.suites.specs.Pool.{AreAgreed, files_of, files_with}
 use Rattle.suites.specs.Shelves.{shown}
 use Rattle.suites.proofs.ShownLemmas.{shown_after-shown}
 use Rattle.suites.specs.Upload.{file_at, items_of}
-use Rattle.queue.specs.Archives.{BodyItem, PlainArchive, WholeUpload, book_from, by_body, contents_of, items_given, pool_in, shown_by_print, shown_in, version_with, whole, with_items}
+use Rattle.queue.specs.Archives.{BodyItem, PlainArchive, WholeUpload, book_from, by_body, contents_of, items_given, pool_in, shown_by_print, shown_in, version_with, whole, with_admitted}
 use Rattle.queue.proofs.Contents.{AreMadeOf, admitted_if_member, given_member, pool_item, pool_known, shown_member}
 use Rattle.queue.proofs.ContentsListed.{HasItsBodies}
 use Rattle.queue.proofs.ContentsMaps.{Contains-found, find-Contains}
@@ -101,7 +101,7 @@ more_stored arrivals a xs ys p q e at =
 
 whole_stored : (arrivals : List Arrival) (config : ConfigValue) (moment : ℕ) (a b : PlainArchive) (w : WholeUpload) → AreStored arrivals a (entries (shown_in b)) → HasItsBodies w
     → ((body : List ℕ) → Contains w.bodies body → HasCome arrivals body) → AreStored arrivals a (entries (shown_in (whole config moment b w)))
-unfolding whole with_items
+unfolding whole with_admitted
 whole_stored arrivals config moment a b w stored its come =
     more_stored arrivals a b.admitted (admitted_if (verdict_in config b w) (items_given config b w)) stored
     (λ e at. let m = admitted_if_member (verdict_in config b w) (items_given config b w) e at in given_stored arrivals config a b w stored its come m.0 e m.1)

@@ -23,7 +23,7 @@ use Rattle.queue.specs.Deliveries.{IsKeepers, delivery_fault, fault_of_read, mos
 use Rattle.queue.specs.Fault.{of_keeper}
 use Rattle.queue.specs.Histories.{Call, Delivery, QueueRun, Lookup, WaitingList, VerdictList, Reply, Stored, Lines, Found, History, arrived, bodies_of, bodies_of_call, calls_of, followed, waiting_after}
 use Rattle.queue.specs.declared.fault.Fault.{Fault}
-use Rattle.queue.specs.declared.fault.Fault.TheVariants.{OutOfMemory, BadName, TooLarge, Record, Keeper, Moment, UnknownSuite, SameSuite, NothingToCopy}
+use Rattle.queue.specs.declared.fault.Fault.TheVariants.{OutOfMemory, BadName, TooLarge, Record, Keeper, Moment, UnknownSuite, SameSuite, NothingToCopy, NothingToRemove}
 use Rattle.queue.proofs.Judged.{unjudged_faithful}
 use Rattle.queue.proofs.Kept.{IsSame, stands_kept}
 use Rattle.queue.proofs.Known.{known, apart_with_empty}
@@ -86,6 +86,7 @@ answered_fault may_fail h call Moment is none = sym is
 answered_fault may_fail h call UnknownSuite is none = sym is
 answered_fault may_fail h call SameSuite is none = sym is
 answered_fault may_fail h call NothingToCopy is none = sym is
+answered_fault may_fail h call NothingToRemove is none = sym is
 
 -- ---- deliveries
 

@@ -7,6 +7,7 @@ use Rattle.rules.specs.Values.{ConfigValue}
 use Rattle.rules.specs.Verdicts.{number_of}
 use Rattle.rules.specs.declared.verdict.Verdict.{Verdict}
 use Rattle.rules.specs.declared.verdict.Verdict.TheVariants as verdict
+use Rattle.suites.specs.Plan.{is_removed}
 use Rattle.texts.specs.Indices.{index_text}
 use Rattle.keep.specs.Book.{Book, Candidate, has_arrival, missing, latest}
 use Rattle.keep.specs.Keeping.{NoCollision, HasBodies}
@@ -15,9 +16,9 @@ use Rattle.keep.specs.declared.change.Judgement.{Judgement}
 use Rattle.keep.specs.declared.change.Waiting.{Waiting}
 use Rattle.queue.specs.Archives.{PlainArchive, archive, acted, acts_of, pool_in, shown_in, shown_by_print, suite_named, is_shown_of, copied, Stands}
 use Rattle.queue.specs.Deliveries.{IsOfDisk, delivery_fault}
-use Rattle.queue.specs.Histories.{Call, Delivery, QueueRun, Copying, Lookup, WaitingList, VerdictList, Reply, Stored, Lines, Count, Found, History, arrived, waiting_after, bodies_of, calls_of, followed}
+use Rattle.queue.specs.Histories.{Call, Delivery, QueueRun, Copying, Lookup, WaitingList, Removing, VerdictList, Reply, Stored, Lines, Count, Found, History, arrived, waiting_after, bodies_of, calls_of, followed}
 use Rattle.queue.specs.declared.fault.Fault.{Fault}
-use Rattle.queue.specs.declared.fault.Fault.TheVariants.{OutOfMemory, Keeper, Moment, UnknownSuite, SameSuite, NothingToCopy}
+use Rattle.queue.specs.declared.fault.Fault.TheVariants.{OutOfMemory, Keeper, Moment, UnknownSuite, SameSuite, NothingToCopy, NothingToRemove}
 
 -- a report line: `accepted NAME` or `refused NUMBER NAME`
 abbrev pub line_on : Verdict → List ℕ → List ℕ
@@ -72,6 +73,16 @@ abbrev pub copy_answer : ConfigValue → PlainArchive → Option ℕ → Option 
 copy_answer config a (Some from) (Some to) source moment = copy_between config a from to source moment
 copy_answer config a _ _ source moment = Err UnknownSuite
 
+-- how many items of the package the suite shows
+unfoldable pub count_of_shown : ℕ → List ℕ → PlainArchive → ℕ
+count_of_shown suite name a = length (filter (is_removed suite name) (entries (shown_in a)))
+
+-- of a suite that is there: how many items of the package it shows, where it shows one
+abbrev pub removal_answer : PlainArchive → Option ℕ → List ℕ → Result Reply Fault
+removal_answer a None name = Err UnknownSuite
+removal_answer a (Some suite) name =
+    if list_any (is_removed suite name) (entries (shown_in a)) then Ok (Count (count_of_shown suite name a)) else Err NothingToRemove
+
 -- what the plain archive of the history answers to the call
 unfoldable pub answer : History → Call → Result Reply Fault
 answer h (Delivery name body moment) = delivery_answer (delivery_fault name body moment)
@@ -82,6 +93,7 @@ answer h (Copying from to source moment) = unless_late moment
 answer h (Lookup path) = Ok (Found (found_at h path))
 answer h (WaitingList moment) = unless_late moment
     (Ok (Lines (map (waiting_line (arrived h.opening h.steps)) (waiting_after h.opening h.steps))))
+answer h (Removing suite name moment) = unless_late moment (removal_answer (archive h) (suite_named h.opening.config suite) name)
 answer h VerdictList = Ok (Lines (map report_line (archive h).judged))
 
 -- one is missing, or they are the same
@@ -94,6 +106,10 @@ unfoldable pub is_free_copy : ConfigValue → List ℕ → List ℕ → ℕ → 
 is_free_copy config from to moment =
     not (nat_lt latest moment) && not (are_no_two (suite_named config from) (suite_named config to))
 
+-- whether a removal is refused by neither its moment nor its suite, which is one of the configuration
+unfoldable pub is_free_removal : ConfigValue → List ℕ → ℕ → Bool
+is_free_removal config suite moment = not (nat_lt latest moment) && is_some (suite_named config suite)
+
 -- whether a call is refused by its arguments and the configuration alone
 unfoldable pub is_refused : History → Call → Bool
 is_refused h (Delivery name body moment) = is_some (delivery_fault name body moment)
@@ -101,6 +117,7 @@ is_refused h (QueueRun moment) = nat_lt latest moment
 is_refused h (Copying from to source moment) =
     nat_lt latest moment || are_no_two (suite_named h.opening.config from) (suite_named h.opening.config to)
 is_refused h (WaitingList moment) = nat_lt latest moment
+is_refused h (Removing suite name moment) = nat_lt latest moment || not (is_some (suite_named h.opening.config suite))
 is_refused h call = false
 
 -- The outcome is the answer. In its place want of memory may stand, and a fault of the keeper where it may have one and

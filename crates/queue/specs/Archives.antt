@@ -11,7 +11,7 @@ use Rattle.rules.specs.declared.suite.Suite.{Suite}
 use Rattle.sums.specs.Prints.{print as print_of}
 use Rattle.sums.specs.declared.entries.Entry.{Entry}
 use Rattle.suites.specs.Items.{FileWith, ItemWith, Admitted, shelf_of, on_shelf, item_with, item_of}
-use Rattle.suites.specs.Plan.{given, admitted_if}
+use Rattle.suites.specs.Plan.{given, admitted_if, is_removed}
 use Rattle.suites.specs.Pool.{PoolWith, pool_of, files_with, pool_path}
 use Rattle.suites.specs.Shelves.{ShelvesWith, ShelvesValue, shown}
 use Rattle.suites.specs.Upload.{UploadValue, items_of}
@@ -22,7 +22,7 @@ use Rattle.keep.specs.Book.{Book, Candidate, body_for, upload_of}
 use Rattle.keep.specs.declared.arrival.Arrival.{Arrival}
 use Rattle.keep.specs.declared.change.Judgement.{Judgement}
 use Rattle.queue.specs.Before.{before_each}
-use Rattle.queue.specs.Histories.{Call, QueueRun, Copying, Reply, Step, History, arrived, due_after}
+use Rattle.queue.specs.Histories.{Call, QueueRun, Copying, Removing, Reply, Step, History, arrived, due_after}
 use Rattle.queue.specs.declared.fault.Fault.{Fault}
 
 -- ---- what the plain archive has
@@ -60,13 +60,17 @@ has_more suite old new =
 unfoldable pub is_changed : ℕ → ShelvesWith BodyItem → ShelvesWith BodyItem → Bool
 is_changed suite old new = has_more suite old new || has_more suite new old
 
--- the archive with more items: the date of each suite whose shown items change becomes the moment
-unfoldable pub with_items : ℕ → List (Admitted (List ℕ)) → PlainArchive → PlainArchive
-with_items moment items a = record {
-  admitted = a.admitted ++ items;
+-- the archive with these as all its items: the date of each suite whose shown items change becomes the moment
+unfoldable pub with_admitted : ℕ → List (Admitted (List ℕ)) → PlainArchive → PlainArchive
+with_admitted moment all a = record {
+  admitted = all;
   judged = a.judged;
-  dates = map (λ d. if is_changed d.0 (shown_in a) (shown version_with (a.admitted ++ items)) then moment else d.1) (enumerate_from 0 a.dates);
+  dates = map (λ d. if is_changed d.0 (shown_in a) (shown version_with all) then moment else d.1) (enumerate_from 0 a.dates);
 }
+
+-- the archive with more items
+abbrev pub with_items : ℕ → List (Admitted (List ℕ)) → PlainArchive → PlainArchive
+with_items moment items a = with_admitted moment (a.admitted ++ items) a
 
 -- ---- uploads
 
@@ -123,29 +127,39 @@ items_copied config a from to source = flat_map
 abbrev pub copied : ConfigValue → ℕ → PlainArchive → ℕ → ℕ → List ℕ → PlainArchive
 copied config moment a from to source = with_items moment (items_copied config a from to source) a
 
+-- ---- removals
+
+-- all items of the package leave the suite, superseded ones too
+unfoldable pub removed : ℕ → PlainArchive → ℕ → List ℕ → PlainArchive
+removed moment a suite name = with_admitted moment (filter (λ e. not (is_removed suite name e)) a.admitted) a
+
 -- ---- the plain archive of a history
 
 -- what is done to the plain archive
 pub data Act : Type 0 where
   Whole : (upload : WholeUpload) (moment : ℕ) → Act
   Copy : (from : ℕ) (to : ℕ) (source : List ℕ) (moment : ℕ) → Act
+  Remove : (suite : ℕ) (name : List ℕ) (moment : ℕ) → Act
 
 abbrev pub acted : ConfigValue → PlainArchive → Act → PlainArchive
 acted config a (Whole upload moment) = whole config moment a upload
 acted config a (Copy from to source moment) = copied config moment a from to source
+acted config a (Remove suite name moment) = removed moment a suite name
 
 -- a .changes with the body that has arrived for each file that it lists
 unfoldable pub whole_of : List Arrival → Candidate → WholeUpload
 whole_of arrivals c = record { upload = upload_of arrivals c; bodies = map (body_for arrivals) c.changes.entries }
 
 -- What a call behind those before it does to the plain archive: a run that was done hands over each upload that is due;
--- a copy that was done copies; no other call does anything.
+-- a copy that was done copies, a removal that was done removes; no other call does anything.
 unfoldable pub acts_of : Book → List Step → Call → Result Reply Fault → List Act
 acts_of opening before (QueueRun moment) (Ok reply) =
     map (λ c. Whole (whole_of (arrived opening before) c) moment) (due_after opening before)
 acts_of opening before (Copying from to source moment) (Ok reply) = flat_map
     (λ f. map (λ t. Copy f t source moment) (option_to_list (suite_named opening.config to)))
     (option_to_list (suite_named opening.config from))
+acts_of opening before (Removing suite name moment) (Ok reply) =
+    map (λ s. Remove s name moment) (option_to_list (suite_named opening.config suite))
 acts_of opening before call outcome = []
 
 unfoldable pub all_acts : Book → List Step → List Act

@@ -13,6 +13,7 @@ pub data Call : Type 0 where
   Copying : (from : List ℕ) (to : List ℕ) (source : List ℕ) (moment : ℕ) → Call
   Lookup : (path : List ℕ) → Call
   WaitingList : (moment : ℕ) → Call
+  Removing : (suite : List ℕ) (name : List ℕ) (moment : ℕ) → Call
   VerdictList : Call
 
 -- what a call answers that is not refused

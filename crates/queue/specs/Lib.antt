@@ -4,6 +4,7 @@ pub mod Before
 pub mod Histories
 pub mod Archives
 pub mod Copies
+pub mod Removals
 pub mod Answers
 pub mod Steps
 pub mod Commands

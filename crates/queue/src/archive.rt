@@ -1,18 +1,20 @@
 //! The archive over a keeper.
 
 ghost use Rattle.std.specs.Prelude.{◌≡◌, ◌⊎◌, ◌<◌, ◌≤◌, ⊤, true, Some, None, Err, IfOk, IfErr, OnErr};
-ghost use Rattle.queue.specs.Answers.{is_free_copy};
+ghost use Rattle.queue.specs.Answers.{is_free_copy, is_free_removal};
 ghost use Rattle.queue.specs.Commands.{stored, reported, counted, found};
 ghost use Rattle.queue.specs.Copies.{copy_fault};
-ghost use Rattle.queue.specs.Histories.{Delivery, QueueRun, Copying, Lookup, WaitingList, VerdictList};
+ghost use Rattle.queue.specs.Histories.{Delivery, QueueRun, Copying, Lookup, WaitingList, Removing, VerdictList};
 ghost use Rattle.keep.specs.Book.{latest};
 ghost use Rattle.queue.specs.Deliveries.{delivery_fault, IsKeepers};
+ghost use Rattle.queue.specs.Removals.{removal_fault};
 ghost use Rattle.queue.specs.Steps.{Does, IsServed, IsUndone, Lasts, LeavesStep, Reads};
 
 use crate::command::{Arrived, Report};
 use crate::copy::{copy_plan, only_step, two_suites};
 use crate::delivery::check_delivery;
 use crate::fault::Fault;
+use crate::removal::{place_of, removal_plan};
 use crate::renewal::renewed_texts;
 use crate::report::{verdict_lines, waiting_lines};
 use crate::run::{judged_steps, report_lines};
@@ -146,6 +148,49 @@ impl<K: Keeper> Archive<K> {
         };
         self.keeper.apply(alloc, &change)?;
         Ok(items)
+    }
+
+    /// Removes from a suite, by its codename, all items of a package's name, sources and packages alike, at a moment, in
+    /// seconds since 1970-01-01 00:00:00 UTC, and says how many the suite showed. No older version comes back. It is
+    /// refused, the lowest first, for a moment after 2099, a codename that no suite has, and a name of which the suite shows
+    /// nothing.
+    pub fn remove(
+        &mut self,
+        alloc: Global,
+        suite: &str,
+        name: &str,
+        moment: u64,
+    ) -> Result<u64, Fault>
+        ensures lasts { Lasts K.Keeper self.old.keeper self.new.keeper }
+        // Behind a success the keeper is open.
+        ensures served { IsServed K.Keeper self.new.keeper (counted result) }
+        ensures step { Does K.Keeper self.old.keeper (Removing suite.now name.now moment) (counted result) self.new.keeper }
+        // A refusal leaves the book as it was, whatever the history.
+        ensures err { OnErr result (IsUndone K.Keeper self.old.keeper self.new.keeper) }
+        // A crash leaves what it would have left before, or all that the call does.
+        ensures crash { LeavesStep K.Keeper self.old.keeper (Removing suite.now name.now moment) self.new.keeper }
+        ensures done { K.is_clean self.new.keeper → IfOk result (λ _. removal_fault (K.book self.old.keeper) suite.now name.now moment ≡ None) }
+        ensures late { latest < moment → result ≡ Err Fault.Moment }
+        // The fault by the moment, the configuration and what is shown, or else one of the keeper's own.
+        ensures refused { K.is_clean self.new.keeper → IfErr result (λ e. (removal_fault (K.book self.old.keeper) suite.now name.now moment ≡ Some e)
+            ⊎ IsKeepers K.may_fail (is_free_removal (K.book self.old.keeper).config suite.now moment ≡ true) e) }
+    {
+        if moment > LATEST {
+            return Err(Fault::Moment);
+        }
+        let place = place_of(self.keeper.config(), suite)?;
+        let mut shelves = self.keeper.shelves(alloc)?;
+        let plan = removal_plan(alloc, self.keeper.config(), &shelves, place, name)?;
+        let count = plan.dropped.as_slice().len() as u64;
+        let steps = only_step(alloc, &mut shelves, plan)?;
+        let texts = renewed_texts(alloc, &mut self.keeper, &shelves, steps.as_slice(), moment)?;
+        let change = Change {
+            moment,
+            steps,
+            texts: Listed::from_vec(texts),
+        };
+        self.keeper.apply(alloc, &change)?;
+        Ok(count)
     }
 
     /// The index text or the file of the pool at a path without a leading slash.

@@ -40,6 +40,11 @@ pub enum Command {
     Waiting {
         moment: u64,
     },
+    Remove {
+        suite: String,
+        name: String,
+        moment: u64,
+    },
     Verdicts,
 }
 
@@ -51,5 +56,6 @@ pub enum Outcome {
     Copy(Result<u64, Fault>),
     Fetch(Result<Option<Vec<u8>>, Fault>),
     Waiting(Result<Report, Fault>),
+    Remove(Result<u64, Fault>),
     Verdicts(Result<Report, Fault>),
 }

@@ -22,7 +22,7 @@ fn has_codename(suite: &Suite, codename: &str) -> bool
 
 /// The position of the suite with a codename.
 #[tactic(auto, unfolding(crate::specs::Archives::suite_named))]
-fn suite_named(config: &Config, codename: &str) -> Option<usize>
+pub fn suite_named(config: &Config, codename: &str) -> Option<usize>
     ensures { result ≡ suite_named config.now codename.now }
 {
     config

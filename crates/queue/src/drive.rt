@@ -32,6 +32,11 @@ impl<K: Keeper> Archive<K> {
             } => Outcome::Copy(self.copy(alloc, from, to, source, *moment)),
             Command::Fetch { path } => Outcome::Fetch(self.fetch(alloc, path)),
             Command::Waiting { moment } => Outcome::Waiting(self.waiting(alloc, *moment)),
+            Command::Remove {
+                suite,
+                name,
+                moment,
+            } => Outcome::Remove(self.remove(alloc, suite, name, *moment)),
             Command::Verdicts => Outcome::Verdicts(self.verdicts(alloc)),
         }
     }

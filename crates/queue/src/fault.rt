@@ -30,6 +30,8 @@ pub enum Fault {
     SameSuite,
     /// The suite shows no item of the source package.
     NothingToCopy,
+    /// The suite shows no item of the package that is to be removed.
+    NothingToRemove,
 }
 
 impl Fault {
@@ -49,6 +51,7 @@ impl Fault {
             Fault::UnknownSuite => 6,
             Fault::SameSuite => 7,
             Fault::NothingToCopy => 8,
+            Fault::NothingToRemove => 11,
         }
     }
 }
@@ -70,6 +73,7 @@ impl fmt::Display for Fault {
             Fault::UnknownSuite => write!(f, "Q6"),
             Fault::SameSuite => write!(f, "Q7"),
             Fault::NothingToCopy => write!(f, "Q8"),
+            Fault::NothingToRemove => write!(f, "Q11"),
         }
     }
 }

@@ -1,4 +1,4 @@
-//! The archive: deliveries, queue runs, look-ups and lists of commands over any keeper.
+//! The archive: deliveries, queue runs, copies, removals, look-ups and lists of commands over any keeper.
 #![tactic(auto)]
 
 mod archive;
@@ -9,6 +9,7 @@ mod drive;
 mod fault;
 mod laws;
 mod once;
+mod removal;
 mod renewal;
 mod report;
 mod run;

@@ -9,9 +9,9 @@ use Rattle.std.proofs.lemmas.Slice.Eq.{bytes_eq-Decides}
 use Rattle.para.specs.Fields.{Fields}
 use Rattle.records.specs.Records.{is_among}
 use Rattle.rules.specs.Suites.{distributions, claims}
-use Rattle.rules.specs.Paragraphs.{suite_of, names_claimed, lacks_field, has_bad_value}
+use Rattle.rules.specs.Paragraphs.{suite_of, names_claimed, lacks_field}
 use Rattle.rules.specs.Values.{ConfigValue}
-use Rattle.rules.specs.Configuration.{claims_again, config_fault, config_in, ClaimApart}
+use Rattle.rules.specs.Configuration.{claims_again, config_fault, config_in, ClaimApart, have_bad_value}
 use Rattle.rules.specs.declared.suite.Suite.{Suite}
 use Rattle.rules.specs.declared.fault.ConfigFault.{ConfigFault}
 use Rattle.rules.specs.declared.fault.ConfigFault.TheVariants as faults
@@ -77,7 +77,7 @@ third_passes false false false rest h = refl
 
 claimed_once : (ps : List Fields) → config_fault ps ≡ None → claims_again [] (map names_claimed ps) ≡ false
 unfolding config_fault
-claimed_once ps h = third_passes (list_any lacks_field ps) (list_any has_bad_value ps) (claims_again [] (map names_claimed ps)) _ h
+claimed_once ps h = third_passes (list_any lacks_field ps) (have_bad_value ps) (claims_again [] (map names_claimed ps)) _ h
 
 pub claim_apart : (text : List ℕ) (config : ConfigValue) → config_in text ≡ Ok config → ClaimApart config.suites
 claim_apart text config h =

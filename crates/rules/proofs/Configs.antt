@@ -1,5 +1,5 @@
 -- A text and the configuration that it is.
-use Rattle.std.proofs.Common.{◌≡◌, ◌≢◌, ◌≤◌, ◌⊎◌, inl, inr, ℕ, List, [], length, map, Option, Some, None, Result, Ok, Err, refl, sym, ap, ◌∙◌}
+use Rattle.std.proofs.Common.{◌≡◌, ◌≢◌, ◌≤◌, ◌⊎◌, inl, inr, ℕ, List, [], length, map, codes, get_or, Option, Some, None, Result, Ok, Err, refl, sym, ap, ◌∙◌}
 use Rattle.para.specs.Fields.{Fields, paragraphs_in}
 use Rattle.para.specs.declared.fault.ParaFault.{ParaFault}
 use Rattle.para.specs.declared.fault.ParaFault.TheVariants as para_faults
@@ -7,7 +7,7 @@ use Rattle.para.proofs.InText.{spelled_paragraphs, paragraphs_spelled, fault_par
 use Rattle.para.specs.Fault.{many_fault}
 use Rattle.para.specs.Grammar.{Spells}
 use Rattle.rules.specs.Fault.{of_paragraph}
-use Rattle.rules.specs.Paragraphs.{suite_of}
+use Rattle.rules.specs.Paragraphs.{days, suite_of}
 use Rattle.rules.specs.Values.{ConfigValue}
 use Rattle.rules.specs.Configuration.{config_fault, config_of, config_limit, unless, of_paragraphs, config_in, IsConfig}
 use Rattle.rules.specs.declared.suite.Suite.{Suite}
@@ -36,17 +36,17 @@ refused_paragraphs text ps e found (inl memory) = inl memory
 refused_paragraphs text ps e found (inr bad) = inr (ap (of_paragraphs text) found ∙ ap (λ f. unless f (config_of text ps)) bad)
 
 -- the configuration of a text whose paragraphs have none
-pub configured : (text bytes : List ℕ) (ps : List Fields) (suites : List Suite) → paragraphs_in text config_limit ≡ Ok ps → config_fault ps ≡ None
-    → bytes ≡ text → suites ≡ map suite_of ps → config_in text ≡ Ok (record { text = bytes; suites = suites })
+pub configured : (text bytes : List ℕ) (ps : List Fields) (suites : List Suite) (keep : Option ℕ) → paragraphs_in text config_limit ≡ Ok ps → config_fault ps ≡ None
+    → bytes ≡ text → suites ≡ map suite_of ps → keep ≡ days (codes "KeepDays") (get_or ps 0 []) → config_in text ≡ Ok (record { text = bytes; suites = suites; keep_days = keep })
 unfolding config_in
-configured text bytes ps suites found none copied made =
+configured text bytes ps suites keep found none copied made kept =
     ap (of_paragraphs text) found ∙ ap (λ f. unless f (config_of text ps)) none
-    ∙ (λ i. Ok (record { text = sym copied i; suites = sym made i }))
+    ∙ (λ i. Ok (record { text = sym copied i; suites = sym made i; keep_days = sym kept i }))
 
 -- the same of a copy of the text
-pub configured_copy : (text bytes : List ℕ) (ps : List Fields) (suites : List Suite) → paragraphs_in text config_limit ≡ Ok ps → config_fault ps ≡ None
-    → bytes ≡ text → suites ≡ map suite_of ps → config_in bytes ≡ Ok (record { text = bytes; suites = suites })
-configured_copy text bytes ps suites found none copied made = ap config_in copied ∙ configured text bytes ps suites found none copied made
+pub configured_copy : (text bytes : List ℕ) (ps : List Fields) (suites : List Suite) (keep : Option ℕ) → paragraphs_in text config_limit ≡ Ok ps → config_fault ps ≡ None
+    → bytes ≡ text → suites ≡ map suite_of ps → keep ≡ days (codes "KeepDays") (get_or ps 0 []) → config_in bytes ≡ Ok (record { text = bytes; suites = suites; keep_days = keep })
+configured_copy text bytes ps suites keep found none copied made kept = ap config_in copied ∙ configured text bytes ps suites keep found none copied made kept
 
 unless_ok : (f : Option ConfigFault) (c d : ConfigValue) → unless f c ≡ Ok d → (f ≡ None) × (c ≡ d)
 unless_ok None c d h = (refl, cc)

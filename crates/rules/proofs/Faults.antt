@@ -2,8 +2,8 @@
 use Rattle.std.proofs.Common.{◌≡◌, ◌||◌, Bool, true, false, cond, List, [], length, map, nat_lt, refl, ◌∙◌, Option, Some, None}
 use Rattle.std.specs.List.{list_any}
 use Rattle.para.specs.Fields.{Fields}
-use Rattle.rules.specs.Paragraphs.{names_claimed, lacks_field, has_bad_value, has_bad_rule, is_over_limits}
-use Rattle.rules.specs.Configuration.{claims_again, config_fault}
+use Rattle.rules.specs.Paragraphs.{names_claimed, lacks_field, has_bad_rule, is_over_limits}
+use Rattle.rules.specs.Configuration.{claims_again, config_fault, have_bad_value}
 use Rattle.rules.specs.declared.fault.ConfigFault.{ConfigFault}
 use Rattle.rules.specs.declared.fault.ConfigFault.TheVariants as faults
 
@@ -14,7 +14,7 @@ first_of a b c d e =
 -- what the tests said
 abbrev Tests : List Fields → (Bool → Bool → Bool → Bool → Bool → Option ConfigFault) → Option ConfigFault
 Tests ps answer =
-    answer (list_any lacks_field ps) (list_any has_bad_value ps) (claims_again [] (map names_claimed ps)) (list_any has_bad_rule ps)
+    answer (list_any lacks_field ps) (have_bad_value ps) (claims_again [] (map names_claimed ps)) (list_any has_bad_rule ps)
     (nat_lt 16 (length ps) || list_any is_over_limits ps)
 
 config_fault_is : (ps : List Fields) → config_fault ps ≡ Tests ps first_of
@@ -27,21 +27,21 @@ same a b c d e a' b' c' d' e' p q r s t = λ i. first_of (p i) (q i) (r i) (s i)
 pub missing : (ps : List Fields) → list_any lacks_field ps ≡ true → config_fault ps ≡ Some faults.Missing
 missing ps h = config_fault_is ps ∙ same _ _ _ _ _ true _ _ _ _ h refl refl refl refl
 
-pub bad_value : (ps : List Fields) → list_any lacks_field ps ≡ false → list_any has_bad_value ps ≡ true → config_fault ps ≡ Some faults.BadValue
+pub bad_value : (ps : List Fields) → list_any lacks_field ps ≡ false → have_bad_value ps ≡ true → config_fault ps ≡ Some faults.BadValue
 bad_value ps p h = config_fault_is ps ∙ same _ _ _ _ _ false true _ _ _ p h refl refl refl
 
-pub claimed_twice : (ps : List Fields) → list_any lacks_field ps ≡ false → list_any has_bad_value ps ≡ false → claims_again [] (map names_claimed ps) ≡ true
+pub claimed_twice : (ps : List Fields) → list_any lacks_field ps ≡ false → have_bad_value ps ≡ false → claims_again [] (map names_claimed ps) ≡ true
     → config_fault ps ≡ Some faults.ClaimedTwice
 claimed_twice ps p q h = config_fault_is ps ∙ same _ _ _ _ _ false false true _ _ p q h refl refl
 
-pub bad_rule : (ps : List Fields) → list_any lacks_field ps ≡ false → list_any has_bad_value ps ≡ false → claims_again [] (map names_claimed ps) ≡ false
+pub bad_rule : (ps : List Fields) → list_any lacks_field ps ≡ false → have_bad_value ps ≡ false → claims_again [] (map names_claimed ps) ≡ false
     → list_any has_bad_rule ps ≡ true → config_fault ps ≡ Some faults.BadRule
 bad_rule ps p q r h = config_fault_is ps ∙ same _ _ _ _ _ false false false true _ p q r h refl
 
-pub limits : (ps : List Fields) → list_any lacks_field ps ≡ false → list_any has_bad_value ps ≡ false → claims_again [] (map names_claimed ps) ≡ false
+pub limits : (ps : List Fields) → list_any lacks_field ps ≡ false → have_bad_value ps ≡ false → claims_again [] (map names_claimed ps) ≡ false
     → list_any has_bad_rule ps ≡ false → (nat_lt 16 (length ps) || list_any is_over_limits ps) ≡ true → config_fault ps ≡ Some faults.Limits
 limits ps p q r s h = config_fault_is ps ∙ same _ _ _ _ _ false false false false true p q r s h
 
-pub faultless : (ps : List Fields) → list_any lacks_field ps ≡ false → list_any has_bad_value ps ≡ false → claims_again [] (map names_claimed ps) ≡ false
+pub faultless : (ps : List Fields) → list_any lacks_field ps ≡ false → have_bad_value ps ≡ false → claims_again [] (map names_claimed ps) ≡ false
     → list_any has_bad_rule ps ≡ false → (nat_lt 16 (length ps) || list_any is_over_limits ps) ≡ false → config_fault ps ≡ None
 faultless ps p q r s h = config_fault_is ps ∙ same _ _ _ _ _ false false false false false p q r s h

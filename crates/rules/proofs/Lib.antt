@@ -4,3 +4,4 @@ pub mod Claims
 pub mod Configs
 pub mod Apart
 pub mod Faults
+pub mod Numbers

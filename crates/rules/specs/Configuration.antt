@@ -1,11 +1,11 @@
 -- Which configuration a text is, one paragraph a suite, and the first fault of a text that is none.
-use Rattle.std.specs.Prelude.{◌≡◌, ◌≢◌, ◌≤◌, ℕ, ◌++◌, nat_lt, Bool, true, false, ◌||◌, List, [], ◌∷◌, length, map, Option, Some, None, Result, Ok, Err}
+use Rattle.std.specs.Prelude.{◌≡◌, ◌≢◌, ◌≤◌, ℕ, ◌++◌, nat_lt, Bool, true, false, ◌||◌, List, [], ◌∷◌, length, drop, get_or, codes, map, Option, Some, None, Result, Ok, Err}
 use Rattle.std.specs.List.{find, list_any, AllPairs}
 use Rattle.para.specs.Fields.{Fields, paragraphs_in}
 use Rattle.para.specs.Grammar.{Spells}
 use Rattle.para.specs.declared.fault.ParaFault.{ParaFault}
 use Rattle.records.specs.Records.{is_among}
-use Rattle.rules.specs.Paragraphs.{suite_of, names_claimed, lacks_field, has_bad_value, has_bad_rule, is_over_limits}
+use Rattle.rules.specs.Paragraphs.{days, suite_of, names_claimed, lacks_field, has_bad_value, has_keep_days, has_bad_rule, is_over_limits}
 use Rattle.rules.specs.Suites.{claims}
 use Rattle.rules.specs.Values.{ConfigValue}
 use Rattle.rules.specs.declared.suite.Suite.{Suite}
@@ -18,10 +18,14 @@ abbrev pub claims_again : List (List ℕ) → List (List (List ℕ)) → Bool
 claims_again claimed [] = false
 claims_again claimed (names ∷ rest) = list_any (is_among claimed) names || claims_again (claimed ++ names) rest
 
+-- a paragraph has a bad value, or one behind the first says how long arrivals count
+unfoldable pub have_bad_value : List Fields → Bool
+have_bad_value ps = list_any has_bad_value ps || list_any has_keep_days (drop 1 ps)
+
 -- when each fault applies to the paragraphs of a text, whatever the others do
 abbrev pub applies : List Fields → ConfigFault → Bool
 applies ps faults.Missing = list_any lacks_field ps
-applies ps faults.BadValue = list_any has_bad_value ps
+applies ps faults.BadValue = have_bad_value ps
 applies ps faults.ClaimedTwice = claims_again [] (map names_claimed ps)
 applies ps faults.BadRule = list_any has_bad_rule ps
 applies ps faults.Limits = nat_lt 16 (length ps) || list_any is_over_limits ps
@@ -36,7 +40,7 @@ unfoldable pub config_fault : List Fields → Option ConfigFault
 config_fault ps = find (applies ps) config_faults
 
 abbrev pub config_of : List ℕ → List Fields → ConfigValue
-config_of text ps = record { text = text; suites = map suite_of ps }
+config_of text ps = record { text = text; suites = map suite_of ps; keep_days = days (codes "KeepDays") (get_or ps 0 []) }
 
 -- the fault, or the configuration where there is none
 abbrev pub unless : Option ConfigFault → ConfigValue → Result ConfigValue ConfigFault

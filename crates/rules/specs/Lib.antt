@@ -3,6 +3,7 @@ pub mod Suites
 pub mod Verdicts
 pub mod Judgement
 pub mod Uploaders
+pub mod Days
 pub mod Paragraphs
 pub mod Fault
 pub mod Configuration

@@ -1,6 +1,6 @@
 -- The paragraph of a suite: its fields, and what each of them may be.
-use Rattle.std.specs.Prelude.{ℕ, nat_lt, Bool, true, ◌&&◌, ◌||◌, not, List, [], length, codes, bytes_eq, Option, unwrap_or}
-use Rattle.std.specs.Option.{option_map, option_map_or}
+use Rattle.std.specs.Prelude.{ℕ, nat_lt, Bool, true, ◌&&◌, ◌||◌, not, List, [], length, codes, bytes_eq, Option, is_some, unwrap_or}
+use Rattle.std.specs.Option.{option_and_then, option_map, option_map_or}
 use Rattle.std.specs.List.{list_all}
 use Rattle.para.specs.Bytes.{is_nil}
 use Rattle.para.specs.Field.{FieldValue}
@@ -8,6 +8,7 @@ use Rattle.para.specs.Fields.{Fields, field_named}
 use Rattle.para.specs.Value.{folded_value}
 use Rattle.records.specs.Names.{is_architecture_name, is_plain_name}
 use Rattle.records.specs.Records.{are_different}
+use Rattle.rules.specs.Days.{days_in, is_days}
 use Rattle.rules.specs.Uploaders.{is_rule_line, rules_in}
 use Rattle.rules.specs.Suites.{distributions}
 use Rattle.rules.specs.declared.suite.Suite.{Suite}
@@ -26,6 +27,10 @@ words name p = option_map_or folded_value (field_named name p) []
 unfoldable pub lines_behind : List ℕ → Fields → Option (List (List ℕ))
 lines_behind name p = option_map (λ f. f.more) (field_named name p)
 
+-- the number of days of the field, if it is there and has one
+unfoldable pub days : List ℕ → Fields → Option ℕ
+days name p = option_and_then days_in (first_line name p)
+
 -- the suite of a paragraph
 abbrev pub suite_of : Fields → Suite
 suite_of p = record {
@@ -38,6 +43,7 @@ suite_of p = record {
   components = words (codes "Components") p;
   also_accept_for = words (codes "AlsoAcceptFor") p;
   uploaders = option_map rules_in (lines_behind (codes "Uploaders") p);
+  valid_days = days (codes "ValidDays") p;
 }
 
 -- the distribution names that the suite of a paragraph claims
@@ -68,6 +74,10 @@ is_plain_line f = is_nil f.more && is_plain_name f.first
 unfoldable pub are_plain_words : FieldValue → Bool
 are_plain_words f = not (is_nil (folded_value f)) && list_all is_plain_name (folded_value f)
 
+-- one line, a number of days
+unfoldable pub is_days_line : FieldValue → Bool
+is_days_line f = is_nil f.more && is_days f.first
+
 -- absent, or passing
 unfoldable pub passes : (FieldValue → Bool) → List ℕ → Fields → Bool
 passes test name p = option_map_or test (field_named name p) true
@@ -85,6 +95,7 @@ has_good_lines p =
     passes is_plain_line (codes "Codename") p && passes is_plain_line (codes "Suite") p
     && passes is_filled_line (codes "Origin") p && passes is_filled_line (codes "Label") p
     && passes is_filled_line (codes "Description") p
+    && passes is_days_line (codes "KeepDays") p && passes is_days_line (codes "ValidDays") p
 
 unfoldable pub has_good_names : Fields → Bool
 has_good_names p =
@@ -95,6 +106,10 @@ has_good_names p =
 -- Fields of one line have one, none is empty, the names are spelled as names, and no architecture or component stands twice.
 unfoldable pub has_bad_value : Fields → Bool
 has_bad_value p = not (has_good_lines p && has_good_names p)
+
+-- how long arrivals count is said in the first paragraph alone
+unfoldable pub has_keep_days : Fields → Bool
+has_keep_days p = is_some (field_named (codes "KeepDays") p)
 
 -- ---- uploader lines
 

@@ -1,14 +1,15 @@
 //! The faults of a configuration's paragraphs, each looked for in all of them.
 
-ghost use Rattle.std.specs.Prelude.{codes, ◌≡◌, ◌⊎◌, ◌||◌, ◌++◌, not, nat_lt, [], ◌∷◌, ℕ, List, IfOk, IfErr, OnOk, MatchResult, Some, None, map, length};
+ghost use Rattle.std.specs.Prelude.{codes, ◌≡◌, ◌⊎◌, ◌||◌, ◌++◌, not, nat_lt, drop, [], ◌∷◌, ℕ, List, IfOk, IfErr, OnOk, MatchResult, Some, None, map, length};
 ghost use Rattle.std.specs.List.{list_any};
 ghost use Rattle.para.specs.Field.{field_value};
-ghost use Rattle.rules.specs.Paragraphs.{names_claimed, words, passes, is_without_word, lacks_field, is_filled_line, is_plain_line, are_plain_words, are_names, is_listed_architecture, has_good_lines, has_good_names, has_bad_value, are_rules, has_bad_rule, has_few_lines, is_over_limits};
-ghost use Rattle.rules.specs.Configuration.{claims_again, config_fault};
+ghost use Rattle.rules.specs.Paragraphs.{names_claimed, words, passes, is_without_word, lacks_field, is_days_line, is_filled_line, is_plain_line, are_plain_words, are_names, is_listed_architecture, has_good_lines, has_good_names, has_bad_value, has_keep_days, are_rules, has_bad_rule, has_few_lines, is_over_limits};
+ghost use Rattle.rules.specs.Configuration.{claims_again, config_fault, have_bad_value};
 ghost use Rattle.records.specs.Names.{is_plain_name};
 ghost use Rattle.records.specs.Records.{is_among};
 ghost use Rattle.rules.specs.Claimed.{holds};
 
+use crate::days::days_in;
 use crate::fault::ConfigFault;
 use crate::names::{are_listed_architectures, are_plain};
 use crate::paragraph::{claimed_names, words_of};
@@ -86,6 +87,24 @@ fn may_name(paragraph: &Paragraph<'_>, name: &str) -> bool
     }
 }
 
+#[tactic(auto, unfolding(crate::specs::Paragraphs::is_days_line, crate::specs::Days::days_in))]
+fn is_days_line(field: &Field<'_>) -> bool
+    ensures { result ≡ is_days_line (field_value field.now) }
+{
+    field.more.is_empty() && days_in(field.first).is_some()
+}
+
+/// Whether the field, where it is there, is one line with a number of days.
+#[tactic(auto, unfolding(crate::specs::Paragraphs::passes))]
+fn may_count(paragraph: &Paragraph<'_>, name: &str) -> bool
+    ensures { result ≡ passes is_days_line name.now paragraph.now }
+{
+    match paragraph.get(name) {
+        Some(field) => is_days_line(field),
+        None => true,
+    }
+}
+
 #[tactic(auto, unfolding(crate::specs::Paragraphs::has_good_lines))]
 fn has_good_lines(paragraph: &Paragraph<'_>) -> bool
     ensures { result ≡ has_good_lines paragraph.now }
@@ -95,7 +114,9 @@ fn has_good_lines(paragraph: &Paragraph<'_>) -> bool
     let origin = may_print(paragraph, "Origin");
     let label = may_print(paragraph, "Label");
     let description = may_print(paragraph, "Description");
-    codename && suite && origin && label && description
+    let keep = may_count(paragraph, "KeepDays");
+    let valid = may_count(paragraph, "ValidDays");
+    codename && suite && origin && label && description && keep && valid
 }
 
 #[tactic(auto, unfolding(crate::specs::Paragraphs::are_plain_words))]
@@ -221,6 +242,34 @@ fn some_has_bad_value(alloc: Global, paragraphs: &[Paragraph<'_>]) -> Result<boo
     Ok(false)
 }
 
+#[tactic(auto, unfolding(crate::specs::Paragraphs::has_keep_days))]
+fn has_keep_days(paragraph: &Paragraph<'_>) -> bool
+    ensures { result ≡ has_keep_days paragraph.now }
+{
+    paragraph.get("KeepDays").is_some()
+}
+
+/// Whether a paragraph behind the first says how long arrivals count.
+fn some_keeps_late(paragraphs: &[Paragraph<'_>]) -> bool
+    ensures { result ≡ list_any has_keep_days (drop 1 paragraphs.now) }
+{
+    match paragraphs.split_first() {
+        Some((_, rest)) => rest.iter().any(has_keep_days),
+        None => false,
+    }
+}
+
+/// Whether a paragraph has a bad value, or one behind the first says how long arrivals count.
+#[tactic(auto, unfolding(crate::specs::Configuration::have_bad_value))]
+fn have_bad_value(alloc: Global, paragraphs: &[Paragraph<'_>]) -> Result<bool, ConfigFault>
+    ensures found { IfOk result (λ bad. bad ≡ have_bad_value paragraphs.now) }
+    ensures refused { IfErr result (λ e. e ≡ ConfigFault.OutOfMemory) }
+{
+    let late = some_keeps_late(paragraphs);
+    let bad = some_has_bad_value(alloc, paragraphs)?;
+    Ok(bad || late)
+}
+
 fn some_has_bad_rule(paragraphs: &[Paragraph<'_>]) -> bool
     ensures { result ≡ list_any has_bad_rule paragraphs.now }
 {
@@ -296,7 +345,7 @@ pub fn check(alloc: Global, paragraphs: &[Paragraph<'_>]) -> Result<(), ConfigFa
     if some_lacks_field(alloc, paragraphs)? {
         return Err(ConfigFault::Missing);
     }
-    if some_has_bad_value(alloc, paragraphs)? {
+    if have_bad_value(alloc, paragraphs)? {
         return Err(ConfigFault::BadValue);
     }
     if two_claim_a_name(alloc, paragraphs)? {

@@ -1,14 +1,16 @@
 //! The configuration of an archive.
 
-ghost use Rattle.std.specs.Prelude.{◌≡◌, ◌⊎◌, Ok, Err, IfOk, IfErr};
+ghost use Rattle.std.specs.Prelude.{◌≡◌, ◌⊎◌, [], codes, get_or, Ok, Err, IfOk, IfErr};
 ghost use Rattle.rules.specs.Suites.{claiming};
 ghost use Rattle.rules.specs.Configuration.{config_in};
+ghost use Rattle.rules.specs.Paragraphs.{days};
 
 use crate::checks::check;
+use crate::days::Days;
 use crate::fault::ConfigFault;
-use crate::paragraph::suites_of;
+use crate::paragraph::{days_of, suites_of};
 use crate::suite::{Suite, position_of_claiming};
-use para::{Listed, read_many};
+use para::{Listed, Paragraph, read_many};
 use std::alloc::Global;
 use std::marker::Model;
 
@@ -20,6 +22,7 @@ const LIMIT: usize = 1_048_576;
 pub struct Config {
     text: Vec<u8>,
     suites: Listed<Suite>,
+    keep_days: Option<Days>,
 }
 
 impl Model for Config {
@@ -29,9 +32,19 @@ impl Model for Config {
 
     ghost Value = { ConfigValue };
 
-    ghost view = { λ c. record { text = c.text.items; suites = c.suites } };
+    ghost view = { λ c. record { text = c.text.items; suites = c.suites; keep_days = c.keep_days } };
 
-    ghost invariant = { λ c. config_in c.text.items ≡ Ok (record { text = c.text.items; suites = c.suites }) };
+    ghost invariant = { λ c. config_in c.text.items ≡ Ok (record { text = c.text.items; suites = c.suites; keep_days = c.keep_days }) };
+}
+
+/// The number of days for which what arrives counts, if the first paragraph has one.
+fn first_keep_days(paragraphs: &[Paragraph<'_>]) -> Option<Days>
+    ensures { result ≡ days (codes "KeepDays") (get_or paragraphs.now 0 []) }
+{
+    match paragraphs.first() {
+        Some(paragraph) => days_of(paragraph, "KeepDays"),
+        None => None,
+    }
 }
 
 impl Config {
@@ -44,7 +57,8 @@ impl Config {
     /// - `BadValue`: a Codename or Suite is not one line with a plain name; an Origin, Label or Description is not one
     ///   line, or is empty; the words of Architectures are not architecture names other than `all`, or one stands twice;
     ///   those of Components are not plain names, or one stands twice; those of an AlsoAcceptFor are not one plain name
-    ///   or more;
+    ///   or more; a KeepDays or ValidDays is not one line with a number of days, 1 to 3650 without a leading zero; or a
+    ///   KeepDays stands in another paragraph than the first;
     /// - `ClaimedTwice`: two suites claim one distribution name, as Codename, as Suite or in AlsoAcceptFor;
     /// - `BadRule`: an Uploaders has text on its first line, or a line that is not `SOURCE by PERSON`;
     /// - `Limits`: there are more than 16 suites, or a suite has more than 16 architectures, 8 components or 256
@@ -58,8 +72,13 @@ impl Config {
         let paragraphs = read_many(alloc, text, LIMIT)?;
         check(alloc, &paragraphs)?;
         let suites = suites_of(alloc, &paragraphs)?;
+        let keep_days = first_keep_days(&paragraphs);
         let text = text.to_vec(alloc)?;
-        Ok(Config { text, suites })
+        Ok(Config {
+            text,
+            suites,
+            keep_days,
+        })
     }
 
     /// The bytes that were read.
@@ -75,6 +94,13 @@ impl Config {
         ensures { result.now ≡ self.now.suites }
     {
         self.suites.as_slice()
+    }
+
+    /// For how many days what arrives counts; where there is none, for good.
+    pub fn keep_days(&self) -> Option<Days>
+        ensures { result ≡ self.now.keep_days }
+    {
+        self.keep_days
     }
 
     /// The position of the suite that claims the distribution name as its Codename, its Suite or a word of its

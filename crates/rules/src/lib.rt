@@ -3,6 +3,7 @@
 
 mod checks;
 mod config;
+mod days;
 mod fault;
 mod judgement;
 mod laws;
@@ -14,6 +15,7 @@ mod uploader;
 mod verdict;
 
 pub use config::Config;
+pub use days::Days;
 pub use fault::ConfigFault;
 pub use judgement::{Place, judge};
 pub use laws::{configurations_are_read, faults_are_lowest, one_configuration, suites_claim_apart};

@@ -2,9 +2,10 @@
 
 ghost use Rattle.std.specs.Prelude.{◌≡◌, IfOk, IfErr, map, unwrap_or, codes};
 ghost use Rattle.std.specs.Option.{option_map};
-ghost use Rattle.rules.specs.Paragraphs.{first_line, words, lines_behind, suite_of, names_claimed};
+ghost use Rattle.rules.specs.Paragraphs.{days, first_line, words, lines_behind, suite_of, names_claimed};
 ghost use Rattle.rules.specs.Uploaders.{rules_in};
 
+use crate::days::{Days, days_in};
 use crate::fault::ConfigFault;
 use crate::names::texts_of;
 use crate::suite::Suite;
@@ -46,6 +47,17 @@ fn text_of(alloc: Global, paragraph: &Paragraph<'_>, name: &str) -> Result<Optio
     match first_line(paragraph, name) {
         Some(line) => Ok(Some(Text::new(alloc, line)?)),
         None => Ok(None),
+    }
+}
+
+/// The number of days of the field, if it is there and has one.
+#[tactic(auto, unfolding(crate::specs::Paragraphs::days))]
+pub fn days_of(paragraph: &Paragraph<'_>, name: &str) -> Option<Days>
+    ensures { result ≡ days name.now paragraph.now }
+{
+    match first_line(paragraph, name) {
+        Some(line) => days_in(line),
+        None => None,
     }
 }
 
@@ -114,6 +126,7 @@ pub fn suite_of(alloc: Global, paragraph: &Paragraph<'_>) -> Result<Suite, Confi
         components: names_of(alloc, paragraph, "Components")?,
         also_accept_for: names_of(alloc, paragraph, "AlsoAcceptFor")?,
         uploaders: uploaders_of(alloc, paragraph)?,
+        valid_days: days_of(paragraph, "ValidDays"),
     })
 }
 

@@ -5,6 +5,7 @@ ghost use Rattle.std.specs.Prelude.{bytes_eq, codes};
 ghost use Rattle.std.specs.List.{list_any};
 ghost use Rattle.rules.specs.Suites.{claims, claiming_among, keeps_architecture, keeps_component, allows, component_of};
 
+use crate::days::Days;
 use crate::lent::{Judging, Spelled};
 use crate::names::{is_one_of, position_of};
 use crate::uploader::{Rule, lines_allow};
@@ -31,6 +32,8 @@ pub struct Suite {
     pub also_accept_for: Listed<Text>,
     /// Who may upload; where it is absent, everybody.
     pub uploaders: Option<Listed<Rule>>,
+    /// For how many days behind its date a Release is valid; where it is absent, for good.
+    pub valid_days: Option<Days>,
 }
 
 /// Whether there is another architecture than `source`.

@@ -31,6 +31,18 @@ fn copying(alloc: Global, words: &[Vec<u8>]) -> Result<Command, Unread> {
     })
 }
 
+/// `remove SUITE NAME MOMENT`.
+fn removing(alloc: Global, words: &[Vec<u8>]) -> Result<Command, Unread> {
+    let [suite, name, moment] = words else {
+        return Err(Unread::BadWords);
+    };
+    Ok(Command::Remove {
+        suite: String::from_str(alloc, text_of(suite)?)?,
+        name: String::from_str(alloc, text_of(name)?)?,
+        moment: number_of(moment)?,
+    })
+}
+
 /// `fetch PATH`.
 fn look_up(alloc: Global, words: &[Vec<u8>]) -> Result<Command, Unread> {
     Ok(Command::Fetch {
@@ -49,6 +61,7 @@ fn command_of(alloc: Global, words: &[Vec<u8>]) -> Result<Command, Unread> {
             moment: moment_of(words)?,
         }),
         "copy" => copying(alloc, words),
+        "remove" => removing(alloc, words),
         "fetch" => look_up(alloc, words),
         "waiting" => Ok(Command::Waiting {
             moment: moment_of(words)?,
@@ -77,7 +90,7 @@ fn outcome_text(alloc: Global, outcome: Outcome) -> Result<Vec<u8>, Unread> {
         Outcome::Run(done) | Outcome::Waiting(done) | Outcome::Verdicts(done) => report_text(
             alloc, done,
         ),
-        Outcome::Copy(done) => number_text(alloc, done),
+        Outcome::Copy(done) | Outcome::Remove(done) => number_text(alloc, done),
         Outcome::Fetch(done) => found_text(alloc, done),
     }
 }

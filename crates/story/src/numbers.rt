@@ -14,7 +14,7 @@ const OF_KEEPERS: [KeepFault; 4] = [
     KeepFault::Tables,
 ];
 
-const OF_ARCHIVES: [Fault; 9] = [
+const OF_ARCHIVES: [Fault; 10] = [
     Fault::OutOfMemory,
     Fault::BadName,
     Fault::TooLarge,
@@ -24,6 +24,7 @@ const OF_ARCHIVES: [Fault; 9] = [
     Fault::UnknownSuite,
     Fault::SameSuite,
     Fault::NothingToCopy,
+    Fault::NothingToRemove,
 ];
 
 const OF_DESKS: [DeskFault; 2] = [DeskFault::ReaderFailed, DeskFault::WriterFailed];

@@ -67,6 +67,7 @@ fn wanted_text(alloc: Global, wanted: &Wanted) -> Result<String, AllocError> {
         }
         Wanted::Waiting => String::from_str(alloc, "waiting"),
         Wanted::Verdicts => String::from_str(alloc, "verdicts"),
+        Wanted::Remove { suite, name } => format!(in alloc; "remove {suite:?} {name:?}"),
     }
 }
 

@@ -1,4 +1,4 @@
-//! Deliveries, runs, lists, look-ups and copies.
+//! Deliveries, runs, lists, look-ups, copies and removals.
 
 use crate::delivery::delivery_of;
 use crate::outcomes::{arrived_text, found_text, number_text, refused_text, report_text};
@@ -104,4 +104,17 @@ pub fn copy<K: Keeper>(
         alloc,
         archive.copy(alloc, from, to, source, number_of(moment)?),
     )
+}
+
+/// `remove SUITE NAME MOMENT`: how many items of the package the suite showed, or the fault.
+pub fn remove<K: Keeper>(
+    alloc: Global,
+    archive: &mut Archive<K>,
+    words: &[Vec<u8>],
+) -> Result<Vec<u8>, Unread> {
+    let [suite, name, moment] = words else {
+        return Err(Unread::BadWords);
+    };
+    let (suite, name) = (text_of(suite)?, text_of(name)?);
+    number_text(alloc, archive.remove(alloc, suite, name, number_of(moment)?))
 }

@@ -6,7 +6,7 @@ use crate::keepers::Makes;
 use crate::numbers::numbers;
 use crate::reading::{status, wanted};
 use crate::requests::request;
-use crate::steps::{copy, deliver, has, moment_of, run, show, verdicts, waiting};
+use crate::steps::{copy, deliver, has, moment_of, remove, run, show, verdicts, waiting};
 use keep::{KeepFault, Keeper, LATEST};
 use queue::Archive;
 use rows::{Answers, Unread, said, text_of};
@@ -36,8 +36,8 @@ fn asked_by_request<K: Keeper>(
     }
 }
 
-/// What an archive answers to a question: `deliver`, `run`, `waiting`, `verdicts`, `show`, `has`, `copy`, `drive` and those on
-/// requests.
+/// What an archive answers to a question: `deliver`, `run`, `waiting`, `verdicts`, `show`, `has`, `copy`, `remove`, `drive` and those
+/// on requests.
 pub fn asked<K: Keeper>(
     alloc: Global,
     archive: &mut Archive<K>,
@@ -52,6 +52,7 @@ pub fn asked<K: Keeper>(
         "show" => show(alloc, archive, words),
         "has" => has(alloc, archive, words),
         "copy" => copy(alloc, archive, words),
+        "remove" => remove(alloc, archive, words),
         "drive" => drive(alloc, archive, words),
         _ => asked_by_request(alloc, archive, verb, words),
     }

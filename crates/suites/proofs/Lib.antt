@@ -42,3 +42,4 @@ pub mod CopyLemmas
 pub mod AcceptedRows
 pub mod AcceptedParts
 pub mod ToldLemmas
+pub mod RemovalLemmas

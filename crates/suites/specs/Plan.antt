@@ -1,4 +1,4 @@
--- What an upload and a copy change.
+-- What an upload, a copy and a removal change.
 use Rattle.std.specs.Prelude.{◌≡◌, ℕ, Bool, List, [], ◌∷◌, map, filter, bytes_eq, Option, option_to_list, ◌&&◌, nat_eq, slice_get, length}
 use Rattle.std.specs.List.{flat_map, enumerate_from}
 use Rattle.std.specs.FinMap.{entries}
@@ -56,6 +56,17 @@ copied config shelves from to source = flat_map
 
 abbrev pub after_copy : ConfigValue → ShelvesValue → ℕ → ℕ → List ℕ → ShelvesValue
 after_copy config shelves from to source = shown_after version_of shelves (copied config shelves from to source)
+
+-- A removal takes from a suite all items of a package's name, sources and packages alike.
+unfoldable pub is_removed : {X : Type 0} → ℕ → List ℕ → ShelfKey × X → Bool
+is_removed suite name e = nat_eq e.0.suite suite && bytes_eq e.0.«package» name
+
+-- those that the suite shows
+unfoldable pub removed : ShelvesValue → ℕ → List ℕ → List (ShelfKey × Item)
+removed shelves suite name = filter (is_removed suite name) (entries shelves)
+
+abbrev pub after_removal : ShelvesValue → ℕ → List ℕ → ShelvesValue
+after_removal shelves suite name = without shelves (removed shelves suite name)
 
 -- the references of items: each file by its number in its item, from 1
 abbrev pub references_of : ShelfKey × Item → List Reference

@@ -7,8 +7,12 @@ use Rattle.sums.specs.declared.print.Print.{Print}
 use Rattle.suites.specs.Counts.{count_at}
 use Rattle.suites.specs.Keys.{text_order}
 use Rattle.suites.specs.Pool.{files_of, pair_of}
+use Rattle.suites.specs.Plan.{references}
 use Rattle.suites.specs.Shelves.{ShelvesValue}
+use Rattle.suites.specs.declared.item.Item.{Item}
 use Rattle.suites.specs.declared.item.PoolFile.{PoolFile}
+use Rattle.suites.specs.declared.key.ShelfKey.{ShelfKey}
+use Rattle.suites.specs.declared.plan.Plan.{Plan}
 use Rattle.suites.specs.declared.plan.Reference.{Reference}
 use Rattle.suites.specs.declared.shelves.SharedFile.{SharedFile}
 
@@ -51,3 +55,12 @@ is_new shelves path file = nat_eq (references_at shelves path) 0
 -- no reference comes to the path, and as many go as there are
 abbrev pub has_no_use : ShelvesValue → BTreeMap (String Global) SharedFile → List ℕ → ℕ → Bool
 has_no_use shelves put path dropped = if is_some (get_by_text put path) then false else nat_le (references_at shelves path) dropped
+
+-- The plan puts and drops these items, with what that changes of the references and of the pool.
+pub record IsPlanOf (shelves : ShelvesValue) (put dropped : List (ShelfKey × Item)) (plan : Plan) : Type 0 where
+  pub put_are : plan.put ≡ put
+  pub dropped_are : plan.dropped ≡ dropped
+  pub references_put : plan.references_put ≡ references put
+  pub references_dropped : plan.references_dropped ≡ references dropped
+  pub added : ListsExactly plan.files_added (gained shelves (references put))
+  pub removed : ListsExactly plan.files_removed (lost shelves (references put) (references dropped))

@@ -8,6 +8,7 @@ ghost use Rattle.suites.specs.Admission.{MayJoin, arriving, standing_at, replace
 ghost use Rattle.suites.specs.Items.{standing};
 ghost use Rattle.suites.specs.Keys.{key_order};
 ghost use Rattle.suites.specs.Plan.{IsStep, references_of, references as references_to};
+ghost use Rattle.suites.specs.PoolChange.{IsPlanOf};
 ghost use Rattle.suites.specs.Shelves.{shown_after, version_of};
 ghost use Rattle.suites.specs.declared.key.ShelfKey.{ShelfKey as ShelfKeyValue};
 
@@ -132,21 +133,16 @@ fn item_change(
     Ok(change)
 }
 
-/// The plan that admits items to a suite: those that no shown item covers come, and what they replace goes.
-pub fn plan_admission(
+/// The plan that puts and drops these items, with what that changes of the references and of the pool.
+pub fn plan_of(
     alloc: Global,
     shelves: &Shelves,
-    suite: usize,
-    items: Vec<Item>,
+    put: Vec<(ShelfKey, Item)>,
+    dropped: Vec<(ShelfKey, Item)>,
 ) -> Result<Plan, AllocError>
-    requires { MayJoin shelves.now (map (standing suite) items.items) }
     ensures verdict { IfOk result (λ plan. plan.verdict ≡ verdict.Accepted) }
-    ensures step { IfOk result (IsStep shelves.now (shown_after version_of shelves.now (map (standing suite) items.items))) }
+    ensures plan { IfOk result (IsPlanOf shelves.now put.items dropped.items) }
 {
-    // For the prover alone: the shelves are sound.
-    shelves.agree();
-    let items = by_shelf(alloc, suite, items)?;
-    let ItemChange { put, dropped } = item_change(alloc, shelves, items)?;
     let references_put = references(alloc, &put)?;
     let references_dropped = references(alloc, &dropped)?;
     let FileChange { added, removed } = pool_changes(
@@ -164,4 +160,22 @@ pub fn plan_admission(
         files_added: Listed::from_vec(added),
         files_removed: Listed::from_vec(removed),
     })
+}
+
+/// The plan that admits items to a suite: those that no shown item covers come, and what they replace goes.
+pub fn plan_admission(
+    alloc: Global,
+    shelves: &Shelves,
+    suite: usize,
+    items: Vec<Item>,
+) -> Result<Plan, AllocError>
+    requires { MayJoin shelves.now (map (standing suite) items.items) }
+    ensures verdict { IfOk result (λ plan. plan.verdict ≡ verdict.Accepted) }
+    ensures step { IfOk result (IsStep shelves.now (shown_after version_of shelves.now (map (standing suite) items.items))) }
+{
+    // For the prover alone: the shelves are sound.
+    shelves.agree();
+    let items = by_shelf(alloc, suite, items)?;
+    let ItemChange { put, dropped } = item_change(alloc, shelves, items)?;
+    plan_of(alloc, shelves, put, dropped)
 }

@@ -1,5 +1,5 @@
 -- The texts of an archive of one suite, `box`, to which one package was uploaded.
-use Rattle.std.specs.Prelude.{◌≡◌, refl, ℕ, List, [], ◌∷◌, length, codes, map, None, Result, Ok, Err}
+use Rattle.std.specs.Prelude.{◌≡◌, refl, ℕ, List, [], ◌∷◌, length, codes, map, Some, None, Result, Ok, Err}
 use Rattle.std.specs.List.{flat_map}
 use Rattle.std.specs.Fmt.{digits}
 use Rattle.std.specs.Str.{is_utf8, chars}
@@ -19,7 +19,7 @@ use Rattle.suites.specs.declared.item.Item.{Item}
 use Rattle.sums.specs.Lists.{unhexed, lists_in}
 use Rattle.texts.specs.Calendar.{date_text, day_text, time_text, year_of, month_of, day_of, year_and_day, month_and_day, weekday_name, month_name}
 use Rattle.texts.specs.Stanzas.{fields_of_text, file_fields, package_fields, package_stanza}
-use Rattle.texts.specs.Release.{release_text, suite_fields, index_lists, index_list, optional_field, architectures_text, index_path}
+use Rattle.texts.specs.Release.{release_text, suite_fields, valid_until, index_lists, index_list, optional_field, architectures_text, index_path}
 use Rattle.texts.specs.declared.index.Index.{Index}
 
 -- the first seconds of some days, and the last of others
@@ -43,6 +43,10 @@ pub march_of_2100 : date_text 4107542400 ≡ codes "Mon, 01 Mar 2100 00:00:00 UT
 unfolding date_text day_text time_text year_of month_of day_of year_and_day month_and_day weekday_name month_name digits
 march_of_2100 = refl
 
+pub last_valid_day : date_text 4417804799 ≡ codes "Sun, 29 Dec 2109 23:59:59 UTC"
+unfolding date_text day_text time_text year_of month_of day_of year_and_day month_and_day weekday_name month_name digits
+last_valid_day = refl
+
 pub box : Suite
 box = record {
   codename = codes "box";
@@ -54,7 +58,12 @@ box = record {
   components = codes "main" ∷ [];
   also_accept_for = [];
   uploaders = None;
+  valid_days = None;
 }
+
+-- the same, where a Release is valid for a week
+pub week : Suite
+week = record box { valid_days = Some 7 }
 
 pub sidecar_text : List ℕ
 sidecar_text = codes "Package: hello\nVersion: 1.0-1\nArchitecture: amd64\nMaintainer: Ann <ann@example.org>\nDescription: greets\n"
@@ -71,6 +80,12 @@ empty_release = codes "Codename: box\nDate: Thu, 01 Jan 1970 00:00:00 UTC\nArchi
 pub full_release : List ℕ
 full_release = codes "Codename: box\nDate: Sat, 02 Jul 2016 05:20:50 UTC\nArchitectures: amd64\nComponents: main\nMD5Sum:\n 91ad950fbd1207eb0a8881de4c58ee3a 324 main/binary-amd64/Packages\n d41d8cd98f00b204e9800998ecf8427e 0 main/source/Sources\nSHA1:\n 31bf4b5b86f1637ecb8550ee13a0185998725361 324 main/binary-amd64/Packages\n da39a3ee5e6b4b0d3255bfef95601890afd80709 0 main/source/Sources\nSHA256:\n d88ffa788e1b5fa0de33afc8763bc11a7860e2418858ad9c6776679e32c83d77 324 main/binary-amd64/Packages\n e3b0c44298fc1c149afbf4c8996fb92427ae41e4649b934ca495991b7852b855 0 main/source/Sources\n"
 
+pub empty_week : List ℕ
+empty_week = codes "Codename: box\nDate: Thu, 01 Jan 1970 00:00:00 UTC\nValid-Until: Thu, 08 Jan 1970 00:00:00 UTC\nArchitectures: amd64\nComponents: main\nMD5Sum:\n d41d8cd98f00b204e9800998ecf8427e 0 main/binary-amd64/Packages\n d41d8cd98f00b204e9800998ecf8427e 0 main/source/Sources\nSHA1:\n da39a3ee5e6b4b0d3255bfef95601890afd80709 0 main/binary-amd64/Packages\n da39a3ee5e6b4b0d3255bfef95601890afd80709 0 main/source/Sources\nSHA256:\n e3b0c44298fc1c149afbf4c8996fb92427ae41e4649b934ca495991b7852b855 0 main/binary-amd64/Packages\n e3b0c44298fc1c149afbf4c8996fb92427ae41e4649b934ca495991b7852b855 0 main/source/Sources\n"
+
+pub full_week : List ℕ
+full_week = codes "Codename: box\nDate: Sat, 02 Jul 2016 05:20:50 UTC\nValid-Until: Sat, 09 Jul 2016 05:20:50 UTC\nArchitectures: amd64\nComponents: main\nMD5Sum:\n 91ad950fbd1207eb0a8881de4c58ee3a 324 main/binary-amd64/Packages\n d41d8cd98f00b204e9800998ecf8427e 0 main/source/Sources\nSHA1:\n 31bf4b5b86f1637ecb8550ee13a0185998725361 324 main/binary-amd64/Packages\n da39a3ee5e6b4b0d3255bfef95601890afd80709 0 main/source/Sources\nSHA256:\n d88ffa788e1b5fa0de33afc8763bc11a7860e2418858ad9c6776679e32c83d77 324 main/binary-amd64/Packages\n e3b0c44298fc1c149afbf4c8996fb92427ae41e4649b934ca495991b7852b855 0 main/source/Sources\n"
+
 pub sidecar_length : length sidecar_text ≡ 104
 unfolding sidecar_text
 sidecar_length = refl
@@ -86,6 +101,14 @@ empty_release_length = refl
 pub full_release_length : length full_release ≡ 553
 unfolding full_release
 full_release_length = refl
+
+pub empty_week_length : length empty_week ≡ 590
+unfolding empty_week
+empty_week_length = refl
+
+pub full_week_length : length full_week ≡ 596
+unfolding full_week
+full_week_length = refl
 
 -- the items of the .changes, whose entries are a package file and its sidecar
 abbrev pub items_from : {E : Type 0} → Result ChangesValue E → List Item
@@ -121,9 +144,17 @@ unfolding index_path box
 the_paths = refl
 
 pub the_empty_release : release_text box 0 (empty_index (codes "main/binary-amd64/Packages") ∷ empty_index (codes "main/source/Sources") ∷ []) ≡ empty_release
-unfolding release_text suite_fields index_lists index_list optional_field architectures_text box empty_index index_with empty_release date_text day_text time_text year_of month_of day_of year_and_day month_and_day weekday_name month_name encode_with digits
+unfolding release_text suite_fields valid_until index_lists index_list optional_field architectures_text box empty_index index_with empty_release date_text day_text time_text year_of month_of day_of year_and_day month_and_day weekday_name month_name encode_with digits
 the_empty_release = refl
 
 pub the_full_release : release_text box 1467436850 (packages_index ∷ empty_index (codes "main/source/Sources") ∷ []) ≡ full_release
-unfolding release_text suite_fields index_lists index_list optional_field architectures_text box empty_index packages_index index_with full_release date_text day_text time_text year_of month_of day_of year_and_day month_and_day weekday_name month_name encode_with digits
+unfolding release_text suite_fields valid_until index_lists index_list optional_field architectures_text box empty_index packages_index index_with full_release date_text day_text time_text year_of month_of day_of year_and_day month_and_day weekday_name month_name encode_with digits
 the_full_release = refl
+
+pub the_empty_week : release_text week 0 (empty_index (codes "main/binary-amd64/Packages") ∷ empty_index (codes "main/source/Sources") ∷ []) ≡ empty_week
+unfolding release_text suite_fields valid_until index_lists index_list optional_field architectures_text box week empty_index index_with empty_week date_text day_text time_text year_of month_of day_of year_and_day month_and_day weekday_name month_name encode_with digits
+the_empty_week = refl
+
+pub the_full_week : release_text week 1467436850 (packages_index ∷ empty_index (codes "main/source/Sources") ∷ []) ≡ full_week
+unfolding release_text suite_fields valid_until index_lists index_list optional_field architectures_text box week empty_index packages_index index_with full_week date_text day_text time_text year_of month_of day_of year_and_day month_and_day weekday_name month_name encode_with digits
+the_full_week = refl

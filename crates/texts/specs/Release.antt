@@ -1,5 +1,5 @@
 -- The text that names a suite and lists the prints of its other indices (the Debian repository format).
-use Rattle.std.specs.Prelude.{ℕ, Bool, not, if◌then◌else◌, List, [], ◌∷◌, ◌++◌, map, filter, codes, bytes_eq, Option, option_to_list}
+use Rattle.std.specs.Prelude.{ℕ, ◌+◌, ◌*◌, Bool, not, if◌then◌else◌, List, [], ◌∷◌, ◌++◌, map, filter, codes, bytes_eq, Option, option_to_list}
 use Rattle.std.specs.List.{flat_map, join_with_byte}
 use Rattle.para.specs.Field.{FieldValue}
 use Rattle.para.specs.Fields.{Fields}
@@ -32,7 +32,12 @@ is_source architecture = bytes_eq architecture (codes "source")
 unfoldable pub architectures_text : List (List ℕ) → List ℕ
 architectures_text architectures = join_with_byte 32 (filter (λ a. not (is_source a)) architectures)
 
--- the fields that say what the suite is, and when it changed
+-- until when a Release of the suite that last changed at the moment is valid, where the suite says for how long
+unfoldable pub valid_until : Suite → ℕ → Fields
+valid_until s moment =
+    map (λ days. line_field (codes "Valid-Until") (date_text (moment + days * 86400))) (option_to_list s.valid_days)
+
+-- the fields that say what the suite is, when it changed, and until when it is valid
 unfoldable pub suite_fields : Suite → ℕ → Fields
 suite_fields s moment =
     optional_field (codes "Origin") s.origin
@@ -40,9 +45,10 @@ suite_fields s moment =
     ++ optional_field (codes "Suite") s.suite
     ++ line_field (codes "Codename") s.codename
     ∷ line_field (codes "Date") (date_text moment)
-    ∷ line_field (codes "Architectures") (architectures_text s.architectures)
+    ∷ (valid_until s moment
+    ++ line_field (codes "Architectures") (architectures_text s.architectures)
     ∷ line_field (codes "Components") (join_with_byte 32 s.components)
-    ∷ optional_field (codes "Description") s.description
+    ∷ optional_field (codes "Description") s.description)
 
 -- the lists of the other indices
 unfoldable pub index_lists : List Index → Fields

@@ -11,7 +11,7 @@ use std::alloc::{AllocError, Global};
 
 /// What a clock at UTC shows that many seconds after 1970-01-01 00:00:00 UTC.
 fn civil_time(moment: u64) -> DateTime
-    requires { moment ≤ 4_102_444_799 }
+    requires { moment ≤ 4_417_804_799 }
     ensures { civil_nanos result ≡ pos (moment * 1_000_000_000) }
 {
     match Timestamp::from_second(moment as i64) {
@@ -106,7 +106,7 @@ fn time_text(alloc: Global, second: u32) -> Result<String, AllocError>
 
 /// The date of a moment, in seconds since 1970-01-01 00:00:00 UTC, as `Thu, 01 Jan 1970 00:00:00 UTC`.
 pub fn date_text(alloc: Global, moment: u64) -> Result<String, AllocError>
-    requires { moment ≤ 4_102_444_799 }
+    requires { moment ≤ 4_417_804_799 }
     ensures { IfOk result (λ text. string_bytes text ≡ date_text moment) }
 {
     let weekday = weekday_name(moment / 86_400);

@@ -1,18 +1,18 @@
-//! Release: what a suite is, when it changed, and the prints of its other indices.
+//! Release: what a suite is, when it changed, until when that is valid, and the prints of its other indices.
 
-ghost use Rattle.std.specs.Prelude.{◌≡◌, ◌≤◌, ◌<◌, ◌++◌, [], ◌∷◌, ◌||◌, not, OnOk, OnErr, IfOk, length, map, codes, string_bytes, if◌then◌else◌};
+ghost use Rattle.std.specs.Prelude.{◌≡◌, ◌≤◌, ◌<◌, ◌+◌, ◌*◌, ◌++◌, [], ◌∷◌, ◌||◌, not, OnOk, OnErr, IfOk, length, map, codes, string_bytes, if◌then◌else◌};
 ghost use Rattle.std.specs.List.{flat_map, join_with_byte};
 ghost use Rattle.para.specs.Printing.{field_text, more_text, paragraph_text};
 ghost use Rattle.texts.specs.Calendar.{date_text};
 ghost use Rattle.texts.specs.Positions.{release_at};
 ghost use Rattle.texts.specs.Stanzas.{line_field, list_line};
-ghost use Rattle.texts.specs.Release.{optional_field, index_list, is_source, architectures_text, suite_fields, index_lists, release_text};
+ghost use Rattle.texts.specs.Release.{optional_field, index_list, valid_until, is_source, architectures_text, suite_fields, index_lists, release_text};
 
 use crate::date::date_text;
 use crate::index::Index;
 use crate::stanza::{Digest, push_line_field, push_list_line};
 use para::Text;
-use rules::{Config, Suite};
+use rules::{Config, Days, Suite};
 use std::alloc::{AllocError, Global};
 
 /// Appends the field where the configuration has a value for it.
@@ -119,6 +119,37 @@ fn push_date(alloc: Global, moment: u64, out: &mut Vec<u8>) -> Result<(), AllocE
     push_line_field("Date", date.as_str(), out)
 }
 
+/// Appends the field Valid-Until.
+fn push_end(
+    alloc: Global,
+    moment: u64,
+    days: Days,
+    out: &mut Vec<u8>,
+) -> Result<(), AllocError>
+    requires { moment ≤ 4_102_444_799 }
+    ensures { OnOk result (out.new.items ≡ out.old.items ++ field_text (line_field (codes "Valid-Until") (date_text (moment + days * 86400)))) }
+{
+    let date = date_text(alloc, moment + days.seconds())?;
+    push_line_field("Valid-Until", date.as_str(), out)
+}
+
+/// Appends the field Valid-Until, where the suite says for how long its Release is valid.
+#[tactic(auto, unfolding(crate::specs::Release::valid_until))]
+fn push_valid_until(
+    alloc: Global,
+    suite: &Suite,
+    moment: u64,
+    out: &mut Vec<u8>,
+) -> Result<(), AllocError>
+    requires { moment ≤ 4_102_444_799 }
+    ensures { OnOk result (out.new.items ≡ out.old.items ++ paragraph_text (valid_until suite.now moment)) }
+{
+    match suite.valid_days {
+        Some(days) => push_end(alloc, moment, days, out),
+        None => Ok(()),
+    }
+}
+
 /// Appends the field Architectures.
 fn push_architectures(alloc: Global, names: &[Text], out: &mut Vec<u8>) -> Result<(), AllocError>
     ensures { OnOk result (out.new.items ≡ out.old.items ++ field_text (line_field (codes "Architectures") (architectures_text names.now))) }
@@ -135,7 +166,7 @@ fn push_components(alloc: Global, names: &[Text], out: &mut Vec<u8>) -> Result<(
     push_line_field("Components", components.as_str(), out)
 }
 
-/// Appends the fields that say what the suite is, and when it changed.
+/// Appends the fields that say what the suite is, when it changed, and until when it is valid.
 fn push_suite(
     alloc: Global,
     suite: &Suite,
@@ -150,6 +181,7 @@ fn push_suite(
     push_optional("Suite", &suite.suite, out)?;
     push_line_field("Codename", suite.codename.as_str(), out)?;
     push_date(alloc, moment, out)?;
+    push_valid_until(alloc, suite, moment, out)?;
     push_architectures(alloc, suite.architectures.as_slice(), out)?;
     push_components(alloc, suite.components.as_slice(), out)?;
     push_optional("Description", &suite.description, out)
@@ -173,7 +205,8 @@ pub fn release_text(
 
 /// Appends the Release of a suite, given by its position in the configuration, whose shown items last changed at the
 /// moment, in seconds since 1970-01-01 00:00:00 UTC; `indices` are its other texts, in the order of its components and
-/// in each of its architectures. Where memory runs out the buffer is as before.
+/// in each of its architectures. Where the suite has ValidDays, Valid-Until is that many days behind the moment. Where
+/// memory runs out the buffer is as before.
 pub fn release(
     alloc: Global,
     config: &Config,

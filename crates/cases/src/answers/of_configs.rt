@@ -3,7 +3,7 @@
 use super::{replaced, yes_or_no};
 use records::Changes;
 use rows::{Unread, number_of, said, text_of};
-use rules::{Config, Place, Suite, Verdict, component_of_section, judge};
+use rules::{Config, Days, Place, Suite, Verdict, component_of_section, judge};
 use std::alloc::{AllocError, Global};
 
 /// `config TEXT [OLD NEW]..`: `read`, or the fault.
@@ -34,6 +34,42 @@ fn suites(alloc: Global, words: &[Vec<u8>]) -> Result<Vec<u8>, Unread> {
     };
     let count = config_of(alloc, text)?.suites().len();
     said(alloc, format!(in alloc; "{count}")?.as_str())
+}
+
+/// The seconds of a number of days, or `none`.
+fn seconds_of(alloc: Global, days: Option<Days>) -> Result<Vec<u8>, Unread> {
+    match days {
+        Some(days) => {
+            let seconds = days.seconds();
+            said(alloc, format!(in alloc; "{seconds}")?.as_str())
+        }
+        None => said(alloc, "none"),
+    }
+}
+
+/// `keep-seconds TEXT`: the seconds for which what arrives counts, or `none`.
+fn keep_seconds(alloc: Global, words: &[Vec<u8>]) -> Result<Vec<u8>, Unread> {
+    let [text] = words else {
+        return Err(Unread::BadWords);
+    };
+    seconds_of(alloc, config_of(alloc, text)?.keep_days())
+}
+
+/// The seconds for which a Release of the suite at a place is valid, or `none`.
+fn valid_at(alloc: Global, config: &Config, place: u64) -> Result<Vec<u8>, Unread> {
+    match config.suites().get(place as usize) {
+        Some(suite) => seconds_of(alloc, suite.valid_days),
+        None => Err(Unread::BadWords),
+    }
+}
+
+/// `valid-seconds PLACE TEXT`: the seconds for which a Release of the suite is valid, or `none`.
+fn valid_seconds(alloc: Global, words: &[Vec<u8>]) -> Result<Vec<u8>, Unread> {
+    let [place, text] = words else {
+        return Err(Unread::BadWords);
+    };
+    let place = number_of(place)?;
+    valid_at(alloc, &config_of(alloc, text)?, place)
 }
 
 /// `suite-for NAME TEXT`: the place of the suite that claims the distribution, or `none`.
@@ -130,6 +166,8 @@ pub fn answer(alloc: Global, verb: &str, words: &[Vec<u8>]) -> Result<Option<Vec
     let answer = match verb {
         "config" => config(alloc, words),
         "suites" => suites(alloc, words),
+        "keep-seconds" => keep_seconds(alloc, words),
+        "valid-seconds" => valid_seconds(alloc, words),
         "suite-for" => suite_for(alloc, words),
         "suite" => suite(alloc, words),
         "component" => component(alloc, words),

@@ -8,8 +8,11 @@ use std::alloc::Global;
 use suites::Shelves;
 use texts::{date_text, index_text};
 
-/// The last moment that a date may have.
+/// The last moment at which a suite may have changed.
 const LATEST: u64 = 4_102_444_799;
+
+/// The last moment until which a Release may be valid.
+const LAST_VALID: u64 = 4_417_804_799;
 
 /// The moment that a word is.
 fn moment_of(word: &Vec<u8>) -> Result<u64, Unread>
@@ -27,7 +30,11 @@ fn date(alloc: Global, words: &[Vec<u8>]) -> Result<Vec<u8>, Unread> {
     let [moment] = words else {
         return Err(Unread::BadWords);
     };
-    let text = date_text(alloc, moment_of(moment)?)?;
+    let moment = number_of(moment)?;
+    if moment > LAST_VALID {
+        return Err(Unread::BadWords);
+    }
+    let text = date_text(alloc, moment)?;
     said(alloc, text.as_str())
 }
 

@@ -5,4 +5,5 @@ returns c app whole =
     let one = c.with-command.ensures _ _ whole c.init_command.ensures in
     let two = c.with-command-2.ensures _ _ one c.put_command.ensures in
     let three = c.with-command-3.ensures _ _ two c.run_command.ensures in
-    c.with.ensures _ _ three c.copy_command.ensures
+    let four = c.with-command-4.ensures _ _ three c.copy_command.ensures in
+    c.with.ensures _ _ four c.remove_command.ensures

@@ -58,6 +58,16 @@ pub returns-in-Err-verdicts-clause-carried_out : goal.returns-in-Err-verdicts-cl
 returns-in-Err-verdicts-clause-carried_out g c =
     rw c.in-Verdicts.is (record { outcome = Err c.in-Err-verdicts.fault; done = c.in-Err-verdicts.ensures.step; message_is = c.fault_reply-in-Err-verdicts.ensures })
 
+pub returns-in-Ok-remove-clause-carried_out : goal.returns-in-Ok-remove-clause-carried_out
+returns-in-Ok-remove-clause-carried_out g c =
+    let step = rw (c.as_str-in-Remove.ensures.value, c.as_str-in-Remove-2.ensures.value) at c.in-Ok-remove.ensures.step in
+    rw c.in-Remove.is (record { outcome = Ok (Count c.in-Ok-remove.items); done = step; message_is = ap message_of c.new-in-Ok-remove.ensures })
+
+pub returns-in-Err-remove-clause-carried_out : goal.returns-in-Err-remove-clause-carried_out
+returns-in-Err-remove-clause-carried_out g c =
+    let step = rw (c.as_str-in-Remove.ensures.value, c.as_str-in-Remove-2.ensures.value) at c.in-Err-remove.ensures.step in
+    rw c.in-Remove.is (record { outcome = Err c.in-Err-remove.fault; done = step; message_is = c.fault_reply-in-Err-remove.ensures })
+
 pub returns-in-Ok-fetch-clause-lasts : goal.returns-in-Ok-fetch-clause-lasts
 returns-in-Ok-fetch-clause-lasts g c = c.in-Ok-fetch.ensures.reads.lasts
 

@@ -1,4 +1,4 @@
-use Rattle.desk.specs.Paths.{to_incoming, to_copy, to_dists, to_pool, to_run, to_queue, to_verdicts}
+use Rattle.desk.specs.Paths.{to_incoming, to_copy, to_dists, to_pool, to_remove, to_run, to_queue, to_verdicts}
 use Rattle.desk.proofs.RouteLemmas.{place_asks}
 use Rattle.desk.proofs.laws.paths_with_a_route.Goals as goal
 
@@ -22,3 +22,6 @@ returns-clause-dists c rest h = place_asks (to_dists rest) h
 
 pub returns-clause-pool : goal.returns-clause-pool
 returns-clause-pool c rest h = place_asks (to_pool rest) h
+
+pub returns-clause-remove : goal.returns-clause-remove
+returns-clause-remove c suite name h1 h2 = place_asks (to_remove suite name) (h1, h2)

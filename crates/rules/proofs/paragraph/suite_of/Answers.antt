@@ -12,4 +12,5 @@ returns-clause-found c = λ i. record {
   components = c.in_ok-names_of-2.ensures.found i;
   also_accept_for = c.in_ok-names_of-3.ensures.found i;
   uploaders = c.in_ok-uploaders_of.ensures i;
+  valid_days = c.days_of.ensures i;
 }

@@ -1,20 +1,21 @@
 use Rattle.std.proofs.Common.{List, sym, ap, subst, ◌∙◌}
 use Rattle.suites.specs.Plan.{references}
 use Rattle.suites.specs.PoolChange.{ListsExactly, gained, lost}
-use Rattle.suites.specs.declared.item.PoolFile.{PoolFile}
+use Rattle.suites.specs.declared.plan.Plan.{Plan}
 use Rattle.suites.specs.declared.plan.Reference.{Reference}
+use Rattle.std.proofs.lemmas.Result.{IfOk-weaker}
 use Rattle.suites.proofs.AdmissionStep.{admission-step}
 use Rattle.suites.proofs.admission.plan_admission.Goals as goal
 
 pub returns-clause-step : goal.returns-clause-step
 returns-clause-step c =
-    admission-step c.args.shelves.now c.args.suite c.args.items.items c.requires c.in_ok-items.items.entries _ c.agree.ensures
+    IfOk-weaker c.plan_of.result _ _ (λ (plan : Plan) is.
+    admission-step c.args.shelves.now c.args.suite c.args.items.items c.requires c.in_ok-items.items.entries plan c.agree.ensures
     c.in_ok-items.ensures.sorted c.in_ok-items.ensures.stand
-    (c.from_vec.ensures ∙ c.in_ok-put.ensures.put)
-    (c.from_vec-2.ensures ∙ c.in_ok-put.ensures.dropped)
-    (c.from_vec-3.ensures ∙ c.in_ok-references_put.ensures ∙ ap references (c.deref.ensures.value ∙ sym c.from_vec.ensures))
-    (c.from_vec-4.ensures ∙ c.in_ok-references_dropped.ensures ∙ ap references (c.deref-2.ensures.value ∙ sym c.from_vec-2.ensures))
-    (subst (λ (p : List PoolFile × List Reference). ListsExactly p.0 (gained c.args.shelves.now p.1))
-    (λ i. (sym c.from_vec-5.ensures i, (c.deref-3.ensures.value ∙ sym c.from_vec-3.ensures) i)) c.in_ok-added.ensures.added)
-    (subst (λ (p : List PoolFile × List Reference × List Reference). ListsExactly p.0 (lost c.args.shelves.now p.1 p.2))
-    (λ i. (sym c.from_vec-6.ensures i, (c.deref-3.ensures.value ∙ sym c.from_vec-3.ensures) i, (c.deref-4.ensures.value ∙ sym c.from_vec-4.ensures) i)) c.in_ok-added.ensures.removed)
+    (is.put_are ∙ c.in_ok-put.ensures.put)
+    (is.dropped_are ∙ c.in_ok-put.ensures.dropped)
+    (is.references_put ∙ ap references (sym is.put_are))
+    (is.references_dropped ∙ ap references (sym is.dropped_are))
+    (subst (λ (r : List Reference). ListsExactly plan.files_added (gained c.args.shelves.now r)) (sym is.references_put) is.added)
+    (subst (λ (p : List Reference × List Reference). ListsExactly plan.files_removed (lost c.args.shelves.now p.0 p.1)) (λ i. (sym is.references_put i, sym is.references_dropped i)) is.removed))
+    c.plan_of.ensures.plan

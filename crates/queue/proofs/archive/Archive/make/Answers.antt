@@ -1,7 +1,7 @@
 use Rattle.std.proofs.Common.{ap, sym, subst, ◌∙◌}
 use Rattle.std.specs.Prelude.{string_bytes}
 use Rattle.queue.specs.Commands.{call_of, counted, found, reported, stored}
-use Rattle.queue.specs.Histories.{Call, Copying, Delivery, Lookup}
+use Rattle.queue.specs.Histories.{Call, Copying, Delivery, Lookup, Removing}
 use Rattle.queue.specs.Steps.{Does}
 use Rattle.queue.proofs.archive.Archive.make.Goals as goal
 
@@ -37,6 +37,13 @@ returns-in-Waiting-clause-step g c =
     subst (λ (call : Call). Does g.K.Keeper c.args.self.now.keeper call (reported c.waiting.result) c.waiting.new.self.keeper)
     (ap call_of (sym c.in-Waiting.is))
     c.waiting.ensures.step
+
+pub returns-in-Remove-clause-step : goal.returns-in-Remove-clause-step
+returns-in-Remove-clause-step g c =
+    subst (λ (call : Call). Does g.K.Keeper c.args.self.now.keeper call (counted c.remove.result) c.remove.new.self.keeper)
+    (ap (λ suite. Removing suite c.deref-in-Remove-2.result.now c.in-Remove.moment) c.deref-in-Remove.ensures
+    ∙ ap (λ name. Removing (string_bytes c.in-Remove.suite) name c.in-Remove.moment) c.deref-in-Remove-2.ensures ∙ ap call_of (sym c.in-Remove.is))
+    c.remove.ensures.step
 
 pub returns-in-Verdicts-clause-step : goal.returns-in-Verdicts-clause-step
 returns-in-Verdicts-clause-step g c =

@@ -1,0 +1,217 @@
+use Rattle.std.proofs.Common.{◌≡◌, true, length, Some, [], ◌∷◌, inl, inr, refl, sym, ap, subst, ◌∙◌}
+use Rattle.std.specs.Prelude.{⊤}
+use Rattle.std.proofs.lemmas.Result.{err_from_is_err_and}
+use Rattle.suites.specs.Plan as plans
+use Rattle.queue.specs.Answers.{is_free_removal}
+use Rattle.queue.specs.Archives.{book_of, suite_named}
+use Rattle.queue.specs.Histories.{Removing, Count}
+use Rattle.queue.specs.Removals.{removal_fault}
+use Rattle.queue.specs.declared.fault.Fault.TheVariants.{Moment}
+use Rattle.queue.proofs.RemovalAnswers.{done_removal, free_removal, late_fault, may_remove, no_fault, nothing_fault, refused_removal, removal_past, removal_steps, sound_removal, unknown_fault, unknown_in}
+use Rattle.queue.proofs.RunAnswers.{renewed_change}
+use Rattle.queue.proofs.Kept.{same_by, same_past, untouched}
+use Rattle.queue.proofs.StepAnswers.{keeper_step, keepers_own, left_whole, memory_own, memory_step, stands_answered}
+use Rattle.queue.proofs.archive.Archive.remove.Goals as goal
+
+pub returns-then-moment-gt-LATEST-clause-step : goal.returns-then-moment-gt-LATEST-clause-step
+returns-then-moment-gt-LATEST-clause-step g c h kept faithful clean =
+    refused_removal g.K.Keeper.may_fail h c.args.suite.now c.args.name.now c.args.moment Moment _ _ _ _ kept (untouched _ _)
+    (late_fault (book_of h) c.args.suite.now c.args.name.now c.args.moment c.if-moment-gt-LATEST.true)
+
+pub returns-then-moment-gt-LATEST-clause-refused :
+    goal.returns-then-moment-gt-LATEST-clause-refused
+returns-then-moment-gt-LATEST-clause-refused g c clean =
+    inl (late_fault (g.K.Keeper.book c.args.self.now.keeper) c.args.suite.now c.args.name.now c.args.moment c.if-moment-gt-LATEST.true)
+
+pub returns-in_err-place-clause-step : goal.returns-in_err-place-clause-step
+returns-in_err-place-clause-step g c h kept faithful clean =
+    let p = err_from_is_err_and c.from_residual.result c.from_residual.ensures.1 in
+    rw (p.1, p.2) (refused_removal g.K.Keeper.may_fail h c.args.suite.now c.args.name.now c.args.moment c.in_err-place.field-0.0 _ _ _ _ kept (untouched _ _)
+    (unknown_in _ _ h c.config.result.now c.args.suite.now c.args.name.now c.args.moment c.in_err-place.field-0.0
+    kept c.if-moment-gt-LATEST.false c.config.ensures c.in_err-place.ensures.refused))
+
+pub returns-in_err-place-clause-refused : goal.returns-in_err-place-clause-refused
+returns-in_err-place-clause-refused g c clean =
+    let p = err_from_is_err_and c.from_residual.result c.from_residual.ensures.1 in
+    rw (p.1, p.2) (inl (unknown_fault (g.K.Keeper.book c.args.self.now.keeper) c.config.result.now c.args.suite.now c.args.name.now c.args.moment c.in_err-place.field-0.0
+    c.if-moment-gt-LATEST.false c.config.ensures c.in_err-place.ensures.refused))
+
+pub returns-in_err-shelves-clause-step : goal.returns-in_err-shelves-clause-step
+returns-in_err-shelves-clause-step g c h kept faithful clean =
+    let p = err_from_is_err_and c.from_residual-in_err-shelves.result c.from_residual-in_err-shelves.ensures.1 in
+    rw p.1 (keeper_step g.K.Keeper.may_fail h (Removing c.args.suite.now c.args.name.now c.args.moment) c.in_err-shelves.field-0.0 p.0 _ _ _ _ p.2 kept
+    (same_by c.in_err-shelves.ensures.reads.lasts clean c.in_err-shelves.ensures.reads.same) c.in_err-shelves.ensures.cause
+    (free_removal h (g.K.Keeper.book c.args.self.now.keeper) c.config.result.now c.args.suite.now c.args.name.now c.args.moment c.in_ok-place.place
+    _ kept c.config.ensures c.if-moment-gt-LATEST.false c.in_ok-place.ensures.suite))
+
+pub returns-in_err-plan-clause-step : goal.returns-in_err-plan-clause-step
+returns-in_err-plan-clause-step g c h kept faithful clean =
+    let p = err_from_is_err_and c.from_residual-in_err-plan.result c.from_residual-in_err-plan.ensures.1 in
+    let up = c.in_ok-shelves.ensures.served clean in
+    let stands = kept.stands (c.in_ok-shelves.ensures.reads.lasts.was_open clean up) in
+    let read = same_by c.in_ok-shelves.ensures.reads.lasts clean c.in_ok-shelves.ensures.reads.same in
+    rw (p.1, p.2) (elim c.in_err-plan.ensures.refused [
+      | inl memory ↦ memory_step g.K.Keeper.may_fail h (Removing c.args.suite.now c.args.name.now c.args.moment) c.in_err-plan.field-0.0 _ _ _ _ memory kept read
+      | inr nothing ↦ refused_removal g.K.Keeper.may_fail h c.args.suite.now c.args.name.now c.args.moment c.in_err-plan.field-0.0 _ _ _ _ kept read
+          (ap (λ b. removal_fault b c.args.suite.now c.args.name.now c.args.moment) (sym stands)
+          ∙ nothing_fault (g.K.Keeper.book c.args.self.now.keeper) c.config.result.now c.in_ok-shelves.shelves c.args.suite.now c.args.name.now c.args.moment c.in_ok-place.place
+          c.if-moment-gt-LATEST.false c.config.ensures (c.in_ok-shelves.ensures.shelves clean) c.in_ok-place.ensures.suite nothing.1 ∙ ap Some (sym nothing.0))
+    ])
+
+pub returns-in_err-plan-clause-refused : goal.returns-in_err-plan-clause-refused
+returns-in_err-plan-clause-refused g c clean =
+    let p = err_from_is_err_and c.from_residual-in_err-plan.result c.from_residual-in_err-plan.ensures.1 in
+    rw (p.1, p.2) (elim c.in_err-plan.ensures.refused [
+      | inl memory ↦ inr (rw memory tt)
+      | inr nothing ↦ inl (nothing_fault (g.K.Keeper.book c.args.self.now.keeper) c.config.result.now c.in_ok-shelves.shelves c.args.suite.now c.args.name.now c.args.moment c.in_ok-place.place
+          c.if-moment-gt-LATEST.false c.config.ensures (c.in_ok-shelves.ensures.shelves clean) c.in_ok-place.ensures.suite nothing.1 ∙ ap Some (sym nothing.0))
+    ])
+
+pub returns-in_err-steps-clause-step : goal.returns-in_err-steps-clause-step
+returns-in_err-steps-clause-step g c h kept faithful clean =
+    let p = err_from_is_err_and c.from_residual-in_err-steps.result c.from_residual-in_err-steps.ensures.1 in
+    rw p.1 (memory_step g.K.Keeper.may_fail h (Removing c.args.suite.now c.args.name.now c.args.moment) p.0 _ _ _ _ p.2 kept
+    (same_by c.in_ok-shelves.ensures.reads.lasts clean c.in_ok-shelves.ensures.reads.same))
+
+pub only_step-requires : goal.only_step-requires
+only_step-requires g c = (plans.after_removal c.in_ok-shelves.shelves c.in_ok-place.place c.args.name.now, c.in_ok-plan.ensures.plan.step)
+
+pub returns-in_err-texts-clause-step : goal.returns-in_err-texts-clause-step
+returns-in_err-texts-clause-step g c h kept faithful clean =
+    let p = err_from_is_err_and c.from_residual-in_err-texts.result c.from_residual-in_err-texts.ensures.1 in
+    let reads = c.in_err-texts.ensures.reads in
+    let read = same_by c.in_ok-shelves.ensures.reads.lasts (reads.lasts.clean clean) c.in_ok-shelves.ensures.reads.same in
+    rw p.1 (keeper_step g.K.Keeper.may_fail h (Removing c.args.suite.now c.args.name.now c.args.moment) c.in_err-texts.field-0.0 p.0 _ _ _ _ p.2 kept
+    (same_past read (same_by reads.lasts clean reads.same)) c.in_err-texts.ensures.cause
+    (free_removal h (g.K.Keeper.book c.args.self.now.keeper) c.config.result.now c.args.suite.now c.args.name.now c.args.moment c.in_ok-place.place
+    _ kept c.config.ensures c.if-moment-gt-LATEST.false c.in_ok-place.ensures.suite))
+
+pub apply-requires-clause-sound : goal.apply-requires-clause-sound
+apply-requires-clause-sound g c clean up =
+    let reads = c.in_ok-texts.ensures.reads in
+    let clean_then = reads.lasts.clean clean in
+    let up_then = reads.lasts.was_open clean up in
+    let old = g.K.Keeper.book c.args.self.now.keeper in
+    let then = g.K.Keeper.book c.shelves.new.self in
+    let now = g.K.Keeper.book c.renewed_texts.new.keeper in
+    let same = c.in_ok-shelves.ensures.reads.same clean_then up_then in
+    let is_shown = c.in_ok-shelves.ensures.shelves clean_then in
+    let is_given = c.as_slice-2.ensures ∙ c.in_ok-steps.ensures.steps in
+    sound_removal c.args.moment old now c.in_ok-shelves.shelves c.in_ok-place.place
+    c.args.name.now c.in_ok-plan.plan c.in_ok-steps.steps c.from_vec.result
+    (reads.same clean up ∙ same) is_shown c.in_ok-steps.ensures.steps c.in_ok-plan.ensures.plan
+    (renewed_change c.args.moment then now c.only_step.new.shelves c.as_slice-2.result.now c.in_ok-steps.steps c.in_ok-texts.texts.items c.from_vec.result
+    (reads.same clean up) (sym c.as_slice-2.ensures) c.from_vec.ensures
+    (c.in_ok-texts.ensures.renewed clean)
+    (removal_steps old then c.in_ok-shelves.shelves c.in_ok-place.place c.args.name.now c.in_ok-plan.plan c.as_slice-2.result.now same is_shown is_given c.in_ok-plan.ensures.plan)
+    (removal_past old then c.in_ok-shelves.shelves c.only_step.new.shelves c.in_ok-plan.plan c.as_slice-2.result.now same is_shown is_given c.in_ok-steps.ensures.shelves))
+
+pub returns-in_err-apply-clause-step : goal.returns-in_err-apply-clause-step
+returns-in_err-apply-clause-step g c h kept faithful clean =
+    let p = err_from_is_err_and c.from_residual-in_err-apply.result c.from_residual-in_err-apply.ensures.1 in
+    let reads = c.in_ok-texts.ensures.reads in
+    let clean_now = c.in_err-apply.ensures.lasts.clean clean in
+    let read = same_past (same_by c.in_ok-shelves.ensures.reads.lasts (reads.lasts.clean clean_now) c.in_ok-shelves.ensures.reads.same) (same_by reads.lasts clean_now reads.same) in
+    rw p.1 (keeper_step g.K.Keeper.may_fail h (Removing c.args.suite.now c.args.name.now c.args.moment) c.in_err-apply.field-0.0 p.0 _ _ _ _ p.2 kept
+    (same_past read (same_by c.in_err-apply.ensures.lasts clean c.in_err-apply.ensures.err)) c.in_err-apply.ensures.cause
+    (free_removal h (g.K.Keeper.book c.args.self.now.keeper) c.config.result.now c.args.suite.now c.args.name.now c.args.moment c.in_ok-place.place
+    _ kept c.config.ensures c.if-moment-gt-LATEST.false c.in_ok-place.ensures.suite))
+
+pub returns-clause-step : goal.returns-clause-step
+returns-clause-step g c h kept faithful clean =
+    let reads = c.in_ok-texts.ensures.reads in
+    let clean_now = c.in_ok-apply.ensures.lasts.clean clean in
+    let up_now = c.in_ok-apply.ensures.lasts.was_open clean (c.in_ok-apply.ensures.served clean) in
+    let clean_then = reads.lasts.clean clean_now in
+    let up_then = reads.lasts.was_open clean_now up_now in
+    done_removal g.K.Keeper.may_fail h c.args.suite.now c.args.name.now c.args.moment c.in_ok-place.place _
+    (g.K.Keeper.book c.args.self.now.keeper) (g.K.Keeper.book c.renewed_texts.new.keeper) (g.K.Keeper.book c.apply.new.self) c.in_ok-shelves.shelves c.in_ok-plan.plan c.in_ok-steps.steps c.from_vec.result _
+    (kept.stands (c.in_ok-shelves.ensures.reads.lasts.was_open clean_then up_then)) faithful c.if-moment-gt-LATEST.false
+    (reads.same clean_now up_now ∙ c.in_ok-shelves.ensures.reads.same clean_then up_then) (c.in_ok-shelves.ensures.shelves clean_then) c.in_ok-steps.ensures.steps
+    (subst (λ config. suite_named config c.args.suite.now ≡ Some c.in_ok-place.place) c.config.ensures c.in_ok-place.ensures.suite)
+    c.in_ok-plan.ensures.plan (c.in_ok-apply.ensures.ok clean) (ap length c.as_slice.ensures)
+
+pub returns-clause-done : goal.returns-clause-done
+returns-clause-done g c clean =
+    no_fault (g.K.Keeper.book c.args.self.now.keeper) c.config.result.now c.in_ok-shelves.shelves c.args.suite.now c.args.name.now c.args.moment c.in_ok-place.place
+    c.if-moment-gt-LATEST.false c.config.ensures (c.in_ok-shelves.ensures.shelves (c.in_ok-texts.ensures.reads.lasts.clean (c.in_ok-apply.ensures.lasts.clean clean))) c.in_ok-place.ensures.suite c.in_ok-plan.ensures.plan.shows
+
+pub returns-in_err-shelves-clause-refused : goal.returns-in_err-shelves-clause-refused
+returns-in_err-shelves-clause-refused g c clean =
+    let p = err_from_is_err_and c.from_residual-in_err-shelves.result c.from_residual-in_err-shelves.ensures.1 in
+    rw p.1 (inr (keepers_own g.K.Keeper.may_fail (is_free_removal (g.K.Keeper.book c.args.self.now.keeper).config c.args.suite.now c.args.moment ≡ true) c.in_err-shelves.field-0.0 p.0 p.2 c.in_err-shelves.ensures.cause
+    (may_remove (g.K.Keeper.book c.args.self.now.keeper) c.config.result.now c.args.suite.now c.args.moment c.in_ok-place.place
+    c.config.ensures c.if-moment-gt-LATEST.false c.in_ok-place.ensures.suite)))
+
+pub returns-in_err-steps-clause-refused : goal.returns-in_err-steps-clause-refused
+returns-in_err-steps-clause-refused g c clean =
+    let p = err_from_is_err_and c.from_residual-in_err-steps.result c.from_residual-in_err-steps.ensures.1 in
+    rw p.1 (inr (memory_own g.K.Keeper.may_fail (is_free_removal (g.K.Keeper.book c.args.self.now.keeper).config c.args.suite.now c.args.moment ≡ true) p.0 p.2))
+
+pub returns-in_err-texts-clause-refused : goal.returns-in_err-texts-clause-refused
+returns-in_err-texts-clause-refused g c clean =
+    let p = err_from_is_err_and c.from_residual-in_err-texts.result c.from_residual-in_err-texts.ensures.1 in
+    rw p.1 (inr (keepers_own g.K.Keeper.may_fail (is_free_removal (g.K.Keeper.book c.args.self.now.keeper).config c.args.suite.now c.args.moment ≡ true) c.in_err-texts.field-0.0 p.0 p.2 c.in_err-texts.ensures.cause
+    (may_remove (g.K.Keeper.book c.args.self.now.keeper) c.config.result.now c.args.suite.now c.args.moment c.in_ok-place.place
+    c.config.ensures c.if-moment-gt-LATEST.false c.in_ok-place.ensures.suite)))
+
+pub returns-in_err-apply-clause-refused : goal.returns-in_err-apply-clause-refused
+returns-in_err-apply-clause-refused g c clean =
+    let p = err_from_is_err_and c.from_residual-in_err-apply.result c.from_residual-in_err-apply.ensures.1 in
+    rw p.1 (inr (keepers_own g.K.Keeper.may_fail (is_free_removal (g.K.Keeper.book c.args.self.now.keeper).config c.args.suite.now c.args.moment ≡ true) c.in_err-apply.field-0.0 p.0 p.2 c.in_err-apply.ensures.cause
+    (may_remove (g.K.Keeper.book c.args.self.now.keeper) c.config.result.now c.args.suite.now c.args.moment c.in_ok-place.place
+    c.config.ensures c.if-moment-gt-LATEST.false c.in_ok-place.ensures.suite)))
+
+pub returns-then-moment-gt-LATEST-clause-crash : goal.returns-then-moment-gt-LATEST-clause-crash
+returns-then-moment-gt-LATEST-clause-crash g c h kept faithful clean left may = inl may
+
+pub returns-in_err-place-clause-crash : goal.returns-in_err-place-clause-crash
+returns-in_err-place-clause-crash g c h kept faithful clean left may = inl may
+
+pub returns-in_err-shelves-clause-crash : goal.returns-in_err-shelves-clause-crash
+returns-in_err-shelves-clause-crash g c h kept faithful clean left may = inl (c.in_err-shelves.ensures.reads.crash clean left may)
+
+pub returns-in_err-plan-clause-crash : goal.returns-in_err-plan-clause-crash
+returns-in_err-plan-clause-crash g c h kept faithful clean left may = inl (c.in_ok-shelves.ensures.reads.crash clean left may)
+
+pub returns-in_err-steps-clause-crash : goal.returns-in_err-steps-clause-crash
+returns-in_err-steps-clause-crash g c h kept faithful clean left may = inl (c.in_ok-shelves.ensures.reads.crash clean left may)
+
+pub returns-in_err-texts-clause-crash : goal.returns-in_err-texts-clause-crash
+returns-in_err-texts-clause-crash g c h kept faithful clean left may =
+    let reads = c.in_err-texts.ensures.reads in
+    inl (c.in_ok-shelves.ensures.reads.crash (reads.lasts.clean clean) left (reads.crash clean left may))
+
+pub returns-in_err-apply-clause-crash : goal.returns-in_err-apply-clause-crash
+returns-in_err-apply-clause-crash g c h kept faithful clean left may =
+    let reads = c.in_ok-texts.ensures.reads in
+    let clean_now = c.in_err-apply.ensures.lasts.clean clean in
+    let clean_then = reads.lasts.clean clean_now in
+    elim (c.in_err-apply.ensures.crash clean left may) [
+      | inl before ↦ inl (c.in_ok-shelves.ensures.reads.crash clean_then left (reads.crash clean_now left before))
+      | inr made ↦ inr (left_whole h ((Removing c.args.suite.now c.args.name.now c.args.moment) ∷ []) faithful (g.K.Keeper.book c.renewed_texts.new.keeper) _ left (reads.same clean_now made.0 ∙ c.in_ok-shelves.ensures.reads.same clean_then (reads.lasts.was_open clean_now made.0) ∙ kept.stands (c.in_ok-shelves.ensures.reads.lasts.was_open clean_then (reads.lasts.was_open clean_now made.0))) made.1
+          ∙ ap Some (stands_answered g.K.Keeper.may_fail h (Removing c.args.suite.now c.args.name.now c.args.moment) (Count (length c.in_ok-plan.plan.dropped)) _
+          (done_removal g.K.Keeper.may_fail h c.args.suite.now c.args.name.now c.args.moment c.in_ok-place.place ⊤
+          (g.K.Keeper.book c.args.self.now.keeper) (g.K.Keeper.book c.renewed_texts.new.keeper) _ c.in_ok-shelves.shelves c.in_ok-plan.plan c.in_ok-steps.steps c.from_vec.result (length c.in_ok-plan.plan.dropped)
+          (kept.stands (c.in_ok-shelves.ensures.reads.lasts.was_open clean_then (reads.lasts.was_open clean_now made.0))) faithful c.if-moment-gt-LATEST.false
+          (reads.same clean_now made.0 ∙ c.in_ok-shelves.ensures.reads.same clean_then (reads.lasts.was_open clean_now made.0)) (c.in_ok-shelves.ensures.shelves clean_then) c.in_ok-steps.ensures.steps
+          (subst (λ config. suite_named config c.args.suite.now ≡ Some c.in_ok-place.place) c.config.ensures c.in_ok-place.ensures.suite)
+          c.in_ok-plan.ensures.plan (λ bodies apart have. refl) refl)))
+    ]
+
+pub returns-clause-crash : goal.returns-clause-crash
+returns-clause-crash g c h kept faithful clean left may =
+    let reads = c.in_ok-texts.ensures.reads in
+    let clean_now = c.in_ok-apply.ensures.lasts.clean clean in
+    let clean_then = reads.lasts.clean clean_now in
+    elim (c.in_ok-apply.ensures.crash clean left may) [
+      | inl before ↦ inl (c.in_ok-shelves.ensures.reads.crash clean_then left (reads.crash clean_now left before))
+      | inr made ↦ inr (left_whole h ((Removing c.args.suite.now c.args.name.now c.args.moment) ∷ []) faithful (g.K.Keeper.book c.renewed_texts.new.keeper) _ left (reads.same clean_now made.0 ∙ c.in_ok-shelves.ensures.reads.same clean_then (reads.lasts.was_open clean_now made.0) ∙ kept.stands (c.in_ok-shelves.ensures.reads.lasts.was_open clean_then (reads.lasts.was_open clean_now made.0))) made.1
+          ∙ ap Some (stands_answered g.K.Keeper.may_fail h (Removing c.args.suite.now c.args.name.now c.args.moment) (Count (length c.in_ok-plan.plan.dropped)) _
+          (done_removal g.K.Keeper.may_fail h c.args.suite.now c.args.name.now c.args.moment c.in_ok-place.place ⊤
+          (g.K.Keeper.book c.args.self.now.keeper) (g.K.Keeper.book c.renewed_texts.new.keeper) _ c.in_ok-shelves.shelves c.in_ok-plan.plan c.in_ok-steps.steps c.from_vec.result (length c.in_ok-plan.plan.dropped)
+          (kept.stands (c.in_ok-shelves.ensures.reads.lasts.was_open clean_then (reads.lasts.was_open clean_now made.0))) faithful c.if-moment-gt-LATEST.false
+          (reads.same clean_now made.0 ∙ c.in_ok-shelves.ensures.reads.same clean_then (reads.lasts.was_open clean_now made.0)) (c.in_ok-shelves.ensures.shelves clean_then) c.in_ok-steps.ensures.steps
+          (subst (λ config. suite_named config c.args.suite.now ≡ Some c.in_ok-place.place) c.config.ensures c.in_ok-place.ensures.suite)
+          c.in_ok-plan.ensures.plan (λ bodies apart have. refl) refl)))
+    ]
