@@ -174,7 +174,7 @@ class Help(Words):
     def test_the_version(self):
         with open(f"{ROOT}/VERSION", encoding="ascii") as it:
             version = it.read().strip()
-        self.assertEqual(self.ran("--version"), (0, f"archive {version} (rattle-kit-13f)\n", ""))
+        self.assertEqual(self.ran("--version"), (0, f"archive {version} (rattle-kit-13)\n", ""))
         self.assertEqual(self.ran("verdicts", "--version")[:2], (2, ""))
 
     def test_help_has_a_line_for_each_command(self):
