@@ -116,5 +116,8 @@ pub fn remove<K: Keeper>(
         return Err(Unread::BadWords);
     };
     let (suite, name) = (text_of(suite)?, text_of(name)?);
-    number_text(alloc, archive.remove(alloc, suite, name, number_of(moment)?))
+    number_text(
+        alloc,
+        archive.remove(alloc, suite, name, number_of(moment)?),
+    )
 }

@@ -120,12 +120,7 @@ fn push_date(alloc: Global, moment: u64, out: &mut Vec<u8>) -> Result<(), AllocE
 }
 
 /// Appends the field Valid-Until.
-fn push_end(
-    alloc: Global,
-    moment: u64,
-    days: Days,
-    out: &mut Vec<u8>,
-) -> Result<(), AllocError>
+fn push_end(alloc: Global, moment: u64, days: Days, out: &mut Vec<u8>) -> Result<(), AllocError>
     requires { moment ≤ 4_102_444_799 }
     ensures { OnOk result (out.new.items ≡ out.old.items ++ field_text (line_field (codes "Valid-Until") (date_text (moment + days * 86400)))) }
 {
