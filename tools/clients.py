@@ -55,7 +55,7 @@ class Serving:
         while True:
             it = socket.socket()
             it.settimeout(LONG)
-            with contextlib.suppress(ConnectionRefusedError):
+            with contextlib.suppress(ConnectionRefusedError, ConnectionResetError):
                 it.connect(self.address)
                 if it.getsockname() != it.getpeername():  # a client may be connected to itself where nothing listens
                     return it

@@ -198,8 +198,8 @@ class FailingSyncs(FailingCalls):
         with Serving(db, 4, under=under(self.trace, name, *more)) as serving:
             self.assertEqual(serving.answer(put(NAMES[0])), NEW)
             statuses = []
-            # It may end, and then nothing listens.
-            with contextlib.suppress(ConnectionRefusedError):
+            # It may end, and then nothing listens; a client that it had not accepted yet is reset.
+            with contextlib.suppress(ConnectionError):
                 statuses += (status_of(serving.answer(put(NAMES[1]))) for _ in range(3))
             status, printed, told = serving.ended(30)
         self.assertEqual(statuses[0], 507)
