@@ -34,6 +34,7 @@ PIECES = {
     "trusted": "deb [trusted=yes]",
     "remove": "archive remove --db box.db",
     "again": "again.changes",
+    "remove by HTTP": "/remove/box/hello",
     "serve": '--at "$(date +%s)" 127.0.0.1:8080 1000\n',
     "box.service": "Description=The package archive box\n",
     "log": "1467436850 PUT ",

@@ -242,6 +242,14 @@ class Serving(Case):
             body = pathlib.Path(self.room.work, name).read_bytes()
             self.assertEqual(body, pathlib.Path(self.room.folder, name).read_bytes())
 
+    @needs("dpkg-deb", "curl")
+    def test_a_package_is_taken_out_by_curl(self):
+        self.ready()
+        self.shell('archive put --db box.db --at "$(date +%s)" $(cat files); archive run --db box.db --at "$(date +%s)"')
+        port = self.serve()
+        self.assertEqual(self.shell(snippet("remove by HTTP", self.at(port))), "2\n")
+        self.assertEqual(self.shell(f"curl -sS --fail http://127.0.0.1:{port}/{PACKAGES}"), "")
+
     @needs("dpkg-deb", "apt-get")
     def test_a_release_expires_and_is_renewed(self):
         self.room.write("work/box.conf", snippet("configuration") + "ValidDays: 7\n")
