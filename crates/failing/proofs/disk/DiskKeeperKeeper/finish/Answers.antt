@@ -13,7 +13,7 @@ pub returns-in-Err-clause-crash : goal.returns-in-Err-clause-crash
 returns-in-Err-clause-crash c clean left is = inl (is ∙ ap (left_of c.args.self.now.is_torn) (c.in-Err.ensures.err tt tt))
 
 pub finish-requires-clause-whole : goal.finish-requires-clause-whole
-finish-requires-clause-whole c clean open =
+finish-requires-clause-whole c clean is_up =
     let up : IsTrue c.args.self.now.is_open = search rules in
     c.requires.whole tt up
 

@@ -12,7 +12,7 @@ returns-then-not-is_open-clause-stays c = record {
 pub piece-requires : goal.piece-requires
 piece-requires c =
     let up : IsTrue c.args.self.now.is_open = search rules in
-    record { begun = λ clean open. c.requires.begun tt up }
+    record { begun = λ clean is_up. c.requires.begun tt up }
 
 pub returns-clause-stays : goal.returns-clause-stays
 returns-clause-stays c = record {
