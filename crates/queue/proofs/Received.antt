@@ -24,7 +24,8 @@ use Rattle.queue.specs.Steps.{Does, IsUndone, Lasts}
 use Rattle.queue.specs.declared.command.Arrived.{Arrived}
 use Rattle.queue.specs.declared.fault.Fault.{Fault}
 use Rattle.queue.specs.declared.fault.Fault.TheVariants.{OutOfMemory, BadName, TooLarge, Record, Keeper, Moment, UnknownSuite, SameSuite, NothingToCopy, Ended, ReaderFailed, NothingToRemove}
-use Rattle.queue.proofs.StepAnswers.{delivered_left, delivered_step}
+use Rattle.queue.proofs.StepAnswers.{delivered_left, delivered_step, refused_delivery}
+use Rattle.queue.proofs.Steps.{book_of-refused}
 
 -- ---- the fault of a delivery
 
@@ -96,6 +97,16 @@ whole_front other front rest n size front_size is =
 module _ {K : Type 0} (g : Ghosts K) (old new : Option (List ℕ)) (name : List ℕ) (n moment : ℕ) where
   pub as_it_was : (k : K) → IsAsBefore g k k
   as_it_was k h kept clean = kept
+
+  -- a refused delivery is a step of its own, where what was kept is kept still
+  pub refused_does : (before after : K) (body : List ℕ) (fault : Fault) → delivery_fault name body moment ≡ Some fault → IsAsBefore g before after
+      → Does g before (Delivery name body moment) (Err fault) after
+  refused_does before after body fault is same h kept faithful clean =
+      let still = same h kept clean in
+      record {
+        answered = refused_delivery g.may_fail h name body moment fault (inr is);
+        kept = record { config = still.config; stands = λ up. still.stands up ∙ sym (book_of-refused h (Delivery name body moment) fault) };
+      }
 
   -- what was read on and was short
   pub received_short : (k : K) (e : Fault) → WasShort old new n e → IsReceived g old new name n moment k k (Err e)
