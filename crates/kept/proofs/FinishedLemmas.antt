@@ -1,5 +1,5 @@
 -- The rows without the bodies that are not whole: what they are, and that reads find the same in them.
-use Rattle.std.proofs.Common.{◌≡◌, ℕ, ◌<◌, Bool, true, false, not, ◌&&◌, ◌||◌, cond, if◌then◌else◌, nat_eq, List, [], ◌∷◌, map, filter, find, All, Option, Some, None, is_some, option_map, unwrap_or, IsTrue, refl, sym, ap, ◌∙◌, arith, true≢false}
+use Rattle.std.proofs.Common.{◌≡◌, ◌≢◌, ℕ, length, ◌<◌, Bool, true, false, not, ◌&&◌, ◌||◌, cond, if◌then◌else◌, nat_eq, List, [], ◌∷◌, map, filter, find, All, Option, Some, None, is_some, option_map, unwrap_or, IsTrue, refl, sym, ap, ◌∙◌, arith, true≢false}
 use Rattle.std.specs.List.{AllByRecursion, filter_map, flat_map, list_any}
 use Rattle.std.specs.Option.{option_and_then, option_map_or}
 use Rattle.std.specs.Result.{result_ok}
@@ -36,6 +36,10 @@ use Rattle.kept.proofs.LikeLemmas.{items_like}
 use Rattle.kept.proofs.RowLists.{all_filtered, find_kept}
 use Rattle.kept.proofs.Searches.{list_any-filter}
 use Rattle.kept.proofs.WaitingLemmas.{waiting_list_is}
+
+pub some_length : (ids : List ℕ) → ids ≢ [] → 0 < length ids
+some_length [] some = absurd (some refl)
+some_length (n ∷ ns) some = omega arith
 
 -- ---- rows that are whole are left
 

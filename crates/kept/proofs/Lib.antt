@@ -47,6 +47,7 @@ pub mod FinishedLemmas
 pub mod PassingLemmas
 pub mod ComingLemmas
 pub mod SamePieces
+pub mod EndedLemmas
 pub mod TakingLemmas
 pub mod TurnLemmas
 pub mod CallLemmas

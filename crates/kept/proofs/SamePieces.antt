@@ -1,5 +1,5 @@
 -- Two bodies that have the same pieces have the same bytes.
-use Rattle.std.proofs.Common.{◌≡◌, ℕ, zero, suc, ◌+◌, ◌*◌, ◌<◌, ◌≤◌, nat_eq, Bool, true, false, ◌&&◌, cond, List, [], ◌∷◌, ◌++◌, map, filter, find, length, Option, Some, None, is_some, option_map, refl, sym, ap, ◌∙◌, arith, inl, inr}
+use Rattle.std.proofs.Common.{◌≡◌, ℕ, zero, suc, ◌+◌, ◌*◌, ◌<◌, ◌≤◌, nat_eq, Bool, true, false, ◌&&◌, cond, List, [], ◌∷◌, ◌++◌, map, filter, find, length, Option, Some, None, is_none, is_some, option_map, refl, sym, ap, ◌∙◌, arith, inl, inr}
 use Rattle.std.specs.List.{flat_map, range_with_len}
 use Rattle.std.specs.Option.{option_or}
 use Rattle.std.proofs.lemmas.Bool.{cases_lt, eq-eqb, ne_eqb}
@@ -119,3 +119,8 @@ no_bytes t found others had none = elim (cases_lt 0 (length others)) [
     is_nil : (xs : List ℕ) → length xs ≤ 0 → xs ≡ []
     is_nil [] h = refl
     is_nil (x ∷ xs) h = absurd (omega (arith, h))
+
+-- where no piece was found
+pub none_there : (t : Tables) (body : ℕ) (found : Option Piece) → found ≡ find (is_piece body 1) (rows_of t.pieces) → is_none found ≡ true → bytes_at t body 1 ≡ None
+none_there t body None is none = sym (ap (option_map (λ (p : Piece). p.bytes)) is)
+none_there t body (Some p) is none = cc

@@ -44,6 +44,11 @@ unfoldable pub with_next_piece : Option ℕ → ℕ → List ℕ → Tables → 
 with_next_piece (Some id) number bytes t = with_piece (record { body = id; number = number; bytes = bytes }) t
 with_next_piece None number bytes t = with_piece (record { body = next_in t.bodies; number = number; bytes = bytes }) (with_body (record { print = None }) t)
 
+-- the body of this number gets this print; without a number it is a new one, of no bytes
+unfoldable pub with_new_print : Option ℕ → Print → Tables → Tables
+with_new_print (Some id) print t = with_print id print t
+with_new_print None print t = with_body (record { print = Some print }) t
+
 -- the body of this number is whole: it gets its print, or it goes where one of that print is there
 unfoldable pub with_whole : ℕ → Print → Tables → Tables
 with_whole id print t = if is_some (body_with print t.bodies) then without_whole id t else with_print id print t
@@ -78,7 +83,11 @@ bytes_at t body number = option_map (λ (p : Piece). p.bytes) (find (is_piece bo
 abbrev pub HasSamePieces : Tables → ℕ → ℕ → ℕ → Type 0
 HasSamePieces t body other count = (n : ℕ) → n < count + 1 → bytes_at t body (n + 1) ≡ bytes_at t other (n + 1)
 
+-- the body that was found has the pieces of the one that came
+abbrev pub IsSameAs : Option ℕ → ℕ → ℕ → Tables → Type 0
+IsSameAs (Some body) count found t = HasSamePieces t body found count
+IsSameAs None count found t = bytes_at t found 1 ≡ None
+
 -- A body of this print that is stored has the pieces of the one that came.
 abbrev pub IsNoOther : Option ℕ → ℕ → Print → Tables → Type 0
-IsNoOther (Some body) count print t = (found : ℕ) → body_with print t.bodies ≡ Some found → HasSamePieces t body found count
-IsNoOther None count print t = (found : ℕ) → body_with print t.bodies ≡ Some found → bytes_at t found 1 ≡ None
+IsNoOther body count print t = (found : ℕ) → body_with print t.bodies ≡ Some found → IsSameAs body count found t
