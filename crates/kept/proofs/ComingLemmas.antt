@@ -248,17 +248,32 @@ number_first u (b ∷ bytes) = refl
 
 -- ---- its bytes
 
-begun_bytes : (u : Tables) (bytes : List ℕ) → AreWhole u → bytes_of (with_begun bytes u) (next_in u.bodies) ≡ bytes
-unfolding bytes_of
-begun_bytes u bytes h =
+begun_pieces : (u : Tables) (bytes : List ℕ) → AreWhole u → pieces_of (with_begun bytes u) (next_in u.bodies) ≡ pieces_for (next_in u.bodies) bytes
+begun_pieces u bytes h =
     let n = next_in u.bodies in
     let ps = pieces_for n bytes in
     let free : filter (is_of n) (rows_of u.pieces) ≡ [] = none_kept (is_of n) (rows_of u.pieces)
     (λ q c. below_other q.body n (owner_below u h.rise q.body (All-contains (λ q. IsTrue (has_body u q.body)) (rows_of u.pieces) q h.owned c))) in
-    ap (λ (t : Tables). flat_map (λ (p : Piece). p.bytes) (filter (is_of n) (rows_of t.pieces))) (only_pieces ps (with_body begun_body u))
-    ∙ ap (λ rows. flat_map (λ (p : Piece). p.bytes) (filter (is_of n) rows)) (rows_with ps u.pieces)
-    ∙ ap (flat_map (λ (p : Piece). p.bytes)) (filter-append (is_of n) (rows_of u.pieces) ps ∙ ap₂ ◌++◌ free (own_pieces n bytes))
-    ∙ pieces_joined n bytes
+    ap (λ (t : Tables). filter (is_of n) (rows_of t.pieces)) (only_pieces ps (with_body begun_body u))
+    ∙ ap (filter (is_of n)) (rows_with ps u.pieces)
+    ∙ filter-append (is_of n) (rows_of u.pieces) ps ∙ ap₂ ◌++◌ free (own_pieces n bytes)
+
+begun_bytes : (u : Tables) (bytes : List ℕ) → AreWhole u → bytes_of (with_begun bytes u) (next_in u.bodies) ≡ bytes
+unfolding bytes_of
+begun_bytes u bytes h = ap (flat_map (λ (p : Piece). p.bytes)) (begun_pieces u bytes h) ∙ pieces_joined (next_in u.bodies) bytes
+
+-- its pieces, where it has a number
+pub coming_pieces : (bytes : List ℕ) (u : Tables) (id : ℕ) → AreWhole u → coming_number bytes u ≡ Some id → pieces_of (with_coming bytes u) id ≡ pieces_for id bytes
+unfolding with_coming coming_number
+coming_pieces [] u id h is = cc
+coming_pieces (b ∷ bytes) u id h is =
+    let same : next_in u.bodies ≡ id = cc in
+    subst (λ n. pieces_of (with_begun (b ∷ bytes) u) n ≡ pieces_for n (b ∷ bytes)) same (begun_pieces u (b ∷ bytes) h)
+
+pub no_number : (bytes : List ℕ) (u : Tables) → coming_number bytes u ≡ None → bytes ≡ []
+unfolding coming_number
+no_number [] u is = refl
+no_number (b ∷ bytes) u is = cc
 
 pub coming_bytes : (bytes : List ℕ) (u : Tables) → AreWhole u → bytes_so_far (with_coming bytes u) (coming_number bytes u) ≡ bytes
 unfolding with_coming coming_number
@@ -363,3 +378,9 @@ change_beside f passes t bytes h same coming = record {
 pub none_coming : (t : Tables) → finished t ≡ t → HasComing t []
 unfolding with_coming
 none_coming t same = record { rows = sym same }
+
+-- its number is told by the bodies alone
+pub number_by_bodies : (bytes : List ℕ) (t u : Tables) → t.bodies ≡ u.bodies → coming_number bytes t ≡ coming_number bytes u
+unfolding coming_number
+number_by_bodies [] t u same = refl
+number_by_bodies (b ∷ bytes) t u same = ap (λ rows. Some (next_in rows)) same

@@ -26,7 +26,7 @@ use Rattle.tables.specs.declared.rows.File.{File}
 use Rattle.tables.specs.declared.rows.Piece.{Piece}
 use Rattle.tables.specs.declared.rows.Upload.{Upload}
 use Rattle.kept.specs.Finished.{finished, is_of_unfinished, is_unfinished}
-use Rattle.kept.specs.Kept.{AreArrivals, AreBodies, AreItems, AreNumbered, AreUploads, arrivals_in, bytes_of, files_in, has_body}
+use Rattle.kept.specs.Kept.{AreArrivals, AreBodies, AreItems, AreNumbered, AreUploads, arrivals_in, bytes_of, files_in, has_body, pieces_of}
 use Rattle.kept.specs.Reads.{bytes_with, due_in, missing_in, text_in, upload_in, waiting_in, wanting, wanting_rows}
 use Rattle.kept.specs.Shown.{shown_in}
 use Rattle.kept.proofs.AmendedLemmas.{found_in}
@@ -177,6 +177,10 @@ pieces_left t id none (x ∷ xs) = go (is_of_unfinished t x.1) (is_of id x.1) re
     go true true e f more = absurd (true≢false (sym e ∙ ap (has_unfinished t.bodies) (eqb-true x.1.body id f) ∙ none))
     go true false e f more = more
     go false c e f more = λ i. cond (f i) (x.1 ∷ more i) (more i)
+
+pub pieces_finished : (t : Tables) → Rises t.bodies → (id : ℕ) → has_body (finished t) id ≡ true → pieces_of (finished t) id ≡ pieces_of t id
+unfolding finished
+pieces_finished t up id there = pieces_left t id (left_whole t up id there) t.pieces
 
 pub bytes_finished : (t : Tables) → Rises t.bodies → (id : ℕ) → has_body (finished t) id ≡ true → bytes_of (finished t) id ≡ bytes_of t id
 unfolding bytes_of finished

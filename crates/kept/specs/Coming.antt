@@ -9,7 +9,7 @@ use Rattle.tables.specs.Rows.{Tables, next_in, rows_of, with_body, with_piece}
 use Rattle.tables.specs.Wants.{with_here}
 use Rattle.tables.specs.declared.rows.Piece.{Piece}
 use Rattle.kept.specs.Finished.{finished, without_whole}
-use Rattle.kept.specs.Kept.{bytes_of, pieces_for}
+use Rattle.kept.specs.Kept.{bytes_of, piece_count, pieces_for}
 use Rattle.kept.specs.Making.{with_arrived, with_bytes, with_pieces, with_requested}
 use Rattle.kept.specs.Taking.{listed_in}
 
@@ -32,6 +32,12 @@ coming_number (b ∷ bytes) t = Some (next_in t.bodies)
 -- The rows are the finished ones with such a body of these bytes.
 pub record HasComing (t : Tables) (bytes : List ℕ) : Type 0 where
   pub rows : t ≡ with_coming bytes (finished t)
+
+-- Such a body is coming, under this number and in so many pieces.
+pub record Comes (t : Tables) (body : Option ℕ) (pieces : ℕ) (bytes : List ℕ) : Type 0 where
+  pub coming : HasComing t bytes
+  pub number : body ≡ coming_number bytes (finished t)
+  pub count : pieces ≡ piece_count bytes
 
 -- the bytes of the body of this number, none where there is no number
 abbrev pub bytes_so_far : Tables → Option ℕ → List ℕ
