@@ -61,6 +61,19 @@ module _ {S : Type 0} (g : Ghosts S) (old begun mid last new : Held S) (is : beg
       ))
       (survives_commit g old begun mid last new is same change (λ early inside. (did early inside).0) commit within)
 
+-- a database that is the same keeps the same archive
+pub same_archive : (before after : Database) → after ≡ before → {config : ConfigValue} {judged : List Judgement} {shown : ShelvesValue} {dates : List ℕ}
+    → KeepsArchive before config judged shown dates → Turns before after config judged shown dates judged shown dates (λ b. b)
+same_archive before after same {config} {judged} {shown} {dates} keeps = record {
+  kept = subst (λ db. KeepsArchive db config judged shown dates) (sym same) keeps;
+  book = ap (λ db. book_of db config judged shown dates) same;
+}
+
+-- a body without a number has no byte
+pub nothing_came : (before after : Database) → after ≡ before → (count : ℕ) (bytes : List ℕ) → Comes (tables_in before) None count bytes → HasComing (tables_in after) []
+nothing_came before after same count bytes comes =
+    subst (λ db. HasComing (tables_in db) []) (sym same) (subst (HasComing (tables_in before)) (no_number bytes (finished (tables_in before)) (sym comes.number)) comes.coming)
+
 -- `old` is the connection, to whose database a body of these bytes is coming.
 module _ (old : State) (settled : IsTrue old.is_open → old.now ≡ old.committed) (up : IsTrue old.is_open)
     (config : ConfigValue) (judged : List Judgement) (shown : ShelvesValue) (dates : List ℕ) (keeps : KeepsArchive old.committed config judged shown dates)
