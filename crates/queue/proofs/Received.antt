@@ -1,5 +1,5 @@
 -- From what was read and stored to what came of a delivery from a reader.
-use Rattle.std.proofs.Common.{◌≡◌, ◌≤◌, ◌<◌, ◌⊎◌, ◌++◌, ◌∙◌, ℕ, Bool, true, false, not, List, Option, Some, None, Result, Ok, Err, IfErr, OnErr, length, if◌then◌else◌, refl, ap, sym, subst, inl, inr, arith, append-nil}
+use Rattle.std.proofs.Common.{◌≡◌, ◌≤◌, ◌<◌, ◌+◌, ◌⊎◌, ◌++◌, ◌∙◌, ℕ, Bool, true, false, not, List, Option, Some, None, Result, Ok, Err, IfErr, OnErr, length, if◌then◌else◌, refl, ap, sym, subst, inl, inr, arith, append-nil}
 use Rattle.std.specs.Prelude.{⊤, nat_lt}
 use Rattle.std.proofs.lemmas.Bool.{lt-ltb, le-ltb}
 use Rattle.std.proofs.lemmas.List.{length-append, nil_from_length}
@@ -94,6 +94,10 @@ whole_front other front rest n size front_size is =
     let sizes : length other ≡ length front + length rest = ap length is ∙ length-append front rest in
     is ∙ ap (λ l. front ++ l) (nil_from_length rest (omega (arith, sizes, size, front_size))) ∙ append-nil front
 
+-- what is not so has every consequence
+never : {X : Type 0} → false ≡ true → X
+never h = cc
+
 module _ {K : Type 0} (g : Ghosts K) (old new : Option (List ℕ)) (name : List ℕ) (n moment : ℕ) where
   pub as_it_was : (k : K) → IsAsBefore g k k
   as_it_was k h kept clean = kept
@@ -129,7 +133,7 @@ module _ {K : Type 0} (g : Ghosts K) (old new : Option (List ℕ)) (name : List 
   received_none k BadName h = absurd h
   received_none k TooLarge h = absurd h
   received_none k (Record fault) h = absurd h
-  received_none k (Keeper fault) h = absurd h.0
+  received_none k (Keeper fault) h = never h.0
   received_none k Moment h = absurd h
   received_none k UnknownSuite h = absurd h
   received_none k SameSuite h = absurd h

@@ -1,4 +1,4 @@
-use Rattle.std.proofs.Common.{inl, ap, ◌∙◌, Some}
+use Rattle.std.proofs.Common.{inl, inr, ap, ◌∙◌, Some}
 use Rattle.queue.proofs.laws.a_stop_leaves_a_book.Goals as goal
 
 pub returns : goal.returns
