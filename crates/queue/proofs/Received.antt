@@ -193,6 +193,7 @@ module _ {K : Type 0} (g : Ghosts K) (old new : Option (List ℕ)) (name : List 
       refused_for e same told = elim told [ inl is ↦ ((body, gave, small, is), as_before same) | inr none ↦ absurd none ]
 
       free_of : delivery_fault name body moment ≡ None → IsCutOff old new name n moment
+      unfolding all_of_it
       free_of none = record {
         gave = all_of_it;
         free = λ other size rest. ap (λ (b : List ℕ). delivery_fault name b moment) (whole_front other body rest.0 n size gave.1 rest.1) ∙ none;
