@@ -16,9 +16,3 @@ pub finish-requires-clause-whole : goal.finish-requires-clause-whole
 finish-requires-clause-whole c clean is_up =
     let up : IsTrue c.args.self.now.is_open = search rules in
     c.requires.whole tt up
-
-pub returns-then-not-is_open-clause-crash : goal.returns-then-not-is_open-clause-crash
-returns-then-not-is_open-clause-crash c clean left is = inl (is ∙ ap (left_of c.args.self.now.is_torn) (c.abandon.ensures.stays.same tt tt))
-
-pub returns-then-fails-clause-crash : goal.returns-then-fails-clause-crash
-returns-then-fails-clause-crash c clean left is = inl (is ∙ ap (left_of c.args.self.now.is_torn) (c.abandon-then-fails.ensures.stays.same tt tt))

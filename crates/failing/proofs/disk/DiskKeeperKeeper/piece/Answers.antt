@@ -2,13 +2,6 @@ use Rattle.std.proofs.Common.{IsTrue, inl, ap, ◌∙◌, rules}
 use Rattle.failing.specs.Disks.{left_of}
 use Rattle.failing.proofs.disk.DiskKeeperKeeper.piece.Goals as goal
 
-pub returns-then-not-is_open-clause-stays : goal.returns-then-not-is_open-clause-stays
-returns-then-not-is_open-clause-stays c = record {
-  lasts = search rules;
-  same = λ clean up. c.abandon.ensures.stays.same tt tt;
-  crash = λ clean left is. inl (is ∙ ap (left_of c.args.self.now.is_torn) (c.abandon.ensures.stays.same tt tt));
-}
-
 pub piece-requires : goal.piece-requires
 piece-requires c =
     let up : IsTrue c.args.self.now.is_open = search rules in
