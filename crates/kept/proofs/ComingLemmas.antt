@@ -323,17 +323,17 @@ number_stored : (bytes : List ℕ) (u : Tables) (print : Print) (o : Option ℕ)
 number_stored bytes u print None e = sym (number_new print bytes u e)
 number_stored bytes u print (Some id) e = sym (number_there print bytes u id e)
 
+one_number : (u : Tables) (bytes : List ℕ) → unwrap_or (coming_number bytes u) (next_in u.bodies) ≡ next_in u.bodies
+unfolding coming_number
+one_number u [] = refl
+one_number u (b ∷ bytes) = refl
+
 pub ended_numbered : (bytes : List ℕ) (u : Tables) (print : Print) → AreWhole u → finished u ≡ u → ended_number (coming_number bytes u) print (with_coming bytes u) ≡ number_with print (with_bytes print bytes u)
 unfolding ended_number
 ended_numbered bytes u print h same =
     ap (λ o. unwrap_or o (unwrap_or (coming_number bytes u) (next_in (with_coming bytes u).bodies))) (body_beside u bytes print h same)
-    ∙ ap (unwrap_or (body_with print u.bodies)) (number_first u bytes ∙ one_number bytes)
+    ∙ ap (unwrap_or (body_with print u.bodies)) (number_first u bytes ∙ one_number u bytes)
     ∙ number_stored bytes u print (body_with print u.bodies) refl
-  where
-    one_number : (bytes : List ℕ) → unwrap_or (coming_number bytes u) (next_in u.bodies) ≡ next_in u.bodies
-    unfolding coming_number
-    one_number [] = refl
-    one_number (b ∷ bytes) = refl
 
 received_delivered : (name : List ℕ) (print : Print) (bytes : List ℕ) (moment : ℕ) (listed : Option (List Entry)) (u : Tables)
     → with_received name (number_with print (with_bytes print bytes u)) print moment listed (with_bytes print bytes u) ≡ with_delivered name print bytes moment listed u

@@ -66,7 +66,7 @@ module _ (t : Tables) (id : ℕ) (bytes : List ℕ) (has : pieces_of t id ≡ pi
   behind_place k h = ap (option_map (λ (p : Piece). p.bytes)) (found_among id (k + 1) (rows_of t.pieces) ∙ ap (find (at_number (k + 1))) has ∙ none_behind id bytes (piece_count bytes) k h)
 
 same_front : (one other : List ℕ) (count : ℕ) → ((k : ℕ) → k < count → piece_at one k ≡ piece_at other k)
-    → map (λ n. record { body = 0; number = n + 1; bytes = piece_at one n }) (range_with_len 0 count) ≡ map (λ n. record { body = 0; number = n + 1; bytes = piece_at other n }) (range_with_len 0 count)
+    → map (piece_in 0 one) (range_with_len 0 count) ≡ map (piece_in 0 other) (range_with_len 0 count)
 same_front one other zero same = refl
 same_front one other (suc count) same =
     let next : suc count ≡ count + 1 = omega arith in
