@@ -84,8 +84,8 @@ module _ (config : ConfigValue) (judged : ℕ) (change : Change) where
       }
 
   pub done_keeps : {X E : Type 0} (r : Result X E) (old new : State) → (IsTrue old.is_open → old.now ≡ old.committed) → OnOk r (IsDone old new (with_change config judged change))
-      → OnOk r ({prior : List Judgement} {shown : ShelvesValue} {dates : List ℕ} → KeepsArchive old.committed config prior shown dates → KeepsComing old.committed new.committed)
-  done_keeps (Ok x) old new same done archive = comes_beside old.committed new.committed (λ t was. done.held t (subst (λ db. Holds db t) (sym (same done.was_open)) was)) archive
+      → OnOk r ((prior : List Judgement) (shown : ShelvesValue) (dates : List ℕ) → KeepsArchive old.committed config prior shown dates → KeepsComing old.committed new.committed)
+  done_keeps (Ok x) old new same done = λ prior shown dates archive. comes_beside old.committed new.committed (λ t was. done.held t (subst (λ db. Holds db t) (sym (same done.was_open)) was)) archive
   done_keeps (Err e) old new same done = tt
 
 module _ (config : ConfigValue) (judged : ℕ) (change : Change) (small : change.moment ≤ latest)

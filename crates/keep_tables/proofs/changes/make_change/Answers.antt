@@ -18,7 +18,7 @@ returns-clause-beside g c clean prior shown dates archive =
     let idle : IsTrue c.is_autocommit-idle.result = c.is_autocommit-idle.ensures.value ∙ ap not c.requires.idle in
     on_ok c.amend.result
     (done_keeps c.args.config.now c.args.judged c.args.change.now c.amend.result (state g.S.Store c.args.conn.now) (state g.S.Store c.amend.new.conn) (c.is_autocommit-idle.ensures.settled idle) (c.amend.ensures.done clean))
-    (λ keeps. keeps archive)
+    (λ keeps. keeps prior shown dates archive)
 
 pub returns-clause-crash : goal.returns-clause-crash
 returns-clause-crash g c =
