@@ -8,12 +8,13 @@ use Rattle.std.specs.Ordering.{nat_cmp}
 use Rattle.std.specs.Str.{bytes_eq}
 use Rattle.sums.specs.Lines.{LineForm, has_bad_words, has_bad_digest, has_bad_size, has_bad_name}
 use Rattle.para.specs.Field.{FieldValue}
-use Rattle.sums.specs.Lists.{Lines, NameAndSize, has_twice, lines_of, applies_to_lines, faults, fault}
+use Rattle.sums.specs.Lists.{Lines, NameAndSize, name_and_size, sha1_form, sha256_form, files_form, has_twice, any_twice, lines_of, applies_to_lines, faults, fault}
 use Rattle.sums.specs.declared.fault.ListFault.{ListFault}
 use Rattle.sums.specs.declared.lines.Form.{Form}
 use Rattle.sums.specs.declared.lines.Check.{Check}
 use Rattle.sums.specs.declared.lines.Check.TheVariants.{Words, Digest, Size, Name}
 use Rattle.sums.specs.declared.entries.ListKind.{ListKind}
+use Rattle.sums.specs.declared.lists.FileLists.{FileLists}
 use Rattle.sums.specs.declared.names.FileList.{FileList}
 use Rattle.sums.specs.declared.names.SizedName.{SizedName}
 use denote.Ref.{Bor}
@@ -64,6 +65,13 @@ pub record AreSizes (sizes : BTreeMap (Bor (List ℕ)) (Bor (List ℕ))) (files 
 pub record IsFileList (list : FileList) (files : List NameAndSize) : Type 0 where
   pub files_are : map in_names list.files.items ≡ files
   pub sizes_are : AreSizes list.sizes files
+
+-- the files of three lists, in none of which a name stands twice
+pub record AreFileLists (kind : ListKind) (lines : Lines) (lists : FileLists) : Type 0 where
+  pub sha1 : IsFileList lists.sha1 (map (name_and_size sha1_form) lines.sha1)
+  pub sha256 : IsFileList lists.sha256 (map (name_and_size sha256_form) lines.sha256)
+  pub files : IsFileList lists.files (map (name_and_size (files_form kind)) lines.files)
+  pub once : any_twice kind lines ≡ false
 
 -- the three lists of a paragraph, each there with nothing behind its colon
 pub record AreLists (kind : ListKind) (paragraph : List FieldValue) (lists : Lists) : Type 0 where

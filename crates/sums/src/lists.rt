@@ -1,14 +1,15 @@
 //! The three lists of files of a record, `Checksums-Sha1`, `Checksums-Sha256` and `Files`.
 
-ghost use Rattle.std.specs.Prelude.{◌≡◌, ◌⊎◌, ◌||◌, nat_lt, Ok, Err, Some, None, IfOk, IfErr, MatchResult, length};
-ghost use Rattle.sums.specs.Lists.{ListedIn, lists_in, some_line};
-ghost use Rattle.sums.specs.Views.{AreLists, lines_in, fails, fault_of_lines, fault_of_names};
+ghost use Rattle.std.specs.Prelude.{◌≡◌, ◌==◌, ◌⊎◌, ◌||◌, nat_lt, Ok, Err, Some, None, IfOk, IfErr, MatchResult, length, map};
+ghost use Rattle.sums.specs.Lists.{Lines, ListedIn, lists_in, some_line, any_disagree};
+ghost use Rattle.sums.specs.declared.entries.ListKind.{ListKind};
+ghost use Rattle.sums.specs.Views.{AreFileLists, AreLists, lines_in, fails, fault_of_lines, fault_of_names};
 
 use crate::entries::{Entry, ListKind};
 use crate::fault::ListFault;
 use crate::join::{Lists, SHA1_FORM, SHA256_FORM, entries, files_form};
 use crate::lines::{Check, some_fails};
-use crate::names::{disagree, file_list};
+use crate::names::{FileList, disagree, file_list};
 use para::{Field, Paragraph};
 use std::alloc::Global;
 
@@ -42,9 +43,27 @@ fn check_lines(alloc: Global, lists: Lists<'_>) -> Result<(), ListFault>
     check_names(alloc, lists)
 }
 
-/// What is wrong with the lists from the names of their files on.
-fn check_names(alloc: Global, lists: Lists<'_>) -> Result<(), ListFault>
-    ensures { MatchResult result (λ _. fault_of_names lists.entry.kind (lines_in lists.entry) ≡ None) (λ e. (e ≡ ListFault.OutOfMemory) ⊎ (fault_of_names lists.entry.kind (lines_in lists.entry) ≡ Some e)) }
+/// The files of the three lists.
+struct FileLists<'a> {
+    sha1: FileList<'a>,
+    sha256: FileList<'a>,
+    files: FileList<'a>,
+}
+
+// Written out, so that a caller does not prove again how each part is dropped.
+impl<'a> Drop for FileLists<'a> {
+    fn drop(self) {
+        let FileLists {
+            sha1: _,
+            sha256: _,
+            files: _,
+        } = self;
+    }
+}
+
+/// The files of the three lists, in none of which a name stands twice.
+fn file_lists<'a>(alloc: Global, lists: Lists<'a>) -> Result<FileLists<'a>, ListFault>
+    ensures { MatchResult result (AreFileLists lists.entry.kind (lines_in lists.entry)) (λ e. (e ≡ ListFault.OutOfMemory) ⊎ (fault_of_names lists.entry.kind (lines_in lists.entry) ≡ Some e)) }
 {
     let Some(sha1) = file_list(alloc, SHA1_FORM, lists.sha1)? else {
         return Err(ListFault::NameTwice);
@@ -55,10 +74,36 @@ fn check_names(alloc: Global, lists: Lists<'_>) -> Result<(), ListFault>
     let Some(files) = file_list(alloc, files_form(lists.kind), lists.files)? else {
         return Err(ListFault::NameTwice);
     };
-    if disagree(&sha1, &files) || disagree(&sha256, &files) {
+    Ok(FileLists {
+        sha1,
+        sha256,
+        files,
+    })
+}
+
+/// Whether the lists have not the same names with the same sizes.
+fn some_disagree(lists: &FileLists<'_>) -> bool
+    ensures { (kind : ListKind) (lines : Lines) → AreFileLists kind lines lists.now → result ≡ any_disagree kind lines }
+{
+    disagree(&lists.sha1, &lists.files) || disagree(&lists.sha256, &lists.files)
+}
+
+/// Whether there is no file, or there are too many.
+fn is_bad_count(files: &[&str]) -> bool
+    ensures { result ≡ (length (map (λ line. line.now) files.now) == 0 || nat_lt 256 (length (map (λ line. line.now) files.now))) }
+{
+    files.is_empty() || files.len() > MOST_FILES
+}
+
+/// What is wrong with the lists from the names of their files on.
+fn check_names(alloc: Global, lists: Lists<'_>) -> Result<(), ListFault>
+    ensures { MatchResult result (λ _. fault_of_names lists.entry.kind (lines_in lists.entry) ≡ None) (λ e. (e ≡ ListFault.OutOfMemory) ⊎ (fault_of_names lists.entry.kind (lines_in lists.entry) ≡ Some e)) }
+{
+    let found = file_lists(alloc, lists)?;
+    if some_disagree(&found) {
         return Err(ListFault::ListsDisagree);
     }
-    if lists.files.is_empty() || lists.files.len() > MOST_FILES {
+    if is_bad_count(lists.files) {
         return Err(ListFault::BadCount);
     }
     Ok(())

@@ -10,10 +10,16 @@ use std::alloc::{AllocError, Global};
 use std::collections::BTreeMap;
 
 /// The files of a list, and their sizes by name.
-#[derive(Drop)]
 pub struct FileList<'a> {
     files: Vec<SizedName<'a>>,
     sizes: BTreeMap<&'a str, &'a str>,
+}
+
+// Written out, so that a caller does not prove again how each part is dropped.
+impl<'a> Drop for FileList<'a> {
+    fn drop(self) {
+        let FileList { files: _, sizes: _ } = self;
+    }
 }
 
 /// What the lists have in common of a file: its name, and its size as it is written.
