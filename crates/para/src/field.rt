@@ -7,7 +7,7 @@ use crate::named::{Named, find_named};
 use std::marker::Model;
 
 /// A field of a paragraph, in slices of the text that it was read from.
-#[derive(Debug, Drop)]
+#[derive(Drop)]
 pub struct Field<'a> {
     /// The name, as it is spelled.
     pub name: &'a str,
@@ -18,7 +18,7 @@ pub struct Field<'a> {
 }
 
 /// A paragraph: its fields in the order of the text.
-#[derive(Debug, Drop)]
+#[derive(Drop)]
 pub struct Paragraph<'a> {
     pub(crate) fields: Vec<Field<'a>>,
 }

@@ -1,7 +1,8 @@
 //! A .changes (Debian Policy 5.5).
 
-ghost use Rattle.std.specs.Prelude.{◌≡◌, ◌⊎◌, Some, None, Ok, Err, IfOk, IfErr, MatchResult};
-ghost use Rattle.records.specs.Records.{changes_in, changes_fault, changes_of, changes_formats, unknown_format, bad_source, bad_distribution, first_of_words, person_of, value, words};
+ghost use Rattle.std.specs.Prelude.{◌≡◌, ◌⊎◌, List, [], ◌∷◌, Option, Some, None, Ok, Err, IfOk, IfErr, MatchResult};
+ghost use Rattle.records.specs.Records.{changes_in, changes_fault, changes_of, changes_required, changes_simple, changes_formats, first_of, missing, not_simple, unknown_format, bad_source, bad_architectures, bad_distribution, bad_lists, first_of_words, person_of, value, words, entries_of};
+ghost use Rattle.records.specs.declared.fault.RecordFault.{RecordFault};
 
 use crate::checks::{check_required, check_simple, is_there, value_of};
 use crate::fault::RecordFault;
@@ -9,13 +10,13 @@ use crate::field_name::FieldName;
 use crate::names::is_plain;
 use crate::parts::{architectures_of, files_of, source_of, version_of, words_of};
 use para::{Listed, Paragraph, Text, read_one};
-use std::alloc::Global;
+use std::alloc::{AllocError, Global};
 use std::marker::Model;
 use sums::{Entry, ListKind};
 use vers::Version;
 
 /// A .changes: which files an upload has, for which distribution and from whom.
-#[derive(Debug, Drop)]
+#[derive(Drop)]
 pub struct Changes {
     source: Text,
     version: Version,
@@ -83,14 +84,14 @@ fn check_format(paragraph: &Paragraph<'_>) -> Result<(), RecordFault>
 }
 
 /// The source name of the paragraph.
-fn source_in(alloc: Global, paragraph: &Paragraph<'_>) -> Result<Text, RecordFault>
-    ensures found { IfOk result (λ name. name ≡ first_of_words (words FieldName.Source paragraph.now)) }
+fn source_name<'a>(alloc: Global, paragraph: &Paragraph<'a>) -> Result<&'a str, RecordFault>
+    ensures found { IfOk result (λ name. name.now ≡ first_of_words (words FieldName.Source paragraph.now)) }
     ensures only { IfOk result (λ _. bad_source (words FieldName.Source paragraph.now) ≡ None) }
     ensures refused { IfErr result
         (λ e. (e ≡ RecordFault.OutOfMemory) ⊎ (bad_source (words FieldName.Source paragraph.now) ≡ Some e)) }
 {
     let words = words_of(alloc, paragraph, FieldName::Source)?;
-    Ok(Text::new(alloc, source_of(&words)?)?)
+    source_of(&words)
 }
 
 /// The distribution of the paragraph, which is exactly one.
@@ -119,6 +120,85 @@ fn responsible_person<'a>(paragraph: &Paragraph<'a>) -> &'a str
     }
 }
 
+/// The checks before that of the source.
+fn check_front(paragraph: &Paragraph<'_>) -> Result<(), RecordFault>
+    ensures only { IfOk result (λ _. (rest : List (Option RecordFault)) →
+        first_of (missing changes_required paragraph.now ∷ not_simple changes_simple paragraph.now
+            ∷ unknown_format changes_formats paragraph.now ∷ rest) ≡ first_of rest) }
+    ensures refused { IfErr result (λ e. (rest : List (Option RecordFault)) →
+        first_of (missing changes_required paragraph.now ∷ not_simple changes_simple paragraph.now
+            ∷ unknown_format changes_formats paragraph.now ∷ rest) ≡ Some e) }
+{
+    check_required(paragraph, &REQUIRED)?;
+    check_simple(paragraph, &SIMPLE)?;
+    check_format(paragraph)
+}
+
+/// What an upload is made of, and for which distribution.
+#[derive(Drop)]
+struct Listing {
+    architectures: Listed<Text>,
+    distribution: Text,
+    entries: Listed<Entry>,
+}
+
+/// What the paragraph lists, and the checks behind that of the version.
+fn listing_of(alloc: Global, paragraph: &Paragraph<'_>) -> Result<Listing, RecordFault>
+    ensures found { IfOk result (λ l. l ≡ record {
+      architectures = words FieldName.Architecture paragraph.now;
+      distribution = value FieldName.Distribution paragraph.now;
+      entries = entries_of ListKind.Changes paragraph.now;
+    }) }
+    ensures only { IfOk result (λ _. first_of (bad_architectures paragraph.now ∷ bad_distribution paragraph.now
+        ∷ bad_lists ListKind.Changes paragraph.now ∷ []) ≡ None) }
+    ensures refused { IfErr result
+        (λ e. (e ≡ RecordFault.OutOfMemory) ⊎ (first_of (bad_architectures paragraph.now ∷ bad_distribution paragraph.now
+        ∷ bad_lists ListKind.Changes paragraph.now ∷ []) ≡ Some e)) }
+{
+    let architectures = architectures_of(alloc, paragraph)?;
+    let distribution = Text::new(alloc, distribution_of(paragraph)?)?;
+    let entries = files_of(alloc, paragraph, ListKind::Changes)?;
+    Ok(Listing {
+        architectures,
+        distribution,
+        entries,
+    })
+}
+
+/// The .changes of a paragraph that makes this version and this listing.
+fn made_of(
+    alloc: Global,
+    paragraph: &Paragraph<'_>,
+    source: &str,
+    version: Version,
+    listing: Listing,
+) -> Result<Changes, AllocError>
+    ensures { IfOk result (λ c. c ≡ record {
+      source = source.now;
+      version = version;
+      architectures = listing.architectures;
+      distribution = listing.distribution;
+      person = person_of paragraph.now;
+      entries = listing.entries;
+    }) }
+{
+    let source = Text::new(alloc, source)?;
+    let person = Text::new(alloc, responsible_person(paragraph))?;
+    let Listing {
+        architectures,
+        distribution,
+        entries,
+    } = listing;
+    Ok(Changes {
+        source,
+        version,
+        architectures,
+        distribution,
+        person,
+        entries,
+    })
+}
+
 /// The .changes that a paragraph is.
 fn changes_from(alloc: Global, paragraph: &Paragraph<'_>) -> Result<Changes, RecordFault>
     ensures only { IfOk result (λ _. changes_fault paragraph.now ≡ None) }
@@ -126,22 +206,11 @@ fn changes_from(alloc: Global, paragraph: &Paragraph<'_>) -> Result<Changes, Rec
     ensures refused { IfErr result
         (λ e. (e ≡ RecordFault.OutOfMemory) ⊎ (changes_fault paragraph.now ≡ Some e)) }
 {
-    check_required(paragraph, &REQUIRED)?;
-    check_simple(paragraph, &SIMPLE)?;
-    check_format(paragraph)?;
-    let source = source_in(alloc, paragraph)?;
+    check_front(paragraph)?;
+    let source = source_name(alloc, paragraph)?;
     let version = version_of(alloc, paragraph)?;
-    let architectures = architectures_of(alloc, paragraph)?;
-    let distribution = distribution_of(paragraph)?;
-    let entries = files_of(alloc, paragraph, ListKind::Changes)?;
-    Ok(Changes {
-        source,
-        version,
-        architectures,
-        distribution: Text::new(alloc, distribution)?,
-        person: Text::new(alloc, responsible_person(paragraph))?,
-        entries,
-    })
+    let listing = listing_of(alloc, paragraph)?;
+    Ok(made_of(alloc, paragraph, source, version, listing)?)
 }
 
 impl Changes {

@@ -1,7 +1,8 @@
 //! A .dsc, the control file of a source package (Debian Policy 5.4).
 
-ghost use Rattle.std.specs.Prelude.{◌≡◌, ◌⊎◌, Some, None, Ok, Err, IfOk, IfErr, MatchResult};
-ghost use Rattle.records.specs.Records.{dsc_in, dsc_fault, dsc_of, dsc_formats, unknown_format};
+ghost use Rattle.std.specs.Prelude.{◌≡◌, ◌⊎◌, List, ◌∷◌, Option, Some, None, Ok, Err, IfOk, IfErr, MatchResult};
+ghost use Rattle.records.specs.Records.{dsc_in, dsc_fault, dsc_of, dsc_required, dsc_simple, dsc_formats, first_of, missing, not_simple, unknown_format, bad_name, value};
+ghost use Rattle.records.specs.declared.fault.RecordFault.{RecordFault};
 
 use crate::checks::{check_own, check_required, check_simple, value_of};
 use crate::fault::RecordFault;
@@ -14,7 +15,7 @@ use sums::{Entry, ListKind};
 use vers::Version;
 
 /// A .dsc: a source package and the files that it is made of.
-#[derive(Debug, Drop)]
+#[derive(Drop)]
 pub struct Dsc {
     source: Text,
     version: Version,
@@ -70,6 +71,21 @@ fn check_format(paragraph: &Paragraph<'_>) -> Result<(), RecordFault>
     }
 }
 
+/// The checks before that of the version.
+fn check_front(paragraph: &Paragraph<'_>) -> Result<(), RecordFault>
+    ensures only { IfOk result (λ _. (rest : List (Option RecordFault)) →
+        first_of (missing dsc_required paragraph.now ∷ not_simple dsc_simple paragraph.now
+            ∷ unknown_format dsc_formats paragraph.now ∷ bad_name (value FieldName.Source paragraph.now) ∷ rest) ≡ first_of rest) }
+    ensures refused { IfErr result (λ e. (rest : List (Option RecordFault)) →
+        first_of (missing dsc_required paragraph.now ∷ not_simple dsc_simple paragraph.now
+            ∷ unknown_format dsc_formats paragraph.now ∷ bad_name (value FieldName.Source paragraph.now) ∷ rest) ≡ Some e) }
+{
+    check_required(paragraph, &REQUIRED)?;
+    check_simple(paragraph, &SIMPLE)?;
+    check_format(paragraph)?;
+    check_name(value_of(paragraph, FieldName::Source))
+}
+
 /// The .dsc that a paragraph is.
 fn dsc_from(alloc: Global, paragraph: &Paragraph<'_>) -> Result<Dsc, RecordFault>
     ensures only { IfOk result (λ _. dsc_fault paragraph.now ≡ None) }
@@ -77,16 +93,12 @@ fn dsc_from(alloc: Global, paragraph: &Paragraph<'_>) -> Result<Dsc, RecordFault
     ensures refused { IfErr result
         (λ e. (e ≡ RecordFault.OutOfMemory) ⊎ (dsc_fault paragraph.now ≡ Some e)) }
 {
-    check_required(paragraph, &REQUIRED)?;
-    check_simple(paragraph, &SIMPLE)?;
-    check_format(paragraph)?;
-    let source = value_of(paragraph, FieldName::Source);
-    check_name(source)?;
+    check_front(paragraph)?;
     let version = version_of(alloc, paragraph)?;
     let entries = files_of(alloc, paragraph, ListKind::Dsc)?;
     check_own(paragraph, &OWN)?;
     Ok(Dsc {
-        source: Text::new(alloc, source)?,
+        source: Text::new(alloc, value_of(paragraph, FieldName::Source))?,
         version,
         entries,
     })

@@ -65,17 +65,17 @@ impl fmt::Display for RecordFault {
 
     fn fmt<W: fmt::Write>(&self, f: &mut fmt::Formatter<W>) -> fmt::Result {
         match self {
-            RecordFault::OutOfMemory => write!(f, "C0"),
+            RecordFault::OutOfMemory => f.write_str("C0"),
             RecordFault::Paragraph(fault) => write!(f, "C1 {fault}"),
             RecordFault::Missing(name) => write!(f, "C2 {}", name.name()),
-            RecordFault::NotOneLine => write!(f, "C3"),
-            RecordFault::Format => write!(f, "C4"),
-            RecordFault::Name => write!(f, "C5"),
+            RecordFault::NotOneLine => f.write_str("C3"),
+            RecordFault::Format => f.write_str("C4"),
+            RecordFault::Name => f.write_str("C5"),
             RecordFault::Version(fault) => write!(f, "C6 {fault}"),
-            RecordFault::Architecture => write!(f, "C7"),
-            RecordFault::Distribution => write!(f, "C8"),
+            RecordFault::Architecture => f.write_str("C7"),
+            RecordFault::Distribution => f.write_str("C8"),
             RecordFault::Lists(fault) => write!(f, "C9 {fault}"),
-            RecordFault::OwnField => write!(f, "C10"),
+            RecordFault::OwnField => f.write_str("C10"),
         }
     }
 }

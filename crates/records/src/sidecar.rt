@@ -1,7 +1,8 @@
 //! A sidecar, the control paragraph of a binary package that is delivered beside it (Debian Policy 5.3).
 
-ghost use Rattle.std.specs.Prelude.{◌≡◌, ◌⊎◌, List, [], ◌∷◌, Some, None, Ok, Err, IfOk, IfErr, MatchResult, map};
-ghost use Rattle.records.specs.Records.{sidecar_in, sidecar_fault, sidecar_of, sidecar_source, is_binary_architecture, bad_architecture, value};
+ghost use Rattle.std.specs.Prelude.{◌≡◌, ◌⊎◌, List, [], ◌∷◌, Option, Some, None, Ok, Err, IfOk, IfErr, MatchResult, map};
+ghost use Rattle.records.specs.Records.{sidecar_in, sidecar_fault, sidecar_of as sidecar_in_fields, sidecar_source, sidecar_required, sidecar_simple, sidecar_own, first_of, first_of_words, missing, not_simple, has_own_field, bad_name, bad_source, is_binary_architecture, bad_architecture, value};
+ghost use Rattle.records.specs.declared.fault.RecordFault.{RecordFault};
 
 use crate::checks::{check_own, check_required, check_simple, is_there, value_of};
 use crate::fault::RecordFault;
@@ -9,12 +10,12 @@ use crate::field_name::FieldName;
 use crate::names::is_architecture;
 use crate::parts::{check_name, source_of, version_of, words_of};
 use para::{Paragraph, Text, read_one};
-use std::alloc::Global;
+use std::alloc::{AllocError, Global};
 use std::marker::Model;
 use vers::Version;
 
 /// A sidecar: what its binary package is, and of which source.
-#[derive(Debug, Drop)]
+#[derive(Drop)]
 pub struct Sidecar {
     package: Text,
     version: Version,
@@ -86,42 +87,84 @@ fn is_of_binary(name: &str) -> bool
     is_architecture(name) && name != "source"
 }
 
-/// The architecture of the paragraph, which is exactly one and not `source` (Debian Policy 5.6.8).
+/// Refuses another architecture than exactly one that is not `source` (Debian Policy 5.6.8).
 #[tactic(auto, unfolding(crate::specs::Records::bad_architecture))]
-fn architecture_of<'a>(paragraph: &Paragraph<'a>) -> Result<&'a str, RecordFault>
-    ensures found { IfOk result (λ name. name.now ≡ value FieldName.Architecture paragraph.now) }
-    ensures judged { MatchResult result (λ _. bad_architecture paragraph.now ≡ None)
+fn check_architecture(paragraph: &Paragraph<'_>) -> Result<(), RecordFault>
+    ensures { MatchResult result (λ _. bad_architecture paragraph.now ≡ None)
         (λ e. bad_architecture paragraph.now ≡ Some e) }
 {
-    let name = value_of(paragraph, FieldName::Architecture);
-    if is_of_binary(name) {
-        return Ok(name);
+    if is_of_binary(value_of(paragraph, FieldName::Architecture)) {
+        return Ok(());
     }
     Err(RecordFault::Architecture)
+}
+
+/// The source that the paragraph names.
+fn source_name<'a>(alloc: Global, paragraph: &Paragraph<'a>) -> Result<&'a str, RecordFault>
+    ensures found { IfOk result (λ name. name.now ≡ first_of_words (sidecar_source paragraph.now)) }
+    ensures only { IfOk result (λ _. bad_source (sidecar_source paragraph.now) ≡ None) }
+    ensures refused { IfErr result
+        (λ e. (e ≡ RecordFault.OutOfMemory) ⊎ (bad_source (sidecar_source paragraph.now) ≡ Some e)) }
+{
+    let words = source_words(alloc, paragraph)?;
+    source_of(&words)
+}
+
+/// The checks before those of the source.
+fn check_front(paragraph: &Paragraph<'_>) -> Result<(), RecordFault>
+    ensures only { IfOk result (λ _. (rest : List (Option RecordFault)) →
+        first_of (missing sidecar_required paragraph.now ∷ not_simple sidecar_simple paragraph.now
+            ∷ bad_name (value FieldName.Package paragraph.now) ∷ rest) ≡ first_of rest) }
+    ensures refused { IfErr result (λ e. (rest : List (Option RecordFault)) →
+        first_of (missing sidecar_required paragraph.now ∷ not_simple sidecar_simple paragraph.now
+            ∷ bad_name (value FieldName.Package paragraph.now) ∷ rest) ≡ Some e) }
+{
+    check_required(paragraph, &REQUIRED)?;
+    check_simple(paragraph, &SIMPLE)?;
+    check_name(value_of(paragraph, FieldName::Package))
+}
+
+/// The checks behind that of the version.
+fn check_rest(paragraph: &Paragraph<'_>) -> Result<(), RecordFault>
+    ensures { MatchResult result
+        (λ _. first_of (bad_architecture paragraph.now ∷ has_own_field sidecar_own paragraph.now ∷ []) ≡ None)
+        (λ e. first_of (bad_architecture paragraph.now ∷ has_own_field sidecar_own paragraph.now ∷ []) ≡ Some e) }
+{
+    check_architecture(paragraph)?;
+    check_own(paragraph, &OWN)
+}
+
+/// The sidecar that a paragraph is, of this version.
+fn sidecar_of(
+    alloc: Global,
+    paragraph: &Paragraph<'_>,
+    source: &str,
+    version: Version,
+) -> Result<Sidecar, AllocError>
+    requires source { source.now ≡ first_of_words (sidecar_source paragraph.now) }
+    requires version { version ≡ value FieldName.Version paragraph.now }
+    ensures { IfOk result (λ s. s ≡ sidecar_in_fields paragraph.now) }
+{
+    Ok(Sidecar {
+        package: Text::new(alloc, value_of(paragraph, FieldName::Package))?,
+        version,
+        architecture: Text::new(alloc, value_of(paragraph, FieldName::Architecture))?,
+        source: Text::new(alloc, source)?,
+    })
 }
 
 /// The sidecar that a paragraph is.
 fn sidecar_from(alloc: Global, paragraph: &Paragraph<'_>) -> Result<Sidecar, RecordFault>
     ensures only { IfOk result (λ _. sidecar_fault paragraph.now ≡ None) }
-    ensures read { IfOk result (λ s. s ≡ sidecar_of paragraph.now) }
+    ensures read { IfOk result (λ s. s ≡ sidecar_in_fields paragraph.now) }
     ensures refused { IfErr result
         (λ e. (e ≡ RecordFault.OutOfMemory) ⊎ (sidecar_fault paragraph.now ≡ Some e)) }
 {
-    check_required(paragraph, &REQUIRED)?;
-    check_simple(paragraph, &SIMPLE)?;
-    let package = value_of(paragraph, FieldName::Package);
-    check_name(package)?;
-    let words = source_words(alloc, paragraph)?;
-    let source = source_of(&words)?;
+    check_front(paragraph)?;
+    let source = source_name(alloc, paragraph)?;
     let version = version_of(alloc, paragraph)?;
-    let architecture = architecture_of(paragraph)?;
-    check_own(paragraph, &OWN)?;
-    Ok(Sidecar {
-        package: Text::new(alloc, package)?,
-        version,
-        architecture: Text::new(alloc, architecture)?,
-        source: Text::new(alloc, source)?,
-    })
+    check_rest(paragraph)?;
+    Ok(sidecar_of(alloc, paragraph, source, version)?)
 }
 
 impl Sidecar {

@@ -13,7 +13,7 @@ pub enum ListKind {
 }
 
 /// A file of a record (Debian Policy 5.6.21, 5.6.24). Section and priority are empty in a .dsc.
-#[derive(Debug, Drop)]
+#[derive(Drop)]
 pub struct Entry {
     pub name: Text,
     pub print: Print,
