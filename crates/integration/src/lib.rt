@@ -1,4 +1,4 @@
-//! Tests of what rows in files can't say: sockets, statements on tables, types, and what a keeper is handed.
+//! Tests of what rows can't say: connections in one list, commands from the first call on, refusals over a disk, and what is not read.
 #![tactic(auto)]
 
 #[cfg(test)]

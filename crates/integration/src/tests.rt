@@ -1,18 +1,7 @@
 //! The tests, a module for each subject.
 
-mod all_rows;
 mod attended;
 mod checks;
-mod clients;
-mod counted;
-mod databases;
-mod item_rows;
-mod kept_values;
-mod messages;
 mod promised;
 mod refusals;
-mod served;
-mod shut;
-mod text_rows;
-mod uploads;
 mod wanting;

@@ -1,29 +1,47 @@
 //! Connections that are answered one after the other.
 
-use super::checks::same;
-use super::messages::{CREATED, MISSING};
-use super::uploads::{File, HELLO, MOMENT, PAIR, archive_of};
+use super::checks::{config_of, same};
 use desk::{Connection, attend};
-use keep::Keeper;
+use keep::{Keeper, PlainKeeper};
 use queue::Archive;
 use std::alloc::{AllocError, Global};
 use std::process::Abort;
 use std::test::Fail;
 
 /// A request, and the whole reply to it.
-type Row<'a> = (&'a [u8], &'a [u8]);
+type Row = (&'static [u8], &'static [u8]);
 
-/// A connection that brings nothing, and a request behind the first two deliveries.
-const WAITING: [Row<'_>; 2] = [
+/// Two suites, of which the second keeps no sources.
+const PAIR: &[u8] =
+    b"Codename: box\nArchitectures: amd64 source\nComponents: main\n\nCodename: lab\nArchitectures: amd64\nComponents: main\n";
+
+/// The moment of each connection, 2016-07-02 05:20:50 UTC.
+const MOMENT: u64 = 1_467_436_850;
+
+/// The reply to a delivery that is new.
+const CREATED: &[u8] =
+    b"HTTP/1.1 201 Created\r\nContent-Type: text/plain; charset=utf-8\r\nContent-Length: 4\r\nConnection: close\r\n\r\nnew\n";
+
+/// An upload of three files from its delivery to a copy of its package, and a connection that brings nothing. The digests are those that
+/// Python's hashlib gave.
+const ROWS: [Row; 13] = [
+    (
+        b"PUT /incoming/hello_1.0-1_amd64.changes HTTP/1.1\r\nContent-Length: 709\r\n\r\nFormat: 1.8\nDate: Sat, 02 Jul 2016 05:00:00 +0000\nSource: hello\nVersion: 1.0-1\nArchitecture: amd64\nDistribution: box\nMaintainer: Ann <ann@example.org>\nChanges:\n hello (1.0-1) box; urgency=low\nChecksums-Sha1:\n a9993e364706816aba3e25717850c26c9cd0d89d 3 hello_1.0-1_amd64.deb\n baa4e058fbc3cff6d3779abd4dd824488291bd98 104 hello_1.0-1_amd64.control\nChecksums-Sha256:\n ba7816bf8f01cfea414140de5dae2223b00361a396177a9cb410ff61f20015ad 3 hello_1.0-1_amd64.deb\n 577afbfebf762b1e54ff30186e0476751c272a4cc8d9aa441b59eb118ad06b85 104 hello_1.0-1_amd64.control\nFiles:\n 900150983cd24fb0d6963f7d28e17f72 3 utils optional hello_1.0-1_amd64.deb\n 4ee3c5e6649092348b7f34d1cb6296c0 104 utils optional hello_1.0-1_amd64.control\n",
+        CREATED,
+    ),
+    (
+        b"PUT /incoming/hello_1.0-1_amd64.deb HTTP/1.1\r\nContent-Length: 3\r\n\r\nabc",
+        CREATED,
+    ),
     (b"", b""),
     (
         b"GET /queue HTTP/1.1\r\n\r\n",
         b"HTTP/1.1 200 OK\r\nContent-Type: text/plain; charset=utf-8\r\nContent-Length: 28\r\nConnection: close\r\n\r\n1 hello_1.0-1_amd64.changes\n",
     ),
-];
-
-/// The requests behind the third delivery.
-const ARRIVED: [Row<'_>; 8] = [
+    (
+        b"PUT /incoming/hello_1.0-1_amd64.control HTTP/1.1\r\nContent-Length: 104\r\n\r\nPackage: hello\nVersion: 1.0-1\nArchitecture: amd64\nMaintainer: Ann <ann@example.org>\nDescription: greets\n",
+        CREATED,
+    ),
     (
         b"POST /queue/run HTTP/1.0\r\n\r\n",
         b"HTTP/1.1 200 OK\r\nContent-Type: text/plain; charset=utf-8\r\nContent-Length: 35\r\nConnection: close\r\n\r\naccepted hello_1.0-1_amd64.changes\n",
@@ -42,7 +60,7 @@ const ARRIVED: [Row<'_>; 8] = [
     ),
     (
         b"GET /pool/main/h/hello/hello_1.0-2_amd64.deb HTTP/1.1\r\n\r\n",
-        MISSING,
+        b"HTTP/1.1 404 Not Found\r\nContent-Type: text/plain; charset=utf-8\r\nContent-Length: 14\r\nConnection: close\r\n\r\n404 Not Found\n",
     ),
     (
         b"GET /dists/box/main/binary-amd64/Packages HTTP/1.1\r\n\r\n",
@@ -58,111 +76,47 @@ const ARRIVED: [Row<'_>; 8] = [
     ),
 ];
 
-/// The head of a request that delivers a file.
-fn head(alloc: Global, file: &File) -> Result<Vec<u8>, AllocError> {
-    let (name, length) = (file.name, file.body.len());
-    let head = format!(in alloc;
-        "PUT /incoming/{name} HTTP/1.1\r\nContent-Length: {length}\r\n\r\n"
-    )?;
-    Ok(head.into_bytes())
-}
-
-/// A request that delivers a file.
-fn put(alloc: Global, file: &File) -> Result<Vec<u8>, AllocError> {
-    let mut request = head(alloc, file)?;
-    request.extend_from_slice(file.body)?;
-    Ok(request)
-}
-
-/// Requests that deliver files.
-fn puts(alloc: Global, files: &[File]) -> Result<Vec<Vec<u8>>, AllocError> {
-    let mut requests = Vec::new(alloc);
-    for file in files {
-        requests.push(put(alloc, file)?)?;
-    }
-    Ok(requests)
-}
-
-/// The rows of an upload of three files, which are new.
-fn upload_rows<'a>(
-    alloc: Global,
-    changes: &'a [u8],
-    deb: &'a [u8],
-    control: &'a [u8],
-) -> Result<Vec<Row<'a>>, AllocError> {
-    let mut rows = Vec::from_slice(alloc, &[(changes, CREATED), (deb, CREATED)])?;
-    rows.extend_from_slice(&WAITING)?;
-    rows.push((control, CREATED))?;
-    rows.extend_from_slice(&ARRIVED)?;
-    Ok(rows)
-}
-
-/// A connection that brings a request.
-fn connection(alloc: Global, request: &[u8]) -> Connection<&[u8], Vec<u8>> {
-    Connection {
-        reader: request,
-        writer: Vec::new(alloc),
-        moment: MOMENT,
-        end: None,
-    }
+/// An archive in memory, made at 0.
+fn archive_of(alloc: Global, config: &[u8]) -> Result<Archive<PlainKeeper>, Fail> {
+    let config = config_of(alloc, config)?;
+    Ok(Archive::new(PlainKeeper::new(alloc, config, 0)?))
 }
 
 /// Connections that bring the requests of rows.
-fn connections_of<'a>(
+fn connections_of(
     alloc: Global,
-    rows: &[Row<'a>],
-) -> Result<Vec<Connection<&'a [u8], Vec<u8>>>, AllocError> {
+    rows: &[Row],
+) -> Result<Vec<Connection<&'static [u8], Vec<u8>>>, AllocError> {
     let mut connections = Vec::new(alloc);
     for row in rows {
-        connections.push(connection(alloc, row.0))?;
+        connections.push(Connection {
+            reader: row.0,
+            writer: Vec::new(alloc),
+            moment: MOMENT,
+            end: None,
+        })?;
     }
     Ok(connections)
 }
 
-/// Checks the replies that were written to connections.
-fn expect_written(rt: &impl Abort, connections: &[Connection<&[u8], Vec<u8>>], rows: &[Row<'_>]) {
-    for (connection, row) in connections.iter().zip(rows) {
-        same(rt, &connection.writer.as_slice(), &row.1);
-    }
-}
-
-/// Answers the requests over connections, one after the other, and checks their replies.
+/// Answers the requests of rows over connections, one after the other, and checks their replies.
 fn expect_rows<K: Keeper>(
     rt: &impl Abort,
     alloc: Global,
     archive: &mut Archive<K>,
-    rows: &[Row<'_>],
+    rows: &[Row],
 ) -> Result<(), Fail> {
     let mut connections = connections_of(alloc, rows)?;
     attend(alloc, archive, connections.as_mut_slice());
-    expect_written(rt, connections.as_slice(), rows);
+    for (connection, row) in connections.iter().zip(rows) {
+        same(rt, &connection.writer.as_slice(), &row.1);
+    }
     Ok(())
-}
-
-/// Checks the replies to the three deliveries of an upload, and to the requests before and behind the third.
-fn expect_upload<K: Keeper>(
-    rt: &impl Abort,
-    alloc: Global,
-    archive: &mut Archive<K>,
-    deliveries: &[Vec<u8>],
-) -> Result<(), Fail> {
-    let [changes, deb, control] = deliveries else {
-        return Err(Fail::from("an upload of other than three files"));
-    };
-    let rows = upload_rows(
-        alloc,
-        changes.as_slice(),
-        deb.as_slice(),
-        control.as_slice(),
-    )?;
-    expect_rows(rt, alloc, archive, rows.as_slice())
 }
 
 /// An upload from its delivery to a copy of its package.
 #[test]
 fn an_upload_goes_through(rt: HostRuntime) -> Result<(), Fail> {
     let alloc = rt.alloc();
-    let deliveries = puts(alloc, &HELLO)?;
-    let mut archive = archive_of(alloc, PAIR)?;
-    expect_upload(&rt, alloc, &mut archive, deliveries.as_slice())
+    expect_rows(&rt, alloc, &mut archive_of(alloc, PAIR)?, &ROWS)
 }

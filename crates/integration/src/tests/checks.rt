@@ -1,14 +1,21 @@
-//! Checks of values, each in a call of its own: a test in whose body they stand takes the prover far longer.
+//! What the tests share: a check in a call of its own, since a test in whose body it stands takes the prover far longer, and a
+//! configuration.
 
+use rules::Config;
+use std::alloc::Global;
 use std::fmt::Debug;
 use std::process::Abort;
+use std::test::Fail;
+
+/// A suite, which keeps sources.
+pub const BOX: &[u8] = b"Codename: box\nArchitectures: amd64 source\nComponents: main\n";
+
+/// The configuration that a text is. One that is known where it is read takes the prover far longer.
+pub fn config_of(alloc: Global, text: &[u8]) -> Result<Config, Fail> {
+    Ok(Config::read(alloc, text)?)
+}
 
 /// Checks that two values are the same.
 pub fn same<R: Abort, T: Debug + PartialEq>(rt: &R, found: &T, wanted: &T) {
     assert_eq!(rt; *found, *wanted);
-}
-
-/// Checks that something holds.
-pub fn holds<R: Abort>(rt: &R, is_so: bool) {
-    assert!(rt; is_so);
 }

@@ -1,76 +1,56 @@
 //! Archives from their first call on: in memory, in a database, and one that is opened again.
 
-use super::checks::{holds, same};
-use super::uploads::{BOX, File, HELLO, MOMENT};
+use super::checks::{BOX, config_of, same};
 use once::{drive_created, drive_opened};
 use queue::{Arrived, Command, Outcome, drive_anew};
-use rules::Config;
 use sqlite::{Alter, Connection};
 use std::alloc::{AllocError, Global};
 use std::process::Abort;
 use std::test::Fail;
 
-/// The path of the index of box.
-const PACKAGES: &str = "dists/box/main/binary-amd64/Packages";
-
 /// The delivery of a file.
-fn delivery(alloc: Global, file: &File) -> Result<Command, AllocError> {
+fn delivery(alloc: Global) -> Result<Command, AllocError> {
     Ok(Command::Deliver {
-        name: String::from_str(alloc, file.name)?,
-        body: file.body.to_vec(alloc)?,
-        moment: MOMENT,
+        name: String::from_str(alloc, "a.deb")?,
+        body: b"abc".to_vec(alloc)?,
+        moment: 0,
     })
 }
 
-/// The deliveries of the package hello, a run, and a look-up of its index.
+/// The delivery, and a list of the verdicts.
 fn commands(alloc: Global) -> Result<Vec<Command>, AllocError> {
     let mut commands = Vec::new(alloc);
-    for file in &HELLO {
-        commands.push(delivery(alloc, file)?)?;
-    }
-    commands.push(Command::Run { moment: MOMENT })?;
-    commands.push(Command::Fetch {
-        path: String::from_str(alloc, PACKAGES)?,
-    })?;
+    commands.push(delivery(alloc)?)?;
+    commands.push(Command::Verdicts)?;
     Ok(commands)
 }
 
-/// Checks one outcome: each delivery is as said, a run reports so many lines, and the index is there.
-fn expect_outcome(rt: &impl Abort, outcome: &Outcome, arrived: Arrived, lines: usize) {
-    match outcome {
-        Outcome::Deliver(Ok(found)) => same(rt, found, &arrived),
-        Outcome::Run(Ok(report)) => same(rt, &report.lines.len(), &lines),
-        Outcome::Fetch(Ok(found)) => holds(rt, found.is_some()),
-        _ => holds(rt, false),
-    }
-}
-
-/// Checks the outcomes of all five commands.
-fn expect_outcomes(rt: &impl Abort, outcomes: &[Outcome], arrived: Arrived, lines: usize) {
-    same(rt, &outcomes.len(), &5);
-    for outcome in outcomes {
-        expect_outcome(rt, outcome, arrived, lines);
+/// What the delivery answered, where there is an outcome of both commands, and none is a fault.
+fn delivered(outcomes: &[Outcome]) -> Option<Arrived> {
+    match outcomes {
+        [Outcome::Deliver(Ok(arrived)), Outcome::Verdicts(Ok(_))] => Some(*arrived),
+        _ => None,
     }
 }
 
 /// Makes the commands over an archive in memory.
-fn expect_anew(rt: &impl Abort, alloc: Global, config: Config) -> Result<(), Fail> {
-    let (outcomes, _) = drive_anew(alloc, config, MOMENT, &commands(alloc)?)?;
-    expect_outcomes(rt, &outcomes, Arrived::New, 1);
+fn expect_anew(rt: &impl Abort, alloc: Global, commands: &[Command]) -> Result<(), Fail> {
+    let (outcomes, _) = drive_anew(alloc, config_of(alloc, BOX)?, 0, commands)?;
+    same(rt, &delivered(&outcomes), &Some(Arrived::New));
     Ok(())
 }
 
-/// Makes the commands over the archive that a database keeps, where all has arrived and is judged.
+/// Makes the commands over the archive that a database keeps, where the file has arrived.
 fn expect_opened<S: Alter + Drop>(
     rt: &impl Abort,
     alloc: Global,
     connection: Connection<S>,
+    commands: &[Command],
 ) -> Result<(), Fail> {
-    let Ok((_, outcomes)) = drive_opened(alloc, connection, &commands(alloc)?) else {
-        holds(rt, false);
-        return Ok(());
+    let Ok((_, outcomes)) = drive_opened(alloc, connection, commands) else {
+        return Err(Fail::from("not opened"));
     };
-    expect_outcomes(rt, &outcomes?, Arrived::Again, 0);
+    same(rt, &delivered(&outcomes?), &Some(Arrived::Again));
     Ok(())
 }
 
@@ -79,22 +59,21 @@ fn expect_created<S: Alter + Drop>(
     rt: &impl Abort,
     alloc: Global,
     connection: Connection<S>,
-    config: Config,
+    commands: &[Command],
 ) -> Result<(), Fail> {
-    let made = drive_created(alloc, connection, config, MOMENT, &commands(alloc)?);
-    let Ok((archive, outcomes)) = made else {
-        holds(rt, false);
-        return Ok(());
+    let config = config_of(alloc, BOX)?;
+    let Ok((archive, outcomes)) = drive_created(alloc, connection, config, 0, commands) else {
+        return Err(Fail::from("not made"));
     };
-    expect_outcomes(rt, &outcomes?, Arrived::New, 1);
-    expect_opened(rt, alloc, archive.into_keeper().into_connection())
+    same(rt, &delivered(&outcomes?), &Some(Arrived::New));
+    expect_opened(rt, alloc, archive.into_keeper().into_connection(), commands)
 }
 
 /// The same commands have the same outcomes in memory and in a database, and behind them nothing is new.
 #[test]
 fn commands_follow_the_making_and_the_opening(rt: HostRuntime) -> Result<(), Fail> {
     let alloc = rt.alloc();
-    expect_anew(&rt, alloc, Config::read(alloc, BOX)?)?;
-    let connection = Connection::open_in_memory(alloc)?;
-    expect_created(&rt, alloc, connection, Config::read(alloc, BOX)?)
+    let commands = commands(alloc)?;
+    expect_anew(&rt, alloc, &commands)?;
+    expect_created(&rt, alloc, Connection::open_in_memory(alloc)?, &commands)
 }
