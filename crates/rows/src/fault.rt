@@ -1,14 +1,15 @@
 //! Why a file of rows can't be read.
 
 use std::alloc::{AllocError, AllocFailed};
-use std::error::Error;
 use std::fmt;
 
 /// Why a row can't be read or asked. Nothing behind it is read.
-#[derive(Clone, Copy, Debug, PartialEq, Eq)]
+#[derive(Clone, Copy)]
 pub enum Unread {
     /// An allocation was refused.
     OutOfMemory,
+    /// A file can't be read, or nothing more can be printed.
+    Failed,
     /// A character that can't stand there.
     BadCharacter,
     /// A line that ends within a word.
@@ -35,27 +36,33 @@ pub enum Unread {
     NotFilled,
 }
 
-impl fmt::Display for Unread {
-    fn fmt<W: fmt::Write>(&self, f: &mut fmt::Formatter<W>) -> fmt::Result {
+impl Unread {
+    /// What is printed.
+    fn text(self) -> &'static str {
         match self {
-            Unread::OutOfMemory => write!(f, "out of memory"),
-            Unread::BadCharacter => write!(f, "a character that can't stand there"),
-            Unread::Unended => write!(f, "the line ends within a word"),
-            Unread::NoSuchText => write!(f, "no text has this name"),
-            Unread::NamedTwice => write!(f, "another text has this name"),
-            Unread::NoRow => write!(f, "lines of a text behind no row"),
-            Unread::NoAnswer => write!(f, "no answer is wanted"),
-            Unread::NoSuchQuestion => write!(f, "the first word asks nothing"),
-            Unread::BadWords => write!(f, "too few words, too many, or others"),
-            Unread::NothingToReplace => write!(f, "the text has no such piece"),
-            Unread::NoText => write!(f, "a word is not UTF-8"),
-            Unread::BadCount => write!(f, "no number of repetitions, or too many"),
-            Unread::NotFilled => write!(f, "the text does not fill the word to its length"),
+            Unread::OutOfMemory => "out of memory",
+            Unread::Failed => "the file can't be read, or nothing more be printed",
+            Unread::BadCharacter => "a character that can't stand there",
+            Unread::Unended => "the line ends within a word",
+            Unread::NoSuchText => "no text has this name",
+            Unread::NamedTwice => "another text has this name",
+            Unread::NoRow => "lines of a text behind no row",
+            Unread::NoAnswer => "no answer is wanted",
+            Unread::NoSuchQuestion => "the first word asks nothing",
+            Unread::BadWords => "too few words, too many, or others",
+            Unread::NothingToReplace => "the text has no such piece",
+            Unread::NoText => "a word is not UTF-8",
+            Unread::BadCount => "no number of repetitions, or too many",
+            Unread::NotFilled => "the text does not fill the word to its length",
         }
     }
 }
 
-impl Error for Unread {}
+impl fmt::Display for Unread {
+    fn fmt<W: fmt::Write>(&self, f: &mut fmt::Formatter<W>) -> fmt::Result {
+        f.write_str(self.text())
+    }
+}
 
 impl From<AllocError> for Unread {
     fn from(_error: AllocError) -> Unread {

@@ -1,127 +1,122 @@
 //! Files that are named on the command line.
 
 use crate::answers::Answers;
-use crate::file::{Checked, check_rows};
-use crate::names::Names;
+use crate::fault::Unread;
+use crate::file::do_rows;
+use crate::reader::Reader;
+use std::alloc::{AllocError, Global};
 use std::rt::{Env, Files};
 use std::{env, fs, io};
 
-/// Whether a file has texts for the files beside it, and no rows.
-fn has_texts(path: &str) -> bool {
-    path.ends_with(".texts")
+/// Prints how many rows a file has, and answers whether it is as it is wanted. Of texts alone nothing is printed.
+fn count_rows(rt: &impl Print, label: &str, rows: usize, differs: bool) -> io::Result<bool> {
+    let has_texts = label.ends_with(".texts");
+    if rows > 0 || !has_texts {
+        let end = if differs { ", and some differ" } else { "" };
+        println!(rt; "{label}: {rows} rows{end}")?;
+    }
+    Ok((rows > 0) != has_texts && !differs)
 }
 
-/// Prints how many rows a file has, and answers whether it is as it is wanted.
-fn count_rows(rt: &impl Print, label: &str, checked: &Checked) -> io::Result<bool> {
-    let (rows, differing) = (checked.rows, checked.differing);
-    if !checked.is_whole {
-        println!(rt; "{label}: {rows} rows, and no more could be read")?;
-        return Ok(false);
-    }
-    if rows == 0 {
-        println!(rt; "{label}: no rows")?;
-        return Ok(false);
-    }
-    if differing > 0 {
-        println!(rt; "{label}: {rows} rows, {differing} differ")?;
-        return Ok(false);
-    }
-    println!(rt; "{label}: {rows} rows")?;
-    Ok(true)
-}
-
-/// Prints what is known of a file, and answers whether it is as it is wanted. Of texts alone nothing is printed.
-fn report(rt: &impl Print, label: &str, checked: &Checked) -> io::Result<bool> {
-    rt.print(checked.report.as_str())?;
-    if !has_texts(label) || !checked.is_whole {
-        return count_rows(rt, label, checked);
-    }
-    if checked.rows > 0 {
-        println!(rt; "{label}: rows in a file of texts")?;
-    }
-    Ok(checked.rows == 0)
+/// Prints why a file can't be read, if that is so, or how many rows it has. It answers whether it is as it is wanted.
+fn report(rt: &impl Print, reader: &Reader) -> io::Result<bool> {
+    let (label, number) = (reader.label.as_str(), reader.number);
+    let Some(fault) = reader.fault else {
+        return count_rows(rt, label, reader.rows, reader.differs);
+    };
+    println!(rt; "{label}:{number}: {fault}")?;
+    Ok(false)
 }
 
 /// Does the rows of a file.
 fn check_file<A: Answers<R>, R: Files + Print + AllocGlobal>(
     rt: &R,
-    names: &mut Names,
+    reader: &mut Reader,
     heading: &str,
     path: &str,
 ) -> io::Result<bool> {
-    let label = format!(in rt.alloc(); "{heading}{path}")?;
-    let file = match fs::read(rt, path) {
-        Ok(file) => file,
-        Err(error) => {
-            println!(rt; "{label}: can't be read: {error}")?;
-            return Ok(false);
-        }
-    };
-    let checked = check_rows::<A, R>(rt, names, label.as_str(), file.as_slice())?;
-    report(rt, label.as_str(), &checked)
-}
-
-/// The files that are named on the command line.
-fn named_files<R: Env + AllocGlobal>(rt: &R) -> io::Result<Vec<String>> {
-    let mut names = Vec::new(rt.alloc());
-    for name in env::args(rt)?.skip(1) {
-        names.push(name)?;
+    reader.begin(format!(in rt.alloc(); "{heading}{path}")?);
+    match fs::read(rt, path) {
+        Ok(file) => do_rows(rt, reader, &mut A::fresh(rt), &file),
+        Err(_) => reader.refuse(Unread::Failed),
     }
-    Ok(names)
+    report(rt, reader)
 }
 
-/// The files of this folder whose names end so, in the order of their names.
-fn files_here<R: Files + AllocGlobal + Clone + Drop>(
+/// Does the rows of the files whose names end so, and answers whether all are as they are wanted.
+fn check_files<A: Answers<R>, R: Files + Print + AllocGlobal>(
     rt: &R,
+    reader: &mut Reader,
+    heading: &str,
+    files: &[String],
     ending: &str,
-) -> io::Result<Vec<String>> {
-    let mut names = Vec::new(rt.alloc());
-    for entry in fs::read_dir(rt, ".")? {
-        let entry = entry?;
-        let name = entry.file_name();
-        if name.ends_with(ending) {
-            names.push(String::from_str(rt.alloc(), name)?)?;
+) -> io::Result<bool> {
+    let mut all = true;
+    for path in files {
+        if path.ends_with(ending) {
+            all = check_file::<A, R>(rt, reader, heading, path)? && all;
         }
     }
-    names.sort()?;
-    Ok(names)
+    Ok(all)
 }
 
-/// The files that are named, or all of this folder: those of texts before those of rows.
-fn files_of<R: Files + Env + AllocGlobal + Clone + Drop>(rt: &R) -> io::Result<Vec<String>> {
-    let named = named_files(rt)?;
-    if !named.is_empty() {
-        return Ok(named);
-    }
-    let mut names = files_here(rt, ".texts")?;
-    for name in files_here(rt, ".rows")? {
+/// Adds the words of the command line.
+fn add_words<R: Env + AllocGlobal>(rt: &R, names: &mut Vec<String>) -> io::Result<()> {
+    for name in env::args(rt)? {
         names.push(name)?;
     }
+    Ok(())
+}
+
+fn add_name(alloc: Global, names: &mut Vec<String>, name: &str) -> Result<(), AllocError> {
+    Ok(names.push(String::from_str(alloc, name)?)?)
+}
+
+/// Adds the names of the files of this folder.
+fn add_files_here<R: Files + AllocGlobal + Clone + Drop>(
+    rt: &R,
+    names: &mut Vec<String>,
+) -> io::Result<()> {
+    for entry in fs::read_dir(rt, ".")? {
+        add_name(rt.alloc(), names, entry?.file_name())?;
+    }
+    Ok(())
+}
+
+/// The program's name and the files that are named on the command line, or all of this folder, in the order of their names.
+fn files_of<R: Files + Env + AllocGlobal + Clone + Drop>(rt: &R) -> io::Result<Vec<String>> {
+    let mut names = Vec::new(rt.alloc());
+    add_words(rt, &mut names)?;
+    if names.len() < 2 {
+        add_files_here(rt, &mut names)?;
+        names.sort_unstable();
+    }
     Ok(names)
 }
 
-/// Does the rows of the files that are named on the command line, or of all of this folder. It prints a line for each row that
-/// differs, and one for each file with its number of rows; the heading stands before each line. It answers whether there is a file,
-/// each has rows, all rows can be read, and none differs.
+/// Does the rows of all files, those of texts first. It answers whether there is a file of rows, and all are as they are wanted.
+fn check_all<A: Answers<R>, R: Files + Print + AllocGlobal>(
+    rt: &R,
+    reader: &mut Reader,
+    heading: &str,
+    files: &[String],
+) -> io::Result<bool> {
+    let texts = check_files::<A, R>(rt, reader, heading, files, ".texts")?;
+    reader.shared = reader.named.len();
+    let rows = check_files::<A, R>(rt, reader, heading, files, ".rows")?;
+    Ok(texts && rows && reader.rows > 0)
+}
+
+/// Does the rows of the files that are named on the command line, or of all of this folder, whose names end in `.texts` or `.rows`. It
+/// prints a line for each row that differs, and one for each file with its number of rows; the heading stands before each line. It
+/// answers whether there is a file of rows, each has rows, all rows can be read, and none differs.
 ///
-/// A file whose name ends in `.texts` has no rows, and the names of its texts are known in the files behind it.
+/// A file whose name ends in `.texts` has no rows, and the names of its texts are known in the files of rows.
 pub fn report_files<A: Answers<R>, R: Files + Env + Print + AllocGlobal + Clone + Drop>(
     rt: &R,
     heading: &str,
 ) -> io::Result<bool> {
     let files = files_of(rt)?;
-    let mut all = !files.is_empty();
-    if files.is_empty() {
-        println!(rt; "{heading}no file of rows")?;
-    }
-    let mut shared = Names::new(rt.alloc());
-    for path in &files {
-        let mut names = shared.copy(rt.alloc())?;
-        let as_wanted = check_file::<A, R>(rt, &mut names, heading, path.as_str())?;
-        if has_texts(path.as_str()) {
-            shared = names;
-        }
-        all = as_wanted && all;
-    }
-    Ok(all)
+    let mut reader = Reader::new(rt.alloc());
+    check_all::<A, R>(rt, &mut reader, heading, &files)
 }
