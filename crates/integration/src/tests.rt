@@ -2,6 +2,9 @@
 
 mod attended;
 mod checks;
+mod counted;
+mod kept_values;
 mod promised;
 mod refusals;
+mod uploads;
 mod wanting;
