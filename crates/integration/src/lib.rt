@@ -1,4 +1,4 @@
-//! Tests of what rows can't say: connections in one list, commands from the first call on, refusals over a disk, types, and what is handed on or read.
+//! Tests of what rows can't say: connections in one list, commands from the first call on, refusals over a disk, types, and what a keeper is handed.
 #![tactic(auto)]
 
 #[cfg(test)]
