@@ -18,7 +18,7 @@ use std::marker::Model;
 const LIMIT: usize = 1_048_576;
 
 /// The configuration of an archive: the text that it was read from, and its suites in the order of the text.
-#[derive(Debug, Drop)]
+#[derive(Drop)]
 pub struct Config {
     text: Vec<u8>,
     suites: Listed<Suite>,

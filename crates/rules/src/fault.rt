@@ -55,13 +55,13 @@ impl fmt::Display for ConfigFault {
 
     fn fmt<W: fmt::Write>(&self, f: &mut fmt::Formatter<W>) -> fmt::Result {
         match self {
-            ConfigFault::OutOfMemory => write!(f, "F0"),
+            ConfigFault::OutOfMemory => f.write_str("F0"),
             ConfigFault::Paragraph(fault) => write!(f, "F1 {fault}"),
-            ConfigFault::Missing => write!(f, "F2"),
-            ConfigFault::BadValue => write!(f, "F3"),
-            ConfigFault::ClaimedTwice => write!(f, "F4"),
-            ConfigFault::BadRule => write!(f, "F5"),
-            ConfigFault::Limits => write!(f, "F6"),
+            ConfigFault::Missing => f.write_str("F2"),
+            ConfigFault::BadValue => f.write_str("F3"),
+            ConfigFault::ClaimedTwice => f.write_str("F4"),
+            ConfigFault::BadRule => f.write_str("F5"),
+            ConfigFault::Limits => f.write_str("F6"),
         }
     }
 }

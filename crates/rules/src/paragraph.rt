@@ -111,23 +111,99 @@ fn names_of(
     Ok(texts_of(alloc, &words_of(alloc, paragraph, name)?)?)
 }
 
-/// The suite of a paragraph.
-pub fn suite_of(alloc: Global, paragraph: &Paragraph<'_>) -> Result<Suite, ConfigFault>
-    ensures found { IfOk result (λ suite. suite ≡ suite_of paragraph.now) }
-    ensures refused { IfErr result (λ e. e ≡ ConfigFault.OutOfMemory) }
+/// What a suite says in one line each.
+#[derive(Drop)]
+struct Lines {
+    codename: Text,
+    suite: Option<Text>,
+    origin: Option<Text>,
+    label: Option<Text>,
+    description: Option<Text>,
+}
+
+/// What a suite lists.
+#[derive(Drop)]
+struct Lists {
+    architectures: Listed<Text>,
+    components: Listed<Text>,
+    also_accept_for: Listed<Text>,
+    uploaders: Option<Listed<Rule>>,
+}
+
+/// What the suite of a paragraph says in one line each.
+fn lines_of(alloc: Global, paragraph: &Paragraph<'_>) -> Result<Lines, AllocError>
+    ensures { IfOk result (λ lines. lines ≡ record {
+      codename = (suite_of paragraph.now).codename;
+      suite = (suite_of paragraph.now).suite;
+      origin = (suite_of paragraph.now).origin;
+      label = (suite_of paragraph.now).label;
+      description = (suite_of paragraph.now).description;
+    }) }
 {
-    Ok(Suite {
+    Ok(Lines {
         codename: Text::new(alloc, codename(paragraph))?,
         suite: text_of(alloc, paragraph, "Suite")?,
         origin: text_of(alloc, paragraph, "Origin")?,
         label: text_of(alloc, paragraph, "Label")?,
         description: text_of(alloc, paragraph, "Description")?,
+    })
+}
+
+/// What the suite of a paragraph lists.
+fn lists_of(alloc: Global, paragraph: &Paragraph<'_>) -> Result<Lists, ConfigFault>
+    ensures found { IfOk result (λ lists. lists ≡ record {
+      architectures = (suite_of paragraph.now).architectures;
+      components = (suite_of paragraph.now).components;
+      also_accept_for = (suite_of paragraph.now).also_accept_for;
+      uploaders = (suite_of paragraph.now).uploaders;
+    }) }
+    ensures refused { IfErr result (λ e. e ≡ ConfigFault.OutOfMemory) }
+{
+    Ok(Lists {
         architectures: names_of(alloc, paragraph, "Architectures")?,
         components: names_of(alloc, paragraph, "Components")?,
         also_accept_for: names_of(alloc, paragraph, "AlsoAcceptFor")?,
         uploaders: uploaders_of(alloc, paragraph)?,
-        valid_days: days_of(paragraph, "ValidDays"),
     })
+}
+
+/// The suite of these lines and lists.
+fn suite_with(lines: Lines, lists: Lists, valid_days: Option<Days>) -> Suite
+    ensures { result ≡ record {
+      codename = lines.codename;
+      suite = lines.suite;
+      origin = lines.origin;
+      label = lines.label;
+      description = lines.description;
+      architectures = lists.architectures;
+      components = lists.components;
+      also_accept_for = lists.also_accept_for;
+      uploaders = lists.uploaders;
+      valid_days = valid_days;
+    } }
+{
+    Suite {
+        codename: lines.codename,
+        suite: lines.suite,
+        origin: lines.origin,
+        label: lines.label,
+        description: lines.description,
+        architectures: lists.architectures,
+        components: lists.components,
+        also_accept_for: lists.also_accept_for,
+        uploaders: lists.uploaders,
+        valid_days,
+    }
+}
+
+/// The suite of a paragraph.
+pub fn suite_of(alloc: Global, paragraph: &Paragraph<'_>) -> Result<Suite, ConfigFault>
+    ensures found { IfOk result (λ suite. suite ≡ suite_of paragraph.now) }
+    ensures refused { IfErr result (λ e. e ≡ ConfigFault.OutOfMemory) }
+{
+    let lines = lines_of(alloc, paragraph)?;
+    let lists = lists_of(alloc, paragraph)?;
+    Ok(suite_with(lines, lists, days_of(paragraph, "ValidDays")))
 }
 
 /// The suites of paragraphs.

@@ -12,7 +12,7 @@ use crate::uploader::{Rule, lines_allow};
 use para::{Listed, Text};
 
 /// A suite of the configuration (own rules of this archive).
-#[derive(Debug, Drop)]
+#[derive(Drop)]
 pub struct Suite {
     /// The name that the suite has in paths.
     pub codename: Text,

@@ -14,7 +14,7 @@ use records::is_package;
 use std::alloc::{AllocError, Global};
 
 /// Which source packages an uploader line speaks of (own rule of this archive).
-#[derive(Debug, Drop)]
+#[derive(Drop)]
 pub enum SourcePattern {
     /// `*`: each source package.
     Any,
@@ -25,7 +25,7 @@ pub enum SourcePattern {
 }
 
 /// An uploader line, `SOURCE by PERSON` (own rule of this archive): who may upload which source packages.
-#[derive(Debug, Drop)]
+#[derive(Drop)]
 pub struct Rule {
     /// The source packages.
     pub source: SourcePattern,

@@ -43,6 +43,75 @@ impl Drop for Item {
     }
 }
 
+/// What an item says, besides its files.
+#[derive(Clone, Copy)]
+pub struct Said<'a> {
+    pub kind: Kind,
+    pub package: &'a str,
+    pub architecture: &'a str,
+    pub version: &'a Version,
+    pub component: &'a str,
+    pub source: &'a str,
+    pub paragraph: &'a str,
+}
+
+/// Copies of the names that an item has.
+#[derive(Drop)]
+struct Names {
+    package: Text,
+    architecture: Text,
+    component: Text,
+    source: Text,
+}
+
+fn names_of(alloc: Global, said: &Said<'_>) -> Result<Names, AllocError>
+    ensures { IfOk result (λ names. names ≡ record {
+      «package» = said.now.«package».now;
+      architecture = said.now.architecture.now;
+      component = said.now.component.now;
+      source = said.now.source.now;
+    }) }
+{
+    Ok(Names {
+        package: Text::new(alloc, said.package)?,
+        architecture: Text::new(alloc, said.architecture)?,
+        component: Text::new(alloc, said.component)?,
+        source: Text::new(alloc, said.source)?,
+    })
+}
+
+/// The item that says this and has these files.
+pub fn item_with(
+    alloc: Global,
+    said: &Said<'_>,
+    files: Listed<PoolFile>,
+) -> Result<Item, AllocError>
+    ensures { IfOk result (λ item. item ≡ record {
+      kind = said.now.kind;
+      «package» = said.now.«package».now;
+      architecture = said.now.architecture.now;
+      version = said.now.version.now;
+      component = said.now.component.now;
+      source = said.now.source.now;
+      paragraph = said.now.paragraph.now;
+      files = files;
+    }) }
+{
+    let version = said.version.try_clone()?;
+    let paragraph = Text::new(alloc, said.paragraph)?;
+    let names = names_of(alloc, said)?;
+    Ok(Item {
+        kind: said.kind,
+        package: names.package,
+        architecture: names.architecture,
+        version,
+        component: names.component,
+        source: names.source,
+        paragraph,
+        files,
+    })
+}
+
 impl PoolFile {
     /// Another copy of the file's path and print.
     pub fn try_clone(&self) -> Result<PoolFile, AllocError>
@@ -70,16 +139,17 @@ impl Item {
     pub fn try_clone(&self, alloc: Global) -> Result<Item, AllocError>
         ensures { IfOk result (λ copy. copy ≡ self.now) }
     {
-        Ok(Item {
+        let files = copied_files(alloc, self.files.as_slice())?;
+        let said = Said {
             kind: self.kind,
-            package: self.package.try_clone()?,
-            architecture: self.architecture.try_clone()?,
-            version: self.version.try_clone()?,
-            component: self.component.try_clone()?,
-            source: self.source.try_clone()?,
-            paragraph: self.paragraph.try_clone()?,
-            files: copied_files(alloc, self.files.as_slice())?,
-        })
+            package: self.package.as_str(),
+            architecture: self.architecture.as_str(),
+            version: &self.version,
+            component: self.component.as_str(),
+            source: self.source.as_str(),
+            paragraph: self.paragraph.as_str(),
+        };
+        item_with(alloc, &said, files)
     }
 
     /// The shelf where the item stands in a suite, which is a position in the configuration.

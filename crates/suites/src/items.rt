@@ -7,7 +7,7 @@ ghost use Rattle.suites.specs.Items.{file_of, item_of};
 ghost use Rattle.suites.specs.Judging.{part_of};
 ghost use Rattle.suites.specs.Upload.{file_at, package_file as package_file_of, source_item as source_given, binary_item as binary_given};
 
-use crate::item::{Item, PoolFile};
+use crate::item::{Item, PoolFile, Said, item_with};
 use crate::key::Kind;
 use crate::listing::package_file;
 use crate::paths::pool_path;
@@ -33,11 +33,11 @@ pub struct BinaryPart<'a> {
 }
 
 /// The text of a paragraph that was read.
-fn paragraph(alloc: Global, text: &[u8]) -> Result<Text, AllocError>
+fn paragraph(text: &[u8]) -> &str
     requires { IsUtf8 text.now }
-    ensures { IfOk result (λ paragraph. paragraph ≡ text.now) }
+    ensures { result.now ≡ text.now }
 {
-    Text::new(alloc, str::from_utf8(text).unwrap_or(""))
+    str::from_utf8(text).unwrap_or("")
 }
 
 /// A listed file at its path in the pool.
@@ -84,23 +84,23 @@ pub fn source_item(
     requires { dsc_in source.now.part.text.now ≡ Ok source.now.dsc }
     ensures { IfOk result (λ item. item ≡ item_of (source_given (λ e. e.print) changes.now component.now (part_of source.now.part) source.now.dsc)) }
 {
-    let name = changes.source();
-    Ok(Item {
+    let files = source_files(
+        alloc,
+        component,
+        changes,
+        source.part.entry,
+        source.dsc.entries(),
+    )?;
+    let said = Said {
         kind: Kind::Source,
-        package: Text::new(alloc, name)?,
-        architecture: Text::new(alloc, "source")?,
-        version: source.dsc.version().try_clone()?,
-        component: Text::new(alloc, component)?,
-        source: Text::new(alloc, name)?,
-        paragraph: paragraph(alloc, source.part.text)?,
-        files: source_files(
-            alloc,
-            component,
-            changes,
-            source.part.entry,
-            source.dsc.entries(),
-        )?,
-    })
+        package: changes.source(),
+        architecture: "source",
+        version: source.dsc.version(),
+        component,
+        source: changes.source(),
+        paragraph: paragraph(source.part.text),
+    };
+    item_with(alloc, &said, files)
 }
 
 /// The files of a package: the listed package file of its sidecar.
@@ -130,15 +130,15 @@ pub fn binary_item(
     ensures { IfOk result (λ item. item ≡ item_of (binary_given (λ e. e.print) changes.now component.now (part_of binary.now.part) binary.now.sidecar)) }
 {
     let sidecar = &binary.sidecar;
-    let name = binary.part.entry.name.as_str();
-    Ok(Item {
+    let files = package_files(alloc, component, changes, binary.part.entry.name.as_str())?;
+    let said = Said {
         kind: Kind::Binary,
-        package: Text::new(alloc, sidecar.package())?,
-        architecture: Text::new(alloc, sidecar.architecture())?,
-        version: sidecar.version().try_clone()?,
-        component: Text::new(alloc, component)?,
-        source: Text::new(alloc, changes.source())?,
-        paragraph: paragraph(alloc, binary.part.text)?,
-        files: package_files(alloc, component, changes, name)?,
-    })
+        package: sidecar.package(),
+        architecture: sidecar.architecture(),
+        version: sidecar.version(),
+        component,
+        source: changes.source(),
+        paragraph: paragraph(binary.part.text),
+    };
+    item_with(alloc, &said, files)
 }
