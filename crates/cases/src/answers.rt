@@ -1,8 +1,7 @@
 //! What is asked of the layers below the keepers, and what they answer.
 
-use rows::{Answers, Unread, said, text_of};
-use std::alloc::Global;
-use std::fmt::Display;
+use crate::out::Out;
+use rows::{Answers, Unread, text_of};
 
 mod of_configs;
 mod of_faults;
@@ -16,95 +15,19 @@ mod of_versions;
 #[derive(Clone, Copy)]
 pub struct Layers;
 
-/// An answer, or the text of a fault.
-fn answer_or_fault<F: Display + Drop>(
-    alloc: Global,
-    done: Result<Vec<u8>, F>,
-) -> Result<Vec<u8>, Unread> {
-    match done {
-        Ok(answer) => Ok(answer),
-        Err(fault) => said(alloc, fault.to_string(alloc)?.as_str()),
-    }
+/// Answers a question on versions, paragraphs or lists. It says whether it is one.
+fn answers_of_texts(out: &mut Out, verb: &str, words: &[Vec<u8>]) -> bool {
+    of_versions::answer(out, verb, words)
+        || of_paragraphs::answer(out, verb, words)
+        || of_lists::answer(out, verb, words)
 }
 
-/// What was read, where that is to be told, or else `read`; or the text of a fault.
-fn told_or_read<F: Display + Drop>(
-    alloc: Global,
-    told: Result<Vec<u8>, F>,
-    tells: bool,
-) -> Result<Vec<u8>, Unread> {
-    match told {
-        Ok(out) if tells => Ok(out),
-        Ok(_) => said(alloc, "read"),
-        Err(fault) => said(alloc, fault.to_string(alloc)?.as_str()),
-    }
-}
-
-/// `yes` or `no`.
-fn yes_or_no(is_so: bool) -> &'static str {
-    if is_so { "yes" } else { "no" }
-}
-
-/// A text with a piece of it replaced, wherever that stands.
-fn with_new_piece(alloc: Global, text: &str, old: &str, new: &str) -> Result<String, Unread> {
-    if !text.contains(old) {
-        return Err(Unread::NothingToReplace);
-    }
-    Ok(text.replace(alloc, old, new)?)
-}
-
-/// A text with pieces of it replaced: each word of an even place by the next.
-fn edited(alloc: Global, text: &str, words: &[Vec<u8>]) -> Result<String, Unread> {
-    let mut text = String::from_str(alloc, text)?;
-    for pair in words.chunks(2) {
-        let [old, new] = pair else {
-            return Err(Unread::BadWords);
-        };
-        text = with_new_piece(alloc, text.as_str(), text_of(old)?, text_of(new)?)?;
-    }
-    Ok(text)
-}
-
-/// The bytes of a text in which pieces are replaced, if there are any. Only where there are some need it be UTF-8.
-fn replaced(alloc: Global, text: &Vec<u8>, edits: &[Vec<u8>]) -> Result<Vec<u8>, Unread> {
-    if edits.is_empty() {
-        return Ok(text.clone()?);
-    }
-    let text = edited(alloc, text_of(text)?, edits)?;
-    said(alloc, text.as_str())
-}
-
-/// What is answered to a question on versions, paragraphs or lists.
-fn answer_of_texts(
-    alloc: Global,
-    verb: &str,
-    words: &[Vec<u8>],
-) -> Result<Option<Vec<u8>>, Unread> {
-    if let Some(found) = of_versions::answer(alloc, verb, words)? {
-        return Ok(Some(found));
-    }
-    if let Some(found) = of_paragraphs::answer(alloc, verb, words)? {
-        return Ok(Some(found));
-    }
-    of_lists::answer(alloc, verb, words)
-}
-
-/// What is answered to a question on records, configurations, indices or faults.
-fn answer_of_archives(
-    alloc: Global,
-    verb: &str,
-    words: &[Vec<u8>],
-) -> Result<Option<Vec<u8>>, Unread> {
-    if let Some(found) = of_records::answer(alloc, verb, words)? {
-        return Ok(Some(found));
-    }
-    if let Some(found) = of_configs::answer(alloc, verb, words)? {
-        return Ok(Some(found));
-    }
-    if let Some(found) = of_indices::answer(alloc, verb, words)? {
-        return Ok(Some(found));
-    }
-    of_faults::answer(alloc, verb, words)
+/// Answers a question on records, configurations, indices or faults. It says whether it is one.
+fn answers_of_archives(out: &mut Out, verb: &str, words: &[Vec<u8>]) -> bool {
+    of_records::answer(out, verb, words)
+        || of_configs::answer(out, verb, words)
+        || of_indices::answer(out, verb, words)
+        || of_faults::answer(out, verb, words)
 }
 
 impl<R: AllocGlobal> Answers<R> for Layers {
@@ -117,12 +40,10 @@ impl<R: AllocGlobal> Answers<R> for Layers {
             return Err(Unread::BadWords);
         };
         let verb = text_of(verb)?;
-        if let Some(found) = answer_of_texts(rt.alloc(), verb, words)? {
-            return Ok(found);
+        let mut out = Out::new(rt.alloc());
+        if !answers_of_texts(&mut out, verb, words) && !answers_of_archives(&mut out, verb, words) {
+            return Err(Unread::NoSuchQuestion);
         }
-        match answer_of_archives(rt.alloc(), verb, words)? {
-            Some(found) => Ok(found),
-            None => Err(Unread::NoSuchQuestion),
-        }
+        out.end()
     }
 }

@@ -5,6 +5,7 @@
 #![tactic(auto)]
 
 mod answers;
+mod out;
 
 use crate::answers::Layers;
 use std::process::ExitCode;

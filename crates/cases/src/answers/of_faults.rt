@@ -1,10 +1,10 @@
 //! The numbers of faults, and how faults are printed.
 
+use crate::out::Out;
 use para::ParaFault;
 use records::{FieldName, RecordFault};
-use rows::{Unread, text_of};
+use rows::Unread;
 use rules::ConfigFault;
-use std::alloc::Global;
 use std::fmt::Display;
 use sums::ListFault;
 use vers::VersionFault;
@@ -70,84 +70,65 @@ const CONFIG_FAULTS: [ConfigFault; 7] = [
 ];
 
 /// Adds a line: the number of a fault, and how it is printed.
-fn add_fault<F: Display>(
-    alloc: Global,
-    number: u8,
-    fault: &F,
-    out: &mut Vec<u8>,
-) -> Result<(), Unread> {
-    let line = format!(in alloc; "{number} {fault}\n")?;
-    out.extend_from_slice(line.as_bytes())?;
-    Ok(())
+fn add_fault<F: Display>(out: &mut Out, number: u8, fault: &F) {
+    out.show(number);
+    out.say(" ");
+    out.show(fault);
+    out.say("\n");
 }
 
 /// Adds the faults of paragraphs.
-fn of_paragraphs(alloc: Global, out: &mut Vec<u8>) -> Result<(), Unread> {
-    for fault in PARAGRAPH_FAULTS {
-        add_fault(alloc, fault.number(), &fault, out)?;
+fn of_paragraphs(out: &mut Out) {
+    for fault in &PARAGRAPH_FAULTS {
+        add_fault(out, fault.number(), fault);
     }
-    Ok(())
 }
 
 /// Adds the faults of versions.
-fn of_versions(alloc: Global, out: &mut Vec<u8>) -> Result<(), Unread> {
-    for fault in VERSION_FAULTS {
-        add_fault(alloc, fault.number(), &fault, out)?;
+fn of_versions(out: &mut Out) {
+    for fault in &VERSION_FAULTS {
+        add_fault(out, fault.number(), fault);
     }
-    Ok(())
 }
 
 /// Adds the faults of lists.
-fn of_lists(alloc: Global, out: &mut Vec<u8>) -> Result<(), Unread> {
-    for fault in LIST_FAULTS {
-        add_fault(alloc, fault.number(), &fault, out)?;
+fn of_lists(out: &mut Out) {
+    for fault in &LIST_FAULTS {
+        add_fault(out, fault.number(), fault);
     }
-    Ok(())
 }
 
 /// Adds the faults of records.
-fn of_records(alloc: Global, out: &mut Vec<u8>) -> Result<(), Unread> {
-    for fault in RECORD_FAULTS {
-        add_fault(alloc, fault.number(), &fault, out)?;
+fn of_records(out: &mut Out) {
+    for fault in &RECORD_FAULTS {
+        add_fault(out, fault.number(), fault);
     }
-    Ok(())
 }
 
 /// Adds the faults of configurations.
-fn of_configs(alloc: Global, out: &mut Vec<u8>) -> Result<(), Unread> {
-    for fault in CONFIG_FAULTS {
-        add_fault(alloc, fault.number(), &fault, out)?;
-    }
-    Ok(())
-}
-
-/// Adds the faults that are printed with a letter.
-fn add_faults(alloc: Global, letter: &str, out: &mut Vec<u8>) -> Result<(), Unread> {
-    match letter {
-        "P" => of_paragraphs(alloc, out),
-        "N" => of_versions(alloc, out),
-        "S" => of_lists(alloc, out),
-        "C" => of_records(alloc, out),
-        "F" => of_configs(alloc, out),
-        _ => Err(Unread::BadWords),
+fn of_configs(out: &mut Out) {
+    for fault in &CONFIG_FAULTS {
+        add_fault(out, fault.number(), fault);
     }
 }
 
 /// `numbers P|N|S|C|F`: a line for each fault of the paragraphs, versions, lists, records or configurations.
-fn numbers(alloc: Global, words: &[Vec<u8>]) -> Result<Vec<u8>, Unread> {
-    let [letter] = words else {
-        return Err(Unread::BadWords);
-    };
-    let letter = text_of(letter)?;
-    let mut out = Vec::new(alloc);
-    add_faults(alloc, letter, &mut out)?;
-    Ok(out)
+fn numbers(out: &mut Out, words: &[Vec<u8>]) {
+    match out.only(words) {
+        b"P" => of_paragraphs(out),
+        b"N" => of_versions(out),
+        b"S" => of_lists(out),
+        b"C" => of_records(out),
+        b"F" => of_configs(out),
+        _ => out.refuse(Unread::BadWords),
+    }
 }
 
-/// What is answered to a question on faults.
-pub fn answer(alloc: Global, verb: &str, words: &[Vec<u8>]) -> Result<Option<Vec<u8>>, Unread> {
-    match verb {
-        "numbers" => Ok(Some(numbers(alloc, words)?)),
-        _ => Ok(None),
+/// Answers a question on faults. It says whether it is one.
+pub fn answer(out: &mut Out, verb: &str, words: &[Vec<u8>]) -> bool {
+    if verb != "numbers" {
+        return false;
     }
+    numbers(out, words);
+    true
 }

@@ -3,7 +3,9 @@
 ghost use Rattle.std.specs.Prelude.{◌≤◌, All, IfOk};
 
 use super::of_configs::config_of;
-use rows::{Unread, number_of, said, text_of};
+use crate::out::Out;
+use rows::{Unread, number_of};
+use rules::Config;
 use std::alloc::Global;
 use suites::Shelves;
 use texts::{date_text, index_text};
@@ -26,16 +28,18 @@ fn moment_of(word: &Vec<u8>) -> Result<u64, Unread>
 }
 
 /// `date MOMENT`: as it stands in a Release.
-fn date(alloc: Global, words: &[Vec<u8>]) -> Result<Vec<u8>, Unread> {
+fn date(out: &mut Out, words: &[Vec<u8>]) {
     let [moment] = words else {
-        return Err(Unread::BadWords);
+        return out.refuse(Unread::BadWords);
     };
-    let moment = number_of(moment)?;
+    let moment = out.number_of(moment);
     if moment > LAST_VALID {
-        return Err(Unread::BadWords);
+        return out.refuse(Unread::BadWords);
     }
-    let text = date_text(alloc, moment)?;
-    said(alloc, text.as_str())
+    match date_text(out.alloc, moment) {
+        Ok(text) => out.say(text.as_str()),
+        Err(_) => out.refuse(Unread::OutOfMemory),
+    }
 }
 
 /// The moments that words are.
@@ -49,27 +53,43 @@ fn moments_of(alloc: Global, words: &[Vec<u8>]) -> Result<Vec<u64>, Unread>
     Ok(moments)
 }
 
-/// `index CONFIG PATH DATE..`: the text at a path where no suite shows anything, with the date of each; or `none`.
-fn index(alloc: Global, words: &[Vec<u8>]) -> Result<Vec<u8>, Unread> {
-    let [config, path, dates @ ..] = words else {
-        return Err(Unread::BadWords);
-    };
-    let path = text_of(path)?;
-    let config = config_of(alloc, config)?;
-    let dates = moments_of(alloc, dates)?;
-    let shelves = Shelves::new(alloc);
-    match index_text(alloc, &config, &shelves, dates.as_slice(), path)? {
-        Some(text) => Ok(text),
-        None => said(alloc, "none"),
+/// Adds the text at a path where no suite shows anything, with the date of each; or `none`.
+fn add_index(out: &mut Out, config: &Config, path: &str, dates: &[Vec<u8>]) {
+    match index_at(out.alloc, config, path, dates) {
+        Ok(Some(text)) => out.add(&text),
+        Ok(None) => out.say("none"),
+        Err(fault) => out.refuse(fault),
     }
 }
 
-/// What is answered to a question on indices.
-pub fn answer(alloc: Global, verb: &str, words: &[Vec<u8>]) -> Result<Option<Vec<u8>>, Unread> {
-    let answer = match verb {
-        "date" => date(alloc, words),
-        "index" => index(alloc, words),
-        _ => return Ok(None),
+/// The text at a path.
+fn index_at(
+    alloc: Global,
+    config: &Config,
+    path: &str,
+    dates: &[Vec<u8>],
+) -> Result<Option<Vec<u8>>, Unread> {
+    let dates = moments_of(alloc, dates)?;
+    Ok(index_text(alloc, config, &Shelves::new(alloc), &dates, path)?)
+}
+
+/// `index CONFIG PATH DATE..`: the text at a path where no suite shows anything, with the date of each; or `none`.
+fn index(out: &mut Out, words: &[Vec<u8>]) {
+    let [config, path, dates @ ..] = words else {
+        return out.refuse(Unread::BadWords);
     };
-    Ok(Some(answer?))
+    let path = out.text_of(path);
+    if let Some(config) = config_of(out, config) {
+        add_index(out, &config, path, dates);
+    }
+}
+
+/// Answers a question on indices. It says whether it is one.
+pub fn answer(out: &mut Out, verb: &str, words: &[Vec<u8>]) -> bool {
+    match verb {
+        "date" => date(out, words),
+        "index" => index(out, words),
+        _ => return false,
+    }
+    true
 }

@@ -1,147 +1,127 @@
 //! Paragraphs.
 
-use super::answer_or_fault;
-use para::{
-    Field, ParaFault, Paragraph, fold, read_many, read_one, simple, write, write_field, write_line,
-};
-use rows::{Unread, number_of, text_of};
-use std::alloc::Global;
+use crate::out::Out;
+use para::{Field, Paragraph, fold, read_many, read_one, simple, write, write_field, write_line};
+use rows::Unread;
 
 /// The limit where a row says none.
 const LIMIT: usize = 1_048_576;
 
-/// What is written of a text that is a paragraph.
-fn written(alloc: Global, text: &[u8], limit: usize) -> Result<Vec<u8>, ParaFault> {
-    let paragraph = read_one(alloc, text, limit)?;
-    let mut out = Vec::new(alloc);
-    write(&paragraph, &mut out)?;
-    Ok(out)
+/// `paragraph LIMIT TEXT`: the paragraph as it is written, or the fault.
+fn paragraph(out: &mut Out, words: &[Vec<u8>]) {
+    let [limit, text] = words else {
+        return out.refuse(Unread::BadWords);
+    };
+    let limit = out.number_of(limit) as usize;
+    match read_one(out.alloc, text, limit) {
+        Ok(paragraph) => {
+            let is_had = write(&paragraph, &mut out.text).is_ok();
+            out.note(is_had);
+        }
+        Err(fault) => out.show(&fault),
+    }
 }
 
-/// `paragraph LIMIT TEXT`: the paragraph as it is written, or the fault.
-fn paragraph(alloc: Global, words: &[Vec<u8>]) -> Result<Vec<u8>, Unread> {
-    let [limit, text] = words else {
-        return Err(Unread::BadWords);
-    };
-    let limit = number_of(limit)? as usize;
-    answer_or_fault(alloc, written(alloc, text.as_slice(), limit))
+/// Adds the folded lines of a field.
+fn add_folded(out: &mut Out, field: &Field<'_>) {
+    match fold(out.alloc, field) {
+        Ok(folded) => out.quote(folded.as_slice(), "\n"),
+        Err(_) => out.refuse(Unread::OutOfMemory),
+    }
 }
 
 /// Adds what is read of a field: its name and first line, its other lines, its value where it has one line, and its folded
 /// lines.
-fn add_field(alloc: Global, field: &Field<'_>, out: &mut Vec<u8>) -> Result<(), ParaFault> {
-    let (name, first) = (field.name, field.first);
-    let (more, folded) = (field.more.as_slice(), fold(alloc, field)?);
-    let (value, folded) = (simple(field), folded.as_slice());
-    let line = format!(in alloc; "{name:?} {first:?} {more:?} {value:?} {folded:?}\n")?;
-    out.extend_from_slice(line.as_bytes())?;
-    Ok(())
+fn add_field(out: &mut Out, field: &Field<'_>) {
+    out.quote(field.name, " ");
+    out.quote(field.first, " ");
+    out.quote(field.more.as_slice(), " ");
+    out.quote(simple(field), " ");
+    add_folded(out, field);
 }
 
-/// Adds a line for each field of a paragraph.
-fn add_fields(
-    alloc: Global,
-    paragraph: &Paragraph<'_>,
-    out: &mut Vec<u8>,
-) -> Result<(), ParaFault> {
+/// Adds a line for each field of a paragraph, and one behind them.
+fn add_fields(out: &mut Out, paragraph: &Paragraph<'_>) {
     for field in paragraph.fields() {
-        add_field(alloc, field, out)?;
+        add_field(out, field);
     }
-    Ok(())
-}
-
-/// Adds a line for each field of each paragraph, and one behind each paragraph.
-fn add_paragraphs(
-    alloc: Global,
-    paragraphs: &[Paragraph<'_>],
-    out: &mut Vec<u8>,
-) -> Result<(), ParaFault> {
-    for paragraph in paragraphs {
-        add_fields(alloc, paragraph, out)?;
-        out.extend_from_slice(b"--\n")?;
-    }
-    Ok(())
-}
-
-/// What is read of a text's fields.
-fn told(alloc: Global, text: &[u8]) -> Result<Vec<u8>, ParaFault> {
-    let paragraphs = read_many(alloc, text, LIMIT)?;
-    let mut out = Vec::new(alloc);
-    add_paragraphs(alloc, paragraphs.as_slice(), &mut out)?;
-    Ok(out)
+    out.say("--\n");
 }
 
 /// `fields TEXT`: a line for each field of each paragraph, and one behind each paragraph; or the fault.
-fn fields(alloc: Global, words: &[Vec<u8>]) -> Result<Vec<u8>, Unread> {
-    let [text] = words else {
-        return Err(Unread::BadWords);
-    };
-    answer_or_fault(alloc, told(alloc, text.as_slice()))
+fn fields(out: &mut Out, words: &[Vec<u8>]) {
+    let text = out.only(words);
+    match read_many(out.alloc, text, LIMIT) {
+        Ok(paragraphs) => {
+            for paragraph in &paragraphs {
+                add_fields(out, paragraph);
+            }
+        }
+        Err(fault) => out.show(&fault),
+    }
 }
 
-/// The first line of the field of a name.
-fn first_of(alloc: Global, text: &[u8], name: &str) -> Result<Vec<u8>, ParaFault> {
-    let paragraph = read_one(alloc, text, LIMIT)?;
-    let first = match paragraph.get(name) {
-        Some(field) => field.first,
-        None => "no field",
-    };
-    Ok(Vec::from_slice(alloc, first.as_bytes())?)
+/// Adds the first line of the field of a name.
+fn add_first(out: &mut Out, paragraph: &Paragraph<'_>, name: &str) {
+    match paragraph.get(name) {
+        Some(field) => out.say(field.first),
+        None => out.say("no field"),
+    }
 }
 
 /// `field NAME TEXT`: the first line of that field, `no field`, or the fault.
-fn field(alloc: Global, words: &[Vec<u8>]) -> Result<Vec<u8>, Unread> {
+fn field(out: &mut Out, words: &[Vec<u8>]) {
     let [name, text] = words else {
-        return Err(Unread::BadWords);
+        return out.refuse(Unread::BadWords);
     };
-    answer_or_fault(alloc, first_of(alloc, text.as_slice(), text_of(name)?))
+    let name = out.text_of(name);
+    match read_one(out.alloc, text, LIMIT) {
+        Ok(paragraph) => add_first(out, &paragraph, name),
+        Err(fault) => out.show(&fault),
+    }
 }
 
-/// The texts of words.
-fn texts_of(alloc: Global, words: &[Vec<u8>]) -> Result<Vec<&str>, Unread> {
-    let mut texts = Vec::new(alloc);
-    for word in words {
-        texts.push(text_of(word)?)?;
+/// Adds a field. Its other lines are words.
+fn add_written(out: &mut Out, name: &str, first: &str, lines: &[Vec<u8>]) {
+    let mut more = Vec::new(out.alloc);
+    for line in lines {
+        let is_had = more.push(out.text_of(line)).is_ok();
+        out.note(is_had);
     }
-    Ok(texts)
+    let is_had = write_field(name, first, &more, &mut out.text).is_ok();
+    out.note(is_had);
 }
 
 /// `write-field FRONT NAME FIRST [LINE]..`: the front, and a field behind it.
-fn field_behind(alloc: Global, words: &[Vec<u8>]) -> Result<Vec<u8>, Unread> {
-    let [front, name, first, more @ ..] = words else {
-        return Err(Unread::BadWords);
+fn field_behind(out: &mut Out, words: &[Vec<u8>]) {
+    let [front, name, first, lines @ ..] = words else {
+        return out.refuse(Unread::BadWords);
     };
-    let (name, first) = (text_of(name)?, text_of(first)?);
-    let more = texts_of(alloc, more)?;
-    let mut out = front.clone()?;
-    match write_field(name, first, more.as_slice(), &mut out) {
-        Ok(()) => Ok(out),
-        Err(_) => Err(Unread::OutOfMemory),
-    }
+    out.add(front);
+    let (name, first) = (out.text_of(name), out.text_of(first));
+    add_written(out, name, first, lines);
 }
 
 /// `write-line FRONT LINE`: the front, and a line of a field behind it.
-fn line_behind(words: &[Vec<u8>]) -> Result<Vec<u8>, Unread> {
+fn line_behind(out: &mut Out, words: &[Vec<u8>]) {
     let [front, line] = words else {
-        return Err(Unread::BadWords);
+        return out.refuse(Unread::BadWords);
     };
-    let line = text_of(line)?;
-    let mut out = front.clone()?;
-    match write_line(line, &mut out) {
-        Ok(()) => Ok(out),
-        Err(_) => Err(Unread::OutOfMemory),
-    }
+    out.add(front);
+    let line = out.text_of(line);
+    let is_had = write_line(line, &mut out.text).is_ok();
+    out.note(is_had);
 }
 
-/// What is answered to a question on paragraphs.
-pub fn answer(alloc: Global, verb: &str, words: &[Vec<u8>]) -> Result<Option<Vec<u8>>, Unread> {
-    let answer = match verb {
-        "paragraph" => paragraph(alloc, words),
-        "fields" => fields(alloc, words),
-        "field" => field(alloc, words),
-        "write-field" => field_behind(alloc, words),
-        "write-line" => line_behind(words),
-        _ => return Ok(None),
-    };
-    Ok(Some(answer?))
+/// Answers a question on paragraphs. It says whether it is one.
+pub fn answer(out: &mut Out, verb: &str, words: &[Vec<u8>]) -> bool {
+    match verb {
+        "paragraph" => paragraph(out, words),
+        "fields" => fields(out, words),
+        "field" => field(out, words),
+        "write-field" => field_behind(out, words),
+        "write-line" => line_behind(out, words),
+        _ => return false,
+    }
+    true
 }

@@ -1,121 +1,96 @@
 //! The records of uploads, and the names in them.
 
-use super::of_lists::add_entry;
-use super::{replaced, told_or_read, yes_or_no};
-use records::{Changes, Dsc, RecordFault, Sidecar, is_architecture, is_package, is_plain};
-use rows::{Unread, said, text_of};
-use std::alloc::{AllocError, Global};
-use sums::Entry;
-
-/// Which record a text is read as.
-#[derive(Clone, Copy)]
-enum Record {
-    Changes,
-    Dsc,
-    Sidecar,
-}
+use super::of_lists::add_entries;
+use crate::out::Out;
+use records::{Changes, Dsc, Sidecar, is_architecture, is_package, is_plain};
+use rows::Unread;
 
 /// Adds a line of a word and a text.
-fn add_line(alloc: Global, word: &str, text: &str, out: &mut Vec<u8>) -> Result<(), AllocError> {
-    let line = format!(in alloc; "{word} {text}\n")?;
-    out.extend_from_slice(line.as_bytes())
-}
-
-/// Adds a line for each file.
-fn add_entries(alloc: Global, entries: &[Entry], out: &mut Vec<u8>) -> Result<(), AllocError> {
-    for entry in entries {
-        add_entry(alloc, entry, out)?;
-    }
-    Ok(())
+fn add_line(out: &mut Out, word: &str, text: &str) {
+    out.say(word);
+    out.say(" ");
+    out.say(text);
+    out.say("\n");
 }
 
 /// Adds what is read of a .changes.
-fn add_changes(alloc: Global, changes: &Changes, out: &mut Vec<u8>) -> Result<(), AllocError> {
-    add_line(alloc, "source", changes.source(), out)?;
-    add_line(alloc, "version", changes.version().text(), out)?;
-    add_line(alloc, "distribution", changes.distribution(), out)?;
-    add_line(alloc, "person", changes.person(), out)?;
+fn add_changes(out: &mut Out, changes: &Changes) {
+    add_line(out, "source", changes.source());
+    add_line(out, "version", changes.version().text());
+    add_line(out, "distribution", changes.distribution());
+    add_line(out, "person", changes.person());
     for architecture in changes.architectures() {
-        add_line(alloc, "architecture", architecture.as_str(), out)?;
+        add_line(out, "architecture", architecture.as_str());
     }
-    add_entries(alloc, changes.entries(), out)
+    add_entries(out, changes.entries());
 }
 
 /// Adds what is read of a .dsc.
-fn add_dsc(alloc: Global, dsc: &Dsc, out: &mut Vec<u8>) -> Result<(), AllocError> {
-    add_line(alloc, "source", dsc.source(), out)?;
-    add_line(alloc, "version", dsc.version().text(), out)?;
-    add_entries(alloc, dsc.entries(), out)
+fn add_dsc(out: &mut Out, dsc: &Dsc) {
+    add_line(out, "source", dsc.source());
+    add_line(out, "version", dsc.version().text());
+    add_entries(out, dsc.entries());
 }
 
 /// Adds what is read of a sidecar.
-fn add_sidecar(alloc: Global, sidecar: &Sidecar, out: &mut Vec<u8>) -> Result<(), AllocError> {
-    add_line(alloc, "package", sidecar.package(), out)?;
-    add_line(alloc, "version", sidecar.version().text(), out)?;
-    add_line(alloc, "architecture", sidecar.architecture(), out)?;
-    add_line(alloc, "source", sidecar.source(), out)
+fn add_sidecar(out: &mut Out, sidecar: &Sidecar) {
+    add_line(out, "package", sidecar.package());
+    add_line(out, "version", sidecar.version().text());
+    add_line(out, "architecture", sidecar.architecture());
+    add_line(out, "source", sidecar.source());
 }
 
-/// Adds what is read of a text.
-fn add_record(
-    alloc: Global,
-    record: Record,
-    text: &[u8],
-    out: &mut Vec<u8>,
-) -> Result<(), RecordFault> {
-    let added = match record {
-        Record::Changes => add_changes(alloc, &Changes::read(alloc, text)?, out),
-        Record::Dsc => add_dsc(alloc, &Dsc::read(alloc, text)?, out),
-        Record::Sidecar => add_sidecar(alloc, &Sidecar::read(alloc, text)?, out),
-    };
-    Ok(added?)
+/// `changes TEXT [OLD NEW]..`: `read`, or the fault; with `told-` before the word, what is read.
+fn changes(out: &mut Out, words: &[Vec<u8>], tells: bool) {
+    let text = out.edited(words);
+    let read = Changes::read(out.alloc, &text);
+    if let Some(changes) = out.read(read, tells) {
+        add_changes(out, &changes);
+    }
 }
 
-/// What is read of a text.
-fn told(alloc: Global, record: Record, text: &[u8]) -> Result<Vec<u8>, RecordFault> {
-    let mut out = Vec::new(alloc);
-    add_record(alloc, record, text, &mut out)?;
-    Ok(out)
+/// `dsc TEXT [OLD NEW]..`: the same.
+fn dsc(out: &mut Out, words: &[Vec<u8>], tells: bool) {
+    let text = out.edited(words);
+    let read = Dsc::read(out.alloc, &text);
+    if let Some(dsc) = out.read(read, tells) {
+        add_dsc(out, &dsc);
+    }
 }
 
-/// `changes TEXT [OLD NEW]..`, and so `dsc` and `sidecar`: `read`, or the fault; with `told-` before the word, what is read.
-fn read_record(
-    alloc: Global,
-    record: Record,
-    words: &[Vec<u8>],
-    tells: bool,
-) -> Result<Vec<u8>, Unread> {
-    let Some((text, edits)) = words.split_first() else {
-        return Err(Unread::BadWords);
-    };
-    let text = replaced(alloc, text, edits)?;
-    told_or_read(alloc, told(alloc, record, text.as_slice()), tells)
+/// `sidecar TEXT [OLD NEW]..`: the same.
+fn sidecar(out: &mut Out, words: &[Vec<u8>], tells: bool) {
+    let text = out.edited(words);
+    let read = Sidecar::read(out.alloc, &text);
+    if let Some(sidecar) = out.read(read, tells) {
+        add_sidecar(out, &sidecar);
+    }
 }
 
 /// `name TEXT`: whether it is the name of a package, of an architecture and of a suite.
-fn name(alloc: Global, words: &[Vec<u8>]) -> Result<Vec<u8>, Unread> {
+fn name(out: &mut Out, words: &[Vec<u8>]) {
     let [text] = words else {
-        return Err(Unread::BadWords);
+        return out.refuse(Unread::BadWords);
     };
-    let text = text_of(text)?;
-    let package = yes_or_no(is_package(text));
-    let architecture = yes_or_no(is_architecture(text));
-    let plain = yes_or_no(is_plain(text));
-    let line = format!(in alloc; "{package} {architecture} {plain}")?;
-    said(alloc, line.as_str())
+    let text = out.text_of(text);
+    out.yes_or_no(is_package(text));
+    out.say(" ");
+    out.yes_or_no(is_architecture(text));
+    out.say(" ");
+    out.yes_or_no(is_plain(text));
 }
 
-/// What is answered to a question on records.
-pub fn answer(alloc: Global, verb: &str, words: &[Vec<u8>]) -> Result<Option<Vec<u8>>, Unread> {
-    let answer = match verb {
-        "changes" => read_record(alloc, Record::Changes, words, false),
-        "told-changes" => read_record(alloc, Record::Changes, words, true),
-        "dsc" => read_record(alloc, Record::Dsc, words, false),
-        "told-dsc" => read_record(alloc, Record::Dsc, words, true),
-        "sidecar" => read_record(alloc, Record::Sidecar, words, false),
-        "told-sidecar" => read_record(alloc, Record::Sidecar, words, true),
-        "name" => name(alloc, words),
-        _ => return Ok(None),
-    };
-    Ok(Some(answer?))
+/// Answers a question on records. It says whether it is one.
+pub fn answer(out: &mut Out, verb: &str, words: &[Vec<u8>]) -> bool {
+    match verb {
+        "changes" => changes(out, words, false),
+        "told-changes" => changes(out, words, true),
+        "dsc" => dsc(out, words, false),
+        "told-dsc" => dsc(out, words, true),
+        "sidecar" => sidecar(out, words, false),
+        "told-sidecar" => sidecar(out, words, true),
+        "name" => name(out, words),
+        _ => return false,
+    }
+    true
 }

@@ -1,159 +1,140 @@
 //! Versions.
 
-use super::{answer_or_fault, yes_or_no};
-use rows::{Unread, said, text_of};
-use std::alloc::{AllocError, Global};
+use crate::out::Out;
+use rows::Unread;
+use std::alloc::Global;
 use std::cmp::Ordering;
 use vers::{Version, VersionFault};
 
-/// An answer of one word.
-fn word(alloc: Global, text: &str) -> Result<Vec<u8>, AllocError> {
-    Vec::from_slice(alloc, text.as_bytes())
-}
-
-fn read(alloc: Global, text: &str) -> Result<Vec<u8>, VersionFault> {
-    Version::parse(alloc, text)?;
-    Ok(word(alloc, "version")?)
-}
-
 /// `version TEXT`: `version`, or the fault.
-fn version(alloc: Global, words: &[Vec<u8>]) -> Result<Vec<u8>, Unread> {
+fn version(out: &mut Out, words: &[Vec<u8>]) {
     let [text] = words else {
-        return Err(Unread::BadWords);
+        return out.refuse(Unread::BadWords);
     };
-    answer_or_fault(alloc, read(alloc, text_of(text)?))
-}
-
-fn order_of(alloc: Global, left: &str, right: &str) -> Result<Ordering, VersionFault> {
-    let left = Version::parse(alloc, left)?;
-    let right = Version::parse(alloc, right)?;
-    Ok(left.order(&right))
-}
-
-fn name_of(order: Ordering) -> &'static str {
-    match order {
-        Ordering::Less => "less",
-        Ordering::Equal => "equal",
-        Ordering::Greater => "greater",
+    let text = out.text_of(text);
+    match Version::parse(out.alloc, text) {
+        Ok(_) => out.say("version"),
+        Err(fault) => out.show(&fault),
     }
 }
 
+/// The versions that two texts are.
+fn both(alloc: Global, left: &str, right: &str) -> Result<(Version, Version), VersionFault> {
+    let left = Version::parse(alloc, left)?;
+    Ok((left, Version::parse(alloc, right)?))
+}
+
 /// How two versions compare, where they compare so in both directions.
-fn compared(alloc: Global, left: &str, right: &str) -> Result<&'static str, VersionFault> {
-    let forth = order_of(alloc, left, right)?;
-    let back = order_of(alloc, right, left)?;
-    if back == forth.reverse() {
-        Ok(name_of(forth))
-    } else {
-        Ok("other in the other direction")
+fn compared(left: &Version, right: &Version) -> &'static str {
+    match (left.order(right), right.order(left)) {
+        (Ordering::Less, Ordering::Greater) => "less",
+        (Ordering::Equal, Ordering::Equal) => "equal",
+        (Ordering::Greater, Ordering::Less) => "greater",
+        _ => "other in the other direction",
     }
 }
 
 /// `compare LEFT RIGHT`: `less`, `equal` or `greater`, or the fault of one of them.
-fn compare(alloc: Global, words: &[Vec<u8>]) -> Result<Vec<u8>, Unread> {
+fn compare(out: &mut Out, words: &[Vec<u8>]) {
     let [left, right] = words else {
-        return Err(Unread::BadWords);
+        return out.refuse(Unread::BadWords);
     };
-    match compared(alloc, text_of(left)?, text_of(right)?) {
-        Ok(name) => said(alloc, name),
-        Err(fault) => said(alloc, fault.to_string(alloc)?.as_str()),
+    let (left, right) = (out.text_of(left), out.text_of(right));
+    match both(out.alloc, left, right) {
+        Ok((left, right)) => out.say(compared(&left, &right)),
+        Err(fault) => out.show(&fault),
+    }
+}
+
+/// Whether both are versions, and the first comes before the second.
+fn is_before(alloc: Global, left: &str, right: &str) -> bool {
+    match both(alloc, left, right) {
+        Ok((left, right)) => compared(&left, &right) == "less",
+        Err(_) => false,
     }
 }
 
 /// Adds a line where a version does not come before each of those behind it.
-fn note_not_before(
-    alloc: Global,
-    first: &str,
-    behind: &[Vec<u8>],
-    out: &mut Vec<u8>,
-) -> Result<(), Unread> {
+fn note_not_before(out: &mut Out, first: &str, behind: &[Vec<u8>]) {
     for word in behind {
-        let other = text_of(word)?;
-        if !matches!(compared(alloc, first, other), Ok("less")) {
-            let line = format!(in alloc; "{first} is not before {other}\n")?;
-            out.extend_from_slice(line.as_bytes())?;
+        let other = out.text_of(word);
+        if !is_before(out.alloc, first, other) {
+            out.say(first);
+            out.say(" is not before ");
+            out.say(other);
+            out.say("\n");
         }
     }
-    Ok(())
-}
-
-/// Adds a line for each pair of versions that does not rise.
-fn note_not_rising(alloc: Global, words: &[Vec<u8>], out: &mut Vec<u8>) -> Result<(), Unread> {
-    let mut behind = words;
-    for word in words {
-        behind = match behind.split_first() {
-            Some((_, behind)) => behind,
-            None => behind,
-        };
-        note_not_before(alloc, text_of(word)?, behind, out)?;
-    }
-    Ok(())
 }
 
 /// `rising VERSION..`: each pair that does not rise, which is nothing.
-fn rising(alloc: Global, words: &[Vec<u8>]) -> Result<Vec<u8>, Unread> {
-    let mut out = Vec::new(alloc);
-    note_not_rising(alloc, words, &mut out)?;
-    Ok(out)
-}
-
-/// Whether a version equals a copy of it.
-fn equals_copy(version: &Version) -> Result<bool, VersionFault> {
-    Ok(version.try_clone()? == *version)
-}
-
-/// Whether a version equals what is read of its text.
-fn equals_reading(alloc: Global, version: &Version) -> Result<bool, VersionFault> {
-    Ok(Version::parse(alloc, version.text())? == *version)
-}
-
-/// The text of a version, the text without its epoch, and whether a copy, and what is read of its text, equal it.
-fn kept_text(alloc: Global, version: &Version) -> Result<Vec<u8>, VersionFault> {
-    let copied = equals_copy(version)?;
-    let read = equals_reading(alloc, version)?;
-    let same = if copied && read { "same" } else { "other" };
-    let (text, without) = (version.text(), version.without_epoch());
-    Ok(format!(in alloc; "{text} {without} {same}")?.into_bytes())
-}
-
-/// What is kept of the version that a text is.
-fn kept(alloc: Global, text: &str) -> Result<Vec<u8>, VersionFault> {
-    kept_text(alloc, &Version::parse(alloc, text)?)
-}
-
-/// `kept TEXT`: the text, the text without its epoch, and `same`; or the fault.
-fn parts(alloc: Global, words: &[Vec<u8>]) -> Result<Vec<u8>, Unread> {
-    let [text] = words else {
-        return Err(Unread::BadWords);
-    };
-    answer_or_fault(alloc, kept(alloc, text_of(text)?))
-}
-
-/// Whether two versions are one text.
-fn is_same(alloc: Global, left: &str, right: &str) -> Result<bool, VersionFault> {
-    Ok(Version::parse(alloc, left)? == Version::parse(alloc, right)?)
-}
-
-/// `same LEFT RIGHT`: `yes` or `no`, or the fault of one of them.
-fn same(alloc: Global, words: &[Vec<u8>]) -> Result<Vec<u8>, Unread> {
-    let [left, right] = words else {
-        return Err(Unread::BadWords);
-    };
-    match is_same(alloc, text_of(left)?, text_of(right)?) {
-        Ok(is_same) => said(alloc, yes_or_no(is_same)),
-        Err(fault) => said(alloc, fault.to_string(alloc)?.as_str()),
+fn rising(out: &mut Out, words: &[Vec<u8>]) {
+    for (place, word) in words.iter().enumerate() {
+        let first = out.text_of(word);
+        if let Some(behind) = words.get(place.saturating_add(1)..) {
+            note_not_before(out, first, behind);
+        }
     }
 }
 
-/// What is answered to a question on versions.
-pub fn answer(alloc: Global, verb: &str, words: &[Vec<u8>]) -> Result<Option<Vec<u8>>, Unread> {
-    let answer = match verb {
-        "version" => version(alloc, words),
-        "compare" => compare(alloc, words),
-        "rising" => rising(alloc, words),
-        "kept" => parts(alloc, words),
-        "same" => same(alloc, words),
-        _ => return Ok(None),
+/// Whether a version equals a copy of it.
+fn equals_copy(version: &Version) -> bool {
+    match version.try_clone() {
+        Ok(copy) => copy == *version,
+        Err(_) => false,
+    }
+}
+
+/// Whether a version equals what is read of its text.
+fn equals_reading(alloc: Global, version: &Version) -> bool {
+    match Version::parse(alloc, version.text()) {
+        Ok(read) => read == *version,
+        Err(_) => false,
+    }
+}
+
+/// Adds the text of a version, the text without its epoch, and whether a copy, and what is read of its text, equal it.
+fn add_version(out: &mut Out, version: &Version) {
+    let is_same = equals_copy(version) & equals_reading(out.alloc, version);
+    out.say(version.text());
+    out.say(" ");
+    out.say(version.without_epoch());
+    out.say(if is_same { " same" } else { " other" });
+}
+
+/// `kept TEXT`: the text, the text without its epoch, and `same`; or the fault.
+fn kept(out: &mut Out, words: &[Vec<u8>]) {
+    let [text] = words else {
+        return out.refuse(Unread::BadWords);
     };
-    Ok(Some(answer?))
+    let text = out.text_of(text);
+    match Version::parse(out.alloc, text) {
+        Ok(version) => add_version(out, &version),
+        Err(fault) => out.show(&fault),
+    }
+}
+
+/// `same LEFT RIGHT`: `yes` or `no`, or the fault of one of them.
+fn same(out: &mut Out, words: &[Vec<u8>]) {
+    let [left, right] = words else {
+        return out.refuse(Unread::BadWords);
+    };
+    let (left, right) = (out.text_of(left), out.text_of(right));
+    match both(out.alloc, left, right) {
+        Ok((left, right)) => out.yes_or_no(left == right),
+        Err(fault) => out.show(&fault),
+    }
+}
+
+/// Answers a question on versions. It says whether it is one.
+pub fn answer(out: &mut Out, verb: &str, words: &[Vec<u8>]) -> bool {
+    match verb {
+        "version" => version(out, words),
+        "compare" => compare(out, words),
+        "rising" => rising(out, words),
+        "kept" => kept(out, words),
+        "same" => same(out, words),
+        _ => return false,
+    }
+    true
 }
