@@ -39,12 +39,9 @@ pub fn db<'a>(alloc: Global) -> Arg<'a>
     ensures rule { rule_of result ≡ db_rule }
     ensures local { result.global ≡ false }
 {
-    Arg::new(alloc, "db")
+    word(alloc, "db", "The database file of the archive")
         .long("db")
         .value_name("FILE")
-        .required(true)
-        .action(ArgAction::Set)
-        .help("The database file of the archive")
 }
 
 /// `--at N`, the moment.
@@ -52,13 +49,14 @@ pub fn at<'a>(alloc: Global) -> Arg<'a>
     ensures rule { rule_of result ≡ at_rule }
     ensures local { result.global ≡ false }
 {
-    Arg::new(alloc, "at")
-        .long("at")
-        .value_name("N")
-        .required(true)
-        .action(ArgAction::Set)
-        .value_parser(value_parser!(u64).range(0..=LATEST as i64))
-        .help("The moment, in seconds since 1970-01-01 00:00:00 UTC; it must never fall")
+    word(
+        alloc,
+        "at",
+        "The moment, in seconds since 1970-01-01 00:00:00 UTC; it must never fall",
+    )
+    .long("at")
+    .value_name("N")
+    .value_parser(value_parser!(u64).range(0..=LATEST as i64))
 }
 
 /// `--moments MOMENTS`, a file whose numbers the moments of later connections are.
@@ -91,9 +89,10 @@ pub fn count<'a>(alloc: Global) -> Arg<'a>
     ensures rule { rule_of result ≡ count_rule }
     ensures local { result.global ≡ false }
 {
-    Arg::new(alloc, "COUNT")
-        .required(true)
-        .action(ArgAction::Set)
-        .value_parser(value_parser!(u64).range(1..=MOST_CONNECTIONS as i64))
-        .help("How many connections to answer before it ends")
+    word(
+        alloc,
+        "COUNT",
+        "How many connections to answer before it ends",
+    )
+    .value_parser(value_parser!(u64).range(1..=MOST_CONNECTIONS as i64))
 }

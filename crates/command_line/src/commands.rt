@@ -1,8 +1,8 @@
 //! The commands of the program, each with its arguments.
 
 ghost use Rattle.std.specs.Prelude.{IfOk, codes};
-ghost use Rattle.clap.specs.Words.{App, with_subcommand};
-ghost use Rattle.command_line.specs.Shape.{archive_app, new_archive, IsCommand, try_app, compare_app, init_app, put_app, db_app, timed_app, copy_app, remove_app, show_app, serve_app, with_changes, with_questions};
+ghost use Rattle.clap.specs.Words.{App, with_rule, with_subcommand};
+ghost use Rattle.command_line.specs.Shape.{archive_app, new_archive, IsCommand, try_app, compare_app, init_app, put_app, db_app, timed_app, copy_app, remove_app, show_app, serve_app, word_rule, moments_rule, log_rule, with_changes, with_questions};
 
 use crate::arguments::{at, count, db, log, moments, paths, word};
 use crate::version::VERSION;
@@ -46,14 +46,29 @@ fn timed_command<'a>(
     db_command(alloc, name, about)?.arg(at(alloc))
 }
 
+/// A command on the archive of a database that is handed a moment and a word, and what it and the word mean.
+fn worded_command<'a>(
+    alloc: Global,
+    name: &'a str,
+    about: &'a str,
+    first: &'a str,
+    meaning: &'a str,
+) -> Result<Command<'a>, AllocError>
+    ensures { IfOk result (IsCommand (with_rule (timed_app name.now) (word_rule first.now))) }
+{
+    timed_command(alloc, name, about)?.arg(word(alloc, first, meaning))
+}
+
 fn init_command<'a>(alloc: Global) -> Result<Command<'a>, AllocError>
     ensures { IfOk result (IsCommand init_app) }
 {
-    timed_command(alloc, "init", "Makes an archive in a database file")?.arg(word(
+    worded_command(
         alloc,
+        "init",
+        "Makes an archive in a database file",
         "CONF",
         "The file of its configuration",
-    ))
+    )
 }
 
 fn put_command<'a>(alloc: Global) -> Result<Command<'a>, AllocError>
@@ -83,12 +98,13 @@ fn run_command<'a>(alloc: Global) -> Result<Command<'a>, AllocError>
 fn copy_command<'a>(alloc: Global) -> Result<Command<'a>, AllocError>
     ensures { IfOk result (IsCommand copy_app) }
 {
-    timed_command(
+    worded_command(
         alloc,
         "copy",
         "Copies a source's packages to another suite, prints how many are new",
+        "FROM",
+        "The suite that shows them",
     )?
-    .arg(word(alloc, "FROM", "The suite that shows them"))?
     .arg(word(alloc, "TO", "The suite that is to show them"))?
     .arg(word(alloc, "SOURCE", "The name of the source"))
 }
@@ -96,12 +112,13 @@ fn copy_command<'a>(alloc: Global) -> Result<Command<'a>, AllocError>
 fn remove_command<'a>(alloc: Global) -> Result<Command<'a>, AllocError>
     ensures { IfOk result (IsCommand remove_app) }
 {
-    timed_command(
+    worded_command(
         alloc,
         "remove",
         "Removes a package from a suite, prints how many items it showed",
+        "SUITE",
+        "The suite that shows it",
     )?
-    .arg(word(alloc, "SUITE", "The suite that shows it"))?
     .arg(word(alloc, "PACKAGE", "The name of the package or source"))
 }
 
@@ -131,8 +148,9 @@ fn verdicts_command<'a>(alloc: Global) -> Result<Command<'a>, AllocError>
     db_command(alloc, "verdicts", "Lists the verdicts of all runs")
 }
 
-fn serve_command<'a>(alloc: Global) -> Result<Command<'a>, AllocError>
-    ensures { IfOk result (IsCommand serve_app) }
+/// The command that serves, with its options alone.
+fn logged_command<'a>(alloc: Global) -> Result<Command<'a>, AllocError>
+    ensures { IfOk result (IsCommand (with_rule (with_rule (timed_app (codes "serve")) moments_rule) log_rule)) }
 {
     timed_command(
         alloc,
@@ -140,9 +158,15 @@ fn serve_command<'a>(alloc: Global) -> Result<Command<'a>, AllocError>
         "Answers HTTP connections, one after the other",
     )?
     .arg(moments(alloc))?
-    .arg(log(alloc))?
-    .arg(word(alloc, "ADDRESS", "Where to listen, such as 127.0.0.1:8080"))?
-    .arg(count(alloc))
+    .arg(log(alloc))
+}
+
+fn serve_command<'a>(alloc: Global) -> Result<Command<'a>, AllocError>
+    ensures { IfOk result (IsCommand serve_app) }
+{
+    logged_command(alloc)?
+        .arg(word(alloc, "ADDRESS", "Where to listen, such as 127.0.0.1:8080"))?
+        .arg(count(alloc))
 }
 
 fn archive<'a>(alloc: Global) -> Result<Command<'a>, AllocError>

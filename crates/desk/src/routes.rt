@@ -1,6 +1,6 @@
 //! Which command a path asks for.
-ghost use Rattle.std.specs.Prelude.{◌≡◌, IfOk, IfErr};
-ghost use Rattle.desk.specs.Want.{method_of, routes};
+ghost use Rattle.std.specs.Prelude.{◌≡◌, [], take, IfOk, IfErr, OnOk};
+ghost use Rattle.desk.specs.Want.{add_routes, method_of, route_texts, routes};
 
 use http::Method;
 use matchit::{InsertError, Router};
@@ -32,19 +32,39 @@ impl Route {
     }
 }
 
+/// Adds the first four routes to an empty router.
+fn add_first(router: &mut Router<Route>) -> Result<(), InsertError>
+    requires { router.old ≡ [] }
+    ensures ok { OnOk result (router.new ≡ add_routes (take 4 route_texts) []) }
+    ensures err { IfErr result (λ e. e ≡ InsertError.OutOfMemory) }
+{
+    router.insert("/incoming/{name}", Route::Deliver)?;
+    router.insert("/queue/run", Route::Run)?;
+    router.insert("/copy/{from}/{to}/{source}", Route::Copy)?;
+    router.insert("/queue", Route::Waiting)?;
+    Ok(())
+}
+
+/// Adds the other routes to a router with the first four.
+fn add_others(router: &mut Router<Route>) -> Result<(), InsertError>
+    requires { router.old ≡ add_routes (take 4 route_texts) [] }
+    ensures ok { OnOk result (router.new ≡ routes) }
+    ensures err { IfErr result (λ e. e ≡ InsertError.OutOfMemory) }
+{
+    router.insert("/verdicts", Route::Verdicts)?;
+    router.insert("/dists/{*path}", Route::Dists)?;
+    router.insert("/pool/{*path}", Route::Pool)?;
+    router.insert("/remove/{suite}/{package}", Route::Remove)?;
+    Ok(())
+}
+
 /// The routes of the desk.
 pub fn router(alloc: Global) -> Result<Router<Route>, InsertError>
     ensures ok { IfOk result (λ router. router ≡ routes) }
     ensures err { IfErr result (λ e. e ≡ InsertError.OutOfMemory) }
 {
     let mut router = Router::new(alloc);
-    router.insert("/incoming/{name}", Route::Deliver)?;
-    router.insert("/queue/run", Route::Run)?;
-    router.insert("/copy/{from}/{to}/{source}", Route::Copy)?;
-    router.insert("/queue", Route::Waiting)?;
-    router.insert("/verdicts", Route::Verdicts)?;
-    router.insert("/dists/{*path}", Route::Dists)?;
-    router.insert("/pool/{*path}", Route::Pool)?;
-    router.insert("/remove/{suite}/{package}", Route::Remove)?;
+    add_first(&mut router)?;
+    add_others(&mut router)?;
     Ok(router)
 }
