@@ -16,7 +16,6 @@ use sums::{Entry, ListKind};
 use vers::Version;
 
 /// A .changes: which files an upload has, for which distribution and from whom.
-#[derive(Drop)]
 pub struct Changes {
     source: Text,
     version: Version,
@@ -24,6 +23,20 @@ pub struct Changes {
     distribution: Text,
     person: Text,
     entries: Listed<Entry>,
+}
+
+// Written out, so that a caller does not prove again how each part is dropped.
+impl Drop for Changes {
+    fn drop(self) {
+        let Changes {
+            source: _,
+            version: _,
+            architectures: _,
+            distribution: _,
+            person: _,
+            entries: _,
+        } = self;
+    }
 }
 
 impl Model for Changes {
@@ -124,10 +137,10 @@ fn responsible_person<'a>(paragraph: &Paragraph<'a>) -> &'a str
 fn check_front(paragraph: &Paragraph<'_>) -> Result<(), RecordFault>
     ensures only { IfOk result (λ _. (rest : List (Option RecordFault)) →
         first_of (missing changes_required paragraph.now ∷ not_simple changes_simple paragraph.now
-            ∷ unknown_format changes_formats paragraph.now ∷ rest) ≡ first_of rest) }
+        ∷ unknown_format changes_formats paragraph.now ∷ rest) ≡ first_of rest) }
     ensures refused { IfErr result (λ e. (rest : List (Option RecordFault)) →
         first_of (missing changes_required paragraph.now ∷ not_simple changes_simple paragraph.now
-            ∷ unknown_format changes_formats paragraph.now ∷ rest) ≡ Some e) }
+        ∷ unknown_format changes_formats paragraph.now ∷ rest) ≡ Some e) }
 {
     check_required(paragraph, &REQUIRED)?;
     check_simple(paragraph, &SIMPLE)?;

@@ -15,11 +15,21 @@ use sums::{Entry, ListKind};
 use vers::Version;
 
 /// A .dsc: a source package and the files that it is made of.
-#[derive(Drop)]
 pub struct Dsc {
     source: Text,
     version: Version,
     entries: Listed<Entry>,
+}
+
+// Written out, so that a caller does not prove again how each part is dropped.
+impl Drop for Dsc {
+    fn drop(self) {
+        let Dsc {
+            source: _,
+            version: _,
+            entries: _,
+        } = self;
+    }
 }
 
 impl Model for Dsc {
@@ -75,10 +85,10 @@ fn check_format(paragraph: &Paragraph<'_>) -> Result<(), RecordFault>
 fn check_front(paragraph: &Paragraph<'_>) -> Result<(), RecordFault>
     ensures only { IfOk result (λ _. (rest : List (Option RecordFault)) →
         first_of (missing dsc_required paragraph.now ∷ not_simple dsc_simple paragraph.now
-            ∷ unknown_format dsc_formats paragraph.now ∷ bad_name (value FieldName.Source paragraph.now) ∷ rest) ≡ first_of rest) }
+        ∷ unknown_format dsc_formats paragraph.now ∷ bad_name (value FieldName.Source paragraph.now) ∷ rest) ≡ first_of rest) }
     ensures refused { IfErr result (λ e. (rest : List (Option RecordFault)) →
         first_of (missing dsc_required paragraph.now ∷ not_simple dsc_simple paragraph.now
-            ∷ unknown_format dsc_formats paragraph.now ∷ bad_name (value FieldName.Source paragraph.now) ∷ rest) ≡ Some e) }
+        ∷ unknown_format dsc_formats paragraph.now ∷ bad_name (value FieldName.Source paragraph.now) ∷ rest) ≡ Some e) }
 {
     check_required(paragraph, &REQUIRED)?;
     check_simple(paragraph, &SIMPLE)?;

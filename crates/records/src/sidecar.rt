@@ -15,12 +15,23 @@ use std::marker::Model;
 use vers::Version;
 
 /// A sidecar: what its binary package is, and of which source.
-#[derive(Drop)]
 pub struct Sidecar {
     package: Text,
     version: Version,
     architecture: Text,
     source: Text,
+}
+
+// Written out, so that a caller does not prove again how each part is dropped.
+impl Drop for Sidecar {
+    fn drop(self) {
+        let Sidecar {
+            package: _,
+            version: _,
+            architecture: _,
+            source: _,
+        } = self;
+    }
 }
 
 impl Model for Sidecar {
@@ -114,10 +125,10 @@ fn source_name<'a>(alloc: Global, paragraph: &Paragraph<'a>) -> Result<&'a str, 
 fn check_front(paragraph: &Paragraph<'_>) -> Result<(), RecordFault>
     ensures only { IfOk result (λ _. (rest : List (Option RecordFault)) →
         first_of (missing sidecar_required paragraph.now ∷ not_simple sidecar_simple paragraph.now
-            ∷ bad_name (value FieldName.Package paragraph.now) ∷ rest) ≡ first_of rest) }
+        ∷ bad_name (value FieldName.Package paragraph.now) ∷ rest) ≡ first_of rest) }
     ensures refused { IfErr result (λ e. (rest : List (Option RecordFault)) →
         first_of (missing sidecar_required paragraph.now ∷ not_simple sidecar_simple paragraph.now
-            ∷ bad_name (value FieldName.Package paragraph.now) ∷ rest) ≡ Some e) }
+        ∷ bad_name (value FieldName.Package paragraph.now) ∷ rest) ≡ Some e) }
 {
     check_required(paragraph, &REQUIRED)?;
     check_simple(paragraph, &SIMPLE)?;

@@ -9,10 +9,16 @@ use sums::Print;
 use vers::Version;
 
 /// A file of the pool: its path, without a leading slash, and its print.
-#[derive(Drop)]
 pub struct PoolFile {
     pub path: Text,
     pub print: Print,
+}
+
+// Written out, so that a caller does not prove again how each part is dropped.
+impl Drop for PoolFile {
+    fn drop(self) {
+        let PoolFile { path: _, print: _ } = self;
+    }
 }
 
 /// A source or a package of an accepted upload. The paragraph is the text of its .dsc or sidecar as delivered.

@@ -19,17 +19,32 @@ use std::str;
 use sums::Entry;
 
 /// The .dsc of an upload, where it has one.
-#[derive(Drop)]
 pub struct SourcePart<'a> {
     pub part: Part<'a>,
     pub dsc: Dsc,
 }
 
+// Written out, so that a caller does not prove again how each part is dropped.
+impl<'a> Drop for SourcePart<'a> {
+    fn drop(self) {
+        let SourcePart { part: _, dsc: _ } = self;
+    }
+}
+
 /// A sidecar of an upload.
-#[derive(Drop)]
 pub struct BinaryPart<'a> {
     pub part: Part<'a>,
     pub sidecar: Sidecar,
+}
+
+// Written out, so that a caller does not prove again how each part is dropped.
+impl<'a> Drop for BinaryPart<'a> {
+    fn drop(self) {
+        let BinaryPart {
+            part: _,
+            sidecar: _,
+        } = self;
+    }
 }
 
 /// The text of a paragraph that was read.

@@ -28,12 +28,23 @@ impl Kind {
 }
 
 /// Where an item stands: one item a key is shown.
-#[derive(Drop)]
 pub struct ShelfKey {
     pub suite: usize,
     pub kind: Kind,
     pub package: Text,
     pub architecture: Text,
+}
+
+// Written out, so that a caller does not prove again how each part is dropped.
+impl Drop for ShelfKey {
+    fn drop(self) {
+        let ShelfKey {
+            suite: _,
+            kind: _,
+            package: _,
+            architecture: _,
+        } = self;
+    }
 }
 
 impl ShelfKey {

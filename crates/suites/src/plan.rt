@@ -12,12 +12,23 @@ use std::alloc::Global;
 use sums::Print;
 
 /// A file of an item, by its number in the item, counted from 1.
-#[derive(Drop)]
 pub struct Reference {
     pub key: ShelfKey,
     pub number: usize,
     pub path: Text,
     pub print: Print,
+}
+
+// Written out, so that a caller does not prove again how each part is dropped.
+impl Drop for Reference {
+    fn drop(self) {
+        let Reference {
+            key: _,
+            number: _,
+            path: _,
+            print: _,
+        } = self;
+    }
 }
 
 /// What a change does to the shelves and the pool: items that come and go, each with its shelf, the references of their

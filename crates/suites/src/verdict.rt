@@ -24,10 +24,19 @@ use std::alloc::{AllocError, Global};
 use sums::{Entry, Print};
 
 /// The records that an accepted upload has beside its .changes.
-#[derive(Drop)]
 pub struct Parts<'a> {
     pub source: Option<SourcePart<'a>>,
     pub binaries: Vec<BinaryPart<'a>>,
+}
+
+// Written out, so that a caller does not prove again how each part is dropped.
+impl<'a> Drop for Parts<'a> {
+    fn drop(self) {
+        let Parts {
+            source: _,
+            binaries: _,
+        } = self;
+    }
 }
 
 /// What judging an upload gives: its records, or the verdict by which it is refused.
