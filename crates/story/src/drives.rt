@@ -1,8 +1,8 @@
 //! Lists of commands.
 
-use crate::delivery::delivery_of;
+use crate::delivery::{Delivery, delivery_of};
 use crate::outcomes::{arrived_text, found_text, number_text, report_text};
-use crate::steps::{moment_of, path_of};
+use crate::steps::moment_of;
 use keep::Keeper;
 use queue::{Archive, Command, Outcome};
 use rows::{Unread, number_of, text_of};
@@ -10,12 +10,13 @@ use std::alloc::Global;
 
 /// `deliver NAME [MOMENT] BODY [OLD NEW]..`.
 fn delivery(alloc: Global, words: &[Vec<u8>]) -> Result<Command, Unread> {
-    let delivery = delivery_of(alloc, words)?;
-    Ok(Command::Deliver {
-        name: delivery.name,
-        body: delivery.body,
-        moment: delivery.moment,
-    })
+    let Delivery { name, body, moment } = delivery_of(alloc, words)?;
+    Ok(Command::Deliver { name, body, moment })
+}
+
+/// A word that is a text, as a text of its own.
+fn owned(alloc: Global, word: &Vec<u8>) -> Result<String, Unread> {
+    Ok(String::from_str(alloc, text_of(word)?)?)
 }
 
 /// `copy FROM TO SOURCE MOMENT`.
@@ -24,10 +25,10 @@ fn copying(alloc: Global, words: &[Vec<u8>]) -> Result<Command, Unread> {
         return Err(Unread::BadWords);
     };
     Ok(Command::Copy {
-        from: String::from_str(alloc, text_of(from)?)?,
-        to: String::from_str(alloc, text_of(to)?)?,
-        source: String::from_str(alloc, text_of(source)?)?,
         moment: number_of(moment)?,
+        from: owned(alloc, from)?,
+        to: owned(alloc, to)?,
+        source: owned(alloc, source)?,
     })
 }
 
@@ -37,17 +38,20 @@ fn removing(alloc: Global, words: &[Vec<u8>]) -> Result<Command, Unread> {
         return Err(Unread::BadWords);
     };
     Ok(Command::Remove {
-        suite: String::from_str(alloc, text_of(suite)?)?,
-        name: String::from_str(alloc, text_of(name)?)?,
         moment: number_of(moment)?,
+        suite: owned(alloc, suite)?,
+        name: owned(alloc, name)?,
     })
 }
 
 /// `fetch PATH`.
 fn look_up(alloc: Global, words: &[Vec<u8>]) -> Result<Command, Unread> {
-    Ok(Command::Fetch {
-        path: String::from_str(alloc, path_of(words)?)?,
-    })
+    match words {
+        [path] => Ok(Command::Fetch {
+            path: owned(alloc, path)?,
+        }),
+        _ => Err(Unread::BadWords),
+    }
 }
 
 /// A command: its words as a row has them, but for `fetch` in the place of `show`.
@@ -71,16 +75,19 @@ fn command_of(alloc: Global, words: &[Vec<u8>]) -> Result<Command, Unread> {
     }
 }
 
-/// The commands of a list, with the word `;` between them.
-fn commands_of(alloc: Global, words: &[Vec<u8>]) -> Result<Vec<Command>, Unread> {
-    let mut commands = Vec::new(alloc);
+/// Adds the commands of a list, with the word `;` between them.
+fn add_commands(
+    alloc: Global,
+    commands: &mut Vec<Command>,
+    words: &[Vec<u8>],
+) -> Result<(), Unread> {
     if words.is_empty() {
-        return Ok(commands);
+        return Ok(());
     }
     for command in words.split(|word| word.as_slice() == b";".as_slice()) {
         commands.push(command_of(alloc, command)?)?;
     }
-    Ok(commands)
+    Ok(())
 }
 
 /// What a command answered.
@@ -104,16 +111,34 @@ fn add_answer(text: &mut Vec<u8>, answer: &[u8]) -> Result<(), Unread> {
     Ok(())
 }
 
+/// Adds what a command answered.
+fn add_outcome(alloc: Global, text: &mut Vec<u8>, outcome: Outcome) -> Result<(), Unread> {
+    let answer = outcome_text(alloc, outcome)?;
+    add_answer(text, &answer)
+}
+
+/// Adds what each command answers.
+fn add_outcomes<K: Keeper>(
+    alloc: Global,
+    archive: &mut Archive<K>,
+    text: &mut Vec<u8>,
+    commands: &[Command],
+) -> Result<(), Unread> {
+    for outcome in archive.drive(alloc, commands)? {
+        add_outcome(alloc, text, outcome)?;
+    }
+    Ok(())
+}
+
 /// `drive COMMAND ; COMMAND ..`: what each command of the list answers, one behind the other, each ended by a newline.
 pub fn drive<K: Keeper>(
     alloc: Global,
     archive: &mut Archive<K>,
     words: &[Vec<u8>],
 ) -> Result<Vec<u8>, Unread> {
-    let commands = commands_of(alloc, words)?;
+    let mut commands = Vec::new(alloc);
+    add_commands(alloc, &mut commands, words)?;
     let mut text = Vec::new(alloc);
-    for outcome in archive.drive(alloc, commands.as_slice())? {
-        add_answer(&mut text, outcome_text(alloc, outcome)?.as_slice())?;
-    }
+    add_outcomes(alloc, archive, &mut text, &commands)?;
     Ok(text)
 }

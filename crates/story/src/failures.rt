@@ -27,8 +27,7 @@ fn only_word(words: &[Vec<u8>]) -> Result<&[u8], Unread> {
 
 /// Where it was otherwise, and what was written there.
 fn otherwise(alloc: Global, place: usize, written: &[u8]) -> Result<Vec<u8>, Unread> {
-    let text = format!(in alloc; "behind {place} bytes: ")?;
-    let mut text = Vec::from_slice(alloc, text.as_bytes())?;
+    let mut text = format!(in alloc; "behind {place} bytes: ")?.into_bytes();
     text.extend_from_slice(written)?;
     Ok(text)
 }
@@ -52,22 +51,6 @@ fn beside_end<K: Keeper>(
     Ok(Some(reply))
 }
 
-/// `cut BYTES`: `nothing delivered`, where a request that is cut at any of its bytes is answered 400, and nothing where no byte comes;
-/// else where it was otherwise.
-pub fn cut<K: Keeper>(
-    alloc: Global,
-    archive: &mut Archive<K>,
-    words: &[Vec<u8>],
-) -> Result<Vec<u8>, Unread> {
-    let bytes = only_word(words)?;
-    for place in 0..bytes.len() {
-        if let Some(reply) = beside_end(alloc, archive, bytes.get(..place).unwrap_or(b""))? {
-            return otherwise(alloc, place, reply.as_slice());
-        }
-    }
-    said(alloc, "nothing delivered")
-}
-
 /// What is written to bytes behind which the reader fails, where that is not told, or some is written.
 fn beside_failure<K: Keeper>(
     alloc: Global,
@@ -87,26 +70,34 @@ fn beside_failure<K: Keeper>(
     Some(writer)
 }
 
-/// `reader-fails BYTES`: `nothing delivered`, where a reader that fails at any byte of the request is told as H1, and nothing is
-/// written; else where it was otherwise.
-pub fn reader_fails<K: Keeper>(
+/// `cut BYTES`: `nothing delivered`, where a request that is cut at any of its bytes is answered 400, and nothing where no byte comes;
+/// `reader-fails BYTES`: the same, where a reader that fails at any byte of the request is told as H1, and nothing is written. Else
+/// where it was otherwise.
+pub fn cut<K: Keeper>(
     alloc: Global,
     archive: &mut Archive<K>,
     words: &[Vec<u8>],
+    fails: bool,
 ) -> Result<Vec<u8>, Unread> {
     let bytes = only_word(words)?;
     for place in 0..bytes.len() {
         let front = bytes.get(..place).unwrap_or(b"");
-        if let Some(written) = beside_failure(alloc, archive, front) {
-            return otherwise(alloc, place, written.as_slice());
+        let found = if fails {
+            beside_failure(alloc, archive, front)
+        } else {
+            beside_end(alloc, archive, front)?
+        };
+        if let Some(written) = found {
+            return otherwise(alloc, place, &written);
         }
     }
     said(alloc, "nothing delivered")
 }
 
-/// A request that is made twice, and both replies of a new archive.
+/// A request that is made twice of a new archive, and both replies.
 #[derive(Drop)]
 struct Twice<'a> {
+    config: &'a [u8],
     bytes: &'a [u8],
     first: Vec<u8>,
     second: Vec<u8>,
@@ -138,27 +129,31 @@ fn whole_reply<K: Keeper>(
 }
 
 /// The replies of a new archive to a request that is made twice.
-fn asked_twice<'a, K: Keeper>(
+fn asked_twice<'a, K: Keeper + Drop, M: Makes<K>>(
     alloc: Global,
-    archive: &mut Archive<K>,
+    config: &'a [u8],
     bytes: &'a [u8],
 ) -> Result<Twice<'a>, Unread> {
+    let mut archive = fresh::<K, M>(alloc, config)?;
+    let first = whole_reply(alloc, &mut archive, bytes)?;
+    let second = whole_reply(alloc, &mut archive, bytes)?;
     Ok(Twice {
+        config,
         bytes,
-        first: whole_reply(alloc, archive, bytes)?,
-        second: whole_reply(alloc, archive, bytes)?,
+        first,
+        second,
     })
 }
 
-/// What is written where the writer of the first reply is full behind so many bytes, and where that is told, the second reply; where
-/// one of them is not as it is wanted.
+/// What is written where the writer of the first reply is full behind so many bytes, where that is not told, or not those bytes of it are
+/// written.
 fn beside_full<K: Keeper>(
     alloc: Global,
     archive: &mut Archive<K>,
     twice: &Twice<'_>,
     room: usize,
     full: Full,
-) -> Result<Option<Vec<u8>>, Unread> {
+) -> Option<Vec<u8>> {
     let mut reader = twice.bytes;
     let mut writer = Narrow {
         taken: Vec::new(alloc),
@@ -167,26 +162,58 @@ fn beside_full<K: Keeper>(
     };
     let served = answer(alloc, archive, &mut reader, &mut writer, 0);
     let front = twice.first.as_slice().get(..room);
-    if served != Err(DeskFault::WriterFailed) || front != Some(writer.taken.as_slice()) {
-        return Ok(Some(writer.taken));
+    if served == Err(DeskFault::WriterFailed) && front == Some(writer.taken.as_slice()) {
+        return None;
     }
-    let second = whole_reply(alloc, archive, twice.bytes)?;
+    Some(writer.taken)
+}
+
+/// What is written of a new archive whose first reply can't be written, or else its second reply; where it is not as it is wanted.
+fn beside_full_of<K: Keeper + Drop, M: Makes<K>>(
+    alloc: Global,
+    twice: &Twice<'_>,
+    room: usize,
+    full: Full,
+) -> Result<Option<Vec<u8>>, Unread> {
+    let mut archive = fresh::<K, M>(alloc, twice.config)?;
+    if let Some(written) = beside_full(alloc, &mut archive, twice, room, full) {
+        return Ok(Some(written));
+    }
+    let second = whole_reply(alloc, &mut archive, twice.bytes)?;
     if second.as_slice() == twice.second.as_slice() {
         return Ok(None);
     }
     Ok(Some(second))
 }
 
-/// The same of a new archive.
-fn beside_full_of<K: Keeper + Drop, M: Makes<K>>(
+/// Where it was otherwise with a writer that is full behind so many bytes, if it was.
+fn told_full<K: Keeper + Drop, M: Makes<K>>(
     alloc: Global,
-    config: &[u8],
     twice: &Twice<'_>,
     room: usize,
     full: Full,
 ) -> Result<Option<Vec<u8>>, Unread> {
-    let mut archive = fresh::<K, M>(alloc, config)?;
-    beside_full(alloc, &mut archive, twice, room, full)
+    match beside_full_of::<K, M>(alloc, twice, room, full)? {
+        Some(found) => Ok(Some(otherwise(alloc, room, &found)?)),
+        None => Ok(None),
+    }
+}
+
+/// The same at each byte, and where the reply can't be flushed.
+fn told_each<K: Keeper + Drop, M: Makes<K>>(
+    alloc: Global,
+    twice: &Twice<'_>,
+) -> Result<Option<Vec<u8>>, Unread> {
+    let length = twice.first.len();
+    for room in 0..length {
+        for full in [Full::Fails, Full::TakesNothing] {
+            let found = told_full::<K, M>(alloc, twice, room, full)?;
+            if found.is_some() {
+                return Ok(found);
+            }
+        }
+    }
+    told_full::<K, M>(alloc, twice, length, Full::FailsToFlush)
 }
 
 /// `writer-fails BYTES`: `done`, where a new archive whose reply can't be written from any of its bytes on, or can't be flushed, tells
@@ -197,17 +224,9 @@ pub fn writer_fails<K: Keeper + Drop, M: Makes<K>>(
     config: &[u8],
     words: &[Vec<u8>],
 ) -> Result<Vec<u8>, Unread> {
-    let twice = asked_twice(alloc, &mut fresh::<K, M>(alloc, config)?, only_word(words)?)?;
-    let length = twice.first.len();
-    for room in 0..length {
-        for full in [Full::Fails, Full::TakesNothing] {
-            if let Some(found) = beside_full_of::<K, M>(alloc, config, &twice, room, full)? {
-                return otherwise(alloc, room, found.as_slice());
-            }
-        }
-    }
-    match beside_full_of::<K, M>(alloc, config, &twice, length, Full::FailsToFlush)? {
-        Some(found) => otherwise(alloc, length, found.as_slice()),
+    let twice = asked_twice::<K, M>(alloc, config, only_word(words)?)?;
+    match told_each::<K, M>(alloc, &twice)? {
+        Some(found) => Ok(found),
         None => said(alloc, "done"),
     }
 }

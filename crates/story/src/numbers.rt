@@ -4,8 +4,9 @@ use desk::DeskFault;
 use keep::KeepFault;
 use queue::Fault;
 use records::RecordFault;
-use rows::{Unread, text_of};
+use rows::Unread;
 use std::alloc::{AllocError, Global};
+use std::fmt::{Display, Write};
 
 const OF_KEEPERS: [KeepFault; 4] = [
     KeepFault::OutOfMemory,
@@ -30,44 +31,39 @@ const OF_ARCHIVES: [Fault; 10] = [
 const OF_DESKS: [DeskFault; 2] = [DeskFault::ReaderFailed, DeskFault::WriterFailed];
 
 /// Adds a line on a fault.
-fn add_line(alloc: Global, text: &mut String, number: u8, fault: &str) -> Result<(), AllocError> {
-    text.push_str(format!(in alloc; "{number} {fault}\n")?.as_str())
+fn add_fault<F: Display>(text: &mut String, number: u8, fault: &F) -> Result<(), AllocError> {
+    write!(text, "{number} {fault}\n")
 }
 
-fn of_keepers(alloc: Global, text: &mut String) -> Result<(), AllocError> {
-    for fault in OF_KEEPERS {
-        add_line(
-            alloc,
-            text,
-            fault.number(),
-            fault.to_string(alloc)?.as_str(),
-        )?;
+fn of_keepers(text: &mut String) -> Result<(), AllocError> {
+    for fault in &OF_KEEPERS {
+        add_fault(text, fault.number(), fault)?;
     }
     Ok(())
 }
 
-fn of_archives(alloc: Global, text: &mut String) -> Result<(), AllocError> {
-    for fault in OF_ARCHIVES {
-        add_line(
-            alloc,
-            text,
-            fault.number(),
-            fault.to_string(alloc)?.as_str(),
-        )?;
+fn of_archives(text: &mut String) -> Result<(), AllocError> {
+    for fault in &OF_ARCHIVES {
+        add_fault(text, fault.number(), fault)?;
     }
     Ok(())
 }
 
-fn of_desks(alloc: Global, text: &mut String) -> Result<(), AllocError> {
-    for fault in OF_DESKS {
-        add_line(
-            alloc,
-            text,
-            fault.number(),
-            fault.to_string(alloc)?.as_str(),
-        )?;
+fn of_desks(text: &mut String) -> Result<(), AllocError> {
+    for fault in &OF_DESKS {
+        add_fault(text, fault.number(), fault)?;
     }
     Ok(())
+}
+
+/// Adds a line for each fault that is printed with a letter.
+fn add_faults(text: &mut String, letter: &[u8]) -> Result<(), Unread> {
+    match letter {
+        b"K" => Ok(of_keepers(text)?),
+        b"Q" => Ok(of_archives(text)?),
+        b"H" => Ok(of_desks(text)?),
+        _ => Err(Unread::BadWords),
+    }
 }
 
 /// `numbers LETTER`: a line for each fault that is printed with this letter, its number and its text.
@@ -76,11 +72,6 @@ pub fn numbers(alloc: Global, words: &[Vec<u8>]) -> Result<Vec<u8>, Unread> {
         return Err(Unread::BadWords);
     };
     let mut text = String::new(alloc);
-    match text_of(letter)? {
-        "K" => of_keepers(alloc, &mut text)?,
-        "Q" => of_archives(alloc, &mut text)?,
-        "H" => of_desks(alloc, &mut text)?,
-        _ => return Err(Unread::BadWords),
-    }
+    add_faults(&mut text, letter)?;
     Ok(text.into_bytes())
 }

@@ -3,12 +3,18 @@
 use queue::{Arrived, Fault, Report};
 use rows::{Unread, said};
 use std::alloc::Global;
+use std::fmt::Display;
+
+/// What is printed of a value.
+pub fn printed<T: Display>(alloc: Global, value: &T) -> Result<Vec<u8>, Unread> {
+    Ok(value.to_string(alloc)?.into_bytes())
+}
 
 /// A fault as it is printed. Want of memory ends the file.
 pub fn refused_text(alloc: Global, fault: Fault) -> Result<Vec<u8>, Unread> {
     match fault {
         Fault::OutOfMemory => Err(Unread::OutOfMemory),
-        fault => said(alloc, fault.to_string(alloc)?.as_str()),
+        fault => printed(alloc, &fault),
     }
 }
 
@@ -42,7 +48,7 @@ pub fn report_text(alloc: Global, done: Result<Report, Fault>) -> Result<Vec<u8>
 /// A number, or the fault.
 pub fn number_text(alloc: Global, done: Result<u64, Fault>) -> Result<Vec<u8>, Unread> {
     match done {
-        Ok(items) => said(alloc, format!(in alloc; "{items}")?.as_str()),
+        Ok(items) => printed(alloc, &items),
         Err(fault) => refused_text(alloc, fault),
     }
 }

@@ -9,22 +9,23 @@ fn replace_piece(alloc: Global, text: &mut Vec<u8>, piece: &str, by: &str) -> Re
     if !old.contains(piece) {
         return Ok(false);
     }
-    let new = old.replace(alloc, piece, by)?;
-    *text = new.into_bytes();
+    *text = old.replace(alloc, piece, by)?.into_bytes();
     Ok(true)
 }
 
-/// Replaces a piece in each of two texts, one of which has it.
+/// Replaces a piece in each of two texts, one of which has it. The words are what stands there, and what is to stand there.
 fn replace_pair(
     alloc: Global,
-    texts: (&mut Vec<u8>, &mut Vec<u8>),
-    piece: &str,
-    by: &str,
+    name: &mut Vec<u8>,
+    text: &mut Vec<u8>,
+    pair: &[Vec<u8>],
 ) -> Result<(), Unread> {
-    let (first, second) = texts;
-    let in_first = replace_piece(alloc, first, piece, by)?;
-    let in_second = replace_piece(alloc, second, piece, by)?;
-    if in_first || in_second {
+    let [piece, by] = pair else {
+        return Err(Unread::BadWords);
+    };
+    let (piece, by) = (text_of(piece)?, text_of(by)?);
+    let in_name = replace_piece(alloc, name, piece, by)?;
+    if replace_piece(alloc, text, piece, by)? || in_name {
         Ok(())
     } else {
         Err(Unread::NothingToReplace)
@@ -39,10 +40,7 @@ pub fn replace_pieces(
     words: &[Vec<u8>],
 ) -> Result<(), Unread> {
     for pair in words.chunks(2) {
-        let [piece, by] = pair else {
-            return Err(Unread::BadWords);
-        };
-        replace_pair(alloc, (name, text), text_of(piece)?, text_of(by)?)?;
+        replace_pair(alloc, name, text, pair)?;
     }
     Ok(())
 }

@@ -4,23 +4,36 @@ use crate::readers::Pieces;
 use desk::head::{Refusal, Wanted, read_wanted};
 use desk::request::{Request, read_request};
 use desk::transfer::ReaderFailed;
-use rows::{Unread, said};
+use rows::Unread;
 use std::alloc::{AllocError, Global};
+use std::fmt::Write;
 
 /// How many bytes come a read.
 const SIZES: [usize; 4] = [1, 2, 7, 1000];
 
-/// `nothing`, the status of a refusal, `asks` for a command, or `H1`.
-fn status_of(alloc: Global, read: &Result<Request, ReaderFailed>) -> Result<String, AllocError> {
+/// Adds `nothing`, the status of a refusal, `asks` for a command, or `H1`.
+fn add_status(text: &mut String, read: &Result<Request, ReaderFailed>) -> Result<(), AllocError> {
     match read {
-        Ok(Request::Nothing) => String::from_str(alloc, "nothing"),
+        Ok(Request::Nothing) => text.push_str("nothing"),
         Ok(Request::Refused(refusal)) => {
             let status = refusal.status().as_u16();
-            format!(in alloc; "{status}")
+            write!(text, "{status}")
         }
-        Ok(Request::Asks(_, _)) => String::from_str(alloc, "asks"),
-        Err(ReaderFailed) => String::from_str(alloc, "H1"),
+        Ok(Request::Asks(_, _)) => text.push_str("asks"),
+        Err(ReaderFailed) => text.push_str("H1"),
     }
+}
+
+/// What a request is answered, and how many bytes are left.
+fn status_text(
+    alloc: Global,
+    read: &Result<Request, ReaderFailed>,
+    left: usize,
+) -> Result<String, AllocError> {
+    let mut text = String::new(alloc);
+    add_status(&mut text, read)?;
+    write!(text, " {left}")?;
+    Ok(text)
 }
 
 /// The answer to bytes that come at most so many a read, and how many of them are left.
@@ -31,9 +44,22 @@ fn status_at(alloc: Global, bytes: &[u8], most: usize) -> Result<String, AllocEr
         fails: false,
     };
     let read = read_request(alloc, &mut reader);
-    let status = status_of(alloc, &read)?;
-    let left = reader.bytes.len();
-    format!(in alloc; "{status} {left}")
+    status_text(alloc, &read, reader.bytes.len())
+}
+
+/// The answer where it is another than the first.
+fn other_status(
+    alloc: Global,
+    bytes: &[u8],
+    most: usize,
+    first: &str,
+) -> Result<Option<Vec<u8>>, AllocError> {
+    let found = status_at(alloc, bytes, most)?;
+    if found.as_str() == first {
+        return Ok(None);
+    }
+    let told = format!(in alloc; "{first}, and {found} by {most}")?;
+    Ok(Some(told.into_bytes()))
 }
 
 /// `status BYTES`: what the request is answered, and how many bytes behind it are left unread, however many come a read.
@@ -41,45 +67,48 @@ pub fn status(alloc: Global, words: &[Vec<u8>]) -> Result<Vec<u8>, Unread> {
     let [bytes] = words else {
         return Err(Unread::BadWords);
     };
-    let first = status_at(alloc, bytes.as_slice(), 1)?;
+    let first = status_at(alloc, bytes, 1)?;
     for most in SIZES {
-        let found = status_at(alloc, bytes.as_slice(), most)?;
-        if found.as_str() != first.as_str() {
-            let (first, found) = (first.as_str(), found.as_str());
-            return said(
-                alloc,
-                format!(in alloc; "{first}, and {found} by {most}")?.as_str(),
-            );
+        if let Some(other) = other_status(alloc, bytes, most, &first)? {
+            return Ok(other);
         }
     }
-    said(alloc, first.as_str())
+    Ok(first.into_bytes())
 }
 
-/// A command with what it is to do.
-fn wanted_text(alloc: Global, wanted: &Wanted) -> Result<String, AllocError> {
+/// Adds a command with what it is to do.
+fn add_wanted(text: &mut String, wanted: &Wanted) -> Result<(), AllocError> {
     match wanted {
-        Wanted::Deliver { name, length } => format!(in alloc; "deliver {name:?} {length}"),
-        Wanted::Run => String::from_str(alloc, "run"),
-        Wanted::Copy { from, to, source } => format!(in alloc; "copy {from:?} {to:?} {source:?}"),
+        Wanted::Deliver { name, length } => write!(text, "deliver {name:?} {length}"),
+        Wanted::Run => text.push_str("run"),
+        Wanted::Copy { from, to, source } => write!(text, "copy {from:?} {to:?} {source:?}"),
         Wanted::Fetch { path, is_pool } => {
             let kind = if *is_pool { "pool" } else { "dists" };
-            format!(in alloc; "fetch {path:?} {kind}")
+            write!(text, "fetch {path:?} {kind}")
         }
-        Wanted::Waiting => String::from_str(alloc, "waiting"),
-        Wanted::Verdicts => String::from_str(alloc, "verdicts"),
-        Wanted::Remove { suite, name } => format!(in alloc; "remove {suite:?} {name:?}"),
+        Wanted::Waiting => text.push_str("waiting"),
+        Wanted::Verdicts => text.push_str("verdicts"),
+        Wanted::Remove { suite, name } => write!(text, "remove {suite:?} {name:?}"),
     }
 }
 
-/// The status of a refusal, and the method that is wanted in place of another.
-fn refusal_text(alloc: Global, refusal: Refusal) -> Result<String, AllocError> {
+/// Adds the status of a refusal, and the method that is wanted in place of another.
+fn add_refusal(text: &mut String, refusal: Refusal) -> Result<(), AllocError> {
     let status = refusal.status().as_u16();
     match refusal.into_allowed() {
         Some(method) => {
             let method = method.as_str();
-            format!(in alloc; "{status} {method}")
+            write!(text, "{status} {method}")
         }
-        None => format!(in alloc; "{status}"),
+        None => write!(text, "{status}"),
+    }
+}
+
+/// Adds what was read of a head.
+fn add_read(text: &mut String, read: Result<Wanted, Refusal>) -> Result<(), AllocError> {
+    match read {
+        Ok(wanted) => add_wanted(text, &wanted),
+        Err(refusal) => add_refusal(text, refusal),
     }
 }
 
@@ -88,9 +117,7 @@ pub fn wanted(alloc: Global, words: &[Vec<u8>]) -> Result<Vec<u8>, Unread> {
     let [head] = words else {
         return Err(Unread::BadWords);
     };
-    let text = match read_wanted(alloc, head.as_slice()) {
-        Ok(wanted) => wanted_text(alloc, &wanted)?,
-        Err(refusal) => refusal_text(alloc, refusal)?,
-    };
-    said(alloc, text.as_str())
+    let mut text = String::new(alloc);
+    add_read(&mut text, read_wanted(alloc, head))?;
+    Ok(text.into_bytes())
 }

@@ -1,5 +1,6 @@
 //! Requests and their replies.
 
+use crate::outcomes::printed;
 use crate::pieces::replace_pieces;
 use crate::readers::Pieces;
 use desk::{Served, answer};
@@ -38,7 +39,7 @@ pub fn reply_to<K: Keeper>(
             }
             Ok(writer)
         }
-        Err(fault) => said(alloc, fault.to_string(alloc)?.as_str()),
+        Err(fault) => printed(alloc, &fault),
     }
 }
 

@@ -1,9 +1,10 @@
 //! A story: an archive, and what is asked of it.
 
 use crate::drives::drive;
-use crate::failures::{cut, reader_fails, writer_fails};
+use crate::failures::{cut, writer_fails};
 use crate::keepers::Makes;
 use crate::numbers::numbers;
+use crate::outcomes::printed;
 use crate::reading::{status, wanted};
 use crate::requests::request;
 use crate::steps::{copy, deliver, has, moment_of, remove, run, show, verdicts, waiting};
@@ -30,8 +31,8 @@ fn asked_by_request<K: Keeper>(
 ) -> Result<Vec<u8>, Unread> {
     match verb {
         "request" => request(alloc, archive, words),
-        "cut" => cut(alloc, archive, words),
-        "reader-fails" => reader_fails(alloc, archive, words),
+        "cut" => cut(alloc, archive, words, false),
+        "reader-fails" => cut(alloc, archive, words, true),
         _ => Err(Unread::NoSuchQuestion),
     }
 }
@@ -58,81 +59,90 @@ pub fn asked<K: Keeper>(
     }
 }
 
-/// A keeper's fault as it is printed. Want of memory ends the file.
-fn keeper_text(alloc: Global, fault: KeepFault) -> Result<Vec<u8>, Unread> {
-    match fault {
-        KeepFault::OutOfMemory => Err(Unread::OutOfMemory),
-        fault => said(alloc, fault.to_string(alloc)?.as_str()),
+/// Has an archive over a keeper from here on, and says so; or none, and says why.
+fn keep<K: Keeper + Drop>(
+    alloc: Global,
+    archive: &mut Option<Archive<K>>,
+    keeper: Result<K, KeepFault>,
+    done: &str,
+) -> Result<Vec<u8>, Unread> {
+    match keeper {
+        Ok(keeper) => {
+            *archive = Some(Archive::new(keeper));
+            said(alloc, done)
+        }
+        Err(fault) => {
+            *archive = None;
+            printed(alloc, &fault)
+        }
     }
 }
 
-impl<K: Keeper + Drop, M: Makes<K>> Story<K, M> {
-    /// Has an archive over a keeper from here on, and says so; or none, and says why.
-    fn keep(
-        &mut self,
-        alloc: Global,
-        keeper: Result<K, KeepFault>,
-        done: &str,
-    ) -> Result<Vec<u8>, Unread> {
-        match keeper {
-            Ok(keeper) => {
-                self.archive = Some(Archive::new(keeper));
-                said(alloc, done)
-            }
-            Err(fault) => {
-                self.archive = None;
-                keeper_text(alloc, fault)
-            }
-        }
+/// `archive CONFIG [MOMENT]`: `made`, or why there is no archive. With no moment it is made at 0.
+fn make<K: Keeper + Drop, M: Makes<K>>(
+    alloc: Global,
+    archive: &mut Option<Archive<K>>,
+    words: &[Vec<u8>],
+) -> Result<Vec<u8>, Unread> {
+    let Some((text, rest)) = words.split_first() else {
+        return Err(Unread::BadWords);
+    };
+    let moment = moment_of(rest)?;
+    if moment > LATEST {
+        return Err(Unread::BadWords);
     }
-
-    /// `archive CONFIG [MOMENT]`: `made`, or why there is no archive. With no moment it is made at 0.
-    fn make(&mut self, alloc: Global, words: &[Vec<u8>]) -> Result<Vec<u8>, Unread> {
-        let Some((text, rest)) = words.split_first() else {
-            return Err(Unread::BadWords);
-        };
-        let moment = moment_of(rest)?;
-        if moment > LATEST {
-            return Err(Unread::BadWords);
-        }
-        match Config::read(alloc, text.as_slice()) {
-            Ok(config) => self.keep(alloc, M::made(alloc, config, moment), "made"),
-            Err(fault) => said(alloc, fault.to_string(alloc)?.as_str()),
-        }
+    match Config::read(alloc, text) {
+        Ok(config) => keep(alloc, archive, M::made(alloc, config, moment), "made"),
+        Err(fault) => printed(alloc, &fault),
     }
+}
 
-    /// `reopen`: the archive is closed and opened again; `opened`, or why it is not.
-    fn reopen(&mut self, alloc: Global) -> Result<Vec<u8>, Unread> {
-        match self.archive.take() {
-            Some(archive) => {
-                let keeper = M::reopened(alloc, archive.into_keeper());
-                self.keep(alloc, keeper, "opened")
-            }
-            None => Err(Unread::BadWords),
-        }
+/// `reopen`: the archive is closed and opened again; `opened`, or why it is not.
+fn reopen<K: Keeper + Drop, M: Makes<K>>(
+    alloc: Global,
+    archive: &mut Option<Archive<K>>,
+) -> Result<Vec<u8>, Unread> {
+    match archive.take() {
+        Some(old) => keep(
+            alloc,
+            archive,
+            M::reopened(alloc, old.into_keeper()),
+            "opened",
+        ),
+        None => Err(Unread::BadWords),
     }
+}
 
-    /// What the archive answers, which is there.
-    fn ask(&mut self, alloc: Global, verb: &str, words: &[Vec<u8>]) -> Result<Vec<u8>, Unread> {
-        match &mut self.archive {
-            Some(archive) if verb == "writer-fails" => {
-                writer_fails::<K, M>(alloc, archive.keeper.config().text(), words)
-            }
-            Some(archive) => asked(alloc, archive, verb, words),
-            None => Err(Unread::BadWords),
-        }
+/// What the archive answers, which is there.
+fn ask<K: Keeper + Drop, M: Makes<K>>(
+    alloc: Global,
+    archive: &mut Option<Archive<K>>,
+    verb: &str,
+    words: &[Vec<u8>],
+) -> Result<Vec<u8>, Unread> {
+    let Some(archive) = archive else {
+        return Err(Unread::BadWords);
+    };
+    match verb {
+        "writer-fails" => writer_fails::<K, M>(alloc, archive.keeper.config().text(), words),
+        _ => asked(alloc, archive, verb, words),
     }
+}
 
-    /// Does a row.
-    fn tell(&mut self, alloc: Global, verb: &str, words: &[Vec<u8>]) -> Result<Vec<u8>, Unread> {
-        match verb {
-            "archive" => self.make(alloc, words),
-            "reopen" => self.reopen(alloc),
-            "status" => status(alloc, words),
-            "wanted" => wanted(alloc, words),
-            "numbers" => numbers(alloc, words),
-            verb => self.ask(alloc, verb, words),
-        }
+/// Does a row.
+fn tell<K: Keeper + Drop, M: Makes<K>>(
+    alloc: Global,
+    archive: &mut Option<Archive<K>>,
+    verb: &str,
+    words: &[Vec<u8>],
+) -> Result<Vec<u8>, Unread> {
+    match verb {
+        "archive" => make::<K, M>(alloc, archive, words),
+        "reopen" => reopen::<K, M>(alloc, archive),
+        "status" => status(alloc, words),
+        "wanted" => wanted(alloc, words),
+        "numbers" => numbers(alloc, words),
+        verb => ask::<K, M>(alloc, archive, verb, words),
     }
 }
 
@@ -145,9 +155,11 @@ impl<K: Keeper + Drop, M: Makes<K>, R: AllocGlobal> Answers<R> for Story<K, M> {
     }
 
     fn answer(&mut self, rt: &R, words: &[Vec<u8>]) -> Result<Vec<u8>, Unread> {
-        let Some((verb, words)) = words.split_first() else {
-            return Err(Unread::BadWords);
-        };
-        self.tell(rt.alloc(), text_of(verb)?, words)
+        match words {
+            [verb, words @ ..] => {
+                tell::<K, M>(rt.alloc(), &mut self.archive, text_of(verb)?, words)
+            }
+            [] => Err(Unread::BadWords),
+        }
     }
 }
