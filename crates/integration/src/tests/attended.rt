@@ -99,6 +99,11 @@ fn connections_of(
     Ok(connections)
 }
 
+/// Checks a whole reply.
+fn expect_reply(rt: &impl Abort, found: &[u8], wanted: &[u8]) {
+    same(rt, &found, &wanted);
+}
+
 /// Answers the requests of rows over connections, one after the other, and checks their replies.
 fn expect_rows<K: Keeper>(
     rt: &impl Abort,
@@ -109,7 +114,7 @@ fn expect_rows<K: Keeper>(
     let mut connections = connections_of(alloc, rows)?;
     attend(alloc, archive, connections.as_mut_slice());
     for (connection, row) in connections.iter().zip(rows) {
-        same(rt, &connection.writer.as_slice(), &row.1);
+        expect_reply(rt, connection.writer.as_slice(), row.1);
     }
     Ok(())
 }
