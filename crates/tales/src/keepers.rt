@@ -6,8 +6,8 @@ use keep::{KeepFault, LATEST, PlainKeeper};
 use keep_open::open;
 use keep_tables::TableKeeper;
 use rules::Config;
-use sqlite::{Connection, MemStore};
-use std::alloc::Global;
+use sqlite::{Alter, Connection, MemStore};
+use std::alloc::{AllocError, Global};
 use story::{Makes, Story};
 
 /// A story over a plain keeper.
@@ -32,15 +32,27 @@ impl Makes<PlainKeeper> for Lists {
     }
 }
 
-/// Makes keepers over tables in memory. Stories have these from here alone, since each function that names them takes the prover long.
+/// A store of a database in memory. Only what opens it names its type, since each function that does takes the prover long.
+pub trait InMemory: Alter {
+    /// A connection to a new database.
+    fn connect(alloc: Global) -> Result<Connection<Self>, AllocError>;
+}
+
+impl InMemory for MemStore {
+    fn connect(alloc: Global) -> Result<Connection<MemStore>, AllocError> {
+        Connection::open_in_memory(alloc)
+    }
+}
+
+/// Makes keepers over tables in memory.
 #[derive(Clone, Copy)]
 pub struct Tables;
 
-impl Makes<TableKeeper<MemStore>> for Tables {
-    fn made(alloc: Global, config: Config, moment: u64) -> Result<TableKeeper<MemStore>, KeepFault>
+impl<S: InMemory + Drop> Makes<TableKeeper<S>> for Tables {
+    fn made(alloc: Global, config: Config, moment: u64) -> Result<TableKeeper<S>, KeepFault>
         requires { moment ≤ LATEST }
     {
-        let Ok(connection) = Connection::open_in_memory(alloc) else {
+        let Ok(connection) = S::connect(alloc) else {
             return Err(KeepFault::OutOfMemory);
         };
         match TableKeeper::create(alloc, connection, config, moment) {
@@ -49,10 +61,7 @@ impl Makes<TableKeeper<MemStore>> for Tables {
         }
     }
 
-    fn reopened(
-        alloc: Global,
-        keeper: TableKeeper<MemStore>,
-    ) -> Result<TableKeeper<MemStore>, KeepFault> {
+    fn reopened(alloc: Global, keeper: TableKeeper<S>) -> Result<TableKeeper<S>, KeepFault> {
         match open(alloc, keeper.into_connection()) {
             Ok(keeper) => Ok(keeper),
             Err((_, fault)) => Err(fault),
