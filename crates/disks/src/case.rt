@@ -1,22 +1,21 @@
 //! An archive in files in memory, and what is asked of it.
 
-use crate::broken::{Broken, Kind};
-use crate::edits::{changed, in_transaction};
+use crate::failing::Kind;
+use crate::image::Image;
 use crate::interrupted::interrupted;
-use crate::observed::Observed;
-use crate::pair::{Which, copied, no_files};
-use crate::steps::{Doing, Step};
-use crate::tampered::{counted, front, opening, opening_of, tampered, without_end};
-use crate::tasks::{Begin, Left, Task, done, reopened, told_fault};
+use crate::steps::{Step, paths_of};
+use crate::tampered::{changed, front, opening, opening_of, tampered, without_end};
+use crate::task::{Question, Task};
+use crate::trial::{Plan, SOUND, Which, done};
+use crate::work::{Pieces, Work, told_fault, word_or_fault};
 use keep::KeepFault;
-use rows::{Answers, Unread, number_of, said, text_of};
-use sqlite::Files;
+use rows::{Answers, Unread, said, text_of};
 use std::alloc::Global;
 
 /// The files of an archive, which is opened for each step.
 #[derive(Drop)]
 pub struct Case {
-    files: Files<Broken>,
+    image: Image,
 }
 
 /// Which of the two files a word names.
@@ -38,60 +37,118 @@ fn kind_of(word: &Vec<u8>) -> Result<Kind, Unread> {
     }
 }
 
-/// What was answered, or the fault where there was no archive.
-fn told(alloc: Global, answer: Result<Vec<u8>, KeepFault>) -> Result<Vec<u8>, Unread> {
+/// What was told, or the fault where there was no archive or no database.
+fn told(alloc: Global, answer: Result<Pieces, KeepFault>) -> Result<Vec<u8>, Unread> {
     match answer {
-        Ok(text) => Ok(text),
+        Ok(pieces) => Ok(pieces.as_slice().concat(alloc)?),
         Err(fault) => told_fault(alloc, fault),
     }
 }
 
-impl Case {
-    /// The files, with none in their place.
-    fn take(&mut self, alloc: Global) -> Files<Broken> {
-        std::mem::replace(&mut self.files, no_files(alloc))
-    }
+/// `interrupted FILE HOW STEP..`: what becomes of a step while one of the files fails.
+fn interrupted_by(alloc: Global, image: &Image, words: &[Vec<u8>]) -> Result<Vec<u8>, Unread> {
+    let [which, kind, step @ ..] = words else {
+        return Err(Unread::BadWords);
+    };
+    let plan = Plan {
+        which: which_of(which)?,
+        kind: kind_of(kind)?,
+        calls: u64::MAX,
+    };
+    interrupted(alloc, image, plan, Step::read(alloc, step)?)
+}
 
-    /// Does a task with the archive in the files.
-    fn with<T: Task>(
+/// `observed`: all that an archive shows.
+fn observed(alloc: Global, image: &Image) -> Result<Vec<u8>, Unread> {
+    let paths = paths_of(alloc, image)?;
+    let question = Question {
+        words: &[],
+        paths: paths.as_slice(),
+        right: &[],
+    };
+    let left = done(alloc, image, SOUND, Work::Open(Task::Tell(question)))?;
+    told(alloc, left.answer)
+}
+
+/// `count QUERY`: how many rows a query answers.
+fn counted(alloc: Global, image: &Image, query: &Vec<u8>) -> Result<Vec<u8>, Unread> {
+    let left = done(alloc, image, SOUND, Work::Count(text_of(query)?))?;
+    if left.answer.is_err() {
+        return said(alloc, "not run");
+    }
+    told(alloc, left.answer)
+}
+
+/// `transaction`: what an opening makes of the database in a transaction, and behind its end.
+fn in_transaction(alloc: Global, image: &Image) -> Result<Vec<u8>, Unread> {
+    told(alloc, done(alloc, image, SOUND, Work::OpenTwice)?.answer)
+}
+
+impl Case {
+    /// Works with the files.
+    fn works(
         &mut self,
         alloc: Global,
-        begin: Begin<'_>,
-        task: &T,
-    ) -> Result<Result<T::Answer, KeepFault>, Unread> {
-        let Left { files, answer } = done(alloc, self.take(alloc), begin, task)?;
-        self.files = files;
-        Ok(answer)
+        work: Work<'_>,
+    ) -> Result<Result<Pieces, KeepFault>, Unread> {
+        let left = done(alloc, &self.image, SOUND, work)?;
+        self.image = left.stood;
+        Ok(left.answer)
     }
 
     /// Does a step.
     fn step(&mut self, alloc: Global, step: Step<'_>) -> Result<Vec<u8>, Unread> {
-        let answer = self.with(alloc, step.begin(), &Doing { step })?;
-        match (step, answer) {
-            (Step::Create(_), Ok(_)) => said(alloc, "made"),
-            (Step::Open, Ok(_)) => said(alloc, "opened"),
-            (_, answer) => told(alloc, answer),
+        let work = step.work(Task::Ask(step.question(&[], &[])));
+        let answer = self.works(alloc, work)?;
+        if step.config.is_some() {
+            return word_or_fault(alloc, "made", &answer);
         }
+        if step.words.is_empty() {
+            return word_or_fault(alloc, "opened", &answer);
+        }
+        told(alloc, answer)
+    }
+
+    /// `archive CONFIGURATION`: makes an archive in empty files.
+    fn found(&mut self, alloc: Global, config: &[u8]) -> Result<Vec<u8>, Unread> {
+        self.image = Image::empty(alloc);
+        self.step(alloc, Step::making(alloc, config)?)
     }
 
     /// `reopen`: opens the archive, and copies the log into the database file.
     fn reopen(&mut self, alloc: Global) -> Result<Vec<u8>, Unread> {
-        let Left { files, answer } = reopened(alloc, self.take(alloc));
-        self.files = files;
-        match answer {
-            Ok(()) => said(alloc, "opened"),
-            Err(fault) => told_fault(alloc, fault),
-        }
+        let answer = self.works(alloc, Work::Reopen)?;
+        word_or_fault(alloc, "opened", &answer)
     }
 
     /// `changed SQL..`: runs lists of statements past the archive, and says what an opening makes of the files then.
     fn change(&mut self, alloc: Global, lists: &[Vec<u8>]) -> Result<Vec<u8>, Unread> {
-        match changed(alloc, copied(alloc, &self.files)?, lists)? {
-            Some(files) => {
-                self.files = files;
-                opening(alloc, &self.files)
+        match changed(alloc, &self.image, lists)? {
+            Some(image) => {
+                self.image = image;
+                opening(alloc, &self.image)
             }
             None => said(alloc, "not run"),
+        }
+    }
+
+    /// What is answered to words that change the files.
+    fn changing(
+        &mut self,
+        alloc: Global,
+        verb: &str,
+        words: &[Vec<u8>],
+        all: &[Vec<u8>],
+    ) -> Result<Vec<u8>, Unread> {
+        match (verb, words) {
+            ("archive", [config]) => self.found(alloc, config.as_slice()),
+            ("empty", []) => {
+                self.image = Image::empty(alloc);
+                said(alloc, "empty")
+            }
+            ("reopen", []) => self.reopen(alloc),
+            ("changed", lists) => self.change(alloc, lists),
+            (_, _) => self.step(alloc, Step::read(alloc, all)?),
         }
     }
 }
@@ -99,43 +156,25 @@ impl Case {
 impl<R: AllocGlobal> Answers<R> for Case {
     fn fresh(rt: &R) -> Case {
         Case {
-            files: no_files(rt.alloc()),
+            image: Image::empty(rt.alloc()),
         }
     }
 
     fn answer(&mut self, rt: &R, words: &[Vec<u8>]) -> Result<Vec<u8>, Unread> {
-        let alloc = rt.alloc();
-        let Some((verb, words)) = words.split_first() else {
+        let (alloc, image) = (rt.alloc(), &self.image);
+        let Some((verb, rest)) = words.split_first() else {
             return Err(Unread::BadWords);
         };
-        match (text_of(verb)?, words) {
-            ("archive", [config]) => {
-                self.files = no_files(alloc);
-                self.step(alloc, Step::Create(config.as_slice()))
-            }
-            ("empty", []) => {
-                self.files = no_files(alloc);
-                said(alloc, "empty")
-            }
-            ("reopen", []) => self.reopen(alloc),
-            ("observed", []) => {
-                let answer = self.with(alloc, Begin::Opening, &Observed)?;
-                told(alloc, answer)
-            }
-            ("interrupted", [file, kind, step @ ..]) => {
-                let (which, kind) = (which_of(file)?, kind_of(kind)?);
-                interrupted(alloc, &self.files, which, kind, Step::read(step)?)
-            }
-            ("tampered", lists) => tampered(alloc, &self.files, lists),
-            ("changed", lists) => self.change(alloc, lists),
-            ("transaction", []) => in_transaction(alloc, copied(alloc, &self.files)?),
-            ("count", [query]) => counted(alloc, &self.files, text_of(query)?),
+        match (text_of(verb)?, rest) {
+            ("observed", []) => observed(alloc, image),
+            ("interrupted", words) => interrupted_by(alloc, image, words),
+            ("tampered", lists) => tampered(alloc, image, lists),
+            ("transaction", []) => in_transaction(alloc, image),
+            ("count", [query]) => counted(alloc, image, query),
             ("opens", [bytes]) => opening_of(alloc, bytes.as_slice()),
-            ("front", [count]) => front(alloc, &self.files, number_of(count)?),
-            ("without-end", [count]) => without_end(alloc, &self.files, number_of(count)?),
-            ("create", [config]) => self.step(alloc, Step::Create(config.as_slice())),
-            ("open", []) => self.step(alloc, Step::Open),
-            (verb, words) => self.step(alloc, Step::Ask(verb, words)),
+            ("front", [count]) => front(alloc, image.database.as_slice(), count),
+            ("without-end", [count]) => without_end(alloc, image.database.as_slice(), count),
+            (verb, rest) => self.changing(alloc, verb, rest, words),
         }
     }
 }

@@ -1,45 +1,106 @@
-//! A disk of which a call fails, or each one from a call on.
+//! A disk that stops, fails or is full.
 
-ghost use Rattle.std.specs.Prelude.{◌≡◌, ◌+◌, ◌&&◌, not, false};
-ghost use Rattle.sqlite_disk.specs.Disk.{CountsFault};
+ghost use Rattle.std.specs.Prelude.{◌≡◌, ◌+◌, ◌&&◌, not, false, MatchBool};
+ghost use Rattle.sqlite_disk.specs.Disk.{CountsFault, MoreFaults};
 ghost use Rattle.sqlite_disk.specs.Refusal.{finds_no_room};
+ghost use Rattle.sqlite_disk.specs.Tally.{both_counts};
 
-use sqlite_disk::{Crash, Disk, Tally};
+use sqlite_disk::{Disk, Tally};
 use std::io;
 
-/// A disk that passes so many calls on, and fails one, or that one and each one after.
-#[derive(Drop)]
-pub struct Failing<D: Disk> {
-    pub inner: D,
-    /// How many calls it passes on before one fails; nothing where none will.
-    pub calls_left: Option<u64>,
-    /// Whether it stops, and each call after fails, too.
-    pub stops: bool,
-    /// How many calls have failed.
-    pub refused: u64,
-    pub sync_refused: bool,
-    pub read_refused: bool,
+/// How a disk fails.
+#[derive(Clone, Copy)]
+pub enum Kind {
+    /// Each call from one on fails.
+    Stops,
+    /// One call fails.
+    Fails,
+    /// Each write from one on finds no room.
+    Full,
 }
 
-/// Counts a call, or refuses it.
-fn count(calls_left: &mut Option<u64>, stops: bool, refused: &mut u64) -> io::Result<()>
-    ensures faults { CountsFault result refused.old refused.new }
+/// A disk that passes so many calls on before it fails; where it is to be full, writes alone count.
+pub struct Failing<D: Disk> {
+    pub inner: D,
+    pub kind: Kind,
+    pub calls_left: u64,
+    /// How many calls have failed, and how many of them found no room.
+    pub failed: u64,
+    pub refused: u64,
+    pub sync_failed: bool,
+    pub read_failed: bool,
+}
+
+// It is written out, so that a caller does not prove again how each part is dropped.
+impl<D: Disk + Drop> Drop for Failing<D> {
+    fn drop(self) {
+        let Failing {
+            inner: _,
+            kind: _,
+            calls_left: _,
+            failed: _,
+            refused: _,
+            sync_failed: _,
+            read_failed: _,
+        } = self;
+    }
+}
+
+/// Counts a call that is no write, or lets it fail.
+fn count(kind: Kind, calls_left: &mut u64, failed: &mut u64) -> io::Result<()>
+    ensures faults { CountsFault result failed.old failed.new }
     ensures kind { finds_no_room result ≡ false }
 {
-    match *calls_left {
-        Some(0) => {
-            if !stops {
-                *calls_left = None;
-            }
-            *refused = refused.saturating_add(1);
-            Err(io::Error::other("the call fails"))
-        }
-        Some(calls) => {
-            *calls_left = Some(calls - 1);
-            Ok(())
-        }
-        None => Ok(()),
+    if matches!(kind, Kind::Full) {
+        return Ok(());
     }
+    if *calls_left > 0 {
+        *calls_left -= 1;
+        return Ok(());
+    }
+    if matches!(kind, Kind::Fails) {
+        *calls_left = u64::MAX;
+    }
+    *failed = failed.saturating_add(1);
+    Err(io::Error::other("the call fails"))
+}
+
+/// Counts a read, or lets it fail.
+fn count_read(
+    kind: Kind,
+    calls_left: &mut u64,
+    failed: &mut u64,
+    read_failed: &mut bool,
+) -> io::Result<()>
+    ensures faults { CountsFault result failed.old failed.new }
+{
+    let counted = count(kind, calls_left, failed);
+    if counted.is_err() {
+        *read_failed = true;
+    }
+    counted
+}
+
+/// Counts a write, lets it fail, or finds no room for it.
+fn count_write(
+    kind: Kind,
+    calls_left: &mut u64,
+    failed: &mut u64,
+    refused: &mut u64,
+) -> io::Result<()>
+    ensures faults { CountsFault result failed.old failed.new }
+    ensures room { MatchBool (finds_no_room result) (MoreFaults refused.old refused.new) (refused.new ≡ refused.old) }
+{
+    if !matches!(kind, Kind::Full) {
+        return count(kind, calls_left, failed);
+    }
+    if *calls_left > 0 {
+        *calls_left -= 1;
+        return Ok(());
+    }
+    *failed = failed.saturating_add(1);
+    *refused = refused.saturating_add(1);
+    Err(io::ErrorKind::StorageFull.into())
 }
 
 impl<D: Disk> Disk for Failing<D> {
@@ -47,11 +108,11 @@ impl<D: Disk> Disk for Failing<D> {
 
     ghost may_leave = { λ f. D.Disk.may_leave f.inner };
 
-    ghost is_usable = { λ f. D.Disk.is_usable f.inner && not f.sync_refused };
+    ghost is_usable = { λ f. D.Disk.is_usable f.inner && not f.sync_failed };
 
-    ghost faults = { λ f. D.Disk.faults f.inner + f.refused };
+    ghost faults = { λ f. D.Disk.faults f.inner + f.failed };
 
-    ghost tally_of = { λ f. D.Disk.tally_of f.inner };
+    ghost tally_of = { λ f. both_counts (D.Disk.tally_of f.inner) (record { caught = 0; refused = f.refused }) };
 
     ghost is_rotten = { λ f. D.Disk.is_rotten f.inner };
 
@@ -76,61 +137,71 @@ impl<D: Disk> Disk for Failing<D> {
     }
 
     fn tally(&self) -> Tally {
-        self.inner.tally()
+        self.inner.tally().plus(Tally {
+            caught: 0,
+            refused: self.refused,
+        })
     }
 
     fn may_be_used(&self) -> bool {
-        self.inner.may_be_used() && !self.sync_refused
+        self.inner.may_be_used() && !self.sync_failed
     }
 
     fn len(&mut self) -> io::Result<usize> {
-        if let Err(error) = count(&mut self.calls_left, self.stops, &mut self.refused) {
-            self.read_refused = true;
-            return Err(error);
-        }
+        count_read(
+            self.kind,
+            &mut self.calls_left,
+            &mut self.failed,
+            &mut self.read_failed,
+        )?;
         self.inner.len()
     }
 
     fn read_at(&mut self, at: usize, buf: &mut [u8]) -> io::Result<()> {
-        if let Err(error) = count(&mut self.calls_left, self.stops, &mut self.refused) {
-            self.read_refused = true;
-            return Err(error);
-        }
+        count_read(
+            self.kind,
+            &mut self.calls_left,
+            &mut self.failed,
+            &mut self.read_failed,
+        )?;
         self.inner.read_at(at, buf)
     }
 
     fn read_checked(&mut self, key: u64, want: u64, at: usize, buf: &mut [u8]) -> io::Result<()> {
-        if let Err(error) = count(&mut self.calls_left, self.stops, &mut self.refused) {
-            self.read_refused = true;
-            return Err(error);
-        }
+        count_read(
+            self.kind,
+            &mut self.calls_left,
+            &mut self.failed,
+            &mut self.read_failed,
+        )?;
         self.inner.read_checked(key, want, at, buf)
     }
 
     fn write_at(&mut self, at: usize, bytes: &[u8]) -> io::Result<()> {
-        count(&mut self.calls_left, self.stops, &mut self.refused)?;
+        count_write(
+            self.kind,
+            &mut self.calls_left,
+            &mut self.failed,
+            &mut self.refused,
+        )?;
         self.inner.write_at(at, bytes)
     }
 
     fn set_len(&mut self, len: usize) -> io::Result<()> {
-        count(&mut self.calls_left, self.stops, &mut self.refused)?;
+        count_write(
+            self.kind,
+            &mut self.calls_left,
+            &mut self.failed,
+            &mut self.refused,
+        )?;
         self.inner.set_len(len)
     }
 
     fn sync(&mut self) -> io::Result<()> {
-        if let Err(error) = count(&mut self.calls_left, self.stops, &mut self.refused) {
-            self.sync_refused = true;
+        if let Err(error) = count(self.kind, &mut self.calls_left, &mut self.failed) {
+            self.sync_failed = true;
             return Err(error);
         }
         self.inner.sync()
-    }
-}
-
-/// The machine comes back with a disk that works.
-impl<D: Crash> Crash for Failing<D> {
-    fn crash(&mut self) {
-        self.inner.crash();
-        self.calls_left = None;
-        self.sync_refused = false;
     }
 }

@@ -1,35 +1,58 @@
 //! A step that is done while a disk stops, fails or is full.
 
-use crate::account::Told;
-use crate::attempt::{Attempt, Outcome};
-use crate::broken::{Broken, Kind, held};
-use crate::observed::{Paths, add_paths};
-use crate::pair::{
-    Which, calls_of, copied, crashed, failing_copies, have_failed, have_failed_a_read,
-};
-use crate::steps::{Doing, Step, told_of};
-use crate::tasks::{Begin, Left, Nothing, done, told_fault};
+use crate::account::{REFUSED, are_refused, difference, is_answer, is_like};
+use crate::failing::Kind;
+use crate::image::Image;
+use crate::steps::{Step, paths_of, told_of};
+use crate::task::{Task, add_paths};
+use crate::trial::{Left, Plan, SOUND, done};
+use crate::work::{Pieces, Work, told_fault};
 use keep::KeepFault;
 use rows::{Unread, said};
-use sqlite::Files;
-use std::alloc::{AllocError, Global};
+use std::alloc::Global;
 
 /// More calls than any step here makes of a file.
 const MOST_CALLS: u64 = 4000;
 
 /// A step that is interrupted, and what is wanted of it.
-#[derive(Drop)]
 struct Interruption<'a> {
-    before: &'a Files<Broken>,
-    which: Which,
-    kind: Kind,
+    before: &'a Image,
+    plan: Plan,
     step: Step<'a>,
-    paths: Vec<String>,
-    /// What the step answers; where it is to make an archive or to open one, and can't, the fault.
-    right: Result<Vec<u8>, KeepFault>,
+    paths: Pieces,
+    /// What the step answers; or where it is to make an archive or to open one, and can't, the fault.
+    answer: Result<Pieces, KeepFault>,
     /// What is told of the step where it was not done before, and where it was.
-    undone: Told,
-    done: Told,
+    undone: Pieces,
+    done: Pieces,
+}
+
+// It is written out, so that a caller does not prove again how each part is dropped.
+impl Drop for Interruption<'_> {
+    fn drop(self) {
+        let Interruption {
+            before: _,
+            plan: _,
+            step: _,
+            paths: _,
+            answer: _,
+            undone: _,
+            done: _,
+        } = self;
+    }
+}
+
+/// What came of a step.
+#[derive(Clone, Copy)]
+enum Outcome {
+    /// It was done, at once or when it was given again.
+    Done,
+    /// It was refused, all of it or some, and may have been done or not.
+    Refused,
+    /// There was no archive to do it with.
+    Unopened,
+    /// What should not be.
+    Otherwise,
 }
 
 /// What was found behind a number of calls.
@@ -46,181 +69,186 @@ enum Found {
 }
 
 /// What files told last. Files that hold the same tell the same, and are not opened again.
-#[derive(Drop)]
 struct Last {
-    files: Files<Broken>,
-    told: Told,
+    image: Image,
+    /// Nothing where they have not told yet.
+    told: Pieces,
+}
+
+// It is written out, so that a caller does not prove again how each part is dropped.
+impl Drop for Last {
+    fn drop(self) {
+        let Last { image: _, told: _ } = self;
+    }
 }
 
 impl Last {
-    /// That files told this.
-    fn new(alloc: Global, files: &Files<Broken>, told: &Told) -> Result<Last, AllocError> {
-        Ok(Last {
-            files: copied(alloc, files)?,
-            told: told.copy(alloc)?,
-        })
+    /// Files that have not told yet.
+    fn new(alloc: Global) -> Last {
+        Last {
+            image: Image::empty(alloc),
+            told: Vec::new(alloc),
+        }
+    }
+
+    /// Whether files told, and held the same.
+    fn is_of(&self, image: &Image) -> bool {
+        let is_same_log = self.image.log.as_slice() == image.log.as_slice();
+        let is_same_database = self.image.database.as_slice() == image.database.as_slice();
+        is_same_log && is_same_database && !self.told.is_empty()
     }
 
     /// Has files tell, where they hold something else.
     fn tell(
         &mut self,
         alloc: Global,
-        files: Files<Broken>,
+        image: Image,
         interruption: &Interruption<'_>,
     ) -> Result<(), Unread> {
-        let is_same_log = held(&files.log) == held(&self.files.log);
-        let is_same_database = held(&files.db) == held(&self.files.db);
-        if is_same_log && is_same_database {
-            return Ok(());
+        if !self.is_of(&image) {
+            let paths = interruption.paths.as_slice();
+            self.told = told_of(alloc, &image, interruption.step, paths)?;
+            self.image = image;
         }
-        self.files = copied(alloc, &files)?;
-        let paths = interruption.paths.as_slice();
-        self.told = told_of(alloc, files, interruption.step, paths)?;
         Ok(())
     }
 }
 
 /// What was told last of files as they stood, and as a crash left them.
-#[derive(Drop)]
 struct Remains {
     stood: Last,
     crashed: Last,
 }
 
-impl Remains {
-    /// That files told this, as they stood and as a crash left them.
-    fn new(alloc: Global, files: &Files<Broken>, told: &Told) -> Result<Remains, AllocError> {
-        let stood = Last::new(alloc, files, told)?;
-        let crashed = Last::new(alloc, files, told)?;
-        Ok(Remains { stood, crashed })
-    }
-
-    /// Has files tell, as they stand and as a crash of the machine leaves them.
-    fn tell(
-        &mut self,
-        alloc: Global,
-        files: Files<Broken>,
-        interruption: &Interruption<'_>,
-    ) -> Result<(), Unread> {
-        self.stood
-            .tell(alloc, copied(alloc, &files)?, interruption)?;
-        self.crashed
-            .tell(alloc, crashed(alloc, files)?, interruption)
+// It is written out, so that a caller does not prove again how each part is dropped.
+impl Drop for Remains {
+    fn drop(self) {
+        let Remains {
+            stood: _,
+            crashed: _,
+        } = self;
     }
 }
 
-/// The paths of the archive in files; none where there is no archive.
-fn paths_of(alloc: Global, files: &Files<Broken>) -> Result<Vec<String>, Unread> {
-    let Left { files: _, answer } = done(alloc, copied(alloc, files)?, Begin::Opening, &Paths)?;
-    match answer {
-        Ok(paths) => Ok(paths),
-        Err(_) => Ok(Vec::new(alloc)),
-    }
-}
-
-/// Something that should not be, with a note.
-fn noted(alloc: Global, note: &str, text: &[u8]) -> Result<Found, Unread> {
-    let mut line = said(alloc, note)?;
-    line.extend_from_slice(b": ")?;
-    line.extend_from_slice(text)?;
-    Ok(Found::Otherwise(line))
+/// The paths of the archive before a step and of the one behind it.
+fn all_paths(alloc: Global, before: &Image, behind: &Image) -> Result<Pieces, Unread> {
+    let mut paths = paths_of(alloc, before)?;
+    let more = paths_of(alloc, behind)?;
+    add_paths(alloc, more.as_slice(), &mut paths)?;
+    Ok(paths)
 }
 
 impl<'a> Interruption<'a> {
-    /// Does the step on copies of the files, with disks that work, to see what is wanted of it.
+    /// Does the step with disks that work, to see what is wanted of it.
     fn new(
         alloc: Global,
-        before: &'a Files<Broken>,
-        which: Which,
-        kind: Kind,
+        before: &'a Image,
+        plan: Plan,
         step: Step<'a>,
     ) -> Result<Interruption<'a>, Unread> {
-        let left = done(alloc, copied(alloc, before)?, step.begin(), &Doing { step })?;
-        let mut paths = paths_of(alloc, before)?;
-        add_paths(alloc, paths_of(alloc, &left.files)?.as_slice(), &mut paths)?;
-        let undone = told_of(alloc, copied(alloc, before)?, step, paths.as_slice())?;
-        let done = told_of(alloc, left.files, step, paths.as_slice())?;
+        let work = step.work(Task::Ask(step.question(&[], &[])));
+        let left = done(alloc, before, SOUND, work)?;
+        let paths = all_paths(alloc, before, &left.stood)?;
+        let undone = told_of(alloc, before, step, paths.as_slice())?;
+        let done = told_of(alloc, &left.stood, step, paths.as_slice())?;
         Ok(Interruption {
             before,
-            which,
-            kind,
+            plan,
             step,
             paths,
-            right: left.answer,
+            answer: left.answer,
             undone,
             done,
         })
     }
 
-    /// What is done with the archive in files of which one fails.
-    fn attempt(&self) -> Attempt<'_> {
-        Attempt {
-            step: self.step,
-            paths: self.paths.as_slice(),
-            right: match &self.right {
-                Ok(right) => right.as_slice(),
-                Err(_) => b"",
-            },
-            undone: &self.undone,
-            done: &self.done,
+    /// The right answer of the step, where there is one.
+    fn right(&self) -> &[Vec<u8>] {
+        match &self.answer {
+            Ok(right) => right.as_slice(),
+            Err(_) => &[],
         }
     }
 
-    /// What came of the step, where the archive was not opened or made.
-    fn unopened(&self, alloc: Global, fault: KeepFault) -> Result<Outcome, Unread> {
-        match &self.right {
-            Err(right) if *right == fault => Ok(Outcome::Done),
-            _ if fault == KeepFault::Disk => Ok(Outcome::Unopened),
-            _ => Ok(Outcome::Otherwise(told_fault(alloc, fault)?)),
+    /// Whether an archive may refuse all or some behind a step that was refused: where one call alone fails, all or nothing, and
+    /// nothing where that was to read.
+    fn may_refuse(&self, left: &Left, is_all: bool) -> bool {
+        match self.plan.kind {
+            Kind::Fails => left.has_failed && is_all && !left.has_failed_a_read,
+            Kind::Stops | Kind::Full => left.has_failed,
+        }
+    }
+
+    /// What came of the step by what the archive told that refused it, where another would tell this.
+    fn outcome_by(&self, left: &Left, found: &[Vec<u8>], wanted: &[Vec<u8>]) -> Outcome {
+        if found == wanted {
+            return Outcome::Done;
+        }
+        if !is_like(found, wanted) || !self.may_refuse(left, are_refused(found)) {
+            return Outcome::Otherwise;
+        }
+        if is_answer(found, wanted) {
+            return Outcome::Done;
+        }
+        Outcome::Refused
+    }
+
+    /// What came of the step by what the archive told, and answered last. Where it refused the step, it was asked again: the step was
+    /// not done then, and is now, or is refused again. Of a list of commands that was refused in part, the part that was not may have
+    /// been done.
+    fn outcome_of(&self, left: &Left, pieces: &[Vec<u8>]) -> Outcome {
+        if pieces == self.right() {
+            return Outcome::Done;
+        }
+        let Some((answer, told)) = pieces.split_last() else {
+            return Outcome::Otherwise;
+        };
+        match self.outcome_by(left, told, self.undone.as_slice()) {
+            Outcome::Otherwise if answer.as_slice() != REFUSED => {
+                self.outcome_by(left, told, self.done.as_slice())
+            }
+            outcome => outcome,
         }
     }
 
     /// What came of the step.
-    fn outcome(
-        &self,
-        alloc: Global,
-        answer: Result<Outcome, KeepFault>,
-    ) -> Result<Outcome, Unread> {
-        match answer {
-            Ok(_) if self.right.is_err() => Ok(Outcome::Otherwise(said(alloc, "opened")?)),
-            Ok(outcome) => Ok(outcome),
-            Err(fault) => self.unopened(alloc, fault),
+    fn outcome(&self, left: &Left) -> Outcome {
+        match (&left.answer, &self.answer) {
+            (Ok(pieces), Ok(_)) => self.outcome_of(left, pieces.as_slice()),
+            (Err(fault), Err(right)) if *fault == *right => Outcome::Done,
+            (Err(KeepFault::Disk), _) => Outcome::Unopened,
+            (_, _) => Outcome::Otherwise,
         }
     }
 
-    /// Where files told that the step was neither done whole nor, where it was not answered, not at all.
-    fn otherwise(
-        &self,
-        alloc: Global,
-        note: &str,
-        told: &Told,
-        is_answered: bool,
-    ) -> Result<Option<Found>, Unread> {
-        if told.is_same(&self.done) {
-            return Ok(None);
-        }
-        if !is_answered && told.is_same(&self.undone) {
-            return Ok(None);
-        }
-        let text = told.difference(alloc, &self.done)?;
-        Ok(Some(noted(alloc, note, text.as_slice())?))
+    /// Whether files told that the step was done whole or, where it was not answered, not at all.
+    fn is_whole(&self, told: &[Vec<u8>], is_answered: bool) -> bool {
+        told == self.done.as_slice() || !is_answered && told == self.undone.as_slice()
+    }
+
+    /// Says where what was told is not what is told where the step was done.
+    fn unlike(&self, alloc: Global, told: &[Vec<u8>]) -> Result<Found, Unread> {
+        let text = difference(alloc, told, self.done.as_slice())?;
+        Ok(Found::Otherwise(text))
     }
 
     /// Opens what is left of files, as it stands and as a crash of the machine leaves it.
     fn found_behind(
         &self,
         alloc: Global,
-        files: Files<Broken>,
+        left: Left,
         is_answered: bool,
         remains: &mut Remains,
     ) -> Result<Found, Unread> {
-        let has_failed = have_failed(&files);
-        remains.tell(alloc, files, self)?;
-        if let Some(found) = self.otherwise(alloc, "left", &remains.stood.told, is_answered)? {
-            return Ok(found);
+        let has_failed = left.has_failed;
+        remains.stood.tell(alloc, left.stood, self)?;
+        remains.crashed.tell(alloc, left.crashed, self)?;
+        let (stood, crashed) = (&remains.stood.told, &remains.crashed.told);
+        if !self.is_whole(stood.as_slice(), is_answered) {
+            return self.unlike(alloc, stood.as_slice());
         }
-        if let Some(found) = self.otherwise(alloc, "crashed", &remains.crashed.told, is_answered)? {
-            return Ok(found);
+        if !self.is_whole(crashed.as_slice(), is_answered) {
+            return self.unlike(alloc, crashed.as_slice());
         }
         Ok(if has_failed {
             Found::Whole
@@ -229,93 +257,61 @@ impl<'a> Interruption<'a> {
         })
     }
 
-    /// Opens what is left of files in which no archive was opened or made. Where it was opened for a step, what is left is that of
+    /// Opens what is left of files in which no archive was opened or made. Where it was opened for a question, what is left is that of
     /// the step `open`, and the database file is as it was.
     fn found_unopened(
         &self,
         alloc: Global,
-        files: Files<Broken>,
+        left: Left,
         remains: &mut Remains,
     ) -> Result<Found, Unread> {
-        match self.step {
-            Step::Create(_) | Step::Open => self.found_behind(alloc, files, false, remains),
-            Step::Ask(_, _) if held(&files.db) == held(&self.before.db) => Ok(Found::NotOpened),
-            Step::Ask(_, _) => noted(alloc, "not opened", b"other bytes"),
+        if self.step.words.is_empty() {
+            return self.found_behind(alloc, left, false, remains);
         }
-    }
-
-    /// Whether an archive may refuse behind a step that was refused: where one call alone fails, all or nothing, and nothing where
-    /// that was to read.
-    fn may_refuse(&self, files: &Files<Broken>, outcome: &Outcome) -> bool {
-        match (outcome, self.kind) {
-            (Outcome::Partly { is_done: _ }, Kind::Fails) => false,
-            (Outcome::Shut, Kind::Fails) => !have_failed_a_read(files),
-            (Outcome::Partly { is_done: _ } | Outcome::Shut, _) => have_failed(files),
-            (_, _) => true,
+        if left.stood.database.as_slice() == self.before.database.as_slice() {
+            return Ok(Found::NotOpened);
         }
+        Ok(Found::Otherwise(said(alloc, "not opened, and other bytes")?))
     }
 
-    /// Does the step in files of which one fails behind so many calls.
-    fn tried(&self, alloc: Global, calls: u64) -> Result<Left<Broken, Outcome>, Unread> {
-        let files = failing_copies(alloc, self.before, self.which, self.kind, calls)?;
-        done(alloc, files, self.step.begin(), &self.attempt())
-    }
-
-    /// What came of the step in files; what should not be, where an archive refused without need.
-    fn judged(
-        &self,
-        alloc: Global,
-        files: &Files<Broken>,
-        answer: Result<Outcome, KeepFault>,
-    ) -> Result<Outcome, Unread> {
-        let outcome = self.outcome(alloc, answer)?;
-        if self.may_refuse(files, &outcome) {
-            return Ok(outcome);
-        }
-        Ok(Outcome::Otherwise(said(alloc, "refused without need")?))
-    }
-
-    /// What is found in files behind a step with this outcome.
-    fn found_with(
-        &self,
-        alloc: Global,
-        files: Files<Broken>,
-        outcome: &Outcome,
-        remains: &mut Remains,
-    ) -> Result<Found, Unread> {
-        match outcome {
-            Outcome::Otherwise(text) => noted(alloc, "still open", text.as_slice()),
-            Outcome::Unopened => self.found_unopened(alloc, files, remains),
-            outcome => self.found_behind(alloc, files, outcome.is_done(), remains),
+    /// Says what was told by an archive that was to answer, or to be opened no more.
+    fn otherwise(&self, alloc: Global, left: &Left) -> Result<Found, Unread> {
+        match &left.answer {
+            Ok(pieces) => self.unlike(alloc, pieces.as_slice()),
+            Err(fault) => Ok(Found::Otherwise(told_fault(alloc, *fault)?)),
         }
     }
 
     /// Does the step in files of which one fails behind so many calls, and opens what is left of them.
     fn found(&self, alloc: Global, calls: u64, remains: &mut Remains) -> Result<Found, Unread> {
-        let Left { files, answer } = self.tried(alloc, calls)?;
-        let outcome = self.judged(alloc, &files, answer)?;
-        self.found_with(alloc, files, &outcome, remains)
+        let plan = Plan { calls, ..self.plan };
+        let question = self.step.question(self.paths.as_slice(), self.right());
+        let left = done(
+            alloc,
+            self.before,
+            plan,
+            self.step.work(Task::Ask(question)),
+        )?;
+        match self.outcome(&left) {
+            Outcome::Done => self.found_behind(alloc, left, true, remains),
+            Outcome::Refused => self.found_behind(alloc, left, false, remains),
+            Outcome::Unopened => self.found_unopened(alloc, left, remains),
+            Outcome::Otherwise => self.otherwise(alloc, &left),
+        }
     }
 
     /// Behind how many calls the step begins: none where it is to make an archive or to open one, else those of an opening.
     fn first_call(&self, alloc: Global) -> Result<u64, Unread> {
-        match self.step {
-            Step::Create(_) | Step::Open => Ok(0),
-            Step::Ask(_, _) => {
-                let files = failing_copies(alloc, self.before, self.which, self.kind, u64::MAX)?;
-                let left = done(alloc, files, Begin::Opening, &Nothing)?;
-                Ok(calls_of(&left.files, self.which, self.kind))
-            }
+        if self.step.words.is_empty() {
+            return Ok(0);
         }
+        let left = done(alloc, self.before, self.plan, Work::Open(Task::Nothing))?;
+        Ok(left.calls)
     }
 
-    /// Does the step behind ever more calls, from so many on, until none fails.
-    fn verdict_from(
-        &self,
-        alloc: Global,
-        first: u64,
-        remains: &mut Remains,
-    ) -> Result<Vec<u8>, Unread> {
+    /// Does the step behind ever more calls, until none fails.
+    fn verdict(&self, alloc: Global, remains: &mut Remains) -> Result<Vec<u8>, Unread> {
+        let first = self.first_call(alloc)?;
         let mut has_failed = false;
         for calls in first..MOST_CALLS {
             match self.found(alloc, calls, remains)? {
@@ -328,13 +324,6 @@ impl<'a> Interruption<'a> {
         }
         said(alloc, "ever more calls")
     }
-
-    /// Does the step behind ever more calls, until none fails.
-    fn verdict(&self, alloc: Global) -> Result<Vec<u8>, Unread> {
-        let first = self.first_call(alloc)?;
-        let mut remains = Remains::new(alloc, self.before, &self.undone)?;
-        self.verdict_from(alloc, first, &mut remains)
-    }
 }
 
 /// Says behind how many calls something is otherwise.
@@ -344,17 +333,20 @@ fn told_at(alloc: Global, calls: u64, text: &[u8]) -> Result<Vec<u8>, Unread> {
     Ok(line)
 }
 
-/// What becomes of a step while one of the files fails.
+/// What becomes of a step while one of the files fails as it is planned, but for the number of calls.
 pub fn interrupted(
     alloc: Global,
-    files: &Files<Broken>,
-    which: Which,
-    kind: Kind,
+    image: &Image,
+    plan: Plan,
     step: Step<'_>,
 ) -> Result<Vec<u8>, Unread> {
-    let interruption = Interruption::new(alloc, files, which, kind, step)?;
-    match (step, &interruption.right) {
-        (Step::Ask(_, _), Err(fault)) => told_fault(alloc, *fault),
-        _ => interruption.verdict(alloc),
+    let interruption = Interruption::new(alloc, image, plan, step)?;
+    let mut remains = Remains {
+        stood: Last::new(alloc),
+        crashed: Last::new(alloc),
+    };
+    match &interruption.answer {
+        Err(fault) if !step.words.is_empty() => told_fault(alloc, *fault),
+        _ => interruption.verdict(alloc, &mut remains),
     }
 }

@@ -5,20 +5,16 @@
 #![tactic(auto)]
 
 mod account;
-mod attempt;
-mod broken;
 mod case;
-mod edits;
 mod failing;
-mod filed;
-mod full;
+mod image;
 mod interrupted;
 mod named;
-mod observed;
-mod pair;
 mod steps;
 mod tampered;
-mod tasks;
+mod task;
+mod trial;
+mod work;
 
 use crate::case::Case;
 use std::process::ExitCode;

@@ -1,4 +1,4 @@
-//! The files of the pool that an index names.
+//! The files that an index names.
 
 use std::alloc::{AllocError, Global};
 
@@ -6,49 +6,54 @@ use std::alloc::{AllocError, Global};
 #[derive(Drop)]
 struct Names {
     alloc: Global,
-    /// The folder of the source package that is read.
+    /// The folder of the files that are listed.
     folder: String,
-    /// Whether the lines are those of its files.
+    /// Whether the lines are those of files.
     lists_files: bool,
-    paths: Vec<String>,
+    paths: Vec<Vec<u8>>,
 }
 
 impl Names {
-    /// Takes a line of the files of a source package: the last word is a name.
-    fn take_file(&mut self, line: &str) -> Result<(), AllocError> {
-        if let Some((_, name)) = line.rsplit_once(' ') {
-            let folder = self.folder.as_str();
-            self.paths.push(format!(in self.alloc; "{folder}/{name}")?)?;
-        }
+    /// Takes the path of a file of the folder that is read.
+    fn take_name(&mut self, name: &str) -> Result<(), AllocError> {
+        let folder = self.folder.as_str();
+        let path = format!(in self.alloc; "{folder}/{name}")?;
+        self.paths.push(path.into_bytes())?;
         Ok(())
     }
 
-    /// Takes a line that begins a field.
-    fn take_field(&mut self, line: &str) -> Result<(), AllocError> {
-        self.lists_files = line == "Files:";
-        if let Some(path) = line.strip_prefix("Filename: ") {
-            self.paths.push(String::from_str(self.alloc, path)?)?;
+    /// Takes a line by what stands on both sides of its last space.
+    fn take(&mut self, front: &str, word: &str) -> Result<(), AllocError> {
+        if front == "Codename:" {
+            self.folder = format!(in self.alloc; "dists/{word}")?;
         }
-        if let Some(folder) = line.strip_prefix("Directory: ") {
-            self.folder = String::from_str(self.alloc, folder)?;
+        if front == "Directory:" {
+            self.folder = String::from_str(self.alloc, word)?;
+        }
+        if front == "Filename:" {
+            self.paths
+                .push(Vec::from_slice(self.alloc, word.as_bytes())?)?;
+        }
+        if self.lists_files {
+            return self.take_name(word);
         }
         Ok(())
     }
 
     /// Takes a line.
-    fn take(&mut self, line: &str) -> Result<(), AllocError> {
+    fn take_line(&mut self, line: &str) -> Result<(), AllocError> {
         if !line.starts_with(" ") {
-            return self.take_field(line);
+            self.lists_files = line == "Files:" || line == "MD5Sum:";
         }
-        if self.lists_files {
-            return self.take_file(line);
+        match line.rsplit_once(' ') {
+            Some((front, word)) => self.take(front, word),
+            None => Ok(()),
         }
-        Ok(())
     }
 }
 
-/// The paths of the pool that an index names.
-pub fn paths_in(alloc: Global, index: &str) -> Result<Vec<String>, AllocError> {
+/// The paths that an index names: a Release file the other indices of its suite, each of these the files of the pool.
+pub fn paths_in(alloc: Global, index: &str) -> Result<Vec<Vec<u8>>, AllocError> {
     let mut names = Names {
         alloc,
         folder: String::new(alloc),
@@ -56,7 +61,7 @@ pub fn paths_in(alloc: Global, index: &str) -> Result<Vec<String>, AllocError> {
         paths: Vec::new(alloc),
     };
     for line in index.split('\n') {
-        names.take(line)?;
+        names.take_line(line)?;
     }
     Ok(names.paths)
 }

@@ -1,74 +1,55 @@
 //! Databases that are no archive, or no databases.
 
-use crate::broken::{Broken, file_of, held, sound};
-use crate::edits::{Count, changed, edit_files};
-use crate::pair::copied;
-use crate::tasks::{Begin, Left, Nothing, done, told_fault};
-use rows::{Unread, said};
-use sqlite::Files;
-use sqlite_disk::Memory;
+use crate::image::Image;
+use crate::task::Task;
+use crate::trial::{SOUND, done};
+use crate::work::{Work, word_or_fault};
+use rows::{Unread, number_of, said, text_of};
 use std::alloc::Global;
 
 /// What an opening makes of files: `open`, or its fault, with a word where it has changed the database file then. It may begin a
 /// log.
-pub fn opening(alloc: Global, files: &Files<Broken>) -> Result<Vec<u8>, Unread> {
-    let Left {
-        files: left,
-        answer,
-    } = done(alloc, copied(alloc, files)?, Begin::Opening, &Nothing)?;
-    match answer {
-        Ok(()) => said(alloc, "open"),
-        Err(fault) => {
-            let mut text = told_fault(alloc, fault)?;
-            if held(&left.db) != held(&files.db) {
-                text.extend_from_slice(b" and other bytes")?;
-            }
-            Ok(text)
+pub fn opening(alloc: Global, image: &Image) -> Result<Vec<u8>, Unread> {
+    let left = done(alloc, image, SOUND, Work::Open(Task::Nothing))?;
+    let mut text = word_or_fault(alloc, "open", &left.answer)?;
+    if left.answer.is_err() && left.stood.database.as_slice() != image.database.as_slice() {
+        text.extend_from_slice(b" and other bytes")?;
+    }
+    Ok(text)
+}
+
+/// The files behind these lists of statements, where they can be run.
+pub fn changed(alloc: Global, image: &Image, lists: &[Vec<u8>]) -> Result<Option<Image>, Unread> {
+    let mut image = Image::of(alloc, image.log.as_slice(), image.database.as_slice())?;
+    for list in lists {
+        let left = done(alloc, &image, SOUND, Work::Run(text_of(list)?))?;
+        if left.answer.is_err() {
+            return Ok(None);
         }
+        image = left.stood;
     }
+    Ok(Some(image))
 }
 
-/// The same of files behind statements; `not run` where they can't be run, and `no change` where they change nothing.
-fn opening_behind(
-    alloc: Global,
-    before: &Files<Broken>,
-    files: Option<Files<Broken>>,
-) -> Result<Vec<u8>, Unread> {
-    match files {
-        Some(files) if held(&files.db) == held(&before.db) => said(alloc, "no change"),
-        Some(files) => opening(alloc, &files),
+/// `tampered SQL..`: what an opening makes of a copy of files behind lists of statements; `not run` where they can't be run, and `no
+/// change` where they change nothing.
+pub fn tampered(alloc: Global, image: &Image, lists: &[Vec<u8>]) -> Result<Vec<u8>, Unread> {
+    match changed(alloc, image, lists)? {
+        Some(behind) if behind.database.as_slice() == image.database.as_slice() => {
+            said(alloc, "no change")
+        }
+        Some(behind) => opening(alloc, &behind),
         None => said(alloc, "not run"),
     }
 }
 
-/// What an opening makes of a copy of files behind lists of statements.
-pub fn tampered(
-    alloc: Global,
-    files: &Files<Broken>,
-    lists: &[Vec<u8>],
-) -> Result<Vec<u8>, Unread> {
-    let behind = changed(alloc, copied(alloc, files)?, lists)?;
-    opening_behind(alloc, files, behind)
-}
-
-/// How many rows a query answers.
-pub fn counted(alloc: Global, files: &Files<Broken>, query: &str) -> Result<Vec<u8>, Unread> {
-    match edit_files(alloc, copied(alloc, files)?, &Count(query)).rows {
-        Some(rows) => said(alloc, format!(in alloc; "{rows}")?.as_str()),
-        None => said(alloc, "not run"),
-    }
-}
-
-/// What an opening makes of a database file with these bytes, and no log.
+/// `opens BYTES`: what an opening makes of a database file with these bytes, and no log.
 pub fn opening_of(alloc: Global, bytes: &[u8]) -> Result<Vec<u8>, Unread> {
-    let db = file_of(alloc, bytes)?;
-    let log = sound(Memory::new(alloc));
-    opening(alloc, &Files { log, db })
+    opening(alloc, &Image::of(alloc, b"", bytes)?)
 }
 
 /// The same of the first bytes of a database file.
-pub fn front(alloc: Global, files: &Files<Broken>, count: u64) -> Result<Vec<u8>, Unread> {
-    let bytes = held(&files.db);
+fn opening_of_front(alloc: Global, bytes: &[u8], count: u64) -> Result<Vec<u8>, Unread> {
     let count = count.min(bytes.len() as u64) as usize;
     match bytes.get(..count) {
         Some(front) if count < bytes.len() => opening_of(alloc, front),
@@ -76,11 +57,15 @@ pub fn front(alloc: Global, files: &Files<Broken>, count: u64) -> Result<Vec<u8>
     }
 }
 
-/// The same of a database file without its last bytes.
-pub fn without_end(alloc: Global, files: &Files<Broken>, count: u64) -> Result<Vec<u8>, Unread> {
-    let len = held(&files.db).len() as u64;
-    match len.checked_sub(count) {
-        Some(left) => front(alloc, files, left),
+/// `front COUNT`: the same of so many first bytes.
+pub fn front(alloc: Global, bytes: &[u8], count: &Vec<u8>) -> Result<Vec<u8>, Unread> {
+    opening_of_front(alloc, bytes, number_of(count)?)
+}
+
+/// `without-end COUNT`: the same without so many last bytes.
+pub fn without_end(alloc: Global, bytes: &[u8], count: &Vec<u8>) -> Result<Vec<u8>, Unread> {
+    match (bytes.len() as u64).checked_sub(number_of(count)?) {
+        Some(left) => opening_of_front(alloc, bytes, left),
         None => Err(Unread::BadWords),
     }
 }
