@@ -2,10 +2,12 @@
 
 use crate::output::Output;
 use crate::words::texts_of;
-use command_line::{CommandLine, LineFault};
+use command_line::CommandLine;
 use commands::{act, explain};
 use rows::{Unread, number_of};
-use std::alloc::{AllocError, Global};
+use std::alloc::AllocError;
+use std::io;
+use std::io::Write;
 
 /// How much room the outputs of a line have.
 #[derive(Clone, Copy)]
@@ -20,60 +22,29 @@ const ALL: Room = Room {
     err: usize::MAX,
 };
 
-/// What a line has printed, and its exit status.
-#[derive(Drop)]
-struct Ended {
-    out: Output,
-    err: Output,
-    status: u8,
-}
-
-/// Does a line.
-fn done(rt: &HostRuntime, line: &CommandLine<'_>, room: Room) -> Ended {
-    let mut out = Output::new(rt.alloc(), room.out);
-    let mut err = Output::new(rt.alloc(), room.err);
-    let status = act(rt, line, &mut out, &mut err);
-    Ended { out, err, status }
-}
-
-/// Says why words are no line.
-fn refused(alloc: Global, fault: &LineFault, room: Room) -> Ended {
-    let mut out = Output::new(alloc, room.out);
-    let mut err = Output::new(alloc, room.err);
-    let status = explain(fault, &mut out, &mut err);
-    Ended { out, err, status }
-}
-
-/// Adds what an output has taken, and says where its last line has no end.
-fn add_lines(text: &mut Vec<u8>, lines: &[u8]) -> Result<(), AllocError> {
-    text.extend_from_slice(lines)?;
-    match lines.last() {
+/// Ends the last line, and says so where it has no end.
+fn end_line(text: &mut Vec<u8>) -> Result<(), AllocError> {
+    match text.last() {
         None | Some(b'\n') => Ok(()),
-        Some(_) => Ok(text.extend_from_slice(b"\n(no newline)\n")?),
+        Some(_) => text.extend_from_slice(b"\n(no newline)\n"),
     }
 }
 
-/// Adds the exit status.
-fn add_status(alloc: Global, text: &mut Vec<u8>, status: u8) -> Result<(), AllocError> {
-    let line = format!(in alloc; "status {status}\n")?;
-    text.extend_from_slice(line.as_bytes())
-}
-
-/// Adds what a line has printed: its output, its errors behind a line `errors:`, and its exit status.
-fn add_ended(alloc: Global, text: &mut Vec<u8>, ended: &Ended) -> Result<(), AllocError> {
-    add_lines(text, &ended.out.text)?;
-    if !ended.err.text.is_empty() {
-        text.extend_from_slice(b"errors:\n")?;
-        add_lines(text, &ended.err.text)?;
+/// Adds errors, if there are any, behind a line `errors:`.
+fn add_errors(text: &mut Vec<u8>, errors: &[u8]) -> Result<(), AllocError> {
+    if errors.is_empty() {
+        return Ok(());
     }
-    add_status(alloc, text, ended.status)
+    text.extend_from_slice(b"errors:\n")?;
+    text.extend_from_slice(errors)?;
+    end_line(text)
 }
 
-/// What a line has printed, and its exit status.
-fn told(alloc: Global, ended: &Ended) -> Result<Vec<u8>, AllocError> {
-    let mut text = Vec::new(alloc);
-    add_ended(alloc, &mut text, ended)?;
-    Ok(text)
+/// Adds to the output of a line its errors and its exit status.
+fn add_end(text: &mut Vec<u8>, errors: &[u8], status: u8) -> io::Result<()> {
+    end_line(text)?;
+    add_errors(text, errors)?;
+    write!(text, "status {status}\n")
 }
 
 /// Sets the moment of a line that has one. It may be a moment that no words have.
@@ -93,25 +64,27 @@ fn set_moment(line: &mut CommandLine<'_>, moment: u64) {
     }
 }
 
-/// Does a line, at another moment where one is given; or says why words are no line.
-fn done_or_refused(
+/// Does the line of the words, at another moment where one is given, or says why they are no line; and answers the exit status.
+fn done(
     rt: &HostRuntime,
-    line: Result<CommandLine<'_>, LineFault>,
-    room: Room,
+    words: &[&str],
     moment: Option<u64>,
-) -> Ended {
-    match line {
+    out: &mut Output,
+    err: &mut Output,
+) -> u8 {
+    match command_line::line(rt.alloc(), words) {
         Ok(mut line) => {
             if let Some(moment) = moment {
                 set_moment(&mut line, moment);
             }
-            done(rt, &line, room)
+            act(rt, &line, out, err)
         }
-        Err(fault) => refused(rt.alloc(), &fault, room),
+        Err(fault) => explain(&fault, out, err),
     }
 }
 
-/// Does the line of the words with so much room for its outputs, and tells what it has printed.
+/// Does the line of the words with so much room for its outputs, and tells what it has printed: its output, its errors behind a line
+/// `errors:`, and its exit status.
 fn line(
     rt: &HostRuntime,
     words: &[Vec<u8>],
@@ -119,45 +92,35 @@ fn line(
     moment: Option<u64>,
 ) -> Result<Vec<u8>, Unread> {
     let texts = texts_of(rt.alloc(), words)?;
-    let line = command_line::line(rt.alloc(), &texts);
-    Ok(told(rt.alloc(), &done_or_refused(rt, line, room, moment))?)
-}
-
-/// A number, and the words behind it.
-fn number_and_words(words: &[Vec<u8>]) -> Result<(u64, &[Vec<u8>]), Unread> {
-    match words.split_first() {
-        Some((number, words)) => Ok((number_of(number)?, words)),
-        None => Err(Unread::BadWords),
+    let mut out = Output::new(rt.alloc(), room.out);
+    let mut err = Output::new(rt.alloc(), room.err);
+    let status = done(rt, &texts, moment, &mut out, &mut err);
+    match add_end(&mut out.text, &err.text, status) {
+        Ok(()) => Ok(out.text),
+        Err(_) => Err(Unread::OutOfMemory),
     }
 }
 
-/// `line-at MOMENT WORD..`: the same as `line`, at a moment that may be one that no words have.
-fn line_at(rt: &HostRuntime, words: &[Vec<u8>]) -> Result<Vec<u8>, Unread> {
-    let (at, words) = number_and_words(words)?;
-    line(rt, words, ALL, Some(at))
-}
-
-/// `cut-output ROOM WORD..`: the same as `line`, where standard output fails behind so many bytes.
-fn cut_output(rt: &HostRuntime, words: &[Vec<u8>]) -> Result<Vec<u8>, Unread> {
-    let (room, words) = number_and_words(words)?;
-    let out = room as usize;
-    line(rt, words, Room { out, ..ALL }, None)
-}
-
-/// `cut-errors ROOM WORD..`: the same, where standard error does.
-fn cut_errors(rt: &HostRuntime, words: &[Vec<u8>]) -> Result<Vec<u8>, Unread> {
-    let (room, words) = number_and_words(words)?;
-    let err = room as usize;
-    line(rt, words, Room { err, ..ALL }, None)
+/// `line-at MOMENT WORD..`: the same as `line`, at a moment that may be one that no words have; `cut-output ROOM WORD..`: where standard
+/// output fails behind so many bytes; `cut-errors ROOM WORD..`: where standard error does.
+fn numbered(rt: &HostRuntime, verb: &str, words: &[Vec<u8>]) -> Result<Vec<u8>, Unread> {
+    let Some((number, words)) = words.split_first() else {
+        return Err(Unread::BadWords);
+    };
+    let number = number_of(number)?;
+    let room = number as usize;
+    match verb {
+        "line-at" => line(rt, words, ALL, Some(number)),
+        "cut-output" => line(rt, words, Room { out: room, ..ALL }, None),
+        _ => line(rt, words, Room { err: room, ..ALL }, None),
+    }
 }
 
 /// `line WORD..`: what the line of these words prints and how it ends; or the answer to one of the questions above.
 pub fn answer(rt: &HostRuntime, verb: &str, words: &[Vec<u8>]) -> Result<Option<Vec<u8>>, Unread> {
     let answer = match verb {
         "line" => line(rt, words, ALL, None),
-        "line-at" => line_at(rt, words),
-        "cut-output" => cut_output(rt, words),
-        "cut-errors" => cut_errors(rt, words),
+        "line-at" | "cut-output" | "cut-errors" => numbered(rt, verb, words),
         _ => return Ok(None),
     };
     Ok(Some(answer?))

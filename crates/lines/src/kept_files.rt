@@ -42,8 +42,26 @@ fn remove<R: Files + AllocGlobal>(rt: &R, name: &str) -> Result<Vec<u8>, Unread>
 }
 
 /// `copy-file FROM TO`: `copied`, `not there` or `failed`.
-fn copy<R: Files + AllocGlobal>(rt: &R, from: &str, to: &str) -> Result<Vec<u8>, Unread> {
+fn copy<R: Files + AllocGlobal>(rt: &R, from: &str, to: &Vec<u8>) -> Result<Vec<u8>, Unread> {
+    let to = text_of(to)?;
     changed(rt.alloc(), fs::copy(rt, from, to), "copied")
+}
+
+/// What is answered to a question on the file of a name.
+fn answer_of<R: Files + AllocGlobal>(
+    rt: &R,
+    verb: &str,
+    name: &str,
+    words: &[Vec<u8>],
+) -> Option<Result<Vec<u8>, Unread>> {
+    match (verb, words) {
+        ("write", [body]) => Some(write(rt, name, body)),
+        ("copy-file", [to]) => Some(copy(rt, name, to)),
+        ("remove", []) => Some(remove(rt, name)),
+        ("exists", []) => Some(exists(rt, name)),
+        ("read", []) => Some(read(rt, name)),
+        _ => None,
+    }
 }
 
 /// What is answered to a question on files.
@@ -52,13 +70,11 @@ pub fn answer<R: Files + AllocGlobal>(
     verb: &str,
     words: &[Vec<u8>],
 ) -> Result<Option<Vec<u8>>, Unread> {
-    let answer = match (verb, words) {
-        ("write", [name, body]) => write(rt, text_of(name)?, body.as_slice()),
-        ("remove", [name]) => remove(rt, text_of(name)?),
-        ("copy-file", [from, to]) => copy(rt, text_of(from)?, text_of(to)?),
-        ("exists", [name]) => exists(rt, text_of(name)?),
-        ("read", [name]) => read(rt, text_of(name)?),
-        _ => return Ok(None),
+    let Some((name, words)) = words.split_first() else {
+        return Ok(None);
     };
-    Ok(Some(answer?))
+    match answer_of(rt, verb, text_of(name)?, words) {
+        Some(answer) => Ok(Some(answer?)),
+        None => Ok(None),
+    }
 }

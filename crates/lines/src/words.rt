@@ -2,7 +2,8 @@
 
 use command_line::{CommandLine, LineFault, line};
 use rows::{Unread, said, text_of};
-use std::alloc::Global;
+use std::alloc::{AllocError, Global};
+use std::fmt::Write;
 
 /// The texts of words.
 pub fn texts_of(alloc: Global, words: &[Vec<u8>]) -> Result<Vec<&str>, Unread> {
@@ -39,33 +40,31 @@ fn words_said(alloc: Global, words: &[Vec<u8>]) -> Result<Vec<u8>, Unread> {
 }
 
 /// Adds a fault and its number.
-fn add_fault(alloc: Global, text: &mut Vec<u8>, fault: &LineFault) -> Result<(), Unread> {
+fn add_fault(text: &mut String, fault: &LineFault) -> Result<(), AllocError> {
     let number = fault.number();
-    let line = format!(in alloc; "{fault} {number}\n")?;
-    text.extend_from_slice(line.as_bytes())?;
-    Ok(())
+    write!(text, "{fault} {number}\n")
 }
 
 /// Adds the fault of words that are no line, and its number.
-fn add_fault_of(alloc: Global, text: &mut Vec<u8>, words: &[&str]) -> Result<(), Unread> {
-    match line(alloc, words) {
+fn add_fault_of(text: &mut String, line: Result<CommandLine<'_>, LineFault>) -> Result<(), Unread> {
+    match line {
         Ok(_) => Err(Unread::BadWords),
-        Err(fault) => add_fault(alloc, text, &fault),
+        Err(fault) => Ok(add_fault(text, &fault)?),
     }
 }
 
 /// Adds each fault with its number.
-fn add_faults(alloc: Global, text: &mut Vec<u8>) -> Result<(), Unread> {
-    add_fault(alloc, text, &LineFault::OutOfMemory)?;
-    add_fault_of(alloc, text, &["--help"])?;
-    add_fault_of(alloc, text, &[])
+fn add_faults(alloc: Global, text: &mut String) -> Result<(), Unread> {
+    add_fault(text, &LineFault::OutOfMemory)?;
+    add_fault_of(text, line(alloc, &["--help"]))?;
+    add_fault_of(text, line(alloc, &[]))
 }
 
 /// `numbers`: each fault with its number.
 fn numbers(alloc: Global) -> Result<Vec<u8>, Unread> {
-    let mut text = Vec::new(alloc);
+    let mut text = String::new(alloc);
     add_faults(alloc, &mut text)?;
-    Ok(text)
+    Ok(text.into_bytes())
 }
 
 /// What is answered to a question on words.
