@@ -124,6 +124,21 @@ class Database(Lines):
         [(text,)] = held.execute("SELECT body FROM texts WHERE path = 'dists/box/main/binary-amd64/Packages'").fetchall()
         self.assertEqual(len(text), 324)
 
+    def test_sqlite_refuses_what_the_keys_forbid(self):
+        """A second row under one key, and to take a row away that another names."""
+        held = sqlite3.connect(self.accepted())
+        self.addCleanup(held.close)
+        held.execute("PRAGMA foreign_keys = ON")
+        for statement in (
+            "INSERT INTO texts SELECT path, body FROM texts",
+            "INSERT INTO dates SELECT suite, moment FROM dates",
+            "INSERT INTO items SELECT id + 9, suite, kind, package, architecture, version, component, source, paragraph FROM items",
+            "DELETE FROM items",
+            "DELETE FROM bodies",
+        ):
+            with self.subTest(statement), self.assertRaises(sqlite3.IntegrityError):
+                held.execute(statement)
+
     def test_a_changed_row_is_found(self):
         for statement in (
             "UPDATE dates SET moment = moment + 1",

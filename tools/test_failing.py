@@ -1,9 +1,11 @@
 #!/usr/bin/env python3
-"""Tests of `serve` over a disk that is full, and over one whose calls fail one by one. The first needs a file system of its own, which
-root may mount, the others strace; where that is not there they say that they were skipped. The program is that of test_database.py."""
+"""Tests of `serve` over a file that may not grow, over a disk that is full, and over one whose calls fail one by one. The second needs a
+file system of its own, which root may mount, the last strace; where that is not there they say that they were skipped. The program is
+that of test_database.py."""
 import contextlib
 import os
 import re
+import resource
 import shutil
 import subprocess
 import sys
@@ -56,6 +58,30 @@ def large(number):
 
 def small(number):
     return put_of(f"small{number}_1.0-1_amd64.deb", b"%d" % number)
+
+
+def let_files_grow(process, most=None):
+    """Lets the files that a process writes grow to so many bytes, or as far as they might before."""
+    hard = resource.prlimit(process.pid, resource.RLIMIT_FSIZE)[1]
+    resource.prlimit(process.pid, resource.RLIMIT_FSIZE, (hard if most is None else most, hard))
+
+
+class FullFile(Lines):
+    # What runs a program that is told of a file that may not grow by its call alone.
+    UNDER = ("sh", "-c", "trap '' XFSZ; exec \"$@\"", "sh")
+
+    def test_what_is_answered_while_no_file_may_grow(self):
+        with Serving(self.made(), 8, under=self.UNDER) as serving:
+            self.assertEqual(serving.answer(small(0)), NEW)
+            let_files_grow(serving.process, 1_000_000)
+            for number in (1, 2):
+                self.assertEqual(serving.answer(large(number)), FULL)
+                self.assertEqual(serving.answer(get("verdicts")), NOTHING)
+            let_files_grow(serving.process)
+            self.assertEqual(serving.answer(large(1)), NEW)
+            self.assertEqual(serving.answer(large(1)), AGAIN)
+            self.assertEqual(serving.answer(small(0)), AGAIN)
+            self.assertEqual(serving.ended(), (0, "", ""))
 
 
 @unittest.skipUnless(os.geteuid() == 0 and shutil.which("mount"), "only root can mount a file system that fills")

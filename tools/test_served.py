@@ -53,7 +53,26 @@ def get(path):
     return f"GET /{path} HTTP/1.1\r\nHost: a\r\n\r\n".encode()
 
 
+# Requests in their order, each with its whole reply: a delivery is new once, at no path is nothing, HTTP 1.0 will do, what ends early or
+# brings no byte delivers nothing.
+REPLIES = (
+    (b"PUT /incoming/a.deb HTTP/1.1\r\nContent-Length: 3\r\n\r\nabc", replied("201 Created", b"new\n")),
+    (b"PUT /incoming/a.deb HTTP/1.1\r\nContent-Length: 3\r\n\r\nabc", replied("200 OK", b"again\n")),
+    (b"GET /nothing HTTP/1.1\r\n\r\n", replied("404 Not Found", b"404 Not Found\n")),
+    (b"PUT /incoming/b.deb HTTP/1.0\r\nContent-Length: 3\r\n\r\nabc", replied("201 Created", b"new\n")),
+    (b"PUT /incoming/c.deb HTTP/1.1\r\nContent-Length: 4\r\n\r\nabc", replied("400 Bad Request", b"400 Bad Request\n")),
+    (b"", b""),
+    (b"PUT /incoming/b.deb HTTP/1.1\r\nContent-Length: 3\r\n\r\nabc", replied("200 OK", b"again\n")),
+)
+
+
 class Served(test_database.Lines):
+    def test_clients_are_answered_in_the_order_in_which_they_came(self):
+        with Server(self.made(), "0", len(REPLIES)) as server:
+            clients = [server.sent(request) for request, _ in REPLIES]
+            self.assertEqual([received(it) for it in clients], [reply for _, reply in REPLIES])
+            self.assertEqual(server.ended(), (0, ""))
+
     def test_a_file_is_served(self):
         db = self.made()
         deb = "pool/main/h/hello/hello_1.0-1_amd64.deb"

@@ -3,6 +3,7 @@
 begins while another has the file. The program is that of test_database.py. Waits of more than some seconds are in test_waits.py."""
 import contextlib
 import os
+import resource
 import signal
 import socket
 import sys
@@ -17,6 +18,8 @@ from test_served import get, put, replied
 
 NOTHING = replied("200 OK", b"")
 NEW = replied("201 Created", b"new\n")
+AGAIN = replied("200 OK", b"again\n")
+TOO_LARGE = replied("413 Payload Too Large", b"413 Payload Too Large\n")
 RUN = b"POST /queue/run HTTP/1.1\r\n\r\n"
 ACCEPTED = replied("200 OK", f"accepted {NAMES[0]}\n".encode())
 DEB = "pool/main/h/hello/hello_1.0-1_amd64.deb"
@@ -44,6 +47,20 @@ class Deadlines(Lines):
             self.assertEqual(rest(client), NOTHING)
             self.assertEqual(serving.ended(), (0, "", ""))
 
+    def test_a_client_that_falls_silent_is_closed(self):
+        """In a head and in a body, beside each other: it is sent nothing, and the client behind it is answered."""
+        with contextlib.ExitStack() as stack:
+            held = []
+            for part in (get("verdicts")[:-1], put("hello_1.0-1_amd64.deb")[:-1]):
+                serving = stack.enter_context(Serving(self.made(), 2))
+                silent = stack.enter_context(serving.connected())
+                silent.sendall(part)
+                held.append((serving, silent, serving.sent(get("verdicts"))))
+            for serving, silent, behind in held:
+                self.assertEqual(rest(behind), NOTHING)
+                self.assertEqual(rest(silent), b"")
+                self.assertEqual(serving.ended(), (0, "", ""))
+
     def test_a_client_that_stays_behind_its_reply_is_let_go(self):
         with Serving(self.made(), 2) as serving, serving.connected() as staying:
             staying.sendall(get("verdicts"))
@@ -62,6 +79,20 @@ class Deadlines(Lines):
                 sending.sendall(get("verdicts") + b"." * 64_000_000)
             self.assertEqual(serving.answer(get("verdicts")), NOTHING)
             self.assertLess(seconds_since(start), 4)
+            self.assertEqual(serving.ended(), (0, "", ""))
+
+    def test_a_client_that_has_sent_much_of_a_body_that_is_too_large_reads_why(self):
+        with Serving(self.made(), 1) as serving, serving.connected() as client:
+            client.sendall(b"PUT /incoming/a.deb HTTP/1.1\r\nContent-Length: 4194305\r\n\r\n" + b"x" * 262_144)
+            self.assertEqual(rest(client), TOO_LARGE)
+            self.assertEqual(serving.ended(), (0, "", ""))
+
+    def test_what_a_client_delivered_that_left_before_its_reply_is_there(self):
+        with Serving(self.made(), 2) as serving:
+            leaving = serving.connected()
+            leaving.sendall(put(NAMES[1]))
+            leaving.close()
+            self.assertEqual(serving.answer(put(NAMES[1])), AGAIN)
             self.assertEqual(serving.ended(), (0, "", ""))
 
     def test_a_connection_counts_however_it_ends(self):
@@ -161,6 +192,15 @@ class Beginnings(Lines):
             self.assertEqual(holder.ended(), (0, "", ""))
             self.assertEqual([rest(it) for it in clients], [ACCEPTED] * 20)
             self.assertEqual(serving.ended(), (0, "", ""))
+
+    def test_where_no_connection_can_be_accepted_it_ends(self):
+        """The program may open no more files. It may have begun to accept one."""
+        with Serving(self.made(), 3) as serving:
+            self.assertEqual(serving.answer(get("verdicts")), NOTHING)
+            resource.prlimit(serving.process.pid, resource.RLIMIT_NOFILE, (0, 0))
+            with contextlib.suppress(OSError):
+                serving.answer(get("verdicts"))
+            self.assertEqual(serving.ended(), (3, "", "archive: cannot listen\n"))
 
     def test_which_fault_is_told(self):
         db = self.made()
