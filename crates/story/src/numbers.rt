@@ -14,7 +14,7 @@ const OF_KEEPERS: [KeepFault; 4] = [
     KeepFault::Tables,
 ];
 
-const OF_ARCHIVES: [Fault; 10] = [
+const OF_ARCHIVES: [Fault; 12] = [
     Fault::OutOfMemory,
     Fault::BadName,
     Fault::TooLarge,
@@ -24,6 +24,8 @@ const OF_ARCHIVES: [Fault; 10] = [
     Fault::UnknownSuite,
     Fault::SameSuite,
     Fault::NothingToCopy,
+    Fault::Ended,
+    Fault::ReaderFailed,
     Fault::NothingToRemove,
 ];
 

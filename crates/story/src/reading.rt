@@ -3,7 +3,7 @@
 use crate::readers::Pieces;
 use desk::head::{Refusal, Wanted, read_wanted};
 use desk::request::{Request, read_request};
-use desk::transfer::ReaderFailed;
+use queue::ReaderFailed;
 use rows::{Unread, said};
 use std::alloc::{AllocError, Global};
 
@@ -18,7 +18,7 @@ fn status_of(alloc: Global, read: &Result<Request, ReaderFailed>) -> Result<Stri
             let status = refusal.status().as_u16();
             format!(in alloc; "{status}")
         }
-        Ok(Request::Asks(_, _)) => String::from_str(alloc, "asks"),
+        Ok(Request::Asks(_)) => String::from_str(alloc, "asks"),
         Err(ReaderFailed) => String::from_str(alloc, "H1"),
     }
 }

@@ -1,6 +1,6 @@
 //! A server whose keeper is shut.
 
-ghost use Rattle.std.specs.Prelude.{true};
+ghost use Rattle.std.specs.Prelude.{true, None};
 
 use super::checks::holds;
 use super::clients::{Visit, done_client, expect_received, on_loopback};
@@ -31,6 +31,9 @@ impl<K: Keeper> Keeper for Shut<K> {
 
     ghost book = { λ k. K.Keeper.book k.inner };
 
+    /// To a shut keeper no body comes.
+    ghost coming = { λ _. None };
+
     ghost may_fail = { true };
 
     ghost may_leave = { λ k. K.Keeper.may_leave k.inner };
@@ -39,13 +42,19 @@ impl<K: Keeper> Keeper for Shut<K> {
         self.inner.config()
     }
 
-    fn arrive(
-        &mut self,
-        _alloc: Global,
-        _name: &str,
-        _body: &[u8],
-        _moment: u64,
-    ) -> Result<bool, KeepFault> {
+    fn begin(&mut self, _alloc: Global) -> Result<(), KeepFault> {
+        Err(KeepFault::Disk)
+    }
+
+    fn piece(&mut self, _alloc: Global, _bytes: &[u8]) -> Result<(), KeepFault> {
+        Err(KeepFault::Disk)
+    }
+
+    fn finish(&mut self, _alloc: Global, _name: &str, _moment: u64) -> Result<bool, KeepFault> {
+        Err(KeepFault::Disk)
+    }
+
+    fn abandon(&mut self) -> Result<(), KeepFault> {
         Err(KeepFault::Disk)
     }
 
