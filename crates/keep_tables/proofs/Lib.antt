@@ -1,1 +1,2 @@
 pub mod KeptBook
+pub mod UnderWayLemmas

@@ -8,7 +8,7 @@ ghost use Rattle.queue.specs.Histories.{Delivery, QueueRun, Copying, Lookup, Wai
 ghost use Rattle.keep.specs.Book.{latest};
 ghost use Rattle.queue.specs.Deliveries.{delivery_fault, IsKeepers};
 ghost use Rattle.queue.specs.Removals.{removal_fault};
-ghost use Rattle.queue.specs.Steps.{Does, IsServed, IsUndone, Lasts, LeavesStep, Reads};
+ghost use Rattle.queue.specs.Steps.{Does, IsServed, IsUndone, Lasts, LeavesDelivery, LeavesStep, Reads};
 
 use crate::command::{Arrived, Report};
 use crate::copy::{copy_plan, only_step, two_suites};
@@ -60,8 +60,10 @@ impl<K: Keeper> Archive<K> {
         ensures step { Does K.Keeper self.old.keeper (Delivery name.now body.now moment) (stored result) self.new.keeper }
         // A refusal leaves the book as it was, whatever the history.
         ensures err { OnErr result (IsUndone K.Keeper self.old.keeper self.new.keeper) }
-        // A crash leaves what it would have left before, or all that the call does.
+        // A crash leaves what it would have left before, what the history left, or all that the call does.
         ensures crash { LeavesStep K.Keeper self.old.keeper (Delivery name.now body.now moment) self.new.keeper }
+        // The first two of these also where two bodies have one print.
+        ensures stopped { LeavesDelivery K.Keeper self.old.keeper name.now body.now moment self.new.keeper }
         ensures done { IfOk result (λ _. delivery_fault name.now body.now moment ≡ None) }
         // The fault by name, body and moment, or else one of the keeper's own.
         ensures refused { IfErr result (λ e. (delivery_fault name.now body.now moment ≡ Some e) ⊎ IsKeepers K.may_fail (delivery_fault name.now body.now moment ≡ None) e) }
@@ -84,7 +86,7 @@ impl<K: Keeper> Archive<K> {
         ensures step { Does K.Keeper self.old.keeper (QueueRun moment) (reported result) self.new.keeper }
         // A refusal leaves the book as it was, whatever the history.
         ensures err { OnErr result (IsUndone K.Keeper self.old.keeper self.new.keeper) }
-        // A crash leaves what it would have left before, or all that the call does.
+        // A crash leaves what it would have left before, what the history left, or all that the call does.
         ensures crash { LeavesStep K.Keeper self.old.keeper (QueueRun moment) self.new.keeper }
         ensures late { latest < moment → result ≡ Err Fault.Moment }
         ensures refused { IfErr result (λ e. (latest < moment) ⊎ IsKeepers K.may_fail (moment ≤ latest) e) }
@@ -124,7 +126,7 @@ impl<K: Keeper> Archive<K> {
         ensures step { Does K.Keeper self.old.keeper (Copying from.now to.now source.now moment) (counted result) self.new.keeper }
         // A refusal leaves the book as it was, whatever the history.
         ensures err { OnErr result (IsUndone K.Keeper self.old.keeper self.new.keeper) }
-        // A crash leaves what it would have left before, or all that the call does.
+        // A crash leaves what it would have left before, what the history left, or all that the call does.
         ensures crash { LeavesStep K.Keeper self.old.keeper (Copying from.now to.now source.now moment) self.new.keeper }
         ensures done { K.is_clean self.new.keeper → IfOk result (λ _. copy_fault (K.book self.old.keeper) from.now to.now source.now moment ≡ None) }
         ensures late { latest < moment → result ≡ Err Fault.Moment }
@@ -167,7 +169,7 @@ impl<K: Keeper> Archive<K> {
         ensures step { Does K.Keeper self.old.keeper (Removing suite.now name.now moment) (counted result) self.new.keeper }
         // A refusal leaves the book as it was, whatever the history.
         ensures err { OnErr result (IsUndone K.Keeper self.old.keeper self.new.keeper) }
-        // A crash leaves what it would have left before, or all that the call does.
+        // A crash leaves what it would have left before, what the history left, or all that the call does.
         ensures crash { LeavesStep K.Keeper self.old.keeper (Removing suite.now name.now moment) self.new.keeper }
         ensures done { K.is_clean self.new.keeper → IfOk result (λ _. removal_fault (K.book self.old.keeper) suite.now name.now moment ≡ None) }
         ensures late { latest < moment → result ≡ Err Fault.Moment }

@@ -1,4 +1,4 @@
-//! The archive: deliveries, queue runs, copies, removals, look-ups and lists of commands over any keeper.
+//! The archive: deliveries, also from a reader, queue runs, copies, removals, look-ups and lists of commands over any keeper.
 #![tactic(auto)]
 
 mod archive;
@@ -9,10 +9,13 @@ mod drive;
 mod fault;
 mod laws;
 mod once;
+mod reading;
+mod receipt;
 mod removal;
 mod renewal;
 mod report;
 mod run;
+mod storing;
 
 pub use archive::Archive;
 pub use command::{Arrived, Command, Outcome, Report};
@@ -22,3 +25,4 @@ pub use laws::{
     nothing_is_an_opening,
 };
 pub use once::drive_anew;
+pub use reading::{ReaderFailed, read_some};

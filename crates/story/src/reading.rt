@@ -3,7 +3,7 @@
 use crate::readers::Pieces;
 use desk::head::{Refusal, Wanted, read_wanted};
 use desk::request::{Request, read_request};
-use desk::transfer::ReaderFailed;
+use queue::ReaderFailed;
 use rows::Unread;
 use std::alloc::{AllocError, Global};
 use std::fmt::Write;
@@ -19,7 +19,7 @@ fn add_status(text: &mut String, read: &Result<Request, ReaderFailed>) -> Result
             let status = refusal.status().as_u16();
             write!(text, "{status}")
         }
-        Ok(Request::Asks(_, _)) => text.push_str("asks"),
+        Ok(Request::Asks(_)) => text.push_str("asks"),
         Err(ReaderFailed) => text.push_str("H1"),
     }
 }

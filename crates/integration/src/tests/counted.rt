@@ -1,4 +1,4 @@
-//! A keeper that counts the index texts that it is handed.
+//! A keeper that counts the index texts and the pieces of bodies that it is handed.
 
 use super::checks::{BOX, config_of, same};
 use super::uploads::{File, HELLO, MOMENT, TIE, TIE_AGAIN};
@@ -16,6 +16,8 @@ struct Counting<K: Keeper> {
     inner: K,
     /// How many texts all changes so far have named.
     texts: usize,
+    /// How many pieces of bodies have come so far.
+    pieces: usize,
 }
 
 impl<K: Keeper> Keeper for Counting<K> {
@@ -27,6 +29,8 @@ impl<K: Keeper> Keeper for Counting<K> {
 
     ghost book = { λ k. K.Keeper.book k.inner };
 
+    ghost coming = { λ k. K.Keeper.coming k.inner };
+
     ghost may_fail = { K.Keeper.may_fail };
 
     ghost may_leave = { λ k. K.Keeper.may_leave k.inner };
@@ -35,14 +39,21 @@ impl<K: Keeper> Keeper for Counting<K> {
         self.inner.config()
     }
 
-    fn arrive(
-        &mut self,
-        alloc: Global,
-        name: &str,
-        body: &[u8],
-        moment: u64,
-    ) -> Result<bool, KeepFault> {
-        self.inner.arrive(alloc, name, body, moment)
+    fn begin(&mut self, alloc: Global) -> Result<(), KeepFault> {
+        self.inner.begin(alloc)
+    }
+
+    fn piece(&mut self, alloc: Global, bytes: &[u8]) -> Result<(), KeepFault> {
+        self.pieces = self.pieces.saturating_add(1);
+        self.inner.piece(alloc, bytes)
+    }
+
+    fn finish(&mut self, alloc: Global, name: &str, moment: u64) -> Result<bool, KeepFault> {
+        self.inner.finish(alloc, name, moment)
+    }
+
+    fn abandon(&mut self) -> Result<(), KeepFault> {
+        self.inner.abandon()
     }
 
     fn complete_uploads(&mut self, alloc: Global, moment: u64) -> Result<Vec<Upload>, KeepFault> {
@@ -80,7 +91,11 @@ impl<K: Keeper> Keeper for Counting<K> {
 /// An archive in memory with one suite, box, whose texts are counted.
 fn counted(alloc: Global) -> Result<Archive<Counting<PlainKeeper>>, Fail> {
     let inner = PlainKeeper::new(alloc, config_of(alloc, BOX)?, 0)?;
-    Ok(Archive::new(Counting { inner, texts: 0 }))
+    Ok(Archive::new(Counting {
+        inner,
+        texts: 0,
+        pieces: 0,
+    }))
 }
 
 /// Checks the lines of a report.

@@ -1,0 +1,103 @@
+-- What is under way, as the calls of a keeper leave it.
+use Rattle.std.proofs.Common.{◌≡◌, ℕ, ◌++◌, Bool, true, false, List, [], Option, Some, None, option_map, IsTrue, Result, Ok, Err, OnErr, refl, sym, ap, subst, ◌∙◌, true≢false}
+use Rattle.std.proofs.Math.Logic.{∥∥₁_map}
+use Rattle.std.specs.Option.{option_and_then, option_map_or}
+use Rattle.std.specs.Prelude.{if◌then◌else◌}
+use Rattle.sqlite.specs.Effect.{Database}
+use Rattle.sqlite.specs.State.{State}
+use Rattle.sums.specs.Prints.{Holds}
+use Rattle.tables.specs.Rows.{Tables, tables_in}
+use Rattle.kept.specs.Archives.{KeepsArchive}
+use Rattle.kept.specs.Coming.{Comes, HasComing, bytes_so_far, coming_number}
+use Rattle.kept.specs.Kept.{piece_count}
+use Rattle.kept.specs.Transactions.{IsUndone}
+use Rattle.kept.proofs.ComingLemmas.{coming_bytes, whole_rows}
+use Rattle.kept.proofs.FinishedLemmas.{finished_rises}
+use Rattle.kept.specs.Finished.{finished}
+use Rattle.rules.specs.Values.{ConfigValue}
+use Rattle.suites.specs.Shelves.{ShelvesValue}
+use Rattle.keep.specs.declared.change.Judgement.{Judgement}
+use Rattle.bodies.specs.UnderWay.{IsBegun, IsUnderWay, coming_in}
+use Rattle.bodies.specs.declared.coming.Begun.{Begun}
+
+abbrev number_in : Option Begun → Option ℕ
+number_in begun = option_and_then (λ b. b.body) begun
+
+-- the bytes that came of what is under way, and where its rows are
+pub record Came (t : Tables) (begun : Option Begun) : Type 0 where
+  pub count : ℕ
+  pub bytes : List ℕ
+  pub comes : Comes t (number_in begun) count bytes
+
+pub came : (t : Tables) (begun : Option Begun) → IsUnderWay t begun → Came t begun
+came t None coming = record { count = 0; bytes = []; comes = nothing t coming }
+  where
+    nothing : (t : Tables) → HasComing t [] → Comes t None 0 []
+    unfolding coming_number
+    nothing t coming = record { coming = coming; number = refl; count = refl }
+came t (Some b) is = record { count = b.pieces; bytes = is.0; comes = is.1.comes }
+
+-- what is stopped is under way still, and none is coming
+pub stopped : (t : Tables) (old new : Option Begun) → new ≡ option_map (λ b. record b { is_coming = false }) old → IsUnderWay t old → IsUnderWay t new
+stopped t None new is coming = subst (IsUnderWay t) (sym is) coming
+stopped t (Some b) new is begun =
+    subst (IsUnderWay t) (sym is) (begun.0, record { comes = begun.1.comes; printer = λ no. absurd (true≢false (sym no)) })
+
+pub none_coming_of : (t : Tables) (old new : Option Begun) → new ≡ option_map (λ b. record b { is_coming = false }) old → coming_in t new ≡ None
+none_coming_of t None new is = ap (coming_in t) is
+none_coming_of t (Some b) new is = ap (coming_in t) is
+
+-- nothing is coming where none is said to be
+pub not_coming : (t : Tables) (begun : Option Begun) → option_map_or (λ b. b.is_coming) begun false ≡ false → coming_in t begun ≡ None
+not_coming t None is = refl
+not_coming t (Some b) is = ap (λ c. if c then Some (bytes_so_far t b.body) else None) is
+
+pub coming_not_none : (t : Tables) (begun : Option Begun) → option_map_or (λ b. b.is_coming) begun false ≡ true → coming_in t begun ≡ None → ⊥
+coming_not_none t None is none = true≢false (sym is)
+coming_not_none t (Some b) is none =
+    let both : Some (bytes_so_far t b.body) ≡ None = sym (ap (λ c. if c then Some (bytes_so_far t b.body) else None) is) ∙ none in cc
+
+-- a body without a byte
+pub just_begun : (t : Tables) (b : Begun) → HasComing t [] → b.body ≡ None → b.pieces ≡ 0 → Holds b.printer [] → IsBegun t b []
+unfolding coming_number
+just_begun t b coming body pieces printer = record { comes = record { coming = coming; number = body; count = pieces }; printer = λ _. printer }
+
+pub begun_coming : (t : Tables) (b : Begun) → b.body ≡ None → b.is_coming ≡ true → coming_in t (Some b) ≡ Some []
+begun_coming t b body is = ap (λ c. if c then Some (bytes_so_far t b.body) else None) is ∙ ap (λ o. Some (bytes_so_far t o)) body
+
+-- what is coming of an archive: the bytes that came
+pub its_bytes : (db : Database) {config : ConfigValue} {judged : List Judgement} {shown : ShelvesValue} {dates : List ℕ} → KeepsArchive db config judged shown dates
+    → (body : Option ℕ) (count : ℕ) (bytes : List ℕ) → Comes (tables_in db) body count bytes → bytes_so_far (tables_in db) body ≡ bytes
+its_bytes db keeps body count bytes comes =
+    let t = tables_in db in
+    let whole = whole_rows (finished t) (finished_rises t keeps.held.rows.bodies.rise) keeps.kept.bodies in
+    (λ i. bytes_so_far (comes.coming.rows i) (comes.number i)) ∙ coming_bytes bytes (finished t) whole
+
+-- of a body that is coming, those are the bytes
+pub coming_is : (db : Database) {config : ConfigValue} {judged : List Judgement} {shown : ShelvesValue} {dates : List ℕ} → KeepsArchive db config judged shown dates
+    → (b : Begun) (bytes body : List ℕ) → IsBegun (tables_in db) b bytes → coming_in (tables_in db) (Some b) ≡ Some body → (IsTrue b.is_coming) × (bytes ≡ body)
+coming_is db keeps b bytes body begun is = by b.is_coming refl
+  where
+    its : bytes_so_far (tables_in db) b.body ≡ bytes
+    its = its_bytes db keeps b.body b.pieces bytes begun.comes
+
+    by : (c : Bool) → b.is_coming ≡ c → (IsTrue b.is_coming) × (bytes ≡ body)
+    by true e =
+        let both : Some (bytes_so_far (tables_in db) b.body) ≡ Some body = sym (ap (λ c. if c then Some (bytes_so_far (tables_in db) b.body) else None) e) ∙ is in
+        (e, sym its ∙ (let one : bytes_so_far (tables_in db) b.body ≡ body = cc in one))
+    by false e = absurd (not_none (sym (ap (λ c. if c then Some (bytes_so_far (tables_in db) b.body) else None) e) ∙ is))
+      where
+        not_none : {X : Type 0} {x : X} → None ≡ Some x → ⊥
+        not_none e = cc
+
+-- a call that is undone leaves what was under way
+pub undone_under : (old new : State) (begun : Option Begun) → IsUndone old new → (IsTrue old.is_open → ∥ IsUnderWay (tables_in old.committed) begun ∥₁) → IsTrue new.is_open → ∥ IsUnderWay (tables_in new.committed) begun ∥₁
+undone_under old new begun undone was up = subst (λ db. ∥ IsUnderWay (tables_in db) begun ∥₁) (sym (undone.committed up)) (was (undone.was_open up))
+
+pub undone_kept : (P : Database → Type 0) (old new : State) → IsUndone old new → (IsTrue old.is_open → P old.committed) → IsTrue new.is_open → P new.committed
+undone_kept P old new undone was up = subst P (sym (undone.committed up)) (was (undone.was_open up))
+
+pub beside_under : (before after : Database) (begun : Option Begun) → ((body : Option ℕ) (count : ℕ) (bytes : List ℕ) → Comes (tables_in before) body count bytes → Comes (tables_in after) body count bytes)
+    → IsUnderWay (tables_in before) begun → IsUnderWay (tables_in after) begun
+beside_under before after None keeps coming = (keeps None 0 [] (came (tables_in before) None coming).comes).coming
+beside_under before after (Some b) keeps begun = (begun.0, record { comes = keeps b.body b.pieces begun.0 begun.1.comes; printer = begun.1.printer })
