@@ -61,9 +61,7 @@ impl<K: Keeper> Archive<K> {
         // A refusal leaves the book as it was, whatever the history.
         ensures err { OnErr result (IsUndone K.Keeper self.old.keeper self.new.keeper) }
         // A crash leaves what it would have left before, what the history left, or all that the call does.
-        ensures crash { LeavesStep K.Keeper self.old.keeper (Delivery name.now body.now moment) self.new.keeper }
-        // The first two of these also where two bodies have one print.
-        ensures stopped { LeavesDelivery K.Keeper self.old.keeper name.now body.now moment self.new.keeper }
+        ensures crash { LeavesDelivery K.Keeper self.old.keeper name.now body.now moment self.new.keeper }
         ensures done { IfOk result (λ _. delivery_fault name.now body.now moment ≡ None) }
         // The fault by name, body and moment, or else one of the keeper's own.
         ensures refused { IfErr result (λ e. (delivery_fault name.now body.now moment ≡ Some e) ⊎ IsKeepers K.may_fail (delivery_fault name.now body.now moment ≡ None) e) }
@@ -86,7 +84,7 @@ impl<K: Keeper> Archive<K> {
         ensures step { Does K.Keeper self.old.keeper (QueueRun moment) (reported result) self.new.keeper }
         // A refusal leaves the book as it was, whatever the history.
         ensures err { OnErr result (IsUndone K.Keeper self.old.keeper self.new.keeper) }
-        // A crash leaves what it would have left before, what the history left, or all that the call does.
+        // A crash leaves what it would have left before, or all that the call does.
         ensures crash { LeavesStep K.Keeper self.old.keeper (QueueRun moment) self.new.keeper }
         ensures late { latest < moment → result ≡ Err Fault.Moment }
         ensures refused { IfErr result (λ e. (latest < moment) ⊎ IsKeepers K.may_fail (moment ≤ latest) e) }
@@ -126,7 +124,7 @@ impl<K: Keeper> Archive<K> {
         ensures step { Does K.Keeper self.old.keeper (Copying from.now to.now source.now moment) (counted result) self.new.keeper }
         // A refusal leaves the book as it was, whatever the history.
         ensures err { OnErr result (IsUndone K.Keeper self.old.keeper self.new.keeper) }
-        // A crash leaves what it would have left before, what the history left, or all that the call does.
+        // A crash leaves what it would have left before, or all that the call does.
         ensures crash { LeavesStep K.Keeper self.old.keeper (Copying from.now to.now source.now moment) self.new.keeper }
         ensures done { K.is_clean self.new.keeper → IfOk result (λ _. copy_fault (K.book self.old.keeper) from.now to.now source.now moment ≡ None) }
         ensures late { latest < moment → result ≡ Err Fault.Moment }
@@ -169,7 +167,7 @@ impl<K: Keeper> Archive<K> {
         ensures step { Does K.Keeper self.old.keeper (Removing suite.now name.now moment) (counted result) self.new.keeper }
         // A refusal leaves the book as it was, whatever the history.
         ensures err { OnErr result (IsUndone K.Keeper self.old.keeper self.new.keeper) }
-        // A crash leaves what it would have left before, what the history left, or all that the call does.
+        // A crash leaves what it would have left before, or all that the call does.
         ensures crash { LeavesStep K.Keeper self.old.keeper (Removing suite.now name.now moment) self.new.keeper }
         ensures done { K.is_clean self.new.keeper → IfOk result (λ _. removal_fault (K.book self.old.keeper) suite.now name.now moment ≡ None) }
         ensures late { latest < moment → result ≡ Err Fault.Moment }

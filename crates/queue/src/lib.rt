@@ -21,8 +21,8 @@ pub use archive::Archive;
 pub use command::{Arrived, Command, Outcome, Report};
 pub use fault::Fault;
 pub use laws::{
-    a_book_opens_its_history, a_history_goes_on_from_its_book, a_stop_leaves_a_book,
-    nothing_is_an_opening,
+    a_book_opens_its_history, a_crash_is_of_a_call, a_history_goes_on_from_its_book,
+    a_stop_leaves_a_book, nothing_is_an_opening,
 };
 pub use once::drive_anew;
 pub use reading::{ReaderFailed, read_some};

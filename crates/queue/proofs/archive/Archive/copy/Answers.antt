@@ -202,14 +202,14 @@ returns-in_err-apply-clause-crash g c h kept faithful clean left may =
     let clean_then = reads.lasts.clean clean_now in
     elim (c.in_err-apply.ensures.crash clean left may) [
       | inl before ↦ inl (c.in_ok-shelves.ensures.reads.crash clean_then left (reads.crash clean_now left before))
-      | inr made ↦ inr (inr (left_whole h ((Copying c.args.from.now c.args.to.now c.args.source.now c.args.moment) ∷ []) faithful (g.K.Keeper.book c.renewed_texts.new.keeper) _ left (reads.same clean_now made.0 ∙ c.in_ok-shelves.ensures.reads.same clean_then (reads.lasts.was_open clean_now made.0) ∙ kept.stands (c.in_ok-shelves.ensures.reads.lasts.was_open clean_then (reads.lasts.was_open clean_now made.0))) made.1
+      | inr made ↦ inr (left_whole h ((Copying c.args.from.now c.args.to.now c.args.source.now c.args.moment) ∷ []) faithful (g.K.Keeper.book c.renewed_texts.new.keeper) _ left (reads.same clean_now made.0 ∙ c.in_ok-shelves.ensures.reads.same clean_then (reads.lasts.was_open clean_now made.0) ∙ kept.stands (c.in_ok-shelves.ensures.reads.lasts.was_open clean_then (reads.lasts.was_open clean_now made.0))) made.1
           ∙ ap Some (stands_answered g.K.Keeper.may_fail h (Copying c.args.from.now c.args.to.now c.args.source.now c.args.moment) (Count (length c.in_ok-plan.plan.put)) _
           (done_copy g.K.Keeper.may_fail h c.args.from.now c.args.to.now c.args.source.now c.args.moment c.in_ok-from.from c.in_ok-from.to ⊤
           (g.K.Keeper.book c.args.self.now.keeper) (g.K.Keeper.book c.renewed_texts.new.keeper) _ c.config-2.result.now c.in_ok-shelves.shelves c.in_ok-plan.plan c.in_ok-steps.steps c.from_vec.result (length c.in_ok-plan.plan.put)
           (kept.stands (c.in_ok-shelves.ensures.reads.lasts.was_open clean_then (reads.lasts.was_open clean_now made.0))) faithful c.if-moment-gt-LATEST.false
           (reads.same clean_now made.0 ∙ c.in_ok-shelves.ensures.reads.same clean_then (reads.lasts.was_open clean_now made.0)) (c.in_ok-shelves.ensures.shelves clean_then) c.in_ok-steps.ensures.steps
           (subst (λ config. AreSuites config c.args.from.now c.args.to.now c.in_ok-from.from c.in_ok-from.to) c.config.ensures c.in_ok-from.ensures.suites)
-          (c.config-2.ensures ∙ sym reads.lasts.config) c.in_ok-plan.ensures.plan (λ bodies apart have. refl) refl))))
+          (c.config-2.ensures ∙ sym reads.lasts.config) c.in_ok-plan.ensures.plan (λ bodies apart have. refl) refl)))
     ]
 
 pub returns-clause-crash : goal.returns-clause-crash
@@ -219,12 +219,12 @@ returns-clause-crash g c h kept faithful clean left may =
     let clean_then = reads.lasts.clean clean_now in
     elim (c.in_ok-apply.ensures.crash clean left may) [
       | inl before ↦ inl (c.in_ok-shelves.ensures.reads.crash clean_then left (reads.crash clean_now left before))
-      | inr made ↦ inr (inr (left_whole h ((Copying c.args.from.now c.args.to.now c.args.source.now c.args.moment) ∷ []) faithful (g.K.Keeper.book c.renewed_texts.new.keeper) _ left (reads.same clean_now made.0 ∙ c.in_ok-shelves.ensures.reads.same clean_then (reads.lasts.was_open clean_now made.0) ∙ kept.stands (c.in_ok-shelves.ensures.reads.lasts.was_open clean_then (reads.lasts.was_open clean_now made.0))) made.1
+      | inr made ↦ inr (left_whole h ((Copying c.args.from.now c.args.to.now c.args.source.now c.args.moment) ∷ []) faithful (g.K.Keeper.book c.renewed_texts.new.keeper) _ left (reads.same clean_now made.0 ∙ c.in_ok-shelves.ensures.reads.same clean_then (reads.lasts.was_open clean_now made.0) ∙ kept.stands (c.in_ok-shelves.ensures.reads.lasts.was_open clean_then (reads.lasts.was_open clean_now made.0))) made.1
           ∙ ap Some (stands_answered g.K.Keeper.may_fail h (Copying c.args.from.now c.args.to.now c.args.source.now c.args.moment) (Count (length c.in_ok-plan.plan.put)) _
           (done_copy g.K.Keeper.may_fail h c.args.from.now c.args.to.now c.args.source.now c.args.moment c.in_ok-from.from c.in_ok-from.to ⊤
           (g.K.Keeper.book c.args.self.now.keeper) (g.K.Keeper.book c.renewed_texts.new.keeper) _ c.config-2.result.now c.in_ok-shelves.shelves c.in_ok-plan.plan c.in_ok-steps.steps c.from_vec.result (length c.in_ok-plan.plan.put)
           (kept.stands (c.in_ok-shelves.ensures.reads.lasts.was_open clean_then (reads.lasts.was_open clean_now made.0))) faithful c.if-moment-gt-LATEST.false
           (reads.same clean_now made.0 ∙ c.in_ok-shelves.ensures.reads.same clean_then (reads.lasts.was_open clean_now made.0)) (c.in_ok-shelves.ensures.shelves clean_then) c.in_ok-steps.ensures.steps
           (subst (λ config. AreSuites config c.args.from.now c.args.to.now c.in_ok-from.from c.in_ok-from.to) c.config.ensures c.in_ok-from.ensures.suites)
-          (c.config-2.ensures ∙ sym reads.lasts.config) c.in_ok-plan.ensures.plan (λ bodies apart have. refl) refl))))
+          (c.config-2.ensures ∙ sym reads.lasts.config) c.in_ok-plan.ensures.plan (λ bodies apart have. refl) refl)))
     ]

@@ -47,52 +47,22 @@ returns-else-branch-clause-step g c h kept faithful clean =
     c.in_ok-check_delivery.ensures.judged (rw c.if-branch.false at told) (c.in_ok-arrive.ensures.ok clean)
 
 pub returns-in_err-check_delivery-clause-crash : goal.returns-in_err-check_delivery-clause-crash
-returns-in_err-check_delivery-clause-crash g c h kept faithful clean left may = inl may
-
-pub returns-in_err-check_delivery-clause-stopped : goal.returns-in_err-check_delivery-clause-stopped
-returns-in_err-check_delivery-clause-stopped g c h kept clean left may = inl may
-
-pub returns-in_err-arrive-clause-stopped : goal.returns-in_err-arrive-clause-stopped
-returns-in_err-arrive-clause-stopped g c h kept clean left may = elim (c.in_err-arrive.ensures.crash clean left may) [
-  | inl before ↦ inl before
-  | inr made ↦ inr (left_delivered g.K.Keeper.may_fail h c.args.name.now c.args.body.now c.args.moment _ (g.K.Keeper.book c.args.self.now.keeper) left kept c.in_ok-check_delivery.ensures.judged made)
-]
+returns-in_err-check_delivery-clause-crash g c h kept clean left may = inl may
 
 pub returns-in_err-arrive-clause-crash : goal.returns-in_err-arrive-clause-crash
-returns-in_err-arrive-clause-crash g c h kept faithful clean left may = elim (c.in_err-arrive.ensures.crash clean left may) [
-  | inl before ↦ inl before
-  | inr made ↦ inr (elim (left_delivered g.K.Keeper.may_fail h c.args.name.now c.args.body.now c.args.moment _ (g.K.Keeper.book c.args.self.now.keeper) left kept c.in_ok-check_delivery.ensures.judged made) [
-    | inl is ↦ inl is
-    | inr whole ↦ inr (whole faithful)
-  ])
-]
-
-pub returns-then-branch-clause-stopped : goal.returns-then-branch-clause-stopped
-returns-then-branch-clause-stopped g c h kept clean left may = elim (c.in_ok-arrive.ensures.crash clean left may) [
+returns-in_err-arrive-clause-crash g c h kept clean left may = elim (c.in_err-arrive.ensures.crash clean left may) [
   | inl before ↦ inl before
   | inr made ↦ inr (left_delivered g.K.Keeper.may_fail h c.args.name.now c.args.body.now c.args.moment _ (g.K.Keeper.book c.args.self.now.keeper) left kept c.in_ok-check_delivery.ensures.judged made)
 ]
 
 pub returns-then-branch-clause-crash : goal.returns-then-branch-clause-crash
-returns-then-branch-clause-crash g c h kept faithful clean left may = elim (c.in_ok-arrive.ensures.crash clean left may) [
-  | inl before ↦ inl before
-  | inr made ↦ inr (elim (left_delivered g.K.Keeper.may_fail h c.args.name.now c.args.body.now c.args.moment _ (g.K.Keeper.book c.args.self.now.keeper) left kept c.in_ok-check_delivery.ensures.judged made) [
-    | inl is ↦ inl is
-    | inr whole ↦ inr (whole faithful)
-  ])
-]
-
-pub returns-else-branch-clause-stopped : goal.returns-else-branch-clause-stopped
-returns-else-branch-clause-stopped g c h kept clean left may = elim (c.in_ok-arrive.ensures.crash clean left may) [
+returns-then-branch-clause-crash g c h kept clean left may = elim (c.in_ok-arrive.ensures.crash clean left may) [
   | inl before ↦ inl before
   | inr made ↦ inr (left_delivered g.K.Keeper.may_fail h c.args.name.now c.args.body.now c.args.moment _ (g.K.Keeper.book c.args.self.now.keeper) left kept c.in_ok-check_delivery.ensures.judged made)
 ]
 
 pub returns-else-branch-clause-crash : goal.returns-else-branch-clause-crash
-returns-else-branch-clause-crash g c h kept faithful clean left may = elim (c.in_ok-arrive.ensures.crash clean left may) [
+returns-else-branch-clause-crash g c h kept clean left may = elim (c.in_ok-arrive.ensures.crash clean left may) [
   | inl before ↦ inl before
-  | inr made ↦ inr (elim (left_delivered g.K.Keeper.may_fail h c.args.name.now c.args.body.now c.args.moment _ (g.K.Keeper.book c.args.self.now.keeper) left kept c.in_ok-check_delivery.ensures.judged made) [
-    | inl is ↦ inl is
-    | inr whole ↦ inr (whole faithful)
-  ])
+  | inr made ↦ inr (left_delivered g.K.Keeper.may_fail h c.args.name.now c.args.body.now c.args.moment _ (g.K.Keeper.book c.args.self.now.keeper) left kept c.in_ok-check_delivery.ensures.judged made)
 ]

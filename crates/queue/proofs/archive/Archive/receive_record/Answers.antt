@@ -42,7 +42,7 @@ returns-clause-received g c =
 
 pub returns-clause-crash : goal.returns-clause-crash
 returns-clause-crash g c h kept clean left may =
-    let stopped = rw c.as_slice.ensures.value at c.deliver.ensures.stopped in
+    let stopped = rw c.as_slice.ensures.value at c.deliver.ensures.crash in
     elim (stopped h kept clean left may) [
       | inl before ↦ inl before
       | inr made ↦ inr (elim made [

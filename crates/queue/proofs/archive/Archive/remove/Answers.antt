@@ -189,14 +189,14 @@ returns-in_err-apply-clause-crash g c h kept faithful clean left may =
     let clean_then = reads.lasts.clean clean_now in
     elim (c.in_err-apply.ensures.crash clean left may) [
       | inl before ↦ inl (c.in_ok-shelves.ensures.reads.crash clean_then left (reads.crash clean_now left before))
-      | inr made ↦ inr (inr (left_whole h ((Removing c.args.suite.now c.args.name.now c.args.moment) ∷ []) faithful (g.K.Keeper.book c.renewed_texts.new.keeper) _ left (reads.same clean_now made.0 ∙ c.in_ok-shelves.ensures.reads.same clean_then (reads.lasts.was_open clean_now made.0) ∙ kept.stands (c.in_ok-shelves.ensures.reads.lasts.was_open clean_then (reads.lasts.was_open clean_now made.0))) made.1
+      | inr made ↦ inr (left_whole h ((Removing c.args.suite.now c.args.name.now c.args.moment) ∷ []) faithful (g.K.Keeper.book c.renewed_texts.new.keeper) _ left (reads.same clean_now made.0 ∙ c.in_ok-shelves.ensures.reads.same clean_then (reads.lasts.was_open clean_now made.0) ∙ kept.stands (c.in_ok-shelves.ensures.reads.lasts.was_open clean_then (reads.lasts.was_open clean_now made.0))) made.1
           ∙ ap Some (stands_answered g.K.Keeper.may_fail h (Removing c.args.suite.now c.args.name.now c.args.moment) (Count (length c.in_ok-plan.plan.dropped)) _
           (done_removal g.K.Keeper.may_fail h c.args.suite.now c.args.name.now c.args.moment c.in_ok-place.place ⊤
           (g.K.Keeper.book c.args.self.now.keeper) (g.K.Keeper.book c.renewed_texts.new.keeper) _ c.in_ok-shelves.shelves c.in_ok-plan.plan c.in_ok-steps.steps c.from_vec.result (length c.in_ok-plan.plan.dropped)
           (kept.stands (c.in_ok-shelves.ensures.reads.lasts.was_open clean_then (reads.lasts.was_open clean_now made.0))) faithful c.if-moment-gt-LATEST.false
           (reads.same clean_now made.0 ∙ c.in_ok-shelves.ensures.reads.same clean_then (reads.lasts.was_open clean_now made.0)) (c.in_ok-shelves.ensures.shelves clean_then) c.in_ok-steps.ensures.steps
           (subst (λ config. suite_named config c.args.suite.now ≡ Some c.in_ok-place.place) c.config.ensures c.in_ok-place.ensures.suite)
-          c.in_ok-plan.ensures.plan (λ bodies apart have. refl) refl))))
+          c.in_ok-plan.ensures.plan (λ bodies apart have. refl) refl)))
     ]
 
 pub returns-clause-crash : goal.returns-clause-crash
@@ -206,12 +206,12 @@ returns-clause-crash g c h kept faithful clean left may =
     let clean_then = reads.lasts.clean clean_now in
     elim (c.in_ok-apply.ensures.crash clean left may) [
       | inl before ↦ inl (c.in_ok-shelves.ensures.reads.crash clean_then left (reads.crash clean_now left before))
-      | inr made ↦ inr (inr (left_whole h ((Removing c.args.suite.now c.args.name.now c.args.moment) ∷ []) faithful (g.K.Keeper.book c.renewed_texts.new.keeper) _ left (reads.same clean_now made.0 ∙ c.in_ok-shelves.ensures.reads.same clean_then (reads.lasts.was_open clean_now made.0) ∙ kept.stands (c.in_ok-shelves.ensures.reads.lasts.was_open clean_then (reads.lasts.was_open clean_now made.0))) made.1
+      | inr made ↦ inr (left_whole h ((Removing c.args.suite.now c.args.name.now c.args.moment) ∷ []) faithful (g.K.Keeper.book c.renewed_texts.new.keeper) _ left (reads.same clean_now made.0 ∙ c.in_ok-shelves.ensures.reads.same clean_then (reads.lasts.was_open clean_now made.0) ∙ kept.stands (c.in_ok-shelves.ensures.reads.lasts.was_open clean_then (reads.lasts.was_open clean_now made.0))) made.1
           ∙ ap Some (stands_answered g.K.Keeper.may_fail h (Removing c.args.suite.now c.args.name.now c.args.moment) (Count (length c.in_ok-plan.plan.dropped)) _
           (done_removal g.K.Keeper.may_fail h c.args.suite.now c.args.name.now c.args.moment c.in_ok-place.place ⊤
           (g.K.Keeper.book c.args.self.now.keeper) (g.K.Keeper.book c.renewed_texts.new.keeper) _ c.in_ok-shelves.shelves c.in_ok-plan.plan c.in_ok-steps.steps c.from_vec.result (length c.in_ok-plan.plan.dropped)
           (kept.stands (c.in_ok-shelves.ensures.reads.lasts.was_open clean_then (reads.lasts.was_open clean_now made.0))) faithful c.if-moment-gt-LATEST.false
           (reads.same clean_now made.0 ∙ c.in_ok-shelves.ensures.reads.same clean_then (reads.lasts.was_open clean_now made.0)) (c.in_ok-shelves.ensures.shelves clean_then) c.in_ok-steps.ensures.steps
           (subst (λ config. suite_named config c.args.suite.now ≡ Some c.in_ok-place.place) c.config.ensures c.in_ok-place.ensures.suite)
-          c.in_ok-plan.ensures.plan (λ bodies apart have. refl) refl))))
+          c.in_ok-plan.ensures.plan (λ bodies apart have. refl) refl)))
     ]

@@ -203,7 +203,7 @@ returns-in_err-apply-clause-crash g c h kept faithful clean left may =
           let up_then = reads.lasts.was_open clean_now made.0 in
           let up_first = c.in_ok-shelves.ensures.reads.lasts.was_open clean_then up_then in
           let listed = c.in_ok-uploads.ensures.reads.same clean_first up_first in
-          inr (inr (left_whole h ((QueueRun c.args.moment) ∷ []) faithful (g.K.Keeper.book c.renewed_texts.new.keeper) _ left (reads.same clean_now made.0 ∙ c.in_ok-shelves.ensures.reads.same clean_then up_then ∙ listed ∙ kept.stands (c.in_ok-uploads.ensures.reads.lasts.was_open clean_first up_first)) made.1
+          inr (left_whole h ((QueueRun c.args.moment) ∷ []) faithful (g.K.Keeper.book c.renewed_texts.new.keeper) _ left (reads.same clean_now made.0 ∙ c.in_ok-shelves.ensures.reads.same clean_then up_then ∙ listed ∙ kept.stands (c.in_ok-uploads.ensures.reads.lasts.was_open clean_first up_first)) made.1
           ∙ ap Some (stands_answered g.K.Keeper.may_fail h (QueueRun c.args.moment) (Lines (map report_line (judgements c.in_ok-steps.steps.items))) _
           (ran_step g.K.Keeper.may_fail h c.args.moment ⊤ (g.K.Keeper.book c.args.self.now.keeper) (g.K.Keeper.book c.renewed_texts.new.keeper) _
           c.config.result.now c.in_ok-shelves.shelves
@@ -219,7 +219,7 @@ returns-in_err-apply-clause-crash g c h kept faithful clean left may =
           c.in_ok-steps.ensures.sound
           c.in_ok-steps.ensures.steps
           (λ bodies apart have. refl)
-          refl))))
+          refl)))
     ]
 
 pub returns-clause-crash : goal.returns-clause-crash
@@ -234,7 +234,7 @@ returns-clause-crash g c h kept faithful clean left may =
           let up_then = reads.lasts.was_open clean_now made.0 in
           let up_first = c.in_ok-shelves.ensures.reads.lasts.was_open clean_then up_then in
           let listed = c.in_ok-uploads.ensures.reads.same clean_first up_first in
-          inr (inr (left_whole h ((QueueRun c.args.moment) ∷ []) faithful (g.K.Keeper.book c.renewed_texts.new.keeper) _ left (reads.same clean_now made.0 ∙ c.in_ok-shelves.ensures.reads.same clean_then up_then ∙ listed ∙ kept.stands (c.in_ok-uploads.ensures.reads.lasts.was_open clean_first up_first)) made.1
+          inr (left_whole h ((QueueRun c.args.moment) ∷ []) faithful (g.K.Keeper.book c.renewed_texts.new.keeper) _ left (reads.same clean_now made.0 ∙ c.in_ok-shelves.ensures.reads.same clean_then up_then ∙ listed ∙ kept.stands (c.in_ok-uploads.ensures.reads.lasts.was_open clean_first up_first)) made.1
           ∙ ap Some (stands_answered g.K.Keeper.may_fail h (QueueRun c.args.moment) (Lines (map report_line (judgements c.in_ok-steps.steps.items))) _
           (ran_step g.K.Keeper.may_fail h c.args.moment ⊤ (g.K.Keeper.book c.args.self.now.keeper) (g.K.Keeper.book c.renewed_texts.new.keeper) _
           c.config.result.now c.in_ok-shelves.shelves
@@ -250,5 +250,5 @@ returns-clause-crash g c h kept faithful clean left may =
           c.in_ok-steps.ensures.sound
           c.in_ok-steps.ensures.steps
           (λ bodies apart have. refl)
-          refl))))
+          refl)))
     ]
