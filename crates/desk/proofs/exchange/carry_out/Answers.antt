@@ -1,6 +1,8 @@
-use Rattle.std.proofs.Common.{◌≤◌, Ok, Err, ap, refl, false, option_map}
+use Rattle.std.proofs.Common.{◌≤◌, Ok, Err, ap, subst, refl, false, option_map}
 use Rattle.desk.specs.Message.{message_of}
-use Rattle.desk.specs.Want.{copying, fetching, queue_run, removing, verdict_list, waiting_list}
+use Rattle.desk.specs.Request.{body_length, want_of}
+use Rattle.desk.specs.Want.{copying, delivery, fetching, queue_run, removing, verdict_list, waiting_list}
+use Rattle.desk.specs.declared.head.Wanted.{Wanted}
 use Rattle.queue.specs.Commands.{lines_of}
 use Rattle.queue.specs.Histories.{Lines, Count, Found}
 use Rattle.desk.proofs.ExchangeLemmas.{received_done, received_not, reply_missing, reply_told, without_body}
@@ -14,15 +16,15 @@ returns-in-Ok-clause-carried_out g c =
 pub returns-in-Err-clause-carried_out : goal.returns-in-Err-clause-carried_out
 returns-in-Err-clause-carried_out g c =
     let received = rw c.as_str.ensures.value at c.in-Err.ensures.received in
-    let small : c.in-Deliver.length ≤ 4194304 = rw c.in-Deliver.is at c.requires in
-    rw c.in-Deliver.is (reply_told g.K.Keeper _ _ _ _ _ c.args.moment c.reception_reply.result _ c.reception_reply.ensures
+    let small : c.in-Deliver.length ≤ 4194304 = subst (λ (w : Wanted). body_length (want_of w) ≤ 4194304) c.in-Deliver.is c.requires in
+    rw c.in-Deliver.is (reply_told g.K.Keeper _ _ _ _ (delivery _ c.in-Deliver.length) c.args.moment c.reception_reply.result _ c.reception_reply.ensures
     (received_not g.K.Keeper _ _ _ _ _ c.in-Deliver.length c.args.moment c.in-Err.fault small received))
 
 pub returns-in-Err-clause-err : goal.returns-in-Err-clause-err
 returns-in-Err-clause-err g c =
     let received = rw c.as_str.ensures.value at c.in-Err.ensures.received in
-    let small : c.in-Deliver.length ≤ 4194304 = rw c.in-Deliver.is at c.requires in
-    rw c.in-Deliver.is (reply_missing g.K.Keeper _ _ _ _ _ c.args.moment c.reception_reply.result _ c.reception_reply.ensures
+    let small : c.in-Deliver.length ≤ 4194304 = subst (λ (w : Wanted). body_length (want_of w) ≤ 4194304) c.in-Deliver.is c.requires in
+    rw c.in-Deliver.is (reply_missing g.K.Keeper _ _ _ _ (delivery _ c.in-Deliver.length) c.args.moment c.reception_reply.result _ c.reception_reply.ensures
     (received_not g.K.Keeper _ _ _ _ _ c.in-Deliver.length c.args.moment c.in-Err.fault small received))
 
 pub returns-in-Ok-run-clause-carried_out : goal.returns-in-Ok-run-clause-carried_out
@@ -31,7 +33,7 @@ returns-in-Ok-run-clause-carried_out g c =
 
 pub returns-in-Err-run-clause-carried_out : goal.returns-in-Err-run-clause-carried_out
 returns-in-Err-run-clause-carried_out g c =
-    rw c.in-Run.is (without_body g.K.Keeper _ _ _ queue_run c.args.moment _ refl (record { outcome = Err c.in-Err-run.fault; done = c.in-Err-run.ensures.step; message_is = c.fault_reply-in-Err-run.ensures }))
+    rw c.in-Run.is (without_body g.K.Keeper _ _ _ queue_run c.args.moment _ refl (record { outcome = Err c.in-Err-run.fault; done = c.in-Err-run.ensures.step; message_is = c.fault_reply.ensures }))
 
 pub returns-in-Ok-copy-clause-carried_out : goal.returns-in-Ok-copy-clause-carried_out
 returns-in-Ok-copy-clause-carried_out g c =

@@ -17,12 +17,12 @@ carry_out-requires g c =
     let h = rw c.in-Ok-Asks.field-0-is at c.in-Ok-Asks.ensures.ok in
     small_body h.head (want_of c.in-Ok-Asks.wanted) h.asked
 
-pub returns-in_err-reply-clause-err : goal.returns-in_err-reply-clause-err
-returns-in_err-reply-clause-err g c =
+pub returns-in_err-reply-in-Ok-Asks-clause-err : goal.returns-in_err-reply-in-Ok-Asks-clause-err
+returns-in_err-reply-in-Ok-Asks-clause-err g c =
     let h = rw c.in-Ok-Asks.field-0-is at c.in-Ok-Asks.ensures.ok in
-    on_err c.from_residual.result (broken_behind g.K.Keeper _ _ _ _ _ (want_of c.in-Ok-Asks.wanted) h c.in_err-reply.ensures.err)
+    on_err c.from_residual.result (broken_behind g.K.Keeper _ _ _ _ _ (want_of c.in-Ok-Asks.wanted) h c.in_err-reply-in-Ok-Asks.ensures.err)
 
-pub returns-in-Ok-Asks-clause-ok : goal.returns-in-Ok-Asks-clause-ok
-returns-in-Ok-Asks-clause-ok g c =
+pub returns-in_ok-reply-in-Ok-Asks-clause-ok : goal.returns-in_ok-reply-in-Ok-Asks-clause-ok
+returns-in_ok-reply-in-Ok-Asks-clause-ok g c =
     let h = rw c.in-Ok-Asks.field-0-is at c.in-Ok-Asks.ensures.ok in
-    handled_asked g.K.Keeper _ _ _ _ _ (want_of c.in-Ok-Asks.wanted) c.args.moment _ h c.in_ok-reply.ensures.carried_out
+    handled_asked g.K.Keeper _ _ _ _ _ (want_of c.in-Ok-Asks.wanted) c.args.moment _ h c.in_ok-reply-in-Ok-Asks.ensures.carried_out
