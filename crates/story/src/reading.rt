@@ -62,7 +62,8 @@ fn other_status(
     Ok(Some(told.into_bytes()))
 }
 
-/// `status BYTES`: what the request is answered, and how many bytes behind it are left unread, however many come a read.
+/// `status BYTES`: what the head of a request is answered before the archive is called, and how many bytes behind it are left unread,
+/// however many come a read.
 pub fn status(alloc: Global, words: &[Vec<u8>]) -> Result<Vec<u8>, Unread> {
     let [bytes] = words else {
         return Err(Unread::BadWords);

@@ -7,7 +7,7 @@ use crate::numbers::numbers;
 use crate::outcomes::printed;
 use crate::reading::{status, wanted};
 use crate::receptions::{receive, receive_fails};
-use crate::requests::request;
+use crate::requests::{left, request};
 use crate::steps::{copy, deliver, has, moment_of, remove, run, show, verdicts, waiting};
 use keep::{KeepFault, Keeper, LATEST};
 use queue::Archive;
@@ -32,6 +32,7 @@ fn asked_by_reader<K: Keeper>(
 ) -> Result<Vec<u8>, Unread> {
     match verb {
         "request" => request(alloc, archive, words),
+        "left" => left(alloc, archive, words),
         "cut" => cut(alloc, archive, words, false),
         "reader-fails" => cut(alloc, archive, words, true),
         "receive" => receive(alloc, archive, words),
