@@ -237,7 +237,8 @@ fn expect_cut_request<K: Keeper>(
     archive: &mut Archive<Counting<K>>,
 ) -> Result<(), Fail> {
     let front = front_of_body(alloc)?;
-    let request = [HEAD, front.as_slice()].concat(alloc)?;
+    let mut request = Vec::from_slice(alloc, HEAD)?;
+    request.extend_from_slice(front.as_slice())?;
     expect_failed(rt, alloc, archive, request.as_slice());
     expect_two_pieces(rt, alloc, archive, front.as_slice());
     Ok(())
