@@ -13,10 +13,10 @@ use Rattle.tables.specs.Rows.{Numbered, Rises, Tables, rows_of, without}
 use Rattle.tables.specs.declared.rows.Body.{Body}
 use Rattle.tables.specs.declared.rows.Piece.{Piece}
 use Rattle.tables_read.specs.All.{AreConstrained}
-use Rattle.kept.specs.Finished.{finished, is_of_unfinished, is_unfinished}
+use Rattle.kept.specs.Finished.{finished, is_of_unfinished, is_unfinished, without_all, without_whole}
 use Rattle.kept.specs.Kept.{AreReadable, has_body}
 use Rattle.kept.proofs.Searches.{any_parts, any_same, filter_same_on, filter_twice, list_any-filter}
-use Rattle.keep_open.specs.Finishing.{are_named, is_among, unfinished_ids, without_all, without_whole}
+use Rattle.keep_open.specs.Finishing.{are_named, is_among, unfinished_ids}
 use Rattle.audit.specs.Whole.{KeepsNone}
 
 -- ---- tests and lists
@@ -43,10 +43,6 @@ taken_out q (n ∷ ns) xs =
 pub nil_if : (ids : List ℕ) → length ids ≡ 0 → ids ≡ []
 nil_if [] none = refl
 nil_if (n ∷ ns) none = absurd (omega (arith, none))
-
-pub some_length : (ids : List ℕ) → ids ≢ [] → 0 < length ids
-some_length [] some = absurd (some refl)
-some_length (n ∷ ns) some = omega arith
 
 -- ---- the numbers of bodies that are not whole
 

@@ -20,9 +20,12 @@ use Rattle.kept.specs.Kept.{AreReadable, IsKept, book_in}
 use Rattle.kept.specs.Shown.{shown_in}
 use Rattle.kept.proofs.CallLemmas.{kept_here, shown_here}
 use Rattle.kept.proofs.RealRows.{kept_readable, kept_real}
-use Rattle.kept.specs.Finished.{finished, is_unfinished}
+use Rattle.kept.proofs.ComingLemmas.{none_coming}
+use Rattle.kept.proofs.FinishedLemmas.{finished_twice}
+use Rattle.kept.specs.Coming.{HasComing}
+use Rattle.kept.specs.Finished.{finished, is_unfinished, without_all}
 use Rattle.kept.specs.Transactions.{IsDone, IsUndone, MayCommit}
-use Rattle.keep_open.specs.Finishing.{unfinished_ids, without_all}
+use Rattle.keep_open.specs.Finishing.{unfinished_ids}
 use Rattle.audit.specs.Whole.{KeepsNone, KeepsSome}
 use Rattle.keep_open.specs.Opened.{HasUnfinished, IsArchiveOf, IsFinished, IsFound, IsNoArchive}
 use Rattle.keep_open.proofs.FinishLemmas.{finished_as}
@@ -73,7 +76,7 @@ pub no_tables : (db : Database) → (db.schema ≡ archive_schema → ⊥) → I
 no_tables db other archive config judged shown dates h = other archive.schema
 
 -- the archive of a database, with what the rows show
-archive_shown : (db : Database) (config : ConfigValue) (judged : List Judgement) (dates : List ℕ) → IsArchive db → KeepsSome (tables_in db) config judged dates
+archive_shown : (db : Database) (config : ConfigValue) (judged : List Judgement) (dates : List ℕ) → IsArchive db → KeepsSome (finished (tables_in db)) config judged dates
     → ∥ KeepsArchive db config judged (shown_in config.suites (tables_in db)) dates ∥₁
 archive_shown db config judged dates held keeps = ∥∥₁_map keeps (λ some. kept_here db (record { held = held; kept = some.1 }))
 
@@ -89,15 +92,28 @@ module _ (s : State) (config : ConfigValue) (judged : List Judgement) (dates ids
       let same : ids ≡ unfinished_ids t.bodies = found.are ∙ ap (λ u. unfinished_ids u.bodies) (held_tables s.now t held) in
       ap (λ l. without_all l t) same ∙ finished_as t (rising s.now t held)
 
+  -- a database with those rows holds the finished ones
   pub finished_now : (new : Database) (t : Tables) → Holds s.now t → Holds new (without_all ids t) → Holds new (finished t)
   finished_now new t held now = subst (Holds new) (without_ids t held) now
 
-  -- a database with those rows keeps the archive
+  rows_are : (new : Database) → ((t : Tables) → Holds s.now t → Holds new (without_all ids t)) → tables_in new ≡ finished (tables_in s.now)
+  rows_are new now =
+      let t = tables_in s.now in
+      held_tables new (finished t) (finished_now new t found.archive.0 (now t found.archive.0))
+
+  rows_finished_are : (new : Database) → ((t : Tables) → Holds s.now t → Holds new (without_all ids t)) → finished (tables_in new) ≡ finished (tables_in s.now)
+  rows_finished_are new now = ap finished (rows_are new now) ∙ finished_twice (tables_in s.now)
+
+  -- it keeps the archive
   pub keeps_finished : (new : Database) → ((t : Tables) → Holds s.now t → Holds new (without_all ids t)) → ∥ KeepsArchive new config judged (shown_in config.suites (tables_in new)) dates ∥₁
   keeps_finished new now =
       let t = tables_in s.now in
       let held = finished_now new t found.archive.0 (now t found.archive.0) in
-      archive_shown new config judged dates (is_archive new (finished t) held) (subst (λ u. KeepsSome u config judged dates) (sym (held_tables new (finished t) held)) found.archive.1)
+      archive_shown new config judged dates (is_archive new (finished t) held) (subst (λ u. KeepsSome u config judged dates) (sym (rows_finished_are new now)) found.archive.1)
+
+  -- each of its bodies is whole
+  pub whole_finished : (new : Database) → ((t : Tables) → Holds s.now t → Holds new (without_all ids t)) → HasComing (tables_in new) []
+  whole_finished new now = none_coming (tables_in new) (rows_finished_are new now ∙ sym (rows_are new now))
 
   -- and its book is that of the finished rows
   pub finished_book : (new : Database) → ((t : Tables) → Holds s.now t → Holds new (without_all ids t))
@@ -105,10 +121,10 @@ module _ (s : State) (config : ConfigValue) (judged : List Judgement) (dates ids
   finished_book new now =
       let t = tables_in s.now in
       let held : Holds new (finished t) = finished_now new t found.archive.0 (now t found.archive.0) in
-      let is : tables_in new ≡ finished t = held_tables new (finished t) held in
+      let is : finished (tables_in new) ≡ finished t = rows_finished_are new now in
       subst (λ db. KeepsFinished db config (book_of new config judged (shown_in config.suites (tables_in new)) dates)) found.rests
       (∥∥₁_map found.archive.1 (λ some.
-      let kept : IsKept (tables_in new) config judged some.0 dates = subst (λ u. IsKept u config judged some.0 dates) (sym is) some.1 in
+      let kept : IsKept (finished (tables_in new)) config judged some.0 dates = subst (λ u. IsKept u config judged some.0 dates) (sym is) some.1 in
       let shows : shown_in config.suites (tables_in new) ≡ some.0 = shown_here new (record { held = is_archive new (finished t) held; kept = kept }) in
       (judged, some.0, dates, found.archive.0, some.1, λ i. book_in config judged (shows i) dates (is i))))
 
@@ -146,6 +162,9 @@ module _ (s : State) (config : ConfigValue) (judged : List Judgement) (dates ids
   -- without any numbers the database is the archive's
   pub keeps_same : ids ≡ [] → ∥ KeepsArchive s.committed config judged (shown_in config.suites (tables_in s.committed)) dates ∥₁
   keeps_same none = keeps_finished s.committed (λ t held. subst (λ l. Holds s.committed (without_all l t)) (sym none) (subst (λ db. Holds db t) found.rests held))
+
+  pub whole_same : ids ≡ [] → HasComing (tables_in s.committed) []
+  whole_same none = whole_finished s.committed (λ t held. subst (λ l. Holds s.committed (without_all l t)) (sym none) (subst (λ db. Holds db t) found.rests held))
 
 -- ---- what was found before
 

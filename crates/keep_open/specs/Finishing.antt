@@ -1,8 +1,6 @@
 -- The words of the functions on bodies that are not whole.
-use Rattle.std.specs.Prelude.{ℕ, nat_eq, Bool, ◌||◌, List, map, filter, fold}
+use Rattle.std.specs.Prelude.{ℕ, nat_eq, Bool, ◌||◌, List, map, filter}
 use Rattle.std.specs.List.{list_any}
-use Rattle.tables.specs.Bodies.{without_body}
-use Rattle.tables.specs.Pieces.{without_pieces}
 use Rattle.tables.specs.Rows.{Numbered, Tables, rows_of}
 use Rattle.tables.specs.declared.rows.Body.{Body}
 use Rattle.kept.specs.Finished.{is_unfinished}
@@ -18,11 +16,3 @@ is_among ids id = list_any (λ n. nat_eq id n) ids
 -- an arrival or a file names one of these bodies
 abbrev pub are_named : Tables → List ℕ → Bool
 are_named t ids = list_any (λ a. is_among ids a.body) (rows_of t.arrivals) || list_any (λ f. is_among ids f.body) (rows_of t.files)
-
--- the body of this number and its pieces are gone
-abbrev pub without_whole : ℕ → Tables → Tables
-without_whole id t = without_body id (without_pieces id t)
-
--- those of these numbers are
-abbrev pub without_all : List ℕ → Tables → Tables
-without_all ids t = fold (λ now id. without_whole id now) t ids

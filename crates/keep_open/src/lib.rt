@@ -1,7 +1,6 @@
 //! Opens an archive that a database keeps: reads all rows of its tables and says whether they are those of an archive.
 #![tactic(auto)]
 
-mod finishing;
 mod opening;
 mod unfinished;
 

@@ -1,6 +1,6 @@
 //! Opens an archive that a database keeps.
 
-ghost use Rattle.std.specs.Prelude.{◌≡◌, ◌≢◌, ◌⊎◌, None, true, false, IsTrue, IfOk, IfErr, IsErrAnd, IfSome, OnErr};
+ghost use Rattle.std.specs.Prelude.{◌≡◌, ◌≢◌, ◌⊎◌, [], None, true, false, IsTrue, IfOk, IfErr, IsErrAnd, IfSome, OnErr};
 ghost use Rattle.sqlite.specs.State.{HasCleanDisk, IsUnchanged, Survives};
 ghost use Rattle.sqlite.specs.Held.{state};
 ghost use Rattle.keep.specs.declared.fault.KeepFault.TheVariants.{OutOfMemory, Tables as NoArchive};
@@ -10,6 +10,7 @@ ghost use Rattle.tables.specs.Schema.{archive_schema};
 ghost use Rattle.tables_read.specs.All.{AreConstrained, tables_with};
 ghost use Rattle.kept.specs.Kept.{AreReadable};
 ghost use Rattle.kept.specs.Archives.{KeepsArchive, KeepsFinished};
+ghost use Rattle.kept.specs.Coming.{HasComing};
 ghost use Rattle.kept.specs.Finished.{finished};
 ghost use Rattle.kept.specs.Shown.{shown_in};
 ghost use Rattle.kept.specs.Transactions.{IsUndone, MayCommit};
@@ -18,9 +19,9 @@ ghost use Rattle.keep_open.specs.Finishing.{unfinished_ids};
 ghost use Rattle.audit.specs.Whole.{KeepsNone, KeepsSome};
 ghost use Rattle.keep_open.specs.Opened.{HasUnfinished, IsArchiveOf, IsFinished, IsFound, IsNoArchive};
 
-use crate::finishing::finish_bodies;
 use crate::unfinished::{are_named, finished_rows, unfinished_among};
 use audit::{Held, archive_in};
+use bodies::remove_all;
 use keep::KeepFault;
 use keep_rows::{fault_of, is_archive_schema};
 use keep_tables::TableKeeper;
@@ -96,6 +97,7 @@ fn keeper_over<S: Alter + Drop>(connection: Connection<S>, held: Held) -> TableK
     requires idle { connection.in_transaction ≡ false }
     requires kept { HasCleanDisk (state S.Store connection) → IsTrue (state S.Store connection).is_open
         → ∥ KeepsArchive (state S.Store connection).committed held.config held.judged.items (shown_in held.config.suites (tables_in (state S.Store connection).committed)) held.dates.items ∥₁ }
+    requires whole { HasCleanDisk (state S.Store connection) → IsTrue (state S.Store connection).is_open → HasComing (tables_in (state S.Store connection).committed) [] }
     ensures conn { result.conn ≡ connection }
     ensures held { (result.config ≡ held.config) × (result.judged ≡ held.judged) × (result.dates ≡ held.dates) }
 {
@@ -126,7 +128,7 @@ fn keeper_of<S: Alter + Drop>(
     if unfinished.is_empty() {
         return Ok(keeper_over(connection, held));
     }
-    match finish_bodies(&mut connection, &unfinished) {
+    match remove_all(&mut connection, &unfinished) {
         Ok(()) => Ok(keeper_over(connection, held)),
         Err(failure) => Err((connection, fault_of(failure))),
     }
