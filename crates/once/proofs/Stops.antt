@@ -18,12 +18,11 @@ use Rattle.tables.specs.Rows.{HoldsRows, IsArchive, Rises, Tables, tables_in, ta
 use Rattle.tables.specs.Schema.{archive_schema}
 use Rattle.tables.specs.declared.rows.Body.{Body}
 use Rattle.kept.specs.Archives.{KeepsBook, KeepsFinished, KeepsLeft}
-use Rattle.kept.specs.Finished.{finished, is_unfinished}
+use Rattle.kept.specs.Finished.{finished, is_unfinished, without_all}
 use Rattle.kept.specs.Kept.{AreBodies, IsKept, book_in, bytes_of}
 use Rattle.kept.specs.OneBook.{one_configuration, one_text}
-use Rattle.keep_open.specs.Finishing.{without_all}
-use Rattle.keep_open.specs.Opened.{IsNoArchive}
-use Rattle.keep_open.proofs.FinishLemmas.{finished_as}
+use Rattle.keep_tables.specs.Opened.{IsNoArchive}
+use Rattle.keep_tables.proofs.FinishLemmas.{finished_as}
 
 config_set : IsSet ConfigValue
 config_set = hlevel props
