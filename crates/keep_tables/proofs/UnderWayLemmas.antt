@@ -1,5 +1,6 @@
 -- What is under way, as the calls of a keeper leave it.
 use Rattle.std.proofs.Common.{◌≡◌, ℕ, ◌+◌, ◌%◌, ◌^◌, ◌<◌, ◌≤◌, ◌++◌, Bool, true, false, if◌then◌else◌, List, [], length, Option, Some, None, option_map, IsTrue, refl, sym, ap, subst, ◌∙◌, true≢false, arith}
+use Rattle.std.proofs.Props.{props}
 use Rattle.std.proofs.lemmas.Option.{none-some, same_Some}
 use Rattle.std.specs.Option.{option_and_then, option_map_or}
 use Rattle.sqlite.specs.Effect.{Database}
@@ -19,6 +20,9 @@ use Rattle.keep.specs.Keeping.{IsDeliverable, IsWholeFor, TakesPiece}
 use Rattle.keep.specs.declared.change.Judgement.{Judgement}
 use Rattle.bodies.specs.UnderWay.{IsBegun, IsUnderWay, coming_in}
 use Rattle.bodies.specs.declared.coming.Begun.{Begun}
+
+pub coming_set : IsSet (Option (List ℕ))
+coming_set = hlevel props
 
 abbrev number_in : Option Begun → Option ℕ
 number_in begun = option_and_then (λ b. b.body) begun

@@ -11,7 +11,7 @@ use Rattle.kept.specs.KeeperLemmas.{book_set, left_set}
 use Rattle.kept.specs.Shown.{shown_in}
 use Rattle.kept.proofs.CallLemmas.{done_book, kept_here, turn_left}
 use Rattle.bodies.specs.UnderWay.{IsUnderWay, coming_in}
-use Rattle.keep_tables.proofs.UnderWayLemmas.{not_finished, piece_coming, takes, undone_kept, undone_under}
+use Rattle.keep_tables.proofs.UnderWayLemmas.{coming_set, not_finished, piece_coming, takes, undone_kept, undone_under}
 use Rattle.keep_tables.proofs.keeper.TableKeeperKeeper.piece.Goals as goal
 
 pub invariant_of-self-in_default : goal.invariant_of-self-in_default
@@ -153,7 +153,7 @@ returns-in-Ok-clause-taken g c clean =
     let is : c.args.self.now.begun ≡ Some c.in-Some.begun = sym c.take.ensures.value ∙ c.in-Some.is in
     let early : HasCleanDisk old = omega (arith, c.take_piece.ensures.crash.clean, clean) in
     let was_open = (c.in-Ok.ensures.open clean).0 in
-    ∥∥₁_elim (c.args.self.now.kept early was_open) (hlevel props) (λ was. ∥∥₁_elim (c.args.self.now.under_way early was_open) (hlevel props) (λ under.
+    ∥∥₁_elim (c.args.self.now.kept early was_open) (coming_set _ _) (λ was. ∥∥₁_elim (c.args.self.now.under_way early was_open) (coming_set _ _) (λ under.
     let k = takes old.committed was c.args.self.now.begun c.in-Some.begun is under c.args.bytes.now (c.requires.begun early was_open) in
     let did = c.in-Ok.ensures.done clean _ _ _ _ k.bytes was k.begun.comes k.whole k.some k.small in
     piece_coming old.committed new.committed did.0.kept c.args.self.now.begun c.in-Some.begun is k.bytes c.args.bytes.now k.told c.in-Ok.id (c.in-Some.begun.pieces + 1) did.1))
