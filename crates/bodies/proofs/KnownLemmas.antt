@@ -3,7 +3,7 @@ use Rattle.std.proofs.Common.{◌≡◌, ℕ, true, Option, Some, None, IsTrue, 
 use Rattle.sqlite.specs.State.{State}
 use Rattle.sums.specs.declared.print.Print.{Print}
 use Rattle.tables.specs.Inside.{GoesOn}
-use Rattle.tables.specs.Rows.{Tables, Holds, Changes}
+use Rattle.tables.specs.Rows.{Changes}
 use Rattle.kept.specs.Coming.{with_ended}
 use Rattle.kept.specs.Finished.{without_whole}
 use Rattle.kept.proofs.BodySteps.{Looks}

@@ -135,11 +135,11 @@ fn keeper_of<S: Alter + Drop>(
 }
 
 impl<S: Alter + Drop> TableKeeper<S> {
-    /// The keeper over the tables of a database that keeps an archive, without the bodies that are not whole: an opening takes these
-    /// away, with their pieces. A fault gives the connection back, and what was committed is as before. The fault is
-    /// `KeepFault::Tables` only where a transaction is begun or the database keeps no archive; another comes only where memory is
-    /// wanting, the store fails meanwhile, the connection was shut or may take only so many steps, or some body is not whole. A crash
-    /// leaves what was there, or that without these bodies.
+    /// The keeper over the tables of a database that keeps an archive, without the bodies that are not whole: an opening
+    /// takes these away, with their pieces. A fault gives the connection back, and what was committed is as before. The
+    /// fault is `KeepFault::Tables` only where a transaction is begun or the database keeps no archive; another comes only
+    /// where memory is wanting, the store fails meanwhile, the connection was shut or may take only so many steps, or some
+    /// body is not whole. A crash leaves what was there, or that without these bodies.
     pub fn open(
         alloc: Global,
         mut connection: Connection<S>,
