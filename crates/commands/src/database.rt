@@ -115,7 +115,7 @@ fn opened_over<S: Alter + Drop>(
     connection: Result<Connection<S>, KeepFault>,
 ) -> Result<TableKeeper<S>, KeepFault> {
     match connection {
-        Ok(connection) => kept(keep_open::open(alloc, connection)),
+        Ok(connection) => kept(TableKeeper::open(alloc, connection)),
         Err(fault) => Err(fault),
     }
 }

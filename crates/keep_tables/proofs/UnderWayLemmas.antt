@@ -1,35 +1,39 @@
 -- What is under way, as the calls of a keeper leave it.
-use Rattle.std.proofs.Common.{◌≡◌, ℕ, ◌++◌, Bool, true, false, List, [], Option, Some, None, option_map, IsTrue, Result, Ok, Err, OnErr, refl, sym, ap, subst, ◌∙◌, true≢false}
-use Rattle.std.proofs.Math.Logic.{∥∥₁_map}
+use Rattle.std.proofs.Common.{◌≡◌, ℕ, ◌+◌, ◌%◌, ◌^◌, ◌<◌, ◌≤◌, ◌++◌, Bool, true, false, if◌then◌else◌, List, [], length, Option, Some, None, option_map, IsTrue, refl, sym, ap, subst, ◌∙◌, true≢false, arith}
+use Rattle.std.proofs.Props.{props}
+use Rattle.std.proofs.lemmas.Option.{none-some, same_Some}
 use Rattle.std.specs.Option.{option_and_then, option_map_or}
-use Rattle.std.specs.Prelude.{if◌then◌else◌}
 use Rattle.sqlite.specs.Effect.{Database}
 use Rattle.sqlite.specs.State.{State}
 use Rattle.sums.specs.Prints.{Holds}
+use Rattle.sums.specs.declared.print.Printer.{Printer}
 use Rattle.tables.specs.Rows.{Tables, tables_in}
 use Rattle.kept.specs.Archives.{KeepsArchive}
 use Rattle.kept.specs.Coming.{Comes, HasComing, bytes_so_far, coming_number}
-use Rattle.kept.specs.Kept.{piece_count}
 use Rattle.kept.specs.Transactions.{IsUndone}
 use Rattle.kept.proofs.ComingLemmas.{coming_bytes, whole_rows}
 use Rattle.kept.proofs.FinishedLemmas.{finished_rises}
 use Rattle.kept.specs.Finished.{finished}
 use Rattle.rules.specs.Values.{ConfigValue}
 use Rattle.suites.specs.Shelves.{ShelvesValue}
+use Rattle.keep.specs.Keeping.{IsDeliverable, IsWholeFor, TakesPiece}
 use Rattle.keep.specs.declared.change.Judgement.{Judgement}
 use Rattle.bodies.specs.UnderWay.{IsBegun, IsUnderWay, coming_in}
 use Rattle.bodies.specs.declared.coming.Begun.{Begun}
+
+pub coming_set : IsSet (Option (List ℕ))
+coming_set = hlevel props
 
 abbrev number_in : Option Begun → Option ℕ
 number_in begun = option_and_then (λ b. b.body) begun
 
 -- the bytes that came of what is under way, and where its rows are
-pub record Came (t : Tables) (begun : Option Begun) : Type 0 where
+pub record HasCome (t : Tables) (begun : Option Begun) : Type 0 where
   pub count : ℕ
   pub bytes : List ℕ
   pub comes : Comes t (number_in begun) count bytes
 
-pub came : (t : Tables) (begun : Option Begun) → IsUnderWay t begun → Came t begun
+pub came : (t : Tables) (begun : Option Begun) → IsUnderWay t begun → HasCome t begun
 came t None coming = record { count = 0; bytes = []; comes = nothing t coming }
   where
     nothing : (t : Tables) → HasComing t [] → Comes t None 0 []
@@ -85,10 +89,76 @@ coming_is db keeps b bytes body begun is = by b.is_coming refl
     by true e =
         let both : Some (bytes_so_far (tables_in db) b.body) ≡ Some body = sym (ap (λ c. if c then Some (bytes_so_far (tables_in db) b.body) else None) e) ∙ is in
         (e, sym its ∙ (let one : bytes_so_far (tables_in db) b.body ≡ body = cc in one))
-    by false e = absurd (not_none (sym (ap (λ c. if c then Some (bytes_so_far (tables_in db) b.body) else None) e) ∙ is))
-      where
-        not_none : {X : Type 0} {x : X} → None ≡ Some x → ⊥
-        not_none e = cc
+    by false e = absurd (none-some body (sym (ap (λ c. if c then Some (bytes_so_far (tables_in db) b.body) else None) e) ∙ is))
+
+-- ---- a piece more
+
+-- What is under way takes this piece: its bytes so far are whole pieces.
+pub record TakesNext (t : Tables) (b : Begun) (piece : List ℕ) : Type 0 where
+  pub bytes : List ℕ
+  pub begun : IsBegun t b bytes
+  pub coming : IsTrue b.is_coming
+  pub told : coming_in t (Some b) ≡ Some bytes
+  pub whole : length bytes % 65536 ≡ 0
+  pub some : 0 < length piece
+  pub small : length piece ≤ 65536
+
+pub takes : (db : Database) {config : ConfigValue} {judged : List Judgement} {shown : ShelvesValue} {dates : List ℕ} → KeepsArchive db config judged shown dates
+    → (was : Option Begun) (b : Begun) → was ≡ Some b → IsUnderWay (tables_in db) was → (piece : List ℕ) → TakesPiece (coming_in (tables_in db) was) piece → TakesNext (tables_in db) b piece
+takes db keeps was b is under piece asked =
+    let t = tables_in db in
+    let its : IsUnderWay t (Some b) = subst (IsUnderWay t) is under in
+    let told : coming_in t (Some b) ≡ Some asked.body = ap (coming_in t) (sym is) ∙ asked.begun in
+    let same = coming_is db keeps b its.0 asked.body its.1 told in
+    record {
+      bytes = asked.body;
+      begun = subst (IsBegun t b) same.1 its.1;
+      coming = same.0;
+      told = told;
+      whole = asked.whole;
+      some = asked.some;
+      small = asked.small;
+    }
+
+-- what is coming then has the piece behind it
+pub piece_coming : (before after : Database) {config : ConfigValue} {judged : List Judgement} {shown : ShelvesValue} {dates : List ℕ} → KeepsArchive after config judged shown dates
+    → (was : Option Begun) (b : Begun) → was ≡ Some b → (bytes piece : List ℕ) → coming_in (tables_in before) (Some b) ≡ Some bytes → (id count : ℕ) → Comes (tables_in after) (Some id) count (bytes ++ piece)
+    → Some (bytes_so_far (tables_in after) (Some id)) ≡ option_map (λ body. body ++ piece) (coming_in (tables_in before) was)
+piece_coming before after keeps was b is bytes piece told id count comes =
+    ap Some (its_bytes after keeps (Some id) count (bytes ++ piece) comes)
+    ∙ sym (ap (option_map (λ (body : List ℕ). body ++ piece)) (ap (coming_in (tables_in before)) is ∙ told))
+
+-- ---- the end
+
+-- What is under way is a body of these bytes, which may be kept under this name.
+pub record EndsAs (t : Tables) (b : Begun) (name body : List ℕ) : Type 0 where
+  pub begun : IsBegun t b body
+  pub coming : IsTrue b.is_coming
+  pub deliverable : IsDeliverable name body
+  pub short : length body < 2 ^ 64
+
+pub ends : (db : Database) {config : ConfigValue} {judged : List Judgement} {shown : ShelvesValue} {dates : List ℕ} → KeepsArchive db config judged shown dates
+    → (was : Option Begun) (b : Begun) → was ≡ Some b → IsUnderWay (tables_in db) was → (name body : List ℕ) → coming_in (tables_in db) was ≡ Some body
+    → IsWholeFor (coming_in (tables_in db) was) name → EndsAs (tables_in db) b name body
+ends db keeps was b is under name body told asked =
+    let t = tables_in db in
+    let its : IsUnderWay t (Some b) = subst (IsUnderWay t) is under in
+    let same = coming_is db keeps b its.0 body its.1 (ap (coming_in t) (sym is) ∙ told) in
+    let one : asked.body ≡ body = same_Some _ _ (sym asked.begun ∙ told) in
+    let fits : IsDeliverable name body = subst (IsDeliverable name) one asked.deliverable in
+    let small : length body < 2 ^ 64 = omega (arith, fits.small) in
+    record {
+      begun = subst (IsBegun t b) same.1 its.1;
+      coming = same.0;
+      deliverable = fits;
+      short = small;
+    }
+
+-- what was not finished is under way still, with any printer, and none is coming
+pub not_finished : (t : Tables) (b : Begun) (printer : Printer) → IsUnderWay t (Some b) → IsUnderWay t (Some (record b { printer = printer; is_coming = false }))
+not_finished t b printer begun = (begun.0, record { comes = begun.1.comes; printer = λ no. absurd (true≢false (sym no)) })
+
+-- ---- a call that is undone
 
 -- a call that is undone leaves what was under way
 pub undone_under : (old new : State) (begun : Option Begun) → IsUndone old new → (IsTrue old.is_open → ∥ IsUnderWay (tables_in old.committed) begun ∥₁) → IsTrue new.is_open → ∥ IsUnderWay (tables_in new.committed) begun ∥₁

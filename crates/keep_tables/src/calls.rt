@@ -126,7 +126,7 @@ pub(crate) fn finish_delivery<S: Alter>(
 {
     // For the prover alone: outside a transaction the connection has what is committed.
     let _idle = conn.is_autocommit();
-    if finished.pieces == u64::MAX {
+    if finished.pieces >= u64::MAX {
         return Err(Error::SqliteFailure(ErrorCode::TooBig));
     }
     finish_body(alloc, conn, finished)

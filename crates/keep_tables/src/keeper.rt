@@ -96,7 +96,7 @@ impl<S: Alter + Drop> TableKeeper<S> {
 
     /// The keeper over a database that keeps an archive of this configuration, with these judged uploads in order, and for each
     /// suite in the order of the configuration the moment at which what it shows last changed. Each of its bodies is whole.
-    pub fn over(
+    pub(crate) fn over(
         connection: Connection<S>,
         config: Config,
         judged: Vec<Judgement>,

@@ -1,16 +1,17 @@
-use Rattle.std.proofs.Common.{◌≡◌, Some, None, Ok, if◌then◌else◌, option_map, refl, sym, ap, ◌∙◌}
-use Rattle.std.specs.Result.{result_ok}
+use Rattle.std.proofs.Common.{sym, ap, ◌∙◌}
 use Rattle.records.specs.Records.{changes_in}
 use Rattle.sqlite.specs.Held.{state}
-use Rattle.keep.specs.Book.{is_changes_name}
-use Rattle.tables.proofs.TransactionLemmas.{keeps_if_changed, on_err}
+use Rattle.tables.proofs.TransactionLemmas.{on_err}
+use Rattle.kept.specs.Coming.{bytes_so_far}
 use Rattle.kept.proofs.EndedLemmas.{goes_itself, keeps_if_going, listed_none, listed_some}
 use Rattle.kept.proofs.ReadsLemmas.{rests_itself}
 use Rattle.bodies.proofs.listing.record_inside.Goals as goal
 
 pub returns-then-not-is_changes-clause-ok : goal.returns-then-not-is_changes-clause-ok
-returns-then-not-is_changes-clause-ok g c clean up t was =
-    (listed_none c.args.name.now _ (sym c.is_changes.ensures ∙ c.if-not-is_changes.true), (rests_itself (state g.S.Store c.args.tx.now.conn.now)).unchanged up)
+returns-then-not-is_changes-clause-ok g c clean up t was = (
+  listed_none c.args.name.now (bytes_so_far t c.args.body) (sym c.is_changes.ensures ∙ c.if-not-is_changes.true),
+  (rests_itself (state g.S.Store c.args.tx.now.conn.now)).unchanged up,
+)
 
 pub returns-then-not-is_changes-clause-goes_on : goal.returns-then-not-is_changes-clause-goes_on
 returns-then-not-is_changes-clause-goes_on g c clean inside up = goes_itself (state g.S.Store c.args.tx.now.conn.now) up inside
@@ -21,6 +22,8 @@ returns-in_err-changes-clause-kept g c clean inside up =
 
 pub returns-clause-ok : goal.returns-clause-ok
 returns-clause-ok g c clean up t was =
-    let read = c.in_ok-bytes.ensures.ok clean up t was in
-    (listed_some c.args.name.now _ c.in_ok-changes.changes (sym c.is_changes.ensures ∙ c.if-not-is_changes.false)
-    (sym (ap changes_in (c.as_slice.ensures ∙ read.0)) ∙ c.in_ok-changes.ensures), read.1)
+    let read = c.in_ok-bytes.ensures.ok clean up t was in (
+      listed_some c.args.name.now (bytes_so_far t c.args.body) c.in_ok-changes.changes (sym c.is_changes.ensures ∙ c.if-not-is_changes.false)
+          (sym (ap changes_in (c.as_slice.ensures.value ∙ read.0)) ∙ c.in_ok-changes.ensures),
+      read.1,
+    )

@@ -1,4 +1,4 @@
-use Rattle.std.proofs.Common.{◌≡◌, ◌+◌, OnOk, not, ap, subst, ◌∙◌, rules}
+use Rattle.std.proofs.Common.{◌≡◌, ◌+◌, ◌<◌, Result, Ok, Err, OnOk, not, ap, subst, ◌∙◌, arith, rules}
 use Rattle.sqlite.specs.Held.{state}
 use Rattle.sqlite.specs.State.{Survives}
 use Rattle.sqlite.proofs.StateLemmas.{survives_weaker}
@@ -6,6 +6,15 @@ use Rattle.kept.specs.Coming.{with_next_piece}
 use Rattle.kept.specs.Transactions.{IsDone, MayCommit}
 use Rattle.kept.proofs.TakingLemmas.{both_if, piece_comes, piece_turns}
 use Rattle.keep_tables.proofs.calls.take_piece.Goals as goal
+
+if_ok : {X E P : Type 0} (r : Result X E) → P → OnOk r P
+if_ok (Ok x) h = h
+if_ok (Err e) h = tt
+
+pub returns-clause-counted : goal.returns-clause-counted
+returns-clause-counted g c =
+    let small : c.args.count < 18446744073709551615 = omega (arith, c.in-Some.ensures.0) in
+    if_ok c.store_piece.result small
 
 pub returns-clause-done : goal.returns-clause-done
 returns-clause-done g c clean config judged shown dates so_far keeps comes full some small =
