@@ -1,10 +1,11 @@
-use Rattle.std.proofs.Common.{◌≤◌, Ok, Err, ap, subst, refl, false, option_map}
+use Rattle.std.proofs.Common.{◌≤◌, ℕ, List, Ok, Err, ap, subst, refl, false, option_map}
 use Rattle.desk.specs.Message.{message_of}
 use Rattle.desk.specs.Request.{body_length, want_of}
 use Rattle.desk.specs.Want.{copying, delivery, fetching, queue_run, removing, verdict_list, waiting_list}
 use Rattle.desk.specs.declared.head.Wanted.{Wanted}
 use Rattle.queue.specs.Commands.{lines_of}
 use Rattle.queue.specs.Histories.{Lines, Count, Found}
+use Rattle.queue.specs.Receiving.{IsReceived}
 use Rattle.desk.proofs.ExchangeLemmas.{received_done, received_not, reply_missing, reply_told, without_body}
 use Rattle.desk.proofs.exchange.carry_out.Goals as goal
 
@@ -15,14 +16,16 @@ returns-in-Ok-clause-carried_out g c =
 
 pub returns-in-Err-clause-carried_out : goal.returns-in-Err-clause-carried_out
 returns-in-Err-clause-carried_out g c =
-    let received = rw c.as_str.ensures.value at c.in-Err.ensures.received in
+    let received = subst (λ (name : List ℕ). IsReceived g.K.Keeper (g.R.Read.remaining c.args.reader.now) (g.R.Read.remaining c.receive.new.reader) name c.in-Deliver.length c.args.moment
+    c.args.archive.now.keeper c.receive.new.self.keeper (Err c.in-Err.fault)) c.as_str.ensures.value c.in-Err.ensures.received in
     let small : c.in-Deliver.length ≤ 4194304 = subst (λ (w : Wanted). body_length (want_of w) ≤ 4194304) c.in-Deliver.is c.requires in
     rw c.in-Deliver.is (reply_told g.K.Keeper _ _ _ _ (delivery _ c.in-Deliver.length) c.args.moment c.reception_reply.result _ c.reception_reply.ensures
     (received_not g.K.Keeper _ _ _ _ _ c.in-Deliver.length c.args.moment c.in-Err.fault small received))
 
 pub returns-in-Err-clause-err : goal.returns-in-Err-clause-err
 returns-in-Err-clause-err g c =
-    let received = rw c.as_str.ensures.value at c.in-Err.ensures.received in
+    let received = subst (λ (name : List ℕ). IsReceived g.K.Keeper (g.R.Read.remaining c.args.reader.now) (g.R.Read.remaining c.receive.new.reader) name c.in-Deliver.length c.args.moment
+    c.args.archive.now.keeper c.receive.new.self.keeper (Err c.in-Err.fault)) c.as_str.ensures.value c.in-Err.ensures.received in
     let small : c.in-Deliver.length ≤ 4194304 = subst (λ (w : Wanted). body_length (want_of w) ≤ 4194304) c.in-Deliver.is c.requires in
     rw c.in-Deliver.is (reply_missing g.K.Keeper _ _ _ _ (delivery _ c.in-Deliver.length) c.args.moment c.reception_reply.result _ c.reception_reply.ensures
     (received_not g.K.Keeper _ _ _ _ _ c.in-Deliver.length c.args.moment c.in-Err.fault small received))
