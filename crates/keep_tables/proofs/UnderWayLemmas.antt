@@ -33,21 +33,22 @@ pub record HasCome (t : Tables) (begun : Option Begun) : Type 0 where
   pub bytes : List ℕ
   pub comes : Comes t (number_in begun) count bytes
 
+-- of none nothing came
+none_comes : (t : Tables) → HasComing t [] → Comes t None 0 []
+unfolding coming_number
+none_comes t coming = record { coming = coming; number = refl; count = refl }
+
 pub came : (t : Tables) (begun : Option Begun) → IsUnderWay t begun → HasCome t begun
-came t None coming = record { count = 0; bytes = []; comes = nothing t coming }
-  where
-    nothing : (t : Tables) → HasComing t [] → Comes t None 0 []
-    unfolding coming_number
-    nothing t coming = record { coming = coming; number = refl; count = refl }
+came t None coming = record { count = 0; bytes = []; comes = none_comes t coming }
 came t (Some b) is = record { count = b.pieces; bytes = is.0; comes = is.1.comes }
 
 -- what is stopped is under way still, and none is coming
-pub stopped : (t : Tables) (old new : Option Begun) → new ≡ option_map (λ b. record b { is_coming = false }) old → IsUnderWay t old → IsUnderWay t new
+pub stopped : (t : Tables) (old new : Option Begun) → new ≡ option_map (λ (b : Begun). record b { is_coming = false }) old → IsUnderWay t old → IsUnderWay t new
 stopped t None new is coming = subst (IsUnderWay t) (sym is) coming
 stopped t (Some b) new is begun =
     subst (IsUnderWay t) (sym is) (begun.0, record { comes = begun.1.comes; printer = λ no. absurd (true≢false (sym no)) })
 
-pub none_coming_of : (t : Tables) (old new : Option Begun) → new ≡ option_map (λ b. record b { is_coming = false }) old → coming_in t new ≡ None
+pub none_coming_of : (t : Tables) (old new : Option Begun) → new ≡ option_map (λ (b : Begun). record b { is_coming = false }) old → coming_in t new ≡ None
 none_coming_of t None new is = ap (coming_in t) is
 none_coming_of t (Some b) new is = ap (coming_in t) is
 
@@ -169,5 +170,6 @@ undone_kept P old new undone was up = subst P (sym (undone.committed up)) (was (
 
 pub beside_under : (before after : Database) (begun : Option Begun) → ((body : Option ℕ) (count : ℕ) (bytes : List ℕ) → Comes (tables_in before) body count bytes → Comes (tables_in after) body count bytes)
     → IsUnderWay (tables_in before) begun → IsUnderWay (tables_in after) begun
+unfolding came
 beside_under before after None keeps coming = (keeps None 0 [] (came (tables_in before) None coming).comes).coming
 beside_under before after (Some b) keeps begun = (begun.0, record { comes = keeps b.body b.pieces begun.0 begun.1.comes; printer = begun.1.printer })

@@ -3,6 +3,7 @@
 ghost use Rattle.std.specs.Prelude.{◌≡◌, [], Some, None, true, false, option_map};
 ghost use Rattle.std.specs.Option.{option_and_then, option_map_or};
 ghost use Rattle.sums.specs.Prints.{Holds};
+ghost use Rattle.bodies.specs.declared.coming.Begun.{Begun};
 
 use bodies::Begun;
 use sums::Printer;
@@ -42,7 +43,7 @@ pub(crate) fn is_coming(begun: &Option<Begun>) -> bool
 
 /// No body is coming then. What was begun keeps its number, by which its rows go.
 pub(crate) fn stop(begun: &mut Option<Begun>)
-    ensures { begun.new ≡ option_map (λ b. record b { is_coming = false }) begun.old }
+    ensures { begun.new ≡ option_map (λ (b : Begun). record b { is_coming = false }) begun.old }
 {
     if let Some(begun) = begun {
         begun.is_coming = false;

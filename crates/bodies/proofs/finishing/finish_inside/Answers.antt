@@ -2,7 +2,8 @@ use Rattle.std.proofs.Common.{◌∙◌, arith, option_map}
 use Rattle.std.proofs.lemmas.Result.{IfOk-weaker}
 use Rattle.sqlite.specs.State.{HasCleanDisk}
 use Rattle.sqlite.specs.Held.{state}
-use Rattle.kept.proofs.BodySteps.{keeps_if_err, survives_both, unchanged_then}
+use Rattle.tables.specs.Rows.{Holds, Tables}
+use Rattle.kept.proofs.BodySteps.{unchanged_then}
 use Rattle.kept.proofs.EndedLemmas.{finished_changes, goes_then}
 use Rattle.kept.proofs.ReadsLemmas.{held_after}
 use Rattle.bodies.proofs.finishing.finish_inside.Goals as goal
@@ -19,7 +20,7 @@ returns-clause-ok g c clean inside =
     let on_b = c.in_ok-refuse_other.ensures.goes_on clean_b inside in
     let on_m = c.in_ok-found.ensures.goes_on clean_m on_b.mode on_b.is_open in
     let refused = c.in_ok-refuse_other.ensures.ok clean_b in
-    let listed = λ t was. c.in_ok-found.ensures.ok clean_m on_b.is_open t (held_after a b (refused t was).1 t was) in
+    let listed = λ (t : Tables) (was : Holds a.now t). c.in_ok-found.ensures.ok clean_m on_b.is_open t (held_after a b (refused t was).1 t was) in
     IfOk-weaker c.receive.result _ _ (λ new h. (
       finished_changes finished.name.now finished.body finished.print finished.moment (option_map (λ entries. entries.now) c.entries_of.result) a m d (goes_then a b m on_b on_m)
           (λ t was. (unchanged_then a b m (refused t was).1 (listed t was).1, c.entries_of.ensures ∙ (listed t was).0)) h.0,

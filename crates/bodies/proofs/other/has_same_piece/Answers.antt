@@ -1,4 +1,4 @@
-use Rattle.std.proofs.Common.{ap, sym, ◌∙◌, arith, option_map, true, ◌≡◌}
+use Rattle.std.proofs.Common.{ap, sym, ◌∙◌, arith, option_map}
 use Rattle.sqlite.specs.State.{HasCleanDisk}
 use Rattle.sqlite.specs.Held.{state}
 use Rattle.tables.specs.declared.rows.Piece.{Piece}

@@ -1,6 +1,5 @@
 use Rattle.std.proofs.lemmas.Result.{IfOk-weaker}
-use Rattle.std.proofs.Common.{◌≡◌, Some, None, sym, subst}
-use Rattle.sqlite.specs.Held.{state}
+use Rattle.std.proofs.Common.{sym, subst}
 use Rattle.kept.specs.Coming.{IsSameAs}
 use Rattle.bodies.proofs.other.is_same.Goals as goal
 

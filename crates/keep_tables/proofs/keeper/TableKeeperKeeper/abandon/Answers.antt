@@ -115,8 +115,8 @@ pub returns-then-not-is_coming-clause-ended : goal.returns-then-not-is_coming-cl
 returns-then-not-is_coming-clause-ended g c =
     not_coming (tables_in (state g.S.Store c.args.self.now.conn).committed) c.args.self.now.begun (sym c.is_coming.ensures ∙ c.if-not-is_coming.true)
 
-pub invariant_of-self-in_default : goal.invariant_of-self-in_default
-invariant_of-self-in_default g c = record {
+pub invariant_of-self : goal.invariant_of-self
+invariant_of-self g c = record {
   idle = c.args.self.now.idle;
   in_range = c.args.self.now.in_range;
   kept = c.args.self.now.kept;

@@ -14,8 +14,8 @@ use Rattle.bodies.specs.UnderWay.{IsUnderWay}
 use Rattle.keep_tables.proofs.UnderWayLemmas.{begun_coming, came, just_begun, none_coming_of, stopped, undone_kept, undone_under}
 use Rattle.keep_tables.proofs.keeper.TableKeeperKeeper.begin.Goals as goal
 
-pub invariant_of-self-in-Ok : goal.invariant_of-self-in-Ok
-invariant_of-self-in-Ok g c =
+pub invariant_of-self : goal.invariant_of-self
+invariant_of-self g c =
     let old = state g.S.Store c.args.self.now.conn in
     let new = state g.S.Store c.clear.new.conn in (
     record {

@@ -13,8 +13,8 @@ use Rattle.bodies.specs.UnderWay.{IsUnderWay, coming_in}
 use Rattle.keep_tables.proofs.UnderWayLemmas.{ends, not_finished, undone_kept, undone_under}
 use Rattle.keep_tables.proofs.keeper.TableKeeperKeeper.finish.Goals as goal
 
-pub invariant_of-self-in_default : goal.invariant_of-self-in_default
-invariant_of-self-in_default g c = record {
+pub invariant_of-self : goal.invariant_of-self
+invariant_of-self g c = record {
   idle = c.args.self.now.idle;
   in_range = c.args.self.now.in_range;
   kept = c.args.self.now.kept;
@@ -40,8 +40,8 @@ returns-in_default-clause-err g c clean up = refl
 pub returns-in_default-clause-crash : goal.returns-in_default-clause-crash
 returns-in_default-clause-crash g c clean left might = inl might
 
-pub invariant_of-self-in-Ok : goal.invariant_of-self-in-Ok
-invariant_of-self-in-Ok g c =
+pub invariant_of-self-in-Ok-1 : goal.invariant_of-self-in-Ok-1
+invariant_of-self-in-Ok-1 g c =
     let old = state g.S.Store c.args.self.now.conn in
     let new = state g.S.Store c.finish_delivery.new.conn in
     let is : c.args.self.now.begun ≡ Some c.in-Some.begun = sym c.take.ensures.value ∙ c.in-Some.is in (

@@ -14,8 +14,8 @@ use Rattle.bodies.specs.UnderWay.{IsUnderWay, coming_in}
 use Rattle.keep_tables.proofs.UnderWayLemmas.{coming_set, not_finished, piece_coming, takes, undone_kept, undone_under}
 use Rattle.keep_tables.proofs.keeper.TableKeeperKeeper.piece.Goals as goal
 
-pub invariant_of-self-in_default : goal.invariant_of-self-in_default
-invariant_of-self-in_default g c = record {
+pub invariant_of-self : goal.invariant_of-self
+invariant_of-self g c = record {
   idle = c.args.self.now.idle;
   in_range = c.args.self.now.in_range;
   kept = c.args.self.now.kept;
