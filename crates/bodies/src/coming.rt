@@ -23,11 +23,7 @@ pub struct Begun {
 }
 
 /// Adds a body that is not whole, with this piece of it, and answers its number.
-fn add_first<S: Alter>(
-    tx: &mut Transaction<'_, S>,
-    number: u64,
-    bytes: &[u8],
-) -> Result<u64, Error>
+fn add_first<S: Alter>(tx: &mut Transaction<'_, S>, number: u64, bytes: &[u8]) -> Result<u64, Error>
     ensures same_reference { tx.new.conn.ghost_name ≡ tx.old.conn.ghost_name }
     ensures ok { HasCleanDisk (state S.Store tx.new.conn.now) → IsTrue (state S.Store tx.old.conn.now).in_transaction
         → IfOk result (λ id. Changes (state S.Store tx.old.conn.now) (state S.Store tx.new.conn.now) (with_next_piece None number bytes.now)

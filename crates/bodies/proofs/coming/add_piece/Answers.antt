@@ -10,9 +10,10 @@ pub returns-in_err-insert_piece-in-Some-clause-err : goal.returns-in_err-insert_
 returns-in_err-insert_piece-in-Some-clause-err g c clean inside = on_err _ (keeps_if_failed (state g.S.Store c.args.tx.now.conn.now) (state g.S.Store c.insert_piece.new.tx.conn.now) (c.in_err-insert_piece-in-Some.ensures.err clean inside))
 
 pub returns-in_ok-insert_piece-in-Some-clause-ok : goal.returns-in_ok-insert_piece-in-Some-clause-ok
-returns-in_ok-insert_piece-in-Some-clause-ok g c clean inside =
-    (rw c.in-Some.is (later_piece (state g.S.Store c.args.tx.now.conn.now) (state g.S.Store c.insert_piece.new.tx.conn.now) c.in-Some.id c.args.number c.args.bytes.now (c.in_ok-insert_piece-in-Some.ensures.ok clean inside)),
-    λ t was. sym (ap (λ o. unwrap_or o (next_in t.bodies)) c.in-Some.is))
+returns-in_ok-insert_piece-in-Some-clause-ok g c clean inside = (
+  rw c.in-Some.is (later_piece (state g.S.Store c.args.tx.now.conn.now) (state g.S.Store c.insert_piece.new.tx.conn.now) c.in-Some.id c.args.number c.args.bytes.now (c.in_ok-insert_piece-in-Some.ensures.ok clean inside)),
+  λ t was. sym (ap (λ o. unwrap_or o (next_in t.bodies)) c.in-Some.is),
+)
 
 pub returns-in-None-clause-ok : goal.returns-in-None-clause-ok
 returns-in-None-clause-ok g c clean inside =

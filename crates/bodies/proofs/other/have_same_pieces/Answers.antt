@@ -60,6 +60,8 @@ loop-at-preserved g c =
 
 pub returns-clause-ok : goal.returns-clause-ok
 returns-clause-ok g c clean t was =
-    let at = c.loop-at.invariant.same clean t was in
-    (λ _. one_further (λ n. bytes_at t c.args.body (n + 1) ≡ bytes_at t c.args.other (n + 1)) c.args.pieces
-    (λ n below. at.2 n (omega (arith, below, c.loop-at-test.false))) at.1, at.0)
+    let at = c.loop-at.invariant.same clean t was in (
+      λ _. one_further (λ n. bytes_at t c.args.body (n + 1) ≡ bytes_at t c.args.other (n + 1)) c.args.pieces
+          (λ n below. at.2 n (omega (arith, below, c.loop-at-test.false))) at.1,
+      at.0,
+    )

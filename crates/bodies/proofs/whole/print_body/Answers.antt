@@ -6,9 +6,10 @@ use Rattle.kept.proofs.EndedLemmas.{printed, printed_new}
 use Rattle.bodies.proofs.whole.print_body.Goals as goal
 
 pub returns-in_ok-set_print-in-Some-clause-ok : goal.returns-in_ok-set_print-in-Some-clause-ok
-returns-in_ok-set_print-in-Some-clause-ok g c clean inside =
-    (rw c.in-Some.is (printed (state g.S.Store c.args.tx.now.conn.now) (state g.S.Store c.set_print.new.tx.conn.now) c.in-Some.id c.args.print.now (c.in_ok-set_print-in-Some.ensures.ok clean inside)),
-    λ t was. sym (ap (λ o. unwrap_or o (next_in t.bodies)) c.in-Some.is))
+returns-in_ok-set_print-in-Some-clause-ok g c clean inside = (
+  rw c.in-Some.is (printed (state g.S.Store c.args.tx.now.conn.now) (state g.S.Store c.set_print.new.tx.conn.now) c.in-Some.id c.args.print.now (c.in_ok-set_print-in-Some.ensures.ok clean inside)),
+  λ t was. sym (ap (λ o. unwrap_or o (next_in t.bodies)) c.in-Some.is),
+)
 
 pub returns-in-None-clause-ok : goal.returns-in-None-clause-ok
 returns-in-None-clause-ok g c clean inside =

@@ -42,8 +42,8 @@ invariant_of-self-in-Ok g c =
     }
     )
 
-pub invariant_of-self-in-Err : goal.invariant_of-self-in-Err
-invariant_of-self-in-Err g c =
+pub invariant_of-self-in-Err-1 : goal.invariant_of-self-in-Err-1
+invariant_of-self-in-Err-1 g c =
     let old = state g.S.Store c.args.self.now.conn in
     let new = state g.S.Store c.make_change.new.conn in
     let kept = c.args.self.now.kept in (

@@ -47,7 +47,7 @@ invariant_of-self-in-Err g c =
       kept = λ clean up.
           let early : HasCleanDisk old = omega (arith, c.clear.ensures.crash.clean, clean) in
           undone_kept (λ db. ∥ KeepsArchive db c.args.self.now.config c.args.self.now.judged.items (shown_in c.args.self.now.config.suites (tables_in db)) c.args.self.now.dates.items ∥₁)
-      old new (c.in-Err.ensures.undone clean) (c.args.self.now.kept early) up;
+          old new (c.in-Err.ensures.undone clean) (c.args.self.now.kept early) up;
       under_way = λ clean up.
           let early : HasCleanDisk old = omega (arith, c.clear.ensures.crash.clean, clean) in
           ∥∥₁_map (undone_under old new c.args.self.now.begun (c.in-Err.ensures.undone clean) (c.args.self.now.under_way early) up)
@@ -62,12 +62,12 @@ returns-in-Ok-clause-stays g c =
     let new = state g.S.Store c.clear.new.conn in (
     record {
       lasts = record {
-      clean = λ clean. let early : HasCleanDisk (state g.S.Store c.args.self.now.conn) = omega (arith, c.clear.ensures.crash.clean, clean) in early;
-      counts = c.clear.ensures.crash.counts;
-      was_open = λ clean up. (c.in-Ok.ensures.open clean).0;
-      stays = c.clear.ensures.crash.closes;
-      config = refl;
-    };
+        clean = λ clean. let early : HasCleanDisk (state g.S.Store c.args.self.now.conn) = omega (arith, c.clear.ensures.crash.clean, clean) in early;
+        counts = c.clear.ensures.crash.counts;
+        was_open = λ clean up. (c.in-Ok.ensures.open clean).0;
+        stays = c.clear.ensures.crash.closes;
+        config = refl;
+      };
       same = λ clean up.
           let early : HasCleanDisk old = omega (arith, c.clear.ensures.crash.clean, clean) in
           let was_open = (c.in-Ok.ensures.open clean).0 in
@@ -78,9 +78,12 @@ returns-in-Ok-clause-stays g c =
           let early : HasCleanDisk old = omega (arith, c.clear.ensures.crash.clean, clean) in
           elim (c.clear.ensures.crash.crash clean might.0 might.1) [
             | inl before ↦ inl (might.0, before, might.2)
-            | inr written ↦ inr (written.2, ∥∥₁_elim (c.args.self.now.kept early written.2) (left_set _ _) (λ was. ∥∥₁_elim (c.args.self.now.under_way early written.2) (left_set _ _) (λ under.
-                let k = came (tables_in old.committed) c.args.self.now.begun under in
-                turn_left old.committed written.0 might.0 written.1 left might.2 (written.3 _ _ _ _ k.count k.bytes was (subst (λ o. Comes (tables_in old.committed) o k.count k.bytes) (sym c.number_of.ensures) k.comes)))))
+            | inr written ↦ inr (
+              written.2,
+              ∥∥₁_elim (c.args.self.now.kept early written.2) (left_set _ _) (λ was. ∥∥₁_elim (c.args.self.now.under_way early written.2) (left_set _ _) (λ under.
+                  let k = came (tables_in old.committed) c.args.self.now.begun under in
+                  turn_left old.committed written.0 might.0 written.1 left might.2 (written.3 _ _ _ _ k.count k.bytes was (subst (λ o. Comes (tables_in old.committed) o k.count k.bytes) (sym c.number_of.ensures) k.comes)))),
+            )
           ];
     }
     )
@@ -92,20 +95,23 @@ returns-in-Err-clause-stays g c =
     let new = state g.S.Store c.clear.new.conn in (
     record {
       lasts = record {
-      clean = λ clean. let early : HasCleanDisk (state g.S.Store c.args.self.now.conn) = omega (arith, c.clear.ensures.crash.clean, clean) in early;
-      counts = c.clear.ensures.crash.counts;
-      was_open = λ clean up. (c.in-Err.ensures.undone clean).was_open up;
-      stays = c.clear.ensures.crash.closes;
-      config = refl;
-    };
+        clean = λ clean. let early : HasCleanDisk (state g.S.Store c.args.self.now.conn) = omega (arith, c.clear.ensures.crash.clean, clean) in early;
+        counts = c.clear.ensures.crash.counts;
+        was_open = λ clean up. (c.in-Err.ensures.undone clean).was_open up;
+        stays = c.clear.ensures.crash.closes;
+        config = refl;
+      };
       same = λ clean up. ap (λ db. book_of db c.args.self.now.config c.args.self.now.judged.items (shown_in c.args.self.now.config.suites (tables_in db)) c.args.self.now.dates.items) ((c.in-Err.ensures.undone clean).committed up);
       crash = λ clean left might.
           let early : HasCleanDisk old = omega (arith, c.clear.ensures.crash.clean, clean) in
           elim (c.clear.ensures.crash.crash clean might.0 might.1) [
             | inl before ↦ inl (might.0, before, might.2)
-            | inr written ↦ inr (written.2, ∥∥₁_elim (c.args.self.now.kept early written.2) (left_set _ _) (λ was. ∥∥₁_elim (c.args.self.now.under_way early written.2) (left_set _ _) (λ under.
-                let k = came (tables_in old.committed) c.args.self.now.begun under in
-                turn_left old.committed written.0 might.0 written.1 left might.2 (written.3 _ _ _ _ k.count k.bytes was (subst (λ o. Comes (tables_in old.committed) o k.count k.bytes) (sym c.number_of.ensures) k.comes)))))
+            | inr written ↦ inr (
+              written.2,
+              ∥∥₁_elim (c.args.self.now.kept early written.2) (left_set _ _) (λ was. ∥∥₁_elim (c.args.self.now.under_way early written.2) (left_set _ _) (λ under.
+                  let k = came (tables_in old.committed) c.args.self.now.begun under in
+                  turn_left old.committed written.0 might.0 written.1 left might.2 (written.3 _ _ _ _ k.count k.bytes was (subst (λ o. Comes (tables_in old.committed) o k.count k.bytes) (sym c.number_of.ensures) k.comes)))),
+            )
           ];
     }
     )

@@ -59,11 +59,13 @@ invariant_of-self-in-Ok g c =
           ∥∥₁_elim (c.args.self.now.kept early was_open) (hlevel props) (λ was. ∥∥₁_map (c.args.self.now.under_way early was_open) (λ under.
           let k = takes old.committed was c.args.self.now.begun c.in-Some.begun is under c.args.bytes.now (c.requires.begun early was_open) in
           let comes = (c.in-Ok.ensures.done clean _ _ _ _ k.bytes was k.begun.comes k.whole k.some k.small).1 in
-          let next : (c.in-Some.begun.pieces + 1) % 2 ^ 64 ≡ c.in-Some.begun.pieces + 1 = omega (arith, c.in-Ok.ensures.counted) in
-          (k.bytes ++ c.args.bytes.now, record {
-            comes = subst (λ n. Comes (tables_in new.committed) (Some c.in-Ok.id) n (k.bytes ++ c.args.bytes.now)) (sym next) comes;
-            printer = λ _. c.update.ensures k.bytes (k.begun.printer k.coming);
-          })));
+          let next : (c.in-Some.begun.pieces + 1) % 2 ^ 64 ≡ c.in-Some.begun.pieces + 1 = omega (arith, c.in-Ok.ensures.counted) in (
+            k.bytes ++ c.args.bytes.now,
+            record {
+              comes = subst (λ n. Comes (tables_in new.committed) (Some c.in-Ok.id) n (k.bytes ++ c.args.bytes.now)) (sym next) comes;
+              printer = λ _. c.update.ensures k.bytes (k.begun.printer k.coming);
+            },
+          )));
     }
     )
 
@@ -110,9 +112,12 @@ returns-in-Ok-clause-stays g c =
           let early : HasCleanDisk old = omega (arith, c.take_piece.ensures.crash.clean, clean) in
           elim (c.take_piece.ensures.crash.crash clean might.0 might.1) [
             | inl before ↦ inl (might.0, before, might.2)
-            | inr written ↦ inr (written.2, ∥∥₁_elim (c.args.self.now.kept early written.2) (left_set _ _) (λ was. ∥∥₁_elim (c.args.self.now.under_way early written.2) (left_set _ _) (λ under.
-                let k = takes old.committed was c.args.self.now.begun c.in-Some.begun is under c.args.bytes.now (c.requires.begun early written.2) in
-                turn_left old.committed written.0 might.0 written.1 left might.2 (written.3 _ _ _ _ k.bytes was k.begun.comes k.whole k.some k.small))))
+            | inr written ↦ inr (
+              written.2,
+              ∥∥₁_elim (c.args.self.now.kept early written.2) (left_set _ _) (λ was. ∥∥₁_elim (c.args.self.now.under_way early written.2) (left_set _ _) (λ under.
+                  let k = takes old.committed was c.args.self.now.begun c.in-Some.begun is under c.args.bytes.now (c.requires.begun early written.2) in
+                  turn_left old.committed written.0 might.0 written.1 left might.2 (written.3 _ _ _ _ k.bytes was k.begun.comes k.whole k.some k.small))),
+            )
           ];
     }
     )
@@ -136,9 +141,12 @@ returns-in-Err-clause-stays g c =
           let early : HasCleanDisk old = omega (arith, c.take_piece.ensures.crash.clean, clean) in
           elim (c.take_piece.ensures.crash.crash clean might.0 might.1) [
             | inl before ↦ inl (might.0, before, might.2)
-            | inr written ↦ inr (written.2, ∥∥₁_elim (c.args.self.now.kept early written.2) (left_set _ _) (λ was. ∥∥₁_elim (c.args.self.now.under_way early written.2) (left_set _ _) (λ under.
-                let k = takes old.committed was c.args.self.now.begun c.in-Some.begun is under c.args.bytes.now (c.requires.begun early written.2) in
-                turn_left old.committed written.0 might.0 written.1 left might.2 (written.3 _ _ _ _ k.bytes was k.begun.comes k.whole k.some k.small))))
+            | inr written ↦ inr (
+              written.2,
+              ∥∥₁_elim (c.args.self.now.kept early written.2) (left_set _ _) (λ was. ∥∥₁_elim (c.args.self.now.under_way early written.2) (left_set _ _) (λ under.
+                  let k = takes old.committed was c.args.self.now.begun c.in-Some.begun is under c.args.bytes.now (c.requires.begun early written.2) in
+                  turn_left old.committed written.0 might.0 written.1 left might.2 (written.3 _ _ _ _ k.bytes was k.begun.comes k.whole k.some k.small))),
+            )
           ];
     }
     )
