@@ -1,7 +1,7 @@
 //! What the program prints of an archive, over any keeper.
 
-use crate::database::is_of_database;
-use crate::doing::{body_of, file_name};
+use crate::database::{is_of_database, length_of};
+use crate::doing::{body_of, file_name, opened};
 use crate::fault::Stop;
 use keep::Keeper;
 use queue::{Archive, Arrived, Fault, Report};
@@ -17,17 +17,14 @@ fn print_report<W: Write>(report: &Report, out: &mut W) -> io::Result<()> {
     Ok(())
 }
 
-/// Delivers a file, prints `new NAME`, `again NAME` or `refused FAULT NAME`, and says whether it was taken. Want of
-/// memory and a fault of the keeper end the program instead.
-fn put_file<'a, K: Keeper, W: Write>(
-    alloc: Global,
-    archive: &mut Archive<K>,
-    at: u64,
+/// Prints `new NAME`, `again NAME` or `refused FAULT NAME`, and says whether a delivery was taken. Want of memory and a
+/// fault of the keeper end the program instead.
+fn print_arrived<'a, W: Write>(
+    arrived: Result<Arrived, Fault>,
     name: &str,
-    body: &[u8],
     out: &mut W,
 ) -> Result<bool, Stop<'a>> {
-    match archive.deliver(alloc, name, body, at) {
+    match arrived {
         Ok(Arrived::New) => writeln!(out, "new {name}")?,
         Ok(Arrived::Again) => writeln!(out, "again {name}")?,
         Err(fault @ (Fault::OutOfMemory | Fault::Keeper(_))) => return Err(Stop::Refused(fault)),
@@ -39,9 +36,32 @@ fn put_file<'a, K: Keeper, W: Write>(
     Ok(true)
 }
 
+/// Delivers a file, prints a line for it, and says whether it was taken. What is no regular file, as a pipe, has no length
+/// beforehand, and is read whole.
+fn put_file<'a, R: Files + AllocGlobal, K: Keeper, W: Write>(
+    rt: &R,
+    archive: &mut Archive<K>,
+    at: u64,
+    path: &'a str,
+    out: &mut W,
+) -> Result<bool, Stop<'a>> {
+    let name = file_name(path);
+    let arrived = match length_of(rt, path) {
+        Some(size) => {
+            let mut file = opened(rt, path)?;
+            archive.receive(rt.alloc(), name, size, &mut file, at)
+        }
+        None => {
+            let body = body_of(rt, path)?;
+            archive.deliver(rt.alloc(), name, &body, at)
+        }
+    };
+    print_arrived(arrived, name, out)
+}
+
 /// Delivers files at a moment, in seconds since 1970-01-01 00:00:00 UTC, each under the text behind its path's last
 /// slash, and prints a line for each. It goes on behind a file that is refused, and says whether all were taken. Each
-/// file is read just before it is delivered. The files of the database itself can't be read.
+/// file is read while it is delivered. The files of the database itself can't be read.
 pub fn put_files<'a, R: Files + AllocGlobal, K: Keeper, W: Write>(
     rt: &R,
     archive: &mut Archive<K>,
@@ -55,8 +75,7 @@ pub fn put_files<'a, R: Files + AllocGlobal, K: Keeper, W: Write>(
         if is_of_database(rt, db, path)? {
             return Err(Stop::Unreadable(path));
         }
-        let body = body_of(rt, path)?;
-        if !put_file(rt.alloc(), archive, at, file_name(path), &body, out)? {
+        if !put_file(rt, archive, at, path, out)? {
             all = false;
         }
     }

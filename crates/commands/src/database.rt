@@ -115,7 +115,7 @@ fn opened_over<S: Alter + Drop>(
     connection: Result<Connection<S>, KeepFault>,
 ) -> Result<TableKeeper<S>, KeepFault> {
     match connection {
-        Ok(connection) => kept(keep_open::open(alloc, connection)),
+        Ok(connection) => kept(TableKeeper::open(alloc, connection)),
         Err(fault) => Err(fault),
     }
 }
@@ -158,8 +158,8 @@ fn would_make<R: Files>(rt: &R, path: &str) -> bool {
     }
 }
 
-/// How many bytes the file at a path has, where there is one.
-fn length_of<R: Files>(rt: &R, path: &str) -> Option<u64> {
+/// How many bytes the regular file at a path has, where there is one.
+pub fn length_of<R: Files>(rt: &R, path: &str) -> Option<u64> {
     match fs::metadata(rt, path) {
         Ok(found) if found.is_file() => Some(found.len()),
         _ => None,

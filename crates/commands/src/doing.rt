@@ -39,7 +39,15 @@ fn read_file<R: Files + AllocGlobal>(rt: &R, path: &str) -> io::Result<Vec<u8>> 
     Ok(body)
 }
 
-/// A file that was given.
+/// A file that was given, open to be read.
+pub fn opened<'a, R: Files>(rt: &R, path: &'a str) -> Result<R::File, Stop<'a>> {
+    match File::open(rt, path) {
+        Ok(file) => Ok(file),
+        Err(_) => Err(Stop::Unreadable(path)),
+    }
+}
+
+/// The bytes of a file that was given.
 pub fn body_of<'a, R: Files + AllocGlobal>(rt: &R, path: &'a str) -> Result<Vec<u8>, Stop<'a>> {
     match read_file(rt, path) {
         Ok(body) => Ok(body),

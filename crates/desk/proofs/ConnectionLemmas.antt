@@ -59,30 +59,30 @@ module _ {K : Type 0} (g : Ghosts K) where
   IsRun-append h [] (o ∷ os) more others mid after run runs faithful = absurd run
   IsRun-append h (c ∷ cs) [] more others mid after run runs faithful = absurd run
 
-  pub at_of : (moment : ℕ) (before after : K) (course : Course) → Leaves (Does g) moment before after course → IsAt moment course
+  pub at_of : (moment : ℕ) (before after : K) (course : Course) → Leaves g moment before after course → IsAt moment course
   at_of moment before after Silent leaves = tt
   at_of moment before after (TurnedAway e) leaves = tt
   at_of moment before after Short leaves = tt
   at_of moment before after Broken leaves = tt
   at_of moment before after (Called want body at outcome) leaves = leaves.0
 
-  -- where no call was made what was kept is kept
+  -- where nothing happened what was kept is kept
   still_kept : (h : History) (before after : K) → after ≡ before → IsKept (g.is_open before) (g.book before) h → IsKept (g.is_open after) (g.book after) h
   still_kept h before after same kept = subst (λ (k : K). IsKept (g.is_open k) (g.book k) h) (sym same) kept
 
   -- what the one connection asked is a run
-  one_run : (h : History) (moment : ℕ) (before after : K) (course : Course) → Leaves (Does g) moment before after course → IsKept (g.is_open before) (g.book before) h
+  one_run : (h : History) (moment : ℕ) (before after : K) (course : Course) → Leaves g moment before after course → IsKept (g.is_open before) (g.book before) h
       → IsFaithful h (calls_in (course ∷ [])) → g.is_clean after → IsRun g.may_fail h (calls_in (course ∷ [])) (outcomes_in (course ∷ [])) (g.is_open after) (g.book after)
   one_run h moment before after Silent same kept faithful clean = still_kept h before after same kept
-  one_run h moment before after (TurnedAway e) same kept faithful clean = still_kept h before after same kept
-  one_run h moment before after Short same kept faithful clean = still_kept h before after same kept
-  one_run h moment before after Broken same kept faithful clean = still_kept h before after same kept
+  one_run h moment before after (TurnedAway e) same kept faithful clean = same h kept clean
+  one_run h moment before after Short same kept faithful clean = same h kept clean
+  one_run h moment before after Broken same kept faithful clean = same h kept clean
   one_run h moment before after (Called want body at outcome) (at_is, done) kept faithful clean =
       let does = subst (λ (m : ℕ). Does g before (call_wanted want body m) outcome after) (sym at_is) done in
       let step = does h kept faithful clean in
       (step.answered, step.kept)
 
-  pub served_one : (before after : K) (v : Visit) → IsServed (Does g) v before after → AreServed g before after (v ∷ [])
+  pub served_one : (before after : K) (v : Visit) → IsServed g v before after → AreServed g before after (v ∷ [])
   served_one before after v served =
       let answered = served.answered in
       let course = answered.course in

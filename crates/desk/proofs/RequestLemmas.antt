@@ -1,15 +1,14 @@
 -- From what was read to what a connection asks for.
-use Rattle.std.proofs.Common.{◌≡◌, ◌⊎◌, ℕ, ◌<◌, ◌≤◌, List, [], ◌++◌, Option, None, Some, Result, Ok, Err, IfOk, OnErr, length, false, true, refl, sym, ap, ◌∙◌, inl, inr, append_assoc, append-nil, arith}
+use Rattle.std.proofs.Common.{◌≡◌, ℕ, ◌<◌, List, [], ◌++◌, Option, None, Some, Result, Ok, Err, OnErr, length, false, refl, sym, ap, subst, ◌∙◌, inl, inr, append-nil}
 use Rattle.std.specs.Io.KnownBytes.{Consumes, IsAtEnd}
 use Rattle.std.proofs.KnownBytes.{Consumes-trans}
 use Rattle.desk.specs.declared.head.Refusal.{Refusal}
 use Rattle.desk.specs.declared.head.Refusal.TheVariants.{BadRequest, NotFound, MethodNotAllowed, LengthRequired, PayloadTooLarge, HeadTooLarge, NotImplemented, OutOfMemory}
-use Rattle.desk.specs.declared.request.Request.{Request}
-use Rattle.desk.specs.declared.request.Request.TheVariants as r
 use Rattle.desk.specs.Transfer.{ends_head, NotEarlier}
 use Rattle.desk.specs.Want.{Want}
 use Rattle.desk.specs.Request.{IsGiven, Received, IsFirstHead, HeadAsks, Gives, refused, asks, body_length, want_of}
-use Rattle.desk.specs.Incoming.{ReadsBeginning, ReadsUpTo, IsRefused, IsIncoming, IsBody}
+use Rattle.desk.specs.Exchange.{Course, Silent, TurnedAway, Short, Broken, Called, HasRead, HasReadBehind}
+use Rattle.desk.specs.Incoming.{HasHead, ReadsBeginning, ReadsUpTo, IsRefused}
 use Rattle.desk.proofs.UniqueLemmas.{head_part, body_part}
 
 -- what a reader that tells its bytes has left
@@ -109,18 +108,18 @@ reads_behind old mid new head want before first asked h = record {
   used = body_part head h.front want first asked h.short;
 }
 
-pub incoming_from_body : (old mid new : Option (List ℕ)) (head : List ℕ) (want : Want) (q : Request) → Consumes old mid head → IsFirstHead head
-    → HeadAsks head (Ok want) → IsBody mid new want q → IsIncoming old new q
-incoming_from_body old mid new head want r.Nothing before first asked h = absurd h
-incoming_from_body old mid new head want (r.Refused OutOfMemory) before first asked h = reads_behind old mid new head want before first asked h
-incoming_from_body old mid new head want (r.Refused BadRequest) before first asked (front, after, short, end) =
-    received_cut old mid new head front want before first asked after short end
-incoming_from_body old mid new head want (r.Refused NotFound) before first asked h = absurd h
-incoming_from_body old mid new head want (r.Refused (MethodNotAllowed m)) before first asked h = absurd h
-incoming_from_body old mid new head want (r.Refused LengthRequired) before first asked h = absurd h
-incoming_from_body old mid new head want (r.Refused PayloadTooLarge) before first asked h = absurd h
-incoming_from_body old mid new head want (r.Refused HeadTooLarge) before first asked h = absurd h
-incoming_from_body old mid new head want (r.Refused NotImplemented) before first asked h = absurd h
-incoming_from_body old mid new head want (r.Asks wanted body) before first asked (same, size, after) =
-    let moved = received_whole old mid new head body.items want before first asked after size in
-    rw same moved
+-- what was read of a head, and behind it
+pub read_behind : (old mid new : Option (List ℕ)) (want : Want) (course : Course) → HasHead old mid want → HasReadBehind mid new want course → HasRead old new course
+read_behind old mid new want Silent h behind = absurd behind
+read_behind old mid new want (TurnedAway BadRequest) h behind = received_cut old mid new h.head behind.0 want h.read h.first h.asked behind.1 behind.2 behind.3
+read_behind old mid new want (TurnedAway NotFound) h behind = absurd behind
+read_behind old mid new want (TurnedAway (MethodNotAllowed m)) h behind = absurd behind
+read_behind old mid new want (TurnedAway LengthRequired) h behind = absurd behind
+read_behind old mid new want (TurnedAway PayloadTooLarge) h behind = absurd behind
+read_behind old mid new want (TurnedAway HeadTooLarge) h behind = absurd behind
+read_behind old mid new want (TurnedAway NotImplemented) h behind = absurd behind
+read_behind old mid new want (TurnedAway OutOfMemory) h behind = absurd behind
+read_behind old mid new want Short h behind = reads_behind old mid new h.head want h.read h.first h.asked behind
+read_behind old mid new want Broken h behind = reads_behind old mid new h.head want h.read h.first h.asked behind
+read_behind old mid new want (Called other body moment outcome) h behind =
+    subst (λ (w : Want). Received old new (asks w body)) (sym behind.0) (received_whole old mid new h.head body want h.read h.first h.asked behind.2 behind.1)

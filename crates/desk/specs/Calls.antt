@@ -1,5 +1,5 @@
 -- What is asked of the archive, and the reply to what it answers.
-use Rattle.std.specs.Prelude.{ℕ, Bool, true, false, List, codes, decimal, Result, Ok, Err, Some, None}
+use Rattle.std.specs.Prelude.{ℕ, Bool, true, false, List, codes, decimal, Option, Result, Ok, Err, Some, None}
 use Rattle.std.specs.List.{flat_map}
 use Rattle.queue.specs.Fault.{fault_text}
 use Rattle.queue.specs.Histories.{Call, Delivery, QueueRun, Copying, Lookup, WaitingList, Removing, VerdictList, Reply, Stored, Lines, Count, Found}
@@ -44,3 +44,9 @@ fault_message cause = text_message 422 (line (fault_text cause))
 abbrev pub outcome_message : Want → Result Reply Fault → Message
 outcome_message want (Ok reply) = done_message (is_pool_file want) reply
 outcome_message want (Err cause) = fault_message cause
+
+-- The reply to a delivery that was refused: a body that ended early is a bad request, and where the reader failed there is none.
+abbrev pub reception_message : Fault → Option Message
+reception_message fault.ReaderFailed = None
+reception_message fault.Ended = Some (refusal_message refusal.BadRequest)
+reception_message cause = Some (fault_message cause)

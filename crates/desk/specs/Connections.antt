@@ -7,7 +7,7 @@ use Rattle.queue.specs.Histories.{Call, Reply, History}
 use Rattle.queue.specs.Steps.{Lasts}
 use Rattle.queue.specs.declared.fault.Fault.{Fault}
 use Rattle.desk.specs.Calls.{call_wanted}
-use Rattle.desk.specs.Exchange.{Course, Silent, TurnedAway, Short, Broken, Called, HasRead, HasWritten, IsAnswered}
+use Rattle.desk.specs.Exchange.{Course, Called, HasRead, HasWritten, IsAnswered}
 use Rattle.desk.specs.declared.connection.Connection.{Connection}
 use Rattle.desk.specs.declared.exchange.DeskFault.{DeskFault}
 use Rattle.desk.specs.declared.exchange.Served.{Served}
@@ -41,10 +41,10 @@ module _ {R W : Type 0} (remaining : R → Option (List ℕ)) (contents : W → 
   visits (old ∷ olds) (new ∷ news) = visit old new ∷ visits olds news
 
 -- The connection was answered, and has ended so.
-pub record IsServed {K : Type 0} (does : K → Call → Result Reply Fault → K → Type 0) (v : Visit) (before after : K) : Type 0 where
+pub record IsServed {K : Type 0} (g : Ghosts K) (v : Visit) (before after : K) : Type 0 where
   pub result : Result Served DeskFault
   pub end_is : v.end ≡ Some result
-  pub answered : IsAnswered does v.gave v.gives before after v.held v.holds v.moment result
+  pub answered : IsAnswered g v.gave v.gives before after v.held v.holds v.moment result
 
 -- what a connection asked of the archive, where the archive heard of it
 abbrev pub calls_of_course : Course → List Call

@@ -1,13 +1,16 @@
 -- One connection: what its bytes ask for, what becomes of the archive, and what is written.
-use Rattle.std.specs.Prelude.{◌≡◌, ℕ, List, Option, Some, None, Result, Ok, Err}
-use Rattle.std.specs.Io.KnownBytes.{Appends, Keeps}
-use Rattle.queue.specs.Histories.{Call, Reply}
+use Rattle.std.specs.Prelude.{◌≡◌, ◌<◌, ℕ, List, length, Option, Some, None, Result, Ok, Err}
+use Rattle.std.specs.Io.KnownBytes.{Appends, Consumes, IsAtEnd, Keeps}
+use Rattle.keep.specs.declared.keeper.Keeper.{Ghosts}
+use Rattle.queue.specs.Histories.{Reply}
+use Rattle.queue.specs.Receiving.{IsAsBefore}
+use Rattle.queue.specs.Steps.{Does}
 use Rattle.queue.specs.declared.fault.Fault.{Fault}
 use Rattle.desk.specs.Answer.{refusal_message}
 use Rattle.desk.specs.Calls.{call_wanted, outcome_message}
-use Rattle.desk.specs.Incoming.{ReadsBeginning}
+use Rattle.desk.specs.Incoming.{ReadsBeginning, ReadsUpTo}
 use Rattle.desk.specs.Reply.{Message, message_text}
-use Rattle.desk.specs.Request.{Received, nothing, refused, asks}
+use Rattle.desk.specs.Request.{Received, asks, body_length, nothing, refused}
 use Rattle.desk.specs.Transfer.{AppendsBeginning}
 use Rattle.desk.specs.Want.{Want}
 use Rattle.desk.specs.declared.exchange.DeskFault.{DeskFault}
@@ -15,10 +18,11 @@ use Rattle.desk.specs.declared.exchange.DeskFault.TheVariants.{ReaderFailed, Wri
 use Rattle.desk.specs.declared.exchange.Served.{Served}
 use Rattle.desk.specs.declared.exchange.Served.TheVariants.{Nothing, Status}
 use Rattle.desk.specs.declared.head.Refusal.{Refusal}
-use Rattle.desk.specs.declared.head.Refusal.TheVariants.{OutOfMemory}
+use Rattle.desk.specs.declared.head.Refusal.TheVariants.{BadRequest, OutOfMemory}
 
--- What a connection came to. Of the first four the archive heard nothing: no byte came; the bytes were refused; memory was
--- short; the reader failed. The last called the archive, at a moment, and has its outcome.
+-- What a connection came to. Of the first four no command was made, and the archive is as before: no byte came; the bytes
+-- were refused, or ended early; memory was short, or the keeper failed while a body came; the reader failed. The last called
+-- the archive, at a moment, and has its outcome.
 pub data Course : Type 0 where
   Silent : Course
   TurnedAway : (refusal : Refusal) → Course
@@ -63,33 +67,50 @@ HasWritten held holds course (Ok (Status status)) = IsReplied held holds course 
 HasWritten held holds course (Err ReaderFailed) = (course ≡ Broken) × Keeps held holds
 HasWritten held holds course (Err WriterFailed) = IsCutOff held holds course
 
-module _ {A : Type 0} (does : A → Call → Result Reply Fault → A → Type 0) where
-  -- The archive is as it was, unless it was called at the moment that is handed in.
-  abbrev pub Leaves : ℕ → A → A → Course → Type 0
-  Leaves moment before after (Called want body at outcome) = (at ≡ moment) × does before (call_wanted want body moment) outcome after
-  Leaves moment before after course = after ≡ before
+-- What was read behind the head of what is wanted: its body, or a part of it.
+abbrev pub HasReadBehind : Option (List ℕ) → Option (List ℕ) → Want → Course → Type 0
+HasReadBehind old new want Short = ReadsUpTo old new (body_length want)
+HasReadBehind old new want Broken = ReadsUpTo old new (body_length want)
+HasReadBehind old new want (TurnedAway BadRequest) = (front : List ℕ) × Consumes old new front × (length front < body_length want) × IsAtEnd new
+HasReadBehind old new want (Called other body moment outcome) = (other ≡ want) × (length body ≡ body_length want) × Consumes old new body
+HasReadBehind old new want course = ⊥
+
+module _ {K : Type 0} (g : Ghosts K) where
+  -- Nothing happened where no byte came. What was kept is kept still, unless the archive was called at the moment that is
+  -- handed in.
+  abbrev pub Leaves : ℕ → K → K → Course → Type 0
+  Leaves moment before after Silent = after ≡ before
+  Leaves moment before after (Called want body at outcome) = (at ≡ moment) × Does g before (call_wanted want body moment) outcome after
+  Leaves moment before after course = IsAsBefore g before after
 
   -- A request was read and carried out, and the reply is at hand.
-  pub record IsHandledWith (old new : Option (List ℕ)) (before after : A) (moment : ℕ) (message : Message) : Type 0 where
+  pub record IsHandledWith (old new : Option (List ℕ)) (before after : K) (moment : ℕ) (message : Message) : Type 0 where
     pub course : Course
     pub read : HasRead old new course
     pub leaves : Leaves moment before after course
     pub reply : reply_of course ≡ Some message
 
   -- the same, where no byte may have come
-  abbrev pub IsHandled : Option (List ℕ) → Option (List ℕ) → A → A → ℕ → Option Message → Type 0
+  abbrev pub IsHandled : Option (List ℕ) → Option (List ℕ) → K → K → ℕ → Option Message → Type 0
   IsHandled old new before after moment None = Received old new nothing × (after ≡ before)
   IsHandled old new before after moment (Some message) = IsHandledWith old new before after moment message
 
   -- The archive was called, and this is the reply to its outcome.
-  pub record IsCarriedOut (before after : A) (want : Want) (body : List ℕ) (moment : ℕ) (message : Message) : Type 0 where
+  pub record IsCalled (before after : K) (want : Want) (body : List ℕ) (moment : ℕ) (message : Message) : Type 0 where
     pub outcome : Result Reply Fault
-    pub done : does before (call_wanted want body moment) outcome after
+    pub done : Does g before (call_wanted want body moment) outcome after
     pub message_is : message ≡ outcome_message want outcome
+
+  -- What a head asks for was carried out, or why it was not: what was read behind the head, and the reply, where there is one.
+  pub record IsCarriedOut (old new : Option (List ℕ)) (before after : K) (want : Want) (moment : ℕ) (message : Option Message) : Type 0 where
+    pub course : Course
+    pub read : HasReadBehind old new want course
+    pub leaves : Leaves moment before after course
+    pub reply : reply_of course ≡ message
 
   -- One connection was answered: a reader's bytes before and after, the archive before and after, a writer's bytes before and
   -- after, the moment and what is answered to the caller.
-  pub record IsAnswered (old new : Option (List ℕ)) (before after : A) (held holds : Option (List ℕ)) (moment : ℕ)
+  pub record IsAnswered (old new : Option (List ℕ)) (before after : K) (held holds : Option (List ℕ)) (moment : ℕ)
       (result : Result Served DeskFault) : Type 0 where
     pub course : Course
     pub read : HasRead old new course

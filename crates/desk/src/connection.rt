@@ -1,7 +1,7 @@
 //! Many connections, one after the other.
 ghost use Rattle.std.specs.Prelude.{◌≡◌};
 ghost use Rattle.desk.specs.Connections.{AreServed, IsServed, visit, visits};
-ghost use Rattle.queue.specs.Steps.{Does, Lasts};
+ghost use Rattle.queue.specs.Steps.{Lasts};
 
 use crate::exchange::{DeskFault, Served, answer};
 use keep::Keeper;
@@ -24,7 +24,7 @@ impl<R: Read, W: Write> Connection<R, W> {
     pub fn serve<K: Keeper>(&mut self, alloc: Global, archive: &mut Archive<K>)
         ensures lasts { Lasts K.Keeper archive.old.keeper archive.new.keeper }
         ensures moment { self.new.moment ≡ self.old.moment }
-        ensures served { IsServed (Does K.Keeper) (visit R.remaining W.contents self.old self.new)
+        ensures served { IsServed K.Keeper (visit R.remaining W.contents self.old self.new)
             archive.old.keeper archive.new.keeper }
     {
         self.end = Some(answer(

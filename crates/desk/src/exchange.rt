@@ -1,25 +1,25 @@
 //! One connection: its request, the call of the archive that it asks for, and the reply.
-ghost use Rattle.std.specs.Prelude.{◌≡◌, Bool, IfOk, OnErr};
+ghost use Rattle.std.specs.Prelude.{◌≡◌, ◌≤◌, Bool, Some, None, IfOk, OnErr, MatchResult};
 ghost use Rattle.std.specs.Option.{option_map};
 ghost use Rattle.desk.specs.Answer.{text_message};
-ghost use Rattle.desk.specs.Calls.{done_message, fault_message, outcome_message};
+ghost use Rattle.desk.specs.Calls.{done_message, fault_message, reception_message};
 ghost use Rattle.desk.specs.Exchange.{IsAnswered, IsCarriedOut, IsHandled};
-ghost use Rattle.desk.specs.Incoming.{ReadsBeginning};
+ghost use Rattle.desk.specs.Incoming.{ReadsBeginning, ReadsUpTo};
 ghost use Rattle.desk.specs.Message.{message_of};
 ghost use Rattle.desk.specs.Reply.{line};
-ghost use Rattle.desk.specs.Request.{want_of};
+ghost use Rattle.desk.specs.Request.{body_length, want_of};
 ghost use Rattle.queue.specs.Commands.{found, lines_of, is_new};
 ghost use Rattle.queue.specs.Histories.{Stored, Lines, Count, Found};
-ghost use Rattle.queue.specs.Steps.{Does, Lasts};
+ghost use Rattle.queue.specs.Receiving.{IsAsBefore};
+ghost use Rattle.queue.specs.Steps.{Lasts};
 
 use crate::fault_text::{FaultText, record_text};
 use crate::head::{Refusal, Wanted};
 use crate::reply::{Body, Reply, write_reply};
 use crate::request::{Request, read_request};
-use crate::transfer::ReaderFailed;
 use http::StatusCode;
 use keep::Keeper;
-use queue::{Archive, Arrived, Fault, Report};
+use queue::{Archive, Arrived, Fault, ReaderFailed, Report};
 use std::alloc::Global;
 use std::error::Error;
 use std::fmt;
@@ -37,7 +37,7 @@ pub enum Served {
 /// Why a connection was not answered in whole.
 #[derive(Clone, Copy, Debug, PartialEq, Eq)]
 pub enum DeskFault {
-    /// The reader failed: the archive heard of nothing, and nothing was written.
+    /// The reader failed: no command was made, the archive is as before, and nothing was written.
     ReaderFailed,
     /// The writer failed: what was carried out stays so, and a beginning of the reply was written.
     WriterFailed,
@@ -74,8 +74,9 @@ impl fmt::Display for DeskFault {
 impl Error for DeskFault {}
 
 /// Answers one connection at a moment, in seconds since 1970-01-01 00:00:00 UTC: reads the part of its bytes that the request
-/// uses, calls the archive if that is what they ask for, and writes the reply. Memory of its own is taken before the archive
-/// is called, so that what was carried out is never answered with a want of memory.
+/// uses, calls the archive if that is what they ask for, and writes the reply. A delivery's body goes to the archive as it
+/// comes. Memory of its own is taken before the archive is called, so that what was carried out is never answered with a
+/// want of memory.
 pub fn answer<K: Keeper, R: Read, W: Write>(
     alloc: Global,
     archive: &mut Archive<K>,
@@ -84,7 +85,7 @@ pub fn answer<K: Keeper, R: Read, W: Write>(
     moment: u64,
 ) -> Result<Served, DeskFault>
     ensures lasts { Lasts K.Keeper archive.old.keeper archive.new.keeper }
-    ensures answered { IsAnswered (Does K.Keeper) (R.remaining reader.old) (R.remaining reader.new)
+    ensures answered { IsAnswered K.Keeper (R.remaining reader.old) (R.remaining reader.new)
         archive.old.keeper archive.new.keeper (W.contents writer.old) (W.contents writer.new) moment result }
 {
     match reply_to(alloc, archive, reader, moment) {
@@ -105,64 +106,70 @@ fn reply_to<K: Keeper, R: Read>(
     moment: u64,
 ) -> Result<Option<Reply>, ReaderFailed>
     ensures lasts { Lasts K.Keeper archive.old.keeper archive.new.keeper }
-    ensures ok { IfOk result (λ reply. IsHandled (Does K.Keeper) (R.remaining reader.old) (R.remaining reader.new)
+    ensures ok { IfOk result (λ reply. IsHandled K.Keeper (R.remaining reader.old) (R.remaining reader.new)
         archive.old.keeper archive.new.keeper moment (option_map message_of reply)) }
-    ensures err { OnErr result (ReadsBeginning (R.remaining reader.old) (R.remaining reader.new) × (archive.new.keeper ≡ archive.old.keeper)) }
+    ensures err { OnErr result (ReadsBeginning (R.remaining reader.old) (R.remaining reader.new) × IsAsBefore K.Keeper archive.old.keeper archive.new.keeper) }
 {
     match read_request(alloc, reader) {
         Err(fault) => Err(fault),
         Ok(Request::Nothing) => Ok(None),
         Ok(Request::Refused(refusal)) => Ok(Some(Reply::to_refusal(refusal))),
-        Ok(Request::Asks(wanted, body)) => {
-            Ok(Some(carry_out(alloc, archive, &wanted, body.as_slice(), moment)))
+        Ok(Request::Asks(wanted)) => {
+            let reply = carry_out(alloc, archive, &wanted, reader, moment)?;
+            Ok(Some(reply))
         }
     }
 }
 
-/// Calls the archive, and has the reply to its outcome.
-fn carry_out<K: Keeper>(
+/// Calls the archive, and has the reply to its outcome. The body of a delivery is read behind its head, as far as the archive
+/// reads it.
+fn carry_out<K: Keeper, R: Read>(
     alloc: Global,
     archive: &mut Archive<K>,
     wanted: &Wanted,
-    body: &[u8],
+    reader: &mut R,
     moment: u64,
-) -> Reply
+) -> Result<Reply, ReaderFailed>
+    requires { body_length (want_of wanted.now) ≤ 4194304 }
     ensures lasts { Lasts K.Keeper archive.old.keeper archive.new.keeper }
-    ensures carried_out { IsCarriedOut (Does K.Keeper) archive.old.keeper archive.new.keeper (want_of wanted.now) body.now moment (message_of result) }
+    ensures carried_out { IfOk result (λ reply. IsCarriedOut K.Keeper (R.remaining reader.old) (R.remaining reader.new)
+        archive.old.keeper archive.new.keeper (want_of wanted.now) moment (Some (message_of reply))) }
+    ensures err { OnErr result (ReadsUpTo (R.remaining reader.old) (R.remaining reader.new) (body_length (want_of wanted.now))
+        × IsAsBefore K.Keeper archive.old.keeper archive.new.keeper) }
 {
     match wanted {
-        Wanted::Deliver { name, .. } => {
-            match archive.deliver(alloc, name.as_str(), body, moment) {
-                Ok(arrived) => arrived_reply(arrived),
-                Err(fault) => fault_reply(fault),
+        Wanted::Deliver { name, length } => {
+            match archive.receive(alloc, name.as_str(), *length as u64, reader, moment) {
+                Ok(arrived) => Ok(arrived_reply(arrived)),
+                Err(fault) => reception_reply(fault),
             }
         }
         Wanted::Run => match archive.run(alloc, moment) {
-            Ok(report) => report_reply(report),
-            Err(fault) => fault_reply(fault),
+            Ok(report) => Ok(report_reply(report)),
+            Err(fault) => Ok(fault_reply(fault)),
         },
         Wanted::Copy { from, to, source } => {
             match archive.copy(alloc, from.as_str(), to.as_str(), source.as_str(), moment) {
-                Ok(items) => Reply::new(StatusCode::OK, Body::Number(items)),
-                Err(fault) => fault_reply(fault),
+                Ok(items) => Ok(Reply::new(StatusCode::OK, Body::Number(items))),
+                Err(fault) => Ok(fault_reply(fault)),
             }
         }
         Wanted::Fetch { path, is_pool } => match archive.fetch(alloc, path.as_str()) {
-            Ok(found) => fetch_reply(found, *is_pool),
-            Err(fault) => fault_reply(fault),
+            Ok(found) => Ok(fetch_reply(found, *is_pool)),
+            Err(fault) => Ok(fault_reply(fault)),
         },
         Wanted::Waiting => match archive.waiting(alloc, moment) {
-            Ok(report) => report_reply(report),
-            Err(fault) => fault_reply(fault),
+            Ok(report) => Ok(report_reply(report)),
+            Err(fault) => Ok(fault_reply(fault)),
         },
         Wanted::Verdicts => match archive.verdicts(alloc) {
-            Ok(report) => report_reply(report),
-            Err(fault) => fault_reply(fault),
+            Ok(report) => Ok(report_reply(report)),
+            Err(fault) => Ok(fault_reply(fault)),
         },
         Wanted::Remove { suite, name } => {
             match archive.remove(alloc, suite.as_str(), name.as_str(), moment) {
-                Ok(items) => Reply::new(StatusCode::OK, Body::Number(items)),
-                Err(fault) => fault_reply(fault),
+                Ok(items) => Ok(Reply::new(StatusCode::OK, Body::Number(items))),
+                Err(fault) => Ok(fault_reply(fault)),
             }
         }
     }
@@ -197,6 +204,17 @@ fn fetch_reply(found: Option<Vec<u8>>, is_pool: bool) -> Reply
     }
 }
 
+/// The reply to a delivery that was refused, where there is one.
+fn reception_reply(fault: Fault) -> Result<Reply, ReaderFailed>
+    ensures { MatchResult result (λ reply. Some (message_of reply) ≡ reception_message fault) (λ _. reception_message fault ≡ None) }
+{
+    match fault {
+        Fault::ReaderFailed => Err(ReaderFailed),
+        Fault::Ended => Ok(Reply::to_refusal(Refusal::BadRequest)),
+        fault => Ok(fault_reply(fault)),
+    }
+}
+
 /// The reply to what the archive refused.
 fn fault_reply(fault: Fault) -> Reply
     ensures { message_of result ≡ fault_message fault }
@@ -210,6 +228,8 @@ fn fault_reply(fault: Fault) -> Reply
         Fault::UnknownSuite => FaultText::whole("Q6"),
         Fault::SameSuite => FaultText::whole("Q7"),
         Fault::NothingToCopy => FaultText::whole("Q8"),
+        Fault::Ended => FaultText::whole("Q9"),
+        Fault::ReaderFailed => FaultText::whole("Q10"),
         Fault::NothingToRemove => FaultText::whole("Q11"),
     };
     Reply::new(StatusCode::UNPROCESSABLE_ENTITY, Body::Fault(text))

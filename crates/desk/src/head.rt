@@ -8,7 +8,7 @@ ghost use Rattle.httparse.specs.Spans.{header_bytes, span_bytes, IsHeaderWithin,
 ghost use Rattle.matchit.specs.Params.{AllText, named, walk};
 ghost use Rattle.desk.specs.Want.{asked_at, content_length, decoded, fetched_at, is_named, is_path, length_value, pass, wanted_at, with_length as with_body_length};
 ghost use Rattle.desk.specs.Refusals.{allowed, refusal_status};
-ghost use Rattle.desk.specs.Request.{Gives, HeadAsks, IsHead, body_length, found_want, want_of};
+ghost use Rattle.desk.specs.Request.{Gives, HeadAsks, IsHead, found_want, want_of};
 
 use crate::routes::{Route, router};
 use http::{Method, StatusCode};
@@ -118,23 +118,6 @@ pub enum Wanted {
         suite: String,
         name: String,
     },
-}
-
-impl Wanted {
-    /// How many bytes of body follow the head.
-    pub fn body_length(&self) -> usize
-        ensures { result ≡ body_length (want_of self.now) }
-    {
-        match self {
-            Wanted::Deliver { length, .. } => *length,
-            Wanted::Run
-            | Wanted::Copy { .. }
-            | Wanted::Fetch { .. }
-            | Wanted::Waiting
-            | Wanted::Verdicts
-            | Wanted::Remove { .. } => 0,
-        }
-    }
 }
 
 /// Reads a whole head: its target is checked, then its Transfer-Encoding, its route, the parameters of that, its method

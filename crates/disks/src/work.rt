@@ -2,7 +2,6 @@
 
 use crate::task::Task;
 use keep::KeepFault;
-use keep_open::open;
 use keep_rows::fault_of;
 use keep_tables::TableKeeper;
 use queue::Archive;
@@ -122,11 +121,13 @@ fn opened_twice<S: Alter + Drop>(
 ) -> (Connection<S>, Answer) {
     let mut connection = connection;
     let has_begun = connection.execute_batch("BEGIN").is_ok();
-    let (mut connection, within) = with_archive(alloc, open(alloc, connection), Task::Nothing);
+    let (mut connection, within) =
+        with_archive(alloc, TableKeeper::open(alloc, connection), Task::Nothing);
     if !has_begun || connection.execute_batch("COMMIT").is_err() {
         return (connection, Ok(Err(KeepFault::Disk)));
     }
-    let (connection, behind) = with_archive(alloc, open(alloc, connection), Task::Nothing);
+    let (connection, behind) =
+        with_archive(alloc, TableKeeper::open(alloc, connection), Task::Nothing);
     (connection, both(alloc, within, behind))
 }
 
@@ -144,9 +145,11 @@ impl Work<'_> {
     ) -> (Connection<S>, Answer) {
         let mut connection = connection;
         match self {
-            Work::Open(task) => with_archive(alloc, open(alloc, connection), task),
+            Work::Open(task) => with_archive(alloc, TableKeeper::open(alloc, connection), task),
             Work::Make(config, task) => with_archive(alloc, made(alloc, connection, config), task),
-            Work::Reopen => with_archive(alloc, open(alloc, connection), Task::Nothing),
+            Work::Reopen => {
+                with_archive(alloc, TableKeeper::open(alloc, connection), Task::Nothing)
+            }
             Work::Run(list) => {
                 let answer = run(alloc, &mut connection, list);
                 (connection, answer)

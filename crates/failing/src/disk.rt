@@ -47,7 +47,7 @@ impl DiskKeeper {
 
 impl Keeper for DiskKeeper {
     ghost use Rattle.std.specs.Prelude.{⊤, true};
-    ghost use Rattle.keep.specs.Plain.{plain_book};
+    ghost use Rattle.keep.specs.Plain.{plain_book, plain_coming};
     ghost use Rattle.failing.specs.Disks.{left_of};
     ghost use Rattle.std.proofs.Common.{ap, ◌∙◌};
 
@@ -59,6 +59,8 @@ impl Keeper for DiskKeeper {
 
     ghost book = { λ k. plain_book k.kept };
 
+    ghost coming = { λ k. plain_coming k.kept };
+
     ghost may_fail = { true };
 
     /// A crash leaves what lies on the disk.
@@ -69,25 +71,41 @@ impl Keeper for DiskKeeper {
         self.kept.config()
     }
 
-    fn arrive(
-        &mut self,
-        alloc: Global,
-        name: &str,
-        body: &[u8],
-        moment: u64,
-    ) -> Result<bool, KeepFault> {
+    fn begin(&mut self, alloc: Global) -> Result<(), KeepFault> {
         if !self.is_open {
+            let _ = self.kept.abandon();
+            return Err(KeepFault::Disk);
+        }
+        self.kept.begin(alloc)
+    }
+
+    fn piece(&mut self, alloc: Global, bytes: &[u8]) -> Result<(), KeepFault> {
+        if !self.is_open {
+            let _ = self.kept.abandon();
+            return Err(KeepFault::Disk);
+        }
+        self.kept.piece(alloc, bytes)
+    }
+
+    fn finish(&mut self, alloc: Global, name: &str, moment: u64) -> Result<bool, KeepFault> {
+        if !self.is_open {
+            let _ = self.kept.abandon();
             return Err(KeepFault::Disk);
         }
         if self.fails {
+            let _ = self.kept.abandon();
             self.faults = self.faults.saturating_add(1);
             self.is_open = false;
             return Err(KeepFault::Disk);
         }
-        match self.kept.arrive(alloc, name, body, moment) {
+        match self.kept.finish(alloc, name, moment) {
             Ok(new) => Ok(new),
             Err(fault) => Err(fault),
         }
+    }
+
+    fn abandon(&mut self) -> Result<(), KeepFault> {
+        self.kept.abandon()
     }
 
     fn complete_uploads(&mut self, _alloc: Global, _moment: u64) -> Result<Vec<Upload>, KeepFault> {

@@ -8,3 +8,5 @@ pub mod Uploads
 pub mod Amending
 pub mod Kept
 pub mod Signs
+pub mod Staying
+pub mod Pieces

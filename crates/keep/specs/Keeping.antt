@@ -1,5 +1,5 @@
 -- What the calls of a keeper ask and answer.
-use Rattle.std.specs.Prelude.{◌≡◌, ◌≢◌, ◌≤◌, ◌+◌, ◌-◌, ◌^◌, min, Option, All, AllPairs, ℕ, Bool, true, IsTrue, List, [], ◌∷◌, map, take, length, Ok, Contains, ⊤, ◌⊎◌, Some}
+use Rattle.std.specs.Prelude.{◌≡◌, ◌≢◌, ◌≤◌, ◌<◌, ◌%◌, ◌+◌, ◌-◌, ◌^◌, min, Option, All, AllPairs, ℕ, Bool, true, IsTrue, List, [], ◌∷◌, map, take, length, Ok, Contains, ⊤, ◌⊎◌, Some}
 use Rattle.records.specs.Values.{ChangesValue}
 use Rattle.records.specs.Records.{changes_in}
 use Rattle.sums.specs.Lines.{is_file_name}
@@ -77,6 +77,13 @@ pub record Reads {K : Type 0} (is_clean is_open : K → Type 0) (faults : K → 
   pub same : is_clean new → is_open new → book new ≡ book old
   pub crash : is_clean new → (left : Option Book) → may_leave new left → may_leave old left
 
+-- What calls leave of a keeper that make nothing arrive and change nothing: one that is open has the same book, and a crash
+-- leaves what it would have left before, or that book.
+pub record Stays {K : Type 0} (is_clean is_open : K → Type 0) (faults : K → ℕ) (book : K → Book) (may_leave : K → Option Book → Type 0) (old new : K) : Type 0 where
+  pub lasts : Lasts is_clean is_open faults book old new
+  pub same : is_clean new → is_open new → book new ≡ book old
+  pub crash : is_clean new → (left : Option Book) → may_leave new left → may_leave old left ⊎ (is_open old × (left ≡ Some (book old)))
+
 -- What a crash may leave behind a call that writes: what it would have left before, or all that the call does.
 abbrev pub Leaves : {K : Type 0} → (is_clean is_open : K → Type 0) → (may_leave : K → Option Book → Type 0) → K → K → (Option Book → Type 0) → Type 0
 Leaves is_clean is_open may_leave old new Whole = is_clean new → (left : Option Book) → may_leave new left → may_leave old left ⊎ (is_open old × Whole left)
@@ -96,3 +103,17 @@ MayAnswer may_fail OutOfMemory = ⊤
 MayAnswer may_fail Disk = IsTrue may_fail
 MayAnswer may_fail Size = IsTrue may_fail
 MayAnswer may_fail Tables = ⊥
+
+-- A body was begun, of whole pieces so far, and these bytes can be its next piece.
+pub record TakesPiece (coming : Option (List ℕ)) (bytes : List ℕ) : Type 0 where
+  pub body : List ℕ
+  pub begun : coming ≡ Some body
+  pub whole : length body % 65536 ≡ 0
+  pub some : 0 < length bytes
+  pub small : length bytes ≤ 65536
+
+-- A body was begun that may be kept under this name.
+pub record IsWholeFor (coming : Option (List ℕ)) (name : List ℕ) : Type 0 where
+  pub body : List ℕ
+  pub begun : coming ≡ Some body
+  pub deliverable : IsDeliverable name body

@@ -27,15 +27,15 @@ impl Model for Body {
 }
 
 impl Body {
-    /// A copy of these bytes, whose print this is.
-    pub fn new(alloc: Global, bytes: &[u8], print: Print) -> Result<Body, AllocError>
-        requires { print ≡ print_of_body bytes.now }
-        ensures { IfOk result (λ body. body ≡ bytes.now) }
+    /// The body of these bytes, whose print this is.
+    pub fn from_vec(bytes: Vec<u8>, print: Print) -> Body
+        requires { print ≡ print_of_body bytes.items }
+        ensures { result ≡ bytes.items }
     {
-        Ok(Body {
-            bytes: Listed::from_vec(Vec::from_slice(alloc, bytes)?),
+        Body {
+            bytes: Listed::from_vec(bytes),
             print,
-        })
+        }
     }
 
     /// The bytes.

@@ -1,9 +1,9 @@
 //! The trait of keepers.
 
-ghost use Rattle.std.specs.Prelude.{◌≡◌, ◌≤◌, ℕ, Bool, Option, Some, IfOk, IfErr, OnOk, OnErr, map, not};
+ghost use Rattle.std.specs.Prelude.{◌≡◌, ◌≤◌, ◌++◌, ◌⊎◌, [], ℕ, Bool, List, Option, Some, None, IfOk, IfErr, OnOk, OnErr, map, not};
 ghost use Rattle.std.specs.Option.{option_map};
 ghost use Rattle.keep.specs.Book.{Book, amended, due, has_arrival, latest, text_at, upload_of, waiting_list, with_delivery};
-ghost use Rattle.keep.specs.Keeping.{Apart, ApartWith, IsDeliverable, IsSound, Lasts, Leaves, MayAnswer, Reads, sign_of};
+ghost use Rattle.keep.specs.Keeping.{Apart, ApartWith, IsDeliverable, IsSound, IsWholeFor, Lasts, Leaves, MayAnswer, Reads, Stays, TakesPiece, sign_of};
 
 use crate::change::{Change, Judgement, Waiting};
 use crate::fault::KeepFault;
@@ -13,6 +13,9 @@ use suites::{Shelves, Upload};
 
 /// The last moment that may be handed in: 2099-12-31 23:59:59 UTC.
 pub const LATEST: u64 = 4_102_444_799;
+
+/// The most bytes of a piece of a body. Each piece of a body but its last has as many.
+pub const PIECE_SIZE: usize = 65_536;
 
 /// What keeps an archive: a configuration, arrivals with their bodies, uploads with their verdicts, what the suites show
 /// with its files, index texts and dates. After a refusal it is as before, or shut: a keeper that a fault of its disk has
@@ -30,6 +33,9 @@ pub trait Keeper {
     /// What is kept, however it is kept. Of a keeper that is shut it says something of the configuration alone.
     ghost book: { Self → Book };
 
+    /// The bytes so far of the body that is coming, where one was begun. It is no arrival and no part of the book.
+    ghost coming: { Self → Option (List ℕ) };
+
     /// Whether the keeper can answer a fault of a disk or of size at all.
     ghost may_fail: { Bool };
 
@@ -40,9 +46,52 @@ pub trait Keeper {
     fn config(&self) -> &Config
         ensures { result.now ≡ (book self.now).config };
 
-    /// Takes an arrival, a file name and a body, and says whether it is new. Bodies are told apart by their prints, so
-    /// that this is said of bodies among which no two have one print. A crash leaves what it would have left before, or
-    /// the book with the delivery.
+    /// Begins a body: what is coming has no byte yet, and a body that was begun before is forgotten.
+    fn begin(&mut self, alloc: Global) -> Result<(), KeepFault>
+        ensures stays { Stays is_clean is_open faults book may_leave self.old self.new }
+        ensures served { is_clean self.new → OnOk result (is_open self.new) }
+        ensures begun { is_clean self.new → OnOk result (coming self.new ≡ Some []) }
+        ensures refused { OnErr result (coming self.new ≡ None) }
+        ensures cause { IfErr result (MayAnswer may_fail) };
+
+    /// Takes the next piece of the body that was begun. After a refusal none is coming.
+    fn piece(&mut self, alloc: Global, bytes: &[u8]) -> Result<(), KeepFault>
+        requires begun { is_clean self.now → is_open self.now → TakesPiece (coming self.now) bytes.now }
+        ensures stays { Stays is_clean is_open faults book may_leave self.old self.new }
+        ensures served { is_clean self.new → OnOk result (is_open self.new) }
+        ensures taken { is_clean self.new → OnOk result (coming self.new ≡ option_map (λ body. body ++ bytes.now) (coming self.old)) }
+        ensures refused { OnErr result (coming self.new ≡ None) }
+        ensures cause { IfErr result (MayAnswer may_fail) };
+
+    /// Takes the body that was begun as one that has arrived under a file name, and says whether that is new. None is
+    /// coming then, also after a refusal. Bodies are told apart by their prints, so that this is said of bodies among which
+    /// no two have one print. A crash leaves what it would have left before, or the book with the delivery.
+    fn finish(&mut self, alloc: Global, name: &str, moment: u64) -> Result<bool, KeepFault>
+        requires in_time { moment ≤ latest }
+        requires whole { is_clean self.now → is_open self.now → IsWholeFor (coming self.now) name.now }
+        ensures lasts { Lasts is_clean is_open faults book self.old self.new }
+        ensures served { is_clean self.new → OnOk result (is_open self.new) }
+        ensures ended { coming self.new ≡ None }
+        ensures new { is_clean self.new → IfOk result (λ new. (body : List ℕ) → coming self.old ≡ Some body → ApartWith (book self.old) body
+            (new ≡ not (has_arrival (book self.old).arrivals (record { name = name.now; body = body; moment = moment })))) }
+        ensures ok { is_clean self.new → OnOk result ((body : List ℕ) → coming self.old ≡ Some body → ApartWith (book self.old) body
+            (book self.new ≡ with_delivery (book self.old) (record { name = name.now; body = body; moment = moment }))) }
+        ensures err { is_clean self.new → is_open self.new → OnErr result (book self.new ≡ book self.old) }
+        ensures cause { IfErr result (MayAnswer may_fail) }
+        ensures crash { Leaves is_clean is_open may_leave self.old self.new (λ left. (body : List ℕ) → coming self.old ≡ Some body → ApartWith (book self.old) body
+            (left ≡ Some (with_delivery (book self.old) (record { name = name.now; body = body; moment = moment })))) };
+
+    /// Forgets the body that is coming. Where none was begun nothing changes.
+    fn abandon(&mut self) -> Result<(), KeepFault>
+        ensures stays { Stays is_clean is_open faults book may_leave self.old self.new }
+        ensures served { is_clean self.new → OnOk result (is_open self.old → is_open self.new) }
+        ensures ended { coming self.new ≡ None }
+        ensures nothing { coming self.old ≡ None → self.new ≡ self.old }
+        ensures cause { IfErr result (MayAnswer may_fail) };
+
+    /// Takes an arrival, a file name and a body, and says whether it is new: a body is begun, its pieces follow, and it is
+    /// finished. Bodies are told apart by their prints, so that this is said of bodies among which no two have one print. A
+    /// crash leaves what it would have left before, the book, or the book with the delivery.
     fn arrive(
         &mut self,
         alloc: Global,
@@ -60,8 +109,18 @@ pub trait Keeper {
             (book self.new ≡ with_delivery (book self.old) (record { name = name.now; body = body.now; moment = moment }))) }
         ensures err { is_clean self.new → is_open self.new → OnErr result (book self.new ≡ book self.old) }
         ensures cause { IfErr result (MayAnswer may_fail) }
-        ensures crash { Leaves is_clean is_open may_leave self.old self.new (λ left. ApartWith (book self.old) body.now
-            (left ≡ Some (with_delivery (book self.old) (record { name = name.now; body = body.now; moment = moment })))) };
+        ensures crash { Leaves is_clean is_open may_leave self.old self.new (λ left. (left ≡ Some (book self.old)) ⊎ ApartWith (book self.old) body.now
+            (left ≡ Some (with_delivery (book self.old) (record { name = name.now; body = body.now; moment = moment })))) }
+    {
+        self.begin(alloc)?;
+        let mut rest = body;
+        while !rest.is_empty() {
+            let (piece, more) = rest.split_at(rest.len().min(PIECE_SIZE));
+            self.piece(alloc, piece)?;
+            rest = more;
+        }
+        self.finish(alloc, name, moment)
+    }
 
     /// The uploads without a verdict of whose entries all have arrived, in the order of the bytes of their names, then of
     /// their SHA-256, SHA-1, MD5 and sizes.

@@ -14,6 +14,6 @@ mod steps;
 pub use arrival::{Arrival, Body};
 pub use change::{Change, IndexText, Judgement, Step, Waiting};
 pub use fault::KeepFault;
-pub use keeper::{Keeper, LATEST};
+pub use keeper::{Keeper, LATEST, PIECE_SIZE};
 pub use plain::PlainKeeper;
 pub use steps::{copied_judgements, dates_after, judged_after, some_changes_suite};

@@ -26,6 +26,8 @@ pub struct PlainKeeper {
     files: Vec<PoolBody>,
     /// For each suite the moment at which what it shows last changed.
     dates: Vec<u64>,
+    /// The bytes so far of the body that is coming, where one was begun.
+    coming: Option<Vec<u8>>,
     ghost in_range: { ∥ All (λ date. date ≤ 4_102_444_799) dates.items ∥₁ },
 }
 
@@ -51,13 +53,14 @@ impl PlainKeeper {
             shelves: Shelves::new(alloc),
             files: Vec::new(alloc),
             dates,
+            coming: None,
         })
     }
 }
 
 impl Keeper for PlainKeeper {
     ghost use Rattle.std.specs.Prelude.{⊤, false};
-    ghost use Rattle.keep.specs.Plain.{plain_book};
+    ghost use Rattle.keep.specs.Plain.{plain_book, plain_coming};
 
     ghost is_clean = { λ _. ⊤ };
 
@@ -66,6 +69,8 @@ impl Keeper for PlainKeeper {
     ghost faults = { λ _. 0 };
 
     ghost book = { plain_book };
+
+    ghost coming = { plain_coming };
 
     ghost may_fail = { false };
 
@@ -78,24 +83,44 @@ impl Keeper for PlainKeeper {
     }
 
     #[tactic(auto, unfolding(crate::specs::Plain::plain_book))]
-    fn arrive(
-        &mut self,
-        alloc: Global,
-        name: &str,
-        body: &[u8],
-        moment: u64,
-    ) -> Result<bool, KeepFault> {
-        let print = print_of(body);
+    fn begin(&mut self, alloc: Global) -> Result<(), KeepFault> {
+        self.coming = Some(Vec::new(alloc));
+        Ok(())
+    }
+
+    #[tactic(auto, unfolding(crate::specs::Plain::plain_book))]
+    fn piece(&mut self, alloc: Global, bytes: &[u8]) -> Result<(), KeepFault> {
+        let _ = alloc;
+        let Some(mut body) = self.coming.take() else {
+            unreachable!()
+        };
+        body.extend_from_slice(bytes)?;
+        self.coming = Some(body);
+        Ok(())
+    }
+
+    #[tactic(auto, unfolding(crate::specs::Plain::plain_book))]
+    fn finish(&mut self, alloc: Global, name: &str, moment: u64) -> Result<bool, KeepFault> {
+        let Some(body) = self.coming.take() else {
+            unreachable!()
+        };
+        let print = print_of(&body);
         if has_arrival(&self.arrivals, name, print) {
             mark_all(&mut self.arrivals, name, print, moment);
             return Ok(false);
         }
         self.arrivals.push(Arrival {
             name: Text::new(alloc, name)?,
-            body: Body::new(alloc, body, print)?,
+            body: Body::from_vec(body, print),
             moment,
         })?;
         Ok(true)
+    }
+
+    #[tactic(auto, unfolding(crate::specs::Plain::plain_book))]
+    fn abandon(&mut self) -> Result<(), KeepFault> {
+        self.coming = None;
+        Ok(())
     }
 
     #[tactic(auto, unfolding(crate::specs::Plain::plain_book, crate::specs::Book::due, crate::specs::Book::unjudged))]

@@ -1,1 +1,5 @@
+pub mod FinishLemmas
+pub mod KeeperLemmas
 pub mod KeptBook
+pub mod OpenLemmas
+pub mod UnderWayLemmas

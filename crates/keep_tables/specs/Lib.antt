@@ -1,1 +1,3 @@
 pub mod Keepers
+pub mod Finishing
+pub mod Opened

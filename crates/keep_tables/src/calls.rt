@@ -1,51 +1,133 @@
-//! The calls of a keeper, over the connection alone.
+//! The calls of a keeper on a body that comes, over the connection alone.
 
-ghost use Rattle.std.specs.Prelude.{◌≡◌, ◌≤◌, ℕ, List, not, false, IsTrue, IfOk, OnOk, OnErr};
+ghost use Rattle.std.specs.Prelude.{◌≡◌, ◌≤◌, ◌<◌, ◌+◌, ◌%◌, ◌++◌, [], ℕ, List, Option, Some, length, not, false, IsTrue, IfOk, OnOk, OnErr};
 ghost use Rattle.sqlite.specs.Effect.{Database};
 ghost use Rattle.sqlite.specs.Held.{state};
 ghost use Rattle.sqlite.specs.State.{HasCleanDisk, Survives};
+ghost use Rattle.sums.specs.Prints.{print as print_of};
 ghost use Rattle.keep.specs.Book.{has_arrival, latest, with_delivery};
 ghost use Rattle.keep.specs.Keeping.{IsDeliverable};
 ghost use Rattle.keep.specs.declared.change.Judgement.{Judgement};
 ghost use Rattle.rules.specs.Values.{ConfigValue};
 ghost use Rattle.suites.specs.Shelves.{ShelvesValue};
+ghost use Rattle.tables.specs.Rows.{tables_in};
 ghost use Rattle.kept.specs.Archives.{KeepsArchive, Turns, book_of};
+ghost use Rattle.kept.specs.Coming.{Comes, HasComing};
 ghost use Rattle.kept.specs.Transactions.{IsUndone};
 
-use crate::listing::{entries_of, record_of};
-use crate::taking::take_file;
-use sqlite::{Alter, Connection, Error};
+use bodies::{Finished, finish_body, remove_all, store_piece};
+use sqlite::{Alter, Connection, Error, ErrorCode};
 use std::alloc::Global;
+use tables::serving::serve;
 
-/// Takes a delivery, and says whether it is new.
-pub fn take_delivery<S: Alter>(
-    alloc: Global,
-    conn: &mut Connection<S>,
-    name: &str,
-    body: &[u8],
-    moment: u64,
-) -> Result<bool, Error>
+/// Takes the rows of a body away that came so far.
+pub(crate) fn forget_body<S: Alter>(conn: &mut Connection<S>, id: u64) -> Result<(), Error>
     requires idle { conn.old.in_transaction ≡ false }
-    requires in_time { moment ≤ latest }
-    requires deliverable { IsDeliverable name.now body.now }
     ensures idle { conn.new.in_transaction ≡ false }
     ensures open { HasCleanDisk (state S.Store conn.new) → OnOk result (IsTrue (state S.Store conn.old).is_open × IsTrue (state S.Store conn.new).is_open) }
-    ensures done { HasCleanDisk (state S.Store conn.new) → (config : ConfigValue) (judged : List Judgement) (shown : ShelvesValue) (dates : List ℕ)
-        → KeepsArchive (state S.Store conn.old).committed config judged shown dates
-        → OnOk result (Turns (state S.Store conn.old).committed (state S.Store conn.new).committed config judged shown dates judged shown dates
-        (λ b. with_delivery b (record { name = name.now; body = body.now; moment = moment }))) }
-    ensures new { HasCleanDisk (state S.Store conn.new) → (config : ConfigValue) (judged : List Judgement) (shown : ShelvesValue) (dates : List ℕ)
-        → KeepsArchive (state S.Store conn.old).committed config judged shown dates
-        → IfOk result (λ new. new ≡ not (has_arrival (book_of (state S.Store conn.old).committed config judged shown dates).arrivals (record { name = name.now; body = body.now; moment = moment }))) }
+    ensures done { HasCleanDisk (state S.Store conn.new) → (config : ConfigValue) (judged : List Judgement) (shown : ShelvesValue) (dates : List ℕ) (count : ℕ) (bytes : List ℕ)
+        → KeepsArchive (state S.Store conn.old).committed config judged shown dates → Comes (tables_in (state S.Store conn.old).committed) (Some id) count bytes
+        → OnOk result (Turns (state S.Store conn.old).committed (state S.Store conn.new).committed config judged shown dates judged shown dates (λ b. b)
+        × HasComing (tables_in (state S.Store conn.new).committed) []) }
     ensures undone { HasCleanDisk (state S.Store conn.new) → OnErr result (IsUndone (state S.Store conn.old) (state S.Store conn.new)) }
     ensures crash { Survives (state S.Store conn.old) (state S.Store conn.new) (λ trees. (db : Database) × (trees ≡ db.trees) × IsTrue (state S.Store conn.old).is_open
-        × ((config : ConfigValue) (judged : List Judgement) (shown : ShelvesValue) (dates : List ℕ)
-        → KeepsArchive (state S.Store conn.old).committed config judged shown dates
-        → Turns (state S.Store conn.old).committed db config judged shown dates judged shown dates
-        (λ b. with_delivery b (record { name = name.now; body = body.now; moment = moment })))) }
+        × ((config : ConfigValue) (judged : List Judgement) (shown : ShelvesValue) (dates : List ℕ) (count : ℕ) (bytes : List ℕ)
+        → KeepsArchive (state S.Store conn.old).committed config judged shown dates → Comes (tables_in (state S.Store conn.old).committed) (Some id) count bytes
+        → Turns (state S.Store conn.old).committed db config judged shown dates judged shown dates (λ b. b))) }
 {
     // For the prover alone: outside a transaction the connection has what is committed.
     let _idle = conn.is_autocommit();
-    let found = record_of(alloc, name, body)?;
-    take_file(alloc, conn, name, body, moment, entries_of(&found))
+    remove_all(conn, &[id])
+}
+
+/// Makes room for a body: the rows of the one before it go, which has this number, or the database is asked whether it serves.
+pub(crate) fn clear<S: Alter>(
+    alloc: Global,
+    conn: &mut Connection<S>,
+    body: Option<u64>,
+) -> Result<(), Error>
+    requires idle { conn.old.in_transaction ≡ false }
+    ensures idle { conn.new.in_transaction ≡ false }
+    ensures open { HasCleanDisk (state S.Store conn.new) → OnOk result (IsTrue (state S.Store conn.old).is_open × IsTrue (state S.Store conn.new).is_open) }
+    ensures done { HasCleanDisk (state S.Store conn.new) → (config : ConfigValue) (judged : List Judgement) (shown : ShelvesValue) (dates : List ℕ) (count : ℕ) (bytes : List ℕ)
+        → KeepsArchive (state S.Store conn.old).committed config judged shown dates → Comes (tables_in (state S.Store conn.old).committed) body count bytes
+        → OnOk result (Turns (state S.Store conn.old).committed (state S.Store conn.new).committed config judged shown dates judged shown dates (λ b. b)
+        × HasComing (tables_in (state S.Store conn.new).committed) []) }
+    ensures undone { HasCleanDisk (state S.Store conn.new) → OnErr result (IsUndone (state S.Store conn.old) (state S.Store conn.new)) }
+    ensures crash { Survives (state S.Store conn.old) (state S.Store conn.new) (λ trees. (db : Database) × (trees ≡ db.trees) × IsTrue (state S.Store conn.old).is_open
+        × ((config : ConfigValue) (judged : List Judgement) (shown : ShelvesValue) (dates : List ℕ) (count : ℕ) (bytes : List ℕ)
+        → KeepsArchive (state S.Store conn.old).committed config judged shown dates → Comes (tables_in (state S.Store conn.old).committed) body count bytes
+        → Turns (state S.Store conn.old).committed db config judged shown dates judged shown dates (λ b. b))) }
+{
+    match body {
+        Some(id) => forget_body(conn, id),
+        None => serve(alloc, conn),
+    }
+}
+
+/// Stores the next piece of the body that is coming, under the number behind so many. Answers the number of the body.
+pub(crate) fn take_piece<S: Alter>(
+    conn: &mut Connection<S>,
+    body: Option<u64>,
+    count: u64,
+    bytes: &[u8],
+) -> Result<u64, Error>
+    requires idle { conn.old.in_transaction ≡ false }
+    ensures idle { conn.new.in_transaction ≡ false }
+    ensures open { HasCleanDisk (state S.Store conn.new) → OnOk result (IsTrue (state S.Store conn.old).is_open × IsTrue (state S.Store conn.new).is_open) }
+    ensures done { HasCleanDisk (state S.Store conn.new) → (config : ConfigValue) (judged : List Judgement) (shown : ShelvesValue) (dates : List ℕ) (so_far : List ℕ)
+        → KeepsArchive (state S.Store conn.old).committed config judged shown dates → Comes (tables_in (state S.Store conn.old).committed) body count so_far
+        → length so_far % 65536 ≡ 0 → 0 < length bytes.now → length bytes.now ≤ 65536
+        → IfOk result (λ id. Turns (state S.Store conn.old).committed (state S.Store conn.new).committed config judged shown dates judged shown dates (λ b. b)
+        × Comes (tables_in (state S.Store conn.new).committed) (Some id) (count + 1) (so_far ++ bytes.now)) }
+    ensures counted { OnOk result (count < 18_446_744_073_709_551_615) }
+    ensures undone { HasCleanDisk (state S.Store conn.new) → OnErr result (IsUndone (state S.Store conn.old) (state S.Store conn.new)) }
+    ensures crash { Survives (state S.Store conn.old) (state S.Store conn.new) (λ trees. (db : Database) × (trees ≡ db.trees) × IsTrue (state S.Store conn.old).is_open
+        × ((config : ConfigValue) (judged : List Judgement) (shown : ShelvesValue) (dates : List ℕ) (so_far : List ℕ)
+        → KeepsArchive (state S.Store conn.old).committed config judged shown dates → Comes (tables_in (state S.Store conn.old).committed) body count so_far
+        → length so_far % 65536 ≡ 0 → 0 < length bytes.now → length bytes.now ≤ 65536
+        → Turns (state S.Store conn.old).committed db config judged shown dates judged shown dates (λ b. b))) }
+{
+    // For the prover alone: outside a transaction the connection has what is committed.
+    let _idle = conn.is_autocommit();
+    let Some(number) = count.checked_add(1) else {
+        return Err(Error::SqliteFailure(ErrorCode::TooBig));
+    };
+    store_piece(conn, body, number, bytes)
+}
+
+/// Takes the body that came as one that has arrived, and says whether that is new.
+pub(crate) fn finish_delivery<S: Alter>(
+    alloc: Global,
+    conn: &mut Connection<S>,
+    finished: &Finished<'_>,
+) -> Result<bool, Error>
+    requires idle { conn.old.in_transaction ≡ false }
+    requires in_time { finished.now.moment ≤ latest }
+    ensures idle { conn.new.in_transaction ≡ false }
+    ensures open { HasCleanDisk (state S.Store conn.new) → OnOk result (IsTrue (state S.Store conn.old).is_open × IsTrue (state S.Store conn.new).is_open) }
+    ensures done { HasCleanDisk (state S.Store conn.new) → (config : ConfigValue) (judged : List Judgement) (shown : ShelvesValue) (dates : List ℕ) (body : List ℕ)
+        → KeepsArchive (state S.Store conn.old).committed config judged shown dates → Comes (tables_in (state S.Store conn.old).committed) finished.now.body finished.now.pieces body
+        → finished.now.print ≡ print_of body → IsDeliverable finished.now.name.now body
+        → OnOk result (Turns (state S.Store conn.old).committed (state S.Store conn.new).committed config judged shown dates judged shown dates
+        (λ b. with_delivery b (record { name = finished.now.name.now; body = body; moment = finished.now.moment }))
+        × HasComing (tables_in (state S.Store conn.new).committed) []) }
+    ensures new { HasCleanDisk (state S.Store conn.new) → (config : ConfigValue) (judged : List Judgement) (shown : ShelvesValue) (dates : List ℕ) (body : List ℕ)
+        → KeepsArchive (state S.Store conn.old).committed config judged shown dates → Comes (tables_in (state S.Store conn.old).committed) finished.now.body finished.now.pieces body
+        → finished.now.print ≡ print_of body → IsDeliverable finished.now.name.now body
+        → IfOk result (λ new. new ≡ not (has_arrival (book_of (state S.Store conn.old).committed config judged shown dates).arrivals (record { name = finished.now.name.now; body = body; moment = finished.now.moment }))) }
+    ensures undone { HasCleanDisk (state S.Store conn.new) → OnErr result (IsUndone (state S.Store conn.old) (state S.Store conn.new)) }
+    ensures crash { Survives (state S.Store conn.old) (state S.Store conn.new) (λ trees. (db : Database) × (trees ≡ db.trees) × IsTrue (state S.Store conn.old).is_open
+        × ((config : ConfigValue) (judged : List Judgement) (shown : ShelvesValue) (dates : List ℕ) (body : List ℕ)
+        → KeepsArchive (state S.Store conn.old).committed config judged shown dates → Comes (tables_in (state S.Store conn.old).committed) finished.now.body finished.now.pieces body
+        → finished.now.print ≡ print_of body → IsDeliverable finished.now.name.now body
+        → Turns (state S.Store conn.old).committed db config judged shown dates judged shown dates
+        (λ b. with_delivery b (record { name = finished.now.name.now; body = body; moment = finished.now.moment })))) }
+{
+    // For the prover alone: outside a transaction the connection has what is committed.
+    let _idle = conn.is_autocommit();
+    if finished.pieces >= u64::MAX {
+        return Err(Error::SqliteFailure(ErrorCode::TooBig));
+    }
+    finish_body(alloc, conn, finished)
 }

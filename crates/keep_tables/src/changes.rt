@@ -1,6 +1,6 @@
 //! A change of an archive: one that would put an item into no suite is refused.
 
-ghost use Rattle.std.specs.Prelude.{◌≡◌, ◌≤◌, ◌++◌, ℕ, List, length, false, IsTrue, OnOk, OnErr};
+ghost use Rattle.std.specs.Prelude.{◌≡◌, ◌≤◌, ◌++◌, ℕ, List, Option, length, false, IsTrue, OnOk, OnErr};
 ghost use Rattle.std.specs.List.{list_all};
 ghost use Rattle.sqlite.specs.Effect.{Database};
 ghost use Rattle.sqlite.specs.Held.{state};
@@ -9,8 +9,10 @@ ghost use Rattle.keep.specs.Book.{amended, dates_past, judgements, latest, shown
 ghost use Rattle.keep.specs.Keeping.{IsSound};
 ghost use Rattle.keep.specs.declared.change.Judgement.{Judgement};
 ghost use Rattle.suites.specs.Shelves.{ShelvesValue};
+ghost use Rattle.tables.specs.Rows.{tables_in};
 ghost use Rattle.kept.specs.Archives.{KeepsArchive, Turns, book_of};
 ghost use Rattle.kept.specs.Changing.{is_within, puts_within};
+ghost use Rattle.kept.specs.Coming.{Comes};
 ghost use Rattle.kept.specs.Transactions.{IsUndone};
 
 use keep::{Change, Step};
@@ -78,6 +80,10 @@ pub(crate) fn make_change<S: Alter>(
         → IsSound (book_of (state S.Store conn.old).committed config.now before shown dates) change.now
         → OnOk result (Turns (state S.Store conn.old).committed (state S.Store conn.new).committed config.now before shown dates
         (before ++ judgements change.now.steps) (shown_past shown change.now.steps) (dates_past change.now.moment dates change.now.steps) (λ b. amended b change.now)) }
+    // What is coming stays so.
+    ensures beside { HasCleanDisk (state S.Store conn.new) → (before : List Judgement) (shown : ShelvesValue) (dates : List ℕ)
+        → KeepsArchive (state S.Store conn.old).committed config.now before shown dates
+        → OnOk result ((body : Option ℕ) (count : ℕ) (bytes : List ℕ) → Comes (tables_in (state S.Store conn.old).committed) body count bytes → Comes (tables_in (state S.Store conn.new).committed) body count bytes) }
     ensures undone { HasCleanDisk (state S.Store conn.new) → OnErr result (IsUndone (state S.Store conn.old) (state S.Store conn.new)) }
     ensures crash { Survives (state S.Store conn.old) (state S.Store conn.new) (λ trees. (db : Database) × (trees ≡ db.trees) × IsTrue (state S.Store conn.old).is_open
         × ((before : List Judgement) (shown : ShelvesValue) (dates : List ℕ)

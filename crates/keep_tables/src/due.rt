@@ -10,12 +10,13 @@ ghost use Rattle.sums.specs.Prints.{print as print_of_body};
 ghost use Rattle.keep.specs.Book.{Book, due, upload_of};
 ghost use Rattle.keep.specs.Keeping.{sign_of};
 ghost use Rattle.tables.specs.Rows.{Tables, Holds};
+ghost use Rattle.kept.specs.Finished.{finished};
 ghost use Rattle.kept.specs.Kept.{AreArrivals, AreBodies, AreUploads, arrivals_in};
 ghost use Rattle.kept.specs.Reads.{Rests, bytes_with, due_in, text_in, wanting_rows, upload_in};
 ghost use Rattle.kept.specs.Transactions.{IsUndone};
 
 use crate::waiting::{missing_of, wanting_in_order};
-use keep_rows::read_body;
+use bodies::read_body;
 use para::Listed;
 use records::{Changes, RecordFault};
 use sqlite::{Alter, Connection, Error, ErrorCode};
@@ -147,11 +148,11 @@ fn due_upload<S: Alter>(
 pub fn due_uploads<S: Alter>(alloc: Global, conn: &mut Connection<S>) -> Result<Vec<Upload>, Error>
     ensures idle { conn.old.in_transaction ≡ false → conn.new.in_transaction ≡ false }
     ensures uploads { HasCleanDisk (state S.Store conn.new) → (t : Tables) → Holds (state S.Store conn.old).now t
-        → (b : Book) → b.arrivals ≡ arrivals_in t → AreUploads t b.judged → AreBodies t → AreArrivals t
+        → (b : Book) → b.arrivals ≡ arrivals_in (finished t) → AreUploads (finished t) b.judged → AreBodies (finished t) → AreArrivals (finished t)
         → IfOk result (λ uploads. uploads.items ≡ map (upload_of b.arrivals) (due b)) }
     // By their names and prints.
     ensures signs { HasCleanDisk (state S.Store conn.new) → (t : Tables) → Holds (state S.Store conn.old).now t
-        → (b : Book) → b.arrivals ≡ arrivals_in t → AreUploads t b.judged → AreBodies t → AreArrivals t
+        → (b : Book) → b.arrivals ≡ arrivals_in (finished t) → AreUploads (finished t) b.judged → AreBodies (finished t) → AreArrivals (finished t)
         → IfOk result (λ uploads. map (λ u. (u.name, u.print)) uploads.items ≡ map sign_of (due b)) }
     ensures unchanged { HasCleanDisk (state S.Store conn.new) → (t : Tables) → Holds (state S.Store conn.old).now t
         → OnOk result (IsUnchanged (state S.Store conn.old) (state S.Store conn.new)) }

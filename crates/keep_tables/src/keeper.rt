@@ -1,15 +1,19 @@
 //! The keeper over the tables of a database.
 
-ghost use Rattle.std.specs.Prelude.{◌≡◌, ◌≤◌, All, false, IsTrue};
+ghost use Rattle.std.specs.Prelude.{◌≡◌, ◌≤◌, [], All, false, IsTrue};
 ghost use Rattle.sqlite.specs.Held.{state};
 ghost use Rattle.sqlite.specs.State.{HasCleanDisk};
 ghost use Rattle.tables.specs.Rows.{tables_in};
+ghost use Rattle.bodies.specs.UnderWay.{IsUnderWay};
 ghost use Rattle.kept.specs.Archives.{KeepsArchive};
+ghost use Rattle.kept.specs.Coming.{HasComing};
 ghost use Rattle.kept.specs.Shown.{shown_in};
 
-use crate::calls::take_delivery;
+use crate::begun::{begun, is_coming, number_of, stop};
+use crate::calls::{clear, finish_delivery, forget_body, take_piece};
 use crate::changes::make_change;
 use crate::reads::{read_due, read_file, read_nothing, read_shown, read_text, read_waiting};
+use bodies::{Begun, Finished};
 use keep::{
     Change, Judgement, KeepFault, Keeper, LATEST, Waiting, copied_judgements, dates_after,
     judged_after,
@@ -19,6 +23,7 @@ use rules::Config;
 use sqlite::{Alter, Connection};
 use std::alloc::Global;
 use suites::{Shelves, Upload};
+use sums::Printer;
 
 /// A keeper over the tables of a database, which its connection is to. The configuration, the judgements and the dates are
 /// held beside the tables, all else is read from them.
@@ -29,10 +34,13 @@ pub struct TableKeeper<S: Alter + Drop> {
     judged: Vec<Judgement>,
     /// For each suite the moment at which what it shows last changed.
     dates: Vec<u64>,
+    /// The body that was begun last, until it has arrived or its rows are gone.
+    begun: Option<Begun>,
     ghost idle: { conn.in_transaction ≡ false },
     ghost in_range: { ∥ All (λ date. date ≤ 4_102_444_799) dates.items ∥₁ },
     ghost kept: { HasCleanDisk (state S.Store conn) → IsTrue (state S.Store conn).is_open
         → ∥ KeepsArchive (state S.Store conn).committed config judged.items (shown_in config.suites (tables_in (state S.Store conn).committed)) dates.items ∥₁ },
+    ghost under_way: { HasCleanDisk (state S.Store conn) → IsTrue (state S.Store conn).is_open → ∥ IsUnderWay (tables_in (state S.Store conn).committed) begun ∥₁ },
 }
 
 impl<S: Alter + Drop> TableKeeper<S> {
@@ -80,14 +88,15 @@ impl<S: Alter + Drop> TableKeeper<S> {
                 config,
                 judged: Vec::new(alloc),
                 dates,
+                begun: None,
             }),
             Err(error) => Err((connection, fault_of(error))),
         }
     }
 
     /// The keeper over a database that keeps an archive of this configuration, with these judged uploads in order, and for each
-    /// suite in the order of the configuration the moment at which what it shows last changed.
-    pub fn over(
+    /// suite in the order of the configuration the moment at which what it shows last changed. Each of its bodies is whole.
+    pub(crate) fn over(
         connection: Connection<S>,
         config: Config,
         judged: Vec<Judgement>,
@@ -97,6 +106,7 @@ impl<S: Alter + Drop> TableKeeper<S> {
         requires in_range { ∥ All (λ date. date ≤ LATEST) dates.items ∥₁ }
         requires kept { HasCleanDisk (state S.Store connection) → IsTrue (state S.Store connection).is_open
             → ∥ KeepsArchive (state S.Store connection).committed config judged.items (shown_in config.suites (tables_in (state S.Store connection).committed)) dates.items ∥₁ }
+        requires whole { HasCleanDisk (state S.Store connection) → IsTrue (state S.Store connection).is_open → HasComing (tables_in (state S.Store connection).committed) [] }
         ensures { (result.conn ≡ connection) × (result.config ≡ config) × (result.judged ≡ judged) × (result.dates ≡ dates) }
     {
         TableKeeper {
@@ -104,6 +114,7 @@ impl<S: Alter + Drop> TableKeeper<S> {
             config,
             judged,
             dates,
+            begun: None,
         }
     }
 
@@ -116,6 +127,7 @@ impl<S: Alter + Drop> TableKeeper<S> {
             config: _,
             judged: _,
             dates: _,
+            begun: _,
         } = self;
         conn
     }
@@ -124,6 +136,7 @@ impl<S: Alter + Drop> TableKeeper<S> {
 impl<S: Alter + Drop> Keeper for TableKeeper<S> {
     ghost use Rattle.std.specs.Prelude.{true};
     ghost use Rattle.sqlite.specs.Tree.{Trees};
+    ghost use Rattle.bodies.specs.UnderWay.{coming_in};
     ghost use Rattle.kept.specs.Archives.{KeepsLeft, book_of};
     ghost use Rattle.kept.specs.KeeperLemmas.{left_is};
 
@@ -134,6 +147,8 @@ impl<S: Alter + Drop> Keeper for TableKeeper<S> {
     ghost faults = { λ k. (state S.Store k.conn).faults };
 
     ghost book = { λ k. book_of (state S.Store k.conn).committed k.config k.judged.items (shown_in k.config.suites (tables_in (state S.Store k.conn).committed)) k.dates.items };
+
+    ghost coming = { λ k. coming_in (tables_in (state S.Store k.conn).committed) k.begun };
 
     ghost may_fail = { true };
 
@@ -146,16 +161,95 @@ impl<S: Alter + Drop> Keeper for TableKeeper<S> {
     }
 
     #[tactic(auto, unfolding(kept::specs::Kept::book_in))]
-    fn arrive(
-        &mut self,
-        alloc: Global,
-        name: &str,
-        body: &[u8],
-        moment: u64,
-    ) -> Result<bool, KeepFault> {
-        match take_delivery(alloc, &mut self.conn, name, body, moment) {
+    fn begin(&mut self, alloc: Global) -> Result<(), KeepFault> {
+        match clear(alloc, &mut self.conn, number_of(&self.begun)) {
+            Ok(()) => {
+                self.begun = Some(begun());
+                Ok(())
+            }
+            Err(error) => {
+                stop(&mut self.begun);
+                Err(fault_of(error))
+            }
+        }
+    }
+
+    #[tactic(auto, unfolding(kept::specs::Kept::book_in))]
+    fn piece(&mut self, alloc: Global, bytes: &[u8]) -> Result<(), KeepFault> {
+        let _ = alloc;
+        let Some(mut begun) = self.begun.take() else {
+            return Err(KeepFault::Disk);
+        };
+        match take_piece(&mut self.conn, begun.body, begun.pieces, bytes) {
+            Ok(id) => {
+                begun.printer.update(bytes);
+                self.begun = Some(Begun {
+                    body: Some(id),
+                    pieces: begun.pieces.wrapping_add(1),
+                    printer: begun.printer,
+                    is_coming: true,
+                });
+                Ok(())
+            }
+            Err(error) => {
+                begun.is_coming = false;
+                self.begun = Some(begun);
+                Err(fault_of(error))
+            }
+        }
+    }
+
+    #[tactic(auto, unfolding(kept::specs::Kept::book_in))]
+    fn finish(&mut self, alloc: Global, name: &str, moment: u64) -> Result<bool, KeepFault> {
+        let Some(begun) = self.begun.take() else {
+            return Err(KeepFault::Disk);
+        };
+        let Begun {
+            body,
+            pieces,
+            printer,
+            is_coming: _,
+        } = begun;
+        let print = printer.finish();
+        let finished = Finished {
+            name,
+            body,
+            pieces,
+            print,
+            moment,
+        };
+        match finish_delivery(alloc, &mut self.conn, &finished) {
             Ok(new) => Ok(new),
-            Err(error) => Err(fault_of(error)),
+            Err(error) => {
+                self.begun = Some(Begun {
+                    body,
+                    pieces,
+                    printer: Printer::new(),
+                    is_coming: false,
+                });
+                Err(fault_of(error))
+            }
+        }
+    }
+
+    #[tactic(auto, unfolding(kept::specs::Kept::book_in))]
+    fn abandon(&mut self) -> Result<(), KeepFault> {
+        if !is_coming(&self.begun) {
+            return Ok(());
+        }
+        let Some(id) = number_of(&self.begun) else {
+            self.begun = None;
+            return Ok(());
+        };
+        match forget_body(&mut self.conn, id) {
+            Ok(()) => {
+                self.begun = None;
+                Ok(())
+            }
+            Err(error) => {
+                stop(&mut self.begun);
+                Err(fault_of(error))
+            }
         }
     }
 

@@ -1,17 +1,19 @@
 //! A keeper of an archive over the tables of a database: bodies, arrivals and what uploads want are read from the tables,
-//! and a delivery, a change and the making of an archive are one transaction each.
+//! and a piece of a body, its arrival, a change and the making of an archive are one transaction each. An opening reads all rows
+//! and says whether they are those of an archive.
 #![tactic(auto)]
 
+mod begun;
 mod calls;
 mod changes;
 mod due;
 mod keeper;
 pub mod laws;
-mod listing;
 mod meaning;
+mod opening;
 mod reads;
 mod showing;
-mod taking;
+mod unfinished;
 mod waiting;
 mod wanting;
 

@@ -5,6 +5,7 @@ ghost use Rattle.sqlite.specs.Held.{state};
 ghost use Rattle.sqlite.specs.State.{HasCleanDisk, IsUnchanged, Survives};
 ghost use Rattle.keep.specs.Book.{Book, waiting_list};
 ghost use Rattle.tables.specs.Rows.{Tables, Fails, Holds, IsForeign};
+ghost use Rattle.kept.specs.Finished.{finished};
 ghost use Rattle.kept.specs.Kept.{AreUploads, arrivals_in, sign_in};
 ghost use Rattle.kept.specs.Reads.{missing_in, put_by, row_order, sign_order, sorted_by, wanting_rows};
 ghost use Rattle.kept.specs.Transactions.{IsUndone};
@@ -122,7 +123,7 @@ pub fn waiting_uploads<S: Alter>(
 ) -> Result<Vec<Waiting>, Error>
     ensures idle { conn.old.in_transaction ≡ false → conn.new.in_transaction ≡ false }
     ensures ok { HasCleanDisk (state S.Store conn.new) → (t : Tables) → Holds (state S.Store conn.old).now t
-        → (b : Book) → b.arrivals ≡ arrivals_in t → AreUploads t b.judged → IfOk result (λ all. all.items ≡ waiting_list b) }
+        → (b : Book) → b.arrivals ≡ arrivals_in (finished t) → AreUploads (finished t) b.judged → IfOk result (λ all. all.items ≡ waiting_list b) }
     ensures unchanged { HasCleanDisk (state S.Store conn.new) → (t : Tables) → Holds (state S.Store conn.old).now t
         → OnOk result (IsUnchanged (state S.Store conn.old) (state S.Store conn.new)) }
     ensures err { HasCleanDisk (state S.Store conn.new) → (t : Tables) → Holds (state S.Store conn.old).now t

@@ -89,7 +89,7 @@ none_pass : {X Y : Type 0} (p : X → Bool) (f : Y → X) → ((y : Y) → p (f 
 none_pass p f h [] = refl
 none_pass p f h (y ∷ ys) = rw (h y) (none_pass p f h ys)
 
-none_kept : {X : Type 0} (p : X → Bool) (xs : List X) → ((x : X) → Contains xs x → p x ≡ false) → filter p xs ≡ []
+pub none_kept : {X : Type 0} (p : X → Bool) (xs : List X) → ((x : X) → Contains xs x → p x ≡ false) → filter p xs ≡ []
 none_kept p [] h = refl
 none_kept p (x ∷ xs) h = rw (h x (here x xs)) (none_kept p xs (λ y c. h y (there x xs y c)))
 
@@ -151,7 +151,7 @@ pieces_joined id bytes =
     ∙ joined_to bytes (piece_count bytes)
     ∙ take_all (65536 * piece_count bytes) bytes (omega arith)
 
-own_pieces : (id : ℕ) (bytes : List ℕ) → filter (is_of id) (pieces_for id bytes) ≡ pieces_for id bytes
+pub own_pieces : (id : ℕ) (bytes : List ℕ) → filter (is_of id) (pieces_for id bytes) ≡ pieces_for id bytes
 unfolding pieces_for
 own_pieces id bytes = all_pass (is_of id) _ (λ n. eq-eqb id id refl) (range_with_len 0 (piece_count bytes))
 

@@ -73,18 +73,18 @@ adds_body a b c print bytes id p is q = record {
   shown = record { was_open = p.shown.was_open; is_open = q.shown.is_open; now_is = refl; committed_is = q.shown.committed_is ∙ p.shown.committed_is; mode = q.shown.mode };
 }
 
-bytes_there : (print : Print) (bytes : List ℕ) (t : Tables) (id : ℕ) → body_with print t.bodies ≡ Some id → with_bytes print bytes t ≡ t
+pub bytes_there : (print : Print) (bytes : List ℕ) (t : Tables) (id : ℕ) → body_with print t.bodies ≡ Some id → with_bytes print bytes t ≡ t
 unfolding with_bytes
 bytes_there print bytes t id e = ap (λ o. cond (is_some o) t (with_new_body print bytes t)) e
 
-bytes_new : (print : Print) (bytes : List ℕ) (t : Tables) → body_with print t.bodies ≡ None → with_bytes print bytes t ≡ with_new_body print bytes t
+pub bytes_new : (print : Print) (bytes : List ℕ) (t : Tables) → body_with print t.bodies ≡ None → with_bytes print bytes t ≡ with_new_body print bytes t
 unfolding with_bytes
 bytes_new print bytes t e = ap (λ o. cond (is_some o) t (with_new_body print bytes t)) e
 
-number_there : (print : Print) (bytes : List ℕ) (t : Tables) (id : ℕ) → body_with print t.bodies ≡ Some id → number_with print (with_bytes print bytes t) ≡ id
+pub number_there : (print : Print) (bytes : List ℕ) (t : Tables) (id : ℕ) → body_with print t.bodies ≡ Some id → number_with print (with_bytes print bytes t) ≡ id
 number_there print bytes t id e = ap (number_with print) (bytes_there print bytes t id e) ∙ ap (λ (o : Option ℕ). unwrap_or o 0) e
 
-number_new : (print : Print) (bytes : List ℕ) (t : Tables) → body_with print t.bodies ≡ None → number_with print (with_bytes print bytes t) ≡ next_in t.bodies
+pub number_new : (print : Print) (bytes : List ℕ) (t : Tables) → body_with print t.bodies ≡ None → number_with print (with_bytes print bytes t) ≡ next_in t.bodies
 number_new print bytes t e =
     ap (number_with print) (bytes_new print bytes t e ∙ only_pieces (pieces_for (next_in t.bodies) bytes) (with_body (record { print = Some print }) t))
     ∙ ap (λ o. unwrap_or (option_map (λ x. x.0) o) 0) (

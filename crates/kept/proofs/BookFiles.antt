@@ -38,7 +38,7 @@ its_files_prop b = hlevel props
 
 pub book_files : (db : Database) (config : ConfigValue) (b : Book) → KeepsBook db config b → HasItsFiles b
 book_files db config b keeps =
-    ∥∥₁_elim keeps (its_files_prop b) (λ w. subst HasItsFiles (sym w.4) (kept_files (tables_in db) config w.0 w.1 w.2 w.3.kept))
+    ∥∥₁_elim keeps (its_files_prop b) (λ w. subst HasItsFiles (sym w.4) (kept_files (finished (tables_in db)) config w.0 w.1 w.2 w.3.kept))
 
 pub finished_files : (db : Database) (config : ConfigValue) (b : Book) → KeepsFinished db config b → HasItsFiles b
 finished_files db config b keeps =
@@ -48,9 +48,9 @@ finished_files db config b keeps =
 pub one_kept : (db other : Database) (config another : ConfigValue) (b c : Book) → other.trees ≡ db.trees → KeepsBook db config b → KeepsBook other another c → c ≡ b
 one_kept db other config another b c same one two =
     ∥∥₁_elim one (book_set _ _) (λ v. ∥∥₁_elim two (book_set _ _) (λ w.
-    let is : tables_in other ≡ tables_in db = ap tables_of same in
-    let here : IsKept (tables_in db) config v.0 v.1 v.2 = v.3.kept in
-    let there : IsKept (tables_in db) another w.0 w.1 w.2 = subst (λ t. IsKept t another w.0 w.1 w.2) is w.3.kept in
+    let is : finished (tables_in other) ≡ finished (tables_in db) = ap (λ trees. finished (tables_of trees)) same in
+    let here : IsKept (finished (tables_in db)) config v.0 v.1 v.2 = v.3.kept in
+    let there : IsKept (finished (tables_in db)) another w.0 w.1 w.2 = subst (λ t. IsKept t another w.0 w.1 w.2) is w.3.kept in
     w.4 ∙ ap (book_in another w.0 w.1 w.2) is
-    ∙ one_book (tables_in db) another config w.0 v.0 w.1 v.1 w.2 v.2 there here there.read here.read there.sound.at_home here.sound.at_home
+    ∙ one_book (finished (tables_in db)) another config w.0 v.0 w.1 v.1 w.2 v.2 there here there.read here.read there.sound.at_home here.sound.at_home
     ∙ sym v.4))

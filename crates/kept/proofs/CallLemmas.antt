@@ -14,12 +14,16 @@ use Rattle.kept.specs.KeeperLemmas.{left_is}
 use Rattle.kept.specs.Shown.{shown_in}
 use Rattle.kept.specs.Transactions.{IsUndone}
 use Rattle.kept.proofs.NameLemmas.{config_codenames}
+use Rattle.kept.specs.Finished.{finished}
+use Rattle.kept.proofs.FinishedLemmas.{shown_finished}
 use Rattle.kept.proofs.ShownLemmas.{shown_is}
 
 module _ {config : ConfigValue} {judged : List Judgement} {shown : ShelvesValue} {dates : List ℕ} (db : Database) where
   -- an archive shows what its rows show
   pub shown_here : KeepsArchive db config judged shown dates → shown_in config.suites (tables_in db) ≡ shown
-  shown_here h = shown_is (tables_in db) config.suites shown h.kept.items h.kept.sound.at_home (config_codenames config h.kept.read)
+  shown_here h =
+      sym (shown_finished config.suites (tables_in db))
+      ∙ shown_is (finished (tables_in db)) config.suites shown h.kept.items h.kept.sound.at_home (config_codenames config h.kept.read)
 
   pub kept_here : KeepsArchive db config judged shown dates → KeepsArchive db config judged (shown_in config.suites (tables_in db)) dates
   kept_here h = subst (λ s. KeepsArchive db config judged s dates) (sym (shown_here h)) h

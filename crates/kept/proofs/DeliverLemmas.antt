@@ -13,7 +13,8 @@ use Rattle.tables.specs.Rows.{Tables, Holds, Changes, Numbered, next_in, rows_of
 use Rattle.tables.specs.Uploads.{is_upload}
 use Rattle.tables.specs.declared.rows.Arrival.{Arrival}
 use Rattle.tables.specs.Wants.{with_here}
-use Rattle.kept.specs.Making.{is_here, number_with, with_arrived, with_bytes, with_delivered, with_requested, with_wants}
+use Rattle.kept.specs.Coming.{with_received}
+use Rattle.kept.specs.Making.{is_here, with_arrived, with_requested, with_wants}
 use Rattle.kept.proofs.Inside.{changes_then}
 
 -- ---- reads before a change
@@ -109,25 +110,24 @@ wants_more a b c upload entries i e within is p q =
 
 -- ---- the whole delivery
 
-module _ (name : List ℕ) (print : Print) (body : List ℕ) (moment id : ℕ) (a b c d : State) (stored : Changes a b (with_bytes print body))
-    (is : (t : Tables) → Holds a.now t → id ≡ number_with print (with_bytes print body t)) where
-  pub file_stored : Changes b c (with_arrived name id moment) → Changes c d (with_here name print)
-      → Changes a d (λ t. with_here name print (with_arrived name (number_with print (with_bytes print body t)) moment (with_bytes print body t)))
+-- a body is stored, by one change of the rows, and has this number then
+module _ (name : List ℕ) (print : Print) (moment id : ℕ) (store : Tables → Tables) (number : Tables → ℕ) (a b c d : State) (stored : Changes a b store)
+    (is : (t : Tables) → Holds a.now t → id ≡ number t) where
+  pub file_stored : Changes b c (with_arrived name id moment) → Changes c d (with_here name print) → Changes a d (λ t. with_here name print (with_arrived name (number t) moment (store t)))
   file_stored arrived marked =
-      changes_as a d (λ t. with_here name print (with_arrived name id moment (with_bytes print body t))) _
-      (λ t was. ap (λ n. with_here name print (with_arrived name n moment (with_bytes print body t))) (is t was)) (changes_then a c d _ _ (changes_then a b c _ _ stored arrived) marked)
+      changes_as a d (λ t. with_here name print (with_arrived name id moment (store t))) _
+      (λ t was. ap (λ n. with_here name print (with_arrived name n moment (store t))) (is t was)) (changes_then a c d _ _ (changes_then a b c _ _ stored arrived) marked)
 
   pub file_new : (new : Bool) → ((t : Tables) → Holds b.now t → new ≡ not (is_some (find (λ x. is_arrival name id x.1) t.arrivals))) → (t : Tables) → Holds a.now t
-      → new ≡ not (is_some (find (λ x. is_arrival name (number_with print (with_bytes print body t)) x.1) (with_bytes print body t).arrivals))
-  file_new new tells t was =
-      subst (λ n. new ≡ not (is_some (find (λ x. is_arrival name n x.1) (with_bytes print body t).arrivals))) (is t was) (tells (with_bytes print body t) (stored.held t was))
+      → new ≡ not (is_some (find (λ x. is_arrival name (number t) x.1) (store t).arrivals))
+  file_new new tells t was = subst (λ n. new ≡ not (is_some (find (λ x. is_arrival name n x.1) (store t).arrivals))) (is t was) (tells (store t) (stored.held t was))
 
-module _ (name : List ℕ) (print : Print) (body : List ℕ) (moment : ℕ) (a b : State)
-    (stored : Changes a b (λ t. with_here name print (with_arrived name (number_with print (with_bytes print body t)) moment (with_bytes print body t)))) where
-  pub delivered_alone : Changes a b (with_delivered name print body moment None)
-  unfolding with_delivered
-  delivered_alone = changes_as a b _ _ (λ t was. refl) stored
+module _ (name : List ℕ) (print : Print) (moment : ℕ) (store : Tables → Tables) (number : Tables → ℕ) (a b : State)
+    (stored : Changes a b (λ t. with_here name print (with_arrived name (number t) moment (store t)))) where
+  pub received_alone : Changes a b (λ t. with_received name (number t) print moment None (store t))
+  unfolding with_received
+  received_alone = changes_as a b _ _ (λ t was. refl) stored
 
-  pub delivered_changes : (c : State) (entries : List Entry) → Changes b c (with_requested name print entries) → Changes a c (with_delivered name print body moment (Some entries))
-  unfolding with_delivered
-  delivered_changes c entries requested = changes_as a c _ _ (λ t was. refl) (changes_then a b c _ _ stored requested)
+  pub received_changes : (c : State) (entries : List Entry) → Changes b c (with_requested name print entries) → Changes a c (λ t. with_received name (number t) print moment (Some entries) (store t))
+  unfolding with_received
+  received_changes c entries requested = changes_as a c _ _ (λ t was. refl) (changes_then a b c _ _ stored requested)

@@ -28,6 +28,10 @@ module _ {config : ConfigValue} {judged : List Judgement} {dates : List ℕ} (a 
   pub still_committed : HasCleanDisk b → IsTrue b.is_open → b.committed ≡ a.committed
   still_committed clean up = read.committed clean (was_archive clean) up
 
+  -- whatever was so of it
+  pub still : (P : Database → Type 0) → (HasCleanDisk a → IsTrue a.is_open → P a.committed) → HasCleanDisk b → IsTrue b.is_open → P b.committed
+  still P was clean up = subst P (sym (still_committed clean up)) (was (read.clean clean) (read.was_open clean up))
+
   pub still_kept : HasCleanDisk b → IsTrue b.is_open → Keeps config judged dates b.committed
   still_kept clean up = subst (Keeps config judged dates) (sym (still_committed clean up)) (was_kept clean up)
 

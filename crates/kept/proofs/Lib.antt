@@ -43,6 +43,11 @@ pub mod WantingLemmas
 pub mod OrderLemmas
 pub mod WaitingLemmas
 pub mod DueLemmas
+pub mod FinishedLemmas
+pub mod PassingLemmas
+pub mod ComingLemmas
+pub mod SamePieces
+pub mod EndedLemmas
 pub mod TakingLemmas
 pub mod TurnLemmas
 pub mod CallLemmas

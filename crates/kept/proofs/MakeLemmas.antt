@@ -9,23 +9,36 @@ use Rattle.keep.specs.Plain.{fresh_book}
 use Rattle.tables.specs.Rows.{Holds, tables_in}
 use Rattle.tables.proofs.BookLemmas.{held_tables}
 use Rattle.kept.specs.Archives.{KeepsArchive, book_of}
+use Rattle.kept.specs.Coming.{HasComing}
+use Rattle.kept.specs.Finished.{finished}
 use Rattle.kept.specs.Founding.{first_dates, founded}
 use Rattle.kept.specs.Kept.{IsKept, book_in}
 use Rattle.kept.specs.Shown.{shown_in}
 use Rattle.kept.proofs.CallLemmas.{shown_here}
+use Rattle.kept.proofs.ComingLemmas.{none_coming}
+use Rattle.kept.proofs.FinishedLemmas.{kept_finished}
 use Rattle.kept.proofs.FoundKept.{founded_is_kept, founded_book}
 
 module _ (db : Database) (config : ConfigValue) (moment : ℕ) (read : config_in config.text ≡ Ok config) (early : moment ≤ latest) (held : Holds db (founded config moment)) where
+  -- no body of them is unfinished
+  founded_finished : finished (founded config moment) ≡ founded config moment
+  founded_finished = kept_finished (founded config moment) (founded_is_kept config moment read early).bodies
+
   pub founded_archive : KeepsArchive db config [] empty (first_dates config moment)
   founded_archive =
       let same = held_tables db (founded config moment) held in
       record {
         held = subst (Holds db) (sym same) held;
-        kept = subst (λ t. IsKept t config [] empty (first_dates config moment)) (sym same) (founded_is_kept config moment read early);
+        kept = subst (λ t. IsKept t config [] empty (first_dates config moment)) (sym (ap finished same ∙ founded_finished)) (founded_is_kept config moment read early);
       }
 
   pub founded_here : book_of db config [] (shown_in config.suites (tables_in db)) (first_dates config moment) ≡ fresh_book config moment
   founded_here =
       ap (λ s. book_of db config [] s (first_dates config moment)) (shown_here db founded_archive)
-      ∙ ap (book_in config [] empty (first_dates config moment)) (held_tables db (founded config moment) held)
+      ∙ ap (book_in config [] empty (first_dates config moment)) (ap finished (held_tables db (founded config moment) held) ∙ founded_finished)
       ∙ founded_book config moment
+
+  pub founded_whole : HasComing (tables_in db) []
+  founded_whole =
+      let same = held_tables db (founded config moment) held in
+      none_coming (tables_in db) (ap finished same ∙ founded_finished ∙ sym same)

@@ -1,4 +1,4 @@
--- The archive that a database keeps, as a keeper sees it.
+-- The archive that a database keeps, as a keeper sees it: that of its rows without a body that is not whole.
 use Rattle.std.specs.Prelude.{◌≡◌, ◌≤◌, ◌⊎◌, ℕ, List, Option, Some, None, IsTrue}
 use Rattle.sqlite_disk.specs.Disk.{MoreFaults}
 use Rattle.sqlite.specs.Effect.{Database}
@@ -12,14 +12,15 @@ use Rattle.tables.specs.Rows.{Holds, IsArchive, tables_in}
 use Rattle.kept.specs.Finished.{finished}
 use Rattle.kept.specs.Kept.{IsKept, book_in}
 
--- The database is that of an archive of this configuration, with these judged uploads, this shown, and these dates.
+-- The database is that of an archive of this configuration, with these judged uploads, this shown, and these dates. A body that
+-- is not whole is no part of it.
 pub record KeepsArchive (db : Database) (config : ConfigValue) (judged : List Judgement) (shown : ShelvesValue) (dates : List ℕ) : Type 0 where
   pub held : Holds db (tables_in db)
-  pub kept : IsKept (tables_in db) config judged shown dates
+  pub kept : IsKept (finished (tables_in db)) config judged shown dates
 
 -- the book that a database keeps
 abbrev pub book_of : Database → ConfigValue → List Judgement → ShelvesValue → List ℕ → Book
-book_of db config judged shown dates = book_in config judged shown dates (tables_in db)
+book_of db config judged shown dates = book_in config judged shown dates (finished (tables_in db))
 
 -- The database keeps this book.
 abbrev pub KeepsBook : Database → ConfigValue → Book → Type 0

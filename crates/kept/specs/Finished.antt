@@ -1,7 +1,8 @@
 -- The rows without the bodies that are not whole.
-use Rattle.std.specs.Prelude.{ℕ, Bool, not, ◌&&◌, is_some}
+use Rattle.std.specs.Prelude.{ℕ, Bool, not, ◌&&◌, List, fold, is_some}
 use Rattle.std.specs.List.{list_any}
-use Rattle.tables.specs.Pieces.{is_of}
+use Rattle.tables.specs.Bodies.{without_body}
+use Rattle.tables.specs.Pieces.{is_of, without_pieces}
 use Rattle.tables.specs.Rows.{Tables, without}
 use Rattle.tables.specs.declared.rows.Body.{Body}
 use Rattle.tables.specs.declared.rows.Piece.{Piece}
@@ -17,3 +18,11 @@ is_of_unfinished t p = list_any (λ x. is_of x.0 p && is_unfinished x) t.bodies
 -- the tables without these
 unfoldable pub finished : Tables → Tables
 finished t = record t { bodies = without is_unfinished t.bodies; pieces = without (λ p. is_of_unfinished t p.1) t.pieces }
+
+-- the body of this number and its pieces are gone
+abbrev pub without_whole : ℕ → Tables → Tables
+without_whole id t = without_body id (without_pieces id t)
+
+-- those of these numbers are
+abbrev pub without_all : List ℕ → Tables → Tables
+without_all ids t = fold (λ now id. without_whole id now) t ids

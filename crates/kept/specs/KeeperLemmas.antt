@@ -15,6 +15,7 @@ use Rattle.keep.specs.declared.change.Judgement.{Judgement}
 use Rattle.tables.specs.Rows.{Tables, tables_in, tables_of}
 use Rattle.kept.specs.Kept.{IsKept, book_in}
 use Rattle.kept.specs.Archives.{KeepsArchive, KeepsBook, KeepsLeft, book_of}
+use Rattle.kept.specs.Finished.{finished}
 use Rattle.kept.specs.OneBook.{one_archive}
 
 entries_set : IsSet (List (ShelfKey × Item))
@@ -43,8 +44,8 @@ pub left_settled : {config : ConfigValue} {judged : List Judgement} {shown : She
 left_settled {config} {judged} {shown} {dates} {left} db now trees is was =
     ∥∥₁_elim is (book_set _ _) (λ here. ∥∥₁_elim was (book_set _ _) (λ w.
     let same = ap tables_of trees in
-    w.4 ∙ ap (book_in config w.0 w.1 w.2) same
-    ∙ same_book (tables_in now) here.kept (subst (λ t. IsKept t config w.0 w.1 w.2) same w.3.kept)))
+    w.4 ∙ ap (λ t. book_in config w.0 w.1 w.2 (finished t)) same
+    ∙ same_book (finished (tables_in now)) here.kept (subst (λ t. IsKept (finished t) config w.0 w.1 w.2) same w.3.kept)))
 
 -- trees that are those of an archive keep its book, and nothing else
 pub left_is : {config : ConfigValue} {judged : List Judgement} {shown : ShelvesValue} {dates : List ℕ} (trees : Trees) (now : Database) → trees ≡ now.trees

@@ -12,5 +12,6 @@ pub mod Shown
 pub mod Finished
 pub mod Archives
 pub mod Taking
+pub mod Coming
 pub mod OneBook
 pub mod KeeperLemmas

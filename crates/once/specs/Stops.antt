@@ -3,7 +3,7 @@ use Rattle.std.specs.Prelude.{[], ◌∷◌}
 use Rattle.keep.specs.declared.keeper.Keeper.{Ghosts}
 use Rattle.queue.specs.Answers.{IsFaithful, IsKept}
 use Rattle.queue.specs.Histories.{Call, History}
-use Rattle.queue.specs.Steps.{Lasts, LeavesStep}
+use Rattle.queue.specs.Steps.{Lasts, LeavesCall}
 
 -- The call came to a keeper that was open and kept what the history leaves, and it says what a crash leaves.
 pub record IsCalled {K : Type 0} (g : Ghosts K) (before after : K) (h : History) (call : Call) : Type 0 where
@@ -13,4 +13,4 @@ pub record IsCalled {K : Type 0} (g : Ghosts K) (before after : K) (h : History)
   pub faithful : IsFaithful h (call ∷ [])
   pub clean : g.is_clean after
   pub lasts : Lasts g before after
-  pub crash : LeavesStep g before call after
+  pub crash : LeavesCall g before call after

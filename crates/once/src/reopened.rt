@@ -13,7 +13,6 @@ ghost use Rattle.queue.specs.Commands.{call_of, kind_of_command, kind_of_outcome
 ghost use Rattle.queue.specs.Histories.{bodies_of, opened_with};
 
 use keep::KeepFault;
-use keep_open::open;
 use keep_tables::TableKeeper;
 use queue::{Archive, Command, Outcome};
 use sqlite::{Alter, Connection};
@@ -21,7 +20,7 @@ use std::alloc::{AllocError, Global};
 
 /// Opens the archive that a database keeps, and makes commands in order behind the book that it has. It gives the archive and the
 /// outcome of each command, or in the place of the outcomes an `Err` where memory is wanting for them, and then no command was
-/// made. A fault is that of `open`: it gives the connection back, and what was committed is as before.
+/// made. A fault is that of `TableKeeper::open`: it gives the connection back, and what was committed is as before.
 pub fn drive_opened<S: Alter + Drop>(
     alloc: Global,
     connection: Connection<S>,
@@ -41,7 +40,7 @@ pub fn drive_opened<S: Alter + Drop>(
         → KeepsBook (connection_of r.0.keeper).committed (config_in_use r.0.keeper) (table_book r.0.keeper)) }
     ensures undone { IfErr result (λ e. HasCleanDisk (state S.Store e.0) → IsUndone (state S.Store connection) (state S.Store e.0)) }
 {
-    match open(alloc, connection) {
+    match TableKeeper::open(alloc, connection) {
         Ok(keeper) => {
             let mut archive = Archive::new(keeper);
             let outcomes = archive.drive(alloc, commands);

@@ -9,7 +9,7 @@ ghost use Rattle.tables.specs.Schema.{archive_schema};
 ghost use Rattle.kept.specs.Archives.{KeepsFinished};
 ghost use Rattle.keep_tables.specs.Keepers.{connection_of};
 ghost use Rattle.keep_tables.specs.declared.keeper.TableKeeper.{TableKeeper};
-ghost use Rattle.keep_open.specs.Opened.{IsNoArchive};
+ghost use Rattle.keep_tables.specs.Opened.{IsNoArchive};
 ghost use Rattle.queue.specs.Answers.{IsFaithful, answer};
 ghost use Rattle.queue.specs.Archives.{book_of};
 ghost use Rattle.queue.specs.Histories.{Call, History, bodies_of, followed, opened_with};

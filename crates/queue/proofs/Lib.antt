@@ -36,3 +36,6 @@ pub mod ReadLemmas
 pub mod RenewedSteps
 pub mod Renewed
 pub mod Reopening
+pub mod ReaderLemmas
+pub mod Stored
+pub mod Received

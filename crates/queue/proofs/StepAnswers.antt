@@ -23,7 +23,7 @@ use Rattle.queue.specs.Deliveries.{IsKeepers, delivery_fault, fault_of_read, mos
 use Rattle.queue.specs.Fault.{of_keeper}
 use Rattle.queue.specs.Histories.{Call, Delivery, QueueRun, Lookup, WaitingList, VerdictList, Reply, Stored, Lines, Found, History, arrived, bodies_of, bodies_of_call, calls_of, followed, waiting_after}
 use Rattle.queue.specs.declared.fault.Fault.{Fault}
-use Rattle.queue.specs.declared.fault.Fault.TheVariants.{OutOfMemory, BadName, TooLarge, Record, Keeper, Moment, UnknownSuite, SameSuite, NothingToCopy, NothingToRemove}
+use Rattle.queue.specs.declared.fault.Fault.TheVariants.{OutOfMemory, BadName, TooLarge, Record, Keeper, Moment, UnknownSuite, SameSuite, NothingToCopy, Ended, ReaderFailed, NothingToRemove}
 use Rattle.queue.proofs.Judged.{unjudged_faithful}
 use Rattle.queue.proofs.Kept.{IsSame, stands_kept}
 use Rattle.queue.proofs.Known.{known, apart_with_empty}
@@ -86,6 +86,8 @@ answered_fault may_fail h call Moment is none = sym is
 answered_fault may_fail h call UnknownSuite is none = sym is
 answered_fault may_fail h call SameSuite is none = sym is
 answered_fault may_fail h call NothingToCopy is none = sym is
+answered_fault may_fail h call Ended is none = sym is
+answered_fault may_fail h call ReaderFailed is none = sym is
 answered_fault may_fail h call NothingToRemove is none = sym is
 
 -- ---- deliveries
@@ -190,6 +192,18 @@ delivered_left may_fail h name body moment old left stands faithful none is =
     is bodies (apart_with_empty faithful.bodies faithful.apart) have there
     ∙ ap Some (stands_answered may_fail h (Delivery name body moment) (Stored fresh) (with_delivery old a)
     (delivered_step may_fail h name body moment ⊤ old (with_delivery old a) fresh stands faithful none (λ bodies apart have there. refl) (λ bodies apart have there. refl)))
+
+-- what a crash leaves of a delivery that may be kept: what the history left, or that with the delivery
+pub left_delivered : (may_fail : Bool) (h : History) (name body : List ℕ) (moment : ℕ) (was_open : Type 0) (old : Book) (left : Option Book)
+    → IsKept was_open old h → delivery_fault name body moment ≡ None
+    → was_open × ((left ≡ Some old)
+    ⊎ ((bodies : List (List ℕ)) → NoCollision bodies → HasBodies bodies old → Contains bodies body → left ≡ Some (with_delivery old (record { name = name; body = body; moment = moment }))))
+    → (left ≡ Some (book_of h))
+    ⊎ (IsFaithful h (Delivery name body moment ∷ []) → left ≡ Some (book_of (followed h (Delivery name body moment) (answer h (Delivery name body moment)))))
+left_delivered may_fail h name body moment was_open old left kept none made = elim made.1 [
+  | inl is ↦ inl (is ∙ ap Some (kept.stands made.0))
+  | inr whole ↦ inr (λ faithful. delivered_left may_fail h name body moment old left (kept.stands made.0) faithful none whole)
+]
 
 -- what a crash leaves that has all of a change, where what the keeper says holds for all bodies without collision
 pub left_whole : (h : History) (calls : List Call) (faithful : IsFaithful h calls) (now whole : Book) (left : Option Book) → now ≡ book_of h

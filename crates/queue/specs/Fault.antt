@@ -7,7 +7,7 @@ use Rattle.records.specs.declared.fault.RecordFault.TheVariants as record_faults
 use Rattle.keep.specs.declared.fault.KeepFault.{KeepFault}
 use Rattle.keep.specs.declared.fault.KeepFault.TheVariants as keep_faults
 use Rattle.queue.specs.declared.fault.Fault.{Fault}
-use Rattle.queue.specs.declared.fault.Fault.TheVariants.{OutOfMemory, BadName, TooLarge, Record, Keeper, Moment, UnknownSuite, SameSuite, NothingToCopy, NothingToRemove}
+use Rattle.queue.specs.declared.fault.Fault.TheVariants.{OutOfMemory, BadName, TooLarge, Record, Keeper, Moment, UnknownSuite, SameSuite, NothingToCopy, Ended, ReaderFailed, NothingToRemove}
 
 -- the number of a fault
 abbrev pub fault_number : Fault → ℕ
@@ -20,6 +20,8 @@ fault_number Moment = 5
 fault_number UnknownSuite = 6
 fault_number SameSuite = 7
 fault_number NothingToCopy = 8
+fault_number Ended = 9
+fault_number ReaderFailed = 10
 fault_number NothingToRemove = 11
 
 -- a fault's text: its letter and its number, and behind a space the fault of the record or of the keeper
@@ -33,6 +35,8 @@ fault_text Moment = codes "Q5"
 fault_text UnknownSuite = codes "Q6"
 fault_text SameSuite = codes "Q7"
 fault_text NothingToCopy = codes "Q8"
+fault_text Ended = codes "Q9"
+fault_text ReaderFailed = codes "Q10"
 fault_text NothingToRemove = codes "Q11"
 
 -- a record's fault as the archive's: want of memory is the archive's own

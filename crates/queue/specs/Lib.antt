@@ -7,6 +7,7 @@ pub mod Copies
 pub mod Removals
 pub mod Answers
 pub mod Steps
+pub mod Receiving
 pub mod Commands
 pub mod Judging
 pub mod Renewal

@@ -1,11 +1,11 @@
 -- What a call of the archive leaves of its keeper.
-use Rattle.std.specs.Prelude.{◌≡◌, ◌⊎◌, ⊤, List, [], ◌∷◌, Option, Some, Result, Ok, Err}
+use Rattle.std.specs.Prelude.{◌≡◌, ◌⊎◌, ⊤, ℕ, List, [], ◌∷◌, Option, Some, Result, Ok, Err}
 use Rattle.keep.specs.Book.{Book}
 use Rattle.keep.specs.Keeping as keeping
 use Rattle.keep.specs.declared.keeper.Keeper.{Ghosts}
 use Rattle.queue.specs.Answers.{IsFaithful, IsKept, IsStep, answer}
 use Rattle.queue.specs.Archives.{book_of}
-use Rattle.queue.specs.Histories.{Call, Reply, History, followed}
+use Rattle.queue.specs.Histories.{Call, Delivery, Reply, History, followed}
 use Rattle.queue.specs.declared.fault.Fault.{Fault}
 
 module _ {K : Type 0} (g : Ghosts K) (old : K) where
@@ -26,6 +26,19 @@ module _ {K : Type 0} (g : Ghosts K) (old : K) where
   abbrev pub LeavesStep : Call → K → Type 0
   LeavesStep call new = (h : History) → IsKept (g.is_open old) (g.book old) h → IsFaithful h (call ∷ []) → g.is_clean new
       → (left : Option Book) → g.may_leave new left → g.may_leave old left ⊎ (left ≡ Some (book_of (followed h call (answer h call))))
+
+  -- A crash in a delivery, which is stored piece by piece, leaves what it would have left before, what the history left, or all
+  -- that the delivery does; the last alone is said of bodies among which no two have one print.
+  abbrev pub LeavesDelivery : (name body : List ℕ) (moment : ℕ) → K → Type 0
+  LeavesDelivery name body moment new = (h : History) → IsKept (g.is_open old) (g.book old) h → g.is_clean new → (left : Option Book) → g.may_leave new left
+      → g.may_leave old left ⊎ ((left ≡ Some (book_of h))
+      ⊎ (IsFaithful h (Delivery name body moment ∷ []) → left ≡ Some (book_of (followed h (Delivery name body moment) (answer h (Delivery name body moment))))))
+
+  -- What follows from either: what a crash leaves of a call.
+  abbrev pub LeavesCall : Call → K → Type 0
+  LeavesCall call new = (h : History) → IsKept (g.is_open old) (g.book old) h → IsFaithful h (call ∷ []) → g.is_clean new
+      → (left : Option Book) → g.may_leave new left
+      → g.may_leave old left ⊎ ((left ≡ Some (book_of h)) ⊎ (left ≡ Some (book_of (followed h call (answer h call)))))
 
   -- A keeper that is open has the book that it had.
   abbrev pub IsUndone : K → Type 0

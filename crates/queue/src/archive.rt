@@ -8,7 +8,7 @@ ghost use Rattle.queue.specs.Histories.{Delivery, QueueRun, Copying, Lookup, Wai
 ghost use Rattle.keep.specs.Book.{latest};
 ghost use Rattle.queue.specs.Deliveries.{delivery_fault, IsKeepers};
 ghost use Rattle.queue.specs.Removals.{removal_fault};
-ghost use Rattle.queue.specs.Steps.{Does, IsServed, IsUndone, Lasts, LeavesStep, Reads};
+ghost use Rattle.queue.specs.Steps.{Does, IsServed, IsUndone, Lasts, LeavesDelivery, LeavesStep, Reads};
 
 use crate::command::{Arrived, Report};
 use crate::copy::{copy_plan, only_step, two_suites};
@@ -60,8 +60,8 @@ impl<K: Keeper> Archive<K> {
         ensures step { Does K.Keeper self.old.keeper (Delivery name.now body.now moment) (stored result) self.new.keeper }
         // A refusal leaves the book as it was, whatever the history.
         ensures err { OnErr result (IsUndone K.Keeper self.old.keeper self.new.keeper) }
-        // A crash leaves what it would have left before, or all that the call does.
-        ensures crash { LeavesStep K.Keeper self.old.keeper (Delivery name.now body.now moment) self.new.keeper }
+        // A crash leaves what it would have left before, what the history left, or all that the call does.
+        ensures crash { LeavesDelivery K.Keeper self.old.keeper name.now body.now moment self.new.keeper }
         ensures done { IfOk result (λ _. delivery_fault name.now body.now moment ≡ None) }
         // The fault by name, body and moment, or else one of the keeper's own.
         ensures refused { IfErr result (λ e. (delivery_fault name.now body.now moment ≡ Some e) ⊎ IsKeepers K.may_fail (delivery_fault name.now body.now moment ≡ None) e) }

@@ -13,8 +13,9 @@ use sums::is_file_name;
 /// The most bytes of a delivered body.
 const MOST_BYTES: usize = 4_194_304;
 
+/// Whether a file of this name has to be a .changes.
 #[tactic(auto, unfolding(keep::specs::Book::is_changes_name))]
-fn is_changes_name(name: &str) -> bool
+pub fn is_changes_name(name: &str) -> bool
     ensures { result ≡ is_changes_name name.now }
 {
     name.as_bytes().ends_with(b".changes")

@@ -30,6 +30,10 @@ pub enum Fault {
     SameSuite,
     /// The suite shows no item of the source package.
     NothingToCopy,
+    /// The input ended before the body that was to come.
+    Ended,
+    /// The reader failed before the body had come.
+    ReaderFailed,
     /// The suite shows no item of the package that is to be removed.
     NothingToRemove,
 }
@@ -51,6 +55,8 @@ impl Fault {
             Fault::UnknownSuite => 6,
             Fault::SameSuite => 7,
             Fault::NothingToCopy => 8,
+            Fault::Ended => 9,
+            Fault::ReaderFailed => 10,
             Fault::NothingToRemove => 11,
         }
     }
@@ -73,6 +79,8 @@ impl fmt::Display for Fault {
             Fault::UnknownSuite => write!(f, "Q6"),
             Fault::SameSuite => write!(f, "Q7"),
             Fault::NothingToCopy => write!(f, "Q8"),
+            Fault::Ended => write!(f, "Q9"),
+            Fault::ReaderFailed => write!(f, "Q10"),
             Fault::NothingToRemove => write!(f, "Q11"),
         }
     }

@@ -3,13 +3,13 @@
 ghost use Rattle.std.specs.Prelude.{◌≡◌, ◌⊎◌, ℕ, List, [], ◌∷◌, Option, Some};
 ghost use Rattle.keep.specs.Book.{Book, HasItsFiles};
 ghost use Rattle.queue.specs.Archives.{book_of, Stands};
-ghost use Rattle.queue.specs.Histories.{Call, History, followed, opened_with};
+ghost use Rattle.queue.specs.Histories.{Call, Delivery, History, followed, opened_with};
 ghost use Rattle.rules.specs.Values.{ConfigValue};
 ghost use Rattle.std.specs.FinMap.{values};
 ghost use Rattle.suites.specs.Pool.{AreAgreed, files_of};
 ghost use Rattle.keep.specs.Plain.{fresh_book};
 ghost use Rattle.queue.specs.Answers.{IsFaithful, IsKept, IsOpening, answer};
-ghost use Rattle.queue.specs.Steps.{LeavesStep};
+ghost use Rattle.queue.specs.Steps.{LeavesCall, LeavesDelivery, LeavesStep};
 
 use keep::Keeper;
 
@@ -32,10 +32,18 @@ pub fn a_history_goes_on_from_its_book()
         → IsFaithful (opened_with (book_of h)) calls }
 {}
 
+/// What is said of a crash in a call, and what is said of one in a delivery, which is stored piece by piece, are both said of a
+/// call of which a stop may leave nothing done.
+pub fn a_crash_is_of_a_call<K: Keeper>()
+    ensures step { (before after : K) (call : Call) → LeavesStep K.Keeper before call after → LeavesCall K.Keeper before call after }
+    ensures delivery { (before after : K) (name body : List ℕ) (moment : ℕ) → LeavesDelivery K.Keeper before name body moment after
+        → LeavesCall K.Keeper before (Delivery name body moment) after }
+{}
+
 /// A stop during a call of an open keeper, or behind it, leaves the book that the history leaves, or the one that it leaves with
 /// the whole call; and it does leave one.
 pub fn a_stop_leaves_a_book<K: Keeper>()
     ensures { (before after : K) (h : History) (call : Call) → K.is_clean before → K.is_open before → IsKept (K.is_open before) (K.book before) h → IsFaithful h (call ∷ [])
-        → K.is_clean after → LeavesStep K.Keeper before call after → (left : Option Book) → K.may_leave after left
+        → K.is_clean after → LeavesCall K.Keeper before call after → (left : Option Book) → K.may_leave after left
         → (left ≡ Some (book_of h)) ⊎ (left ≡ Some (book_of (followed h call (answer h call)))) }
 {}

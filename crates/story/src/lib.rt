@@ -10,6 +10,7 @@ mod outcomes;
 mod pieces;
 mod readers;
 mod reading;
+mod receptions;
 mod requests;
 mod steps;
 mod telling;

@@ -15,7 +15,7 @@ const OF_KEEPERS: [KeepFault; 4] = [
     KeepFault::Tables,
 ];
 
-const OF_ARCHIVES: [Fault; 10] = [
+const OF_ARCHIVES: [Fault; 12] = [
     Fault::OutOfMemory,
     Fault::BadName,
     Fault::TooLarge,
@@ -25,6 +25,8 @@ const OF_ARCHIVES: [Fault; 10] = [
     Fault::UnknownSuite,
     Fault::SameSuite,
     Fault::NothingToCopy,
+    Fault::Ended,
+    Fault::ReaderFailed,
     Fault::NothingToRemove,
 ];
 

@@ -3,7 +3,7 @@
 use crate::readers::Pieces;
 use desk::head::{Refusal, Wanted, read_wanted};
 use desk::request::{Request, read_request};
-use desk::transfer::ReaderFailed;
+use queue::ReaderFailed;
 use rows::Unread;
 use std::alloc::{AllocError, Global};
 use std::fmt::Write;
@@ -19,7 +19,7 @@ fn add_status(text: &mut String, read: &Result<Request, ReaderFailed>) -> Result
             let status = refusal.status().as_u16();
             write!(text, "{status}")
         }
-        Ok(Request::Asks(_, _)) => text.push_str("asks"),
+        Ok(Request::Asks(_)) => text.push_str("asks"),
         Err(ReaderFailed) => text.push_str("H1"),
     }
 }
@@ -62,7 +62,8 @@ fn other_status(
     Ok(Some(told.into_bytes()))
 }
 
-/// `status BYTES`: what the request is answered, and how many bytes behind it are left unread, however many come a read.
+/// `status BYTES`: what the head of a request is answered before the archive is called, and how many bytes behind it are left unread,
+/// however many come a read.
 pub fn status(alloc: Global, words: &[Vec<u8>]) -> Result<Vec<u8>, Unread> {
     let [bytes] = words else {
         return Err(Unread::BadWords);

@@ -62,3 +62,25 @@ pub fn request<K: Keeper>(
     };
     reply_to(alloc, archive, &mut reader, number_of(moment)?)
 }
+
+/// `left MOST MOMENT BYTES`: the status of the reply to a request that comes so, and how many bytes behind it are left unread.
+pub fn left<K: Keeper>(
+    alloc: Global,
+    archive: &mut Archive<K>,
+    words: &[Vec<u8>],
+) -> Result<Vec<u8>, Unread> {
+    let [most, moment, bytes] = words else {
+        return Err(Unread::BadWords);
+    };
+    let mut reader = Pieces {
+        bytes: bytes.as_slice(),
+        most: number_of(most)?.min(MOST) as usize,
+        fails: false,
+    };
+    let reply = reply_to(alloc, archive, &mut reader, number_of(moment)?)?;
+    let unread = reader.bytes.len();
+    let status = reply.as_slice().get(9..12).unwrap_or(b"");
+    let mut text = Vec::from_slice(alloc, status)?;
+    text.extend_from_slice(format!(in alloc; " {unread}")?.as_bytes())?;
+    Ok(text)
+}

@@ -6,7 +6,8 @@ use crate::keepers::Makes;
 use crate::numbers::numbers;
 use crate::outcomes::printed;
 use crate::reading::{status, wanted};
-use crate::requests::request;
+use crate::receptions::{receive, receive_fails};
+use crate::requests::{left, request};
 use crate::steps::{copy, deliver, has, moment_of, remove, run, show, verdicts, waiting};
 use keep::{KeepFault, Keeper, LATEST};
 use queue::Archive;
@@ -22,8 +23,8 @@ pub struct Story<K: Keeper + Drop, M: Makes<K>> {
     makes: PhantomData<M>,
 }
 
-/// What an archive answers to a question on requests.
-fn asked_by_request<K: Keeper>(
+/// What an archive answers to a question on requests, and on bodies that a reader gives.
+fn asked_by_reader<K: Keeper>(
     alloc: Global,
     archive: &mut Archive<K>,
     verb: &str,
@@ -31,14 +32,17 @@ fn asked_by_request<K: Keeper>(
 ) -> Result<Vec<u8>, Unread> {
     match verb {
         "request" => request(alloc, archive, words),
+        "left" => left(alloc, archive, words),
         "cut" => cut(alloc, archive, words, false),
         "reader-fails" => cut(alloc, archive, words, true),
+        "receive" => receive(alloc, archive, words),
+        "receive-fails" => receive_fails(alloc, archive, words),
         _ => Err(Unread::NoSuchQuestion),
     }
 }
 
 /// What an archive answers to a question: `deliver`, `run`, `waiting`, `verdicts`, `show`, `has`, `copy`, `remove`, `drive` and those
-/// on requests.
+/// on requests and readers.
 pub fn asked<K: Keeper>(
     alloc: Global,
     archive: &mut Archive<K>,
@@ -55,7 +59,7 @@ pub fn asked<K: Keeper>(
         "copy" => copy(alloc, archive, words),
         "remove" => remove(alloc, archive, words),
         "drive" => drive(alloc, archive, words),
-        _ => asked_by_request(alloc, archive, verb, words),
+        _ => asked_by_reader(alloc, archive, verb, words),
     }
 }
 

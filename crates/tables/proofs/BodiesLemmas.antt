@@ -1,7 +1,7 @@
 -- What the statements on bodies do.
-use Rattle.std.proofs.Common.{◌≡◌, ℕ, pos, [], ◌∷◌, Ok, Err, Result, OnOk, nat_eq, refl, true, false, List, map, filter, slice_get, Option, Some, None, ap, ◌∙◌, option_map, ◌&&◌}
+use Rattle.std.proofs.Common.{◌≡◌, ℕ, drop, pos, [], ◌∷◌, Ok, Err, Result, OnOk, nat_eq, refl, true, false, List, map, filter, slice_get, Option, Some, None, ap, ◌∙◌, option_map, ◌&&◌}
 use Rattle.sqlite.specs.Table.{Table}
-use Rattle.sqlite.specs.Order.{column}
+use Rattle.sqlite.specs.Order.{Row, column}
 use Rattle.sqlite.specs.Term.{col}
 use Rattle.sqlite.specs.declared.types.Value.TheVariants.{Null, Blob}
 use Rattle.sqlite.specs.Cast.{cast_row}
@@ -16,20 +16,21 @@ use Rattle.sqlite_sql.specs.declared.ops.BinaryOp.TheVariants.{Compare}
 use Rattle.sqlite.specs.Collation.TheVariants.{Binary}
 use Rattle.sums.specs.declared.print.Print.{Print}
 use Rattle.tables.specs.Schema.{archive_schema, bodies}
-use Rattle.tables.specs.Rows.{whole, print_cells, Numbered, Tables, Holds, Changes, with_body, body_cells, full_body, nat_of, next_in}
-use Rattle.tables.specs.Bodies.{has_print, body_with, without_body}
+use Rattle.tables.specs.Rows.{whole, print_cells, Numbered, Tables, Holds, Changes, with_body, body_cells, full_body, nat_of, next_in, stored}
+use Rattle.tables.specs.Bodies.{has_print, body_with, with_print, without_body}
 use Rattle.tables.specs.Reading.{IsReadFirst}
 use Rattle.tables.specs.declared.rows.Body.{Body}
-use Rattle.tables.specs.declared.bodies.TheConstants.{INSERT_BODY, SELECT_BODY, DELETE_BODY}
+use Rattle.tables.specs.declared.bodies.TheConstants.{INSERT_BODY, INSERT_BEGUN, UPDATE_PRINT, SELECT_BODY, DELETE_BODY}
 use Rattle.tables.proofs.CastLemmas.{cast_null, cast_int}
-use Rattle.tables.proofs.BodiesMeaning.{insert_body_terms, insert_body_is, insert_body_plain, print_terms, select_body_is, select_body_plain, body_id_is, delete_body_columns, delete_body_is, delete_body_plain}
+use Rattle.tables.proofs.BodiesMeaning.{insert_body_terms, insert_body_is, insert_body_plain, insert_begun_terms, insert_begun_is, insert_begun_plain, update_print_columns, update_print_is, update_print_plain, print_terms, select_body_is, select_body_plain, body_id_is, delete_body_columns, delete_body_is, delete_body_plain}
 use Rattle.tables.proofs.InsertLemmas.{puts}
 use Rattle.tables.proofs.AddLemmas.{adds_row, adds_id}
 use Rattle.tables.proofs.HoldsLemmas.{with_bodies}
-use Rattle.tables.proofs.FullLemmas.{Storing, raw, raw_cells, raw_rows, full_rows_as, added_of, next_of, reads_full, deletes_full}
+use Rattle.tables.proofs.FullLemmas.{Storing, raw, raw_cells, raw_rows, value_in, full_as, full_rows_as, added_of, next_of, changed_of, reads_full, deletes_full}
 use Rattle.tables.proofs.PrintLemmas.{print_test}
 use Rattle.tables.proofs.EqualLemmas.{whole_test}
-use Rattle.tables.proofs.UpdateLemmas.{deletes}
+use Rattle.sqlite_sql.specs.Term.{eval_all}
+use Rattle.tables.proofs.UpdateLemmas.{deletes, updates, updates_rows}
 
 abbrev bodies_table : Table
 bodies_table = record bodies { tree = 1 }
@@ -64,6 +65,60 @@ inserts_body old new p count h =
           let r = raws t was in
           adds_id (raw_cells storing) bodies_table _ (raw storing (whole_body p)) (body_cast p) old new (put t was) r.of r.has ∙ ap pos (next_of storing t.bodies r.of r.values),
     )
+
+abbrev begun_body : Body
+begun_body = record { print = None }
+
+begun_cast : cast_row bodies_table (Null ∷ (Null ∷ Null ∷ Null ∷ Null ∷ Null ∷ [])) ≡ Null ∷ body_cells begun_body
+begun_cast = rw cast_null refl
+
+pub inserts_begun : (old new : State) (count : ℕ) → ExecutesInside 0 INSERT_BEGUN.now [] old new (Ok count)
+    → Changes old new (with_body begun_body) × ((t : Tables) → Holds old.now t → new.last_rowid ≡ pos (next_in t.bodies))
+inserts_begun old new count h =
+    let put = λ (t : Tables) (was : Holds old.now t).
+    puts archive_schema INSERT_BEGUN.now 1 insert_begun_terms 6 insert_begun_is insert_begun_plain _ _ _ _ _ _ 1 refl (λ _. refl)
+    old new [] (Null ∷ (Null ∷ Null ∷ Null ∷ Null ∷ Null ∷ [])) count refl was.schema h.0 in
+    let raws = λ (t : Tables) (was : Holds old.now t). raw_rows storing t.bodies (old.now.trees 1) was.rows.bodies in (
+      record {
+        held = λ t was.
+            let r = raws t was in
+            let now = adds_row (raw_cells storing) bodies_table _ (raw storing begun_body) begun_cast old new (put t was) r.of r.has in
+            record {
+              schema = (put t was).schema_is;
+              rows = with_bodies old.now.trees new.now.trees t was.rows _ (full_rows_as storing _ _ (new.now.trees 1) (added_of storing t.bodies r.of begun_body r.values) now) (put t was).others;
+            };
+        shown = h.1;
+      },
+      λ t was.
+          let r = raws t was in
+          adds_id (raw_cells storing) bodies_table _ (raw storing begun_body) begun_cast old new (put t was) r.of r.has ∙ ap pos (next_of storing t.bodies r.of r.values),
+    )
+
+-- the row that an update makes of a row
+abbrev updated : Print → ℕ × Body → Row
+updated p x = whole x.0 ∷ whole x.0 ∷ Null ∷ print_cells p
+
+abbrev printed : Print → Body → Body
+printed p b = record b { print = Some p }
+
+updated_cast : (p : Print) (x : ℕ × Body) → cast_row bodies_table (drop 1 (updated p x)) ≡ stored body_cells (x.0, printed p x.1)
+updated_cast p x = rw (cast_null, cast_int (pos x.0), cast_int (pos p.size))
+
+pub changes_print : (old new : State) (id : ℕ) (p : Print) (r : Result ℕ Error) → ExecutesInside 0 UPDATE_PRINT.now (whole id ∷ print_cells p) old new r
+    → OnOk r (Changes old new (with_print id p))
+changes_print old new id p (Ok count) h = record {
+  held = λ t was.
+      let params = whole id ∷ print_cells p in
+      let did = updates UPDATE_PRINT.now 1 _ update_print_plain bodies_table refl update_print_is old new params count was.schema h.0 in
+      let r = raw_rows storing t.bodies (old.now.trees 1) was.rows.bodies in
+      let now = updates_rows (raw_cells storing) 1 body_id_is update_print_columns params (λ x. nat_eq x.0 id) (λ x. updated p (value_in storing x))
+      (λ x. last_term (whole_test x.0 id)) (λ x. ap (λ row. eval_all update_print_columns (params ∷ row ∷ [])) (full_as storing x)) (λ _. refl) (λ _. refl)
+      old new r.of r.has did.0 did.1 (λ k. raw storing (printed p k.value)) bodies_table (λ x. updated_cast p (value_in storing x)) did.2 in
+      let same = changed_of storing t.bodies r.of (λ x. nat_eq x.0 id) (printed p) (λ k. raw storing (printed p k.value)) (λ _. refl) r.values in
+      record { schema = did.2.schema_is; rows = with_bodies old.now.trees new.now.trees t was.rows _ (full_rows_as storing _ _ (new.now.trees 1) same now) did.2.others };
+  shown = h.1;
+}
+changes_print old new id p (Err e) h = tt
 
 nullable_test : (p : Print) (q : Option Print) →
     (truth_or false (binary (Compare Eq Binary) (or_null (λ p. whole p.size) q) (whole p.size)) && (truth_or false (binary (Compare Eq Binary) (or_null (λ p. Blob p.md5) q) (Blob p.md5))

@@ -2,7 +2,7 @@
 use Rattle.std.proofs.Common.{◌≡◌, refl, ◌∷◌, [], List, codes, false}
 use Rattle.sqlite_tied.specs.Compute.{everything}
 use Rattle.sqlite.specs.declared.types.Value.TheVariants.{Null}
-use Rattle.sqlite.specs.Command.TheVariants.{Insert, Select, Delete}
+use Rattle.sqlite.specs.Command.TheVariants.{Insert, Select, Update, Delete}
 use Rattle.sqlite.specs.Source.TheVariants.{Values}
 use Rattle.sqlite.specs.Term.{Term, lit, col}
 use Rattle.sqlite.specs.Listing.{understood, reads_listing}
@@ -11,7 +11,7 @@ use Rattle.sqlite.specs.Collation.TheVariants.{Binary}
 use Rattle.sqlite_sql.specs.Term.{op2}
 use Rattle.sqlite_sql.specs.declared.ops.BinaryOp.TheVariants.{Compare}
 use Rattle.sqlite_sql.specs.declared.ops.CompareOp.TheVariants.{Eq}
-use Rattle.tables.specs.declared.bodies.TheConstants.{INSERT_BODY, SELECT_BODY, DELETE_BODY}
+use Rattle.tables.specs.declared.bodies.TheConstants.{INSERT_BODY, INSERT_BEGUN, UPDATE_PRINT, SELECT_BODY, DELETE_BODY}
 use Rattle.tables.specs.Schema.{archive_schema}
 use Rattle.tables.proofs.SelectLemmas.{rows_query}
 use Rattle.tables.proofs.UpdateLemmas.{edit_query}
@@ -53,3 +53,25 @@ delete_body_is = refl
 pub delete_body_plain : IsPlain (understood archive_schema DELETE_BODY.now)
 unfolding understood everything
 delete_body_plain = (refl, refl)
+
+abbrev pub insert_begun_terms : List Term
+insert_begun_terms = lit Null ∷ lit Null ∷ lit Null ∷ lit Null ∷ lit Null ∷ lit Null ∷ []
+
+pub insert_begun_is : command_of (understood archive_schema INSERT_BEGUN.now) ≡ Insert 1 (Values insert_begun_terms 6)
+unfolding understood everything
+insert_begun_is = refl
+
+pub insert_begun_plain : IsPlain (understood archive_schema INSERT_BEGUN.now)
+unfolding understood everything
+insert_begun_plain = (refl, refl)
+
+abbrev pub update_print_columns : List Term
+update_print_columns = col 1 0 ∷ col 1 0 ∷ lit Null ∷ col 0 1 ∷ col 0 2 ∷ col 0 3 ∷ col 0 4 ∷ []
+
+pub update_print_is : command_of (understood archive_schema UPDATE_PRINT.now) ≡ Update 1 (record { lets = []; body = edit_query 1 body_id_is update_print_columns })
+unfolding understood everything
+update_print_is = refl
+
+pub update_print_plain : IsPlain (understood archive_schema UPDATE_PRINT.now)
+unfolding understood everything
+update_print_plain = (refl, refl)

@@ -1,12 +1,13 @@
 -- What the statements on pieces do.
-use Rattle.std.proofs.Common.{◌≡◌, ℕ, pos, [], ◌∷◌, Ok, Err, Result, OnOk, refl, List, filter}
+use Rattle.std.proofs.Common.{◌≡◌, ℕ, pos, [], ◌∷◌, Ok, Err, Result, OnOk, refl, List, Option, filter, find, slice_get, ap, ◌∙◌}
 use Rattle.sqlite.specs.Table.{Table}
 use Rattle.sqlite.specs.declared.types.Value.TheVariants.{Null, Blob}
 use Rattle.sqlite.specs.Cast.{cast_row}
 use Rattle.sqlite.specs.declared.error.Error.{Error}
 use Rattle.sqlite.specs.State.{State, ExecutesInside, IsUnchanged}
-use Rattle.sqlite_typed.proofs.TestLemmas.{last_term}
-use Rattle.tables.specs.Reading.{IsRead}
+use Rattle.sqlite_keyed.proofs.ListLemmas.{slice_get-filter}
+use Rattle.sqlite_typed.proofs.TestLemmas.{then_term, last_term}
+use Rattle.tables.specs.Reading.{IsRead, IsReadFirst}
 use Rattle.tables.proofs.CastLemmas.{cast_null, cast_int}
 use Rattle.tables.proofs.EqualLemmas.{whole_test}
 use Rattle.tables.proofs.InsertLemmas.{puts}
@@ -14,10 +15,10 @@ use Rattle.tables.proofs.AddLemmas.{adds_row}
 use Rattle.tables.proofs.ShownLemmas.{Shows, shown, reads_stored}
 use Rattle.tables.specs.Schema.{archive_schema, pieces}
 use Rattle.tables.specs.Rows.{whole, Tables, Holds, Changes, with_piece, piece_cells, piece_of, stored, rows_of}
-use Rattle.tables.specs.Pieces.{is_of, without_pieces}
+use Rattle.tables.specs.Pieces.{is_of, is_piece, without_pieces}
 use Rattle.tables.specs.declared.rows.Piece.{Piece}
-use Rattle.tables.specs.declared.pieces.TheConstants.{INSERT_PIECE, SELECT_PIECES_OF, DELETE_PIECES}
-use Rattle.tables.proofs.PiecesMeaning.{insert_piece_terms, insert_piece_is, insert_piece_plain, piece_columns, piece_body_is, select_pieces_of_is, select_pieces_of_plain, delete_pieces_columns, delete_pieces_is, delete_pieces_plain}
+use Rattle.tables.specs.declared.pieces.TheConstants.{INSERT_PIECE, SELECT_PIECE, SELECT_PIECES_OF, DELETE_PIECES}
+use Rattle.tables.proofs.PiecesMeaning.{insert_piece_terms, insert_piece_is, insert_piece_plain, piece_columns, piece_body_is, piece_is, select_piece_is, select_piece_plain, select_pieces_of_is, select_pieces_of_plain, delete_pieces_columns, delete_pieces_is, delete_pieces_plain}
 use Rattle.tables.proofs.HoldsLemmas.{with_pieces}
 use Rattle.tables.proofs.UpdateLemmas.{deletes, deletes_rows}
 
@@ -45,6 +46,15 @@ pub pieces_of_answer : (old new : State) (t : Tables) (body : ℕ) (all : List P
     → (all ≡ filter (is_of body) (rows_of t.pieces)) × IsUnchanged old new
 pieces_of_answer old new t body all was h =
     reads_stored piece_cells 3 piece_body_is piece_columns (whole body ∷ []) SELECT_PIECES_OF.now old new t.pieces was.schema was.rows.pieces (is_of body) piece_of (λ _. refl) (pieces_of_shows body) all h
+
+piece_shows : (body number : ℕ) → Shows piece_cells 3 piece_is piece_columns (whole body ∷ whole number ∷ []) (λ x. is_piece body number x.1) (stored piece_cells) SELECT_PIECE.now
+piece_shows body number = record { names = _; is = select_piece_is.0; plain = select_piece_plain; unlisted = select_piece_is.1; tests = λ x. then_term (whole_test x.1.body body) (last_term (whole_test x.1.number number)); shows = λ _. refl; real = λ _. refl }
+
+pub piece_answer : (old new : State) (t : Tables) (body number : ℕ) (found : Option Piece) → Holds old.now t → IsReadFirst piece_of SELECT_PIECE.now (whole body ∷ whole number ∷ []) old new found
+    → (found ≡ find (is_piece body number) (rows_of t.pieces)) × IsUnchanged old new
+piece_answer old new t body number found was h =
+    let all = reads_stored piece_cells 3 piece_is piece_columns (whole body ∷ whole number ∷ []) SELECT_PIECE.now old new t.pieces was.schema was.rows.pieces (is_piece body number) piece_of (λ _. refl) (piece_shows body number) h.all h.read in
+    (h.is ∙ ap (λ l. slice_get l 0) all.0 ∙ slice_get-filter (is_piece body number) (rows_of t.pieces), all.1)
 
 pub removes_pieces : (old new : State) (body : ℕ) (r : Result ℕ Error) → ExecutesInside 0 DELETE_PIECES.now (whole body ∷ []) old new r → OnOk r (Changes old new (without_pieces body))
 removes_pieces old new body (Ok count) h = record {

@@ -11,7 +11,7 @@ use Rattle.sqlite.specs.Collation.TheVariants.{Binary}
 use Rattle.sqlite_sql.specs.Term.{op2}
 use Rattle.sqlite_sql.specs.declared.ops.BinaryOp.TheVariants.{Compare}
 use Rattle.sqlite_sql.specs.declared.ops.CompareOp.TheVariants.{Eq}
-use Rattle.tables.specs.declared.pieces.TheConstants.{INSERT_PIECE, SELECT_PIECES_OF, DELETE_PIECES}
+use Rattle.tables.specs.declared.pieces.TheConstants.{INSERT_PIECE, SELECT_PIECE, SELECT_PIECES_OF, DELETE_PIECES}
 use Rattle.tables.specs.Schema.{archive_schema}
 use Rattle.tables.proofs.SelectLemmas.{rows_query}
 use Rattle.tables.proofs.UpdateLemmas.{edit_query}
@@ -51,3 +51,14 @@ delete_pieces_is = refl
 pub delete_pieces_plain : IsPlain (understood archive_schema DELETE_PIECES.now)
 unfolding understood everything
 delete_pieces_plain = (refl, refl)
+
+abbrev pub piece_is : List Term
+piece_is = op2 (Compare Eq Binary) (col 1 1) (col 0 0) ∷ op2 (Compare Eq Binary) (col 1 2) (col 0 1) ∷ []
+
+pub select_piece_is : (command_of (understood archive_schema SELECT_PIECE.now) ≡ Select (record { lets = []; body = rows_query 3 piece_is piece_columns }) (codes "rowid" ∷ codes "body" ∷ codes "number" ∷ codes "bytes" ∷ [])) × (reads_listing archive_schema SELECT_PIECE.now ≡ false)
+unfolding understood everything
+select_piece_is = (refl, refl)
+
+pub select_piece_plain : IsPlain (understood archive_schema SELECT_PIECE.now)
+unfolding understood everything
+select_piece_plain = (refl, refl)

@@ -1,9 +1,9 @@
 -- What the statements on bodies speak of.
-use Rattle.std.specs.Prelude.{ℕ, Bool, false, Option, option_map, find, nat_eq}
+use Rattle.std.specs.Prelude.{ℕ, Bool, false, Option, Some, option_map, find, nat_eq}
 use Rattle.std.specs.Option.{option_map_or}
 use Rattle.sums.specs.declared.print.Print.{Print}
 use Rattle.sums.specs.Prints.{same_print}
-use Rattle.tables.specs.Rows.{Numbered, Tables, without}
+use Rattle.tables.specs.Rows.{Numbered, Tables, changed, without}
 use Rattle.tables.specs.declared.rows.Body.{Body}
 
 abbrev pub has_print : Print → Body → Bool
@@ -16,3 +16,7 @@ body_with p bodies = option_map (λ x. x.0) (find (λ x. has_print p x.1) bodies
 -- the body of this number is gone
 abbrev pub without_body : ℕ → Tables → Tables
 without_body id t = record t { bodies = without (λ x. nat_eq x.0 id) t.bodies }
+
+-- the body of this number has this print
+abbrev pub with_print : ℕ → Print → Tables → Tables
+with_print id p t = record t { bodies = changed (λ x. nat_eq x.0 id) (λ b. record b { print = Some p }) t.bodies }

@@ -1,11 +1,11 @@
 //! The bodies of files, each by its print.
 
-ghost use Rattle.std.specs.Prelude.{◌≡◌, Some, false, IsTrue, IfOk, OnOk, OnErr};
+ghost use Rattle.std.specs.Prelude.{◌≡◌, Some, None, false, IsTrue, IfOk, OnOk, OnErr};
 ghost use Rattle.sqlite.specs.State.{HasCleanDisk, IsUnchanged, Survives, KeepsCommit};
 ghost use Rattle.sqlite.specs.Held.{state};
 ghost use Rattle.tables.specs.Inside.{GoesOn};
 ghost use Rattle.tables.specs.Rows.{Tables, Holds, Changes, Fails, IsForeign, with_body, next_in};
-ghost use Rattle.tables.specs.Bodies.{body_with, without_body};
+ghost use Rattle.tables.specs.Bodies.{body_with, with_print, without_body};
 
 use crate::cells::row_number;
 use crate::number::whole;
@@ -15,6 +15,12 @@ use std::alloc::Global;
 use sums::Print;
 
 const INSERT_BODY: &str = "INSERT INTO bodies (size, md5, sha1, sha256) VALUES (?1, ?2, ?3, ?4)";
+
+const INSERT_BEGUN: &str =
+    "INSERT INTO bodies (size, md5, sha1, sha256) VALUES (NULL, NULL, NULL, NULL)";
+
+const UPDATE_PRINT: &str =
+    "UPDATE bodies SET size = ?2, md5 = ?3, sha1 = ?4, sha256 = ?5 WHERE id = ?1";
 
 const SELECT_BODY: &str =
     "SELECT rowid FROM bodies WHERE size = ?1 AND md5 = ?2 AND sha1 = ?3 AND sha256 = ?4 ORDER BY rowid";
@@ -37,6 +43,42 @@ pub fn insert_body<S: Alter>(tx: &mut Transaction<'_, S>, print: &Print) -> Resu
     let sha256: &[u8] = &print.sha256;
     tx.execute(INSERT_BODY, params![size, md5, sha1, sha256])?;
     Ok(row_number(tx.last_insert_rowid()))
+}
+
+/// Adds a body that is not whole yet, and answers its number.
+pub fn insert_begun<S: Alter>(tx: &mut Transaction<'_, S>) -> Result<u64, Error>
+    ensures same_reference { tx.new.conn.ghost_name ≡ tx.old.conn.ghost_name }
+    ensures ok { HasCleanDisk (state S.Store tx.new.conn.now) → IsTrue (state S.Store tx.old.conn.now).in_transaction
+        → IfOk result (λ id. Changes (state S.Store tx.old.conn.now) (state S.Store tx.new.conn.now) (with_body (record { print = None }))
+        × ((t : Tables) → Holds (state S.Store tx.old.conn.now).now t → id ≡ next_in t.bodies)) }
+    ensures err { HasCleanDisk (state S.Store tx.new.conn.now) → IsTrue (state S.Store tx.old.conn.now).in_transaction
+        → OnErr result (Fails (state S.Store tx.old.conn.now) (state S.Store tx.new.conn.now)) }
+    ensures survives { Survives (state S.Store tx.old.conn.now) (state S.Store tx.new.conn.now) (λ _. ⊥) }
+{
+    tx.execute(INSERT_BEGUN, &[])?;
+    Ok(row_number(tx.last_insert_rowid()))
+}
+
+/// Makes a body whole: sets its print.
+pub fn set_print<S: Alter>(
+    tx: &mut Transaction<'_, S>,
+    id: u64,
+    print: &Print,
+) -> Result<(), Error>
+    ensures same_reference { tx.new.conn.ghost_name ≡ tx.old.conn.ghost_name }
+    ensures ok { HasCleanDisk (state S.Store tx.new.conn.now) → IsTrue (state S.Store tx.old.conn.now).in_transaction
+        → OnOk result (Changes (state S.Store tx.old.conn.now) (state S.Store tx.new.conn.now) (with_print id print.now)) }
+    ensures err { HasCleanDisk (state S.Store tx.new.conn.now) → IsTrue (state S.Store tx.old.conn.now).in_transaction
+        → OnErr result (Fails (state S.Store tx.old.conn.now) (state S.Store tx.new.conn.now)) }
+    ensures survives { Survives (state S.Store tx.old.conn.now) (state S.Store tx.new.conn.now) (λ _. ⊥) }
+{
+    let id = whole(id)?;
+    let size = whole(print.size)?;
+    let md5: &[u8] = &print.md5;
+    let sha1: &[u8] = &print.sha1;
+    let sha256: &[u8] = &print.sha256;
+    tx.execute(UPDATE_PRINT, params![id, size, md5, sha1, sha256])?;
+    Ok(())
 }
 
 /// The number of the body with a print.

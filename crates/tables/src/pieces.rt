@@ -1,14 +1,14 @@
 //! The bytes of the bodies, in pieces.
 
-ghost use Rattle.std.specs.Prelude.{◌≡◌, filter, false, IsTrue, IfOk, OnOk, OnErr};
+ghost use Rattle.std.specs.Prelude.{◌≡◌, filter, find, false, IsTrue, IfOk, OnOk, OnErr};
 ghost use Rattle.sqlite.specs.State.{HasCleanDisk, IsUnchanged, KeepsCommit, Survives};
 ghost use Rattle.sqlite.specs.Held.{state};
 ghost use Rattle.tables.specs.Inside.{GoesOn};
 ghost use Rattle.tables.specs.Rows.{Tables, Holds, Changes, Fails, IsForeign, with_piece, piece_of, rows_of};
-ghost use Rattle.tables.specs.Pieces.{is_of, without_pieces};
+ghost use Rattle.tables.specs.Pieces.{is_of, is_piece, without_pieces};
 
 use crate::number::whole;
-use crate::read::{FromRow, bytes_at, select, select_inside, whole_at};
+use crate::read::{FromRow, bytes_at, select, select_first_inside, select_inside, whole_at};
 use crate::rows::Piece;
 use sqlite::{Alter, Connection, Error, Row, Transaction, params};
 use std::alloc::Global;
@@ -17,6 +17,9 @@ const INSERT_PIECE: &str = "INSERT INTO pieces (body, number, bytes) VALUES (?1,
 
 const SELECT_PIECES_OF: &str =
     "SELECT rowid, body, number, bytes FROM pieces WHERE body = ?1 ORDER BY rowid";
+
+const SELECT_PIECE: &str =
+    "SELECT rowid, body, number, bytes FROM pieces WHERE body = ?1 AND number = ?2 ORDER BY rowid";
 
 const DELETE_PIECES: &str = "DELETE FROM pieces WHERE body = ?1";
 
@@ -88,6 +91,29 @@ pub fn pieces_of_inside<S: Alter>(
 {
     let body = whole(body)?;
     select_inside(alloc, tx, SELECT_PIECES_OF, params![body])
+}
+
+/// The piece of a body at a place, from 1, inside a transaction.
+pub fn piece_inside<S: Alter>(
+    alloc: Global,
+    tx: &mut Transaction<'_, S>,
+    body: u64,
+    number: u64,
+) -> Result<Option<Piece>, Error>
+    ensures same_reference { tx.new.conn.ghost_name ≡ tx.old.conn.ghost_name }
+    ensures ok { HasCleanDisk (state S.Store tx.new.conn.now) → (t : Tables) → Holds (state S.Store tx.old.conn.now).now t
+        → IfOk result (λ found. (found ≡ find (is_piece body number) (rows_of t.pieces)) × IsUnchanged (state S.Store tx.old.conn.now) (state S.Store tx.new.conn.now)) }
+    ensures err { HasCleanDisk (state S.Store tx.new.conn.now) → (t : Tables) → Holds (state S.Store tx.old.conn.now).now t
+        → OnErr result (Fails (state S.Store tx.old.conn.now) (state S.Store tx.new.conn.now)) }
+    ensures goes_on { HasCleanDisk (state S.Store tx.new.conn.now) → IsTrue (state S.Store tx.old.conn.now).in_transaction
+        → OnOk result (GoesOn (state S.Store tx.old.conn.now) (state S.Store tx.new.conn.now)) }
+    ensures kept { HasCleanDisk (state S.Store tx.new.conn.now) → IsTrue (state S.Store tx.old.conn.now).in_transaction
+        → OnErr result (KeepsCommit (state S.Store tx.old.conn.now) (state S.Store tx.new.conn.now)) }
+    ensures survives { Survives (state S.Store tx.old.conn.now) (state S.Store tx.new.conn.now) (λ _. ⊥) }
+{
+    let body = whole(body)?;
+    let number = whole(number)?;
+    select_first_inside(alloc, tx, SELECT_PIECE, params![body, number])
 }
 
 /// Removes the pieces of a body.

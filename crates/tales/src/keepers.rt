@@ -3,7 +3,6 @@
 ghost use Rattle.std.specs.Prelude.{◌≤◌};
 
 use keep::{KeepFault, LATEST, PlainKeeper};
-use keep_open::open;
 use keep_tables::TableKeeper;
 use rules::Config;
 use sqlite::{Alter, Connection, MemStore};
@@ -62,7 +61,7 @@ impl<S: InMemory + Drop> Makes<TableKeeper<S>> for Tables {
     }
 
     fn reopened(alloc: Global, keeper: TableKeeper<S>) -> Result<TableKeeper<S>, KeepFault> {
-        match open(alloc, keeper.into_connection()) {
+        match TableKeeper::open(alloc, keeper.into_connection()) {
             Ok(keeper) => Ok(keeper),
             Err((_, fault)) => Err(fault),
         }

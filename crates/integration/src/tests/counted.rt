@@ -1,11 +1,13 @@
-//! A keeper that counts the index texts that it is handed.
+//! A keeper that counts the index texts and the pieces of bodies that it is handed.
 
 use super::checks::{BOX, config_of, same};
 use super::uploads::{File, HELLO, MOMENT, TIE, TIE_AGAIN};
+use desk::{DeskFault, answer};
 use keep::{Change, Judgement, KeepFault, Keeper, PlainKeeper, Waiting};
-use queue::{Archive, Report};
+use queue::{Archive, Arrived, Fault, Report};
 use rules::Config;
-use std::alloc::Global;
+use std::alloc::{AllocError, Global};
+use std::io::{self, ErrorKind, Read};
 use std::process::Abort;
 use std::test::Fail;
 use suites::{Shelves, Upload};
@@ -16,6 +18,8 @@ struct Counting<K: Keeper> {
     inner: K,
     /// How many texts all changes so far have named.
     texts: usize,
+    /// How many pieces of bodies have come so far.
+    pieces: usize,
 }
 
 impl<K: Keeper> Keeper for Counting<K> {
@@ -27,6 +31,8 @@ impl<K: Keeper> Keeper for Counting<K> {
 
     ghost book = { λ k. K.Keeper.book k.inner };
 
+    ghost coming = { λ k. K.Keeper.coming k.inner };
+
     ghost may_fail = { K.Keeper.may_fail };
 
     ghost may_leave = { λ k. K.Keeper.may_leave k.inner };
@@ -35,14 +41,21 @@ impl<K: Keeper> Keeper for Counting<K> {
         self.inner.config()
     }
 
-    fn arrive(
-        &mut self,
-        alloc: Global,
-        name: &str,
-        body: &[u8],
-        moment: u64,
-    ) -> Result<bool, KeepFault> {
-        self.inner.arrive(alloc, name, body, moment)
+    fn begin(&mut self, alloc: Global) -> Result<(), KeepFault> {
+        self.inner.begin(alloc)
+    }
+
+    fn piece(&mut self, alloc: Global, bytes: &[u8]) -> Result<(), KeepFault> {
+        self.pieces = self.pieces.saturating_add(1);
+        self.inner.piece(alloc, bytes)
+    }
+
+    fn finish(&mut self, alloc: Global, name: &str, moment: u64) -> Result<bool, KeepFault> {
+        self.inner.finish(alloc, name, moment)
+    }
+
+    fn abandon(&mut self) -> Result<(), KeepFault> {
+        self.inner.abandon()
     }
 
     fn complete_uploads(&mut self, alloc: Global, moment: u64) -> Result<Vec<Upload>, KeepFault> {
@@ -80,7 +93,11 @@ impl<K: Keeper> Keeper for Counting<K> {
 /// An archive in memory with one suite, box, whose texts are counted.
 fn counted(alloc: Global) -> Result<Archive<Counting<PlainKeeper>>, Fail> {
     let inner = PlainKeeper::new(alloc, config_of(alloc, BOX)?, 0)?;
-    Ok(Archive::new(Counting { inner, texts: 0 }))
+    Ok(Archive::new(Counting {
+        inner,
+        texts: 0,
+        pieces: 0,
+    }))
 }
 
 /// Checks the lines of a report.
@@ -139,4 +156,98 @@ fn a_run_that_changes_nothing_names_no_text(rt: HostRuntime) -> Result<(), Fail>
     let alloc = rt.alloc();
     expect_hello(&rt, alloc, &mut counted(alloc)?)?;
     expect_tie(&rt, alloc, &mut counted(alloc)?)
+}
+
+/// Bytes behind which the reader fails.
+#[derive(Drop)]
+struct Failing<'a> {
+    bytes: &'a [u8],
+}
+
+impl Read for Failing<'_> {
+    fn read(&mut self, buf: &mut [u8]) -> io::Result<usize> {
+        if self.bytes.is_empty() {
+            return Err(ErrorKind::ConnectionReset.into());
+        }
+        let mut bytes = self.bytes;
+        let count = bytes.read(buf)?;
+        self.bytes = bytes;
+        Ok(count)
+    }
+}
+
+/// How much comes of a body of 200,000 bytes: two pieces of 65,536.
+const COMES: usize = 131_072;
+
+/// The head of its delivery.
+const HEAD: &[u8] = b"PUT /incoming/long.deb HTTP/1.1\r\nContent-Length: 200000\r\n\r\n";
+
+/// What comes of the body.
+fn front_of_body(alloc: Global) -> Result<Vec<u8>, AllocError> {
+    vec![in alloc; b'x'; COMES]
+}
+
+/// Checks that two pieces have come, and that nothing has arrived: the same bytes are a body of their own then.
+fn expect_two_pieces<K: Keeper>(
+    rt: &impl Abort,
+    alloc: Global,
+    archive: &mut Archive<Counting<K>>,
+    front: &[u8],
+) {
+    same(rt, &archive.keeper.pieces, &2);
+    let arrived = archive.deliver(alloc, "long.deb", front, MOMENT);
+    same(rt, &arrived, &Ok(Arrived::New));
+    same(rt, &archive.keeper.pieces, &4);
+}
+
+/// Checks what comes of a delivery whose reader fails behind two pieces.
+fn expect_cut<K: Keeper>(
+    rt: &impl Abort,
+    alloc: Global,
+    archive: &mut Archive<Counting<K>>,
+) -> Result<(), Fail> {
+    let front = front_of_body(alloc)?;
+    let mut reader = Failing {
+        bytes: front.as_slice(),
+    };
+    let arrived = archive.receive(alloc, "long.deb", 200_000, &mut reader, MOMENT);
+    same(rt, &arrived, &Err(Fault::ReaderFailed));
+    expect_two_pieces(rt, alloc, archive, front.as_slice());
+    Ok(())
+}
+
+/// Checks that a request whose reader fails behind two pieces of its body is told as H1, and that nothing is written.
+fn expect_failed<K: Keeper>(
+    rt: &impl Abort,
+    alloc: Global,
+    archive: &mut Archive<Counting<K>>,
+    request: &[u8],
+) {
+    let mut reader = Failing { bytes: request };
+    let mut writer: Vec<u8> = Vec::new(alloc);
+    let served = answer(alloc, archive, &mut reader, &mut writer, MOMENT);
+    same(rt, &served, &Err(DeskFault::ReaderFailed));
+    same(rt, &writer.len(), &0);
+}
+
+/// Checks what comes of the same by a request.
+fn expect_cut_request<K: Keeper>(
+    rt: &impl Abort,
+    alloc: Global,
+    archive: &mut Archive<Counting<K>>,
+) -> Result<(), Fail> {
+    let front = front_of_body(alloc)?;
+    let mut request = Vec::from_slice(alloc, HEAD)?;
+    request.extend_from_slice(front.as_slice())?;
+    expect_failed(rt, alloc, archive, request.as_slice());
+    expect_two_pieces(rt, alloc, archive, front.as_slice());
+    Ok(())
+}
+
+/// Each piece of a body is stored before the next is read.
+#[test]
+fn pieces_are_stored_as_they_come(rt: HostRuntime) -> Result<(), Fail> {
+    let alloc = rt.alloc();
+    expect_cut(&rt, alloc, &mut counted(alloc)?)?;
+    expect_cut_request(&rt, alloc, &mut counted(alloc)?)
 }

@@ -6,7 +6,7 @@ use Rattle.sqlite.proofs.Callers.{unchanged_then}
 use Rattle.keep.specs.Book.{due}
 use Rattle.keep.proofs.Signs.{signs_of}
 use Rattle.kept.specs.Reads.{due_in}
-use Rattle.kept.proofs.DueLemmas.{due_are}
+use Rattle.kept.proofs.FinishedLemmas.{dues_finished}
 use Rattle.kept.proofs.ReadsLemmas.{found_all, found_more, found_none, held_after, on_err, survives_after, undone_after, undone_if_unchanged}
 use Rattle.keep_tables.proofs.due.due_uploads.Goals as goal
 
@@ -93,10 +93,10 @@ returns-in_err-push-clause-survives g c =
 pub returns-clause-uploads : goal.returns-clause-uploads
 returns-clause-uploads g c clean t was b same uploads bodies arrivals =
     let none : length c.loop-id.id-iterator.rest.items ≡ 0 = omega (arith, c.in-None.ensures.steps.0, c.loop-id.id-iterator.rest.ok.0) in
-    found_all (due_in t) c.loop-id.uploads.items c.loop-id.id-iterator.rest.items none (c.loop-id.invariant.read clean t was).0 ∙ due_are t b same was.rows.uploads.rise uploads bodies arrivals
+    found_all (due_in t) c.loop-id.uploads.items c.loop-id.id-iterator.rest.items none (c.loop-id.invariant.read clean t was).0 ∙ dues_finished t b was.rows.bodies.rise was.rows.uploads.rise same uploads bodies arrivals
 
 pub returns-clause-signs : goal.returns-clause-signs
 returns-clause-signs g c clean t was b same uploads bodies arrivals =
     let none : length c.loop-id.id-iterator.rest.items ≡ 0 = omega (arith, c.in-None.ensures.steps.0, c.loop-id.id-iterator.rest.ok.0) in
-    ap (map (λ u. (u.name, u.print))) (found_all (due_in t) c.loop-id.uploads.items c.loop-id.id-iterator.rest.items none (c.loop-id.invariant.read clean t was).0 ∙ due_are t b same was.rows.uploads.rise uploads bodies arrivals)
+    ap (map (λ u. (u.name, u.print))) (found_all (due_in t) c.loop-id.uploads.items c.loop-id.id-iterator.rest.items none (c.loop-id.invariant.read clean t was).0 ∙ dues_finished t b was.rows.bodies.rise was.rows.uploads.rise same uploads bodies arrivals)
     ∙ signs_of b.arrivals (due b)

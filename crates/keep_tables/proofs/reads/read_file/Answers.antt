@@ -3,6 +3,7 @@ use Rattle.sqlite.specs.Held.{state}
 use Rattle.sqlite.specs.State.{HasCleanDisk}
 use Rattle.tables.specs.Rows.{tables_in}
 use Rattle.kept.specs.Kept.{book_in}
+use Rattle.kept.proofs.FinishedLemmas.{files_finished}
 use Rattle.kept.proofs.ReadCalls.{open_after, read_after, rows_after, undone_either, if_then, on_then}
 use Rattle.keep_tables.proofs.reads.read_file.Goals as goal
 
@@ -33,4 +34,4 @@ returns-clause-file g c clean config judged shown dates keeps =
     let settled = c.is_autocommit-settled.ensures.settled (c.is_autocommit-settled.ensures.value ∙ ap not c.requires.idle) in
     let early : HasCleanDisk mid = omega (arith, c.file_body.ensures.survives.clean, clean) in
     let rows = rows_after old mid new c.in_ok-serve.ensures.ok settled early keeps in
-    if_then c.file_body.result (c.file_body.ensures.ok clean (tables_in old.committed) rows) (λ x h. h.0)
+    if_then c.file_body.result (c.file_body.ensures.ok clean (tables_in old.committed) rows) (λ x h. h.0 ∙ files_finished (tables_in old.committed) keeps.held.rows.bodies.rise keeps.kept.files.bodies c.args.path.now)

@@ -2,6 +2,7 @@ use Rattle.std.proofs.Common.{not, ap, ◌∙◌, arith}
 use Rattle.sqlite.specs.Held.{state}
 use Rattle.sqlite.specs.State.{HasCleanDisk}
 use Rattle.tables.specs.Rows.{tables_in}
+use Rattle.kept.proofs.FinishedLemmas.{items_finished}
 use Rattle.kept.proofs.ReadCalls.{open_after, read_after, rows_after, undone_either}
 use Rattle.keep_tables.proofs.reads.read_shown.Goals as goal
 
@@ -31,4 +32,4 @@ returns-clause-shown g c clean judged shown dates keeps =
     let settled = c.is_autocommit-settled.ensures.settled (c.is_autocommit-settled.ensures.value ∙ ap not c.requires.idle) in
     let early : HasCleanDisk mid = omega (arith, c.read_shelves.ensures.survives.clean, clean) in
     let rows = rows_after old mid new c.in_ok-serve.ensures.ok settled early keeps in
-    c.read_shelves.ensures.ok clean (tables_in old.committed) rows shown keeps.kept.items keeps.kept.sound
+    c.read_shelves.ensures.ok clean (tables_in old.committed) rows shown (items_finished (tables_in old.committed) c.args.config.now.suites shown keeps.kept.items) keeps.kept.sound

@@ -4,6 +4,7 @@ use Rattle.sqlite.specs.State.{HasCleanDisk}
 use Rattle.texts.specs.Indices.{all_texts, index_text}
 use Rattle.tables.specs.Rows.{rows_of, tables_in}
 use Rattle.tables.specs.declared.rows.IndexText.{IndexText}
+use Rattle.kept.specs.Finished.{finished}
 use Rattle.kept.specs.Kept.{book_in}
 use Rattle.kept.proofs.ReadCalls.{is_open_after, read_after, rows_after, text_is}
 use Rattle.kept.proofs.ReadsLemmas.{undone_if_failed, undone_if_unchanged}
@@ -37,7 +38,7 @@ returns-in-Some-clause-open g c clean is =
     is_open_after old mid new c.in_ok-serve.ensures.ok settled early is (λ archive. (c.in_ok-text.ensures.ok clean _ archive).1)
 
 pub returns-in-Some-clause-text : goal.returns-in-Some-clause-text
-unfolding book_in index_text
+unfolding book_in finished index_text
 returns-in-Some-clause-text g c clean config judged shown dates keeps =
     let old = state g.S.Store c.args.conn.now in
     let mid = state g.S.Store c.serve.new.conn in
@@ -67,7 +68,7 @@ returns-in-None-clause-open g c clean is =
     is_open_after old mid new c.in_ok-serve.ensures.ok settled early is (λ archive. (c.in_ok-text.ensures.ok clean _ archive).1)
 
 pub returns-in-None-clause-text : goal.returns-in-None-clause-text
-unfolding book_in index_text
+unfolding book_in finished index_text
 returns-in-None-clause-text g c clean config judged shown dates keeps =
     let old = state g.S.Store c.args.conn.now in
     let mid = state g.S.Store c.serve.new.conn in

@@ -4,7 +4,7 @@ use Rattle.sqlite.specs.State.{HasCleanDisk}
 use Rattle.sqlite.proofs.Callers.{unchanged_then}
 use Rattle.kept.specs.Reads.{waiting_in}
 use Rattle.kept.proofs.ReadsLemmas.{held_after, made_all, made_more, on_err, survives_after, survives_foreign, undone_after, undone_if_failed, undone_if_unchanged}
-use Rattle.kept.proofs.WaitingLemmas.{waiting_list_is}
+use Rattle.kept.proofs.FinishedLemmas.{waiting_finished}
 use Rattle.keep_tables.proofs.waiting.waiting_uploads.Goals as goal
 
 pub returns-in_err-id-items-clause-survives : goal.returns-in_err-id-items-clause-survives
@@ -74,4 +74,4 @@ returns-in_err-push-clause-survives g c =
 pub returns-clause-ok : goal.returns-clause-ok
 returns-clause-ok g c clean t was b same uploads =
     let none : length c.loop-id.id-iterator.rest.items ≡ 0 = omega (arith, c.in-None.ensures.steps.0, c.loop-id.id-iterator.rest.ok.0) in
-    made_all (waiting_in t) c.loop-id.waiting.items c.loop-id.id-iterator.rest.items none (c.loop-id.invariant.read clean t was).0 ∙ waiting_list_is t b same was.rows.uploads.rise uploads
+    made_all (waiting_in t) c.loop-id.waiting.items c.loop-id.id-iterator.rest.items none (c.loop-id.invariant.read clean t was).0 ∙ waiting_finished t b same was.rows.uploads.rise uploads

@@ -8,6 +8,8 @@ use Rattle.kept.specs.Archives.{KeepsArchive, book_of}
 use Rattle.kept.specs.Kept.{book_in}
 use Rattle.kept.specs.KeeperLemmas.{book_set, left_set}
 use Rattle.kept.specs.Shown.{shown_in}
+use Rattle.std.proofs.Props.{props}
+use Rattle.keep_tables.proofs.UnderWayLemmas.{beside_under, undone_kept, undone_under}
 use Rattle.kept.proofs.CallLemmas.{kept_here, turn_left, done_book}
 use Rattle.keep_tables.proofs.keeper.TableKeeperKeeper.apply.Goals as goal
 
@@ -32,6 +34,29 @@ invariant_of-self-in-Ok g c =
           subst (λ j. KeepsArchive new.committed config j (shown_in config.suites (tables_in new.committed)) c.in_ok-dates.dates.items) (sym judged)
           (subst (λ d. KeepsArchive new.committed config (c.args.self.now.judged.items ++ judgements steps) (shown_in config.suites (tables_in new.committed)) d) (sym dates)
           (kept_here new.committed turn.kept)));
+      under_way = λ clean up.
+          let early : HasCleanDisk old = omega (arith, c.make_change.ensures.crash.clean, clean) in
+          let was_open = (c.in-Ok.ensures.open clean).0 in
+          ∥∥₁_elim (c.args.self.now.kept early was_open) (hlevel props) (λ was.
+          ∥∥₁_map (c.args.self.now.under_way early was_open) (λ under. beside_under old.committed new.committed c.args.self.now.begun (c.in-Ok.ensures.beside clean _ _ _ was) under));
+    }
+    )
+
+pub invariant_of-self-in-Err-1 : goal.invariant_of-self-in-Err-1
+invariant_of-self-in-Err-1 g c =
+    let old = state g.S.Store c.args.self.now.conn in
+    let new = state g.S.Store c.make_change.new.conn in
+    let kept = c.args.self.now.kept in (
+    record {
+      idle = c.make_change.ensures.idle;
+      in_range = c.args.self.now.in_range;
+      kept = λ clean up.
+          let early : HasCleanDisk old = omega (arith, c.make_change.ensures.crash.clean, clean) in
+          undone_kept (λ db. ∥ KeepsArchive db c.args.self.now.config c.args.self.now.judged.items (shown_in c.args.self.now.config.suites (tables_in db)) c.args.self.now.dates.items ∥₁)
+          old new (c.in-Err.ensures.undone clean) (kept early) up;
+      under_way = λ clean up.
+          let early : HasCleanDisk old = omega (arith, c.make_change.ensures.crash.clean, clean) in
+          undone_under old new c.args.self.now.begun (c.in-Err.ensures.undone clean) (c.args.self.now.under_way early) up;
     }
     )
 

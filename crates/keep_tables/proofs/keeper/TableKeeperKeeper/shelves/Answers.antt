@@ -3,7 +3,9 @@ use Rattle.std.proofs.Math.Logic.{∥∥₁_elim}
 use Rattle.sqlite.specs.Held.{state}
 use Rattle.kept.specs.Kept.{book_in}
 use Rattle.kept.specs.KeeperLemmas.{shelves_set}
-use Rattle.kept.proofs.KeeperReads.{left_before, same_after, still_kept, was_archive, was_kept}
+use Rattle.tables.specs.Rows.{tables_in}
+use Rattle.bodies.specs.UnderWay.{IsUnderWay}
+use Rattle.kept.proofs.KeeperReads.{left_before, same_after, still, still_kept, was_archive, was_kept}
 use Rattle.keep_tables.proofs.keeper.TableKeeperKeeper.shelves.Goals as goal
 
 pub invariant_of-self : goal.invariant_of-self
@@ -11,6 +13,9 @@ invariant_of-self g c = record {
   idle = c.read_shown.ensures.idle;
   in_range = c.args.self.now.in_range;
   kept = still_kept (state g.S.Store c.args.self.now.conn) (state g.S.Store c.read_shown.new.conn) c.read_shown.ensures.read c.args.self.now.kept;
+  under_way =
+      still (state g.S.Store c.args.self.now.conn) (state g.S.Store c.read_shown.new.conn) c.read_shown.ensures.read c.args.self.now.kept
+      (λ db. ∥ IsUnderWay (tables_in db) c.args.self.now.begun ∥₁) c.args.self.now.under_way;
 }
 
 pub returns-in-Ok-clause-served : goal.returns-in-Ok-clause-served

@@ -3,7 +3,7 @@ use Rattle.std.proofs.lemmas.Result.{err_from_is_err_and}
 use Rattle.queue.specs.Deliveries.{delivery_fault}
 use Rattle.queue.specs.Histories.{Delivery}
 use Rattle.queue.proofs.Kept.{same_by, untouched}
-use Rattle.queue.proofs.StepAnswers.{refused_step, refused_delivery, delivered_left, delivered_step, deliverable, free_delivery, keeper_step, keepers_own}
+use Rattle.queue.proofs.StepAnswers.{refused_step, refused_delivery, left_delivered, delivered_step, deliverable, free_delivery, keeper_step, keepers_own}
 use Rattle.queue.proofs.archive.Archive.deliver.Goals as goal
 
 pub returns-in_err-check_delivery-clause-step : goal.returns-in_err-check_delivery-clause-step
@@ -47,22 +47,22 @@ returns-else-branch-clause-step g c h kept faithful clean =
     c.in_ok-check_delivery.ensures.judged (rw c.if-branch.false at told) (c.in_ok-arrive.ensures.ok clean)
 
 pub returns-in_err-check_delivery-clause-crash : goal.returns-in_err-check_delivery-clause-crash
-returns-in_err-check_delivery-clause-crash g c h kept faithful clean left may = inl may
+returns-in_err-check_delivery-clause-crash g c h kept clean left may = inl may
 
 pub returns-in_err-arrive-clause-crash : goal.returns-in_err-arrive-clause-crash
-returns-in_err-arrive-clause-crash g c h kept faithful clean left may = elim (c.in_err-arrive.ensures.crash clean left may) [
+returns-in_err-arrive-clause-crash g c h kept clean left may = elim (c.in_err-arrive.ensures.crash clean left may) [
   | inl before ↦ inl before
-  | inr made ↦ inr (delivered_left g.K.Keeper.may_fail h c.args.name.now c.args.body.now c.args.moment (g.K.Keeper.book c.args.self.now.keeper) left (kept.stands made.0) faithful c.in_ok-check_delivery.ensures.judged made.1)
+  | inr made ↦ inr (left_delivered g.K.Keeper.may_fail h c.args.name.now c.args.body.now c.args.moment _ (g.K.Keeper.book c.args.self.now.keeper) left kept c.in_ok-check_delivery.ensures.judged made)
 ]
 
 pub returns-then-branch-clause-crash : goal.returns-then-branch-clause-crash
-returns-then-branch-clause-crash g c h kept faithful clean left may = elim (c.in_ok-arrive.ensures.crash clean left may) [
+returns-then-branch-clause-crash g c h kept clean left may = elim (c.in_ok-arrive.ensures.crash clean left may) [
   | inl before ↦ inl before
-  | inr made ↦ inr (delivered_left g.K.Keeper.may_fail h c.args.name.now c.args.body.now c.args.moment (g.K.Keeper.book c.args.self.now.keeper) left (kept.stands made.0) faithful c.in_ok-check_delivery.ensures.judged made.1)
+  | inr made ↦ inr (left_delivered g.K.Keeper.may_fail h c.args.name.now c.args.body.now c.args.moment _ (g.K.Keeper.book c.args.self.now.keeper) left kept c.in_ok-check_delivery.ensures.judged made)
 ]
 
 pub returns-else-branch-clause-crash : goal.returns-else-branch-clause-crash
-returns-else-branch-clause-crash g c h kept faithful clean left may = elim (c.in_ok-arrive.ensures.crash clean left may) [
+returns-else-branch-clause-crash g c h kept clean left may = elim (c.in_ok-arrive.ensures.crash clean left may) [
   | inl before ↦ inl before
-  | inr made ↦ inr (delivered_left g.K.Keeper.may_fail h c.args.name.now c.args.body.now c.args.moment (g.K.Keeper.book c.args.self.now.keeper) left (kept.stands made.0) faithful c.in_ok-check_delivery.ensures.judged made.1)
+  | inr made ↦ inr (left_delivered g.K.Keeper.may_fail h c.args.name.now c.args.body.now c.args.moment _ (g.K.Keeper.book c.args.self.now.keeper) left kept c.in_ok-check_delivery.ensures.judged made)
 ]

@@ -1,8 +1,0 @@
-//! Opens an archive that a database keeps: reads all rows of its tables and says whether they are those of an archive.
-#![tactic(auto)]
-
-mod finishing;
-mod opening;
-mod unfinished;
-
-pub use opening::open;

@@ -1,0 +1,198 @@
+-- The archive of a database, and what is left of it once the bodies that are not whole are away.
+use Rattle.std.proofs.Common.{◌≡◌, ◌≢◌, ℕ, filter, not, cond, List, [], ◌∷◌, Option, None, Some, IfSome, is_some, map, refl, sym, ap, subst, ◌∙◌}
+use Rattle.std.proofs.Math.Logic.{∥∥₁_map}
+use Rattle.std.specs.List.{AllByRecursion}
+use Rattle.std.proofs.lemmas.List.Elements.{All-from_recursion, recursion_from_All}
+use Rattle.sums.specs.declared.print.Print.{Print}
+use Rattle.sqlite.specs.Effect.{Database}
+use Rattle.sqlite.specs.State.{State, IsUnchanged}
+use Rattle.sqlite.specs.Tree.{Trees}
+use Rattle.rules.specs.Values.{ConfigValue}
+use Rattle.keep.specs.Book.{Book}
+use Rattle.keep.specs.declared.change.Judgement.{Judgement}
+use Rattle.tables.proofs.BookLemmas.{held_tables, is_archive}
+use Rattle.tables.specs.Rows.{Tables, Holds, IsArchive, Numbered, Rises, rows_of, tables_in, without}
+use Rattle.tables.specs.Schema.{archive_schema}
+use Rattle.tables.specs.declared.rows.Body.{Body}
+use Rattle.tables.specs.Real.{AreReal, IsRealBody, IsRealPrint}
+use Rattle.kept.specs.Archives.{KeepsArchive, KeepsFinished, book_of}
+use Rattle.kept.specs.Kept.{AreReadable, IsKept, book_in}
+use Rattle.kept.specs.Shown.{shown_in}
+use Rattle.kept.proofs.CallLemmas.{kept_here, shown_here}
+use Rattle.kept.proofs.RealRows.{kept_readable, kept_real}
+use Rattle.kept.proofs.ComingLemmas.{none_coming}
+use Rattle.kept.proofs.FinishedLemmas.{finished_twice}
+use Rattle.kept.specs.Coming.{HasComing}
+use Rattle.kept.specs.Finished.{finished, is_unfinished, without_all}
+use Rattle.kept.specs.Transactions.{IsDone, IsUndone, MayCommit}
+use Rattle.keep_tables.specs.Finishing.{unfinished_ids}
+use Rattle.audit.specs.Whole.{KeepsNone, KeepsSome}
+use Rattle.keep_tables.specs.Opened.{HasUnfinished, IsArchiveOf, IsFinished, IsFound, IsNoArchive}
+use Rattle.keep_tables.proofs.FinishLemmas.{finished_as}
+
+-- ---- of a database
+
+pub archive_here : (db : Database) (t : Tables) (config : ConfigValue) (judged : List Judgement) (dates : List ℕ) → Holds db t → KeepsSome (finished t) config judged dates → IsArchiveOf db config judged dates
+archive_here db t config judged dates held some =
+    let same = sym (held_tables db t held) in
+    (subst (Holds db) same held, subst (λ u. KeepsSome (finished u) config judged dates) same some)
+
+-- a body without a print can be held
+real_more : (x : ℕ × Body) (bodies : Numbered Body) → (AllByRecursion IsRealBody (rows_of (without is_unfinished bodies)) → AllByRecursion IsRealBody (rows_of bodies))
+    → (print : Option Print) → x.1.print ≡ print
+    → AllByRecursion IsRealBody (rows_of (cond (not (not (is_some print))) (x ∷ without is_unfinished bodies) (without is_unfinished bodies))) → AllByRecursion IsRealBody (rows_of (x ∷ bodies))
+real_more x bodies rest None is real = (subst (λ o. IfSome o IsRealPrint) (sym is) tt, rest real)
+real_more x bodies rest (Some p) is real = (real.0, rest real.1)
+
+real_bodies : (bodies : Numbered Body) → AllByRecursion IsRealBody (rows_of (without is_unfinished bodies)) → AllByRecursion IsRealBody (rows_of bodies)
+real_bodies [] real = tt
+real_bodies (x ∷ bodies) real = real_more x bodies (real_bodies bodies) x.1.print refl real
+
+real_unfinished : (t : Tables) → AreReal (finished t) → AreReal t
+unfolding finished
+real_unfinished t h = record {
+  bodies = All-from_recursion IsRealBody (rows_of t.bodies) (real_bodies t.bodies (recursion_from_All IsRealBody (rows_of (without is_unfinished t.bodies)) h.bodies));
+  arrivals = h.arrivals;
+  uploads = h.uploads;
+  wants = h.wants;
+  items = h.items;
+  refs = h.refs;
+  files = h.files;
+  texts = h.texts;
+  dates = h.dates;
+}
+
+pub no_archive : (db : Database) (t : Tables) → Holds db t → (AreReadable t → KeepsNone (finished t)) → IsNoArchive db
+unfolding finished
+no_archive db t held none archive config judged shown dates h =
+    let here : IsKept (finished t) config judged shown dates = subst (λ u. IsKept (finished u) config judged shown dates) (held_tables db t held) h in
+    none (kept_readable (finished t) config judged shown dates here) config judged shown dates here
+
+pub no_rows : (db : Database) → ((t : Tables) → AreReal t → Holds db t → ⊥) → IsNoArchive db
+no_rows db none archive config judged shown dates h =
+    none (tables_in db) (real_unfinished (tables_in db) (kept_real (finished (tables_in db)) config judged shown dates h)) archive
+
+pub no_tables : (db : Database) → (db.schema ≡ archive_schema → ⊥) → IsNoArchive db
+no_tables db other archive config judged shown dates h = other archive.schema
+
+-- the archive of a database, with what the rows show
+archive_shown : (db : Database) (config : ConfigValue) (judged : List Judgement) (dates : List ℕ) → IsArchive db → KeepsSome (finished (tables_in db)) config judged dates
+    → ∥ KeepsArchive db config judged (shown_in config.suites (tables_in db)) dates ∥₁
+archive_shown db config judged dates held keeps = ∥∥₁_map keeps (λ some. kept_here db (record { held = held; kept = some.1 }))
+
+-- ---- once the bodies that are not whole are away
+
+rising : (db : Database) (t : Tables) → Holds db t → Rises t.bodies
+rising db t held = held.rows.bodies.rise
+
+module _ (s : State) (config : ConfigValue) (judged : List Judgement) (dates ids : List ℕ) (found : IsFound s config judged dates ids) where
+  -- the rows without those of these numbers are the finished ones
+  without_ids : (t : Tables) → Holds s.now t → without_all ids t ≡ finished t
+  without_ids t held =
+      let same : ids ≡ unfinished_ids t.bodies = found.are ∙ ap (λ u. unfinished_ids u.bodies) (held_tables s.now t held) in
+      ap (λ l. without_all l t) same ∙ finished_as t (rising s.now t held)
+
+  -- a database with those rows holds the finished ones
+  pub finished_now : (new : Database) (t : Tables) → Holds s.now t → Holds new (without_all ids t) → Holds new (finished t)
+  finished_now new t held now = subst (Holds new) (without_ids t held) now
+
+  rows_are : (new : Database) → ((t : Tables) → Holds s.now t → Holds new (without_all ids t)) → tables_in new ≡ finished (tables_in s.now)
+  rows_are new now =
+      let t = tables_in s.now in
+      held_tables new (finished t) (finished_now new t found.archive.0 (now t found.archive.0))
+
+  rows_finished_are : (new : Database) → ((t : Tables) → Holds s.now t → Holds new (without_all ids t)) → finished (tables_in new) ≡ finished (tables_in s.now)
+  rows_finished_are new now = ap finished (rows_are new now) ∙ finished_twice (tables_in s.now)
+
+  -- it keeps the archive
+  pub keeps_finished : (new : Database) → ((t : Tables) → Holds s.now t → Holds new (without_all ids t)) → ∥ KeepsArchive new config judged (shown_in config.suites (tables_in new)) dates ∥₁
+  keeps_finished new now =
+      let t = tables_in s.now in
+      let held = finished_now new t found.archive.0 (now t found.archive.0) in
+      archive_shown new config judged dates (is_archive new (finished t) held) (subst (λ u. KeepsSome u config judged dates) (sym (rows_finished_are new now)) found.archive.1)
+
+  -- each of its bodies is whole
+  pub whole_finished : (new : Database) → ((t : Tables) → Holds s.now t → Holds new (without_all ids t)) → HasComing (tables_in new) []
+  whole_finished new now = none_coming (tables_in new) (rows_finished_are new now ∙ sym (rows_are new now))
+
+  -- and its book is that of the finished rows
+  pub finished_book : (new : Database) → ((t : Tables) → Holds s.now t → Holds new (without_all ids t))
+      → KeepsFinished s.committed config (book_of new config judged (shown_in config.suites (tables_in new)) dates)
+  finished_book new now =
+      let t = tables_in s.now in
+      let held : Holds new (finished t) = finished_now new t found.archive.0 (now t found.archive.0) in
+      let is : finished (tables_in new) ≡ finished t = rows_finished_are new now in
+      subst (λ db. KeepsFinished db config (book_of new config judged (shown_in config.suites (tables_in new)) dates)) found.rests
+      (∥∥₁_map found.archive.1 (λ some.
+      let kept : IsKept (finished (tables_in new)) config judged some.0 dates = subst (λ u. IsKept u config judged some.0 dates) (sym is) some.1 in
+      let shows : shown_in config.suites (tables_in new) ≡ some.0 = shown_here new (record { held = is_archive new (finished t) held; kept = kept }) in
+      (judged, some.0, dates, found.archive.0, some.1, λ i. book_in config judged (shows i) dates (is i))))
+
+  -- numbers of none
+  none_if_whole : (t : Tables) → Holds s.committed t → filter is_unfinished t.bodies ≡ [] → ids ≡ []
+  none_if_whole t held none =
+      found.are ∙ ap (λ u. unfinished_ids u.bodies) (held_tables s.now t (subst (λ db. Holds db t) (sym found.rests) held)) ∙ ap (map (λ x. x.0)) none
+
+  pub has_unfinished : ids ≢ [] → HasUnfinished s.now
+  has_unfinished some none = some (found.are ∙ ap (map (λ x. x.0)) none)
+
+  -- nothing is to be taken away
+  pub finished_same : ids ≡ [] → IsFinished s s
+  finished_same none = record {
+    is_open = found.is_open;
+    held = λ t held. finished_now s.committed t (subst (λ db. Holds db t) (sym found.rests) held) (subst (λ l. Holds s.committed (without_all l t)) (sym none) held);
+    same = λ t held whole. refl;
+  }
+
+  -- the bodies of these numbers are taken away
+  pub finished_done : (new : State) → ids ≢ [] → IsDone s new (without_all ids) → IsFinished s new
+  finished_done new some done = record {
+    is_open = done.is_open;
+    held = λ t held. let now = subst (λ db. Holds db t) (sym found.rests) held in finished_now new.committed t now (done.held t now);
+    same = λ t held whole. absurd (some (none_if_whole t held whole));
+  }
+
+  pub may_finish : (trees : Trees) → MayCommit s (without_all ids) trees → MayCommit s finished trees
+  may_finish trees h = (h.0, h.1, h.2, λ t held. finished_now h.0 t held (h.3 t held))
+
+  -- without any numbers it has the book itself
+  pub same_book_finished : ids ≡ [] → KeepsFinished s.committed config (book_of s.committed config judged (shown_in config.suites (tables_in s.committed)) dates)
+  same_book_finished none = finished_book s.committed (λ t held. subst (λ l. Holds s.committed (without_all l t)) (sym none) (subst (λ db. Holds db t) found.rests held))
+
+  -- without any numbers the database is the archive's
+  pub keeps_same : ids ≡ [] → ∥ KeepsArchive s.committed config judged (shown_in config.suites (tables_in s.committed)) dates ∥₁
+  keeps_same none = keeps_finished s.committed (λ t held. subst (λ l. Holds s.committed (without_all l t)) (sym none) (subst (λ db. Holds db t) found.rests held))
+
+  pub whole_same : ids ≡ [] → HasComing (tables_in s.committed) []
+  whole_same none = whole_finished s.committed (λ t held. subst (λ l. Holds s.committed (without_all l t)) (sym none) (subst (λ db. Holds db t) found.rests held))
+
+-- ---- what was found before
+
+module _ (old mid : State) (same : IsUnchanged old mid) where
+  pub found_after : (config : ConfigValue) (judged : List Judgement) (dates ids : List ℕ) → old.now ≡ old.committed → IsArchiveOf old.now config judged dates → ids ≡ unfinished_ids (tables_in old.now).bodies
+      → IsFound mid config judged dates ids
+  found_after config judged dates ids rests archive are = record {
+    is_open = same.0.is_open;
+    rests = same.0.now_is ∙ rests ∙ sym same.0.committed_is;
+    archive = subst (λ db. IsArchiveOf db config judged dates) (sym same.0.now_is) archive;
+    are = are ∙ ap (λ db. unfinished_ids (tables_in db).bodies) (sym same.0.now_is);
+  }
+
+  pub finished_from : (new : State) → IsFinished mid new → IsFinished old new
+  finished_from new h = record {
+    is_open = h.is_open;
+    held = λ t held. h.held t (subst (λ db. Holds db t) (sym same.0.committed_is) held);
+    same = λ t held whole. h.same t (subst (λ db. Holds db t) (sym same.0.committed_is) held) whole ∙ same.0.committed_is;
+  }
+
+  pub book_from : {config : ConfigValue} {b : Book} → KeepsFinished mid.committed config b → KeepsFinished old.committed config b
+  book_from {config} {b} h = subst (λ db. KeepsFinished db config b) same.0.committed_is h
+
+  pub undone_after : (new : State) → IsUndone mid new → IsUndone old new
+  undone_after new h = record { was_open = λ _. same.0.was_open; committed = λ up. h.committed up ∙ same.0.committed_is }
+
+  pub unfinished_from : HasUnfinished mid.now → HasUnfinished old.now
+  unfinished_from = subst HasUnfinished same.0.now_is
+
+  pub may_from : (trees : Trees) → MayCommit mid finished trees → MayCommit old finished trees
+  may_from trees h = (h.0, h.1, same.0.was_open, λ t held. h.3 t (subst (λ db. Holds db t) (sym same.0.now_is) held))

@@ -1,0 +1,126 @@
+use Rattle.std.proofs.Common.{◌≡◌, inl, inr, refl, sym, ap, subst, ◌∙◌, arith, [], Some, None}
+use Rattle.std.proofs.Math.Logic.{∥∥₁_elim, ∥∥₁_map}
+use Rattle.std.proofs.Props.{props}
+use Rattle.sqlite.specs.Held.{state}
+use Rattle.sqlite.specs.State.{HasCleanDisk}
+use Rattle.tables.specs.Rows.{tables_in}
+use Rattle.kept.specs.Archives.{KeepsArchive, book_of}
+use Rattle.kept.specs.Kept.{book_in}
+use Rattle.kept.specs.KeeperLemmas.{book_set, left_set}
+use Rattle.kept.specs.Shown.{shown_in}
+use Rattle.kept.proofs.CallLemmas.{done_book, kept_here, turn_left}
+use Rattle.kept.specs.Coming.{Comes}
+use Rattle.bodies.specs.UnderWay.{IsUnderWay}
+use Rattle.keep_tables.proofs.UnderWayLemmas.{begun_coming, came, just_begun, none_coming_of, stopped, undone_kept, undone_under}
+use Rattle.keep_tables.proofs.keeper.TableKeeperKeeper.begin.Goals as goal
+
+pub invariant_of-self : goal.invariant_of-self
+invariant_of-self g c =
+    let old = state g.S.Store c.args.self.now.conn in
+    let new = state g.S.Store c.clear.new.conn in (
+    record {
+      idle = c.clear.ensures.idle;
+      in_range = c.args.self.now.in_range;
+      kept = λ clean up.
+          let early : HasCleanDisk old = omega (arith, c.clear.ensures.crash.clean, clean) in
+          let was_open = (c.in-Ok.ensures.open clean).0 in
+          ∥∥₁_elim (c.args.self.now.kept early was_open) (hlevel props) (λ was. ∥∥₁_map (c.args.self.now.under_way early was_open) (λ under.
+          let k = came (tables_in old.committed) c.args.self.now.begun under in
+          kept_here new.committed (c.in-Ok.ensures.done clean _ _ _ _ k.count k.bytes was (subst (λ o. Comes (tables_in old.committed) o k.count k.bytes) (sym c.number_of.ensures) k.comes)).0.kept));
+      under_way = λ clean up.
+          let early : HasCleanDisk old = omega (arith, c.clear.ensures.crash.clean, clean) in
+          let was_open = (c.in-Ok.ensures.open clean).0 in
+          ∥∥₁_elim (c.args.self.now.kept early was_open) (hlevel props) (λ was. ∥∥₁_map (c.args.self.now.under_way early was_open) (λ under.
+          let k = came (tables_in old.committed) c.args.self.now.begun under in
+          let ends = (c.in-Ok.ensures.done clean _ _ _ _ k.count k.bytes was (subst (λ o. Comes (tables_in old.committed) o k.count k.bytes) (sym c.number_of.ensures) k.comes)).1 in
+          ([], just_begun (tables_in new.committed) c.begun.result ends c.begun.ensures.empty.0 c.begun.ensures.empty.1 c.begun.ensures.printer)));
+    }
+    )
+
+pub invariant_of-self-in-Err : goal.invariant_of-self-in-Err
+invariant_of-self-in-Err g c =
+    let old = state g.S.Store c.args.self.now.conn in
+    let new = state g.S.Store c.clear.new.conn in (
+    record {
+      idle = c.clear.ensures.idle;
+      in_range = c.args.self.now.in_range;
+      kept = λ clean up.
+          let early : HasCleanDisk old = omega (arith, c.clear.ensures.crash.clean, clean) in
+          undone_kept (λ db. ∥ KeepsArchive db c.args.self.now.config c.args.self.now.judged.items (shown_in c.args.self.now.config.suites (tables_in db)) c.args.self.now.dates.items ∥₁)
+          old new (c.in-Err.ensures.undone clean) (c.args.self.now.kept early) up;
+      under_way = λ clean up.
+          let early : HasCleanDisk old = omega (arith, c.clear.ensures.crash.clean, clean) in
+          ∥∥₁_map (undone_under old new c.args.self.now.begun (c.in-Err.ensures.undone clean) (c.args.self.now.under_way early) up)
+          (λ under. stopped (tables_in new.committed) c.args.self.now.begun c.stop.new.begun c.stop.ensures under);
+    }
+    )
+
+pub returns-in-Ok-clause-stays : goal.returns-in-Ok-clause-stays
+unfolding book_in
+returns-in-Ok-clause-stays g c =
+    let old = state g.S.Store c.args.self.now.conn in
+    let new = state g.S.Store c.clear.new.conn in (
+    record {
+      lasts = record {
+        clean = λ clean. let early : HasCleanDisk (state g.S.Store c.args.self.now.conn) = omega (arith, c.clear.ensures.crash.clean, clean) in early;
+        counts = c.clear.ensures.crash.counts;
+        was_open = λ clean up. (c.in-Ok.ensures.open clean).0;
+        stays = c.clear.ensures.crash.closes;
+        config = refl;
+      };
+      same = λ clean up.
+          let early : HasCleanDisk old = omega (arith, c.clear.ensures.crash.clean, clean) in
+          let was_open = (c.in-Ok.ensures.open clean).0 in
+          ∥∥₁_elim (c.args.self.now.kept early was_open) (book_set _ _) (λ was. ∥∥₁_elim (c.args.self.now.under_way early was_open) (book_set _ _) (λ under.
+          let k = came (tables_in old.committed) c.args.self.now.begun under in
+          done_book old.committed new.committed (c.in-Ok.ensures.done clean _ _ _ _ k.count k.bytes was (subst (λ o. Comes (tables_in old.committed) o k.count k.bytes) (sym c.number_of.ensures) k.comes)).0));
+      crash = λ clean left might.
+          let early : HasCleanDisk old = omega (arith, c.clear.ensures.crash.clean, clean) in
+          elim (c.clear.ensures.crash.crash clean might.0 might.1) [
+            | inl before ↦ inl (might.0, before, might.2)
+            | inr written ↦ inr (
+              written.2,
+              ∥∥₁_elim (c.args.self.now.kept early written.2) (left_set _ _) (λ was. ∥∥₁_elim (c.args.self.now.under_way early written.2) (left_set _ _) (λ under.
+                  let k = came (tables_in old.committed) c.args.self.now.begun under in
+                  turn_left old.committed written.0 might.0 written.1 left might.2 (written.3 _ _ _ _ k.count k.bytes was (subst (λ o. Comes (tables_in old.committed) o k.count k.bytes) (sym c.number_of.ensures) k.comes)))),
+            )
+          ];
+    }
+    )
+
+pub returns-in-Err-clause-stays : goal.returns-in-Err-clause-stays
+unfolding book_in
+returns-in-Err-clause-stays g c =
+    let old = state g.S.Store c.args.self.now.conn in
+    let new = state g.S.Store c.clear.new.conn in (
+    record {
+      lasts = record {
+        clean = λ clean. let early : HasCleanDisk (state g.S.Store c.args.self.now.conn) = omega (arith, c.clear.ensures.crash.clean, clean) in early;
+        counts = c.clear.ensures.crash.counts;
+        was_open = λ clean up. (c.in-Err.ensures.undone clean).was_open up;
+        stays = c.clear.ensures.crash.closes;
+        config = refl;
+      };
+      same = λ clean up. ap (λ db. book_of db c.args.self.now.config c.args.self.now.judged.items (shown_in c.args.self.now.config.suites (tables_in db)) c.args.self.now.dates.items) ((c.in-Err.ensures.undone clean).committed up);
+      crash = λ clean left might.
+          let early : HasCleanDisk old = omega (arith, c.clear.ensures.crash.clean, clean) in
+          elim (c.clear.ensures.crash.crash clean might.0 might.1) [
+            | inl before ↦ inl (might.0, before, might.2)
+            | inr written ↦ inr (
+              written.2,
+              ∥∥₁_elim (c.args.self.now.kept early written.2) (left_set _ _) (λ was. ∥∥₁_elim (c.args.self.now.under_way early written.2) (left_set _ _) (λ under.
+                  let k = came (tables_in old.committed) c.args.self.now.begun under in
+                  turn_left old.committed written.0 might.0 written.1 left might.2 (written.3 _ _ _ _ k.count k.bytes was (subst (λ o. Comes (tables_in old.committed) o k.count k.bytes) (sym c.number_of.ensures) k.comes)))),
+            )
+          ];
+    }
+    )
+
+pub returns-in-Ok-clause-served : goal.returns-in-Ok-clause-served
+returns-in-Ok-clause-served g c clean = (c.in-Ok.ensures.open clean).1
+
+pub returns-in-Ok-clause-begun : goal.returns-in-Ok-clause-begun
+returns-in-Ok-clause-begun g c clean = begun_coming (tables_in (state g.S.Store c.clear.new.conn).committed) c.begun.result c.begun.ensures.empty.0 c.begun.ensures.empty.2
+
+pub returns-in-Err-clause-refused : goal.returns-in-Err-clause-refused
+returns-in-Err-clause-refused g c = none_coming_of (tables_in (state g.S.Store c.clear.new.conn).committed) c.args.self.now.begun c.stop.new.begun c.stop.ensures

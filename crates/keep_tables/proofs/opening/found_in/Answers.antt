@@ -1,0 +1,35 @@
+use Rattle.std.proofs.Common.{rules, ◌≡◌, true, false, sym, ap, subst, ◌∙◌}
+use Rattle.tables_read.specs.All.{tables_with}
+use Rattle.kept.specs.Finished.{finished}
+use Rattle.kept.specs.Kept.{IsKept}
+use Rattle.keep_tables.specs.Finishing.{are_named, unfinished_ids}
+use Rattle.audit.specs.Whole.{KeepsSome}
+use Rattle.keep_tables.proofs.FinishLemmas.{constrained_whole, named_none, readable_whole}
+use Rattle.audit.proofs.WholeLemmas.{at_some}
+use Rattle.keep_tables.proofs.opening.found_in.Goals as goal
+
+pub returns-then-are_named-clause-none : goal.returns-then-are_named-clause-none
+returns-then-are_named-clause-none c keys up same readable config judged shown dates h =
+    let t = tables_with c.args.all in
+    let named : are_named t (unfinished_ids t.bodies) ≡ true = search rules in
+    named_none t up named config judged shown dates h
+
+pub returns-in_default-clause-none : goal.returns-in_default-clause-none
+returns-in_default-clause-none c keys up same readable config judged shown dates h =
+    let t = tables_with c.args.all in
+    let whole = tables_with c.finished_rows-whole.result in
+    let ids : c.in_ok-unfinished.unfinished.items ≡ unfinished_ids t.bodies = search rules in
+    let none : are_named t (unfinished_ids t.bodies) ≡ false = sym (c.are_named.ensures ∙ ap (are_named t) (c.deref-2.ensures.value ∙ ids)) ∙ c.if-are_named.false in
+    let is : whole ≡ finished t = c.finished_rows-whole.ensures in
+    c.in_ok-held.ensures.none (constrained_whole t whole is keys none) c.in_default.is (readable_whole t whole is readable) config judged shown dates
+    (subst (λ u. IsKept u config judged shown dates) (sym is) h)
+
+pub returns-clause-some : goal.returns-clause-some
+returns-clause-some c keys =
+    let t = tables_with c.args.all in
+    let whole = tables_with c.finished_rows-whole.result in
+    let ids : c.in_ok-unfinished.unfinished.items ≡ unfinished_ids t.bodies = search rules in
+    let none : are_named t (unfinished_ids t.bodies) ≡ false = sym (c.are_named.ensures ∙ ap (are_named t) (c.deref-2.ensures.value ∙ ids)) ∙ c.if-are_named.false in
+    let is : whole ≡ finished t = c.finished_rows-whole.ensures in
+    let some = at_some _ _ c.in-Some.held c.in-Some.is (c.in_ok-held.ensures.some (constrained_whole t whole is keys none)) in
+    (subst (λ u. KeepsSome u c.in-Some.held.config c.in-Some.held.judged.items c.in-Some.held.dates.items) is some, ids)

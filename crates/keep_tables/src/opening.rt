@@ -1,0 +1,166 @@
+//! Opens an archive that a database keeps.
+
+ghost use Rattle.std.specs.Prelude.{◌≡◌, ◌≢◌, ◌⊎◌, [], None, true, false, IsTrue, IfOk, IfErr, IsErrAnd, IfSome, OnErr};
+ghost use Rattle.sqlite.specs.State.{HasCleanDisk, IsUnchanged, Survives};
+ghost use Rattle.sqlite.specs.Held.{state};
+ghost use Rattle.keep.specs.declared.fault.KeepFault.TheVariants.{OutOfMemory, Tables as NoArchive};
+ghost use Rattle.tables.specs.Causes.{IsCaused, MayFail};
+ghost use Rattle.tables.specs.Rows.{Fails, Rises, Stands, tables_in};
+ghost use Rattle.tables.specs.Schema.{archive_schema};
+ghost use Rattle.tables_read.specs.All.{AreConstrained, tables_with};
+ghost use Rattle.kept.specs.Kept.{AreReadable};
+ghost use Rattle.kept.specs.Archives.{KeepsArchive, KeepsFinished};
+ghost use Rattle.kept.specs.Coming.{HasComing};
+ghost use Rattle.kept.specs.Finished.{finished};
+ghost use Rattle.kept.specs.Shown.{shown_in};
+ghost use Rattle.kept.specs.Transactions.{IsUndone, MayCommit};
+ghost use Rattle.keep_tables.specs.Keepers.{config_in_use, table_book};
+ghost use Rattle.keep_tables.specs.Finishing.{unfinished_ids};
+ghost use Rattle.audit.specs.Whole.{KeepsNone, KeepsSome};
+ghost use Rattle.keep_tables.specs.Opened.{HasUnfinished, IsArchiveOf, IsFinished, IsFound, IsNoArchive};
+
+use crate::keeper::TableKeeper;
+use crate::unfinished::{are_named, finished_rows, unfinished_among};
+use audit::{Held, archive_in};
+use bodies::remove_all;
+use keep::KeepFault;
+use keep_rows::{fault_of, is_archive_schema};
+use sqlite::{Alter, Connection, Error};
+use std::alloc::{AllocError, Global};
+use tables_read::{AllRows, read_all};
+
+/// An archive that was found: what a keeper holds of it, and the numbers of the bodies that are not whole.
+#[derive(Drop)]
+struct Found {
+    held: Held,
+    unfinished: Vec<u64>,
+}
+
+/// The archive with these rows, once the bodies that are not whole are away, where they are those of one.
+fn found_in(alloc: Global, all: AllRows) -> Result<Option<Found>, AllocError>
+    ensures some { AreConstrained (tables_with all) → IfOk result (λ o. IfSome o (λ found. KeepsSome (finished (tables_with all)) found.held.config found.held.judged.items found.held.dates.items
+        × (found.unfinished.items ≡ unfinished_ids (tables_with all).bodies))) }
+    ensures none { AreConstrained (tables_with all) → Rises (tables_with all).bodies → IfOk result (λ o. o ≡ None → AreReadable (tables_with all) → KeepsNone (finished (tables_with all))) }
+{
+    let unfinished = unfinished_among(alloc, &all.bodies)?;
+    if are_named(&all, &unfinished) {
+        return Ok(None);
+    }
+    let whole = finished_rows(all, &unfinished);
+    let Some(held) = archive_in(alloc, &whole)? else {
+        return Ok(None);
+    };
+    Ok(Some(Found { held, unfinished }))
+}
+
+/// The same of the rows of a database that has the tables of an archive.
+fn archive_of<S: Alter>(alloc: Global, conn: &mut Connection<S>) -> Result<Option<Found>, Error>
+    requires archive { (state S.Store conn.old).now.schema ≡ archive_schema }
+    ensures idle { conn.old.in_transaction ≡ false → conn.new.in_transaction ≡ false }
+    ensures some { HasCleanDisk (state S.Store conn.new) → IfOk result (λ o. IfSome o (λ found. IsUnchanged (state S.Store conn.old) (state S.Store conn.new)
+        × IsArchiveOf (state S.Store conn.old).now found.held.config found.held.judged.items found.held.dates.items
+        × (found.unfinished.items ≡ unfinished_ids (tables_in (state S.Store conn.old).now).bodies))) }
+    ensures none { HasCleanDisk (state S.Store conn.new) → IfOk result (λ o. o ≡ None → Stands (state S.Store conn.old) (state S.Store conn.new)
+        × IsNoArchive (state S.Store conn.old).now) }
+    ensures err { HasCleanDisk (state S.Store conn.new) → OnErr result (Fails (state S.Store conn.old) (state S.Store conn.new)) }
+    ensures cause { HasCleanDisk (state S.Store conn.new) → IfErr result (IsCaused (state S.Store conn.old) (state S.Store conn.new)) }
+    ensures survives { Survives (state S.Store conn.old) (state S.Store conn.new) (λ _. ⊥) }
+{
+    // For the prover alone: what the keys of the tables keep true holds of each open connection.
+    let _ = conn.schema();
+    let Some(all) = read_all(alloc, conn)? else {
+        return Ok(None);
+    };
+    Ok(found_in(alloc, all)?)
+}
+
+/// The same of a database.
+fn find_archive<S: Alter>(alloc: Global, conn: &mut Connection<S>) -> Result<Option<Found>, Error>
+    ensures idle { conn.old.in_transaction ≡ false → conn.new.in_transaction ≡ false }
+    ensures some { HasCleanDisk (state S.Store conn.new) → IfOk result (λ o. IfSome o (λ found. IsUnchanged (state S.Store conn.old) (state S.Store conn.new)
+        × IsArchiveOf (state S.Store conn.old).now found.held.config found.held.judged.items found.held.dates.items
+        × (found.unfinished.items ≡ unfinished_ids (tables_in (state S.Store conn.old).now).bodies))) }
+    ensures none { HasCleanDisk (state S.Store conn.new) → IfOk result (λ o. o ≡ None → Stands (state S.Store conn.old) (state S.Store conn.new)
+        × IsNoArchive (state S.Store conn.old).now) }
+    ensures err { HasCleanDisk (state S.Store conn.new) → OnErr result (Fails (state S.Store conn.old) (state S.Store conn.new)) }
+    ensures cause { HasCleanDisk (state S.Store conn.new) → IfErr result (IsCaused (state S.Store conn.old) (state S.Store conn.new)) }
+    ensures survives { Survives (state S.Store conn.old) (state S.Store conn.new) (λ _. ⊥) }
+{
+    if !is_archive_schema(alloc, conn)? {
+        return Ok(None);
+    }
+    archive_of(alloc, conn)
+}
+
+/// The keeper over the tables of an archive whose bodies are whole.
+fn keeper_over<S: Alter + Drop>(connection: Connection<S>, held: Held) -> TableKeeper<S>
+    requires idle { connection.in_transaction ≡ false }
+    requires kept { HasCleanDisk (state S.Store connection) → IsTrue (state S.Store connection).is_open
+        → ∥ KeepsArchive (state S.Store connection).committed held.config held.judged.items (shown_in held.config.suites (tables_in (state S.Store connection).committed)) held.dates.items ∥₁ }
+    requires whole { HasCleanDisk (state S.Store connection) → IsTrue (state S.Store connection).is_open → HasComing (tables_in (state S.Store connection).committed) [] }
+    ensures conn { result.conn ≡ connection }
+    ensures held { (result.config ≡ held.config) × (result.judged ≡ held.judged) × (result.dates ≡ held.dates) }
+{
+    let Held {
+        config,
+        judged,
+        dates,
+    } = held;
+    TableKeeper::over(connection, config, judged, dates)
+}
+
+/// The keeper of an archive that was found, once the bodies that are not whole are away.
+fn keeper_of<S: Alter + Drop>(
+    mut connection: Connection<S>,
+    found: Found,
+) -> Result<TableKeeper<S>, (Connection<S>, KeepFault)>
+    requires idle { connection.in_transaction ≡ false }
+    requires found { HasCleanDisk (state S.Store connection) → IsFound (state S.Store connection) found.held.config found.held.judged.items found.held.dates.items found.unfinished.items }
+    ensures opened { IfOk result (λ keeper. HasCleanDisk (state S.Store keeper.conn) → IsFinished (state S.Store connection) (state S.Store keeper.conn)
+        × KeepsFinished (state S.Store connection).committed (config_in_use keeper) (table_book keeper)) }
+    ensures fault { IfErr result (λ e. e.1 ≢ NoArchive) }
+    ensures told { IfErr result (λ e. HasCleanDisk (state S.Store e.0) → HasUnfinished (state S.Store connection).now) }
+    ensures undone { IfErr result (λ e. HasCleanDisk (state S.Store e.0) → IsUndone (state S.Store connection) (state S.Store e.0)) }
+    ensures crash { IfOk result (λ keeper. Survives (state S.Store connection) (state S.Store keeper.conn) (MayCommit (state S.Store connection) finished)) }
+    ensures crash_undone { IfErr result (λ e. Survives (state S.Store connection) (state S.Store e.0) (MayCommit (state S.Store connection) finished)) }
+{
+    let Found { held, unfinished } = found;
+    if unfinished.is_empty() {
+        return Ok(keeper_over(connection, held));
+    }
+    match remove_all(&mut connection, &unfinished) {
+        Ok(()) => Ok(keeper_over(connection, held)),
+        Err(failure) => Err((connection, fault_of(failure))),
+    }
+}
+
+impl<S: Alter + Drop> TableKeeper<S> {
+    /// The keeper over the tables of a database that keeps an archive, without the bodies that are not whole: an opening
+    /// takes these away, with their pieces. A fault gives the connection back, and what was committed is as before. The
+    /// fault is `KeepFault::Tables` only where a transaction is begun or the database keeps no archive; another comes only
+    /// where memory is wanting, the store fails meanwhile, the connection was shut or may take only so many steps, or some
+    /// body is not whole. A crash leaves what was there, or that without these bodies.
+    pub fn open(
+        alloc: Global,
+        mut connection: Connection<S>,
+    ) -> Result<TableKeeper<S>, (Connection<S>, KeepFault)>
+        ensures opened { IfOk result (λ keeper. HasCleanDisk (state S.Store keeper.conn) → IsFinished (state S.Store connection) (state S.Store keeper.conn)
+            × KeepsFinished (state S.Store connection).committed (config_in_use keeper) (table_book keeper)) }
+        ensures refused { IfErr result (λ e. e.1 ≡ NoArchive → HasCleanDisk (state S.Store e.0) → (connection.in_transaction ≡ true) ⊎ IsNoArchive (state S.Store connection).now) }
+        ensures told { IfErr result (λ e. HasCleanDisk (state S.Store e.0) → (e.1 ≡ NoArchive) ⊎ ((e.1 ≡ OutOfMemory) ⊎ (MayFail (state S.Store connection) (state S.Store e.0) ⊎ HasUnfinished (state S.Store connection).now))) }
+        ensures busy { connection.in_transaction ≡ true → IsErrAnd result (λ e. (e.1 ≡ NoArchive) × (e.0 ≡ connection)) }
+        ensures undone { IfErr result (λ e. HasCleanDisk (state S.Store e.0) → IsUndone (state S.Store connection) (state S.Store e.0)) }
+        ensures crash { IfOk result (λ keeper. Survives (state S.Store connection) (state S.Store keeper.conn) (MayCommit (state S.Store connection) finished)) }
+        ensures crash_refused { IfErr result (λ e. e.1 ≡ NoArchive → Survives (state S.Store connection) (state S.Store e.0) (λ _. ⊥)) }
+        ensures crash_undone { IfErr result (λ e. Survives (state S.Store connection) (state S.Store e.0) (MayCommit (state S.Store connection) finished)) }
+    {
+        if !connection.is_autocommit() {
+            return Err((connection, KeepFault::Tables));
+        }
+        match find_archive(alloc, &mut connection) {
+            Ok(Some(found)) => keeper_of(connection, found),
+            Ok(None) => Err((connection, KeepFault::Tables)),
+            Err(error) => Err((connection, fault_of(error))),
+        }
+    }
+}

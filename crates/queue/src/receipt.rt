@@ -1,0 +1,110 @@
+//! Deliveries whose body a reader gives.
+
+ghost use Rattle.std.specs.Prelude.{◌≡◌, ◌≤◌, true, OnErr};
+ghost use Rattle.keep.specs.Book.{is_changes_name as is_changes_name_of};
+ghost use Rattle.queue.specs.Commands.{is_new, stored};
+ghost use Rattle.queue.specs.Deliveries.{most_bytes};
+ghost use Rattle.queue.specs.Receiving.{IsReceived, LeavesReceived};
+ghost use Rattle.queue.specs.Steps.{IsServed, IsUndone, Lasts};
+ghost use Rattle.sums.specs.Lines.{is_file_name as is_file_name_of};
+
+use crate::archive::Archive;
+use crate::command::Arrived;
+use crate::delivery::is_changes_name;
+use crate::fault::Fault;
+use crate::reading::{collect, skip};
+use crate::storing::store;
+use keep::{Keeper, LATEST};
+use para::ParaFault;
+use records::RecordFault;
+use std::alloc::Global;
+use std::io::Read;
+use sums::is_file_name;
+
+/// The most bytes of a delivered body.
+const MOST_BYTES: u64 = 4_194_304;
+
+/// The most bytes of a body that is a .changes.
+const MOST_OF_RECORD: usize = 1_048_576;
+
+/// What is answered to a delivery that is new, or that was there.
+fn arrived(fresh: bool) -> Arrived
+    ensures { is_new result ≡ fresh }
+{
+    if fresh { Arrived::New } else { Arrived::Again }
+}
+
+impl<K: Keeper> Archive<K> {
+    /// Takes a delivery whose body of `size` bytes a reader gives, at a moment, in seconds since 1970-01-01 00:00:00 UTC,
+    /// and says whether that name and body are new. The body is read and stored in pieces of at most 65536 bytes; that of
+    /// a .changes is read whole and as a record before it is stored. A body that is refused is read to its end, but for
+    /// one of more than 4194304 bytes, of which nothing is read, and for a fault of memory or of the keeper, which ends the
+    /// reading. An input that ends early and a reader that fails are told before any other refusal of what is read.
+    pub fn receive<R: Read>(
+        &mut self,
+        alloc: Global,
+        name: &str,
+        size: u64,
+        reader: &mut R,
+        moment: u64,
+    ) -> Result<Arrived, Fault>
+        ensures lasts { Lasts K.Keeper self.old.keeper self.new.keeper }
+        // Behind a success the keeper is open.
+        ensures served { IsServed K.Keeper self.new.keeper (stored result) }
+        // What the reader gave, and what came of it.
+        ensures received { IsReceived K.Keeper (R.remaining reader.old) (R.remaining reader.new) name.now size moment self.old.keeper self.new.keeper result }
+        // A refusal leaves the book as it was, whatever the history.
+        ensures err { OnErr result (IsUndone K.Keeper self.old.keeper self.new.keeper) }
+        // A crash leaves what it would have left before, what the history left, or that with the body that the reader gave.
+        ensures crash { LeavesReceived K.Keeper (R.remaining reader.old) (R.remaining reader.new) name.now size moment self.old.keeper self.new.keeper }
+    {
+        if size > MOST_BYTES {
+            if is_file_name(name) {
+                return Err(Fault::TooLarge);
+            }
+            return Err(Fault::BadName);
+        }
+        let whole = size as usize;
+        if !is_file_name(name) {
+            skip(reader, whole)?;
+            return Err(Fault::BadName);
+        }
+        if is_changes_name(name) {
+            return self.receive_record(alloc, name, whole, reader, moment);
+        }
+        if moment > LATEST {
+            skip(reader, whole)?;
+            return Err(Fault::Moment);
+        }
+        match store(alloc, &mut self.keeper, name, whole, reader, moment) {
+            Ok(fresh) => Ok(arrived(fresh)),
+            Err(fault) => Err(fault),
+        }
+    }
+
+    /// Takes a delivery under the name of a .changes: its body is collected, and read as a record before it is stored.
+    fn receive_record<R: Read>(
+        &mut self,
+        alloc: Global,
+        name: &str,
+        whole: usize,
+        reader: &mut R,
+        moment: u64,
+    ) -> Result<Arrived, Fault>
+        requires named { is_file_name_of name.now ≡ true }
+        requires a_record { is_changes_name_of name.now ≡ true }
+        requires small { whole ≤ most_bytes }
+        ensures lasts { Lasts K.Keeper self.old.keeper self.new.keeper }
+        ensures served { IsServed K.Keeper self.new.keeper (stored result) }
+        ensures received { IsReceived K.Keeper (R.remaining reader.old) (R.remaining reader.new) name.now whole moment self.old.keeper self.new.keeper result }
+        ensures err { OnErr result (IsUndone K.Keeper self.old.keeper self.new.keeper) }
+        ensures crash { LeavesReceived K.Keeper (R.remaining reader.old) (R.remaining reader.new) name.now whole moment self.old.keeper self.new.keeper }
+    {
+        if whole > MOST_OF_RECORD {
+            skip(reader, whole)?;
+            return Err(Fault::Record(RecordFault::Paragraph(ParaFault::TooLong)));
+        }
+        let body = collect(alloc, reader, whole)?;
+        self.deliver(alloc, name, body.as_slice(), moment)
+    }
+}

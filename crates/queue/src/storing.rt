@@ -1,0 +1,96 @@
+//! A body that is read and stored piece by piece.
+
+ghost use Rattle.std.specs.Prelude.{◌≡◌, ◌≤◌, ◌++◌, ◌⊎◌, [], List, ℕ, Option, Some, min, length, IfOk, IfErr, OnOk, OnErr};
+ghost use Rattle.std.specs.Io.KnownBytes.{Consumes};
+ghost use Rattle.std.specs.Option.{option_map};
+ghost use Rattle.keep.specs.Book.{Book, latest};
+ghost use Rattle.keep.specs.Keeping.{Lasts, Stays};
+ghost use Rattle.queue.specs.Receiving.{Gave, HasArrived, HasRead, IsLeft, MayBeKept, MayTake};
+
+use crate::fault::Fault;
+use crate::reading::fill;
+use keep::{Keeper, PIECE_SIZE};
+use std::alloc::Global;
+use std::io::Read;
+
+/// Reads the next piece into a buffer of its length, and stores it. Where it does not come none is coming then.
+pub fn store_piece<K: Keeper, R: Read>(
+    alloc: Global,
+    keeper: &mut K,
+    reader: &mut R,
+    buffer: &mut [u8],
+) -> Result<(), Fault>
+    requires begun { K.is_clean keeper.old → K.is_open keeper.old → MayTake (K.coming keeper.old) (length buffer.old) }
+    ensures stays { Stays K.is_clean K.is_open K.faults K.book K.may_leave keeper.old keeper.new }
+    ensures same { length buffer.new ≡ length buffer.old }
+    ensures served { K.is_clean keeper.new → OnOk result (K.is_open keeper.new) }
+    ensures read { OnOk result (Consumes (R.remaining reader.old) (R.remaining reader.new) buffer.new) }
+    ensures taken { K.is_clean keeper.new → OnOk result (K.coming keeper.new ≡ option_map (λ body. body ++ buffer.new) (K.coming keeper.old)) }
+    ensures refused { IfErr result (HasRead K.may_fail (R.remaining reader.old) (R.remaining reader.new) (length buffer.old)) }
+{
+    match fill(reader, buffer) {
+        Err(_) => {
+            let _ = keeper.abandon();
+            Err(Fault::ReaderFailed)
+        }
+        Ok(count) => {
+            if count < buffer.len() {
+                let _ = keeper.abandon();
+                return Err(Fault::Ended);
+            }
+            keeper.piece(alloc, buffer)?;
+            Ok(())
+        }
+    }
+}
+
+/// Reads a body of this size and stores its pieces, each before the next is read.
+pub fn store_pieces<K: Keeper, R: Read>(
+    alloc: Global,
+    keeper: &mut K,
+    reader: &mut R,
+    whole: usize,
+    buffer: &mut [u8],
+) -> Result<(), Fault>
+    requires begun { K.is_clean keeper.old → K.coming keeper.old ≡ Some [] }
+    requires room { length buffer.old ≡ min whole 65536 }
+    ensures stays { Stays K.is_clean K.is_open K.faults K.book K.may_leave keeper.old keeper.new }
+    ensures served { K.is_clean keeper.new → K.is_open keeper.old → OnOk result (K.is_open keeper.new) }
+    ensures taken { OnOk result ((body : List ℕ) × Gave (R.remaining reader.old) (R.remaining reader.new) whole body × (K.is_clean keeper.new → K.coming keeper.new ≡ Some body)) }
+    ensures refused { IfErr result (HasRead K.may_fail (R.remaining reader.old) (R.remaining reader.new) whole) }
+{
+    let mut left = whole;
+    while left > 0 {
+        let size = left.min(PIECE_SIZE);
+        store_piece(alloc, keeper, reader, &mut buffer[..size])?;
+        left -= size;
+    }
+    Ok(())
+}
+
+/// Reads a body of this size and stores it under a file name, each piece before the next is read.
+pub fn store<K: Keeper, R: Read>(
+    alloc: Global,
+    keeper: &mut K,
+    name: &str,
+    whole: usize,
+    reader: &mut R,
+    moment: u64,
+) -> Result<bool, Fault>
+    requires in_time { moment ≤ latest }
+    requires may_be_kept { MayBeKept name.now whole }
+    ensures lasts { Lasts K.is_clean K.is_open K.faults K.book keeper.old keeper.new }
+    ensures served { K.is_clean keeper.new → OnOk result (K.is_open keeper.new) }
+    ensures stored { IfOk result (HasArrived (R.remaining reader.old) (R.remaining reader.new) whole (K.is_clean keeper.new) (K.book keeper.old) (K.book keeper.new) name.now moment) }
+    ensures refused { IfErr result (HasRead K.may_fail (R.remaining reader.old) (R.remaining reader.new) whole) }
+    ensures same { K.is_clean keeper.new → K.is_open keeper.new → OnErr result (K.book keeper.new ≡ K.book keeper.old) }
+    ensures crash { K.is_clean keeper.new → (left : Option Book) → K.may_leave keeper.new left → K.may_leave keeper.old left
+        ⊎ (K.is_open keeper.old × ((left ≡ Some (K.book keeper.old)) ⊎ IsLeft (R.remaining reader.old) (R.remaining reader.new) whole (K.book keeper.old) left name.now moment)) }
+{
+    let Ok(mut buffer) = vec![in alloc; 0u8; whole.min(PIECE_SIZE)] else {
+        return Err(Fault::OutOfMemory);
+    };
+    keeper.begin(alloc)?;
+    store_pieces(alloc, keeper, reader, whole, buffer.as_mut_slice())?;
+    Ok(keeper.finish(alloc, name, moment)?)
+}

@@ -1,0 +1,55 @@
+//! Deliveries whose body a reader gives.
+
+use crate::outcomes::arrived_text;
+use crate::readers::Pieces;
+use keep::Keeper;
+use queue::Archive;
+use rows::{Unread, number_of, text_of};
+use std::alloc::Global;
+
+/// The most bytes a read.
+const MOST: u64 = 8_388_608;
+
+/// What a delivery is answered whose body comes at most so many bytes a read, and how many bytes are left unread. Behind them
+/// the reader ends, or fails.
+fn received<K: Keeper>(
+    alloc: Global,
+    archive: &mut Archive<K>,
+    words: &[Vec<u8>],
+    fails: bool,
+) -> Result<Vec<u8>, Unread> {
+    let [most, moment, name, size, bytes] = words else {
+        return Err(Unread::BadWords);
+    };
+    let (name, size, moment) = (text_of(name)?, number_of(size)?, number_of(moment)?);
+    let mut reader = Pieces {
+        bytes: bytes.as_slice(),
+        most: number_of(most)?.min(MOST) as usize,
+        fails,
+    };
+    let mut text = arrived_text(
+        alloc,
+        archive.receive(alloc, name, size, &mut reader, moment),
+    )?;
+    let left = reader.bytes.len();
+    text.extend_from_slice(format!(in alloc; " {left}")?.as_bytes())?;
+    Ok(text)
+}
+
+/// `receive MOST MOMENT NAME SIZE BYTES`: `new`, `again`, or the fault, and how many bytes are left unread.
+pub fn receive<K: Keeper>(
+    alloc: Global,
+    archive: &mut Archive<K>,
+    words: &[Vec<u8>],
+) -> Result<Vec<u8>, Unread> {
+    received(alloc, archive, words, false)
+}
+
+/// `receive-fails MOST MOMENT NAME SIZE BYTES`: the same of a reader that fails behind these bytes.
+pub fn receive_fails<K: Keeper>(
+    alloc: Global,
+    archive: &mut Archive<K>,
+    words: &[Vec<u8>],
+) -> Result<Vec<u8>, Unread> {
+    received(alloc, archive, words, true)
+}
