@@ -7,6 +7,7 @@ import os
 import re
 import resource
 import shutil
+import sqlite3
 import subprocess
 import sys
 import tempfile
@@ -52,12 +53,16 @@ def mounted(size):
         shutil.rmtree(folder, ignore_errors=True)
 
 
+def name_of(kind, number):
+    return f"{kind}{number}_1.0-1_amd64.deb"
+
+
 def large(number):
-    return put_of(f"large{number}_1.0-1_amd64.deb", bytes([number]) * 2_000_000)
+    return put_of(name_of("large", number), bytes([number]) * 2_000_000)
 
 
 def small(number):
-    return put_of(f"small{number}_1.0-1_amd64.deb", b"%d" % number)
+    return put_of(name_of("small", number), b"%d" % number)
 
 
 def let_files_grow(process, most=None):
@@ -86,8 +91,10 @@ class FullFile(Lines):
 
 @unittest.skipUnless(os.geteuid() == 0 and shutil.which("mount"), "only root can mount a file system that fills")
 class FullDisk(Lines):
+    """What came of a file that did not fit stays until the next body begins, for which there may be no room either."""
+
     def test_what_is_answered_over_a_full_disk(self):
-        with mounted(8_000_000) as folder:
+        with mounted(12_000_000) as folder:
             if not folder:
                 self.skipTest("no file system can be mounted here")
             db = self.made()
@@ -95,21 +102,36 @@ class FullDisk(Lines):
             self.fill(folder, f"{folder}/box.db")
 
     def fill(self, folder, db):
-        with Serving(db, 12) as serving:
+        with Serving(db, 16) as serving:
             self.assertEqual(serving.answer(small(0)), NEW)
             with open(f"{folder}/filler", "wb") as it:
-                it.write(b"." * 6_500_000)
-            for number in (1, 2):
-                self.assertEqual(serving.answer(large(number)), FULL)
-                self.assertEqual(serving.answer(get("verdicts")), NOTHING)
-                self.assertEqual(serving.answer(small(number)), NEW)
-                self.assertEqual(serving.answer(small(0)), AGAIN)
+                it.write(b"." * 10_500_000)
+            there = {0} | {number for number in (1, 2) if self.fits(serving, number)}
             os.unlink(f"{folder}/filler")
-            self.assertEqual(serving.answer(large(1)), NEW)
-            self.assertEqual(serving.answer(large(1)), AGAIN)
-            self.assertEqual(serving.answer(small(3)), NEW)
+            for number in range(4):
+                self.assertEqual(serving.answer(small(number)), AGAIN if number in there else NEW)
+            for number, reply in ((1, NEW), (1, AGAIN), (2, NEW)):
+                self.assertEqual(serving.answer(large(number)), reply)
             self.assertEqual(serving.ended(), (0, "", ""))
         self.assertEqual(self.line(0, "verdicts", db), "")
+        self.expect_arrivals(db, [name_of("large", number) for number in (1, 2)] + [name_of("small", number) for number in range(4)])
+
+    def fits(self, serving, number):
+        """Delivers a large file that does not fit, and small ones behind it. Says whether the new one of these is there."""
+        self.assertEqual(serving.answer(large(number)), FULL)
+        self.assertEqual(serving.answer(get("verdicts")), NOTHING)
+        reply = serving.answer(small(number))
+        self.assertIn(reply, (NEW, FULL))
+        self.assertIn(serving.answer(small(0)), (AGAIN, FULL))
+        return reply == NEW
+
+    def expect_arrivals(self, db, names):
+        """Checks by SQLite itself that these files have arrived, each once, and that each body is whole."""
+        if sqlite3.sqlite_version_info < (3, 37):
+            return  # it has no STRICT tables
+        with contextlib.closing(sqlite3.connect(db)) as held:
+            self.assertEqual([name for (name,) in held.execute("SELECT name FROM arrivals ORDER BY name")], names)
+            self.assertEqual(held.execute("SELECT count(*), count(size) FROM bodies").fetchone(), (len(names), len(names)))
 
 
 def under(trace, names, *more):
