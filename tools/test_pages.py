@@ -111,7 +111,14 @@ class Pages(unittest.TestCase):
         self.assertIn(f"{path}: there is no crate nothing", self.other(pages.check_crates, path, more))
 
     def test_a_diary_is_refused(self):
-        for words in ("The state before this one was well.", "No fault was seen.", "On 2026-01-02 it was so.", "It has 261 wrong bodies.", "It takes GATE_MINUTES."):
+        for words in (
+            "The state before this one was well.",
+            "No fault was seen.",
+            "On 2026-01-02 it was so.",
+            "It has 261 wrong bodies.",
+            "It takes GATE_MINUTES.",
+            "It takes SMALL_KIB.",
+        ):
             self.assertEqual(len(self.other(pages.check_diary, "docs/OPEN.md", words)), 1, words)
 
     def test_a_comment_is_refused(self):
