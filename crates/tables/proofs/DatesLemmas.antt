@@ -1,27 +1,23 @@
 -- What the statements on dates do.
-use Rattle.std.proofs.Common.{◌≡◌, ℕ, pos, [], ◌∷◌, Ok, Err, Result, OnOk, refl, true, false, List, map, filter, find, slice_get, drop, Option, ap, ◌∙◌}
+use Rattle.std.proofs.Common.{◌≡◌, ℕ, pos, [], ◌∷◌, Ok, Err, Result, OnOk, refl, false, List, drop, ◌∙◌}
 use Rattle.sqlite.specs.Table.{Table}
 use Rattle.sqlite.specs.Order.{Row}
 use Rattle.sqlite.specs.declared.types.Value.TheVariants.{Null, Text}
 use Rattle.sqlite.specs.Cast.{cast_row}
 use Rattle.sqlite.specs.declared.error.Error.{Error}
-use Rattle.sqlite.specs.State.{State, ExecutesInside, Shown, IsUnchanged}
+use Rattle.sqlite.specs.State.{State, ExecutesInside}
 use Rattle.tables.specs.Schema.{archive_schema, dates}
-use Rattle.tables.specs.Rows.{whole, Tables, Holds, Changes, with_date, date_cells, date_of, stored, rows_of}
+use Rattle.tables.specs.Rows.{whole, Changes, with_date, date_cells, stored}
 use Rattle.tables.specs.Dates.{has_suite, with_new_date}
-use Rattle.tables.specs.Reading.{IsRead, IsReadFirst}
-use Rattle.sqlite_keyed.proofs.ListLemmas.{map-map}
 use Rattle.tables.specs.declared.rows.Date.{Date}
-use Rattle.tables.specs.declared.dates.TheConstants.{INSERT_DATE, UPDATE_DATE, SELECT_DATES, SELECT_DATE}
+use Rattle.tables.specs.declared.dates.TheConstants.{INSERT_DATE, UPDATE_DATE}
 use Rattle.tables.proofs.CastLemmas.{cast_null, cast_int}
-use Rattle.tables.proofs.DatesMeaning.{insert_date_terms, insert_date_is, insert_date_plain, update_date_columns, update_date_is, update_date_plain, date_columns, select_dates_is, select_dates_plain, suite_is, select_date_is, select_date_plain}
+use Rattle.tables.proofs.DatesMeaning.{insert_date_terms, insert_date_is, insert_date_plain, update_date_columns, update_date_is, update_date_plain, suite_is}
 use Rattle.tables.proofs.InsertLemmas.{puts}
 use Rattle.tables.proofs.AddLemmas.{adds_row}
 use Rattle.tables.proofs.HoldsLemmas.{with_dates}
-use Rattle.tables.proofs.SelectLemmas.{reads_rows, first_read}
 use Rattle.tables.proofs.UpdateLemmas.{updates, updates_rows}
 use Rattle.sqlite_typed.proofs.TestLemmas.{last_term, at_texts}
-use Rattle.sqlite_typed.proofs.AnswerLemmas.{unfiltered}
 use Rattle.std.proofs.lemmas.Map.Text.{is_eq-slice_cmp}
 use Rattle.sqlite_sql.specs.declared.ops.CompareOp.TheVariants.{Eq}
 
@@ -43,27 +39,6 @@ changes_insert_date old new x (Ok count) h = record {
   shown = h.1;
 }
 changes_insert_date old new x (Err e) h = tt
-
-pub dates_read : (old new : State) (t : Tables) (rows : List Row) → Holds old.now t → Shown SELECT_DATES.now [] old new rows → rows ≡ map (stored date_cells) t.dates
-dates_read old new t rows was h =
-    reads_rows date_cells 21 [] date_columns [] (λ _. true) (stored date_cells) (λ _. refl) (λ _. refl) SELECT_DATES.now _ (λ _. refl) old new rows t.dates
-    select_dates_is.0 select_dates_plain select_dates_is.1 was.schema was.rows.dates h
-    ∙ ap (map (stored date_cells)) (unfiltered t.dates refl)
-
-pub date_read : (old new : State) (t : Tables) (suite : List ℕ) (rows : List Row) → Holds old.now t → Shown SELECT_DATE.now (Text suite ∷ []) old new rows
-    → rows ≡ map (stored date_cells) (filter (λ x. has_suite suite x.1) t.dates)
-date_read old new t suite rows was h =
-    reads_rows date_cells 21 suite_is date_columns (Text suite ∷ []) (λ x. has_suite suite x.1) (stored date_cells)
-    (λ x. last_term (at_texts false Eq x.1.suite suite ∙ is_eq-slice_cmp x.1.suite suite)) (λ _. refl)
-    SELECT_DATE.now _ (λ _. refl) old new rows t.dates select_date_is.0 select_date_plain select_date_is.1 was.schema was.rows.dates h
-
-pub dates_answer : (old new : State) (t : Tables) (all : List Date) → Holds old.now t → IsRead date_of SELECT_DATES.now [] old new all → (all ≡ rows_of t.dates) × IsUnchanged old new
-dates_answer old new t all was h = (h.are ∙ ap (map date_of) (dates_read old new t h.rows was h.shown) ∙ map-map date_of (stored date_cells) t.dates, h.same)
-
-pub date_answer : (old new : State) (t : Tables) (suite : List ℕ) (found : Option Date) → Holds old.now t → IsReadFirst date_of SELECT_DATE.now (Text suite ∷ []) old new found
-    → (found ≡ find (has_suite suite) (rows_of t.dates)) × IsUnchanged old new
-date_answer old new t suite found was h =
-    (h.is ∙ ap (λ all. slice_get all 0) (h.read.are ∙ ap (map date_of) (date_read old new t suite h.read.rows was h.read.shown)) ∙ first_read date_cells date_of (λ _. refl) (has_suite suite) t.dates, h.read.same)
 
 -- the row that an update makes of a row
 abbrev updated : ℕ → ℕ × Date → Row

@@ -1,13 +1,12 @@
 -- What the statements on files do.
-use Rattle.std.proofs.Common.{◌≡◌, ℕ, pos, [], ◌∷◌, Ok, Err, Result, OnOk, refl, true, List, find, Option, ap, ◌∙◌}
+use Rattle.std.proofs.Common.{◌≡◌, ℕ, pos, [], ◌∷◌, Ok, Err, Result, OnOk, refl, List, find, Option, ap, ◌∙◌}
 use Rattle.sqlite.specs.Table.{Table}
 use Rattle.sqlite.specs.declared.types.Value.TheVariants.{Null, Text}
 use Rattle.sqlite.specs.Cast.{cast_row}
 use Rattle.sqlite.specs.declared.error.Error.{Error}
 use Rattle.sqlite.specs.State.{State, ExecutesInside, IsUnchanged}
 use Rattle.sqlite_typed.proofs.TestLemmas.{last_term}
-use Rattle.sqlite_typed.proofs.AnswerLemmas.{unfiltered}
-use Rattle.tables.specs.Reading.{IsRead, IsReadFirst}
+use Rattle.tables.specs.Reading.{IsReadFirst}
 use Rattle.tables.proofs.CastLemmas.{cast_null, cast_int}
 use Rattle.tables.proofs.EqualLemmas.{text_test}
 use Rattle.tables.proofs.InsertLemmas.{puts}
@@ -19,8 +18,8 @@ use Rattle.tables.specs.Schema.{archive_schema, files}
 use Rattle.tables.specs.Rows.{whole, Tables, Holds, Changes, with_file, file_cells, file_of, stored, rows_of}
 use Rattle.tables.specs.Files.{is_file_at, without_file}
 use Rattle.tables.specs.declared.rows.File.{File}
-use Rattle.tables.specs.declared.files.TheConstants.{INSERT_FILE, SELECT_FILES, SELECT_FILE, DELETE_FILE}
-use Rattle.tables.proofs.FilesMeaning.{insert_file_terms, insert_file_is, insert_file_plain, file_columns, file_path_is, select_files_is, select_files_plain, select_file_is, select_file_plain, delete_file_columns, delete_file_is, delete_file_plain}
+use Rattle.tables.specs.declared.files.TheConstants.{INSERT_FILE, SELECT_FILE, DELETE_FILE}
+use Rattle.tables.proofs.FilesMeaning.{insert_file_terms, insert_file_is, insert_file_plain, file_columns, file_path_is, select_file_is, select_file_plain, delete_file_columns, delete_file_is, delete_file_plain}
 use Rattle.tables.proofs.HoldsLemmas.{with_files}
 use Rattle.tables.proofs.UpdateLemmas.{deletes, deletes_rows}
 
@@ -40,15 +39,6 @@ inserts_file old new path body (Ok count) h = record {
   shown = h.1;
 }
 inserts_file old new path body (Err e) h = tt
-
-files_show : Shows file_cells 17 [] file_columns [] (λ _. true) (stored file_cells) SELECT_FILES.now
-files_show = record { names = _; is = select_files_is.0; plain = select_files_plain; unlisted = select_files_is.1; tests = λ _. refl; shows = λ _. refl; real = λ _. refl }
-
-pub files_answer : (old new : State) (t : Tables) (all : List File) → Holds old.now t → IsRead file_of SELECT_FILES.now [] old new all
-    → (all ≡ rows_of t.files) × IsUnchanged old new
-files_answer old new t all was h =
-    let done = reads_stored file_cells 17 [] file_columns [] SELECT_FILES.now old new t.files was.schema was.rows.files (λ _. true) file_of (λ _. refl) files_show all h in
-    (unfiltered (rows_of t.files) done.0, done.1)
 
 file_shows : (path : List ℕ) → Shows file_cells 17 file_path_is file_columns (Text path ∷ []) (λ x. is_file_at path x.1) (stored file_cells) SELECT_FILE.now
 file_shows path = record { names = _; is = select_file_is.0; plain = select_file_plain; unlisted = select_file_is.1; tests = λ x. last_term (text_test x.1.path path); shows = λ _. refl; real = λ _. refl }

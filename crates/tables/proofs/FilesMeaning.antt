@@ -11,7 +11,7 @@ use Rattle.sqlite.specs.Collation.TheVariants.{Binary}
 use Rattle.sqlite_sql.specs.Term.{op2}
 use Rattle.sqlite_sql.specs.declared.ops.BinaryOp.TheVariants.{Compare}
 use Rattle.sqlite_sql.specs.declared.ops.CompareOp.TheVariants.{Eq}
-use Rattle.tables.specs.declared.files.TheConstants.{INSERT_FILE, SELECT_FILES, SELECT_FILE, DELETE_FILE}
+use Rattle.tables.specs.declared.files.TheConstants.{INSERT_FILE, SELECT_FILE, DELETE_FILE}
 use Rattle.tables.specs.Schema.{archive_schema}
 use Rattle.tables.proofs.SelectLemmas.{rows_query}
 use Rattle.tables.proofs.UpdateLemmas.{edit_query}
@@ -35,14 +35,6 @@ insert_file_is = refl
 pub insert_file_plain : IsPlain (understood archive_schema INSERT_FILE.now)
 unfolding understood everything
 insert_file_plain = (refl, refl)
-
-pub select_files_is : (command_of (understood archive_schema SELECT_FILES.now) ≡ Select (record { lets = []; body = rows_query 17 [] file_columns }) (codes "rowid" ∷ codes "path" ∷ codes "body" ∷ [])) × (reads_listing archive_schema SELECT_FILES.now ≡ false)
-unfolding understood everything
-select_files_is = (refl, refl)
-
-pub select_files_plain : IsPlain (understood archive_schema SELECT_FILES.now)
-unfolding understood everything
-select_files_plain = (refl, refl)
 
 pub select_file_is : (command_of (understood archive_schema SELECT_FILE.now) ≡ Select (record { lets = []; body = rows_query 17 file_path_is file_columns }) (codes "rowid" ∷ codes "path" ∷ codes "body" ∷ [])) × (reads_listing archive_schema SELECT_FILE.now ≡ false)
 unfolding understood everything

@@ -1,15 +1,14 @@
 -- What the statements on the one row of `meta` mean under the schema.
-use Rattle.std.proofs.Common.{◌≡◌, refl, ◌∷◌, [], List, codes, false}
+use Rattle.std.proofs.Common.{◌≡◌, refl, ◌∷◌, [], List}
 use Rattle.sqlite_tied.specs.Compute.{everything}
 use Rattle.sqlite.specs.declared.types.Value.TheVariants.{Null}
-use Rattle.sqlite.specs.Command.TheVariants.{Insert, Select}
+use Rattle.sqlite.specs.Command.TheVariants.{Insert}
 use Rattle.sqlite.specs.Source.TheVariants.{Values}
 use Rattle.sqlite.specs.Term.{Term, lit, col}
-use Rattle.sqlite.specs.Listing.{understood, reads_listing}
+use Rattle.sqlite.specs.Listing.{understood}
 use Rattle.sqlite.proofs.Callers.{command_of, IsPlain}
-use Rattle.tables.specs.declared.meta.TheConstants.{INSERT_META, SELECT_META}
+use Rattle.tables.specs.declared.meta.TheConstants.{INSERT_META}
 use Rattle.tables.specs.Schema.{archive_schema}
-use Rattle.tables.proofs.SelectLemmas.{rows_query}
 
 abbrev pub insert_meta_terms : List Term
 insert_meta_terms = lit Null ∷ col 0 0 ∷ col 0 1 ∷ []
@@ -21,14 +20,3 @@ insert_meta_is = refl
 pub insert_meta_plain : IsPlain (understood archive_schema INSERT_META.now)
 unfolding understood everything
 insert_meta_plain = (refl, refl)
-
-abbrev pub meta_columns : List Term
-meta_columns = col 1 0 ∷ col 1 1 ∷ col 1 2 ∷ []
-
-pub select_meta_is : (command_of (understood archive_schema SELECT_META.now) ≡ Select (record { lets = []; body = rows_query 0 [] meta_columns }) (codes "rowid" ∷ codes "version" ∷ codes "configuration" ∷ [])) × (reads_listing archive_schema SELECT_META.now ≡ false)
-unfolding understood everything
-select_meta_is = (refl, refl)
-
-pub select_meta_plain : IsPlain (understood archive_schema SELECT_META.now)
-unfolding understood everything
-select_meta_plain = (refl, refl)

@@ -1,12 +1,11 @@
 -- What the statements on refs do.
-use Rattle.std.proofs.Common.{◌≡◌, ℕ, pos, [], ◌∷◌, Ok, Err, Result, OnOk, refl, true, List, filter}
+use Rattle.std.proofs.Common.{◌≡◌, ℕ, pos, [], ◌∷◌, Ok, Err, Result, OnOk, refl, List, filter}
 use Rattle.sqlite.specs.Table.{Table}
 use Rattle.sqlite.specs.declared.types.Value.TheVariants.{Null}
 use Rattle.sqlite.specs.Cast.{cast_row}
 use Rattle.sqlite.specs.declared.error.Error.{Error}
 use Rattle.sqlite.specs.State.{State, ExecutesInside, IsUnchanged}
 use Rattle.sqlite_typed.proofs.TestLemmas.{last_term}
-use Rattle.sqlite_typed.proofs.AnswerLemmas.{unfiltered}
 use Rattle.tables.specs.Reading.{IsRead}
 use Rattle.tables.proofs.CastLemmas.{cast_null, cast_int}
 use Rattle.tables.proofs.EqualLemmas.{whole_test}
@@ -17,8 +16,8 @@ use Rattle.tables.specs.Schema.{archive_schema, refs}
 use Rattle.tables.specs.Rows.{whole, Tables, Holds, Changes, with_ref, ref_cells, ref_of, stored, rows_of}
 use Rattle.tables.specs.Refs.{is_ref_of, without_refs}
 use Rattle.tables.specs.declared.rows.Ref.{Ref}
-use Rattle.tables.specs.declared.refs.TheConstants.{INSERT_REF, SELECT_REFS, SELECT_REFS_OF, DELETE_REFS}
-use Rattle.tables.proofs.RefsMeaning.{insert_ref_terms, insert_ref_is, insert_ref_plain, ref_columns, ref_item_is, select_refs_is, select_refs_plain, select_refs_of_is, select_refs_of_plain, delete_refs_columns, delete_refs_is, delete_refs_plain}
+use Rattle.tables.specs.declared.refs.TheConstants.{INSERT_REF, SELECT_REFS_OF, DELETE_REFS}
+use Rattle.tables.proofs.RefsMeaning.{insert_ref_terms, insert_ref_is, insert_ref_plain, ref_columns, ref_item_is, select_refs_of_is, select_refs_of_plain, delete_refs_columns, delete_refs_is, delete_refs_plain}
 use Rattle.tables.proofs.HoldsLemmas.{with_refs}
 use Rattle.tables.proofs.UpdateLemmas.{deletes, deletes_rows}
 
@@ -38,15 +37,6 @@ inserts_ref old new x (Ok count) h = record {
   shown = h.1;
 }
 inserts_ref old new x (Err e) h = tt
-
-refs_show : Shows ref_cells 15 [] ref_columns [] (λ _. true) (stored ref_cells) SELECT_REFS.now
-refs_show = record { names = _; is = select_refs_is.0; plain = select_refs_plain; unlisted = select_refs_is.1; tests = λ _. refl; shows = λ _. refl; real = λ _. refl }
-
-pub refs_answer : (old new : State) (t : Tables) (all : List Ref) → Holds old.now t → IsRead ref_of SELECT_REFS.now [] old new all
-    → (all ≡ rows_of t.refs) × IsUnchanged old new
-refs_answer old new t all was h =
-    let done = reads_stored ref_cells 15 [] ref_columns [] SELECT_REFS.now old new t.refs was.schema was.rows.refs (λ _. true) ref_of (λ _. refl) refs_show all h in
-    (unfiltered (rows_of t.refs) done.0, done.1)
 
 refs_of_show : (item : ℕ) → Shows ref_cells 15 ref_item_is ref_columns (whole item ∷ []) (λ x. is_ref_of item x.1) (stored ref_cells) SELECT_REFS_OF.now
 refs_of_show item = record { names = _; is = select_refs_of_is.0; plain = select_refs_of_plain; unlisted = select_refs_of_is.1; tests = λ x. last_term (whole_test x.1.item item); shows = λ _. refl; real = λ _. refl }

@@ -11,7 +11,7 @@ use Rattle.sqlite.specs.Collation.TheVariants.{Binary}
 use Rattle.sqlite_sql.specs.Term.{op2}
 use Rattle.sqlite_sql.specs.declared.ops.BinaryOp.TheVariants.{Compare}
 use Rattle.sqlite_sql.specs.declared.ops.CompareOp.TheVariants.{Eq}
-use Rattle.tables.specs.declared.refs.TheConstants.{INSERT_REF, SELECT_REFS, SELECT_REFS_OF, DELETE_REFS}
+use Rattle.tables.specs.declared.refs.TheConstants.{INSERT_REF, SELECT_REFS_OF, DELETE_REFS}
 use Rattle.tables.specs.Schema.{archive_schema}
 use Rattle.tables.proofs.SelectLemmas.{rows_query}
 use Rattle.tables.proofs.UpdateLemmas.{edit_query}
@@ -35,14 +35,6 @@ insert_ref_is = refl
 pub insert_ref_plain : IsPlain (understood archive_schema INSERT_REF.now)
 unfolding understood everything
 insert_ref_plain = (refl, refl)
-
-pub select_refs_is : (command_of (understood archive_schema SELECT_REFS.now) ≡ Select (record { lets = []; body = rows_query 15 [] ref_columns }) (codes "rowid" ∷ codes "item" ∷ codes "number" ∷ codes "path" ∷ codes "size" ∷ codes "md5" ∷ codes "sha1" ∷ codes "sha256" ∷ [])) × (reads_listing archive_schema SELECT_REFS.now ≡ false)
-unfolding understood everything
-select_refs_is = (refl, refl)
-
-pub select_refs_plain : IsPlain (understood archive_schema SELECT_REFS.now)
-unfolding understood everything
-select_refs_plain = (refl, refl)
 
 pub select_refs_of_is : (command_of (understood archive_schema SELECT_REFS_OF.now) ≡ Select (record { lets = []; body = rows_query 15 ref_item_is ref_columns }) (codes "rowid" ∷ codes "item" ∷ codes "number" ∷ codes "path" ∷ codes "size" ∷ codes "md5" ∷ codes "sha1" ∷ codes "sha256" ∷ [])) × (reads_listing archive_schema SELECT_REFS_OF.now ≡ false)
 unfolding understood everything

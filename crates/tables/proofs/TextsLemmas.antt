@@ -1,5 +1,5 @@
 -- What the statements on texts do.
-use Rattle.std.proofs.Common.{◌≡◌, ℕ, pos, [], ◌∷◌, Ok, Err, Result, OnOk, refl, true, false, List, map, filter, find, slice_get, drop, Option, ap, ◌∙◌}
+use Rattle.std.proofs.Common.{◌≡◌, ℕ, pos, [], ◌∷◌, Ok, Err, Result, OnOk, refl, false, List, map, filter, find, slice_get, drop, Option, ap, ◌∙◌}
 use Rattle.sqlite.specs.Table.{Table}
 use Rattle.sqlite.specs.Order.{Row}
 use Rattle.sqlite.specs.declared.types.Value.TheVariants.{Null, Text, Blob}
@@ -9,19 +9,17 @@ use Rattle.sqlite.specs.State.{State, ExecutesInside, Shown, IsUnchanged}
 use Rattle.tables.specs.Schema.{archive_schema, texts}
 use Rattle.tables.specs.Rows.{whole, Tables, Holds, Changes, with_text, text_cells, text_of, stored, rows_of}
 use Rattle.tables.specs.Texts.{has_path, with_new_text}
-use Rattle.tables.specs.Reading.{IsRead, IsReadFirst}
-use Rattle.sqlite_keyed.proofs.ListLemmas.{map-map}
+use Rattle.tables.specs.Reading.{IsReadFirst}
 use Rattle.tables.specs.declared.rows.IndexText.{IndexText}
-use Rattle.tables.specs.declared.texts.TheConstants.{INSERT_TEXT, UPDATE_TEXT, SELECT_TEXTS, SELECT_TEXT}
+use Rattle.tables.specs.declared.texts.TheConstants.{INSERT_TEXT, UPDATE_TEXT, SELECT_TEXT}
 use Rattle.tables.proofs.CastLemmas.{cast_null, cast_int}
-use Rattle.tables.proofs.TextsMeaning.{insert_text_terms, insert_text_is, insert_text_plain, update_text_columns, update_text_is, update_text_plain, text_columns, select_texts_is, select_texts_plain, path_is, select_text_is, select_text_plain}
+use Rattle.tables.proofs.TextsMeaning.{insert_text_terms, insert_text_is, insert_text_plain, update_text_columns, update_text_is, update_text_plain, text_columns, path_is, select_text_is, select_text_plain}
 use Rattle.tables.proofs.InsertLemmas.{puts}
 use Rattle.tables.proofs.AddLemmas.{adds_row}
 use Rattle.tables.proofs.HoldsLemmas.{with_texts}
 use Rattle.tables.proofs.SelectLemmas.{reads_rows, first_read}
 use Rattle.tables.proofs.UpdateLemmas.{updates, updates_rows}
 use Rattle.sqlite_typed.proofs.TestLemmas.{last_term, at_texts}
-use Rattle.sqlite_typed.proofs.AnswerLemmas.{unfiltered}
 use Rattle.std.proofs.lemmas.Map.Text.{is_eq-slice_cmp}
 use Rattle.sqlite_sql.specs.declared.ops.CompareOp.TheVariants.{Eq}
 
@@ -44,21 +42,12 @@ changes_insert_text old new x (Ok count) h = record {
 }
 changes_insert_text old new x (Err e) h = tt
 
-pub texts_read : (old new : State) (t : Tables) (rows : List Row) → Holds old.now t → Shown SELECT_TEXTS.now [] old new rows → rows ≡ map (stored text_cells) t.texts
-texts_read old new t rows was h =
-    reads_rows text_cells 19 [] text_columns [] (λ _. true) (stored text_cells) (λ _. refl) (λ _. refl) SELECT_TEXTS.now _ (λ _. refl) old new rows t.texts
-    select_texts_is.0 select_texts_plain select_texts_is.1 was.schema was.rows.texts h
-    ∙ ap (map (stored text_cells)) (unfiltered t.texts refl)
-
 pub text_read : (old new : State) (t : Tables) (path : List ℕ) (rows : List Row) → Holds old.now t → Shown SELECT_TEXT.now (Text path ∷ []) old new rows
     → rows ≡ map (stored text_cells) (filter (λ x. has_path path x.1) t.texts)
 text_read old new t path rows was h =
     reads_rows text_cells 19 path_is text_columns (Text path ∷ []) (λ x. has_path path x.1) (stored text_cells)
     (λ x. last_term (at_texts false Eq x.1.path path ∙ is_eq-slice_cmp x.1.path path)) (λ _. refl)
     SELECT_TEXT.now _ (λ _. refl) old new rows t.texts select_text_is.0 select_text_plain select_text_is.1 was.schema was.rows.texts h
-
-pub texts_answer : (old new : State) (t : Tables) (all : List IndexText) → Holds old.now t → IsRead text_of SELECT_TEXTS.now [] old new all → (all ≡ rows_of t.texts) × IsUnchanged old new
-texts_answer old new t all was h = (h.are ∙ ap (map text_of) (texts_read old new t h.rows was h.shown) ∙ map-map text_of (stored text_cells) t.texts, h.same)
 
 pub text_answer : (old new : State) (t : Tables) (path : List ℕ) (found : Option IndexText) → Holds old.now t → IsReadFirst text_of SELECT_TEXT.now (Text path ∷ []) old new found
     → (found ≡ find (has_path path) (rows_of t.texts)) × IsUnchanged old new

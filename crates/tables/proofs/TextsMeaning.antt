@@ -1,19 +1,17 @@
 -- What the statements mean under the schema.
-use Rattle.std.proofs.Common.{◌≡◌, refl, ◌∷◌, [], List, pos, negsuc, codes, false, None}
+use Rattle.std.proofs.Common.{◌≡◌, refl, ◌∷◌, [], List, codes, false}
 use Rattle.sqlite_tied.specs.Compute.{everything}
-use Rattle.sqlite.specs.declared.types.Value.TheVariants.{Null, Int}
+use Rattle.sqlite.specs.declared.types.Value.TheVariants.{Null}
 use Rattle.sqlite.specs.Command.TheVariants.{Insert, Select, Update}
 use Rattle.sqlite.specs.Source.TheVariants.{Values}
 use Rattle.sqlite.specs.Term.{Term, lit, col}
 use Rattle.sqlite.specs.Listing.{understood, reads_listing}
 use Rattle.sqlite.proofs.Callers.{command_of, IsPlain}
-use Rattle.sqlite.specs.Query.{Query, inner, end}
-use Rattle.sqlite_value.specs.Keys.{ascending}
 use Rattle.sqlite.specs.Collation.TheVariants.{Binary}
 use Rattle.sqlite_sql.specs.Term.{op2}
 use Rattle.sqlite_sql.specs.declared.ops.BinaryOp.TheVariants.{Compare}
 use Rattle.sqlite_sql.specs.declared.ops.CompareOp.TheVariants.{Eq}
-use Rattle.tables.specs.declared.texts.TheConstants.{INSERT_TEXT, SELECT_TEXTS, SELECT_TEXT, UPDATE_TEXT}
+use Rattle.tables.specs.declared.texts.TheConstants.{INSERT_TEXT, SELECT_TEXT, UPDATE_TEXT}
 use Rattle.tables.specs.Schema.{archive_schema}
 use Rattle.tables.proofs.SelectLemmas.{rows_query}
 use Rattle.tables.proofs.UpdateLemmas.{edit_query}
@@ -31,14 +29,6 @@ insert_text_plain = (refl, refl)
 
 abbrev pub text_columns : List Term
 text_columns = col 1 0 ∷ col 1 1 ∷ col 1 2 ∷ []
-
-pub select_texts_is : (command_of (understood archive_schema SELECT_TEXTS.now) ≡ Select (record { lets = []; body = rows_query 19 [] text_columns }) (codes "rowid" ∷ codes "path" ∷ codes "body" ∷ [])) × (reads_listing archive_schema SELECT_TEXTS.now ≡ false)
-unfolding understood everything
-select_texts_is = (refl, refl)
-
-pub select_texts_plain : IsPlain (understood archive_schema SELECT_TEXTS.now)
-unfolding understood everything
-select_texts_plain = (refl, refl)
 
 abbrev pub path_is : List Term
 path_is = op2 (Compare Eq Binary) (col 1 1) (col 0 0) ∷ []

@@ -1,5 +1,5 @@
 -- What the statements on uploads do.
-use Rattle.std.proofs.Common.{◌≡◌, ℕ, pos, [], ◌∷◌, ◌++◌, Ok, Err, Result, OnOk, refl, true, false, List, filter, find, drop, Bool, not, is_some, Option, Some, None, ap, ◌∙◌}
+use Rattle.std.proofs.Common.{◌≡◌, ℕ, pos, [], ◌∷◌, ◌++◌, Ok, Err, Result, OnOk, refl, List, find, drop, Option, Some, None, ap, ◌∙◌}
 use Rattle.sqlite.specs.Table.{Table}
 use Rattle.sqlite.specs.Order.{Row}
 use Rattle.sqlite.specs.declared.types.Value.TheVariants.{Null, Text}
@@ -8,8 +8,7 @@ use Rattle.sqlite.specs.Values.{or_null}
 use Rattle.sqlite.specs.declared.error.Error.{Error}
 use Rattle.sqlite.specs.State.{State, ExecutesInside, IsUnchanged}
 use Rattle.sqlite_typed.proofs.TestLemmas.{then_term, last_term}
-use Rattle.sqlite_typed.proofs.AnswerLemmas.{unfiltered}
-use Rattle.tables.specs.Reading.{IsRead, IsReadFirst}
+use Rattle.tables.specs.Reading.{IsReadFirst}
 use Rattle.tables.proofs.CastLemmas.{cast_null, cast_int}
 use Rattle.tables.proofs.EqualLemmas.{whole_test, text_test}
 use Rattle.tables.proofs.PrintLemmas.{print_test}
@@ -17,17 +16,15 @@ use Rattle.tables.proofs.InsertLemmas.{puts}
 use Rattle.tables.proofs.AddLemmas.{adds_row, adds_id}
 use Rattle.tables.proofs.ShownLemmas.{Shows, shown}
 use Rattle.std.specs.Prelude.{nat_eq}
-use Rattle.sqlite_value.proofs.OrderLemmas.{value_cmp-Null}
-use Rattle.sqlite_typed.proofs.TestLemmas.{at_is_null, at_not}
 use Rattle.sums.specs.declared.print.Print.{Print}
 use Rattle.tables.specs.Schema.{archive_schema, uploads}
 use Rattle.tables.specs.Rows.{whole, print_cells, Tables, Holds, Changes, full_upload, with_upload, upload_cells, upload_of, row_of, some_nat, stored, next_in}
-use Rattle.tables.specs.Uploads.{is_upload, is_judged, with_verdict}
+use Rattle.tables.specs.Uploads.{is_upload, with_verdict}
 use Rattle.tables.specs.declared.rows.Upload.{Upload}
-use Rattle.tables.specs.declared.uploads.TheConstants.{INSERT_UPLOAD, SELECT_UPLOAD, SELECT_NUMBERED, SELECT_JUDGED, UPDATE_VERDICT}
-use Rattle.tables.proofs.UploadsMeaning.{insert_upload_terms, insert_upload_is, insert_upload_plain, upload_columns, upload_is, place_is_set, upload_id_is, select_upload_is, select_upload_plain, select_numbered_is, select_numbered_plain, select_judged_is, select_judged_plain, update_verdict_columns, update_verdict_is, update_verdict_plain}
+use Rattle.tables.specs.declared.uploads.TheConstants.{INSERT_UPLOAD, SELECT_UPLOAD, SELECT_NUMBERED, UPDATE_VERDICT}
+use Rattle.tables.proofs.UploadsMeaning.{insert_upload_terms, insert_upload_is, insert_upload_plain, upload_columns, upload_is, upload_id_is, select_upload_is, select_upload_plain, select_numbered_is, select_numbered_plain, update_verdict_columns, update_verdict_is, update_verdict_plain}
 use Rattle.tables.proofs.HoldsLemmas.{with_uploads}
-use Rattle.tables.proofs.FullLemmas.{Storing, raw, raw_cells, raw_rows, value_in, full_as, full_rows_as, added_of, next_of, changed_of, reads_values, first_value}
+use Rattle.tables.proofs.FullLemmas.{Storing, raw, raw_cells, raw_rows, value_in, full_as, full_rows_as, added_of, next_of, changed_of, first_value}
 use Rattle.sqlite_sql.specs.Term.{eval_all}
 use Rattle.tables.proofs.UpdateLemmas.{updates, updates_rows}
 
@@ -86,19 +83,6 @@ pub numbered_answer : (old new : State) (t : Tables) (id : ℕ) (found : Option 
 numbered_answer old new t id found was h =
     first_value storing 7 upload_id_is upload_columns (whole id ∷ []) SELECT_NUMBERED.now old new t.uploads was.schema was.rows.uploads (λ x. nat_eq x.0 id) upload_of upload_back (numbered_show id)
     (record { tests = λ _. refl; shows = λ _. refl }) found h
-
-not_not : (b : Bool) → not (not b) ≡ b
-not_not true = refl
-not_not false = refl
-
-judged_show : Shows upload_cells 7 place_is_set upload_columns ([]) (λ x. is_judged x.1) (shown upload_cells) SELECT_JUDGED.now
-judged_show = record { names = _; is = select_judged_is.0; plain = select_judged_plain; unlisted = select_judged_is.1; tests = λ x. last_term (at_not false _ (at_is_null whole true (λ n. value_cmp-Null (whole n)) x.1.place) ∙ not_not (is_some x.1.place)); shows = λ _. refl; real = λ _. refl }
-
-pub judged_answer : (old new : State) (t : Tables) (all : List (ℕ × Upload)) → Holds old.now t → IsRead (row_of upload_of) SELECT_JUDGED.now ([]) old new all
-    → (all ≡ filter (λ x. is_judged x.1) t.uploads) × IsUnchanged old new
-judged_answer old new t all was h =
-    reads_values storing 7 place_is_set upload_columns ([]) SELECT_JUDGED.now old new t.uploads was.schema was.rows.uploads (λ x. is_judged x.1) upload_of upload_back judged_show
-    (record { tests = λ _. refl; shows = λ _. refl }) all h
 
 -- the row that an update makes of a row
 abbrev updated : ℕ → ℕ → ℕ × Upload → Row

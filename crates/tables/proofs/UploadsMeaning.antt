@@ -8,11 +8,10 @@ use Rattle.sqlite.specs.Term.{Term, lit, col}
 use Rattle.sqlite.specs.Listing.{understood, reads_listing}
 use Rattle.sqlite.proofs.Callers.{command_of, IsPlain}
 use Rattle.sqlite.specs.Collation.TheVariants.{Binary}
-use Rattle.sqlite_sql.specs.Term.{op1, op2}
-use Rattle.sqlite_sql.specs.declared.ops.BinaryOp.TheVariants.{Compare, Is}
-use Rattle.sqlite_sql.specs.declared.ops.UnaryOp.TheVariants.{Not}
+use Rattle.sqlite_sql.specs.Term.{op2}
+use Rattle.sqlite_sql.specs.declared.ops.BinaryOp.TheVariants.{Compare}
 use Rattle.sqlite_sql.specs.declared.ops.CompareOp.TheVariants.{Eq}
-use Rattle.tables.specs.declared.uploads.TheConstants.{INSERT_UPLOAD, SELECT_UPLOAD, SELECT_NUMBERED, SELECT_JUDGED, UPDATE_VERDICT}
+use Rattle.tables.specs.declared.uploads.TheConstants.{INSERT_UPLOAD, SELECT_UPLOAD, SELECT_NUMBERED, UPDATE_VERDICT}
 use Rattle.tables.specs.Schema.{archive_schema}
 use Rattle.tables.proofs.SelectLemmas.{rows_query}
 use Rattle.tables.proofs.UpdateLemmas.{edit_query}
@@ -22,9 +21,6 @@ upload_columns = col 1 0 ∷ col 1 0 ∷ col 1 2 ∷ col 1 3 ∷ col 1 4 ∷ col
 
 abbrev pub upload_is : List Term
 upload_is = op2 (Compare Eq Binary) (col 1 2) (col 0 0) ∷ op2 (Compare Eq Binary) (col 1 3) (col 0 1) ∷ op2 (Compare Eq Binary) (col 1 4) (col 0 2) ∷ op2 (Compare Eq Binary) (col 1 5) (col 0 3) ∷ op2 (Compare Eq Binary) (col 1 6) (col 0 4) ∷ []
-
-abbrev pub place_is_set : List Term
-place_is_set = op1 Not (op2 (Is Binary) (col 1 7) (lit Null)) ∷ []
 
 abbrev pub upload_id_is : List Term
 upload_id_is = op2 (Compare Eq Binary) (col 1 0) (col 0 0) ∷ []
@@ -58,14 +54,6 @@ select_numbered_is = (refl, refl)
 pub select_numbered_plain : IsPlain (understood archive_schema SELECT_NUMBERED.now)
 unfolding understood everything
 select_numbered_plain = (refl, refl)
-
-pub select_judged_is : (command_of (understood archive_schema SELECT_JUDGED.now) ≡ Select (record { lets = []; body = rows_query 7 place_is_set upload_columns }) (codes "id" ∷ codes "id" ∷ codes "name" ∷ codes "size" ∷ codes "md5" ∷ codes "sha1" ∷ codes "sha256" ∷ codes "place" ∷ codes "verdict" ∷ [])) × (reads_listing archive_schema SELECT_JUDGED.now ≡ false)
-unfolding understood everything
-select_judged_is = (refl, refl)
-
-pub select_judged_plain : IsPlain (understood archive_schema SELECT_JUDGED.now)
-unfolding understood everything
-select_judged_plain = (refl, refl)
 
 pub update_verdict_is : command_of (understood archive_schema UPDATE_VERDICT.now) ≡ Update 4 (record { lets = []; body = edit_query 7 upload_id_is update_verdict_columns })
 unfolding understood everything

@@ -1,21 +1,18 @@
 //! The files of the pool, and their bodies.
 
 ghost use Rattle.std.specs.Prelude.{◌≡◌, find, false, IsTrue, IfOk, OnOk, OnErr};
-ghost use Rattle.sqlite.specs.State.{HasCleanDisk, IsUnchanged, Survives, KeepsCommit};
+ghost use Rattle.sqlite.specs.State.{HasCleanDisk, IsUnchanged, Survives};
 ghost use Rattle.sqlite.specs.Held.{state};
-ghost use Rattle.tables.specs.Inside.{GoesOn};
 ghost use Rattle.tables.specs.Rows.{Tables, Holds, Changes, Fails, IsForeign, with_file, file_of, rows_of};
 ghost use Rattle.tables.specs.Files.{is_file_at, without_file};
 
 use crate::number::whole;
-use crate::read::{FromRow, select, select_first, select_first_inside, text_at, whole_at};
+use crate::read::{FromRow, select_first, text_at, whole_at};
 use crate::rows::File;
 use sqlite::{Alter, Connection, Error, Row, Transaction, params};
 use std::alloc::Global;
 
 const INSERT_FILE: &str = "INSERT INTO files (path, body) VALUES (?1, ?2)";
-
-const SELECT_FILES: &str = "SELECT rowid, path, body FROM files ORDER BY rowid";
 
 const SELECT_FILE: &str = "SELECT rowid, path, body FROM files WHERE path = ?1 ORDER BY rowid";
 
@@ -66,26 +63,6 @@ pub fn file_at<S: Alter>(
     select_first(alloc, conn, SELECT_FILE, params![path])
 }
 
-/// The file of a path, inside a transaction.
-pub fn file_at_inside<S: Alter>(
-    alloc: Global,
-    tx: &mut Transaction<'_, S>,
-    path: &str,
-) -> Result<Option<File>, Error>
-    ensures same_reference { tx.new.conn.ghost_name ≡ tx.old.conn.ghost_name }
-    ensures ok { HasCleanDisk (state S.Store tx.new.conn.now) → (t : Tables) → Holds (state S.Store tx.old.conn.now).now t
-        → IfOk result (λ found. (found ≡ find (is_file_at path.now) (rows_of t.files)) × IsUnchanged (state S.Store tx.old.conn.now) (state S.Store tx.new.conn.now)) }
-    ensures err { HasCleanDisk (state S.Store tx.new.conn.now) → (t : Tables) → Holds (state S.Store tx.old.conn.now).now t
-        → OnErr result (Fails (state S.Store tx.old.conn.now) (state S.Store tx.new.conn.now)) }
-    ensures goes_on { HasCleanDisk (state S.Store tx.new.conn.now) → IsTrue (state S.Store tx.old.conn.now).in_transaction
-        → OnOk result (GoesOn (state S.Store tx.old.conn.now) (state S.Store tx.new.conn.now)) }
-    ensures kept { HasCleanDisk (state S.Store tx.new.conn.now) → IsTrue (state S.Store tx.old.conn.now).in_transaction
-        → OnErr result (KeepsCommit (state S.Store tx.old.conn.now) (state S.Store tx.new.conn.now)) }
-    ensures survives { Survives (state S.Store tx.old.conn.now) (state S.Store tx.new.conn.now) (λ _. ⊥) }
-{
-    select_first_inside(alloc, tx, SELECT_FILE, params![path])
-}
-
 /// Removes the file of a path, if there is one.
 pub fn delete_file<S: Alter>(tx: &mut Transaction<'_, S>, path: &str) -> Result<(), Error>
     ensures same_reference { tx.new.conn.ghost_name ≡ tx.old.conn.ghost_name }
@@ -97,16 +74,4 @@ pub fn delete_file<S: Alter>(tx: &mut Transaction<'_, S>, path: &str) -> Result<
 {
     tx.execute(DELETE_FILE, params![path])?;
     Ok(())
-}
-
-/// The files, in the order in which they were added.
-pub fn select_files<S: Alter>(alloc: Global, conn: &mut Connection<S>) -> Result<Vec<File>, Error>
-    ensures idle { conn.old.in_transaction ≡ false → conn.new.in_transaction ≡ false }
-    ensures ok { HasCleanDisk (state S.Store conn.new) → (t : Tables) → Holds (state S.Store conn.old).now t
-        → IfOk result (λ all. (all.items ≡ rows_of t.files) × IsUnchanged (state S.Store conn.old) (state S.Store conn.new)) }
-    ensures err { HasCleanDisk (state S.Store conn.new) → (t : Tables) → Holds (state S.Store conn.old).now t
-        → OnErr result (Fails (state S.Store conn.old) (state S.Store conn.new)) }
-    ensures survives { Survives (state S.Store conn.old) (state S.Store conn.new) (λ _. IsForeign (state S.Store conn.old).now) }
-{
-    select(alloc, conn, SELECT_FILES, &[])
 }

@@ -1,24 +1,20 @@
 //! The files of the items.
 
 ghost use Rattle.std.specs.Prelude.{◌≡◌, filter, false, IsTrue, IfOk, OnOk, OnErr};
-ghost use Rattle.sqlite.specs.State.{HasCleanDisk, IsUnchanged, Survives, KeepsCommit};
+ghost use Rattle.sqlite.specs.State.{HasCleanDisk, IsUnchanged, Survives};
 ghost use Rattle.sqlite.specs.Held.{state};
-ghost use Rattle.tables.specs.Inside.{GoesOn};
 ghost use Rattle.tables.specs.Rows.{Tables, Holds, Changes, Fails, IsForeign, with_ref, ref_of, rows_of};
 ghost use Rattle.tables.specs.Refs.{is_ref_of, without_refs};
 
 use crate::cells::print_at;
 use crate::number::whole;
-use crate::read::{FromRow, select, select_inside, text_at, whole_at};
+use crate::read::{FromRow, select, text_at, whole_at};
 use crate::rows::Ref;
 use sqlite::{Alter, Connection, Error, Row, Transaction, params};
 use std::alloc::Global;
 
 const INSERT_REF: &str =
     "INSERT INTO refs (item, number, path, size, md5, sha1, sha256) VALUES (?1, ?2, ?3, ?4, ?5, ?6, ?7)";
-
-const SELECT_REFS: &str =
-    "SELECT rowid, item, number, path, size, md5, sha1, sha256 FROM refs ORDER BY rowid";
 
 const SELECT_REFS_OF: &str =
     "SELECT rowid, item, number, path, size, md5, sha1, sha256 FROM refs WHERE item = ?1 ORDER BY rowid";
@@ -78,27 +74,6 @@ pub fn refs_of<S: Alter>(
     select(alloc, conn, SELECT_REFS_OF, params![item])
 }
 
-/// The files of an item, inside a transaction.
-pub fn refs_of_inside<S: Alter>(
-    alloc: Global,
-    tx: &mut Transaction<'_, S>,
-    item: u64,
-) -> Result<Vec<Ref>, Error>
-    ensures same_reference { tx.new.conn.ghost_name ≡ tx.old.conn.ghost_name }
-    ensures ok { HasCleanDisk (state S.Store tx.new.conn.now) → (t : Tables) → Holds (state S.Store tx.old.conn.now).now t
-        → IfOk result (λ all. (all.items ≡ filter (is_ref_of item) (rows_of t.refs)) × IsUnchanged (state S.Store tx.old.conn.now) (state S.Store tx.new.conn.now)) }
-    ensures err { HasCleanDisk (state S.Store tx.new.conn.now) → (t : Tables) → Holds (state S.Store tx.old.conn.now).now t
-        → OnErr result (Fails (state S.Store tx.old.conn.now) (state S.Store tx.new.conn.now)) }
-    ensures goes_on { HasCleanDisk (state S.Store tx.new.conn.now) → IsTrue (state S.Store tx.old.conn.now).in_transaction
-        → OnOk result (GoesOn (state S.Store tx.old.conn.now) (state S.Store tx.new.conn.now)) }
-    ensures kept { HasCleanDisk (state S.Store tx.new.conn.now) → IsTrue (state S.Store tx.old.conn.now).in_transaction
-        → OnErr result (KeepsCommit (state S.Store tx.old.conn.now) (state S.Store tx.new.conn.now)) }
-    ensures survives { Survives (state S.Store tx.old.conn.now) (state S.Store tx.new.conn.now) (λ _. ⊥) }
-{
-    let item = whole(item)?;
-    select_inside(alloc, tx, SELECT_REFS_OF, params![item])
-}
-
 /// Removes the files of an item.
 pub fn delete_refs<S: Alter>(tx: &mut Transaction<'_, S>, item: u64) -> Result<(), Error>
     ensures same_reference { tx.new.conn.ghost_name ≡ tx.old.conn.ghost_name }
@@ -111,16 +86,4 @@ pub fn delete_refs<S: Alter>(tx: &mut Transaction<'_, S>, item: u64) -> Result<(
     let item = whole(item)?;
     tx.execute(DELETE_REFS, params![item])?;
     Ok(())
-}
-
-/// The files of the items, in the order in which they were added.
-pub fn select_refs<S: Alter>(alloc: Global, conn: &mut Connection<S>) -> Result<Vec<Ref>, Error>
-    ensures idle { conn.old.in_transaction ≡ false → conn.new.in_transaction ≡ false }
-    ensures ok { HasCleanDisk (state S.Store conn.new) → (t : Tables) → Holds (state S.Store conn.old).now t
-        → IfOk result (λ all. (all.items ≡ rows_of t.refs) × IsUnchanged (state S.Store conn.old) (state S.Store conn.new)) }
-    ensures err { HasCleanDisk (state S.Store conn.new) → (t : Tables) → Holds (state S.Store conn.old).now t
-        → OnErr result (Fails (state S.Store conn.old) (state S.Store conn.new)) }
-    ensures survives { Survives (state S.Store conn.old) (state S.Store conn.new) (λ _. IsForeign (state S.Store conn.old).now) }
-{
-    select(alloc, conn, SELECT_REFS, &[])
 }

@@ -6,14 +6,12 @@ ghost use Rattle.sqlite.specs.Held.{state};
 ghost use Rattle.tables.specs.Rows.{Tables, Holds, Changes, Fails, IsForeign, with_text, text_of, rows_of};
 ghost use Rattle.tables.specs.Texts.{has_path, with_new_text};
 
-use crate::read::{FromRow, bytes_at, select, select_first, text_at};
+use crate::read::{FromRow, bytes_at, select_first, text_at};
 use crate::rows::IndexText;
 use sqlite::{Alter, Connection, Error, Row, Transaction, params};
 use std::alloc::Global;
 
 const INSERT_TEXT: &str = "INSERT INTO texts (path, body) VALUES (?1, ?2)";
-
-const SELECT_TEXTS: &str = "SELECT rowid, path, body FROM texts ORDER BY rowid";
 
 const SELECT_TEXT: &str = "SELECT rowid, path, body FROM texts WHERE path = ?1 ORDER BY rowid";
 
@@ -45,21 +43,6 @@ pub fn insert_text<S: Alter>(
 {
     tx.execute(INSERT_TEXT, params![path, body])?;
     Ok(())
-}
-
-/// The texts, in the order in which they were added.
-pub fn select_texts<S: Alter>(
-    alloc: Global,
-    conn: &mut Connection<S>,
-) -> Result<Vec<IndexText>, Error>
-    ensures idle { conn.old.in_transaction ≡ false → conn.new.in_transaction ≡ false }
-    ensures ok { HasCleanDisk (state S.Store conn.new) → (t : Tables) → Holds (state S.Store conn.old).now t
-        → IfOk result (λ all. (all.items ≡ rows_of t.texts) × IsUnchanged (state S.Store conn.old) (state S.Store conn.new)) }
-    ensures err { HasCleanDisk (state S.Store conn.new) → (t : Tables) → Holds (state S.Store conn.old).now t
-        → OnErr result (Fails (state S.Store conn.old) (state S.Store conn.new)) }
-    ensures survives { Survives (state S.Store conn.old) (state S.Store conn.new) (λ _. IsForeign (state S.Store conn.old).now) }
-{
-    select(alloc, conn, SELECT_TEXTS, &[])
 }
 
 /// The text of a path.

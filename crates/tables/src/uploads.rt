@@ -1,15 +1,15 @@
 //! The .changes that arrived or were judged.
 
-ghost use Rattle.std.specs.Prelude.{◌≡◌, filter, find, nat_eq, None, false, IsTrue, IfOk, OnOk, OnErr};
+ghost use Rattle.std.specs.Prelude.{◌≡◌, find, nat_eq, None, false, IsTrue, IfOk, OnOk, OnErr};
 ghost use Rattle.sqlite.specs.State.{HasCleanDisk, IsUnchanged, Survives, KeepsCommit};
 ghost use Rattle.sqlite.specs.Held.{state};
 ghost use Rattle.tables.specs.Inside.{GoesOn};
 ghost use Rattle.tables.specs.Rows.{Tables, Holds, Changes, Fails, IsForeign, with_upload, upload_of, next_in};
-ghost use Rattle.tables.specs.Uploads.{is_upload, is_judged, with_verdict};
+ghost use Rattle.tables.specs.Uploads.{is_upload, with_verdict};
 
 use crate::cells::{print_at, row_number, some_whole_at};
 use crate::number::whole;
-use crate::read::{FromRow, select, select_first, select_first_inside, text_at};
+use crate::read::{FromRow, select_first, select_first_inside, text_at};
 use crate::rows::Upload;
 use sqlite::{Alter, Connection, Error, Row, Transaction, params};
 use std::alloc::Global;
@@ -23,9 +23,6 @@ const SELECT_UPLOAD: &str =
 
 const SELECT_NUMBERED: &str =
     "SELECT rowid, id, name, size, md5, sha1, sha256, place, verdict FROM uploads WHERE id = ?1 ORDER BY rowid";
-
-const SELECT_JUDGED: &str =
-    "SELECT rowid, id, name, size, md5, sha1, sha256, place, verdict FROM uploads WHERE place IS NOT NULL ORDER BY rowid";
 
 const UPDATE_VERDICT: &str = "UPDATE uploads SET place = ?2, verdict = ?3 WHERE id = ?1";
 
@@ -109,21 +106,6 @@ pub fn upload_numbered<S: Alter>(
 {
     let id = whole(id)?;
     select_first(alloc, conn, SELECT_NUMBERED, params![id])
-}
-
-/// The uploads that are judged with their numbers, in the order of these.
-pub fn judged_uploads<S: Alter>(
-    alloc: Global,
-    conn: &mut Connection<S>,
-) -> Result<Vec<(u64, Upload)>, Error>
-    ensures idle { conn.old.in_transaction ≡ false → conn.new.in_transaction ≡ false }
-    ensures ok { HasCleanDisk (state S.Store conn.new) → (t : Tables) → Holds (state S.Store conn.old).now t
-        → IfOk result (λ all. (all.items ≡ filter (λ x. is_judged x.1) t.uploads) × IsUnchanged (state S.Store conn.old) (state S.Store conn.new)) }
-    ensures err { HasCleanDisk (state S.Store conn.new) → (t : Tables) → Holds (state S.Store conn.old).now t
-        → OnErr result (Fails (state S.Store conn.old) (state S.Store conn.new)) }
-    ensures survives { Survives (state S.Store conn.old) (state S.Store conn.new) (λ _. IsForeign (state S.Store conn.old).now) }
-{
-    select(alloc, conn, SELECT_JUDGED, &[])
 }
 
 /// Judges an upload: sets its place in the order of judging and its verdict.

@@ -1,15 +1,14 @@
 //! The entries of the uploads, and whether their bodies have arrived.
 
 ghost use Rattle.std.specs.Prelude.{◌≡◌, filter, false, IsTrue, IfOk, OnOk, OnErr};
-ghost use Rattle.sqlite.specs.State.{HasCleanDisk, IsUnchanged, Survives, KeepsCommit};
+ghost use Rattle.sqlite.specs.State.{HasCleanDisk, IsUnchanged, Survives};
 ghost use Rattle.sqlite.specs.Held.{state};
-ghost use Rattle.tables.specs.Inside.{GoesOn};
 ghost use Rattle.tables.specs.Rows.{Tables, Holds, Changes, Fails, IsForeign, with_want, want_of, rows_of};
 ghost use Rattle.tables.specs.Wants.{IsNextWanting, is_wanted_by, with_here, without_wants};
 
 use crate::cells::{flag_at, print_at};
 use crate::number::{below, whole};
-use crate::read::{FromRow, select, select_first, select_inside, text_at, whole_at};
+use crate::read::{FromRow, select, select_first, text_at, whole_at};
 use crate::rows::Want;
 use sqlite::{Alter, Connection, Error, Row, Transaction, params};
 use std::alloc::Global;
@@ -104,27 +103,6 @@ pub fn wants_of<S: Alter>(
 {
     let upload = whole(upload)?;
     select(alloc, conn, SELECT_WANTS_OF, params![upload])
-}
-
-/// The entries of an upload, inside a transaction.
-pub fn wants_of_inside<S: Alter>(
-    alloc: Global,
-    tx: &mut Transaction<'_, S>,
-    upload: u64,
-) -> Result<Vec<Want>, Error>
-    ensures same_reference { tx.new.conn.ghost_name ≡ tx.old.conn.ghost_name }
-    ensures ok { HasCleanDisk (state S.Store tx.new.conn.now) → (t : Tables) → Holds (state S.Store tx.old.conn.now).now t
-        → IfOk result (λ all. (all.items ≡ filter (is_wanted_by upload) (rows_of t.wants)) × IsUnchanged (state S.Store tx.old.conn.now) (state S.Store tx.new.conn.now)) }
-    ensures err { HasCleanDisk (state S.Store tx.new.conn.now) → (t : Tables) → Holds (state S.Store tx.old.conn.now).now t
-        → OnErr result (Fails (state S.Store tx.old.conn.now) (state S.Store tx.new.conn.now)) }
-    ensures goes_on { HasCleanDisk (state S.Store tx.new.conn.now) → IsTrue (state S.Store tx.old.conn.now).in_transaction
-        → OnOk result (GoesOn (state S.Store tx.old.conn.now) (state S.Store tx.new.conn.now)) }
-    ensures kept { HasCleanDisk (state S.Store tx.new.conn.now) → IsTrue (state S.Store tx.old.conn.now).in_transaction
-        → OnErr result (KeepsCommit (state S.Store tx.old.conn.now) (state S.Store tx.new.conn.now)) }
-    ensures survives { Survives (state S.Store tx.old.conn.now) (state S.Store tx.new.conn.now) (λ _. ⊥) }
-{
-    let upload = whole(upload)?;
-    select_inside(alloc, tx, SELECT_WANTS_OF, params![upload])
 }
 
 /// The number of the first upload behind this one that has entries, or of the first at all.
