@@ -1,4 +1,4 @@
-//! What is asked of the layers below the keepers, and what they answer.
+//! What is asked of the layers below the keepers and of the command line, and what they answer.
 
 use crate::out::Out;
 use rows::{Answers, Unread, text_of};
@@ -10,8 +10,9 @@ mod of_lists;
 mod of_paragraphs;
 mod of_records;
 mod of_versions;
+mod of_words;
 
-/// The layers below the keepers. No row stands on those before it.
+/// The layers below the keepers, and the command line. No row stands on those before it.
 #[derive(Clone, Copy)]
 pub struct Layers;
 
@@ -22,12 +23,13 @@ fn answers_of_texts(out: &mut Out, verb: &str, words: &[Vec<u8>]) -> bool {
         || of_lists::answer(out, verb, words)
 }
 
-/// Answers a question on records, configurations, indices or faults. It says whether it is one.
+/// Answers a question on records, configurations, indices, faults or command lines. It says whether it is one.
 fn answers_of_archives(out: &mut Out, verb: &str, words: &[Vec<u8>]) -> bool {
     of_records::answer(out, verb, words)
         || of_configs::answer(out, verb, words)
         || of_indices::answer(out, verb, words)
         || of_faults::answer(out, verb, words)
+        || of_words::answer(out, verb, words)
 }
 
 impl<R: AllocGlobal> Answers<R> for Layers {

@@ -1,4 +1,4 @@
-//! Rows on the layers below the keepers: texts, and what is read of them.
+//! Rows on the layers below the keepers and on the command line: texts, and what is read of them.
 //!
 //! A line is printed for each row that differs, and one for each file. The exit status is 0 where each file has rows, all rows can
 //! be read, and none differs; 1 where it is otherwise; 3 where the output fails.

@@ -1,6 +1,7 @@
 //! The numbers of faults, and how faults are printed.
 
 use crate::out::Out;
+use command_line::{LineFault, line};
 use para::ParaFault;
 use records::{FieldName, RecordFault};
 use rows::Unread;
@@ -112,7 +113,22 @@ fn of_configs(out: &mut Out) {
     }
 }
 
-/// `numbers P|N|S|C|F`: a line for each fault of the paragraphs, versions, lists, records or configurations.
+/// Adds the fault of words that are no line.
+fn add_fault_of(out: &mut Out, words: &[&str]) {
+    match line(out.alloc, words) {
+        Ok(_) => out.refuse(Unread::BadWords),
+        Err(fault) => add_fault(out, fault.number(), &fault),
+    }
+}
+
+/// Adds the faults of command lines.
+fn of_lines(out: &mut Out) {
+    add_fault(out, LineFault::OutOfMemory.number(), &LineFault::OutOfMemory);
+    add_fault_of(out, &["--help"]);
+    add_fault_of(out, &[]);
+}
+
+/// `numbers P|N|S|C|F|L`: a line for each fault of the paragraphs, versions, lists, records, configurations or command lines.
 fn numbers(out: &mut Out, words: &[Vec<u8>]) {
     match out.only(words) {
         b"P" => of_paragraphs(out),
@@ -120,6 +136,7 @@ fn numbers(out: &mut Out, words: &[Vec<u8>]) {
         b"S" => of_lists(out),
         b"C" => of_records(out),
         b"F" => of_configs(out),
+        b"L" => of_lines(out),
         _ => out.refuse(Unread::BadWords),
     }
 }
