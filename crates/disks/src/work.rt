@@ -121,13 +121,19 @@ fn opened_twice<S: Alter + Drop>(
 ) -> (Connection<S>, Answer) {
     let mut connection = connection;
     let has_begun = connection.execute_batch("BEGIN").is_ok();
-    let (mut connection, within) =
-        with_archive(alloc, TableKeeper::open(alloc, connection), Task::Nothing);
+    let (mut connection, within) = with_archive(
+        alloc,
+        TableKeeper::open(alloc, connection),
+        Task::Nothing,
+    );
     if !has_begun || connection.execute_batch("COMMIT").is_err() {
         return (connection, Ok(Err(KeepFault::Disk)));
     }
-    let (connection, behind) =
-        with_archive(alloc, TableKeeper::open(alloc, connection), Task::Nothing);
+    let (connection, behind) = with_archive(
+        alloc,
+        TableKeeper::open(alloc, connection),
+        Task::Nothing,
+    );
     (connection, both(alloc, within, behind))
 }
 

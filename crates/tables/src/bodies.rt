@@ -60,11 +60,7 @@ pub fn insert_begun<S: Alter>(tx: &mut Transaction<'_, S>) -> Result<u64, Error>
 }
 
 /// Makes a body whole: sets its print.
-pub fn set_print<S: Alter>(
-    tx: &mut Transaction<'_, S>,
-    id: u64,
-    print: &Print,
-) -> Result<(), Error>
+pub fn set_print<S: Alter>(tx: &mut Transaction<'_, S>, id: u64, print: &Print) -> Result<(), Error>
     ensures same_reference { tx.new.conn.ghost_name ≡ tx.old.conn.ghost_name }
     ensures ok { HasCleanDisk (state S.Store tx.new.conn.now) → IsTrue (state S.Store tx.old.conn.now).in_transaction
         → OnOk result (Changes (state S.Store tx.old.conn.now) (state S.Store tx.new.conn.now) (with_print id print.now)) }

@@ -123,7 +123,11 @@ fn add_fault_of(out: &mut Out, words: &[&str]) {
 
 /// Adds the faults of command lines.
 fn of_lines(out: &mut Out) {
-    add_fault(out, LineFault::OutOfMemory.number(), &LineFault::OutOfMemory);
+    add_fault(
+        out,
+        LineFault::OutOfMemory.number(),
+        &LineFault::OutOfMemory,
+    );
     add_fault_of(out, &["--help"]);
     add_fault_of(out, &[]);
 }
