@@ -147,7 +147,7 @@ def read_rows(text, texts):
             else:
                 name_text(texts, words)
         except Unread as fault:
-            raise Unread(f"{number}: {fault}") from fault
+            raise Unread(f"{number}: {fault}") from None
 
 
 def read_file(path, texts):
@@ -155,7 +155,7 @@ def read_file(path, texts):
     try:
         return list(read_rows(path.read_bytes(), texts))
     except Unread as fault:
-        raise Unread(f"{path.name}:{fault}") from fault
+        raise Unread(f"{path.name}:{fault}") from None
 
 
 def questions_of(path):

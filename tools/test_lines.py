@@ -152,12 +152,13 @@ def difference(found, wanted):
 
 
 def differences(folder, questions):
-    """A line for each question whose answer differs, in front the number of its line."""
+    """A line for each question whose answer differs, up to one that can't be asked; in front is the number of its line."""
     for number, words, wanted in questions:
         try:
             found = answer(folder, words)
         except Unread as fault:
-            raise Unread(f"{number}: {fault}") from fault
+            yield f"{number}: {fault}"
+            return
         if found != wanted:
             yield f"{number}: {difference(found, wanted)}"
 
@@ -226,21 +227,25 @@ class Reading(unittest.TestCase):
                 answer(Folder("no program", "no folder"), words)
 
     def test_a_row_that_differs_is_told(self):
-        folder, wanted = Folder("no program", "no folder"), (b"not there", b"there")
-        told_of = list(differences(folder, [Row(number, [b"read", b"a"], it) for number, it in enumerate(wanted, 4)]))
-        self.assertEqual(told_of, ["5: found b'not there', wanted b'there'"])
+        rows = [Row(4, [b"read", b"a"], b"not there"), Row(5, [b"read", b"a"], b"there"), Row(7, [b"nothing"], b""), Row(8, [b"nothing"], b"")]
+        found = ["5: found b'not there', wanted b'there'", "7: the first word asks nothing"]
+        self.assertEqual(list(differences(Folder("no program", "no folder"), rows)), found)
 
 
 @unittest.skipUnless(os.path.exists(PROGRAM), f"there is no program {PROGRAM}")
 class Rows(unittest.TestCase):
     def expect(self, path):
         """Asks the rows of a file."""
-        questions = questions_of(path)
-        self.assertNotEqual(questions, [], f"{path.name} has no rows")
+        try:
+            questions = questions_of(path)
+        except Unread as fault:
+            raise self.failureException(fault) from None
+        self.assertTrue(questions, f"{path.name} has no rows")
         for program in PROGRAMS:
             with self.subTest(program=os.path.basename(program)), tempfile.TemporaryDirectory() as folder:
-                found = list(differences(Folder(program, folder), questions))
-                self.assertEqual(found, [], "".join(f"\n{path.name}:{it}" for it in found))
+                found = [f"{path.name}:{it}" for it in differences(Folder(program, folder), questions)]
+                if found:
+                    self.fail("\n".join(found))
 
 
 def test_of(path):
