@@ -11,7 +11,7 @@ use crate::answers::Layers;
 use std::process::ExitCode;
 
 fn main(rt: HostRuntime) -> ExitCode {
-    match rows::report_files::<Layers, HostRuntime>(&rt, "") {
+    match rows::report_files::<Layers, HostRuntime>(&rt, "", ".rows") {
         Ok(true) => ExitCode::from(0),
         Ok(false) => ExitCode::from(1),
         Err(_) => ExitCode::from(3),

@@ -100,23 +100,25 @@ fn check_all<A: Answers<R>, R: Files + Print + AllocGlobal>(
     reader: &mut Reader,
     heading: &str,
     files: &[String],
+    ending: &str,
 ) -> io::Result<bool> {
     let texts = check_files::<A, R>(rt, reader, heading, files, ".texts")?;
     reader.shared = reader.named.len();
-    let rows = check_files::<A, R>(rt, reader, heading, files, ".rows")?;
+    let rows = check_files::<A, R>(rt, reader, heading, files, ending)?;
     Ok(texts && rows && reader.rows > 0)
 }
 
-/// Does the rows of the files that are named on the command line, or of all of this folder, whose names end in `.texts` or `.rows`. It
-/// prints a line for each row that differs, and one for each file with its number of rows; the heading stands before each line. It
+/// Does the rows of the files that are named on the command line, or of all of this folder, whose names end in `.texts` or in this
+/// ending. It prints a line for each row that differs, and one for each file with its number of rows; the heading stands before each line. It
 /// answers whether there is a file of rows, each has rows, all rows can be read, and none differs.
 ///
 /// A file whose name ends in `.texts` has no rows, and the names of its texts are known in the files of rows.
 pub fn report_files<A: Answers<R>, R: Files + Env + Print + AllocGlobal + Clone + Drop>(
     rt: &R,
     heading: &str,
+    ending: &str,
 ) -> io::Result<bool> {
     let files = files_of(rt)?;
     let mut reader = Reader::new(rt.alloc());
-    check_all::<A, R>(rt, &mut reader, heading, &files)
+    check_all::<A, R>(rt, &mut reader, heading, &files, ending)
 }

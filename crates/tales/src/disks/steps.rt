@@ -1,9 +1,9 @@
 //! Steps of a story, and what files tell of one.
 
-use crate::image::Image;
-use crate::task::{Question, Task};
-use crate::trial::{SOUND, done};
-use crate::work::{Pieces, Work, told_fault};
+use crate::disks::image::Image;
+use crate::disks::task::{Question, Task};
+use crate::disks::trial::{SOUND, done};
+use crate::disks::work::{Pieces, Work, told_fault};
 use keep::KeepFault;
 use rows::{Unread, text_of};
 use rules::Config;

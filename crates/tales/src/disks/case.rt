@@ -1,13 +1,13 @@
 //! An archive in files in memory, and what is asked of it.
 
-use crate::failing::Kind;
-use crate::image::Image;
-use crate::interrupted::interrupted;
-use crate::steps::{Step, paths_of};
-use crate::tampered::{changed, front, opening, opening_of, tampered, without_end};
-use crate::task::{Question, Task};
-use crate::trial::{Plan, SOUND, Which, done};
-use crate::work::{Pieces, Work, told_fault, word_or_fault};
+use crate::disks::failing::Kind;
+use crate::disks::image::Image;
+use crate::disks::interrupted::interrupted;
+use crate::disks::steps::{Step, paths_of};
+use crate::disks::tampered::{changed, front, opening, opening_of, tampered, without_end};
+use crate::disks::task::{Question, Task};
+use crate::disks::trial::{Plan, SOUND, Which, done};
+use crate::disks::work::{Pieces, Work, told_fault, word_or_fault};
 use keep::KeepFault;
 use rows::{Answers, Unread, said, text_of};
 use std::alloc::Global;

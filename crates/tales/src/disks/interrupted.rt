@@ -1,12 +1,12 @@
 //! A step that is done while a disk stops, fails or is full.
 
-use crate::account::{REFUSED, are_refused, difference, is_answer, is_like};
-use crate::failing::Kind;
-use crate::image::Image;
-use crate::steps::{Step, paths_of, told_of};
-use crate::task::{Task, add_paths};
-use crate::trial::{Left, Plan, SOUND, done};
-use crate::work::{Pieces, Work, told_fault};
+use crate::disks::account::{REFUSED, are_refused, difference, is_answer, is_like};
+use crate::disks::failing::Kind;
+use crate::disks::image::Image;
+use crate::disks::steps::{Step, paths_of, told_of};
+use crate::disks::task::{Task, add_paths};
+use crate::disks::trial::{Left, Plan, SOUND, done};
+use crate::disks::work::{Pieces, Work, told_fault};
 use keep::KeepFault;
 use rows::{Unread, said};
 use std::alloc::Global;

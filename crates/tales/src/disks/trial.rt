@@ -1,9 +1,9 @@
 //! Work with a database in two files in memory, of which one may stop, fail or be full. What is before it and behind it are plain
 //! bytes, so that few functions name a disk, and fewer the store of files.
 
-use crate::failing::{Failing, Kind};
-use crate::image::Image;
-use crate::work::{Answer, Pieces, Work};
+use crate::disks::failing::{Failing, Kind};
+use crate::disks::image::Image;
+use crate::disks::work::{Answer, Pieces, Work};
 use keep::KeepFault;
 use keep_rows::fault_of;
 use rows::Unread;

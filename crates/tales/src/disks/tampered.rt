@@ -1,9 +1,9 @@
 //! Databases that are no archive, or no databases.
 
-use crate::image::Image;
-use crate::task::Task;
-use crate::trial::{SOUND, done};
-use crate::work::{Work, word_or_fault};
+use crate::disks::image::Image;
+use crate::disks::task::Task;
+use crate::disks::trial::{SOUND, done};
+use crate::disks::work::{Work, word_or_fault};
 use rows::{Unread, number_of, said, text_of};
 use std::alloc::Global;
 

@@ -1,8 +1,8 @@
 //! What is done with an archive, over any keeper, and all that it shows.
 
-use crate::account::is_refusal;
-use crate::named::paths_in;
-use crate::work::Pieces;
+use crate::disks::account::is_refusal;
+use crate::disks::named::paths_in;
+use crate::disks::work::Pieces;
 use keep::Keeper;
 use queue::Archive;
 use rows::{Unread, text_of};

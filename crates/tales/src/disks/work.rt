@@ -1,6 +1,6 @@
 //! What is done with a database, over any store: each function that names the store of files takes the prover minutes.
 
-use crate::task::Task;
+use crate::disks::task::Task;
 use keep::KeepFault;
 use keep_rows::fault_of;
 use keep_tables::TableKeeper;
