@@ -1,10 +1,7 @@
 //! The program: an archive on the command line.
 #![tactic(auto)]
 
-mod database;
-
-use crate::database::act_in_file;
-use commands::explain;
+use commands::{act, explain};
 use std::io::Write;
 use std::process::ExitCode;
 use std::{env, io};
@@ -27,7 +24,7 @@ fn do_words(rt: &HostRuntime, given: &[String]) -> io::Result<u8> {
     }
     let (mut out, mut err) = (io::writer(rt), rt.stderr());
     match command_line::line(alloc, &words) {
-        Ok(line) => Ok(act_in_file(rt, &line, &mut out, &mut err)),
+        Ok(line) => Ok(act(rt, &line, &mut out, &mut err)),
         Err(fault) => Ok(explain(&fault, &mut out, &mut err)),
     }
 }
