@@ -1,7 +1,10 @@
 //! The program: an archive on the command line.
 #![tactic(auto)]
 
-use commands::{act, explain};
+mod database;
+
+use crate::database::act_in_file;
+use commands::explain;
 use std::io::Write;
 use std::process::ExitCode;
 use std::{env, io};
@@ -24,7 +27,7 @@ fn do_words(rt: &HostRuntime, given: &[String]) -> io::Result<u8> {
     }
     let (mut out, mut err) = (io::writer(rt), rt.stderr());
     match command_line::line(alloc, &words) {
-        Ok(line) => Ok(act(rt, &line, &mut out, &mut err)),
+        Ok(line) => Ok(act_in_file(rt, &line, &mut out, &mut err)),
         Err(fault) => Ok(explain(&fault, &mut out, &mut err)),
     }
 }

@@ -1,6 +1,6 @@
 //! What the program does for a line.
 
-use crate::database::{FileKeeper, InFile};
+use crate::database::InFile;
 use crate::fault::Stop;
 use crate::words::{self, Serving, Word};
 use command_line::{CommandLine, LineFault};
@@ -133,7 +133,7 @@ fn compare<'a, W: Write>(
 }
 
 /// Does a line over keepers of this type, and says whether all that was given was taken.
-fn done<'a, K: InFile + Keeper, W: Write, E: Write>(
+fn done<'a, K: Keeper + Drop, F: InFile<K>, W: Write, E: Write>(
     rt: &HostRuntime,
     line: &CommandLine<'a>,
     out: &mut W,
@@ -149,7 +149,7 @@ fn done<'a, K: InFile + Keeper, W: Write, E: Write>(
             return Ok(true);
         }
         CommandLine::Init { db, at, conf } => {
-            words::init::<K>(rt, db, *at, conf)?;
+            words::init::<K, F>(rt, db, *at, conf)?;
             return Ok(true);
         }
         CommandLine::Put { db, at, paths } => (*db, Word::Put { at: *at, paths }),
@@ -200,33 +200,36 @@ fn done<'a, K: InFile + Keeper, W: Write, E: Write>(
                 address,
                 count: *count,
             };
-            words::serve_file::<K, E>(rt, db, serving, err)?;
+            words::serve_file::<K, F, E>(rt, db, serving, err)?;
             return Ok(true);
         }
     };
-    words::ask_file::<K, W>(rt, db, word, out)
+    words::ask_file::<K, F, W>(rt, db, word, out)
 }
 
 /// The same, with its output written out.
-fn finished<'a, K: InFile + Keeper, W: Write, E: Write>(
+fn finished<'a, K: Keeper + Drop, F: InFile<K>, W: Write, E: Write>(
     rt: &HostRuntime,
     line: &CommandLine<'a>,
     out: &mut W,
     err: &mut E,
 ) -> Result<bool, Stop<'a>> {
-    let all = done::<K, W, E>(rt, line, out, err)?;
+    let all = done::<K, F, W, E>(rt, line, out, err)?;
     out.flush()?;
     Ok(all)
 }
 
-/// Does a line over keepers of this type, and answers the exit status.
-fn act_over<K: InFile + Keeper, W: Write, E: Write>(
+/// Does a line over keepers of this type, which `F` opens and makes, and answers the exit status: 0 where it is done; 1 where
+/// something is refused or a file can't be read; 3 where memory runs out, a disk fails or is full, the address can't be used, or
+/// an output fails. What was refused is a line on `err`, but for the files of a `put`, which have their lines on `out`; where an
+/// output fails nothing more is printed. The log of a `serve` is on `err` too.
+pub fn act<K: Keeper + Drop, F: InFile<K>, W: Write, E: Write>(
     rt: &HostRuntime,
     line: &CommandLine<'_>,
     out: &mut W,
     err: &mut E,
 ) -> u8 {
-    match finished::<K, W, E>(rt, line, out, err) {
+    match finished::<K, F, W, E>(rt, line, out, err) {
         Ok(true) => 0,
         Ok(false) => 1,
         Err(Stop::Unwritten) => 3,
@@ -235,19 +238,6 @@ fn act_over<K: InFile + Keeper, W: Write, E: Write>(
             Err(_) => 3,
         },
     }
-}
-
-/// Does a line, and answers the exit status: 0 where it is done; 1 where something is refused or a file can't be read;
-/// 3 where memory runs out, a disk fails or is full, the address can't be used, or an output fails. What was refused is
-/// a line on `err`, but for the files of a `put`, which have their lines on `out`; where an output fails nothing more
-/// is printed. The log of a `serve` is on `err` too.
-pub fn act<W: Write, E: Write>(
-    rt: &HostRuntime,
-    line: &CommandLine<'_>,
-    out: &mut W,
-    err: &mut E,
-) -> u8 {
-    act_over::<FileKeeper, W, E>(rt, line, out, err)
 }
 
 /// Prints why words are no line, and has it written out: the help or the version that was asked for on `out`, or what is wrong with the

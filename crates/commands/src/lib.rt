@@ -1,5 +1,5 @@
-//! What the program's commands do: a line of the command line, done over the archive of a database file, and the archive
-//! served over HTTP.
+//! What the program's commands do, over any keeper in a file: a line of the command line, done over the archive of a database file, and the
+//! archive served over HTTP.
 #![tactic(auto)]
 
 mod answers;
@@ -13,7 +13,7 @@ mod serving;
 mod words;
 
 pub use client::Patience;
-pub use database::{FileKeeper, InFile, close, create_archive, open_archive};
+pub use database::{InFile, close, create_archive, open_archive};
 pub use doing::{act, explain};
 pub use fault::Stop;
 pub use serving::{serve, serve_within};

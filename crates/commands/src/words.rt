@@ -67,7 +67,7 @@ pub struct Serving<'w> {
 
 /// Makes an archive in a database file at a moment, in seconds since 1970-01-01 00:00:00 UTC, with the configuration of
 /// a file.
-pub fn init<'a, K: InFile + Keeper>(
+pub fn init<'a, K: Keeper + Drop, F: InFile<K>>(
     rt: &HostRuntime,
     db: &str,
     at: u64,
@@ -75,8 +75,8 @@ pub fn init<'a, K: InFile + Keeper>(
 ) -> Result<(), Stop<'a>> {
     let text = body_of(rt, conf)?;
     let config = Config::read(rt.alloc(), &text)?;
-    let archive: Archive<K> = create_archive(rt, db, config, at)?;
-    close(archive);
+    let archive = create_archive::<K, F>(rt, db, config, at)?;
+    close::<K, F>(archive);
     Ok(())
 }
 
@@ -99,7 +99,7 @@ fn serve_listener<'a, K: Keeper, E: Write>(
 
 /// Opens the archive of a database file and serves so many connections. Answers how many are left where its keeper is shut
 /// before, and else none.
-fn serve_some<'a, K: InFile + Keeper, E: Write>(
+fn serve_some<'a, K: Keeper + Drop, F: InFile<K>, E: Write>(
     rt: &HostRuntime,
     db: &str,
     listener: &io::Result<TcpListener>,
@@ -107,9 +107,9 @@ fn serve_some<'a, K: InFile + Keeper, E: Write>(
     moments: &mut Moments<'_>,
     log: &mut Option<&mut E>,
 ) -> Result<u64, Stop<'a>> {
-    let mut archive: Archive<K> = open_archive(rt, db)?;
+    let mut archive = open_archive::<K, F>(rt, db)?;
     let served = serve_listener(rt, &mut archive, listener, left, moments, log);
-    close(archive);
+    close::<K, F>(archive);
     match served {
         Ok(()) => Ok(0),
         Err(Stop::Shut(left)) => Ok(left),
@@ -133,7 +133,7 @@ fn log_on<E>(is_wanted: bool, err: &mut E) -> Option<&mut E> {
 /// Serves the archive of a database file. The listener is made before the file is opened, so that clients wait meanwhile, and
 /// ends behind it. Where the keeper is shut by a disk that fails, the file is opened again, and the rest of the connections is
 /// answered from what is found then.
-pub fn serve_file<'a, K: InFile + Keeper, E: Write>(
+pub fn serve_file<'a, K: Keeper + Drop, F: InFile<K>, E: Write>(
     rt: &HostRuntime,
     db: &str,
     serving: Serving<'_>,
@@ -142,7 +142,7 @@ pub fn serve_file<'a, K: InFile + Keeper, E: Write>(
     keep_room(rt.alloc());
     let listener = TcpListener::bind(rt, serving.address);
     let mut moments = Moments::new(serving.at, serving.moments);
-    let mut left = serve_some::<K, E>(
+    let mut left = serve_some::<K, F, E>(
         rt,
         db,
         &listener,
@@ -154,7 +154,7 @@ pub fn serve_file<'a, K: InFile + Keeper, E: Write>(
         if left == 0 {
             break;
         }
-        left = match serve_some::<K, E>(
+        left = match serve_some::<K, F, E>(
             rt,
             db,
             &listener,
@@ -198,14 +198,14 @@ fn ask<'a, K: Keeper, W: Write>(
 }
 
 /// Asks the archive of a database file, and says whether all that was given was taken.
-pub fn ask_file<'a, K: InFile + Keeper, W: Write>(
+pub fn ask_file<'a, K: Keeper + Drop, F: InFile<K>, W: Write>(
     rt: &HostRuntime,
     db: &str,
     word: Word<'_, 'a>,
     out: &mut W,
 ) -> Result<bool, Stop<'a>> {
-    let mut archive: Archive<K> = open_archive(rt, db)?;
+    let mut archive = open_archive::<K, F>(rt, db)?;
     let done = ask(rt, &mut archive, db, word, out);
-    close(archive);
+    close::<K, F>(archive);
     done
 }

@@ -1,0 +1,136 @@
+//! The keeper over the tables of a database file.
+
+ghost use Rattle.std.specs.Prelude.{◌≤◌};
+
+use command_line::CommandLine;
+use commands::{InFile, act};
+use keep::{KeepFault, LATEST};
+use keep_rows::fault_of;
+use keep_tables::TableKeeper;
+use rules::Config;
+use sqlite::{Alter, Connection, Error, ErrorCode, FileFrom, FileStore, Wary};
+use sqlite_disk::Disk;
+use std::alloc::Global;
+use std::io::Write;
+use std::thread;
+use std::time::Duration;
+
+/// The keeper over the tables of a database file.
+pub type FileKeeper = TableKeeper<FileStore<FileFrom<Wary>>>;
+
+/// Opens, makes and closes archives in database files.
+#[derive(Clone, Copy)]
+pub struct DatabaseFile;
+
+impl InFile<FileKeeper> for DatabaseFile {
+    fn opened(rt: &HostRuntime, path: &str) -> Result<FileKeeper, KeepFault> {
+        opened_over(rt.alloc(), connect(rt, path))
+    }
+
+    fn made(
+        rt: &HostRuntime,
+        path: &str,
+        config: Config,
+        moment: u64,
+    ) -> Result<FileKeeper, KeepFault> {
+        made_over(rt.alloc(), connect(rt, path), config, moment)
+    }
+
+    fn closed(keeper: FileKeeper) {
+        disconnect(connection_of(keeper));
+    }
+}
+
+/// How often a database that another process holds is tried again.
+const TRIES: u32 = 100;
+
+/// How many milliseconds are waited behind each try: 10 seconds in all.
+const BETWEEN_TRIES: u64 = 100;
+
+/// The connection to a database, none while another process holds it, or why there is none.
+fn connected<C, L: Drop>(connection: Result<C, (Error, L)>) -> Result<Option<C>, KeepFault> {
+    match connection {
+        Ok(connection) => Ok(Some(connection)),
+        Err((Error::SqliteFailure(ErrorCode::DatabaseBusy), _)) => Ok(None),
+        Err((error, _)) => Err(fault_of(error)),
+    }
+}
+
+/// The connection to the database of a file, none while another process holds it, or why there is none.
+fn connect_once(
+    rt: &HostRuntime,
+    path: &str,
+) -> Result<Option<Connection<FileStore<FileFrom<Wary>>>>, KeepFault> {
+    connected(Connection::open_from(rt, path, false, Wary))
+}
+
+/// The connection to the database of a file. One that another process holds is waited for, up to 10 seconds.
+fn connect(
+    rt: &HostRuntime,
+    path: &str,
+) -> Result<Connection<FileStore<FileFrom<Wary>>>, KeepFault> {
+    for _ in 0..TRIES {
+        if let Some(connection) = connect_once(rt, path)? {
+            return Ok(connection);
+        }
+        thread::sleep(rt, Duration::from_millis(BETWEEN_TRIES));
+    }
+    match connect_once(rt, path)? {
+        Some(connection) => Ok(connection),
+        None => Err(KeepFault::Disk),
+    }
+}
+
+/// The connection of a keeper.
+fn connection_of<S: Alter + Drop>(keeper: TableKeeper<S>) -> Connection<S> {
+    keeper.into_connection()
+}
+
+/// Copies the log into the database file, where that does not fail, and closes both.
+fn disconnect<D: Disk + Drop>(connection: Connection<FileStore<D>>) {
+    let _ = connection.close();
+}
+
+/// The keeper over a database, or why there is none.
+fn kept<K, C: Drop>(keeper: Result<K, (C, KeepFault)>) -> Result<K, KeepFault> {
+    match keeper {
+        Ok(keeper) => Ok(keeper),
+        Err((_, fault)) => Err(fault),
+    }
+}
+
+/// A keeper of the archive that a database keeps.
+fn opened_over<S: Alter + Drop>(
+    alloc: Global,
+    connection: Result<Connection<S>, KeepFault>,
+) -> Result<TableKeeper<S>, KeepFault> {
+    match connection {
+        Ok(connection) => kept(TableKeeper::open(alloc, connection)),
+        Err(fault) => Err(fault),
+    }
+}
+
+/// A keeper of a new archive of the configuration, made in a database at the moment.
+fn made_over<S: Alter + Drop>(
+    alloc: Global,
+    connection: Result<Connection<S>, KeepFault>,
+    config: Config,
+    moment: u64,
+) -> Result<TableKeeper<S>, KeepFault>
+    requires { moment ≤ LATEST }
+{
+    match connection {
+        Ok(connection) => kept(TableKeeper::create(alloc, connection, config, moment)),
+        Err(fault) => Err(fault),
+    }
+}
+
+/// Does a line over database files, and answers the exit status.
+pub fn act_in_file<W: Write, E: Write>(
+    rt: &HostRuntime,
+    line: &CommandLine<'_>,
+    out: &mut W,
+    err: &mut E,
+) -> u8 {
+    act::<FileKeeper, DatabaseFile, W, E>(rt, line, out, err)
+}
