@@ -125,6 +125,17 @@ fn made_over<S: Alter + Drop>(
     }
 }
 
+/// Does a line over keepers on stores of this type, and answers the exit status. Where the store is not named, the prover has little to
+/// compare.
+fn act_over<S: Alter + Drop, F: InFile<TableKeeper<S>>, W: Write, E: Write>(
+    rt: &HostRuntime,
+    line: &CommandLine<'_>,
+    out: &mut W,
+    err: &mut E,
+) -> u8 {
+    act::<TableKeeper<S>, F, W, E>(rt, line, out, err)
+}
+
 /// Does a line over database files, and answers the exit status.
 pub fn act_in_file<W: Write, E: Write>(
     rt: &HostRuntime,
@@ -132,5 +143,5 @@ pub fn act_in_file<W: Write, E: Write>(
     out: &mut W,
     err: &mut E,
 ) -> u8 {
-    act::<FileKeeper, DatabaseFile, W, E>(rt, line, out, err)
+    act_over::<FileStore<FileFrom<Wary>>, DatabaseFile, W, E>(rt, line, out, err)
 }
