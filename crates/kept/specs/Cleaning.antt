@@ -1,5 +1,5 @@
 -- What counts at a moment, told by the rows, and what a cleaning makes of them.
-use Rattle.std.specs.Prelude.{ℕ, ◌+◌, nat_eq, nat_lt, Bool, true, false, ◌&&◌, not, List, filter, fold, find, Option, Some, None}
+use Rattle.std.specs.Prelude.{ℕ, ◌+◌, nat_eq, nat_lt, Bool, true, false, ◌&&◌, not, if◌then◌else◌, List, filter, fold, find, Option, Some, None}
 use Rattle.std.specs.List.{list_any}
 use Rattle.std.specs.Option.{option_map_or}
 use Rattle.sums.specs.declared.print.Print.{Print}
@@ -31,10 +31,10 @@ has_ended span moment t u = not (is_judged u) && not (is_current span moment t u
 
 -- ---- what the statements of a cleaning do, one after another
 
--- an upload of this name and print without a verdict is gone, with what it wants
+-- the upload of this name and print is gone with what it wants, unless it has a verdict
 unfoldable pub without_request : List ℕ → Print → Tables → Tables
 without_request name print t =
-    option_map_or (λ x. without_upload x.0 (without_wants x.0 t)) (find (λ x. is_upload name print x.1 && not (is_judged x.1)) t.uploads) t
+    option_map_or (λ x. if is_judged x.1 then t else without_upload x.0 (without_wants x.0 t)) (find (λ x. is_upload name print x.1) t.uploads) t
 
 -- An arrival goes: its row, the flags of the wants that it filled, and the upload without a verdict that it was, with its wants.
 unfoldable pub with_gone : ℕ × Arrival → Tables → Tables
