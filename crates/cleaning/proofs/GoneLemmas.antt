@@ -205,8 +205,8 @@ module _ (t : Tables) (up : Rises t.uploads) (apart : IsAscending (λ x y. sign_
   abbrev more : Away → ℕ × Arrival → Away
   more away x = λ name print. away name print || had t x name print
 
-  abbrev is_printed : ℕ × Arrival → Type 0
-  is_printed x = print_at t x.1.body ≡ Some (print_of (bytes_of t x.1.body))
+  abbrev IsPrinted : ℕ × Arrival → Type 0
+  IsPrinted x = print_at t x.1.body ≡ Some (print_of (bytes_of t x.1.body))
 
   module _ (away : Away) (x : ℕ × Arrival) where
     abbrev print_here : Print
@@ -266,7 +266,7 @@ module _ (t : Tables) (up : Rises t.uploads) (apart : IsAscending (λ x y. sign_
         (without_twice (ends_with away t.uploads) (goes_with x.1.name print_here us) (ends_with (more away x) t.uploads)
         (λ w. neither (ends_with away t.uploads w) (goes_with x.1.name print_here us w) ∙ ap not (either_goes w)) t.wants)
 
-    one_gone : (left : Numbered Arrival) → is_printed x → with_gone x (away_rows t away left) ≡ away_rows t (more away x) (without (λ r. nat_eq r.0 x.0) left)
+    one_gone : (left : Numbered Arrival) → IsPrinted x → with_gone x (away_rows t away left) ≡ away_rows t (more away x) (without (λ r. nat_eq r.0 x.0) left)
     unfolding with_gone
     one_gone left is =
         let now : Tables = away_rows t away left in
@@ -278,7 +278,7 @@ module _ (t : Tables) (up : Rises t.uploads) (apart : IsAscending (λ x y. sign_
 
   -- ---- one after another
 
-  all_gone : (gone : Numbered Arrival) (away : Away) (left : Numbered Arrival) → AllByRecursion is_printed gone
+  all_gone : (gone : Numbered Arrival) (away : Away) (left : Numbered Arrival) → AllByRecursion IsPrinted gone
       → fold (λ now x. with_gone x now) (away_rows t away left) gone
       ≡ away_rows t (λ name print. away name print || list_any (λ x. had t x name print) gone) (without_each left gone)
   all_gone [] away left h = λ i. away_rows t (λ name print. or_none (away name print) i) left
@@ -308,6 +308,6 @@ module _ (t : Tables) (up : Rises t.uploads) (apart : IsAscending (λ x y. sign_
           ∙ none_go (ends_with nothing t.uploads) t.wants (all_of (λ w. ends_with nothing t.uploads w ≡ false) none_with t.wants))
 
   -- The rows once these arrivals have gone one after another.
-  pub gone_rows : (gone : Numbered Arrival) → AllByRecursion is_printed gone
+  pub gone_rows : (gone : Numbered Arrival) → AllByRecursion IsPrinted gone
       → fold (λ now x. with_gone x now) t gone ≡ away_rows t (λ name print. list_any (λ x. had t x name print) gone) (without_each t.arrivals gone)
   gone_rows gone h = ap (λ s. fold (λ now x. with_gone x now) s gone) none_away ∙ all_gone gone nothing t.arrivals h

@@ -1,0 +1,6 @@
+pub mod CurrentLemmas
+pub mod CurrentUploads
+pub mod CleanedArchive
+pub mod GoneLemmas
+pub mod CleanedRows
+pub mod CleaningTurns
