@@ -3,4 +3,5 @@ pub mod CurrentUploads
 pub mod CleanedArchive
 pub mod GoneLemmas
 pub mod CleanedRows
-pub mod CleaningTurns
+pub mod CleanedFinished
+pub mod CleanCalls

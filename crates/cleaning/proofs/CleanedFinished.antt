@@ -1,19 +1,16 @@
--- What a cleaning makes of what a database keeps.
-use Rattle.std.proofs.Common.{◌≡◌, ◌<◌, ℕ, Bool, true, false, not, if◌then◌else◌, nat_eq, List, [], ◌∷◌, filter, find, fold, length, All, Option, Some, None, IsTrue, Result, Ok, Err, OnOk, refl, sym, ap, subst, ◌∙◌}
-use Rattle.std.specs.List.{AllByRecursion, list_any}
+-- A cleaning goes past a body that is not whole, which goes with the unused ones: it makes the same of all rows as of the finished ones.
+use Rattle.std.proofs.Common.{◌≡◌, ◌<◌, ℕ, Bool, true, false, not, if◌then◌else◌, nat_eq, List, [], ◌∷◌, filter, find, fold, length, All, Option, Some, None, IsTrue, refl, sym, ap, subst, ◌∙◌}
+use Rattle.std.specs.List.{AllByRecursion}
 use Rattle.std.specs.Option.{option_and_then, option_map_or}
 use Rattle.std.proofs.lemmas.Bool.{both_ways, eqb-true, false_from_ne_true}
 use Rattle.std.proofs.lemmas.List.{length-map}
-use Rattle.sqlite.specs.Effect.{Database}
-use Rattle.sqlite.specs.State.{State, Survives}
-use Rattle.sqlite.proofs.StateLemmas.{survives_weaker}
 use Rattle.sqlite_keyed.proofs.ListLemmas.{all-filter, all_weaker, filter-map, filter_same}
 use Rattle.rules.specs.Values.{ConfigValue}
 use Rattle.sums.specs.declared.print.Print.{Print}
 use Rattle.suites.specs.Shelves.{ShelvesValue}
-use Rattle.keep.specs.Book.{Book, at_moment, counts, ended, span}
+use Rattle.keep.specs.Book.{counts, ended, span}
 use Rattle.keep.specs.declared.change.Judgement.{Judgement}
-use Rattle.tables.specs.Rows.{Numbered, Rises, Tables, Holds, rows_of, tables_in, without}
+use Rattle.tables.specs.Rows.{Numbered, Rises, Tables, rows_of, without}
 use Rattle.tables.specs.Uploads.{is_judged as has_place, is_upload, without_upload}
 use Rattle.tables.specs.Wants.{with_away, without_wants}
 use Rattle.tables.specs.Arrivals.{without_arrival}
@@ -21,25 +18,19 @@ use Rattle.tables.specs.declared.rows.Arrival.{Arrival}
 use Rattle.tables.specs.declared.rows.Body.{Body}
 use Rattle.tables.specs.declared.rows.Piece.{Piece}
 use Rattle.tables.specs.declared.rows.Upload.{Upload}
-use Rattle.tables.proofs.BookLemmas.{held_tables}
-use Rattle.kept.specs.Archives.{KeepsArchive, Turns, book_of}
 use Rattle.kept.specs.Cleaning.{cleaned, counts_row, ended_rows, with_cleaned, with_current, with_gone, without_request}
-use Rattle.kept.specs.Coming.{HasComing}
 use Rattle.kept.specs.Finished.{finished, is_of_unfinished, is_unfinished}
 use Rattle.kept.specs.Kept.{AreArrivals, AreNumbered, IsKept, arrival_in, arrivals_in, book_in, has_body, print_at}
 use Rattle.kept.specs.Sweeping.{swept}
-use Rattle.kept.specs.Transactions.{IsDone, MayCommit}
 use Rattle.kept.proofs.ArrivalLemmas.{counts_as}
 use Rattle.kept.proofs.BodyLemmas.{are_stored}
-use Rattle.kept.proofs.ComingLemmas.{none_coming}
-use Rattle.kept.proofs.DeliveredLemmas.{numbered}
-use Rattle.kept.proofs.FinishedLemmas.{has_unfinished, finished_numbered, kept_finished, left_whole, tells}
+use Rattle.kept.proofs.FinishedLemmas.{finished_numbered, has_unfinished, left_whole, tells}
 use Rattle.kept.proofs.PassingLemmas.{beside}
 use Rattle.kept.proofs.RowLists.{find_kept}
 use Rattle.kept.proofs.Searches.{all_of_rows}
 use Rattle.kept.proofs.SweptFinished.{swept_finished, use_whole}
-use Rattle.cleaning.proofs.CleanedArchive.{cleaned_archive, current_unswept}
-use Rattle.cleaning.proofs.CleanedRows.{gone_current, with_cleaned-cleaned}
+use Rattle.cleaning.proofs.CleanedArchive.{current_unswept}
+use Rattle.cleaning.proofs.CleanedRows.{gone_current}
 
 -- ---- arrivals go past bodies that are not whole
 
@@ -168,72 +159,3 @@ module _ (t : Tables) (config : ConfigValue) (judged : List Judgement) (shown : 
       ∙ filter_same (λ a. not (counts_row seconds moment a)) (λ a. not (counts seconds moment (arrival_in (finished t) a))) (λ a. ap not (counts_as (finished t) seconds moment a)) (rows_of t.arrivals))
       ∙ sym (length-map (filter (λ a. not (counts seconds moment (arrival_in (finished t) a))) (rows_of t.arrivals)) (arrival_in (finished t)))
       ∙ ap length (sym (filter-map (λ a. not (counts seconds moment a)) (arrival_in (finished t)) (rows_of t.arrivals)))
-
--- ---- what a database keeps
-
--- what a cleaning makes of a database, whatever archive of this configuration it was
-abbrev pub CleansBy : Database → Database → ConfigValue → ℕ → Type 0
-CleansBy before after config moment = (judged : List Judgement) (shown : ShelvesValue) (dates : List ℕ) → KeepsArchive before config judged shown dates
-    → Turns before after config judged shown dates judged shown dates (at_moment moment)
-
-module _ (config : ConfigValue) (moment : ℕ) where
-  module _ (before after : Database) (held : (t : Tables) → Holds before t → Holds after (with_cleaned (span config) moment t))
-      (judged : List Judgement) (shown : ShelvesValue) (dates : List ℕ) (archive : KeepsArchive before config judged shown dates) where
-    abbrev rows_before : Tables
-    rows_before = tables_in before
-
-    rises : AreNumbered rows_before
-    rises = numbered before rows_before archive.held
-
-    rows : tables_in after ≡ cleaned (span config) moment (finished rows_before)
-    rows =
-        held_tables after (with_cleaned (span config) moment rows_before) (held rows_before archive.held)
-        ∙ cleaned_finished rows_before config judged shown dates rises archive.kept moment
-
-    both : IsKept (cleaned (span config) moment (finished rows_before)) config judged shown dates
-        × (book_in config judged shown dates (cleaned (span config) moment (finished rows_before)) ≡ at_moment moment (book_in config judged shown dates (finished rows_before)))
-    both = cleaned_archive (finished rows_before) config judged shown dates moment (finished_numbered rows_before rises) archive.kept
-
-    -- all rows are finished then
-    all_whole : finished (tables_in after) ≡ tables_in after
-    all_whole = ap finished rows ∙ kept_finished (cleaned (span config) moment (finished rows_before)) both.0.bodies ∙ sym rows
-
-    clean_turns : Turns before after config judged shown dates judged shown dates (at_moment moment)
-    clean_turns =
-        let same : finished (tables_in after) ≡ cleaned (span config) moment (finished rows_before) = all_whole ∙ rows in
-        record {
-          kept = record {
-            held = subst (Holds after) (sym (held_tables after (with_cleaned (span config) moment rows_before) (held rows_before archive.held))) (held rows_before archive.held);
-            kept = subst (λ u. IsKept u config judged shown dates) (sym same) both.0;
-          };
-          book = ap (book_in config judged shown dates) same ∙ both.1;
-        }
-
-    clean_ends : HasComing (tables_in after) []
-    clean_ends = none_coming (tables_in after) all_whole
-
-  -- where the connection has no transaction, what it shows is what is committed
-  module _ (old new : State) (settled : IsTrue old.is_open → old.now ≡ old.committed) where
-    now_held : IsTrue old.is_open → (t : Tables) → Holds old.committed t → Holds old.now t
-    now_held up t was = subst (λ db. Holds db t) (sym (settled up)) was
-
-    pub done_cleans : {X E : Type 0} (r : Result X E) → OnOk r (IsDone old new (with_cleaned (span config) moment)) → OnOk r (CleansBy old.committed new.committed config moment)
-    done_cleans (Ok x) done = clean_turns old.committed new.committed (λ t was. done.held t (now_held done.was_open t was))
-    done_cleans (Err e) done = tt
-
-    -- nothing is coming any more
-    pub done_ends : {X E : Type 0} (r : Result X E) → OnOk r (IsDone old new (with_cleaned (span config) moment))
-        → OnOk r ((judged : List Judgement) (shown : ShelvesValue) (dates : List ℕ) → KeepsArchive old.committed config judged shown dates → HasComing (tables_in new.committed) [])
-    done_ends (Ok x) done = clean_ends old.committed new.committed (λ t was. done.held t (now_held done.was_open t was))
-    done_ends (Err e) done = tt
-
-    pub crash_cleans : Survives old new (MayCommit old (with_cleaned (span config) moment))
-        → Survives old new (λ trees. (db : Database) × (trees ≡ db.trees) × IsTrue old.is_open × CleansBy old.committed db config moment)
-    crash_cleans h = survives_weaker old new _ _ (λ clean trees may.
-        (may.0, may.1, may.2, clean_turns old.committed may.0 (λ t was. may.3 t (now_held may.2 t was)))) h
-
--- the number of rows that do not count is that of arrivals of the book
-pub count_of_ended : (before : Database) (config : ConfigValue) (judged : List Judgement) (shown : ShelvesValue) (dates : List ℕ) (moment : ℕ) → KeepsArchive before config judged shown dates
-    → (n : ℕ) → ((t : Tables) → Holds before t → n ≡ length (ended_rows (span config) moment t)) → n ≡ length (ended (span config) moment (book_of before config judged shown dates).arrivals)
-count_of_ended before config judged shown dates moment archive n answer =
-    answer (tables_in before) archive.held ∙ count_ended (tables_in before) config judged shown dates (numbered before (tables_in before) archive.held) archive.kept moment
