@@ -96,14 +96,14 @@ module _ (t : Tables) (seconds : Option ℕ) (moment : ℕ) where
   ended u = has_ended seconds moment t u
 
   -- an upload of this number has ended
-  abbrev has_gone : ℕ → Bool
+  abbrev pub has_gone : ℕ → Bool
   has_gone id = list_any (λ x. nat_eq x.0 id && ended x.1) t.uploads
 
-  abbrev stays : Want → Bool
+  abbrev pub stays : Want → Bool
   stays w = not (has_gone w.upload)
 
   -- a want is here where it counts
-  abbrev turn : Want → Want
+  abbrev pub turn : Want → Want
   turn w = cond (not (cur w.name w.print)) (record w { here = false }) w
 
   pub wants_left : rows_of (with_current seconds moment t).wants ≡ map turn (filter stays (rows_of t.wants))
@@ -132,22 +132,32 @@ module _ (t : Tables) (seconds : Option ℕ) (moment : ℕ) where
         | false ↦ ap (λ h. (w.name, w.print, h)) (sym (and_right w.here false refl))
       ]
 
+  pub here_turned : (w : Want) → (turn w).here ≡ (w.here && cur w.name w.print)
+  here_turned w =
+      elim (cur w.name w.print) as (λ b. (cond (not b) (record w { here = false }) w).here ≡ (w.here && b)) [
+        | true ↦ sym (and_true w.here)
+        | false ↦ sym (and_right w.here false refl)
+      ]
+
   -- the wants of an upload that has not ended
-  wants_then : (id : ℕ) → has_gone id ≡ false → (ws : List Want) → wants_of (map turn (filter stays ws)) id ≡ map (fresh_entry keep) (wants_of ws id)
-  wants_then id none ws =
-      ap (map entry_in)
-      (filter-map (is_wanted_by id) turn (filter stays ws)
+  pub rows_then : (id : ℕ) → has_gone id ≡ false → (ws : List Want) → filter (is_wanted_by id) (map turn (filter stays ws)) ≡ map turn (filter (is_wanted_by id) ws)
+  rows_then id none ws =
+      filter-map (is_wanted_by id) turn (filter stays ws)
       ∙ ap (map turn) (filter_same (λ w. is_wanted_by id (turn w)) (is_wanted_by id) (λ w. ap (λ n. nat_eq n id) (turn_upload w)) (filter stays ws)
-      ∙ filter-filter (is_wanted_by id) stays its_own ws))
-      ∙ map-map entry_in turn (filter (is_wanted_by id) ws)
-      ∙ map_same (λ w. entry_in (turn w)) (λ w. fresh_entry keep (entry_in w)) entry_turned (filter (is_wanted_by id) ws)
-      ∙ sym (map-map (fresh_entry keep) entry_in (filter (is_wanted_by id) ws))
+      ∙ filter-filter (is_wanted_by id) stays its_own ws)
     where
       its_own : (w : Want) → is_wanted_by id w ≡ true → stays w ≡ true
       its_own w mine = not_from_false (has_gone w.upload) (ap has_gone (eqb-true w.upload id mine) ∙ none)
 
+  wants_then : (id : ℕ) → has_gone id ≡ false → (ws : List Want) → wants_of (map turn (filter stays ws)) id ≡ map (fresh_entry keep) (wants_of ws id)
+  wants_then id none ws =
+      ap (map entry_in) (rows_then id none ws)
+      ∙ map-map entry_in turn (filter (is_wanted_by id) ws)
+      ∙ map_same (λ w. entry_in (turn w)) (λ w. fresh_entry keep (entry_in w)) entry_turned (filter (is_wanted_by id) ws)
+      ∙ sym (map-map (fresh_entry keep) entry_in (filter (is_wanted_by id) ws))
+
   -- one that is current has not ended
-  not_ended : (u : Upload) → cur u.name u.print ≡ true → ended u ≡ false
+  pub not_ended : (u : Upload) → cur u.name u.print ≡ true → ended u ≡ false
   not_ended u e = ap (λ c. not (has_place u) && not c) e ∙ and_right (not (has_place u)) false refl
 
   -- one that has ended has no place
@@ -179,7 +189,7 @@ module _ (t : Tables) (seconds : Option ℕ) (moment : ℕ) where
 
     -- ---- those that wait
 
-    waiting_left : filter is_waiting left ≡ filter (λ x. cur x.1.name x.1.print) (filter is_waiting t.uploads)
+    pub waiting_left : filter is_waiting left ≡ filter (λ x. cur x.1.name x.1.print) (filter is_waiting t.uploads)
     waiting_left =
         sym (filter_twice (λ x. not (ended x.1)) is_waiting t.uploads)
         ∙ filter_same (λ x. not (ended x.1) && is_waiting x) (λ x. is_waiting x && cur x.1.name x.1.print) (λ x. still (has_place x.1) (cur x.1.name x.1.print)) t.uploads

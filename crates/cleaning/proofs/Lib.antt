@@ -5,3 +5,4 @@ pub mod GoneLemmas
 pub mod CleanedRows
 pub mod CleanedFinished
 pub mod CleanCalls
+pub mod ReadsAtMoment
