@@ -123,7 +123,7 @@ module _ (t : Tables) (config : ConfigValue) (judged : List Judgement) (shown : 
 
   rises_now : Rises now.uploads
   unfolding with_current
-  rises_now = ascending-filter (λ a b. a.0 < b.0) _ whole.uploads rises.uploads
+  rises_now = ascending-filter (λ a b. a.0 < b.0) (λ x. not (has_ended seconds moment whole x.1)) whole.uploads rises.uploads
 
   -- ---- which uploads
 
