@@ -133,7 +133,7 @@ module _ (t : Tables) (stored : AreStored t) (arrived : AreArrivals t) (seconds 
     rows = rows_from_uploads t judged are
 
     -- an upload that waits has come
-    pub waiting_came : (x : ℕ × Upload) → Contains t.uploads x → is_waiting x ≡ true → has_come x.1.name x.1.print ≡ true
+    waiting_came : (x : ℕ × Upload) → Contains t.uploads x → is_waiting x ≡ true → has_come x.1.name x.1.print ≡ true
     unfolding arrivals_in
     waiting_came x c waits =
         let s = sign_in x.1 in
@@ -160,7 +160,7 @@ module _ (t : Tables) (stored : AreStored t) (arrived : AreArrivals t) (seconds 
     all_same_end = recursion_from_All (λ x. ends gone x ≡ has_ended seconds moment t x.1) t.uploads (all_if (λ x. ends gone x ≡ has_ended seconds moment t x.1) t.uploads same_end)
 
     -- a want is here exactly where its name and print came
-    pub want_came : (w : Want) → Contains (rows_of t.wants) w → w.here ≡ has_come w.name w.print
+    want_came : (w : Want) → Contains (rows_of t.wants) w → w.here ≡ has_come w.name w.print
     want_came w c =
         let owned = All-contains (λ v. list_any (waits_as v.upload) t.uploads ≡ true) (rows_of t.wants) w
         (All-from_recursion (λ v. list_any (waits_as v.upload) t.uploads ≡ true) (rows_of t.wants) rows.owned) c in

@@ -34,10 +34,6 @@ not_not : (a : Bool) → not (not a) ≡ a
 not_not true = refl
 not_not false = refl
 
-and_true : (a : Bool) → (a && true) ≡ a
-and_true true = refl
-and_true false = refl
-
 neither_print : (a b : Bool) → ((a && false) && b) ≡ false
 neither_print true b = refl
 neither_print false b = refl
@@ -72,14 +68,6 @@ module _ (t : Tables) (stored : AreStored t) (arrivals : AreArrivals t) (seconds
       by (Some found) is =
           any_same (λ a. is_arrival name found a && counting a) (λ a. bears t name print a && counting a) (rows_of t.arrivals)
           (λ a c. ap (λ q. (bytes_eq a.name name && q) && counting a) (by_number t stored print found is a.body (its_body a c)))
-
-  -- what came counts where arrivals do so for good
-  pub current_for_good : seconds ≡ None → (name : List ℕ) (print : Print) → cur name print ≡ list_any (bears t name print) (rows_of t.arrivals)
-  unfolding counts_row
-  current_for_good good name print =
-      current_by name print
-      ∙ ap (λ s. list_any (λ a. bears t name print a && counts_row s moment a) (rows_of t.arrivals)) good
-      ∙ any_same (λ a. bears t name print a && true) (bears t name print) (rows_of t.arrivals) (λ a c. and_true (bears t name print a))
 
   -- ---- what is there
 

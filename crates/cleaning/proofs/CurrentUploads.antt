@@ -96,14 +96,14 @@ module _ (t : Tables) (seconds : Option ℕ) (moment : ℕ) where
   ended u = has_ended seconds moment t u
 
   -- an upload of this number has ended
-  abbrev pub has_gone : ℕ → Bool
+  abbrev has_gone : ℕ → Bool
   has_gone id = list_any (λ x. nat_eq x.0 id && ended x.1) t.uploads
 
-  abbrev pub stays : Want → Bool
+  abbrev stays : Want → Bool
   stays w = not (has_gone w.upload)
 
   -- a want is here where it counts
-  abbrev pub turn : Want → Want
+  abbrev turn : Want → Want
   turn w = cond (not (cur w.name w.print)) (record w { here = false }) w
 
   pub wants_left : rows_of (with_current seconds moment t).wants ≡ map turn (filter stays (rows_of t.wants))
@@ -132,15 +132,8 @@ module _ (t : Tables) (seconds : Option ℕ) (moment : ℕ) where
         | false ↦ ap (λ h. (w.name, w.print, h)) (sym (and_right w.here false refl))
       ]
 
-  pub here_turned : (w : Want) → (turn w).here ≡ (w.here && cur w.name w.print)
-  here_turned w =
-      elim (cur w.name w.print) as (λ b. (cond (not b) (record w { here = false }) w).here ≡ (w.here && b)) [
-        | true ↦ sym (and_true w.here)
-        | false ↦ sym (and_right w.here false refl)
-      ]
-
   -- the wants of an upload that has not ended
-  pub rows_then : (id : ℕ) → has_gone id ≡ false → (ws : List Want) → filter (is_wanted_by id) (map turn (filter stays ws)) ≡ map turn (filter (is_wanted_by id) ws)
+  rows_then : (id : ℕ) → has_gone id ≡ false → (ws : List Want) → filter (is_wanted_by id) (map turn (filter stays ws)) ≡ map turn (filter (is_wanted_by id) ws)
   rows_then id none ws =
       filter-map (is_wanted_by id) turn (filter stays ws)
       ∙ ap (map turn) (filter_same (λ w. is_wanted_by id (turn w)) (is_wanted_by id) (λ w. ap (λ n. nat_eq n id) (turn_upload w)) (filter stays ws)
@@ -157,7 +150,7 @@ module _ (t : Tables) (seconds : Option ℕ) (moment : ℕ) where
       ∙ sym (map-map (fresh_entry keep) entry_in (filter (is_wanted_by id) ws))
 
   -- one that is current has not ended
-  pub not_ended : (u : Upload) → cur u.name u.print ≡ true → ended u ≡ false
+  not_ended : (u : Upload) → cur u.name u.print ≡ true → ended u ≡ false
   not_ended u e = ap (λ c. not (has_place u) && not c) e ∙ and_right (not (has_place u)) false refl
 
   -- one that has ended has no place
@@ -189,7 +182,7 @@ module _ (t : Tables) (seconds : Option ℕ) (moment : ℕ) where
 
     -- ---- those that wait
 
-    pub waiting_left : filter is_waiting left ≡ filter (λ x. cur x.1.name x.1.print) (filter is_waiting t.uploads)
+    waiting_left : filter is_waiting left ≡ filter (λ x. cur x.1.name x.1.print) (filter is_waiting t.uploads)
     waiting_left =
         sym (filter_twice (λ x. not (ended x.1)) is_waiting t.uploads)
         ∙ filter_same (λ x. not (ended x.1) && is_waiting x) (λ x. is_waiting x && cur x.1.name x.1.print) (λ x. still (has_place x.1) (cur x.1.name x.1.print)) t.uploads

@@ -5,4 +5,3 @@ pub mod GoneLemmas
 pub mod CleanedRows
 pub mod CleanedFinished
 pub mod CleanCalls
-pub mod ReadsAtMoment
