@@ -118,10 +118,6 @@ module _ (name : List ℕ) (print : Print) (moment id : ℕ) (store : Tables →
       changes_as a d (λ t. with_here name print (with_arrived name id moment (store t))) _
       (λ t was. ap (λ n. with_here name print (with_arrived name n moment (store t))) (is t was)) (changes_then a c d _ _ (changes_then a b c _ _ stored arrived) marked)
 
-  pub file_new : (new : Bool) → ((t : Tables) → Holds b.now t → new ≡ not (is_some (find (λ x. is_arrival name id x.1) t.arrivals))) → (t : Tables) → Holds a.now t
-      → new ≡ not (is_some (find (λ x. is_arrival name (number t) x.1) (store t).arrivals))
-  file_new new tells t was = subst (λ n. new ≡ not (is_some (find (λ x. is_arrival name n x.1) (store t).arrivals))) (is t was) (tells (store t) (stored.held t was))
-
 module _ (name : List ℕ) (print : Print) (moment : ℕ) (store : Tables → Tables) (number : Tables → ℕ) (a b : State)
     (stored : Changes a b (λ t. with_here name print (with_arrived name (number t) moment (store t)))) where
   pub received_alone : Changes a b (λ t. with_received name (number t) print moment None (store t))
