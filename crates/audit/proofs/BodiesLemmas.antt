@@ -1,5 +1,5 @@
 -- Bodies, their pieces, and whether they are used.
-use Rattle.std.proofs.Common.{◌≡◌, ℕ, suc, ◌+◌, ◌<◌, ◌/◌, ◌%◌, min, Bool, true, false, ◌||◌, cond, nat_eq, Result, Ok, Err, List, [], ◌∷◌, ◌++◌, map, filter, take, drop, length, get_or, All, IsTrue, refl, sym, ap, ◌∙◌, ⊎_elim, arith}
+use Rattle.std.proofs.Common.{◌≡◌, ℕ, suc, ◌+◌, ◌<◌, ◌/◌, ◌%◌, min, Bool, true, false, cond, nat_eq, Result, Ok, Err, List, [], ◌∷◌, ◌++◌, map, filter, take, drop, length, get_or, All, IsTrue, sym, ap, ◌∙◌, ⊎_elim, arith}
 use Rattle.std.specs.Prelude.{◌↔◌, is_ok}
 use Rattle.std.specs.List.{list_any, range_with_len}
 use Rattle.std.specs.List.Sorted.{IsBinarySearchResult, IsNonDecreasing}

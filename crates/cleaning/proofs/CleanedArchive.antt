@@ -1,5 +1,5 @@
 -- The archive after a cleaning: what does not count at the moment is away, and the book is the one at the moment.
-use Rattle.std.proofs.Common.{◌≡◌, ℕ, List, Option, IsTrue, refl, ◌∙◌}
+use Rattle.std.proofs.Common.{◌≡◌, ℕ, List, Option, refl, ◌∙◌}
 use Rattle.rules.specs.Values.{ConfigValue}
 use Rattle.suites.specs.Shelves.{ShelvesValue}
 use Rattle.keep.specs.Book.{at_moment, span}

@@ -1,5 +1,5 @@
 -- A cleaning goes past a body that is not whole, which goes with the unused ones: it makes the same of all rows as of the finished ones.
-use Rattle.std.proofs.Common.{◌≡◌, ◌<◌, ℕ, Bool, true, false, not, if◌then◌else◌, nat_eq, List, [], ◌∷◌, filter, find, fold, length, All, Option, Some, None, IsTrue, refl, sym, ap, subst, ◌∙◌}
+use Rattle.std.proofs.Common.{◌≡◌, ℕ, Bool, true, false, not, if◌then◌else◌, nat_eq, List, [], ◌∷◌, filter, find, fold, length, All, Option, Some, None, IsTrue, refl, sym, ap, subst, ◌∙◌}
 use Rattle.std.specs.List.{AllByRecursion}
 use Rattle.std.specs.Option.{option_and_then, option_map_or}
 use Rattle.std.proofs.lemmas.Bool.{both_ways, eqb-true, false_from_ne_true}

@@ -29,7 +29,7 @@ use Rattle.kept.proofs.Searches.{all_of_rows, any_same, any_weaker, filter_same_
 use Rattle.kept.proofs.WantLemmas.{AreRows, any_waiting, entry_in, is_sign, is_sign-Decides, is_sign-turned, is_waiting, request, waits_as, wants_of}
 use Rattle.kept.proofs.WantingLemmas.{only_one}
 use Rattle.cleaning.proofs.CurrentLemmas.{bears, own_counts, of_one_row, swapped, there_by}
-use Rattle.cleaning.proofs.GoneLemmas.{away_rows, ends, ends_with, gone_rows, had, turned_off, without_each}
+use Rattle.cleaning.proofs.GoneLemmas.{ends, ends_with, gone_rows, had, turned_off, without_each}
 
 -- ---- lists
 

@@ -1,5 +1,5 @@
 -- What the statements of a cleaning make of the rows, one arrival after another.
-use Rattle.std.proofs.Common.{◌≡◌, ◌≢◌, ◌<◌, ℕ, Bool, true, false, not, ◌&&◌, ◌||◌, cond, if◌then◌else◌, nat_eq, List, [], ◌∷◌, map, filter, find, fold, Option, Some, None, bytes_eq, refl, sym, ap, ap₂, ◌∙◌}
+use Rattle.std.proofs.Common.{◌≡◌, ◌≢◌, ◌<◌, ℕ, Bool, true, false, not, ◌&&◌, ◌||◌, cond, if◌then◌else◌, nat_eq, List, [], ◌∷◌, map, filter, find, fold, Option, Some, None, bytes_eq, refl, sym, ap, ◌∙◌}
 use Rattle.std.specs.List.{AllByRecursion, list_any}
 use Rattle.std.specs.Option.{option_map_or}
 use Rattle.std.proofs.lemmas.Bool.{and_from, and_parts, and_right, eq-eqb, eqb-true, false_from_ne_true}
@@ -11,9 +11,9 @@ use Rattle.sums.specs.Prints.{print as print_of, same_print}
 use Rattle.sums.specs.declared.print.Print.{Print}
 use Rattle.sums.proofs.Members.{any_some, any_true}
 use Rattle.tables.specs.Arrivals.{without_arrival}
-use Rattle.tables.specs.Rows.{Numbered, Rises, Tables, changed, rows_of, without}
+use Rattle.tables.specs.Rows.{Numbered, Rises, Tables, changed, without}
 use Rattle.tables.specs.Uploads.{is_judged as has_place, is_upload, without_upload}
-use Rattle.tables.specs.Wants.{is_want, is_wanted_by, with_away, without_wants}
+use Rattle.tables.specs.Wants.{is_wanted_by, with_away, without_wants}
 use Rattle.tables.specs.declared.rows.Arrival.{Arrival}
 use Rattle.tables.specs.declared.rows.Upload.{Upload}
 use Rattle.tables.specs.declared.rows.Want.{Want}

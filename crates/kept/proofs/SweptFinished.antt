@@ -1,5 +1,5 @@
 -- A body that is not whole is used by nothing: once the unused ones are away so is it.
-use Rattle.std.proofs.Common.{◌≡◌, ℕ, Bool, true, false, not, ◌&&◌, ◌||◌, nat_eq, filter, All, Contains, IsTrue, refl, sym, ap, ap₂, subst, ◌∙◌, inl, inr}
+use Rattle.std.proofs.Common.{◌≡◌, ℕ, Bool, true, false, not, ◌&&◌, ◌||◌, nat_eq, All, Contains, IsTrue, refl, sym, ap, ap₂, subst, ◌∙◌, inl, inr}
 use Rattle.std.specs.List.{AllByRecursion, list_any}
 use Rattle.std.proofs.lemmas.Bool.{and_right, both_ways, eqb-true, false_from_ne_true, or_cases}
 use Rattle.std.proofs.lemmas.List.Elements.{All-contains, All-from_recursion}
