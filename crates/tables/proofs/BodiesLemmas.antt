@@ -1,5 +1,5 @@
 -- What the statements on bodies do.
-use Rattle.std.proofs.Common.{◌≡◌, ℕ, drop, pos, [], ◌∷◌, Ok, Err, Result, OnOk, nat_eq, refl, true, false, List, map, filter, find, slice_get, Bool, not, is_some, Option, Some, None, ap, ◌∙◌, option_map, ◌&&◌}
+use Rattle.std.proofs.Common.{◌≡◌, ℕ, drop, pos, [], ◌∷◌, Ok, Err, Result, OnOk, nat_eq, refl, true, false, List, map, filter, find, slice_get, Option, Some, None, ap, ◌∙◌, option_map, ◌&&◌}
 use Rattle.sqlite.specs.Table.{Table}
 use Rattle.sqlite.specs.Order.{Row, column}
 use Rattle.sqlite.specs.Term.{col}
@@ -9,8 +9,8 @@ use Rattle.sqlite.specs.declared.error.Error.{Error}
 use Rattle.sqlite.specs.State.{State, ExecutesInside, IsUnchanged}
 use Rattle.sqlite.specs.Values.{or_null}
 use Rattle.sqlite_keyed.proofs.ListLemmas.{map-map, slice_get-filter}
-use Rattle.sqlite_typed.proofs.TestLemmas.{at_is_null, at_not, last_term, truth_or}
-use Rattle.sqlite_value.proofs.OrderLemmas.{value_cmp-Null}
+use Rattle.sqlite_typed.proofs.AnswerLemmas.{unfiltered}
+use Rattle.sqlite_typed.proofs.TestLemmas.{last_term, truth_or}
 use Rattle.sqlite_sql.specs.Ops.{binary}
 use Rattle.sqlite_sql.specs.declared.ops.CompareOp.TheVariants.{Eq}
 use Rattle.sqlite_sql.specs.declared.ops.BinaryOp.TheVariants.{Compare}
@@ -21,9 +21,9 @@ use Rattle.tables.specs.Rows.{whole, print_cells, Numbered, Tables, Holds, Chang
 use Rattle.tables.specs.Bodies.{has_print, body_with, with_print, without_body}
 use Rattle.tables.specs.Reading.{IsRead, IsReadFirst}
 use Rattle.tables.specs.declared.rows.Body.{Body}
-use Rattle.tables.specs.declared.bodies.TheConstants.{INSERT_BODY, INSERT_BEGUN, UPDATE_PRINT, SELECT_BODY, SELECT_NUMBERED, SELECT_WHOLE, DELETE_BODY}
+use Rattle.tables.specs.declared.bodies.TheConstants.{INSERT_BODY, INSERT_BEGUN, UPDATE_PRINT, SELECT_BODY, SELECT_NUMBERED, SELECT_NUMBERS, DELETE_BODY}
 use Rattle.tables.proofs.CastLemmas.{cast_null, cast_int}
-use Rattle.tables.proofs.BodiesMeaning.{insert_body_terms, insert_body_is, insert_body_plain, insert_begun_terms, insert_begun_is, insert_begun_plain, update_print_columns, update_print_is, update_print_plain, print_terms, select_body_is, select_body_plain, body_id_is, body_columns, select_numbered_is, select_numbered_plain, size_is_set, select_whole_is, select_whole_plain, delete_body_columns, delete_body_is, delete_body_plain}
+use Rattle.tables.proofs.BodiesMeaning.{insert_body_terms, insert_body_is, insert_body_plain, insert_begun_terms, insert_begun_is, insert_begun_plain, update_print_columns, update_print_is, update_print_plain, print_terms, select_body_is, select_body_plain, body_id_is, body_columns, select_numbered_is, select_numbered_plain, select_numbers_is, select_numbers_plain, delete_body_columns, delete_body_is, delete_body_plain}
 use Rattle.tables.proofs.InsertLemmas.{puts}
 use Rattle.tables.proofs.AddLemmas.{adds_row, adds_id}
 use Rattle.tables.proofs.HoldsLemmas.{with_bodies}
@@ -159,19 +159,15 @@ numbered_answer old new t id found was h =
     first_value storing 1 body_id_is body_columns (whole id ∷ []) SELECT_NUMBERED.now old new t.bodies was.schema was.rows.bodies (λ x. nat_eq x.0 id) body_of body_back (numbered_show id)
     (record { tests = λ _. refl; shows = λ _. refl }) found h
 
-not_not : (b : Bool) → not (not b) ≡ b
-not_not true = refl
-not_not false = refl
-
-pub whole_answer : (old new : State) (t : Tables) (all : List ℕ) → Holds old.now t → IsRead (λ row. nat_of (column row 0)) SELECT_WHOLE.now [] old new all
-    → (all ≡ map (λ x. x.0) (filter (λ x. is_some x.1.print) t.bodies)) × IsUnchanged old new
-whole_answer old new t all was h =
+pub numbers_answer : (old new : State) (t : Tables) (all : List ℕ) → Holds old.now t → IsRead (λ row. nat_of (column row 0)) SELECT_NUMBERS.now [] old new all
+    → (all ≡ map (λ x. x.0) t.bodies) × IsUnchanged old new
+numbers_answer old new t all was h =
     let show = λ (x : ℕ × Body). whole x.0 ∷ [] in
     let rows =
-    reads_full storing 1 size_is_set (col 1 0 ∷ []) [] (λ x. is_some x.1.print) show (record { tests = λ _. refl; shows = λ _. refl })
-    (λ x. last_term (at_not false _ (at_is_null (λ (p : Print). whole p.size) true (λ p. value_cmp-Null (whole p.size)) x.1.print) ∙ not_not (is_some x.1.print))) (λ _. refl)
-    SELECT_WHOLE.now _ (λ _. refl) old new h.rows t.bodies select_whole_is.0 select_whole_plain select_whole_is.1 was.schema was.rows.bodies h.shown in (
-      h.are ∙ ap (map (λ row. nat_of (column row 0))) rows ∙ map-map (λ row. nat_of (column row 0)) show (filter (λ x. is_some x.1.print) t.bodies),
+    reads_full storing 1 [] (col 1 0 ∷ []) [] (λ _. true) show (record { tests = λ _. refl; shows = λ _. refl }) (λ _. refl) (λ _. refl)
+    SELECT_NUMBERS.now _ (λ _. refl) old new h.rows t.bodies select_numbers_is.0 select_numbers_plain select_numbers_is.1 was.schema was.rows.bodies h.shown in (
+      h.are ∙ ap (map (λ row. nat_of (column row 0))) rows ∙ map-map (λ row. nat_of (column row 0)) show (filter (λ _. true) t.bodies)
+          ∙ ap (map (λ (x : ℕ × Body). x.0)) (unfiltered t.bodies refl),
       h.same,
     )
 

@@ -8,11 +8,10 @@ use Rattle.sqlite.specs.Term.{Term, lit, col}
 use Rattle.sqlite.specs.Listing.{understood, reads_listing}
 use Rattle.sqlite.proofs.Callers.{command_of, IsPlain}
 use Rattle.sqlite.specs.Collation.TheVariants.{Binary}
-use Rattle.sqlite_sql.specs.Term.{op1, op2}
-use Rattle.sqlite_sql.specs.declared.ops.BinaryOp.TheVariants.{Compare, Is}
-use Rattle.sqlite_sql.specs.declared.ops.UnaryOp.TheVariants.{Not}
+use Rattle.sqlite_sql.specs.Term.{op2}
+use Rattle.sqlite_sql.specs.declared.ops.BinaryOp.TheVariants.{Compare}
 use Rattle.sqlite_sql.specs.declared.ops.CompareOp.TheVariants.{Eq}
-use Rattle.tables.specs.declared.bodies.TheConstants.{INSERT_BODY, INSERT_BEGUN, UPDATE_PRINT, SELECT_BODY, SELECT_NUMBERED, SELECT_WHOLE, DELETE_BODY}
+use Rattle.tables.specs.declared.bodies.TheConstants.{INSERT_BODY, INSERT_BEGUN, UPDATE_PRINT, SELECT_BODY, SELECT_NUMBERED, SELECT_NUMBERS, DELETE_BODY}
 use Rattle.tables.specs.Schema.{archive_schema}
 use Rattle.tables.proofs.SelectLemmas.{rows_query}
 use Rattle.tables.proofs.UpdateLemmas.{edit_query}
@@ -55,16 +54,13 @@ pub select_numbered_plain : IsPlain (understood archive_schema SELECT_NUMBERED.n
 unfolding understood everything
 select_numbered_plain = (refl, refl)
 
-abbrev pub size_is_set : List Term
-size_is_set = op1 Not (op2 (Is Binary) (col 1 2) (lit Null)) ∷ []
-
-pub select_whole_is : (command_of (understood archive_schema SELECT_WHOLE.now) ≡ Select (record { lets = []; body = rows_query 1 size_is_set (col 1 0 ∷ []) }) (codes "id" ∷ [])) × (reads_listing archive_schema SELECT_WHOLE.now ≡ false)
+pub select_numbers_is : (command_of (understood archive_schema SELECT_NUMBERS.now) ≡ Select (record { lets = []; body = rows_query 1 [] (col 1 0 ∷ []) }) (codes "id" ∷ [])) × (reads_listing archive_schema SELECT_NUMBERS.now ≡ false)
 unfolding understood everything
-select_whole_is = (refl, refl)
+select_numbers_is = (refl, refl)
 
-pub select_whole_plain : IsPlain (understood archive_schema SELECT_WHOLE.now)
+pub select_numbers_plain : IsPlain (understood archive_schema SELECT_NUMBERS.now)
 unfolding understood everything
-select_whole_plain = (refl, refl)
+select_numbers_plain = (refl, refl)
 
 abbrev pub delete_body_columns : List Term
 delete_body_columns = col 1 0 ∷ []

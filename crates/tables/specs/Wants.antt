@@ -18,7 +18,7 @@ is_want name print x = bytes_eq x.name name && same_print x.print print
 abbrev pub with_here : List ℕ → Print → Tables → Tables
 with_here name print t = record t { wants = changed (λ x. is_want name print x.1) (λ x. record x { here = true }) t.wants }
 
--- no body of this name and print is there
+-- no body of this name and print is there any more
 abbrev pub with_away : List ℕ → Print → Tables → Tables
 with_away name print t = record t { wants = changed (λ x. is_want name print x.1) (λ x. record x { here = false }) t.wants }
 

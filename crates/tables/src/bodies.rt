@@ -1,6 +1,6 @@
 //! The bodies of files, each by its print.
 
-ghost use Rattle.std.specs.Prelude.{◌≡◌, Some, None, false, filter, find, is_some, map, nat_eq, IsTrue, IfOk, OnOk, OnErr};
+ghost use Rattle.std.specs.Prelude.{◌≡◌, Some, None, false, find, map, nat_eq, IsTrue, IfOk, OnOk, OnErr};
 ghost use Rattle.sqlite.specs.State.{HasCleanDisk, IsUnchanged, Survives, KeepsCommit};
 ghost use Rattle.sqlite.specs.Held.{state};
 ghost use Rattle.tables.specs.Inside.{GoesOn};
@@ -29,7 +29,7 @@ const SELECT_BODY: &str =
 const SELECT_NUMBERED: &str =
     "SELECT rowid, id, size, md5, sha1, sha256 FROM bodies WHERE id = ?1 ORDER BY rowid";
 
-const SELECT_WHOLE: &str = "SELECT rowid FROM bodies WHERE size IS NOT NULL ORDER BY rowid";
+const SELECT_NUMBERS: &str = "SELECT rowid FROM bodies ORDER BY rowid";
 
 const DELETE_BODY: &str = "DELETE FROM bodies WHERE id = ?1";
 
@@ -162,14 +162,14 @@ pub fn body_numbered_inside<S: Alter>(
     select_first_inside(alloc, tx, SELECT_NUMBERED, params![id])
 }
 
-/// The numbers of the bodies that are whole, inside a transaction.
-pub fn whole_bodies_inside<S: Alter>(
+/// The numbers of all bodies, in their order, inside a transaction.
+pub fn body_numbers_inside<S: Alter>(
     alloc: Global,
     tx: &mut Transaction<'_, S>,
 ) -> Result<Vec<u64>, Error>
     ensures same_reference { tx.new.conn.ghost_name ≡ tx.old.conn.ghost_name }
     ensures ok { HasCleanDisk (state S.Store tx.new.conn.now) → (t : Tables) → Holds (state S.Store tx.old.conn.now).now t
-        → IfOk result (λ all. (all.items ≡ map (λ x. x.0) (filter (λ x. is_some x.1.print) t.bodies)) × IsUnchanged (state S.Store tx.old.conn.now) (state S.Store tx.new.conn.now)) }
+        → IfOk result (λ all. (all.items ≡ map (λ x. x.0) t.bodies) × IsUnchanged (state S.Store tx.old.conn.now) (state S.Store tx.new.conn.now)) }
     ensures err { HasCleanDisk (state S.Store tx.new.conn.now) → (t : Tables) → Holds (state S.Store tx.old.conn.now).now t
         → OnErr result (Fails (state S.Store tx.old.conn.now) (state S.Store tx.new.conn.now)) }
     ensures goes_on { HasCleanDisk (state S.Store tx.new.conn.now) → IsTrue (state S.Store tx.old.conn.now).in_transaction
@@ -178,7 +178,7 @@ pub fn whole_bodies_inside<S: Alter>(
         → OnErr result (KeepsCommit (state S.Store tx.old.conn.now) (state S.Store tx.new.conn.now)) }
     ensures survives { Survives (state S.Store tx.old.conn.now) (state S.Store tx.new.conn.now) (λ _. ⊥) }
 {
-    select_inside(alloc, tx, SELECT_WHOLE, &[])
+    select_inside(alloc, tx, SELECT_NUMBERS, &[])
 }
 
 /// Removes the body of a number. Its pieces go first, and no arrival and no file may name it: a body that still has some is refused.
