@@ -1,1 +1,4 @@
 pub mod KnownLemmas
+pub mod RemovedLemmas
+pub mod UnusedLemmas
+pub mod CleanLemmas
