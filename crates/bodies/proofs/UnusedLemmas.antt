@@ -109,6 +109,6 @@ module _ (t : Tables) where
       ∙ (λ i. without (λ (p : ℕ × Piece). owned p.1 i) t.pieces)
 
   -- one after another they go as at once
-  pub swept_as : without_all (unused_in t) t ≡ swept t
+  pub swept_by_number : without_all (unused_in t) t ≡ swept t
   unfolding swept
-  swept_as = removed_each (unused_in t) t ∙ (λ i. record t { bodies = bodies_left i; pieces = pieces_left i })
+  swept_by_number = removed_each (unused_in t) t ∙ (λ i. record t { bodies = bodies_left i; pieces = pieces_left i })
