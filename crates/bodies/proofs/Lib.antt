@@ -2,3 +2,4 @@ pub mod KnownLemmas
 pub mod RemovedLemmas
 pub mod UnusedLemmas
 pub mod CleanLemmas
+pub mod ArrivedLemmas
