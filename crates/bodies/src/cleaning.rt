@@ -25,7 +25,7 @@ use tables::wants::{delete_wants, mark_away};
 
 /// Whether an arrival counts at a moment, where what arrives counts for so many seconds, or for good.
 #[tactic(auto, unfolding(kept::specs::Cleaning::counts_row))]
-pub(crate) fn counts(span: Option<u64>, moment: u64, arrival: &Arrival) -> bool
+pub fn counts(span: Option<u64>, moment: u64, arrival: &Arrival) -> bool
     ensures { result ≡ counts_row span moment arrival.now }
 {
     let Some(span) = span else {

@@ -13,7 +13,7 @@ mod removing;
 mod sweeping;
 mod whole;
 
-pub use cleaning::clean;
+pub use cleaning::{clean, counts};
 pub use coming::{Begun, store_piece};
 pub use finishing::{Finished, finish_body};
 pub use reading::{file_body, read_body};

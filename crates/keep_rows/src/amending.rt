@@ -14,7 +14,8 @@ mod renewing;
 mod showing;
 mod stepping;
 
-use crate::amending::pooling::some_take_files;
+pub use crate::amending::pooling::some_take_files;
+
 use crate::amending::renewing::{renew_dates, renew_texts};
 use crate::amending::stepping::make_steps;
 use bodies::sweep;

@@ -3,3 +3,4 @@ pub mod KeeperLemmas
 pub mod KeptBook
 pub mod OpenLemmas
 pub mod UnderWayLemmas
+pub mod MomentLemmas

@@ -104,7 +104,7 @@ fn takes_file(step: &Step) -> bool
 }
 
 /// Whether some of the steps takes a file of the pool away.
-pub(crate) fn some_take_files(steps: &[Step]) -> bool
+pub fn some_take_files(steps: &[Step]) -> bool
     ensures { result ≡ list_any takes_file steps.now }
 {
     for step in steps {
