@@ -2,7 +2,7 @@
 use Rattle.std.proofs.Common.{◌≡◌, ℕ, Bool, not, List, Option, subst}
 use Rattle.sqlite.specs.State.{State}
 use Rattle.tables.specs.Rows.{Tables, Changes, Holds}
-use Rattle.kept.specs.Cleaning.{arrival_counts}
+use Rattle.bodies.specs.Counting.{arrival_counts}
 
 -- what was answered once a body was stored, which has this number then
 pub new_once_stored : (span : Option ℕ) (moment : ℕ) (name : List ℕ) (id : ℕ) (store : Tables → Tables) (number : Tables → ℕ) (a b : State) → Changes a b store

@@ -4,7 +4,7 @@ ghost use Rattle.std.specs.Prelude.{◌≡◌, false, not, IsTrue, IfOk, OnOk, O
 ghost use Rattle.sqlite.specs.State.{HasCleanDisk, KeepsCommit, Survives};
 ghost use Rattle.sqlite.specs.Held.{state};
 ghost use Rattle.tables.specs.Rows.{Tables, Holds, Changes, with_want};
-ghost use Rattle.kept.specs.Cleaning.{arrival_counts};
+ghost use Rattle.bodies.specs.Counting.{arrival_counts};
 ghost use Rattle.kept.specs.Making.{is_here, with_arrived, with_requested, with_wants};
 
 use crate::cleaning::counts;

@@ -5,7 +5,7 @@ ghost use Rattle.sqlite.specs.State.{HasCleanDisk, KeepsCommit, Survives};
 ghost use Rattle.sqlite.specs.Held.{state};
 ghost use Rattle.tables.specs.Rows.{Tables, Holds, Changes};
 ghost use Rattle.tables.specs.Wants.{with_here};
-ghost use Rattle.kept.specs.Cleaning.{arrival_counts};
+ghost use Rattle.bodies.specs.Counting.{arrival_counts};
 ghost use Rattle.kept.specs.Coming.{IsNoOther, ended_number, with_ended, with_finished, with_received};
 ghost use Rattle.kept.specs.Making.{with_arrived};
 ghost use Rattle.kept.specs.Transactions.{IsDone, IsUndone, MayCommit};

@@ -4,3 +4,4 @@ pub mod KeptBook
 pub mod OpenLemmas
 pub mod UnderWayLemmas
 pub mod MomentLemmas
+pub mod FoundArrivals

@@ -1,20 +1,26 @@
 -- What the reads of a keeper find at a moment, row by row.
-use Rattle.std.specs.Prelude.{ℕ, nat_eq, Bool, true, not, ◌&&◌, if◌then◌else◌, List, filter, length, Option, None, Some}
+use Rattle.std.specs.Prelude.{ℕ, nat_eq, Bool, true, false, not, ◌&&◌, if◌then◌else◌, List, filter, length, Option, None, Some}
 use Rattle.std.specs.List.{filter_map}
+use Rattle.std.specs.Option.{option_map_or}
 use Rattle.sums.specs.declared.print.Print.{Print}
 use Rattle.suites.specs.Upload.{UploadValue}
 use Rattle.keep.specs.declared.change.Waiting.{Waiting}
+use Rattle.tables.specs.Bodies.{body_with}
 use Rattle.tables.specs.Rows.{Numbered, Tables, rows_of}
 use Rattle.tables.specs.Wants.{is_wanted_by}
 use Rattle.tables.specs.declared.rows.Upload.{Upload}
 use Rattle.tables.specs.declared.rows.Want.{Want}
-use Rattle.kept.specs.Cleaning.{is_current}
+use Rattle.bodies.specs.Counting.{arrival_counts}
 use Rattle.kept.specs.Reads.{row_order, sorted_by, upload_in, wanting}
+
+-- a body of this print is there, and its arrival under this name counts
+unfoldable pub found_current : Option ℕ → ℕ → Tables → List ℕ → Print → Bool
+found_current span moment t name print = option_map_or (λ body. arrival_counts span moment name body t) (body_with print t.bodies) false
 
 -- What has arrived under this name with this print counts still. Where there is no span it does so for good.
 abbrev pub still_counts : Option ℕ → ℕ → Tables → List ℕ → Print → Bool
 still_counts None moment t name print = true
-still_counts (Some seconds) moment t name print = is_current (Some seconds) moment t name print
+still_counts (Some seconds) moment t name print = found_current (Some seconds) moment t name print
 
 -- the upload, where it counts still
 abbrev pub row_at : Option ℕ → ℕ → Tables → ℕ × Upload → Option (ℕ × Upload)

@@ -5,10 +5,10 @@ ghost use Rattle.sqlite.specs.Held.{state};
 ghost use Rattle.sqlite.specs.State.{HasCleanDisk, IsUnchanged, Survives};
 ghost use Rattle.keep.specs.Book.{span};
 ghost use Rattle.tables.specs.Rows.{Tables, Fails, Holds, IsForeign};
-ghost use Rattle.kept.specs.Cleaning.{arrival_counts, is_current};
+ghost use Rattle.bodies.specs.Counting.{arrival_counts};
 ghost use Rattle.kept.specs.Reads.{Rests};
 ghost use Rattle.kept.specs.Transactions.{IsUndone};
-ghost use Rattle.keep_tables.specs.Moments.{is_had, still_counts};
+ghost use Rattle.keep_tables.specs.Moments.{found_current, is_had, still_counts};
 
 use bodies::counts;
 use rules::Config;
@@ -63,7 +63,7 @@ fn is_current<S: Alter>(
 ) -> Result<bool, Error>
     ensures idle { conn.old.in_transaction ≡ false → conn.new.in_transaction ≡ false }
     ensures ok { HasCleanDisk (state S.Store conn.new) → (t : Tables) → Holds (state S.Store conn.old).now t
-        → IfOk result (λ current. (current ≡ is_current (Some seconds) moment t name.now print.now) × IsUnchanged (state S.Store conn.old) (state S.Store conn.new)) }
+        → IfOk result (λ current. (current ≡ found_current (Some seconds) moment t name.now print.now) × IsUnchanged (state S.Store conn.old) (state S.Store conn.new)) }
     ensures err { HasCleanDisk (state S.Store conn.new) → (t : Tables) → Holds (state S.Store conn.old).now t
         → OnErr result (IsUndone (state S.Store conn.old) (state S.Store conn.new)) }
     ensures survives { Survives (state S.Store conn.old) (state S.Store conn.new) (λ _. (t : Tables) → ¬ Holds (state S.Store conn.old).now t) }

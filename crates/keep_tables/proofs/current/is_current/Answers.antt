@@ -4,9 +4,10 @@ use Rattle.std.proofs.lemmas.Result.{IfOk-weaker}
 use Rattle.sqlite.specs.Held.{state}
 use Rattle.sqlite.specs.State.{HasCleanDisk}
 use Rattle.sqlite.proofs.Callers.{unchanged_then}
-use Rattle.kept.specs.Cleaning.{arrival_counts, is_current}
+use Rattle.bodies.specs.Counting.{arrival_counts}
 use Rattle.kept.proofs.AmendLemmas.{err_then}
 use Rattle.kept.proofs.ReadsLemmas.{held_after, survives_after, survives_foreign, undone_after, undone_if_failed}
+use Rattle.keep_tables.specs.Moments.{found_current}
 use Rattle.keep_tables.proofs.current.is_current.Goals as goal
 
 pub returns-in_err-body-clause-survives : goal.returns-in_err-body-clause-survives
@@ -14,7 +15,7 @@ returns-in_err-body-clause-survives g c =
     survives_foreign (state g.S.Store c.args.conn.now) (state g.S.Store c.body_with_print.new.conn) c.body_with_print.ensures.survives
 
 pub returns-in_default-clause-ok : goal.returns-in_default-clause-ok
-unfolding is_current
+unfolding found_current
 returns-in_default-clause-ok g c clean t was =
     let read = c.in_ok-body.ensures.ok clean t was in
     (ap (λ o. option_map_or (λ body. arrival_counts (Some c.args.seconds) c.args.moment c.args.name.now body t) o false) (sym c.in_default.is ∙ read.0), read.1)
@@ -24,7 +25,7 @@ returns-in_default-clause-survives g c =
     survives_foreign (state g.S.Store c.args.conn.now) (state g.S.Store c.body_with_print.new.conn) c.body_with_print.ensures.survives
 
 pub returns-clause-ok : goal.returns-clause-ok
-unfolding is_current
+unfolding found_current
 returns-clause-ok g c clean t was =
     let old = state g.S.Store c.args.conn.now in
     let mid = state g.S.Store c.body_with_print.new.conn in
