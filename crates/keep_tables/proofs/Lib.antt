@@ -5,3 +5,4 @@ pub mod OpenLemmas
 pub mod UnderWayLemmas
 pub mod MomentLemmas
 pub mod FoundArrivals
+pub mod MomentReads
