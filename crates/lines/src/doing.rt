@@ -55,6 +55,7 @@ fn set_moment(line: &mut CommandLine<'_>, moment: u64) {
         CommandLine::Run { at, .. } => *at = moment,
         CommandLine::Copy { at, .. } => *at = moment,
         CommandLine::Remove { at, .. } => *at = moment,
+        CommandLine::Clean { at, .. } => *at = moment,
         CommandLine::Waiting { at, .. } => *at = moment,
         CommandLine::Serve { at, .. } => *at = moment,
         CommandLine::Try { .. }
