@@ -23,6 +23,7 @@ use Rattle.kept.proofs.BodyLemmas.{found}
 use Rattle.kept.proofs.RowLists.{none_passes, number_is, only_one}
 use Rattle.kept.proofs.Searches.{all_both, any_same, filter_same_on, filter_twice, list_any-filter, same_tests}
 use Rattle.kept.proofs.WantLemmas.{is_sign-Decides}
+
 -- ---- lists
 
 -- without those that pass the one test, and then without those that pass the other

@@ -15,7 +15,6 @@ mod showing;
 mod stepping;
 
 pub use crate::amending::pooling::some_take_files;
-
 use crate::amending::renewing::{renew_dates, renew_texts};
 use crate::amending::stepping::make_steps;
 use bodies::sweep;

@@ -160,7 +160,7 @@ delivered_last h name body moment =
 pub delivered_step : (may_fail : Bool) (h : History) (name body : List ℕ) (moment : ℕ) (is_open : Type 0) (old new : Book) (fresh : Bool)
     → Stands old h → IsFaithful h (Delivery name body moment ∷ []) → delivery_fault name body moment ≡ None
     → ((bodies : List (List ℕ)) → NoCollision bodies → HasBodies bodies old → Contains bodies body
-        → fresh ≡ not (has_arrival (at_moment moment old).arrivals (record { name = name; body = body; moment = moment })))
+    → fresh ≡ not (has_arrival (at_moment moment old).arrivals (record { name = name; body = body; moment = moment })))
     → ((bodies : List (List ℕ)) → NoCollision bodies → HasBodies bodies old → Contains bodies body → new ≡ with_delivery old (record { name = name; body = body; moment = moment }))
     → IsStep may_fail h (Delivery name body moment) (Ok (Stored fresh)) is_open new
 unfolding answer book_of book_from at_moment counting
