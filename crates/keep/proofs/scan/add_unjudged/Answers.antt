@@ -34,3 +34,10 @@ returns-in_ok-insert c = λ rest so_far.
     ∙ ap (λ o. with_candidate o (unjudged_in (counted c.args.counting rest) c.args.judged.now)) (ap (option_map candidate_view) (sym c.in-Some.is) ∙ c.in_ok-one.ensures)
     ∙ sym (unjudged_more c.args.arrival.now (counted c.args.counting rest) c.args.judged.now (sym c.is_judged.ensures ∙ c.if-is_judged.false))
     ∙ ap (λ xs. unjudged_in xs c.args.judged.now) (sym (current_more c.args.counting.span c.args.counting.moment c.args.arrival.now rest (sym c.counts.ensures ∙ c.if-not-counts.false)))
+
+pub returns-in_default : goal.returns-in_default
+returns-in_default c = λ rest so_far.
+    so_far
+    ∙ ap (λ o. with_candidate o (unjudged_in (counted c.args.counting rest) c.args.judged.now)) (ap (option_map candidate_view) (sym c.in_default.is) ∙ c.in_ok-one.ensures)
+    ∙ sym (unjudged_more c.args.arrival.now (counted c.args.counting rest) c.args.judged.now (sym c.is_judged.ensures ∙ c.if-is_judged.false))
+    ∙ ap (λ xs. unjudged_in xs c.args.judged.now) (sym (current_more c.args.counting.span c.args.counting.moment c.args.arrival.now rest (sym c.counts.ensures ∙ c.if-not-counts.false)))

@@ -30,7 +30,7 @@ returns-then-has_arrival-clause-new c = λ clean body coming bodies apart has th
     let told : Apart c.args.self.now.arrivals.items a = record { bodies = bodies; apart = apart; arrived = has.arrivals; body = there } in
     let print = c.print_of-print.ensures ∙ ap print_of (c.deref.ensures.value ∙ body_is c.args.self.now.coming c.in-Some.body body c.in-Some.ensures.value coming) in
     new_by_print a (apart_part (current-part (span c.args.self.now.config) c.args.moment c.args.self.now.arrivals.items) told)
-    c.has_current.ensures print (counted_are c.new-counting.ensures c.deref-2.ensures.value)
+    c.has_current-is_new.ensures print (counted_are c.new-counting.ensures c.deref-2.ensures.value)
 
 pub returns-then-has_arrival-clause-ok : goal.returns-then-has_arrival-clause-ok
 unfolding plain_book
@@ -59,7 +59,7 @@ returns-clause-new c = λ clean body coming bodies apart has there.
     let told : Apart c.args.self.now.arrivals.items a = record { bodies = bodies; apart = apart; arrived = has.arrivals; body = there } in
     let print = c.print_of-print.ensures ∙ ap print_of (c.deref.ensures.value ∙ body_is c.args.self.now.coming c.in-Some.body body c.in-Some.ensures.value coming) in
     new_by_print a (apart_part (current-part (span c.args.self.now.config) c.args.moment c.args.self.now.arrivals.items) told)
-    c.has_current.ensures print (counted_are c.new-counting.ensures c.deref-2.ensures.value)
+    c.has_current-is_new.ensures print (counted_are c.new-counting.ensures c.deref-2.ensures.value)
 
 pub returns-clause-ok : goal.returns-clause-ok
 unfolding plain_book
