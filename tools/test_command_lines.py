@@ -17,6 +17,7 @@ from test_database import DATA, NAMES, PROGRAM, ROOT, Lines
 COMMANDS = {
     "put": ["--db", "a.db", "--at", "0", f"{DATA}/{NAMES[1]}"],
     "run": ["--db", "a.db", "--at", "0"],
+    "clean": ["--db", "a.db", "--at", "0"],
     "copy": ["--db", "a.db", "--at", "0", "box", "lab", "hello"],
     "remove": ["--db", "a.db", "--at", "0", "box", "hello"],
     "show": ["--db", "a.db", "dists/box/Release"],
@@ -32,6 +33,7 @@ USAGES = {
     "init": "init --db <FILE> --at <N> <CONF>",
     "put": "put --db <FILE> --at <N> <PATH>...",
     "run": "run --db <FILE> --at <N>",
+    "clean": "clean --db <FILE> --at <N>",
     "copy": "copy --db <FILE> --at <N> <FROM> <TO> <SOURCE>",
     "remove": "remove --db <FILE> --at <N> <SUITE> <PACKAGE>",
     "show": "show --db <FILE> <PATH>",

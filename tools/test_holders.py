@@ -17,6 +17,7 @@ COMMANDS = {
     "init": (["--at", "0", "{folder}/box.conf"], (1, "", "archive: K4\n")),
     "put": (["--at", "0", f"{DATA}/{NAMES[1]}"], (0, f"again {NAMES[1]}\n", "")),
     "run": (["--at", "0"], (0, "", "")),
+    "clean": (["--at", "0"], (0, "0\n", "")),
     "copy": (["--at", "0", "box", "box", "hello"], (1, "", "archive: Q7\n")),
     "remove": (["--at", "0", "box", "nosuch"], (1, "", "archive: Q11\n")),
     "show": (["pool/main/h/hello/hello_1.0-1_amd64.deb"], (0, "abc", "")),

@@ -43,8 +43,10 @@ class Using(snippets.Case):
         self.room.write("units/queue.service", snippet("queue.service"))
         self.room.write("units/queue.service.d/sign.conf", snippet("sign.conf", {"/srv/box/sign": "/bin/true"}))
         self.room.write("units/queue.timer", snippet("queue.timer"))
+        self.room.write("units/clean.service", snippet("clean.service"))
+        self.room.write("units/clean.timer", snippet("clean.timer"))
         self.room.variables["SYSTEMD_UNIT_PATH"] = f"{self.room.folder}/units:"
-        for name in ("box.service", "queue.service", "queue.timer"):
+        for name in ("box.service", "queue.service", "queue.timer", "clean.service", "clean.timer"):
             self.assertEqual(self.passes("systemd-analyze", "verify", f"{self.room.folder}/units/{name}"), "")
 
     @unittest.skipUnless(shutil.which("nginx") and shutil.which("openssl"), "there is no nginx, or no openssl")

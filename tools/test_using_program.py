@@ -26,6 +26,8 @@ from test_failing import mounted
 HELLO = uploads.Package("hello", source=True)
 CHANGES = "hello_1.0-1_amd64.changes"
 PACKAGES = "dists/box/main/binary-amd64/Packages"
+# The seconds of 90 days.
+DAYS = 90 * 86_400
 
 
 @unittest.skipUnless(os.path.exists(PROGRAM), f"there is no program {PROGRAM}")
@@ -34,6 +36,11 @@ class Case(snippets.Case):
         """Makes the archive of the page, with other words in its configuration."""
         self.room.write("work/box.conf", snippet("configuration", changes))
         self.shell('archive init --db box.db --at "$(date +%s)" box.conf')
+
+    def made_with_days(self):
+        """Makes the archive of the page at the moment 1, with files that count for 90 days."""
+        self.room.write("work/box.conf", snippet("configuration") + "KeepDays: 90\n")
+        self.shell("rm -f box.db*; archive init --db box.db --at 1 box.conf")
 
     def ready(self, package=HELLO, folder="ready"):
         """Makes the upload of a package, by with_sidecars. Its paths are in the file `files`."""
@@ -156,6 +163,31 @@ class Rules(Case):
         self.assertEqual(re.findall("^Version: (.*)$", shown, re.M), ["0.9-1"])
 
     @needs("dpkg-deb")
+    def test_what_counts_no_more_is_taken_away(self):
+        self.made_with_days()
+        self.judged()
+        names, shown = self.names(), self.shell(f"archive show --db box.db {PACKAGES}")
+        for moment, count in ((DAYS, 0), (1 + DAYS, len(names)), (1 + DAYS, 0)):
+            self.assertEqual(self.shell(snippet("clean", {'"$(date +%s)"': str(moment)})), f"{count}\n")
+        self.assertEqual(self.shell(f"archive put --db box.db --at {1 + DAYS} $(cat files)"), "".join(f"new {it}\n" for it in names))
+        self.assertEqual(self.shell(f"archive put --db box.db --at {1 + DAYS} $(cat files)"), "".join(f"again {it}\n" for it in names))
+        for word in ("waiting", "run"):
+            self.assertEqual(self.shell(f"archive {word} --db box.db --at {1 + DAYS}"), "")
+        self.assertEqual(self.shell("archive verdicts --db box.db"), f"accepted {CHANGES}\n")
+        self.assertEqual(self.shell(f"archive show --db box.db {PACKAGES}"), shown)
+
+    @needs("dpkg-deb")
+    def test_an_upload_has_to_come_whole_within_the_days(self):
+        self.made_with_days()
+        self.ready()
+        self.shell(f"set -- $(cat files); archive put --db box.db --at 1 $1; shift; archive put --db box.db --at {DAYS} $@")
+        self.assertEqual(self.shell(f"archive waiting --db box.db --at {DAYS}"), f"0 {CHANGES}\n")
+        self.assertEqual(self.shell(f"archive waiting --db box.db --at {1 + DAYS}"), f"1 {CHANGES}\n")
+        self.assertEqual(self.shell(f"archive run --db box.db --at {1 + DAYS}"), "")
+        self.shell(f"set -- $(cat files); archive put --db box.db --at {1 + DAYS} $1")
+        self.assertEqual(self.shell(f"archive run --db box.db --at {1 + DAYS}"), f"accepted {CHANGES}\n")
+
+    @needs("dpkg-deb")
     def test_a_moment_too_far_ahead_stays(self):
         self.made()
         self.ready()
@@ -169,6 +201,12 @@ class Serving(Case):
     def setUp(self):
         super().setUp()
         self.made()
+
+    def done(self, words):
+        """Runs the command of a unit, and answers what it prints."""
+        ran = subprocess.run(words, cwd=self.room.work, env=self.room.variables, capture_output=True, text=True, check=False, timeout=60)
+        self.assertEqual((ran.returncode, ran.stderr), (0, ""))
+        return ran.stdout
 
     def at(self, port):
         """The page's address outside of the machine, and that of the test."""
@@ -275,12 +313,12 @@ class Serving(Case):
         self.shell(snippet("curl", self.at(port)))
         # The moment that the service began with is the least; a greater one in the file is taken up.
         commands = commands_of(snippet("queue.service", {**address, "date +%%s": f"echo {int(time.time()) + 3600}"}))
-        for words in commands:
-            ran = subprocess.run(words, cwd=self.room.work, env=self.room.variables, capture_output=True, text=True, check=False, timeout=60)
-            self.assertEqual((ran.returncode, ran.stderr), (0, ""))
-        self.assertEqual(ran.stdout, f"accepted {CHANGES}\n")
+        printed = [self.done(words) for words in commands]
+        self.assertEqual(printed[-1], f"accepted {CHANGES}\n")
         moment = self.room.read("work/now").strip()
         self.assertIn(f"{moment} POST /queue/run 200 ", self.room.read("told"))
+        [clean] = commands_of(snippet("clean.service", address))
+        self.assertEqual(self.done(clean), "0\n")
         [moment, run] = commands_of(snippet("queue.service"))
         self.assertEqual(moment, ["/bin/sh", "-c", "date +%s > now.new && mv now.new now"])
 
@@ -363,10 +401,17 @@ class Copies(Case):
 
     @needs("sqlite3", "dpkg-deb")
     def test_the_file_is_packed(self):
+        """Behind a cleaning, by the room that it left; what the pool has is there still."""
+        self.made_with_days()
         self.ready()
-        self.shell("archive put --db box.db --at 1 $(cat files) && archive run --db box.db --at 1")
+        self.room.write("work/large_1.0-1_amd64.deb", "large" * 200_000)
+        self.shell("archive put --db box.db --at 1 $(cat files) large_1.0-1_amd64.deb && archive run --db box.db --at 1")
+        self.assertEqual(self.shell(f"archive clean --db box.db --at {1 + DAYS}"), f"{len(self.names()) + 1}\n")
+        size = os.path.getsize(f"{self.room.work}/box.db")
         self.shell(snippet("pack"))
+        self.assertLess(os.path.getsize(f"{self.room.work}/box.db"), size - 900_000)
         self.assertEqual(self.shell("archive verdicts --db box.db"), f"accepted {CHANGES}\n")
+        self.shell("archive show --db box.db pool/main/h/hello/hello_1.0-1_amd64.deb | cmp - ready/hello_1.0-1_amd64.deb")
 
     @needs("sqlite3")
     def test_what_analyze_added_is_taken_out(self):

@@ -114,6 +114,7 @@ class Proxy(unittest.TestCase):
         self.site.write("uploaders", f"ann:{{PLAIN}}{PASSWORD}\n")
         for path, words, wanted in (
             ("queue/run", "-X POST", "404 405"),
+            ("queue/clean", "-X POST", "404 405"),
             ("copy/box/box/hello", "-X POST", "404 405"),
             ("remove/box/hello", "-X POST", "404 405"),
             ("queue", "-X POST", "403"),

@@ -1,5 +1,5 @@
--- Bodies, their pieces, and whether they have arrived.
-use Rattle.std.proofs.Common.{◌≡◌, ℕ, suc, ◌+◌, ◌<◌, ◌/◌, ◌%◌, min, Bool, true, false, ◌||◌, cond, nat_eq, Result, Ok, Err, List, [], ◌∷◌, ◌++◌, map, filter, take, drop, length, get_or, All, IsTrue, refl, sym, ap, ◌∙◌, ⊎_elim, arith}
+-- Bodies, their pieces, and whether they are used.
+use Rattle.std.proofs.Common.{◌≡◌, ℕ, suc, ◌+◌, ◌<◌, ◌/◌, ◌%◌, min, Bool, true, false, cond, nat_eq, Result, Ok, Err, List, [], ◌∷◌, ◌++◌, map, filter, take, drop, length, get_or, All, IsTrue, sym, ap, ◌∙◌, ⊎_elim, arith}
 use Rattle.std.specs.Prelude.{◌↔◌, is_ok}
 use Rattle.std.specs.List.{list_any, range_with_len}
 use Rattle.std.specs.List.Sorted.{IsBinarySearchResult, IsNonDecreasing}
@@ -12,10 +12,9 @@ use Rattle.std.proofs.lemmas.List.Sorted.{list_any-IsPermutation, searched}
 use Rattle.std.proofs.lemmas.List.FromFn.{get_or-map-range_with_len, length-map-range_with_len, map-range_with_len_more}
 use Rattle.tables.specs.Pieces.{is_of}
 use Rattle.tables.specs.Rows.{Tables, Numbered, rows_of}
-use Rattle.tables.specs.declared.rows.Arrival.{Arrival}
 use Rattle.tables.specs.declared.rows.Piece.{Piece}
-use Rattle.kept.specs.Kept.{piece_at, piece_count, pieces_for}
-use Rattle.audit.specs.Bodies.{AreArrived, IsBodyFit}
+use Rattle.kept.specs.Kept.{is_used, piece_at, piece_count, pieces_for, used_in}
+use Rattle.audit.specs.Bodies.{AreUsed, IsBodyFit}
 use Rattle.audit.specs.Parts.{BodiesFit}
 
 pub rounded_up : (n : ℕ) → n / 65536 + min 1 (n % 65536) ≡ (n + 65535) / 65536
@@ -100,18 +99,12 @@ unfolding pieces_for
 count_is id bytes rows n h whole =
     sym (length-map-range_with_len (piece_row id bytes) 0 n) ∙ ap length (sym h ∙ whole) ∙ length-map-range_with_len (piece_row id bytes) 0 (piece_count bytes)
 
--- ---- what has arrived
+-- ---- what is used
 
-any_of : {X Y : Type 0} (p : Y → Bool) (f : X → Y) (xs : List X) → list_any p (map f xs) ≡ list_any (λ x. p (f x)) xs
-any_of p f [] = refl
-any_of p f (x ∷ xs) = ap (λ b. p (f x) || b) (any_of p f xs)
-
--- a body has arrived exactly if its number is among those of the arrivals
-pub arrived_same : (arrivals : Numbered Arrival) (numbers : List ℕ) (id : ℕ) → AreArrived arrivals numbers
-    → list_any (λ n. nat_eq n id) numbers ≡ list_any (λ a. nat_eq a.body id) (rows_of arrivals)
-arrived_same arrivals numbers id h =
-    sym (list_any-IsPermutation (λ n. nat_eq n id) (map (λ a. a.body) (rows_of arrivals)) numbers h.are)
-    ∙ any_of (λ n. nat_eq n id) (λ (a : Arrival). a.body) (rows_of arrivals)
+-- a body is used exactly if its number is among those of arrivals and files
+pub used_same : (t : Tables) (numbers : List ℕ) (id : ℕ) → AreUsed t.arrivals t.files numbers → list_any (λ n. nat_eq n id) numbers ≡ is_used t id
+unfolding is_used
+used_same t numbers id h = sym (list_any-IsPermutation (λ n. nat_eq n id) (used_in t) numbers h.are)
 
 -- a binary search finds a number exactly if it is among these
 pub found_among : (numbers : List ℕ) (id : ℕ) (r : Result ℕ ℕ) → IsNonDecreasing numbers → IsBinarySearchResult (λ y. nat_cmp y id) numbers r → is_ok r ≡ list_any (λ n. nat_eq n id) numbers

@@ -7,13 +7,13 @@ use Rattle.keep.specs.Keeping.{IsDeliverable}
 use Rattle.keep.specs.declared.change.Judgement.{Judgement}
 use Rattle.tables.specs.Rows.{Tables, rows_of}
 use Rattle.tables.specs.Uploads.{is_judged as has_place}
-use Rattle.kept.specs.Kept.{arrivals_in, bytes_of, is_placed, judged_row, pieces_for, pieces_of, request_in, request_of}
+use Rattle.kept.specs.Kept.{arrivals_in, bytes_of, is_placed, is_used, judged_row, pieces_for, pieces_of, request_in, request_of}
 
--- Each body is whole, in pieces, with the print of its bytes, and has arrived under some name.
+-- Each body is whole, in pieces, with the print of its bytes, and has arrived under some name or is that of a file.
 pub record BodiesFit (t : Tables) : Type 0 where
   pub whole : All (λ x. x.1.print ≡ Some (print_of (bytes_of t x.0))) t.bodies
   pub pieces : All (λ x. pieces_of t x.0 ≡ pieces_for x.0 (bytes_of t x.0)) t.bodies
-  pub used : All (λ x. IsTrue (list_any (λ a. nat_eq a.body x.0) (rows_of t.arrivals))) t.bodies
+  pub used : All (λ x. IsTrue (is_used t x.0)) t.bodies
 
 -- Each arrival is one that may be kept.
 abbrev pub ArrivalsFit : Tables → Type 0

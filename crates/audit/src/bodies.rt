@@ -8,13 +8,13 @@ ghost use Rattle.tables.specs.Pieces.{is_of};
 ghost use Rattle.tables.specs.Rows.{rows_of};
 ghost use Rattle.tables_read.specs.All.{tables_with};
 ghost use Rattle.kept.specs.Kept.{bytes_of, piece_at, piece_count, piece_size, pieces_for};
-ghost use Rattle.audit.specs.Bodies.{AreArrived, IsBodyFit};
+ghost use Rattle.audit.specs.Bodies.{AreUsed, IsBodyFit};
 ghost use Rattle.audit.specs.Parts.{BodiesFit};
 
 use crate::pieces::Pieces;
 use std::alloc::{AllocError, Global};
 use sums::print_of;
-use tables::rows::{Arrival, Body, Piece};
+use tables::rows::{Arrival, Body, File, Piece};
 use tables_read::AllRows;
 
 /// The most bytes that a piece has.
@@ -128,11 +128,28 @@ fn bodies_of(alloc: Global, arrivals: &[(u64, Arrival)]) -> Result<Vec<u64>, All
     Ok(numbers)
 }
 
-/// The numbers of the bodies that have arrived, in rising order.
-fn arrived_in(alloc: Global, arrivals: &[(u64, Arrival)]) -> Result<Vec<u64>, AllocError>
-    ensures { IfOk result (λ numbers. AreArrived arrivals.now numbers.items) }
+/// The numbers of the bodies of the files.
+fn bodies_of_files(alloc: Global, files: &[(u64, File)]) -> Result<Vec<u64>, AllocError>
+    ensures { IfOk result (λ numbers. numbers.items ≡ map (λ f. f.body) (rows_of files.now)) }
+{
+    let mut numbers = Vec::new(alloc);
+    for row in files {
+        numbers.push(row.1.body)?;
+    }
+    Ok(numbers)
+}
+
+/// The numbers of the bodies of arrivals and of files, in rising order.
+fn used_in(
+    alloc: Global,
+    arrivals: &[(u64, Arrival)],
+    files: &[(u64, File)],
+) -> Result<Vec<u64>, AllocError>
+    ensures { IfOk result (λ numbers. AreUsed arrivals.now files.now numbers.items) }
 {
     let mut numbers = bodies_of(alloc, arrivals)?;
+    let filed = bodies_of_files(alloc, files)?;
+    numbers.extend_from_slice(&filed)?;
     numbers.sort_unstable();
     Ok(numbers)
 }
@@ -145,17 +162,17 @@ fn is_among(numbers: &[u64], id: u64) -> bool
     numbers.binary_search(&id).is_ok()
 }
 
-/// Whether a body is whole, in pieces, with the print of its bytes, and has arrived under some name.
+/// Whether a body is whole, in pieces, with the print of its bytes, and has arrived under some name or is that of a file.
 fn is_body_whole(
     alloc: Global,
     pieces: &Pieces<'_>,
-    arrived: &[u64],
+    used: &[u64],
     row: &(u64, Body),
 ) -> Result<bool, AllocError>
-    requires { AreArrived pieces.now.all.now.arrivals.items arrived.now }
+    requires { AreUsed pieces.now.all.now.arrivals.items pieces.now.all.now.files.items used.now }
     ensures { IfOk result (λ fits. IsTrue fits ↔ IsBodyFit (tables_with pieces.now.all.now) row.now) }
 {
-    if !is_among(arrived, row.0) {
+    if !is_among(used, row.0) {
         return Ok(false);
     }
     let bytes = bytes_of(alloc, pieces, row.0)?;
@@ -165,28 +182,28 @@ fn is_body_whole(
     Ok(is_print_of(&row.1, &bytes))
 }
 
-/// Whether each of these bodies is whole, in pieces, with the print of its bytes, and has arrived under some name.
+/// Whether each of these bodies is whole, in pieces, with the print of its bytes, and has arrived under some name or is that of a file.
 fn are_whole(
     alloc: Global,
     pieces: &Pieces<'_>,
-    arrived: &[u64],
+    used: &[u64],
     rows: &[(u64, Body)],
 ) -> Result<bool, AllocError>
-    requires { AreArrived pieces.now.all.now.arrivals.items arrived.now }
+    requires { AreUsed pieces.now.all.now.arrivals.items pieces.now.all.now.files.items used.now }
     ensures { IfOk result (λ fit. IsTrue fit ↔ All (IsBodyFit (tables_with pieces.now.all.now)) rows.now) }
 {
     for row in rows {
-        if !is_body_whole(alloc, pieces, arrived, row)? {
+        if !is_body_whole(alloc, pieces, used, row)? {
             return Ok(false);
         }
     }
     Ok(true)
 }
 
-/// Whether each body is whole, in pieces, with the print of its bytes, and has arrived under some name.
+/// Whether each body is whole, in pieces, with the print of its bytes, and has arrived under some name or is that of a file.
 pub fn are_bodies_whole(alloc: Global, all: &AllRows) -> Result<bool, AllocError>
     ensures { IfOk result (λ fit. IsTrue fit ↔ BodiesFit (tables_with all.now)) }
 {
-    let arrived = arrived_in(alloc, &all.arrivals)?;
-    are_whole(alloc, &Pieces::new(all), &arrived, &all.bodies)
+    let used = used_in(alloc, &all.arrivals, &all.files)?;
+    are_whole(alloc, &Pieces::new(all), &used, &all.bodies)
 }

@@ -1,1 +1,5 @@
 pub mod KnownLemmas
+pub mod RemovedLemmas
+pub mod UnusedLemmas
+pub mod CleanLemmas
+pub mod ArrivedLemmas

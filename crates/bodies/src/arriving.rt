@@ -1,12 +1,13 @@
 //! What has arrived: a body under a name, and what a .changes lists.
 
-ghost use Rattle.std.specs.Prelude.{◌≡◌, false, not, is_some, find, IsTrue, IfOk, OnOk, OnErr};
+ghost use Rattle.std.specs.Prelude.{◌≡◌, false, not, IsTrue, IfOk, OnOk, OnErr};
 ghost use Rattle.sqlite.specs.State.{HasCleanDisk, KeepsCommit, Survives};
 ghost use Rattle.sqlite.specs.Held.{state};
-ghost use Rattle.tables.specs.Arrivals.{is_arrival};
 ghost use Rattle.tables.specs.Rows.{Tables, Holds, Changes, with_want};
+ghost use Rattle.bodies.specs.Counting.{arrival_counts};
 ghost use Rattle.kept.specs.Making.{is_here, with_arrived, with_requested, with_wants};
 
+use crate::cleaning::counts;
 use sqlite::{Alter, Error, Transaction};
 use std::alloc::Global;
 use sums::{Entry, Print};
@@ -15,18 +16,20 @@ use tables::bodies::body_with_print_inside;
 use tables::uploads::{insert_upload, upload_of};
 use tables::wants::insert_want;
 
-/// A body has arrived under a name. Answers whether it is new; one that is there gets the moment where its own is less.
+/// A body has arrived under a name. Answers whether it is new: whether it was not there, or did not count at the moment, where what
+/// arrives counts for so many seconds, or for good. One that is there gets the moment where its own is less.
 pub(crate) fn store_arrival<S: Alter>(
     alloc: Global,
     tx: &mut Transaction<'_, S>,
     name: &str,
     body: u64,
+    span: Option<u64>,
     moment: u64,
 ) -> Result<bool, Error>
     ensures same_reference { tx.new.conn.ghost_name ≡ tx.old.conn.ghost_name }
     ensures ok { HasCleanDisk (state S.Store tx.new.conn.now) → IsTrue (state S.Store tx.old.conn.now).in_transaction
         → IfOk result (λ new. Changes (state S.Store tx.old.conn.now) (state S.Store tx.new.conn.now) (with_arrived name.now body moment)
-        × ((t : Tables) → Holds (state S.Store tx.old.conn.now).now t → new ≡ not (is_some (find (λ x. is_arrival name.now body x.1) t.arrivals)))) }
+        × ((t : Tables) → Holds (state S.Store tx.old.conn.now).now t → new ≡ not (arrival_counts span moment name.now body t))) }
     ensures err { HasCleanDisk (state S.Store tx.new.conn.now) → IsTrue (state S.Store tx.old.conn.now).in_transaction
         → OnErr result (KeepsCommit (state S.Store tx.old.conn.now) (state S.Store tx.new.conn.now)) }
     ensures survives { Survives (state S.Store tx.old.conn.now) (state S.Store tx.new.conn.now) (λ _. ⊥) }
@@ -37,11 +40,12 @@ pub(crate) fn store_arrival<S: Alter>(
             Ok(true)
         }
         Some((id, arrival)) => {
+            let known = counts(span, moment, &arrival);
             if moment <= arrival.moment {
-                return Ok(false);
+                return Ok(!known);
             }
             update_moment(tx, id, moment)?;
-            Ok(false)
+            Ok(!known)
         }
     }
 }

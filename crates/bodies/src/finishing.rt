@@ -1,11 +1,11 @@
 //! A file of which the whole body came: it arrives under its name.
 
-ghost use Rattle.std.specs.Prelude.{◌≡◌, ◌<◌, ℕ, false, not, is_some, find, option_map, IsTrue, IfOk, OnOk, OnErr};
+ghost use Rattle.std.specs.Prelude.{◌≡◌, ◌<◌, false, not, option_map, IsTrue, IfOk, OnOk, OnErr};
 ghost use Rattle.sqlite.specs.State.{HasCleanDisk, KeepsCommit, Survives};
 ghost use Rattle.sqlite.specs.Held.{state};
-ghost use Rattle.tables.specs.Arrivals.{is_arrival};
 ghost use Rattle.tables.specs.Rows.{Tables, Holds, Changes};
 ghost use Rattle.tables.specs.Wants.{with_here};
+ghost use Rattle.bodies.specs.Counting.{arrival_counts};
 ghost use Rattle.kept.specs.Coming.{IsNoOther, ended_number, with_ended, with_finished, with_received};
 ghost use Rattle.kept.specs.Making.{with_arrived};
 ghost use Rattle.kept.specs.Transactions.{IsDone, IsUndone, MayCommit};
@@ -20,18 +20,19 @@ use sums::{Entry, Print};
 use tables::wants::mark_here;
 
 /// A file of which the whole body came: its name, the number of its body, none where it has no byte, and of how many pieces that
-/// is, its print, and the moment.
+/// is, its print, for how many seconds what arrives counts, none where it does so for good, and the moment.
 #[derive(Clone, Copy)]
 pub struct Finished<'a> {
     pub name: &'a str,
     pub body: Option<u64>,
     pub pieces: u64,
     pub print: Print,
+    pub span: Option<u64>,
     pub moment: u64,
 }
 
 /// Makes the body of a file whole, and stores the arrival and that it is here for those that want it. Answers whether the arrival
-/// is new.
+/// is new at the moment.
 fn store_file<S: Alter>(
     alloc: Global,
     tx: &mut Transaction<'_, S>,
@@ -43,13 +44,20 @@ fn store_file<S: Alter>(
         (λ t. with_here finished.now.name.now finished.now.print
         (with_arrived finished.now.name.now (ended_number finished.now.body finished.now.print t) finished.now.moment (with_ended finished.now.body finished.now.print t)))
         × ((t : Tables) → Holds (state S.Store tx.old.conn.now).now t
-        → new ≡ not (is_some (find (λ x. is_arrival finished.now.name.now (ended_number finished.now.body finished.now.print t) x.1) (with_ended finished.now.body finished.now.print t).arrivals)))) }
+        → new ≡ not (arrival_counts finished.now.span finished.now.moment finished.now.name.now (ended_number finished.now.body finished.now.print t) (with_ended finished.now.body finished.now.print t)))) }
     ensures err { HasCleanDisk (state S.Store tx.new.conn.now) → IsTrue (state S.Store tx.old.conn.now).in_transaction
         → OnErr result (KeepsCommit (state S.Store tx.old.conn.now) (state S.Store tx.new.conn.now)) }
     ensures survives { Survives (state S.Store tx.old.conn.now) (state S.Store tx.new.conn.now) (λ _. ⊥) }
 {
     let body = store_whole(alloc, tx, finished.body, &finished.print)?;
-    let new = store_arrival(alloc, tx, finished.name, body, finished.moment)?;
+    let new = store_arrival(
+        alloc,
+        tx,
+        finished.name,
+        body,
+        finished.span,
+        finished.moment,
+    )?;
     mark_here(tx, finished.name, &finished.print)?;
     Ok(new)
 }
@@ -67,7 +75,7 @@ fn receive<S: Alter>(
         (λ t. with_received finished.now.name.now (ended_number finished.now.body finished.now.print t) finished.now.print finished.now.moment
         (option_map (λ entries. entries.now) listed.entry) (with_ended finished.now.body finished.now.print t))
         × ((t : Tables) → Holds (state S.Store tx.old.conn.now).now t
-        → new ≡ not (is_some (find (λ x. is_arrival finished.now.name.now (ended_number finished.now.body finished.now.print t) x.1) (with_ended finished.now.body finished.now.print t).arrivals)))) }
+        → new ≡ not (arrival_counts finished.now.span finished.now.moment finished.now.name.now (ended_number finished.now.body finished.now.print t) (with_ended finished.now.body finished.now.print t)))) }
     ensures err { HasCleanDisk (state S.Store tx.new.conn.now) → IsTrue (state S.Store tx.old.conn.now).in_transaction
         → OnErr result (KeepsCommit (state S.Store tx.old.conn.now) (state S.Store tx.new.conn.now)) }
     ensures survives { Survives (state S.Store tx.old.conn.now) (state S.Store tx.new.conn.now) (λ _. ⊥) }
@@ -94,7 +102,7 @@ fn finish_inside<S: Alter>(
     ensures ok { HasCleanDisk (state S.Store tx.new.conn.now) → IsTrue (state S.Store tx.old.conn.now).in_transaction
         → IfOk result (λ new. Changes (state S.Store tx.old.conn.now) (state S.Store tx.new.conn.now) (with_finished finished.now.name.now finished.now.body finished.now.print finished.now.moment)
         × ((t : Tables) → Holds (state S.Store tx.old.conn.now).now t → IsNoOther finished.now.body finished.now.pieces finished.now.print t
-        × (new ≡ not (is_some (find (λ x. is_arrival finished.now.name.now (ended_number finished.now.body finished.now.print t) x.1) (with_ended finished.now.body finished.now.print t).arrivals))))) }
+        × (new ≡ not (arrival_counts finished.now.span finished.now.moment finished.now.name.now (ended_number finished.now.body finished.now.print t) (with_ended finished.now.body finished.now.print t))))) }
     ensures err { HasCleanDisk (state S.Store tx.new.conn.now) → IsTrue (state S.Store tx.old.conn.now).in_transaction
         → OnErr result (KeepsCommit (state S.Store tx.old.conn.now) (state S.Store tx.new.conn.now)) }
     ensures survives { Survives (state S.Store tx.old.conn.now) (state S.Store tx.new.conn.now) (λ _. ⊥) }
@@ -117,7 +125,7 @@ pub fn finish_body<S: Alter>(
         (with_finished finished.now.name.now finished.now.body finished.now.print finished.now.moment)) }
     ensures answer { HasCleanDisk (state S.Store conn.new) → IfOk result (λ new. (t : Tables) → Holds (state S.Store conn.old).now t
         → IsNoOther finished.now.body finished.now.pieces finished.now.print t
-        × (new ≡ not (is_some (find (λ x. is_arrival finished.now.name.now (ended_number finished.now.body finished.now.print t) x.1) (with_ended finished.now.body finished.now.print t).arrivals)))) }
+        × (new ≡ not (arrival_counts finished.now.span finished.now.moment finished.now.name.now (ended_number finished.now.body finished.now.print t) (with_ended finished.now.body finished.now.print t)))) }
     ensures undone { HasCleanDisk (state S.Store conn.new) → OnErr result (IsUndone (state S.Store conn.old) (state S.Store conn.new)) }
     ensures crash { Survives (state S.Store conn.old) (state S.Store conn.new) (λ trees. MayCommit (state S.Store conn.old)
         (with_finished finished.now.name.now finished.now.body finished.now.print finished.now.moment) trees

@@ -1,17 +1,21 @@
-//! Transactions of a body: it comes in pieces, and once it is whole it arrives under a name; one that is not whole goes. What bodies
-//! are read from their pieces.
+//! Transactions of a body: it comes in pieces, and once it is whole it arrives under a name; one that is not whole goes, as does one
+//! that nothing uses any more. What bodies are read from their pieces.
 #![tactic(auto)]
 
 mod arriving;
+mod cleaning;
 mod coming;
 mod finishing;
 mod listing;
 mod other;
 mod reading;
 mod removing;
+mod sweeping;
 mod whole;
 
+pub use cleaning::{clean, counts};
 pub use coming::{Begun, store_piece};
 pub use finishing::{Finished, finish_body};
 pub use reading::{file_body, read_body};
 pub use removing::remove_all;
+pub use sweeping::sweep;

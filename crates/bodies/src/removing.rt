@@ -26,7 +26,7 @@ pub(crate) fn remove_body<S: Alter>(tx: &mut Transaction<'_, S>, id: u64) -> Res
 }
 
 /// Removes the bodies of these numbers and their pieces. It succeeds only on a connection that is open, where there is any.
-fn remove_bodies<S: Alter>(tx: &mut Transaction<'_, S>, ids: &[u64]) -> Result<(), Error>
+pub(crate) fn remove_bodies<S: Alter>(tx: &mut Transaction<'_, S>, ids: &[u64]) -> Result<(), Error>
     ensures same_reference { tx.new.conn.ghost_name ≡ tx.old.conn.ghost_name }
     ensures ok { HasCleanDisk (state S.Store tx.new.conn.now) → IsTrue (state S.Store tx.old.conn.now).in_transaction
         → OnOk result (Makes (state S.Store tx.old.conn.now) (state S.Store tx.new.conn.now) (without_all ids.now)) }

@@ -89,10 +89,11 @@ new_archive = record (new_app (codes "archive")) {
 -- with the commands that change an archive
 abbrev pub with_changes : App → App
 with_changes app =
-    with_subcommand (with_subcommand (with_subcommand (with_subcommand (with_subcommand app init_app.top) put_app.top)
+    with_subcommand (with_subcommand (with_subcommand (with_subcommand (with_subcommand (with_subcommand app init_app.top) put_app.top)
     (timed_app (codes "run")).top)
     copy_app.top)
-    remove_app.top
+    remove_app.top)
+    (timed_app (codes "clean")).top
 
 -- with the commands that ask an archive, and the one that serves it
 abbrev pub with_questions : App → App

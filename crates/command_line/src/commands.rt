@@ -122,6 +122,16 @@ fn remove_command<'a>(alloc: Global) -> Result<Command<'a>, AllocError>
     .arg(word(alloc, "PACKAGE", "The name of the package or source"))
 }
 
+fn clean_command<'a>(alloc: Global) -> Result<Command<'a>, AllocError>
+    ensures { IfOk result (IsCommand (timed_app (codes "clean"))) }
+{
+    timed_command(
+        alloc,
+        "clean",
+        "Takes away the arrivals that count no more, prints how many",
+    )
+}
+
 fn show_command<'a>(alloc: Global) -> Result<Command<'a>, AllocError>
     ensures { IfOk result (IsCommand show_app) }
 {
@@ -202,7 +212,8 @@ fn with_changing<'a>(
     let command = with(command, put_command(alloc));
     let command = with(command, run_command(alloc));
     let command = with(command, copy_command(alloc));
-    with(command, remove_command(alloc))
+    let command = with(command, remove_command(alloc));
+    with(command, clean_command(alloc))
 }
 
 /// A command with those subcommands that ask an archive, and the one that serves it.

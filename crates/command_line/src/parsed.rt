@@ -49,6 +49,11 @@ pub enum CommandLine<'a> {
         suite: &'a str,
         name: &'a str,
     },
+    /// Takes away the arrivals that do not count any more.
+    Clean {
+        db: &'a str,
+        at: u64,
+    },
     /// Prints an index or a file of the pool.
     Show {
         db: &'a str,

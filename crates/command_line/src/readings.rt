@@ -79,6 +79,15 @@ fn read_remove<'a>(alloc: Global, found: &ArgMatches<'a>) -> Result<CommandLine<
     })
 }
 
+fn read_clean<'a>(alloc: Global, found: &ArgMatches<'a>) -> Result<CommandLine<'a>, LineFault>
+    ensures { IfOk result (IsLine (Some (codes "clean", rows_of (found_of found.now)))) }
+{
+    Ok(CommandLine::Clean {
+        db: required(alloc, found, "db")?,
+        at: moment(alloc, found)?,
+    })
+}
+
 fn read_show<'a>(alloc: Global, found: &ArgMatches<'a>) -> Result<CommandLine<'a>, LineFault>
     ensures { IfOk result (IsLine (Some (codes "show", rows_of (found_of found.now)))) }
 {
@@ -134,6 +143,7 @@ pub fn command_of<'a>(
         "run" => read_run(alloc, found),
         "copy" => read_copy(alloc, found),
         "remove" => read_remove(alloc, found),
+        "clean" => read_clean(alloc, found),
         "show" => read_show(alloc, found),
         "waiting" => read_waiting(alloc, found),
         "verdicts" => read_verdicts(alloc, found),

@@ -21,6 +21,7 @@ use std::alloc::Global;
 /// run --db FILE --at N
 /// copy --db FILE --at N FROM TO SOURCE
 /// remove --db FILE --at N SUITE PACKAGE
+/// clean --db FILE --at N
 /// show --db FILE PATH
 /// waiting --db FILE --at N
 /// verdicts --db FILE

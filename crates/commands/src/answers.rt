@@ -124,6 +124,18 @@ pub fn remove<'a, K: Keeper, W: Write>(
     Ok(())
 }
 
+/// Takes away each arrival that does not count any more at a moment, and prints how many there were.
+pub fn clean<'a, K: Keeper, W: Write>(
+    alloc: Global,
+    archive: &mut Archive<K>,
+    at: u64,
+    out: &mut W,
+) -> Result<(), Stop<'a>> {
+    let count = archive.clean(alloc, at)?;
+    writeln!(out, "{count}")?;
+    Ok(())
+}
+
 /// Prints the bytes of the index or the file of the pool at a path.
 pub fn show<'a, K: Keeper, W: Write>(
     alloc: Global,

@@ -182,6 +182,7 @@ fn done<'a, K: Keeper + Drop, F: InFile<K>, W: Write, E: Write>(
                 name,
             },
         ),
+        CommandLine::Clean { db, at } => (*db, Word::Clean { at: *at }),
         CommandLine::Show { db, path } => (*db, Word::Show { path }),
         CommandLine::Waiting { db, at } => (*db, Word::Waiting { at: *at }),
         CommandLine::Verdicts { db } => (*db, Word::Verdicts),

@@ -39,6 +39,10 @@ pub enum Word<'w, 'a> {
         suite: &'w str,
         name: &'w str,
     },
+    /// Takes away the arrivals that do not count any more, and prints how many there were.
+    Clean {
+        at: u64,
+    },
     /// Prints the bytes of the index or the file of the pool at a path.
     Show {
         path: &'w str,
@@ -190,6 +194,7 @@ fn ask<'a, K: Keeper, W: Write>(
         Word::Remove { at, suite, name } => {
             answers::remove(alloc, archive, at, suite, name, out)?;
         }
+        Word::Clean { at } => answers::clean(alloc, archive, at, out)?,
         Word::Show { path } => answers::show(alloc, archive, path, out)?,
         Word::Waiting { at } => answers::waiting(alloc, archive, at, out)?,
         Word::Verdicts => answers::verdicts(alloc, archive, out)?,

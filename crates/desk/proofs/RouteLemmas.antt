@@ -13,7 +13,7 @@ use Rattle.desk.specs.declared.routes.Route.TheVariants as at
 use Rattle.desk.specs.Want.{◌>>=◌, Want, asked_at, beside, command_at, found_route, parameters, routes, wanted_at}
 use Rattle.desk.specs.declared.head.Refusal.{Refusal}
 use Rattle.desk.specs.declared.head.Refusal.TheVariants.{NotFound}
-use Rattle.desk.specs.Paths.{Place, to_incoming, to_run, to_copy, to_queue, to_verdicts, to_dists, to_pool, to_remove, print_path, IsPlace, IsPart, IsRest, is_byte, is_slash, route_of, wanted_of}
+use Rattle.desk.specs.Paths.{Place, to_incoming, to_run, to_copy, to_queue, to_clean, to_verdicts, to_dists, to_pool, to_remove, print_path, IsPlace, IsPart, IsRest, is_byte, is_slash, route_of, wanted_of}
 use Rattle.desk.proofs.FieldLemmas.{both}
 use Rattle.desk.proofs.SeekLemmas.{led, led_first, led_found, first_or, or_found, or_first, or_second, skip, enter, part_first, end_found, rest_first, last_first, last_found, cut_first, cut_found, slash_any}
 use Rattle.matchit.specs.Rows.{RowsOf}
@@ -49,6 +49,7 @@ place_row (to_incoming name) = row_of (parse_route (codes "/incoming/{name}")) a
 place_row to_run = row_of (parse_route (codes "/queue/run")) at.Run
 place_row (to_copy from to source) = row_of (parse_route (codes "/copy/{from}/{to}/{source}")) at.Copy
 place_row to_queue = row_of (parse_route (codes "/queue")) at.Waiting
+place_row to_clean = row_of (parse_route (codes "/queue/clean")) at.Clean
 place_row to_verdicts = row_of (parse_route (codes "/verdicts")) at.Verdicts
 place_row (to_dists rest) = row_of (parse_route (codes "/dists/{*path}")) at.Dists
 place_row (to_pool rest) = row_of (parse_route (codes "/pool/{*path}")) at.Pool
@@ -75,14 +76,20 @@ pools = (257 ∷ [], place_row (to_pool [])) ∷ []
 abbrev runs : Rows
 runs = ([], place_row to_run) ∷ []
 
+abbrev cleans : Rows
+cleans = ([], place_row to_clean) ∷ []
+
 abbrev queues : Rows
 queues = ([], place_row to_queue) ∷ []
 
 abbrev verdicts : Rows
 verdicts = ([], place_row to_verdicts) ∷ []
 
+abbrev behind_queue : Rows
+behind_queue = led (codes "clean") cleans ++ led (codes "run") runs
+
 abbrev after_queue : Rows
-after_queue = led (codes "/run") runs ++ queues
+after_queue = led (codes "/") behind_queue ++ queues
 
 abbrev from_remove : Rows
 from_remove = led (codes "remove/") removes ++ led (codes "verdicts") verdicts
@@ -146,16 +153,28 @@ found_in_remove path row whole h w f =
           record { place = to_verdicts; is_place = tt; whole = w ∙ ap (λ l. 47 ∷ l) (split ∙ ap (λ l. codes "verdicts" ++ l) empty); row_is = is }
     ]
 
+found_behind_queue : (path : List ℕ) (row : RouteOf Route) (whole : List ℕ) → whole ≡ codes "/queue/" ++ path → first behind_queue path ≡ Some row → IsFound whole row
+found_behind_queue path row whole w f =
+    elim (or_found _ _ row (sym (first_or 99 (codes "lean") cleans (led (codes "run") runs) path refl refl refl refl) ∙ f)) [
+      | inl q ↦
+          let (rest, split, found) = led_found (codes "clean") cleans path row refl q in
+          let (empty, is) = end_found (place_row to_clean) row rest found in
+          record { place = to_clean; is_place = tt; whole = w ∙ ap (λ l. codes "/queue/" ++ l) (split ∙ ap (λ l. codes "clean" ++ l) empty); row_is = is }
+      | inr v ↦
+          let (rest, split, found) = led_found (codes "run") runs path row refl v in
+          let (empty, is) = end_found (place_row to_run) row rest found in
+          record { place = to_run; is_place = tt; whole = w ∙ ap (λ l. codes "/queue/" ++ l) (split ∙ ap (λ l. codes "run" ++ l) empty); row_is = is }
+    ]
+
 found_in_queue : (path : List ℕ) (row : RouteOf Route) (whole : List ℕ) → list_all is_byte path ≡ true → whole ≡ 47 ∷ path → first from_queue path ≡ Some row → IsFound whole row
 found_in_queue path row whole h w f =
     elim (or_found _ _ row (sym (first_or 113 (codes "ueue") after_queue from_remove path refl refl refl refl) ∙ f)) [
       | inl q ↦
           let (rest, split, found) = led_found (codes "queue") after_queue path row refl q in
-          elim (or_found _ _ row (sym (first_or 47 (codes "run") runs queues rest refl refl refl refl) ∙ found)) [
+          elim (or_found _ _ row (sym (first_or 47 [] behind_queue queues rest refl refl refl refl) ∙ found)) [
             | inl r ↦
-                let (more, cut, last) = led_found (codes "/run") runs rest row refl r in
-                let (empty, is) = end_found (place_row to_run) row more last in
-                record { place = to_run; is_place = tt; whole = w ∙ ap (λ l. 47 ∷ l) (split ∙ ap (λ l. codes "queue" ++ l) (cut ∙ ap (λ l. codes "/run" ++ l) empty)); row_is = is }
+                let (more, cut, last) = led_found (codes "/") behind_queue rest row refl r in
+                found_behind_queue more row whole (w ∙ ap (λ l. 47 ∷ l) (split ∙ ap (λ l. codes "queue" ++ l) cut)) last
             | inr r ↦
                 let (empty, is) = end_found (place_row to_queue) row rest r in
                 record { place = to_queue; is_place = tt; whole = w ∙ ap (λ l. 47 ∷ l) (split ∙ ap (λ l. codes "queue" ++ l) empty); row_is = is }
@@ -283,6 +302,10 @@ queue_first : first routes (codes "/queue") ≡ Some (place_row to_queue)
 unfolding routes matchit_on_literals
 queue_first = refl
 
+clean_first : first routes (codes "/queue/clean") ≡ Some (place_row to_clean)
+unfolding routes matchit_on_literals
+clean_first = refl
+
 verdicts_first : first routes (codes "/verdicts") ≡ Some (place_row to_verdicts)
 unfolding routes matchit_on_literals
 verdicts_first = refl
@@ -292,6 +315,7 @@ place_first (to_incoming name) h = incoming_first name h
 place_first to_run h = run_first
 place_first (to_copy from to source) h = copy_first from to source h.0 h.1 h.2
 place_first to_queue h = queue_first
+place_first to_clean h = clean_first
 place_first to_verdicts h = verdicts_first
 place_first (to_dists rest) h = dists_first rest h
 place_first (to_pool rest) h = pool_first rest h
@@ -305,6 +329,7 @@ place_parameters (to_incoming name) = (codes "name", name) ∷ []
 place_parameters to_run = []
 place_parameters (to_copy from to source) = (codes "from", from) ∷ (codes "to", to) ∷ (codes "source", source) ∷ []
 place_parameters to_queue = []
+place_parameters to_clean = []
 place_parameters to_verdicts = []
 place_parameters (to_dists rest) = (codes "path", rest) ∷ []
 place_parameters (to_pool rest) = (codes "path", rest) ∷ []
@@ -368,6 +393,10 @@ queue_parameters : parameters (place_row to_queue) (codes "/queue") ≡ []
 unfolding matchit_on_literals
 queue_parameters = refl
 
+clean_parameters : parameters (place_row to_clean) (codes "/queue/clean") ≡ []
+unfolding matchit_on_literals
+clean_parameters = refl
+
 verdicts_parameters : parameters (place_row to_verdicts) (codes "/verdicts") ≡ []
 unfolding matchit_on_literals
 verdicts_parameters = refl
@@ -377,6 +406,7 @@ parameters_are (to_incoming name) h = incoming_parameters name
 parameters_are to_run h = run_parameters
 parameters_are (to_copy from to source) h = copy_parameters from to source h.0 h.1
 parameters_are to_queue h = queue_parameters
+parameters_are to_clean h = clean_parameters
 parameters_are to_verdicts h = verdicts_parameters
 parameters_are (to_dists rest) h = dists_parameters rest
 parameters_are (to_pool rest) h = pool_parameters rest
@@ -393,6 +423,7 @@ row_value (to_incoming name) = refl
 row_value to_run = refl
 row_value (to_copy from to source) = refl
 row_value to_queue = refl
+row_value to_clean = refl
 row_value to_verdicts = refl
 row_value (to_dists rest) = refl
 row_value (to_pool rest) = refl
@@ -403,6 +434,7 @@ asked_place (to_incoming name) = refl
 asked_place to_run = refl
 asked_place (to_copy from to source) = refl
 asked_place to_queue = refl
+asked_place to_clean = refl
 asked_place to_verdicts = refl
 asked_place (to_dists rest) = refl
 asked_place (to_pool rest) = refl

@@ -10,7 +10,7 @@ use Rattle.matchit.specs.Params.{AllText}
 use Rattle.matchit.specs.Router.{RouteOf}
 use Rattle.matchit.specs.Seek.{first}
 use Rattle.desk.specs.declared.routes.Route.{Route}
-use Rattle.desk.specs.Paths.{Place, to_incoming, to_run, to_copy, to_queue, to_verdicts, to_dists, to_pool, to_remove, print_path, is_byte}
+use Rattle.desk.specs.Paths.{Place, to_incoming, to_run, to_copy, to_queue, to_clean, to_verdicts, to_dists, to_pool, to_remove, print_path, is_byte}
 use Rattle.desk.specs.Want.{parameters, routes}
 use Rattle.desk.proofs.FieldLemmas.{both}
 use Rattle.desk.proofs.RouteLemmas.{route_found, place_row, place_parameters, parameters_are}
@@ -46,6 +46,7 @@ place_text (to_copy from to source) u =
     let three = utf8_cut to source two.1 in
     (name_text (codes "from") refl, two.0, (name_text (codes "to") refl, three.0, (name_text (codes "source") refl, three.1, tt)))
 place_text to_queue u = tt
+place_text to_clean u = tt
 place_text to_verdicts u = tt
 place_text (to_dists rest) u = (name_text (codes "path") refl, (utf8_cut (codes "/dists") rest u).1, tt)
 place_text (to_pool rest) u = (name_text (codes "path") refl, (utf8_cut (codes "/pool") rest u).1, tt)

@@ -11,7 +11,7 @@ use Rattle.httparse.specs.declared.spans.RequestSpans.{RequestSpans}
 use Rattle.desk.specs.declared.head.Refusal.{Refusal}
 use Rattle.desk.specs.declared.head.Refusal.TheVariants.{BadRequest, NotFound, MethodNotAllowed, LengthRequired, PayloadTooLarge, HeadTooLarge, NotImplemented, OutOfMemory}
 use Rattle.desk.specs.declared.routes.Route.{Route}
-use Rattle.desk.specs.Want.{◌>>=◌, Want, delivery, queue_run, copying, fetching, waiting_list, verdict_list, removing, asked_at, content_length, is_named, is_path, method_of, pass, wanted_by, with_length}
+use Rattle.desk.specs.Want.{◌>>=◌, Want, delivery, queue_run, copying, fetching, waiting_list, cleaning, verdict_list, removing, asked_at, content_length, is_named, is_path, method_of, pass, wanted_by, with_length}
 use Rattle.desk.specs.Request.{Gives, HeadAsks, IsHead, body_length}
 
 -- what is said of a result is said of it in other words
@@ -108,6 +108,7 @@ small_length queue_run length want is = small_other queue_run want (unwrap_or le
 small_length (copying a b c) length want is = small_other (copying a b c) want (unwrap_or length 0 == 0) refl is
 small_length (fetching p k) length want is = small_other (fetching p k) want (unwrap_or length 0 == 0) refl is
 small_length waiting_list length want is = small_other waiting_list want (unwrap_or length 0 == 0) refl is
+small_length cleaning length want is = small_other cleaning want (unwrap_or length 0 == 0) refl is
 small_length verdict_list length want is = small_other verdict_list want (unwrap_or length 0 == 0) refl is
 small_length (removing a b) length want is = small_other (removing a b) want (unwrap_or length 0 == 0) refl is
 

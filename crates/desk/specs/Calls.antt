@@ -2,12 +2,12 @@
 use Rattle.std.specs.Prelude.{ℕ, Bool, true, false, List, codes, decimal, Option, Result, Ok, Err, Some, None}
 use Rattle.std.specs.List.{flat_map}
 use Rattle.queue.specs.Fault.{fault_text}
-use Rattle.queue.specs.Histories.{Call, Delivery, QueueRun, Copying, Lookup, WaitingList, Removing, VerdictList, Reply, Stored, Lines, Count, Found}
+use Rattle.queue.specs.Histories.{Call, Delivery, QueueRun, Copying, Lookup, WaitingList, Cleaning, Removing, VerdictList, Reply, Stored, Lines, Count, Found}
 use Rattle.queue.specs.declared.fault.Fault.{Fault}
 use Rattle.queue.specs.declared.fault.Fault.TheVariants as fault
 use Rattle.desk.specs.Answer.{refusal_message, text_message}
 use Rattle.desk.specs.Reply.{Message, line}
-use Rattle.desk.specs.Want.{Want, delivery, queue_run, copying, fetching, waiting_list, verdict_list, removing}
+use Rattle.desk.specs.Want.{Want, delivery, queue_run, copying, fetching, waiting_list, cleaning, verdict_list, removing}
 use Rattle.desk.specs.declared.head.Refusal.TheVariants as refusal
 
 -- the call that is wanted, with the body that came, at the moment that is handed in
@@ -17,6 +17,7 @@ call_wanted queue_run body moment = QueueRun moment
 call_wanted (copying from to source) body moment = Copying from to source moment
 call_wanted (fetching path is_pool) body moment = Lookup path
 call_wanted waiting_list body moment = WaitingList moment
+call_wanted cleaning body moment = Cleaning moment
 call_wanted verdict_list body moment = VerdictList
 call_wanted (removing suite name) body moment = Removing suite name moment
 

@@ -4,7 +4,7 @@ use Rattle.std.specs.List.{list_any, list_all}
 use Rattle.desk.specs.declared.routes.Route.{Route}
 use Rattle.desk.specs.declared.routes.Route.TheVariants as at
 use Rattle.desk.specs.declared.head.Refusal.{Refusal}
-use Rattle.desk.specs.Want.{◌>>=◌, Want, delivery, queue_run, copying, waiting_list, verdict_list, removing, decoded, fetched_at}
+use Rattle.desk.specs.Want.{◌>>=◌, Want, delivery, queue_run, copying, waiting_list, cleaning, verdict_list, removing, decoded, fetched_at}
 
 -- what a path names, its parameters as they were sent
 pub data Place : Type 0 where
@@ -12,6 +12,7 @@ pub data Place : Type 0 where
   to_run : Place
   to_copy : (from to source : List ℕ) → Place
   to_queue : Place
+  to_clean : Place
   to_verdicts : Place
   to_dists : (rest : List ℕ) → Place
   to_pool : (rest : List ℕ) → Place
@@ -40,6 +41,7 @@ print_path (to_incoming name) = codes "/incoming/" ++ name
 print_path to_run = codes "/queue/run"
 print_path (to_copy from to source) = codes "/copy/" ++ (from ++ 47 ∷ (to ++ 47 ∷ source))
 print_path to_queue = codes "/queue"
+print_path to_clean = codes "/queue/clean"
 print_path to_verdicts = codes "/verdicts"
 print_path (to_dists rest) = codes "/dists/" ++ rest
 print_path (to_pool rest) = codes "/pool/" ++ rest
@@ -51,6 +53,7 @@ IsPlace (to_incoming name) = IsPart name
 IsPlace to_run = Unit {0}
 IsPlace (to_copy from to source) = IsPart from × IsPart to × IsPart source
 IsPlace to_queue = Unit {0}
+IsPlace to_clean = Unit {0}
 IsPlace to_verdicts = Unit {0}
 IsPlace (to_dists rest) = IsRest rest
 IsPlace (to_pool rest) = IsRest rest
@@ -62,6 +65,7 @@ route_of (to_incoming name) = at.Deliver
 route_of to_run = at.Run
 route_of (to_copy from to source) = at.Copy
 route_of to_queue = at.Waiting
+route_of to_clean = at.Clean
 route_of to_verdicts = at.Verdicts
 route_of (to_dists rest) = at.Dists
 route_of (to_pool rest) = at.Pool
@@ -79,6 +83,7 @@ wanted_of (to_copy from to source) = do
   decoded_source ← decoded source
   Ok (copying decoded_from decoded_to decoded_source)
 wanted_of to_queue = Ok waiting_list
+wanted_of to_clean = Ok cleaning
 wanted_of to_verdicts = Ok verdict_list
 wanted_of (to_dists rest) = fetched_at (codes "dists/" ++ rest) false
 wanted_of (to_pool rest) = fetched_at (codes "pool/" ++ rest) true

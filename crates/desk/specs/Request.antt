@@ -8,7 +8,7 @@ use Rattle.desk.specs.declared.routes.Route.{Route}
 use Rattle.desk.specs.declared.head.Wanted.{Wanted}
 use Rattle.desk.specs.declared.head.Wanted.TheVariants as w
 use Rattle.desk.specs.Transfer.{IsBeginning, ends_head, NotEarlier}
-use Rattle.desk.specs.Want.{Want, wanted, delivery, queue_run, copying, fetching, waiting_list, verdict_list, removing}
+use Rattle.desk.specs.Want.{Want, wanted, delivery, queue_run, copying, fetching, waiting_list, cleaning, verdict_list, removing}
 
 -- a `Wanted` without where it lies in memory
 abbrev pub want_of : Wanted → Want
@@ -17,6 +17,7 @@ want_of w.Run = queue_run
 want_of (w.Copy from to source) = copying (string_bytes from) (string_bytes to) (string_bytes source)
 want_of (w.Fetch path is_pool) = fetching (string_bytes path) is_pool
 want_of w.Waiting = waiting_list
+want_of w.Clean = cleaning
 want_of w.Verdicts = verdict_list
 want_of (w.Remove suite name) = removing (string_bytes suite) (string_bytes name)
 
@@ -63,6 +64,7 @@ body_length queue_run = 0
 body_length (copying a b c) = 0
 body_length (fetching p k) = 0
 body_length waiting_list = 0
+body_length cleaning = 0
 body_length verdict_list = 0
 body_length (removing a b) = 0
 

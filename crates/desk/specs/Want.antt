@@ -27,6 +27,7 @@ pub data Want : Type 0 where
   copying : (from to source : List ℕ) → Want
   fetching : (path : List ℕ) → (is_pool : Bool) → Want
   waiting_list : Want
+  cleaning : Want
   verdict_list : Want
   removing : (suite name : List ℕ) → Want
 
@@ -58,6 +59,7 @@ route_texts =
     ∷ (codes "/dists/{*path}", at.Dists)
     ∷ (codes "/pool/{*path}", at.Pool)
     ∷ (codes "/remove/{suite}/{package}", at.Remove)
+    ∷ (codes "/queue/clean", at.Clean)
     ∷ []
 
 -- a router's rows and one route more
@@ -103,6 +105,7 @@ wanted_at at.Copy taken path = do
   source ← decoded (parameter taken (codes "source"))
   Ok (copying from to source)
 wanted_at at.Waiting taken path = Ok waiting_list
+wanted_at at.Clean taken path = Ok cleaning
 wanted_at at.Verdicts taken path = Ok verdict_list
 wanted_at at.Dists taken path = fetched_at (drop 1 path) false
 wanted_at at.Pool taken path = fetched_at (drop 1 path) true
@@ -121,6 +124,7 @@ method_of at.Verdicts = codes "GET"
 method_of at.Dists = codes "GET"
 method_of at.Pool = codes "GET"
 method_of at.Remove = codes "POST"
+method_of at.Clean = codes "POST"
 
 -- ---- the fields
 
@@ -153,6 +157,7 @@ with_length queue_run length = if unwrap_or length 0 == 0 then Ok queue_run else
 with_length (copying a b c) length = if unwrap_or length 0 == 0 then Ok (copying a b c) else Err BadRequest
 with_length (fetching p k) length = if unwrap_or length 0 == 0 then Ok (fetching p k) else Err BadRequest
 with_length waiting_list length = if unwrap_or length 0 == 0 then Ok waiting_list else Err BadRequest
+with_length cleaning length = if unwrap_or length 0 == 0 then Ok cleaning else Err BadRequest
 with_length verdict_list length = if unwrap_or length 0 == 0 then Ok verdict_list else Err BadRequest
 with_length (removing a b) length = if unwrap_or length 0 == 0 then Ok (removing a b) else Err BadRequest
 

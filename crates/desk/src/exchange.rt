@@ -162,6 +162,10 @@ fn carry_out<K: Keeper, R: Read>(
             Ok(report) => Ok(report_reply(report)),
             Err(fault) => Ok(fault_reply(fault)),
         },
+        Wanted::Clean => match archive.clean(alloc, moment) {
+            Ok(count) => Ok(Reply::new(StatusCode::OK, Body::Number(count))),
+            Err(fault) => Ok(fault_reply(fault)),
+        },
         Wanted::Verdicts => match archive.verdicts(alloc) {
             Ok(report) => Ok(report_reply(report)),
             Err(fault) => Ok(fault_reply(fault)),

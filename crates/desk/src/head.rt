@@ -113,6 +113,7 @@ pub enum Wanted {
         is_pool: bool,
     },
     Waiting,
+    Clean,
     Verdicts,
     Remove {
         suite: String,
@@ -281,6 +282,7 @@ fn read_route(
             source: decode_param(alloc, params, "source")?,
         }),
         Route::Waiting => Ok(Wanted::Waiting),
+        Route::Clean => Ok(Wanted::Clean),
         Route::Verdicts => Ok(Wanted::Verdicts),
         Route::Dists => read_fetch(alloc, target, false),
         Route::Pool => read_fetch(alloc, target, true),

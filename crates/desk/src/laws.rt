@@ -8,11 +8,11 @@ ghost use Rattle.queue.specs.Answers.{IsRun};
 ghost use Rattle.queue.specs.Histories.{bodies_of, opened_with};
 ghost use Rattle.queue.specs.Steps.{Lasts, Reads};
 ghost use Rattle.desk.specs.Connections.{AreServed, Visit, calls_in, outcomes_in};
-ghost use Rattle.desk.specs.Paths.{IsPart, IsPlace, IsRest, Place, is_byte, print_path, route_of, wanted_of, to_incoming, to_copy, to_dists, to_pool, to_remove, to_run, to_queue, to_verdicts};
+ghost use Rattle.desk.specs.Paths.{IsPart, IsPlace, IsRest, Place, is_byte, print_path, route_of, wanted_of, to_incoming, to_copy, to_dists, to_pool, to_remove, to_run, to_queue, to_clean, to_verdicts};
 ghost use Rattle.desk.specs.Request.{Asked, IsRequest};
 ghost use Rattle.desk.specs.Want.{Want, asked_at, beside, route_for};
 ghost use Rattle.desk.specs.declared.head.Refusal.TheVariants.{NotFound};
-ghost use Rattle.desk.specs.declared.routes.Route.TheVariants.{Copy, Deliver, Dists, Pool, Remove, Run, Verdicts, Waiting};
+ghost use Rattle.desk.specs.declared.routes.Route.TheVariants.{Clean, Copy, Deliver, Dists, Pool, Remove, Run, Verdicts, Waiting};
 
 use keep::Keeper;
 
@@ -30,6 +30,7 @@ pub fn paths_with_a_route()
     ensures copy { (from to source : List ℕ) → IsPart from → IsPart to → IsPart source →
         asked_at (codes "/copy/" ++ (from ++ 47 ∷ (to ++ 47 ∷ source))) ≡ beside Copy (wanted_of (to_copy from to source)) }
     ensures waiting { asked_at (codes "/queue") ≡ beside Waiting (wanted_of to_queue) }
+    ensures clean { asked_at (codes "/queue/clean") ≡ beside Clean (wanted_of to_clean) }
     ensures verdicts { asked_at (codes "/verdicts") ≡ beside Verdicts (wanted_of to_verdicts) }
     ensures dists { (rest : List ℕ) → IsRest rest → asked_at (codes "/dists/" ++ rest) ≡ beside Dists (wanted_of (to_dists rest)) }
     ensures pool { (rest : List ℕ) → IsRest rest → asked_at (codes "/pool/" ++ rest) ≡ beside Pool (wanted_of (to_pool rest)) }

@@ -17,6 +17,7 @@ pub enum Route {
     Dists,
     Pool,
     Remove,
+    Clean,
 }
 
 impl Route {
@@ -26,7 +27,7 @@ impl Route {
     {
         match self {
             Route::Deliver => Method::PUT,
-            Route::Run | Route::Copy | Route::Remove => Method::POST,
+            Route::Run | Route::Copy | Route::Remove | Route::Clean => Method::POST,
             Route::Waiting | Route::Verdicts | Route::Dists | Route::Pool => Method::GET,
         }
     }
@@ -55,6 +56,7 @@ fn add_others(router: &mut Router<Route>) -> Result<(), InsertError>
     router.insert("/dists/{*path}", Route::Dists)?;
     router.insert("/pool/{*path}", Route::Pool)?;
     router.insert("/remove/{suite}/{package}", Route::Remove)?;
+    router.insert("/queue/clean", Route::Clean)?;
     Ok(())
 }
 

@@ -120,6 +120,10 @@ impl Keeper for DiskKeeper {
         Err(KeepFault::OutOfMemory)
     }
 
+    fn clean(&mut self, _alloc: Global, _moment: u64) -> Result<u64, KeepFault> {
+        Err(KeepFault::OutOfMemory)
+    }
+
     fn file(&mut self, _alloc: Global, _path: &str) -> Result<Option<Vec<u8>>, KeepFault> {
         Err(KeepFault::OutOfMemory)
     }

@@ -10,3 +10,5 @@ pub mod Kept
 pub mod Signs
 pub mod Staying
 pub mod Pieces
+pub mod Moments
+pub mod Searches

@@ -1,5 +1,5 @@
 -- What a keeper keeps, as contracts see it: the book.
-use Rattle.std.specs.Prelude.{◌≡◌, ℕ, Bool, ◌&&◌, ◌||◌, not, nat_eq, nat_lt, if◌then◌else◌, List, [], ◌∷◌, ◌++◌, map, filter, find, length, codes, bytes_eq, Option, Some, None, option_map, option_and_then, unwrap_or}
+use Rattle.std.specs.Prelude.{◌≡◌, ℕ, ◌+◌, ◌*◌, Bool, true, ◌&&◌, ◌||◌, not, nat_eq, nat_lt, if◌then◌else◌, List, [], ◌∷◌, ◌++◌, map, filter, find, length, codes, bytes_eq, Option, Some, None, option_map, option_and_then, unwrap_or}
 use Rattle.std.specs.Ordering.{ordering_then, nat_cmp, is_gt}
 use Rattle.std.specs.declared.cmp.Ordering.{Ordering}
 use Rattle.std.specs.List.{list_any, list_all, ends_with, filter_map, fold, enumerate_from}
@@ -62,6 +62,29 @@ with_arrival arrivals a =
 
 abbrev pub with_delivery : Book → Arrival → Book
 with_delivery book a = record book { arrivals = with_arrival book.arrivals a }
+
+-- ---- what counts at a moment
+
+-- the seconds for which an arrival counts; none where it does so for good
+abbrev pub span : ConfigValue → Option ℕ
+span config = option_map (λ days. days * 86400) config.keep_days
+
+-- The arrival counts at a moment: that is before its own moment and the span behind it.
+unfoldable pub counts : Option ℕ → ℕ → Arrival → Bool
+counts None moment a = true
+counts (Some seconds) moment a = nat_lt moment (a.moment + seconds)
+
+-- those that count at a moment
+unfoldable pub current : Option ℕ → ℕ → List Arrival → List Arrival
+current span moment arrivals = filter (counts span moment) arrivals
+
+-- those that do so no more
+unfoldable pub ended : Option ℕ → ℕ → List Arrival → List Arrival
+ended span moment arrivals = filter (λ a. not (counts span moment a)) arrivals
+
+-- The book with the arrivals that count at a moment, and no others: what a cleaning at that moment leaves.
+unfoldable pub at_moment : ℕ → Book → Book
+at_moment moment book = record book { arrivals = current (span book.config) moment book.arrivals }
 
 -- ---- uploads
 

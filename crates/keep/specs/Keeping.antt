@@ -1,14 +1,15 @@
 -- What the calls of a keeper ask and answer.
-use Rattle.std.specs.Prelude.{◌≡◌, ◌≢◌, ◌≤◌, ◌<◌, ◌%◌, ◌+◌, ◌-◌, ◌^◌, min, Option, All, AllPairs, ℕ, Bool, true, IsTrue, List, [], ◌∷◌, map, take, length, Ok, Contains, ⊤, ◌⊎◌, Some}
+use Rattle.std.specs.Prelude.{◌≡◌, ◌≢◌, ◌≤◌, ◌<◌, ◌%◌, ◌+◌, ◌-◌, ◌^◌, min, Option, All, AllPairs, ℕ, Bool, true, IsTrue, List, [], ◌∷◌, map, take, length, Ok, Contains, ⊤, ◌⊎◌, Some, is_some}
+use Rattle.std.specs.FinMap.{get}
 use Rattle.records.specs.Values.{ChangesValue}
 use Rattle.records.specs.Records.{changes_in}
 use Rattle.sums.specs.Lines.{is_file_name}
 use Rattle.sums.specs.Prints.{print as print_of}
 use Rattle.sums.specs.declared.print.Print.{Print}
 use Rattle.suites.specs.Plan.{IsStep, applied}
-use Rattle.suites.specs.Shelves.{ShelvesValue}
+use Rattle.suites.specs.Shelves.{ShelvesValue, pool}
 use Rattle.suites.specs.Told.{AreTold}
-use Rattle.keep.specs.Book.{Book, Candidate, amended, is_changes_name, due, judgements, shown_past, text_at}
+use Rattle.keep.specs.Book.{Book, Candidate, amended, at_moment, is_changes_name, due, judgements, shown_past, stored_body, text_at}
 use Rattle.keep.specs.declared.arrival.Arrival.{Arrival}
 use Rattle.keep.specs.declared.change.Step.{Step}
 use Rattle.keep.specs.declared.change.Change.{Change}
@@ -50,13 +51,18 @@ pub record AreRenewed (old new : Book) (texts : List IndexText) : Type 0 where
   pub named : All (λ t. (text_at new t.path ≡ Some t.text) × (text_at old t.path ≢ Some t.text)) texts
   pub rest : (path : List ℕ) → Contains (map (λ t. t.path) texts) path ⊎ (text_at old path ≡ text_at new path)
 
--- Each plan is made for what those before it leave, the judged uploads are the first of those that are due, the texts are
--- those that differ after it, and all that is shown is told by its records where it was before.
+-- Each plan is made for what those before it leave, the judged uploads are the first of those that are due at the moment of
+-- the change, the texts are those that differ after it, and all that is shown is told by its records where it was before.
 pub record IsSound (book : Book) (change : Change) : Type 0 where
   pub plans : AreSteps book.shown change.steps
-  pub judged : map sign_on (judgements change.steps) ≡ map sign_of (take (length (judgements change.steps)) (due book))
+  pub judged : map sign_on (judgements change.steps) ≡ map sign_of (take (length (judgements change.steps)) (due (at_moment change.moment book)))
   pub texts : AreRenewed book (amended book change) change.texts
   pub told : AreTold book.config.suites book.shown → AreTold book.config.suites (shown_past book.shown change.steps)
+
+-- The book has a body for each file that the pool has after the change: at the file's path, or an arrival with its print.
+abbrev pub HasEachBody : Book → Change → Type 0
+HasEachBody book change = (path : List ℕ) (print : Print) → get (pool (shown_past book.shown change.steps)) path ≡ Some print
+    → IsTrue (is_some (stored_body book path print))
 
 -- The disk failed meanwhile: the count of its failures rose, unless it is at the top of a `u64`.
 abbrev pub MoreFaults : ℕ → ℕ → Type 0

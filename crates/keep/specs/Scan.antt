@@ -9,13 +9,18 @@ use Rattle.suites.specs.Keys.{text_order}
 use Rattle.suites.specs.declared.item.Item.{Item}
 use Rattle.suites.specs.declared.key.ShelfKey.{ShelfKey}
 use Rattle.keep.specs.Book as book
-use Rattle.keep.specs.Book.{at_latest, candidates, in_order, is_judged, missing, touches}
+use Rattle.keep.specs.Book.{at_latest, candidates, current, in_order, is_judged, missing, touches}
 use Rattle.keep.specs.declared.arrival.Arrival.{Arrival}
+use Rattle.keep.specs.declared.arrival.Counting.{Counting}
 use Rattle.keep.specs.declared.change.Judgement.{Judgement}
 use Rattle.keep.specs.declared.change.Step.{Step}
 use Rattle.keep.specs.declared.change.Waiting.{Waiting}
 use Rattle.keep.specs.declared.pool.PoolBody.{PoolBody}
 use Rattle.keep.specs.declared.candidate.Candidate as scan
+
+-- the arrivals that count
+abbrev pub counted : Counting → List Arrival → List Arrival
+counted counting arrivals = current counting.span counting.moment arrivals
 
 -- of this name, with a body of this print
 abbrev pub is_arrival_of : List ℕ → Print → Arrival → Bool

@@ -1,9 +1,11 @@
-//! What has arrived.
+//! What has arrived, and what of it counts.
 
 ghost use Rattle.std.specs.Prelude.{◌≡◌, IfOk};
 ghost use Rattle.sums.specs.Prints.{print as print_of_body};
+ghost use Rattle.keep.specs.Book.{counts, span};
 
 use para::{Listed, Text};
+use rules::Config;
 use std::alloc::{AllocError, Global};
 use std::marker::Model;
 use sums::Print;
@@ -70,4 +72,39 @@ pub struct Arrival {
     pub name: Text,
     pub body: Body,
     pub moment: u64,
+}
+
+/// What counts at a moment: for how many seconds what arrives counts, or nothing where it does so for good, and the moment,
+/// in seconds since 1970-01-01 00:00:00 UTC.
+#[derive(Clone, Copy)]
+pub struct Counting {
+    span: Option<u64>,
+    moment: u64,
+}
+
+impl Counting {
+    /// What counts at the moment in an archive of this configuration.
+    pub fn new(config: &Config, moment: u64) -> Counting
+        ensures { result ≡ record { span = span config.now; moment = moment } }
+    {
+        let span = match config.keep_days() {
+            Some(days) => Some(days.seconds()),
+            None => None,
+        };
+        Counting { span, moment }
+    }
+
+    /// Whether the arrival counts. At a moment before its own it does.
+    #[tactic(auto, unfolding(crate::specs::Book::counts))]
+    pub fn counts(&self, arrival: &Arrival) -> bool
+        ensures { result ≡ counts self.now.span self.now.moment arrival.now }
+    {
+        let Some(span) = self.span else {
+            return true;
+        };
+        match self.moment.checked_sub(arrival.moment) {
+            Some(age) => age < span,
+            None => true,
+        }
+    }
 }

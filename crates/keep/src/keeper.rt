@@ -1,9 +1,9 @@
 //! The trait of keepers.
 
-ghost use Rattle.std.specs.Prelude.{◌≡◌, ◌≤◌, ◌++◌, ◌⊎◌, [], ℕ, Bool, List, Option, Some, None, IfOk, IfErr, OnOk, OnErr, map, not};
+ghost use Rattle.std.specs.Prelude.{◌≡◌, ◌≤◌, ◌++◌, ◌⊎◌, [], ℕ, Bool, List, Option, Some, None, IfOk, IfErr, OnOk, OnErr, length, map, not};
 ghost use Rattle.std.specs.Option.{option_map};
-ghost use Rattle.keep.specs.Book.{Book, amended, due, has_arrival, latest, text_at, upload_of, waiting_list, with_delivery};
-ghost use Rattle.keep.specs.Keeping.{Apart, ApartWith, IsDeliverable, IsSound, IsWholeFor, Lasts, Leaves, MayAnswer, Reads, Stays, TakesPiece, sign_of};
+ghost use Rattle.keep.specs.Book.{Book, amended, at_moment, due, ended, has_arrival, latest, span, text_at, upload_of, waiting_list, with_delivery};
+ghost use Rattle.keep.specs.Keeping.{Apart, ApartWith, HasEachBody, IsDeliverable, IsSound, IsWholeFor, Lasts, Leaves, MayAnswer, Reads, Stays, TakesPiece, sign_of};
 
 use crate::change::{Change, Judgement, Waiting};
 use crate::fault::KeepFault;
@@ -63,9 +63,10 @@ pub trait Keeper {
         ensures refused { OnErr result (coming self.new ≡ None) }
         ensures cause { IfErr result (MayAnswer may_fail) };
 
-    /// Takes the body that was begun as one that has arrived under a file name, and says whether that is new. None is
-    /// coming then, also after a refusal. Bodies are told apart by their prints, so that this is said of bodies among which
-    /// no two have one print. A crash leaves what it would have left before, or the book with the delivery.
+    /// Takes the body that was begun as one that has arrived under a file name, and says whether that is new: whether no
+    /// arrival of this name and body counts at the moment. None is coming then, also after a refusal. Bodies are told apart
+    /// by their prints, so that this is said of bodies among which no two have one print. A crash leaves what it would have
+    /// left before, or the book with the delivery.
     fn finish(&mut self, alloc: Global, name: &str, moment: u64) -> Result<bool, KeepFault>
         requires in_time { moment ≤ latest }
         requires whole { is_clean self.now → is_open self.now → IsWholeFor (coming self.now) name.now }
@@ -73,7 +74,7 @@ pub trait Keeper {
         ensures served { is_clean self.new → OnOk result (is_open self.new) }
         ensures ended { coming self.new ≡ None }
         ensures new { is_clean self.new → IfOk result (λ new. (body : List ℕ) → coming self.old ≡ Some body → ApartWith (book self.old) body
-            (new ≡ not (has_arrival (book self.old).arrivals (record { name = name.now; body = body; moment = moment })))) }
+            (new ≡ not (has_arrival (at_moment moment (book self.old)).arrivals (record { name = name.now; body = body; moment = moment })))) }
         ensures ok { is_clean self.new → OnOk result ((body : List ℕ) → coming self.old ≡ Some body → ApartWith (book self.old) body
             (book self.new ≡ with_delivery (book self.old) (record { name = name.now; body = body; moment = moment }))) }
         ensures err { is_clean self.new → is_open self.new → OnErr result (book self.new ≡ book self.old) }
@@ -89,9 +90,9 @@ pub trait Keeper {
         ensures nothing { coming self.old ≡ None → self.new ≡ self.old }
         ensures cause { IfErr result (MayAnswer may_fail) };
 
-    /// Takes an arrival, a file name and a body, and says whether it is new: a body is begun, its pieces follow, and it is
-    /// finished. Bodies are told apart by their prints, so that this is said of bodies among which no two have one print. A
-    /// crash leaves what it would have left before, the book, or the book with the delivery.
+    /// Takes an arrival, a file name and a body, and says whether it is new, as `finish` does: a body is begun, its pieces
+    /// follow, and it is finished. Bodies are told apart by their prints, so that this is said of bodies among which no two
+    /// have one print. A crash leaves what it would have left before, the book, or the book with the delivery.
     fn arrive(
         &mut self,
         alloc: Global,
@@ -104,7 +105,7 @@ pub trait Keeper {
         ensures lasts { Lasts is_clean is_open faults book self.old self.new }
         ensures served { is_clean self.new → OnOk result (is_open self.new) }
         ensures new { is_clean self.new → IfOk result (λ new. ApartWith (book self.old) body.now
-            (new ≡ not (has_arrival (book self.old).arrivals (record { name = name.now; body = body.now; moment = moment })))) }
+            (new ≡ not (has_arrival (at_moment moment (book self.old)).arrivals (record { name = name.now; body = body.now; moment = moment })))) }
         ensures ok { is_clean self.new → OnOk result (ApartWith (book self.old) body.now
             (book self.new ≡ with_delivery (book self.old) (record { name = name.now; body = body.now; moment = moment }))) }
         ensures err { is_clean self.new → is_open self.new → OnErr result (book self.new ≡ book self.old) }
@@ -123,15 +124,16 @@ pub trait Keeper {
     }
 
     /// The uploads without a verdict of whose entries all have arrived, in the order of the bytes of their names, then of
-    /// their SHA-256, SHA-1, MD5 and sizes.
+    /// their SHA-256, SHA-1, MD5 and sizes. Of the arrivals, those are looked at that count at the moment.
     fn complete_uploads(&mut self, alloc: Global, moment: u64) -> Result<Vec<Upload>, KeepFault>
         requires { moment ≤ latest }
         ensures reads { Reads is_clean is_open faults book may_leave self.old self.new }
         ensures served { is_clean self.new → OnOk result (is_open self.new) }
         // By their names and prints, of whatever bodies.
-        ensures signs { is_clean self.new → IfOk result (λ uploads. map (λ u. (u.name, u.print)) uploads.items ≡ map sign_of (due (book self.old))) }
+        ensures signs { is_clean self.new → IfOk result (λ uploads.
+            map (λ u. (u.name, u.print)) uploads.items ≡ map sign_of (due (at_moment moment (book self.old)))) }
         ensures uploads { is_clean self.new → IfOk result (λ uploads. Apart (book self.old)
-            (uploads.items ≡ map (upload_of (book self.old).arrivals) (due (book self.old)))) }
+            (uploads.items ≡ map (upload_of (at_moment moment (book self.old)).arrivals) (due (at_moment moment (book self.old))))) }
         ensures cause { IfErr result (MayAnswer may_fail) };
 
     /// What the suites show.
@@ -141,17 +143,33 @@ pub trait Keeper {
         ensures shelves { is_clean self.new → IfOk result (λ shelves. shelves ≡ (book self.old).shown) }
         ensures cause { IfErr result (MayAnswer may_fail) };
 
-    /// Makes the whole change, or none of it. A crash leaves what it would have left before, or the book with the whole
-    /// change.
+    /// Makes the whole change, or none of it. What the book is then is said of changes for which it has each body. A crash
+    /// leaves what it would have left before, or the book with the whole change.
     fn apply(&mut self, alloc: Global, change: &Change) -> Result<(), KeepFault>
         requires in_time { change.now.moment ≤ latest }
         requires sound { is_clean self.now → is_open self.now → IsSound (book self.now) change.now }
         ensures lasts { Lasts is_clean is_open faults book self.old self.new }
         ensures served { is_clean self.new → OnOk result (is_open self.new) }
-        ensures ok { is_clean self.new → OnOk result (Apart (book self.old) (book self.new ≡ amended (book self.old) change.now)) }
+        ensures ok { is_clean self.new → OnOk result (Apart (book self.old) (HasEachBody (book self.old) change.now
+            → book self.new ≡ amended (book self.old) change.now)) }
         ensures err { is_clean self.new → is_open self.new → OnErr result (book self.new ≡ book self.old) }
         ensures cause { IfErr result (MayAnswer may_fail) }
-        ensures crash { Leaves is_clean is_open may_leave self.old self.new (λ left. Apart (book self.old) (left ≡ Some (amended (book self.old) change.now))) };
+        ensures crash { Leaves is_clean is_open may_leave self.old self.new (λ left. Apart (book self.old) (HasEachBody (book self.old) change.now
+            → left ≡ Some (amended (book self.old) change.now))) };
+
+    /// Takes away each arrival that does not count at the moment, and says how many there were. The verdicts, what the suites
+    /// show and the files stay. A crash leaves what it would have left before, or the book without these arrivals. It has
+    /// nothing to do with what `is_clean` says.
+    fn clean(&mut self, alloc: Global, moment: u64) -> Result<u64, KeepFault>
+        requires { moment ≤ latest }
+        ensures lasts { Lasts is_clean is_open faults book self.old self.new }
+        ensures served { is_clean self.new → OnOk result (is_open self.new) }
+        ensures count { is_clean self.new → IfOk result (λ count.
+            count ≡ length (ended (span (book self.old).config) moment (book self.old).arrivals)) }
+        ensures ok { is_clean self.new → OnOk result (book self.new ≡ at_moment moment (book self.old)) }
+        ensures err { is_clean self.new → is_open self.new → OnErr result (book self.new ≡ book self.old) }
+        ensures cause { IfErr result (MayAnswer may_fail) }
+        ensures crash { Leaves is_clean is_open may_leave self.old self.new (λ left. left ≡ Some (at_moment moment (book self.old))) };
 
     /// The file of the pool at a path without a leading slash.
     fn file(&mut self, alloc: Global, path: &str) -> Result<Option<Vec<u8>>, KeepFault>
@@ -168,12 +186,13 @@ pub trait Keeper {
         ensures cause { IfErr result (MayAnswer may_fail) };
 
     /// The uploads without a verdict, in the order of `complete_uploads`, each with the number of its entries that have
-    /// not arrived.
+    /// not arrived. Of the arrivals, those are looked at that count at the moment.
     fn waiting(&mut self, alloc: Global, moment: u64) -> Result<Vec<Waiting>, KeepFault>
         requires { moment ≤ latest }
         ensures reads { Reads is_clean is_open faults book may_leave self.old self.new }
         ensures served { is_clean self.new → OnOk result (is_open self.new) }
-        ensures waiting { is_clean self.new → IfOk result (λ waiting. Apart (book self.old) (waiting.items ≡ waiting_list (book self.old))) }
+        ensures waiting { is_clean self.new → IfOk result (λ waiting. Apart (book self.old)
+            (waiting.items ≡ waiting_list (at_moment moment (book self.old)))) }
         ensures cause { IfErr result (MayAnswer may_fail) };
 
     /// The judged uploads in the order in which they were judged.

@@ -2,12 +2,14 @@
 
 ghost use Rattle.std.specs.Prelude.{◌≤◌, All, IfOk};
 
-use crate::arrival::{Arrival, Body};
+use crate::arrival::{Arrival, Body, Counting};
 use crate::change::{Change, Judgement, Waiting};
 use crate::fault::KeepFault;
 use crate::keeper::{Keeper, LATEST};
 use crate::pool::{PoolBody, body_at_path, pool_bodies};
-use crate::scan::{complete_uploads, has_arrival, mark_all, waiting_uploads};
+use crate::scan::{
+    complete_uploads, has_arrival, has_current, mark_all, remove_ended, waiting_uploads,
+};
 use crate::steps::{copied_judgements, dates_after, judged_after, shelves_after};
 use para::Text;
 use rules::Config;
@@ -105,16 +107,18 @@ impl Keeper for PlainKeeper {
             unreachable!()
         };
         let print = print_of(&body);
+        let counting = Counting::new(&self.config, moment);
+        let is_new = !has_current(&self.arrivals, counting, name, print);
         if has_arrival(&self.arrivals, name, print) {
             mark_all(&mut self.arrivals, name, print, moment);
-            return Ok(false);
+            return Ok(is_new);
         }
         self.arrivals.push(Arrival {
             name: Text::new(alloc, name)?,
             body: Body::from_vec(body, print),
             moment,
         })?;
-        Ok(true)
+        Ok(is_new)
     }
 
     #[tactic(auto, unfolding(crate::specs::Plain::plain_book))]
@@ -125,8 +129,8 @@ impl Keeper for PlainKeeper {
 
     #[tactic(auto, unfolding(crate::specs::Plain::plain_book, crate::specs::Book::due, crate::specs::Book::unjudged))]
     fn complete_uploads(&mut self, alloc: Global, moment: u64) -> Result<Vec<Upload>, KeepFault> {
-        let _ = moment;
-        Ok(complete_uploads(alloc, &self.arrivals, &self.judged)?)
+        let counting = Counting::new(&self.config, moment);
+        Ok(complete_uploads(alloc, &self.arrivals, counting, &self.judged)?)
     }
 
     #[tactic(auto, unfolding(crate::specs::Plain::plain_book))]
@@ -149,6 +153,13 @@ impl Keeper for PlainKeeper {
     }
 
     #[tactic(auto, unfolding(crate::specs::Plain::plain_book))]
+    fn clean(&mut self, alloc: Global, moment: u64) -> Result<u64, KeepFault> {
+        let _ = alloc;
+        let counting = Counting::new(&self.config, moment);
+        Ok(remove_ended(&mut self.arrivals, counting))
+    }
+
+    #[tactic(auto, unfolding(crate::specs::Plain::plain_book))]
     fn file(&mut self, alloc: Global, path: &str) -> Result<Option<Vec<u8>>, KeepFault> {
         Ok(body_at_path(alloc, &self.files, path)?)
     }
@@ -160,8 +171,8 @@ impl Keeper for PlainKeeper {
 
     #[tactic(auto, unfolding(crate::specs::Plain::plain_book, crate::specs::Book::waiting_list, crate::specs::Book::unjudged))]
     fn waiting(&mut self, alloc: Global, moment: u64) -> Result<Vec<Waiting>, KeepFault> {
-        let _ = moment;
-        Ok(waiting_uploads(alloc, &self.arrivals, &self.judged)?)
+        let counting = Counting::new(&self.config, moment);
+        Ok(waiting_uploads(alloc, &self.arrivals, counting, &self.judged)?)
     }
 
     #[tactic(auto, unfolding(crate::specs::Plain::plain_book))]

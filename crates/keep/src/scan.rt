@@ -7,11 +7,11 @@ ghost use Rattle.std.specs.Ordering.{is_gt};
 ghost use Rattle.std.specs.Result.{result_ok};
 ghost use Rattle.records.specs.Records.{changes_in as record_in};
 ghost use Rattle.suites.specs.Upload.{has_text as keeps_text};
-ghost use Rattle.keep.specs.Book.{body_for, candidate_of, is_changes_name, is_complete, is_there as has_come, judging_order as order_of, put_in_order, upload_of as upload_at};
+ghost use Rattle.keep.specs.Book.{body_for, candidate_of, ended, is_changes_name, is_complete, is_there as has_come, judging_order as order_of, put_in_order, upload_of as upload_at};
 ghost use Rattle.keep.specs.declared.arrival.Arrival.{Arrival as ArrivalValue};
-ghost use Rattle.keep.specs.Scan.{candidate_view, has_judgement, is_arrival_of, marked, unjudged_in, waiting_of};
+ghost use Rattle.keep.specs.Scan.{candidate_view, counted, has_judgement, is_arrival_of, marked, unjudged_in, waiting_of};
 
-use crate::arrival::Arrival;
+use crate::arrival::{Arrival, Counting};
 use crate::candidate::Candidate;
 use crate::change::{Judgement, Waiting};
 use para::Listed;
@@ -38,11 +38,32 @@ fn is_of(arrival: &Arrival, name: &str, print: Print) -> bool
     arrival.body.print() == print
 }
 
-/// The first arrival of this name with a body of this print.
-fn arrival_of<'a>(arrivals: &'a [Arrival], name: &str, print: Print) -> Option<&'a Arrival>
-    ensures { option_copied result ≡ find (is_arrival_of name.now print) arrivals.now }
+/// Whether a body of this print has arrived under this name, also where it counts no more.
+pub fn has_arrival(arrivals: &[Arrival], name: &str, print: Print) -> bool
+    ensures { result ≡ list_any (is_arrival_of name.now print) arrivals.now }
 {
     for arrival in arrivals {
+        if is_of(arrival, name, print) {
+            return true;
+        }
+    }
+    false
+}
+
+/// The first arrival that counts, of this name with a body of this print.
+#[tactic(auto, unfolding(crate::specs::Book::current))]
+fn current_arrival<'a>(
+    arrivals: &'a [Arrival],
+    counting: Counting,
+    name: &str,
+    print: Print,
+) -> Option<&'a Arrival>
+    ensures { option_copied result ≡ find (is_arrival_of name.now print) (counted counting arrivals.now) }
+{
+    for arrival in arrivals {
+        if !counting.counts(arrival) {
+            continue;
+        }
         if is_of(arrival, name, print) {
             return Some(arrival);
         }
@@ -50,11 +71,11 @@ fn arrival_of<'a>(arrivals: &'a [Arrival], name: &str, print: Print) -> Option<&
     None
 }
 
-/// Whether a body of this print has arrived under this name.
-pub fn has_arrival(arrivals: &[Arrival], name: &str, print: Print) -> bool
-    ensures { result ≡ list_any (is_arrival_of name.now print) arrivals.now }
+/// Whether an arrival that counts is of this name with a body of this print.
+pub fn has_current(arrivals: &[Arrival], counting: Counting, name: &str, print: Print) -> bool
+    ensures { result ≡ list_any (is_arrival_of name.now print) (counted counting arrivals.now) }
 {
-    arrival_of(arrivals, name, print).is_some()
+    current_arrival(arrivals, counting, name, print).is_some()
 }
 
 /// Gives the arrival this moment, where it is of this name and print and its own moment is less.
@@ -77,33 +98,54 @@ pub fn mark_all(arrivals: &mut [Arrival], name: &str, print: Print, moment: u64)
     }
 }
 
-/// Whether a body of the listed file has arrived.
-#[tactic(auto, unfolding(crate::specs::Book::is_there, crate::specs::Book::is_body_of))]
-fn is_there(arrivals: &[Arrival], entry: &Entry) -> bool
-    ensures { result ≡ has_come arrivals.now entry.now }
+/// How many of the arrivals do not count.
+#[tactic(auto, unfolding(crate::specs::Book::ended))]
+fn ended_count(arrivals: &[Arrival], counting: Counting) -> u64
+    ensures { result ≡ length (ended counting.span counting.moment arrivals.now) }
 {
-    has_arrival(arrivals, entry.name.as_str(), entry.print)
+    arrivals
+        .iter()
+        .filter(|arrival| !counting.counts(arrival))
+        .count() as u64
 }
 
-/// How many of the listed files have not arrived.
-fn missing_count(arrivals: &[Arrival], entries: &[Entry]) -> usize
-    ensures { result ≡ length (filter (λ e. not (has_come arrivals.now e)) entries.now) }
+/// Takes away the arrivals that do not count, and says how many there were.
+pub fn remove_ended(arrivals: &mut Vec<Arrival>, counting: Counting) -> u64
+    ensures count { result ≡ length (ended counting.span counting.moment arrivals.old.items) }
+    ensures left { arrivals.new.items ≡ counted counting arrivals.old.items }
+{
+    let count = ended_count(arrivals, counting);
+    arrivals.retain(|arrival| counting.counts(arrival));
+    count
+}
+
+/// Whether a body of the listed file has arrived and counts.
+#[tactic(auto, unfolding(crate::specs::Book::is_there, crate::specs::Book::is_body_of))]
+fn is_there(arrivals: &[Arrival], counting: Counting, entry: &Entry) -> bool
+    ensures { result ≡ has_come (counted counting arrivals.now) entry.now }
+{
+    has_current(arrivals, counting, entry.name.as_str(), entry.print)
+}
+
+/// How many of the listed files have not arrived, or count no more.
+fn missing_count(arrivals: &[Arrival], counting: Counting, entries: &[Entry]) -> usize
+    ensures { result ≡ length (filter (λ e. not (has_come (counted counting arrivals.now) e)) entries.now) }
 {
     let mut count = 0;
     for entry in entries {
-        if !is_there(arrivals, entry) {
+        if !is_there(arrivals, counting, entry) {
             count += 1;
         }
     }
     count
 }
 
-/// Whether each of the listed files has arrived.
-fn are_there(arrivals: &[Arrival], entries: &[Entry]) -> bool
-    ensures { result ≡ list_all (has_come arrivals.now) entries.now }
+/// Whether each of the listed files has arrived and counts.
+fn are_there(arrivals: &[Arrival], counting: Counting, entries: &[Entry]) -> bool
+    ensures { result ≡ list_all (has_come (counted counting arrivals.now)) entries.now }
 {
     for entry in entries {
-        if !is_there(arrivals, entry) {
+        if !is_there(arrivals, counting, entry) {
             return false;
         }
     }
@@ -195,17 +237,21 @@ fn place(found: &[Candidate<'_>], other: &Candidate<'_>) -> usize
     found.len()
 }
 
-/// Adds the .changes that an arrival is, where it is one without a verdict, in its place among those of the arrivals
-/// behind it.
+/// Adds the .changes that an arrival is, where it counts and is one without a verdict, in its place among those of the
+/// arrivals behind it.
 fn add_unjudged<'a>(
     alloc: Global,
     found: &mut Vec<Candidate<'a>>,
     arrival: &'a Arrival,
+    counting: Counting,
     judged: &[Judgement],
 ) -> Result<(), AllocError>
-    ensures { OnOk result ((rest : List ArrivalValue) → map candidate_view found.old.items ≡ unjudged_in rest judged.now
-        → map candidate_view found.new.items ≡ unjudged_in (arrival.now ∷ rest) judged.now) }
+    ensures { OnOk result ((rest : List ArrivalValue) → map candidate_view found.old.items ≡ unjudged_in (counted counting rest) judged.now
+        → map candidate_view found.new.items ≡ unjudged_in (counted counting (arrival.now ∷ rest)) judged.now) }
 {
+    if !counting.counts(arrival) {
+        return Ok(());
+    }
     if !is_changes(arrival) {
         return Ok(());
     }
@@ -219,32 +265,39 @@ fn add_unjudged<'a>(
     Ok(())
 }
 
-/// The uploads without a verdict, in the order of judging.
+/// The uploads without a verdict whose .changes counts, in the order of judging.
+#[tactic(auto, unfolding(crate::specs::Book::current))]
 fn unjudged<'a>(
     alloc: Global,
     arrivals: &'a [Arrival],
+    counting: Counting,
     judged: &[Judgement],
 ) -> Result<Vec<Candidate<'a>>, AllocError>
-    ensures { IfOk result (λ found. map candidate_view found.items ≡ unjudged_in arrivals.now judged.now) }
+    ensures { IfOk result (λ found. map candidate_view found.items ≡ unjudged_in (counted counting arrivals.now) judged.now) }
 {
     let mut found = Vec::new(alloc);
     let mut left = arrivals.len();
     while left > 0 {
         left -= 1;
-        add_unjudged(alloc, &mut found, &arrivals[left], judged)?;
+        add_unjudged(alloc, &mut found, &arrivals[left], counting, judged)?;
     }
     Ok(found)
 }
 
 /// The text that an upload keeps of a listed file: the body that arrived, of a .dsc or a sidecar.
 #[tactic(auto, unfolding(crate::specs::Book::body_for, crate::specs::Book::is_body_of))]
-fn kept_text(alloc: Global, arrivals: &[Arrival], entry: &Entry) -> Result<Listed<u8>, AllocError>
-    ensures { IfOk result (λ text. text ≡ (if keeps_text entry.now.name then body_for arrivals.now entry.now else [])) }
+fn kept_text(
+    alloc: Global,
+    arrivals: &[Arrival],
+    counting: Counting,
+    entry: &Entry,
+) -> Result<Listed<u8>, AllocError>
+    ensures { IfOk result (λ text. text ≡ (if keeps_text entry.now.name then body_for (counted counting arrivals.now) entry.now else [])) }
 {
     if !has_text(entry.name.as_str()) {
         return Ok(Listed::from_vec(Vec::new(alloc)));
     }
-    match arrival_of(arrivals, entry.name.as_str(), entry.print) {
+    match current_arrival(arrivals, counting, entry.name.as_str(), entry.print) {
         Some(arrival) => copied(alloc, arrival.body.as_slice()),
         None => Ok(Listed::from_vec(Vec::new(alloc))),
     }
@@ -254,63 +307,72 @@ fn kept_text(alloc: Global, arrivals: &[Arrival], entry: &Entry) -> Result<Liste
 fn kept_texts(
     alloc: Global,
     arrivals: &[Arrival],
+    counting: Counting,
     entries: &[Entry],
 ) -> Result<Vec<Listed<u8>>, AllocError>
-    ensures { IfOk result (λ texts. texts.items ≡ map (λ e. if keeps_text e.name then body_for arrivals.now e else []) entries.now) }
+    ensures { IfOk result (λ texts.
+        texts.items ≡ map (λ e. if keeps_text e.name then body_for (counted counting arrivals.now) e else []) entries.now) }
 {
     let mut texts = Vec::new(alloc);
     for entry in entries {
-        texts.push(kept_text(alloc, arrivals, entry)?)?;
+        texts.push(kept_text(alloc, arrivals, counting, entry)?)?;
     }
     Ok(texts)
 }
 
-/// The upload of a .changes all of whose files have arrived.
+/// The upload of a .changes all of whose files have arrived and count.
 fn upload_of(
     alloc: Global,
     arrivals: &[Arrival],
+    counting: Counting,
     candidate: Candidate<'_>,
 ) -> Result<Upload, AllocError>
-    requires { is_complete arrivals.now (candidate_view candidate) ≡ true }
-    ensures { IfOk result (λ upload. upload ≡ upload_at arrivals.now (candidate_view candidate.entry)) }
+    requires { is_complete (counted counting arrivals.now) (candidate_view candidate) ≡ true }
+    ensures { IfOk result (λ upload. upload ≡ upload_at (counted counting arrivals.now) (candidate_view candidate.entry)) }
 {
-    let texts = kept_texts(alloc, arrivals, candidate.changes.entries())?;
+    let texts = kept_texts(alloc, arrivals, counting, candidate.changes.entries())?;
     let name = candidate.arrival.name.try_clone()?;
     let print = candidate.arrival.body.print();
     Ok(Upload::new(name, print, candidate.changes, texts))
 }
 
-/// The uploads without a verdict of whose entries all have arrived, in the order of judging.
+/// The uploads without a verdict of whose entries all have arrived, in the order of judging, among the arrivals that count.
 pub fn complete_uploads(
     alloc: Global,
     arrivals: &[Arrival],
+    counting: Counting,
     judged: &[Judgement],
 ) -> Result<Vec<Upload>, AllocError>
-    ensures { IfOk result (λ uploads. uploads.items ≡ map (upload_at arrivals.now) (filter (is_complete arrivals.now) (unjudged_in arrivals.now judged.now))) }
+    ensures { IfOk result (λ uploads. uploads.items
+        ≡ map (upload_at (counted counting arrivals.now))
+        (filter (is_complete (counted counting arrivals.now)) (unjudged_in (counted counting arrivals.now) judged.now))) }
 {
     let mut uploads = Vec::new(alloc);
-    for candidate in unjudged(alloc, arrivals, judged)? {
-        if are_there(arrivals, candidate.changes.entries()) {
-            uploads.push(upload_of(alloc, arrivals, candidate)?)?;
+    for candidate in unjudged(alloc, arrivals, counting, judged)? {
+        if are_there(arrivals, counting, candidate.changes.entries()) {
+            uploads.push(upload_of(alloc, arrivals, counting, candidate)?)?;
         }
     }
     Ok(uploads)
 }
 
-/// The uploads without a verdict, in the order of judging, each with the number of its entries that have not arrived.
+/// The uploads without a verdict, in the order of judging, each with the number of its entries that have not arrived, among
+/// the arrivals that count.
 pub fn waiting_uploads(
     alloc: Global,
     arrivals: &[Arrival],
+    counting: Counting,
     judged: &[Judgement],
 ) -> Result<Vec<Waiting>, AllocError>
-    ensures { IfOk result (λ waiting. waiting.items ≡ map (waiting_of arrivals.now) (unjudged_in arrivals.now judged.now)) }
+    ensures { IfOk result (λ waiting. waiting.items
+        ≡ map (waiting_of (counted counting arrivals.now)) (unjudged_in (counted counting arrivals.now) judged.now)) }
 {
-    let found = unjudged(alloc, arrivals, judged)?;
+    let found = unjudged(alloc, arrivals, counting, judged)?;
     let mut waiting = Vec::new(alloc);
     for candidate in &found {
         waiting.push(Waiting {
             name: candidate.arrival.name.try_clone()?,
-            missing: missing_count(arrivals, candidate.changes.entries()),
+            missing: missing_count(arrivals, counting, candidate.changes.entries()),
         })?;
     }
     Ok(waiting)

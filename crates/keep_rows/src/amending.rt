@@ -4,7 +4,7 @@ ghost use Rattle.std.specs.Prelude.{◌≡◌, false, IsTrue, OnOk, OnErr};
 ghost use Rattle.sqlite.specs.State.{HasCleanDisk, KeepsCommit, IsUnchanged, Survives};
 ghost use Rattle.sqlite.specs.Held.{state};
 ghost use Rattle.tables.specs.Rows.{Tables, Holds, Changes};
-ghost use Rattle.kept.specs.Making.{with_change, with_new_dates, with_new_texts};
+ghost use Rattle.kept.specs.Making.{with_change, with_new_dates, with_new_texts, with_written};
 ghost use Rattle.kept.specs.Amending.{HasAllBodies, Makes};
 ghost use Rattle.kept.specs.Transactions.{IsDone, IsUndone, MayCommit};
 
@@ -14,8 +14,10 @@ mod renewing;
 mod showing;
 mod stepping;
 
+pub use crate::amending::pooling::some_take_files;
 use crate::amending::renewing::{renew_dates, renew_texts};
 use crate::amending::stepping::make_steps;
+use bodies::sweep;
 use keep::Change;
 use rules::Config;
 use sqlite::{Alter, Connection, Error, Transaction};
@@ -52,7 +54,31 @@ fn renew<S: Alter>(
     renew_dates(tx, suites, change.moment, steps)
 }
 
-/// Makes a change after so many judgements, inside a transaction.
+/// Writes a change after so many judgements, inside a transaction.
+fn write_inside<S: Alter>(
+    alloc: Global,
+    tx: &mut Transaction<'_, S>,
+    config: &Config,
+    judged: u64,
+    change: &Change,
+) -> Result<(), Error>
+    ensures same_reference { tx.new.conn.ghost_name ≡ tx.old.conn.ghost_name }
+    ensures ok { HasCleanDisk (state S.Store tx.new.conn.now) → IsTrue (state S.Store tx.old.conn.now).in_transaction
+        → OnOk result (Changes (state S.Store tx.old.conn.now) (state S.Store tx.new.conn.now) (with_written config.now judged change.now)) }
+    ensures err { HasCleanDisk (state S.Store tx.new.conn.now) → IsTrue (state S.Store tx.old.conn.now).in_transaction
+        → OnErr result (KeepsCommit (state S.Store tx.old.conn.now) (state S.Store tx.new.conn.now)) }
+    ensures survives { Survives (state S.Store tx.old.conn.now) (state S.Store tx.new.conn.now) (λ _. ⊥) }
+    ensures bodies { HasCleanDisk (state S.Store tx.new.conn.now) → IsTrue (state S.Store tx.old.conn.now).in_transaction
+        → OnOk result ((t : Tables) → Holds (state S.Store tx.old.conn.now).now t → HasAllBodies t change.now.steps) }
+{
+    let suites = config.suites();
+    let steps = change.steps.as_slice();
+    confirm_open(tx)?;
+    make_steps(alloc, tx, suites, judged, steps)?;
+    renew(tx, config, change)
+}
+
+/// Makes a change after so many judgements, inside a transaction. Where it takes a file away, bodies that nothing uses then go.
 fn amend_inside<S: Alter>(
     alloc: Global,
     tx: &mut Transaction<'_, S>,
@@ -69,11 +95,12 @@ fn amend_inside<S: Alter>(
     ensures bodies { HasCleanDisk (state S.Store tx.new.conn.now) → IsTrue (state S.Store tx.old.conn.now).in_transaction
         → OnOk result ((t : Tables) → Holds (state S.Store tx.old.conn.now).now t → HasAllBodies t change.now.steps) }
 {
-    let suites = config.suites();
-    let steps = change.steps.as_slice();
-    confirm_open(tx)?;
-    make_steps(alloc, tx, suites, judged, steps)?;
-    renew(tx, config, change)
+    write_inside(alloc, tx, config, judged, change)?;
+    let takes = some_take_files(change.steps.as_slice());
+    if takes {
+        return sweep(alloc, tx);
+    }
+    Ok(())
 }
 
 /// Makes a change after so many judgements, whole or not at all, also over a crash. It is refused where a file that it adds

@@ -8,7 +8,7 @@ mod fault;
 mod founding;
 mod open;
 
-pub use amending::amend;
+pub use amending::{amend, some_take_files};
 pub use creating::{create, is_without_tables};
 pub use fault::fault_of;
 pub use open::is_archive_schema;

@@ -1,21 +1,21 @@
 -- The rows without the bodies that are not whole.
-use Rattle.std.proofs.Common.{◌≡◌, ◌≢◌, ℕ, ◌<◌, None, length, Bool, true, false, not, ◌&&◌, ◌||◌, cond, nat_eq, List, [], ◌∷◌, map, filter, fold, All, IsTrue, refl, sym, ap, subst, ◌∙◌, arith}
+use Rattle.std.proofs.Common.{◌≡◌, ◌≢◌, ℕ, ◌<◌, None, length, Bool, true, false, not, ◌&&◌, ◌||◌, cond, nat_eq, List, [], ◌∷◌, map, filter, All, IsTrue, refl, sym, ap, subst, ◌∙◌, arith}
 use Rattle.std.specs.List.{AllByRecursion, list_any}
 use Rattle.std.proofs.lemmas.Bool.{and_right, eqb-true, or_parts}
 use Rattle.std.proofs.lemmas.Bool.Decides.{nat_tests}
 use Rattle.std.proofs.lemmas.List.Elements.{All-from_recursion, recursion_from_All}
 use Rattle.std.proofs.lemmas.List.Folds.{Any-from_list_any}
 use Rattle.std.proofs.lemmas.List.Kept.{AllPairs-filter}
-use Rattle.sqlite_keyed.specs.Lists.{delete_where}
-use Rattle.sqlite_keyed.proofs.ListLemmas.{all_both, all_of, all_weaker, any_from_none, filter_all, none_from_any}
+use Rattle.sqlite_keyed.proofs.ListLemmas.{all_both, all_weaker, any_from_none, none_from_any}
 use Rattle.tables.specs.Pieces.{is_of}
 use Rattle.tables.specs.Rows.{Numbered, Rises, Tables, rows_of, without}
 use Rattle.tables.specs.declared.rows.Body.{Body}
 use Rattle.tables.specs.declared.rows.Piece.{Piece}
 use Rattle.tables_read.specs.All.{AreConstrained}
-use Rattle.kept.specs.Finished.{finished, is_of_unfinished, is_unfinished, without_all, without_whole}
+use Rattle.kept.specs.Finished.{finished, is_of_unfinished, is_unfinished, without_all}
 use Rattle.kept.specs.Kept.{AreReadable, has_body}
-use Rattle.kept.proofs.Searches.{any_parts, any_same, filter_same_on, filter_twice, list_any-filter}
+use Rattle.kept.proofs.Searches.{any_parts, any_same, filter_same_on, list_any-filter}
+use Rattle.bodies.proofs.RemovedLemmas.{removed_each, taken_out}
 use Rattle.keep_tables.specs.Finishing.{are_named, is_among, unfinished_ids}
 use Rattle.audit.specs.Whole.{KeepsNone}
 
@@ -28,17 +28,6 @@ and_true false = refl
 or_false : (b : Bool) → (b || false) ≡ b
 or_false true = refl
 or_false false = refl
-
-negated : (a b : Bool) → (not a && not b) ≡ not (a || b)
-negated true b = refl
-negated false b = refl
-
--- what is taken out number by number is taken out at once
-taken_out : {X : Type 0} (q : ℕ → X → Bool) (ids : List ℕ) (xs : List X) → fold (λ rest n. delete_where (q n) rest) xs ids ≡ delete_where (λ x. list_any (λ n. q n x) ids) xs
-taken_out q [] xs = sym (filter_all (λ _. true) xs (all_of _ (λ _. refl) xs))
-taken_out q (n ∷ ns) xs =
-    taken_out q ns (delete_where (q n) xs) ∙ sym (filter_twice (λ x. not (q n x)) (λ x. not (list_any (λ m. q m x) ns)) xs)
-    ∙ (λ i. filter (λ x. negated (q n x) (list_any (λ m. q m x) ns) i) xs)
 
 pub nil_if : (ids : List ℕ) → length ids ≡ 0 → ids ≡ []
 nil_if [] none = refl
@@ -92,11 +81,6 @@ pub rows_finished : (t : Tables) (bodies : Numbered Body) (pieces : Numbered Pie
     → record t { bodies = bodies; pieces = pieces } ≡ finished t
 unfolding finished
 rows_finished t bodies pieces b p = let q = p ∙ others_left t in λ i. record t { bodies = b i; pieces = q i }
-
-removed_each : (ids : List ℕ) (t : Tables)
-    → without_all ids t ≡ record t { bodies = fold (λ rest n. without (λ x. nat_eq x.0 n) rest) t.bodies ids; pieces = fold (λ rest n. without (λ x. is_of n x.1) rest) t.pieces ids }
-removed_each [] t = refl
-removed_each (n ∷ ns) t = removed_each ns (without_whole n t)
 
 -- the bodies that are not whole are taken out by their numbers
 pub finished_as : (t : Tables) → Rises t.bodies → without_all (unfinished_ids t.bodies) t ≡ finished t

@@ -173,3 +173,11 @@ pub beside_under : (before after : Database) (begun : Option Begun) → ((body :
 unfolding came
 beside_under before after None keeps coming = (keeps None 0 [] (came (tables_in before) None coming).comes).coming
 beside_under before after (Some b) keeps begun = (begun.0, record { comes = keeps b.body b.pieces begun.0 begun.1.comes; printer = begun.1.printer })
+
+-- what is under way after a change: nothing where its rows went, and else what was
+pub changed_under : (before after : Database) (old new : Option Begun) (went : Bool) → new ≡ (if went then None else old)
+    → (went ≡ true → HasComing (tables_in after) [])
+    → (went ≡ false → (body : Option ℕ) (count : ℕ) (bytes : List ℕ) → Comes (tables_in before) body count bytes → Comes (tables_in after) body count bytes)
+    → IsUnderWay (tables_in before) old → IsUnderWay (tables_in after) new
+changed_under before after old new true is gone keeps under = subst (IsUnderWay (tables_in after)) (sym is) (gone refl)
+changed_under before after old new false is gone keeps under = subst (IsUnderWay (tables_in after)) (sym is) (beside_under before after old (keeps refl) under)

@@ -1,3 +1,4 @@
 pub mod Keepers
 pub mod Finishing
 pub mod Opened
+pub mod Moments

@@ -1,6 +1,6 @@
 //! The body that was begun last.
 
-ghost use Rattle.std.specs.Prelude.{◌≡◌, [], Some, None, true, false, option_map};
+ghost use Rattle.std.specs.Prelude.{◌≡◌, [], Some, None, true, false, if◌then◌else◌, option_map};
 ghost use Rattle.std.specs.Option.{option_and_then, option_map_or};
 ghost use Rattle.sums.specs.Prints.{Holds};
 ghost use Rattle.bodies.specs.declared.coming.Begun.{Begun};
@@ -47,5 +47,14 @@ pub(crate) fn stop(begun: &mut Option<Begun>)
 {
     if let Some(begun) = begun {
         begun.is_coming = false;
+    }
+}
+
+/// Nothing is begun where the rows of what came went.
+pub(crate) fn forget_if(begun: &mut Option<Begun>, went: bool)
+    ensures { begun.new ≡ (if went then None else begun.old) }
+{
+    if went {
+        *begun = None;
     }
 }

@@ -5,7 +5,7 @@ ghost use Rattle.sqlite.specs.Effect.{Database};
 ghost use Rattle.sqlite.specs.Held.{state};
 ghost use Rattle.sqlite.specs.State.{HasCleanDisk, Survives};
 ghost use Rattle.sums.specs.Prints.{print as print_of};
-ghost use Rattle.keep.specs.Book.{has_arrival, latest, with_delivery};
+ghost use Rattle.keep.specs.Book.{at_moment, has_arrival, latest, span, with_delivery};
 ghost use Rattle.keep.specs.Keeping.{IsDeliverable};
 ghost use Rattle.keep.specs.declared.change.Judgement.{Judgement};
 ghost use Rattle.rules.specs.Values.{ConfigValue};
@@ -96,7 +96,7 @@ pub(crate) fn take_piece<S: Alter>(
     store_piece(conn, body, number, bytes)
 }
 
-/// Takes the body that came as one that has arrived, and says whether that is new.
+/// Takes the body that came as one that has arrived, and says whether that is new at the moment.
 pub(crate) fn finish_delivery<S: Alter>(
     alloc: Global,
     conn: &mut Connection<S>,
@@ -114,8 +114,8 @@ pub(crate) fn finish_delivery<S: Alter>(
         × HasComing (tables_in (state S.Store conn.new).committed) []) }
     ensures new { HasCleanDisk (state S.Store conn.new) → (config : ConfigValue) (judged : List Judgement) (shown : ShelvesValue) (dates : List ℕ) (body : List ℕ)
         → KeepsArchive (state S.Store conn.old).committed config judged shown dates → Comes (tables_in (state S.Store conn.old).committed) finished.now.body finished.now.pieces body
-        → finished.now.print ≡ print_of body → IsDeliverable finished.now.name.now body
-        → IfOk result (λ new. new ≡ not (has_arrival (book_of (state S.Store conn.old).committed config judged shown dates).arrivals (record { name = finished.now.name.now; body = body; moment = finished.now.moment }))) }
+        → finished.now.print ≡ print_of body → IsDeliverable finished.now.name.now body → finished.now.span ≡ span config
+        → IfOk result (λ new. new ≡ not (has_arrival (at_moment finished.now.moment (book_of (state S.Store conn.old).committed config judged shown dates)).arrivals (record { name = finished.now.name.now; body = body; moment = finished.now.moment }))) }
     ensures undone { HasCleanDisk (state S.Store conn.new) → OnErr result (IsUndone (state S.Store conn.old) (state S.Store conn.new)) }
     ensures crash { Survives (state S.Store conn.old) (state S.Store conn.new) (λ trees. (db : Database) × (trees ≡ db.trees) × IsTrue (state S.Store conn.old).is_open
         × ((config : ConfigValue) (judged : List Judgement) (shown : ShelvesValue) (dates : List ℕ) (body : List ℕ)

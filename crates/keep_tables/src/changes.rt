@@ -1,18 +1,19 @@
 //! A change of an archive: one that would put an item into no suite is refused.
 
-ghost use Rattle.std.specs.Prelude.{◌≡◌, ◌≤◌, ◌++◌, ℕ, List, Option, length, false, IsTrue, OnOk, OnErr};
-ghost use Rattle.std.specs.List.{list_all};
+ghost use Rattle.std.specs.Prelude.{◌≡◌, ◌≤◌, [], ℕ, List, Option, length, true, false, IsTrue, OnOk, OnErr};
+ghost use Rattle.std.specs.List.{list_all, list_any};
 ghost use Rattle.sqlite.specs.Effect.{Database};
 ghost use Rattle.sqlite.specs.Held.{state};
 ghost use Rattle.sqlite.specs.State.{HasCleanDisk, Survives};
-ghost use Rattle.keep.specs.Book.{amended, dates_past, judgements, latest, shown_past};
+ghost use Rattle.keep.specs.Book.{latest};
 ghost use Rattle.keep.specs.Keeping.{IsSound};
 ghost use Rattle.keep.specs.declared.change.Judgement.{Judgement};
 ghost use Rattle.suites.specs.Shelves.{ShelvesValue};
 ghost use Rattle.tables.specs.Rows.{tables_in};
-ghost use Rattle.kept.specs.Archives.{KeepsArchive, Turns, book_of};
+ghost use Rattle.kept.specs.Archives.{Amends, KeepsArchive, book_of};
 ghost use Rattle.kept.specs.Changing.{is_within, puts_within};
-ghost use Rattle.kept.specs.Coming.{Comes};
+ghost use Rattle.kept.specs.Coming.{Comes, HasComing};
+ghost use Rattle.kept.specs.Making.{takes_file};
 ghost use Rattle.kept.specs.Transactions.{IsUndone};
 
 use keep::{Change, Step};
@@ -78,10 +79,13 @@ pub(crate) fn make_change<S: Alter>(
     ensures done { HasCleanDisk (state S.Store conn.new) → (before : List Judgement) (shown : ShelvesValue) (dates : List ℕ)
         → KeepsArchive (state S.Store conn.old).committed config.now before shown dates → length before ≡ judged
         → IsSound (book_of (state S.Store conn.old).committed config.now before shown dates) change.now
-        → OnOk result (Turns (state S.Store conn.old).committed (state S.Store conn.new).committed config.now before shown dates
-        (before ++ judgements change.now.steps) (shown_past shown change.now.steps) (dates_past change.now.moment dates change.now.steps) (λ b. amended b change.now)) }
-    // What is coming stays so.
-    ensures beside { HasCleanDisk (state S.Store conn.new) → (before : List Judgement) (shown : ShelvesValue) (dates : List ℕ)
+        → OnOk result (Amends (state S.Store conn.old).committed (state S.Store conn.new).committed config.now before shown dates change.now) }
+    // Where it takes a file away nothing is coming any more, and else what is coming stays so.
+    ensures ends { HasCleanDisk (state S.Store conn.new) → list_any takes_file change.now.steps ≡ true → (before : List Judgement) (shown : ShelvesValue) (dates : List ℕ)
+        → KeepsArchive (state S.Store conn.old).committed config.now before shown dates → length before ≡ judged
+        → IsSound (book_of (state S.Store conn.old).committed config.now before shown dates) change.now
+        → OnOk result (HasComing (tables_in (state S.Store conn.new).committed) []) }
+    ensures beside { HasCleanDisk (state S.Store conn.new) → list_any takes_file change.now.steps ≡ false → (before : List Judgement) (shown : ShelvesValue) (dates : List ℕ)
         → KeepsArchive (state S.Store conn.old).committed config.now before shown dates
         → OnOk result ((body : Option ℕ) (count : ℕ) (bytes : List ℕ) → Comes (tables_in (state S.Store conn.old).committed) body count bytes → Comes (tables_in (state S.Store conn.new).committed) body count bytes) }
     ensures undone { HasCleanDisk (state S.Store conn.new) → OnErr result (IsUndone (state S.Store conn.old) (state S.Store conn.new)) }
@@ -89,8 +93,7 @@ pub(crate) fn make_change<S: Alter>(
         × ((before : List Judgement) (shown : ShelvesValue) (dates : List ℕ)
         → KeepsArchive (state S.Store conn.old).committed config.now before shown dates → length before ≡ judged
         → IsSound (book_of (state S.Store conn.old).committed config.now before shown dates) change.now
-        → Turns (state S.Store conn.old).committed db config.now before shown dates
-        (before ++ judgements change.now.steps) (shown_past shown change.now.steps) (dates_past change.now.moment dates change.now.steps) (λ b. amended b change.now))) }
+        → Amends (state S.Store conn.old).committed db config.now before shown dates change.now)) }
 {
     // For the prover alone: outside a transaction the connection has what is committed.
     let _idle = conn.is_autocommit();

@@ -7,13 +7,10 @@ ghost use Rattle.sqlite.specs.Held.{state};
 ghost use Rattle.sqlite.specs.State.{HasCleanDisk, IsUnchanged, Survives};
 ghost use Rattle.suites.specs.Upload.{IsTextOf};
 ghost use Rattle.sums.specs.Prints.{print as print_of_body};
-ghost use Rattle.keep.specs.Book.{Book, due, upload_of};
-ghost use Rattle.keep.specs.Keeping.{sign_of};
 ghost use Rattle.tables.specs.Rows.{Tables, Holds};
-ghost use Rattle.kept.specs.Finished.{finished};
-ghost use Rattle.kept.specs.Kept.{AreArrivals, AreBodies, AreUploads, arrivals_in};
-ghost use Rattle.kept.specs.Reads.{Rests, bytes_with, due_in, text_in, wanting_rows, upload_in};
+ghost use Rattle.kept.specs.Reads.{Rests, bytes_with, text_in, upload_in};
 ghost use Rattle.kept.specs.Transactions.{IsUndone};
+ghost use Rattle.keep_tables.specs.Moments.{due_at, rows_at};
 
 use crate::waiting::{missing_of, wanting_in_order};
 use bodies::read_body;
@@ -122,21 +119,23 @@ fn read_upload<S: Alter>(
     Ok(Upload::new(upload.name, upload.print, changes, texts))
 }
 
-/// An upload as it is judged, where each of its entries has arrived.
+/// An upload as it is judged, where each of its entries has arrived and counts still at the moment.
 fn due_upload<S: Alter>(
     alloc: Global,
     conn: &mut Connection<S>,
     id: u64,
     upload: rows::Upload,
+    span: Option<u64>,
+    moment: u64,
 ) -> Result<Option<Upload>, Error>
     ensures idle { conn.old.in_transaction ≡ false → conn.new.in_transaction ≡ false }
     ensures ok { HasCleanDisk (state S.Store conn.new) → (t : Tables) → Holds (state S.Store conn.old).now t
-        → IfOk result (λ found. (found ≡ due_in t (id, upload)) × IsUnchanged (state S.Store conn.old) (state S.Store conn.new)) }
+        → IfOk result (λ found. (found ≡ due_at span moment t (id, upload)) × IsUnchanged (state S.Store conn.old) (state S.Store conn.new)) }
     ensures err { HasCleanDisk (state S.Store conn.new) → (t : Tables) → Holds (state S.Store conn.old).now t
         → OnErr result (IsUndone (state S.Store conn.old) (state S.Store conn.new)) }
     ensures survives { Survives (state S.Store conn.old) (state S.Store conn.new) (λ _. (t : Tables) → ¬ Holds (state S.Store conn.old).now t) }
 {
-    let missing = missing_of(alloc, conn, id)?;
+    let missing = missing_of(alloc, conn, id, span, moment)?;
     if missing > 0 {
         return Ok(None);
     }
@@ -144,16 +143,17 @@ fn due_upload<S: Alter>(
     Ok(Some(read))
 }
 
-/// The uploads that are not judged of which each entry has arrived, in the order of judging.
-pub fn due_uploads<S: Alter>(alloc: Global, conn: &mut Connection<S>) -> Result<Vec<Upload>, Error>
+/// The uploads that are not judged and count still at the moment, of which each entry has arrived and does so too, in the order
+/// of judging.
+pub fn due_uploads<S: Alter>(
+    alloc: Global,
+    conn: &mut Connection<S>,
+    span: Option<u64>,
+    moment: u64,
+) -> Result<Vec<Upload>, Error>
     ensures idle { conn.old.in_transaction ≡ false → conn.new.in_transaction ≡ false }
-    ensures uploads { HasCleanDisk (state S.Store conn.new) → (t : Tables) → Holds (state S.Store conn.old).now t
-        → (b : Book) → b.arrivals ≡ arrivals_in (finished t) → AreUploads (finished t) b.judged → AreBodies (finished t) → AreArrivals (finished t)
-        → IfOk result (λ uploads. uploads.items ≡ map (upload_of b.arrivals) (due b)) }
-    // By their names and prints.
-    ensures signs { HasCleanDisk (state S.Store conn.new) → (t : Tables) → Holds (state S.Store conn.old).now t
-        → (b : Book) → b.arrivals ≡ arrivals_in (finished t) → AreUploads (finished t) b.judged → AreBodies (finished t) → AreArrivals (finished t)
-        → IfOk result (λ uploads. map (λ u. (u.name, u.print)) uploads.items ≡ map sign_of (due b)) }
+    ensures ok { HasCleanDisk (state S.Store conn.new) → (t : Tables) → Holds (state S.Store conn.old).now t
+        → IfOk result (λ uploads. uploads.items ≡ filter_map (due_at span moment t) (rows_at span moment t)) }
     ensures unchanged { HasCleanDisk (state S.Store conn.new) → (t : Tables) → Holds (state S.Store conn.old).now t
         → OnOk result (IsUnchanged (state S.Store conn.old) (state S.Store conn.new)) }
     ensures err { HasCleanDisk (state S.Store conn.new) → (t : Tables) → Holds (state S.Store conn.old).now t
@@ -161,8 +161,8 @@ pub fn due_uploads<S: Alter>(alloc: Global, conn: &mut Connection<S>) -> Result<
     ensures survives { Survives (state S.Store conn.old) (state S.Store conn.new) (λ _. (t : Tables) → ¬ Holds (state S.Store conn.old).now t) }
 {
     let mut uploads = Vec::new(alloc);
-    for (id, upload) in wanting_in_order(alloc, conn)? {
-        if let Some(due) = due_upload(alloc, conn, id, upload)? {
+    for (id, upload) in wanting_in_order(alloc, conn, span, moment)? {
+        if let Some(due) = due_upload(alloc, conn, id, upload, span, moment)? {
             uploads.push(due)?;
         }
     }

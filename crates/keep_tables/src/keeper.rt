@@ -9,16 +9,18 @@ ghost use Rattle.kept.specs.Archives.{KeepsArchive};
 ghost use Rattle.kept.specs.Coming.{HasComing};
 ghost use Rattle.kept.specs.Shown.{shown_in};
 
-use crate::begun::{begun, is_coming, number_of, stop};
+use crate::begun::{begun, forget_if, is_coming, number_of, stop};
 use crate::calls::{clear, finish_delivery, forget_body, take_piece};
 use crate::changes::make_change;
+use crate::cleaning::clean_up;
+use crate::current::span_of;
 use crate::reads::{read_due, read_file, read_nothing, read_shown, read_text, read_waiting};
 use bodies::{Begun, Finished};
 use keep::{
     Change, Judgement, KeepFault, Keeper, LATEST, Waiting, copied_judgements, dates_after,
     judged_after,
 };
-use keep_rows::{create, fault_of, is_without_tables};
+use keep_rows::{create, fault_of, is_without_tables, some_take_files};
 use rules::Config;
 use sqlite::{Alter, Connection};
 use std::alloc::Global;
@@ -216,6 +218,7 @@ impl<S: Alter + Drop> Keeper for TableKeeper<S> {
             body,
             pieces,
             print,
+            span: span_of(&self.config),
             moment,
         };
         match finish_delivery(alloc, &mut self.conn, &finished) {
@@ -255,8 +258,8 @@ impl<S: Alter + Drop> Keeper for TableKeeper<S> {
 
     #[tactic(auto, unfolding(kept::specs::Kept::book_in))]
     fn complete_uploads(&mut self, alloc: Global, moment: u64) -> Result<Vec<Upload>, KeepFault> {
-        let _ = moment;
-        match read_due(alloc, &mut self.conn) {
+        let seconds = span_of(&self.config);
+        match read_due(alloc, &mut self.conn, seconds, moment) {
             Ok(uploads) => Ok(uploads),
             Err(error) => Err(fault_of(error)),
         }
@@ -285,7 +288,20 @@ impl<S: Alter + Drop> Keeper for TableKeeper<S> {
             Ok(()) => {
                 self.judged = judged;
                 self.dates = dates;
+                forget_if(&mut self.begun, some_take_files(steps));
                 Ok(())
+            }
+            Err(error) => Err(fault_of(error)),
+        }
+    }
+
+    #[tactic(auto, unfolding(kept::specs::Kept::book_in))]
+    fn clean(&mut self, alloc: Global, moment: u64) -> Result<u64, KeepFault> {
+        let seconds = span_of(&self.config);
+        match clean_up(alloc, &mut self.conn, seconds, moment) {
+            Ok(count) => {
+                self.begun = None;
+                Ok(count)
             }
             Err(error) => Err(fault_of(error)),
         }
@@ -309,8 +325,8 @@ impl<S: Alter + Drop> Keeper for TableKeeper<S> {
 
     #[tactic(auto, unfolding(kept::specs::Kept::book_in))]
     fn waiting(&mut self, alloc: Global, moment: u64) -> Result<Vec<Waiting>, KeepFault> {
-        let _ = moment;
-        match read_waiting(alloc, &mut self.conn) {
+        let seconds = span_of(&self.config);
+        match read_waiting(alloc, &mut self.conn, seconds, moment) {
             Ok(waiting) => Ok(waiting),
             Err(error) => Err(fault_of(error)),
         }

@@ -1,11 +1,13 @@
 //! A keeper of an archive over the tables of a database: bodies, arrivals and what uploads want are read from the tables,
-//! and a piece of a body, its arrival, a change and the making of an archive are one transaction each. An opening reads all rows
+//! and a piece of a body, its arrival, a change, a cleaning and the making of an archive are one transaction each. An opening reads all rows
 //! and says whether they are those of an archive.
 #![tactic(auto)]
 
 mod begun;
 mod calls;
 mod changes;
+mod cleaning;
+mod current;
 mod due;
 mod keeper;
 pub mod laws;

@@ -4,7 +4,7 @@ ghost use Rattle.std.specs.Prelude.{◌≡◌, ℕ, List, map, false, IsTrue, If
 ghost use Rattle.std.specs.Option.{option_map};
 ghost use Rattle.sqlite.specs.Held.{state};
 ghost use Rattle.sqlite.specs.State.{HasCleanDisk};
-ghost use Rattle.keep.specs.Book.{due, text_at, upload_of, waiting_list};
+ghost use Rattle.keep.specs.Book.{at_moment, due, span, text_at, upload_of, waiting_list};
 ghost use Rattle.keep.specs.Keeping.{sign_of};
 ghost use Rattle.keep.specs.declared.change.Judgement.{Judgement};
 ghost use Rattle.rules.specs.Values.{ConfigValue};
@@ -24,31 +24,38 @@ use suites::{Shelves, Upload};
 use tables::serving::serve;
 use tables::texts::select_text;
 
-/// The uploads that are due, in the order of judging.
-pub fn read_due<S: Alter>(alloc: Global, conn: &mut Connection<S>) -> Result<Vec<Upload>, Error>
+/// The uploads that are due at the moment, in the order of judging, where what arrives counts for so many seconds, or for good.
+pub fn read_due<S: Alter>(
+    alloc: Global,
+    conn: &mut Connection<S>,
+    seconds: Option<u64>,
+    moment: u64,
+) -> Result<Vec<Upload>, Error>
     requires idle { conn.old.in_transaction ≡ false }
     ensures idle { conn.new.in_transaction ≡ false }
     ensures read { IsRead (state S.Store conn.old) (state S.Store conn.new) }
     ensures open { HasCleanDisk (state S.Store conn.new) → (IsTrue (state S.Store conn.old).is_open → ∥ IsArchive (state S.Store conn.old).committed ∥₁)
         → OnOk result (IsTrue (state S.Store conn.new).is_open) }
     ensures uploads { HasCleanDisk (state S.Store conn.new) → (config : ConfigValue) (judged : List Judgement) (shown : ShelvesValue) (dates : List ℕ)
-        → KeepsArchive (state S.Store conn.old).committed config judged shown dates
-        → IfOk result (λ uploads. uploads.items ≡ map (upload_of (book_of (state S.Store conn.old).committed config judged shown dates).arrivals) (due (book_of (state S.Store conn.old).committed config judged shown dates))) }
+        → KeepsArchive (state S.Store conn.old).committed config judged shown dates → seconds ≡ span config
+        → IfOk result (λ uploads. uploads.items ≡ map (upload_of (at_moment moment (book_of (state S.Store conn.old).committed config judged shown dates)).arrivals) (due (at_moment moment (book_of (state S.Store conn.old).committed config judged shown dates)))) }
     // By their names and prints.
     ensures signs { HasCleanDisk (state S.Store conn.new) → (config : ConfigValue) (judged : List Judgement) (shown : ShelvesValue) (dates : List ℕ)
-        → KeepsArchive (state S.Store conn.old).committed config judged shown dates
-        → IfOk result (λ uploads. map (λ u. (u.name, u.print)) uploads.items ≡ map sign_of (due (book_of (state S.Store conn.old).committed config judged shown dates))) }
+        → KeepsArchive (state S.Store conn.old).committed config judged shown dates → seconds ≡ span config
+        → IfOk result (λ uploads. map (λ u. (u.name, u.print)) uploads.items ≡ map sign_of (due (at_moment moment (book_of (state S.Store conn.old).committed config judged shown dates)))) }
 {
     // For the prover alone: outside a transaction the connection has what is committed.
     let _settled = conn.is_autocommit();
     serve(alloc, conn)?;
-    due_uploads(alloc, conn)
+    due_uploads(alloc, conn, seconds, moment)
 }
 
-/// The uploads without a verdict, each with how many of its entries have not arrived.
+/// The uploads without a verdict at the moment, each with how many of its entries have not arrived or count no more.
 pub fn read_waiting<S: Alter>(
     alloc: Global,
     conn: &mut Connection<S>,
+    seconds: Option<u64>,
+    moment: u64,
 ) -> Result<Vec<Waiting>, Error>
     requires idle { conn.old.in_transaction ≡ false }
     ensures idle { conn.new.in_transaction ≡ false }
@@ -56,13 +63,13 @@ pub fn read_waiting<S: Alter>(
     ensures open { HasCleanDisk (state S.Store conn.new) → (IsTrue (state S.Store conn.old).is_open → ∥ IsArchive (state S.Store conn.old).committed ∥₁)
         → OnOk result (IsTrue (state S.Store conn.new).is_open) }
     ensures waiting { HasCleanDisk (state S.Store conn.new) → (config : ConfigValue) (judged : List Judgement) (shown : ShelvesValue) (dates : List ℕ)
-        → KeepsArchive (state S.Store conn.old).committed config judged shown dates
-        → IfOk result (λ all. all.items ≡ waiting_list (book_of (state S.Store conn.old).committed config judged shown dates)) }
+        → KeepsArchive (state S.Store conn.old).committed config judged shown dates → seconds ≡ span config
+        → IfOk result (λ all. all.items ≡ waiting_list (at_moment moment (book_of (state S.Store conn.old).committed config judged shown dates))) }
 {
     // For the prover alone: outside a transaction the connection has what is committed.
     let _settled = conn.is_autocommit();
     serve(alloc, conn)?;
-    waiting_uploads(alloc, conn)
+    waiting_uploads(alloc, conn, seconds, moment)
 }
 
 /// The bytes of the file of the pool at a path.

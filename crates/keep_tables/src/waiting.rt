@@ -1,15 +1,16 @@
 //! The uploads that are not judged, in the order of judging, and what they wait for.
 
 ghost use Rattle.std.specs.Prelude.{◌≡◌, ◌≤◌, ◌++◌, ◌∷◌, false, length, filter, map, not, take, drop, IfOk, OnOk, OnErr};
+ghost use Rattle.std.specs.List.{filter_map};
 ghost use Rattle.sqlite.specs.Held.{state};
 ghost use Rattle.sqlite.specs.State.{HasCleanDisk, IsUnchanged, Survives};
-ghost use Rattle.keep.specs.Book.{Book, waiting_list};
-ghost use Rattle.tables.specs.Rows.{Tables, Fails, Holds, IsForeign};
-ghost use Rattle.kept.specs.Finished.{finished};
-ghost use Rattle.kept.specs.Kept.{AreUploads, arrivals_in, sign_in};
-ghost use Rattle.kept.specs.Reads.{missing_in, put_by, row_order, sign_order, sorted_by, wanting_rows};
+ghost use Rattle.tables.specs.Rows.{Tables, Holds};
+ghost use Rattle.kept.specs.Kept.{sign_in};
+ghost use Rattle.kept.specs.Reads.{Rests, put_by, row_order, sign_order, sorted_by, wanting};
 ghost use Rattle.kept.specs.Transactions.{IsUndone};
+ghost use Rattle.keep_tables.specs.Moments.{is_had, missing_at, row_at, rows_at, waiting_at};
 
+use crate::current::{counts_still, missing_of_one};
 use crate::wanting::wanting_uploads;
 use keep::Waiting;
 use sqlite::{Alter, Connection, Error};
@@ -69,61 +70,134 @@ fn in_judging_order(
     Ok(sorted)
 }
 
-/// The uploads that want something with their numbers, in the order of judging: those that are not judged.
-pub(crate) fn wanting_in_order<S: Alter>(
+/// The upload with its number, where it counts still at the moment.
+fn row_if_still<S: Alter>(
     alloc: Global,
     conn: &mut Connection<S>,
-) -> Result<Vec<(u64, Upload)>, Error>
+    id: u64,
+    upload: Upload,
+    span: Option<u64>,
+    moment: u64,
+) -> Result<Option<(u64, Upload)>, Error>
     ensures idle { conn.old.in_transaction ≡ false → conn.new.in_transaction ≡ false }
     ensures ok { HasCleanDisk (state S.Store conn.new) → (t : Tables) → Holds (state S.Store conn.old).now t
-        → IfOk result (λ all. (all.items ≡ wanting_rows t) × IsUnchanged (state S.Store conn.old) (state S.Store conn.new)) }
+        → IfOk result (λ row. (row ≡ row_at span moment t (id, upload)) × Rests (state S.Store conn.old) (state S.Store conn.new)) }
     ensures err { HasCleanDisk (state S.Store conn.new) → (t : Tables) → Holds (state S.Store conn.old).now t
         → OnErr result (IsUndone (state S.Store conn.old) (state S.Store conn.new)) }
     ensures survives { Survives (state S.Store conn.old) (state S.Store conn.new) (λ _. (t : Tables) → ¬ Holds (state S.Store conn.old).now t) }
 {
-    let uploads = wanting_uploads(alloc, conn)?;
-    let sorted = in_judging_order(alloc, uploads)?;
+    let still = counts_still(
+        alloc,
+        conn,
+        upload.name.as_str(),
+        &upload.print,
+        span,
+        moment,
+    )?;
+    if still {
+        Ok(Some((id, upload)))
+    } else {
+        Ok(None)
+    }
+}
+
+/// The uploads that want something and count still at the moment with their numbers, in the order of these.
+fn wanting_still<S: Alter>(
+    alloc: Global,
+    conn: &mut Connection<S>,
+    span: Option<u64>,
+    moment: u64,
+) -> Result<Vec<(u64, Upload)>, Error>
+    ensures idle { conn.old.in_transaction ≡ false → conn.new.in_transaction ≡ false }
+    ensures ok { HasCleanDisk (state S.Store conn.new) → (t : Tables) → Holds (state S.Store conn.old).now t
+        → IfOk result (λ rows. (rows.items ≡ filter_map (row_at span moment t) (wanting t)) × IsUnchanged (state S.Store conn.old) (state S.Store conn.new)) }
+    ensures err { HasCleanDisk (state S.Store conn.new) → (t : Tables) → Holds (state S.Store conn.old).now t
+        → OnErr result (IsUndone (state S.Store conn.old) (state S.Store conn.new)) }
+    ensures survives { Survives (state S.Store conn.old) (state S.Store conn.new) (λ _. (t : Tables) → ¬ Holds (state S.Store conn.old).now t) }
+{
+    let mut rows = Vec::new(alloc);
+    for (id, upload) in wanting_uploads(alloc, conn)? {
+        if let Some(row) = row_if_still(alloc, conn, id, upload, span, moment)? {
+            rows.push(row)?;
+        }
+    }
+    Ok(rows)
+}
+
+/// The uploads that want something and count still at the moment with their numbers, in the order of judging: those that are
+/// not judged.
+pub(crate) fn wanting_in_order<S: Alter>(
+    alloc: Global,
+    conn: &mut Connection<S>,
+    span: Option<u64>,
+    moment: u64,
+) -> Result<Vec<(u64, Upload)>, Error>
+    ensures idle { conn.old.in_transaction ≡ false → conn.new.in_transaction ≡ false }
+    ensures ok { HasCleanDisk (state S.Store conn.new) → (t : Tables) → Holds (state S.Store conn.old).now t
+        → IfOk result (λ all. (all.items ≡ rows_at span moment t) × IsUnchanged (state S.Store conn.old) (state S.Store conn.new)) }
+    ensures err { HasCleanDisk (state S.Store conn.new) → (t : Tables) → Holds (state S.Store conn.old).now t
+        → OnErr result (IsUndone (state S.Store conn.old) (state S.Store conn.new)) }
+    ensures survives { Survives (state S.Store conn.old) (state S.Store conn.new) (λ _. (t : Tables) → ¬ Holds (state S.Store conn.old).now t) }
+{
+    let rows = wanting_still(alloc, conn, span, moment)?;
+    let sorted = in_judging_order(alloc, rows)?;
     Ok(sorted)
 }
 
-/// How many of the entries have not arrived.
-fn missing_among(wants: &[Want]) -> usize
-    ensures { result ≡ length (filter (λ w. not w.here) wants.now) }
+/// How many of the entries have not arrived, or count no more at the moment.
+fn missing_among<S: Alter>(
+    alloc: Global,
+    conn: &mut Connection<S>,
+    wants: &[Want],
+    span: Option<u64>,
+    moment: u64,
+) -> Result<usize, Error>
+    ensures idle { conn.old.in_transaction ≡ false → conn.new.in_transaction ≡ false }
+    ensures ok { HasCleanDisk (state S.Store conn.new) → (t : Tables) → Holds (state S.Store conn.old).now t
+        → IfOk result (λ count. (count ≡ length (filter (λ w. not (is_had span moment t w)) wants.now)) × Rests (state S.Store conn.old) (state S.Store conn.new)) }
+    ensures err { HasCleanDisk (state S.Store conn.new) → (t : Tables) → Holds (state S.Store conn.old).now t
+        → OnErr result (IsUndone (state S.Store conn.old) (state S.Store conn.new)) }
+    ensures survives { Survives (state S.Store conn.old) (state S.Store conn.new) (λ _. (t : Tables) → ¬ Holds (state S.Store conn.old).now t) }
 {
     let mut count = 0;
     for want in wants {
-        if !want.here {
-            count += 1;
-        }
+        let missing = missing_of_one(alloc, conn, want, span, moment)?;
+        count += missing;
     }
-    count
+    Ok(count)
 }
 
-/// How many entries of an upload have not arrived.
+/// How many entries of an upload have not arrived, or count no more at the moment.
 pub(crate) fn missing_of<S: Alter>(
     alloc: Global,
     conn: &mut Connection<S>,
     upload: u64,
+    span: Option<u64>,
+    moment: u64,
 ) -> Result<usize, Error>
     ensures idle { conn.old.in_transaction ≡ false → conn.new.in_transaction ≡ false }
     ensures ok { HasCleanDisk (state S.Store conn.new) → (t : Tables) → Holds (state S.Store conn.old).now t
-        → IfOk result (λ count. (count ≡ missing_in t upload) × IsUnchanged (state S.Store conn.old) (state S.Store conn.new)) }
+        → IfOk result (λ count. (count ≡ missing_at span moment t upload) × IsUnchanged (state S.Store conn.old) (state S.Store conn.new)) }
     ensures err { HasCleanDisk (state S.Store conn.new) → (t : Tables) → Holds (state S.Store conn.old).now t
-        → OnErr result (Fails (state S.Store conn.old) (state S.Store conn.new)) }
-    ensures survives { Survives (state S.Store conn.old) (state S.Store conn.new) (λ _. IsForeign (state S.Store conn.old).now) }
+        → OnErr result (IsUndone (state S.Store conn.old) (state S.Store conn.new)) }
+    ensures survives { Survives (state S.Store conn.old) (state S.Store conn.new) (λ _. (t : Tables) → ¬ Holds (state S.Store conn.old).now t) }
 {
     let wants = wants_of(alloc, conn, upload)?;
-    Ok(missing_among(&wants))
+    let missing = missing_among(alloc, conn, &wants, span, moment)?;
+    Ok(missing)
 }
 
-/// The uploads that are not judged, in the order of judging, each with the number of its entries that have not arrived.
+/// The uploads that are not judged and count still at the moment, in the order of judging, each with the number of its entries
+/// that have not arrived or count no more.
 pub fn waiting_uploads<S: Alter>(
     alloc: Global,
     conn: &mut Connection<S>,
+    span: Option<u64>,
+    moment: u64,
 ) -> Result<Vec<Waiting>, Error>
     ensures idle { conn.old.in_transaction ≡ false → conn.new.in_transaction ≡ false }
     ensures ok { HasCleanDisk (state S.Store conn.new) → (t : Tables) → Holds (state S.Store conn.old).now t
-        → (b : Book) → b.arrivals ≡ arrivals_in (finished t) → AreUploads (finished t) b.judged → IfOk result (λ all. all.items ≡ waiting_list b) }
+        → IfOk result (λ all. all.items ≡ map (waiting_at span moment t) (rows_at span moment t)) }
     ensures unchanged { HasCleanDisk (state S.Store conn.new) → (t : Tables) → Holds (state S.Store conn.old).now t
         → OnOk result (IsUnchanged (state S.Store conn.old) (state S.Store conn.new)) }
     ensures err { HasCleanDisk (state S.Store conn.new) → (t : Tables) → Holds (state S.Store conn.old).now t
@@ -131,8 +205,8 @@ pub fn waiting_uploads<S: Alter>(
     ensures survives { Survives (state S.Store conn.old) (state S.Store conn.new) (λ _. (t : Tables) → ¬ Holds (state S.Store conn.old).now t) }
 {
     let mut waiting = Vec::new(alloc);
-    for (id, upload) in wanting_in_order(alloc, conn)? {
-        let missing = missing_of(alloc, conn, id)?;
+    for (id, upload) in wanting_in_order(alloc, conn, span, moment)? {
+        let missing = missing_of(alloc, conn, id, span, moment)?;
         waiting.push(Waiting {
             name: upload.name,
             missing,

@@ -1,6 +1,6 @@
 -- How the parts of a change join inside their transaction.
 use Rattle.std.proofs.Common.{◌≡◌, inl, inr, ℕ, ◌+◌, ◌<◌, ◌≤◌, Bool, true, false, if◌then◌else◌, List, [], ◌∷◌, ◌++◌, find, take, length, get_or, fold, All, Option, Some, None, is_some, Result, Ok, Err, IfErr, OnErr, OnOk, IsTrue, refl, sym, ap, subst, ◌∙◌, arith}
-use Rattle.std.specs.List.{enumerate_from}
+use Rattle.std.specs.List.{enumerate_from, list_any}
 use Rattle.std.specs.Option.{option_map_or}
 use Rattle.std.proofs.lemmas.List.{take_all, take_more, get_or-map, length-map}
 use Rattle.std.proofs.lemmas.List.FromFn.{get_or-enumerate_from, length-enumerate_from}
@@ -37,7 +37,8 @@ use Rattle.tables.specs.declared.rows.Upload.{Upload}
 use Rattle.tables.specs.declared.rows.Item as row
 use Rattle.tables.proofs.TransactionLemmas.{keeps_if_changed, keeps_if_undone, keeps_then}
 use Rattle.kept.specs.Kept.{is_on, item_row, refs_for}
-use Rattle.kept.specs.Making.{judged_by, with_change, with_judged, with_new_dates, with_new_texts, with_plan, with_pooled, with_refs, with_shown, with_step, with_steps, without_shown}
+use Rattle.kept.specs.Making.{judged_by, takes_file, with_change, with_judged, with_new_dates, with_new_texts, with_plan, with_pooled, with_refs, with_shown, with_step, with_steps, with_written, without_shown}
+use Rattle.kept.specs.Sweeping.{swept}
 use Rattle.kept.specs.Amending.{HasBodies, Makes}
 use Rattle.kept.specs.Transactions.{IsDone, IsUndone, MayCommit}
 
@@ -238,10 +239,21 @@ step_as suites n s t = refl
 
 -- ---- the whole change
 
-pub change_as : (config : ConfigValue) (n : ℕ) (change : Change) (t : Tables)
-    → with_new_dates config.suites change.moment change.steps (with_new_texts change.texts (with_steps config.suites n change.steps t)) ≡ with_change config n change t
+pub written_as : (config : ConfigValue) (n : ℕ) (change : Change) (t : Tables)
+    → with_new_dates config.suites change.moment change.steps (with_new_texts change.texts (with_steps config.suites n change.steps t)) ≡ with_written config n change t
+unfolding with_written
+written_as config n change t = refl
+
+-- where it takes a file away the bodies that nothing uses go, and else that is all
+pub swept_as : (config : ConfigValue) (n : ℕ) (change : Change) (t : Tables) → list_any takes_file change.steps ≡ true
+    → swept (with_written config n change t) ≡ with_change config n change t
 unfolding with_change
-change_as config n change t = refl
+swept_as config n change t takes = ap (λ b. if b then swept (with_written config n change t) else with_written config n change t) (sym takes)
+
+pub unswept_as : (config : ConfigValue) (n : ℕ) (change : Change) (t : Tables) → list_any takes_file change.steps ≡ false
+    → with_written config n change t ≡ with_change config n change t
+unfolding with_change
+unswept_as config n change t none = ap (λ b. if b then swept (with_written config n change t) else with_written config n change t) (sym none)
 
 -- a statement that was only read makes nothing
 pub makes_unchanged : (a b : State) → IsTrue a.in_transaction → IsUnchanged a b → Makes a b (λ t. t)

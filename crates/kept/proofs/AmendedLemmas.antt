@@ -1,5 +1,5 @@
 -- The book after a change.
-use Rattle.std.proofs.Common.{◌≡◌, ◌≤◌, ◌||◌, ℕ, Bool, true, false, cond, if◌then◌else◌, List, [], ◌∷◌, ◌++◌, length, map, filter, find, fold, Option, Some, None, Ok, refl, sym, ap, subst, ◌∙◌}
+use Rattle.std.proofs.Common.{◌≡◌, ◌≤◌, ◌||◌, ℕ, Bool, true, false, cond, if◌then◌else◌, List, [], ◌∷◌, ◌++◌, length, map, filter, find, fold, Option, Some, None, is_some, Ok, refl, sym, ap, subst, ◌∙◌, true≢false}
 use Rattle.std.proofs.Math.Path.{fun_ext}
 use Rattle.std.proofs.lemmas.Bool.Decides.{Decides-eqb}
 use Rattle.std.specs.FinMap.{get}
@@ -7,7 +7,7 @@ use Rattle.std.specs.List.{enumerate_from, flat_map, list_any, zip}
 use Rattle.std.specs.Option.{option_and_then, option_map, option_or}
 use Rattle.std.specs.Prelude.{All, Contains, IsTrue, nat_eq}
 use Rattle.keep.specs.Book.{Book, amended, dates_past, files_showing, judgements, latest, shown_past, stored_body}
-use Rattle.keep.specs.Keeping.{AreRenewed}
+use Rattle.keep.specs.Keeping.{AreRenewed, HasEachBody}
 use Rattle.keep.specs.Scan.{some_touches}
 use Rattle.keep.specs.declared.arrival.Arrival.{Arrival}
 use Rattle.keep.specs.declared.change.Change.{Change}
@@ -21,7 +21,8 @@ use Rattle.rules.specs.declared.suite.Suite.{Suite}
 use Rattle.suites.specs.Shelves.{ShelvesValue, AreSound, pool}
 use Rattle.suites.specs.Told.{AreTold}
 use Rattle.sums.specs.Prints.{print as print_of, same_print}
-use Rattle.sums.proofs.Members.{all_at, any_some, any_true, by_name, contains_map, from_map, here, there}
+use Rattle.sums.specs.declared.print.Print.{Print}
+use Rattle.sums.proofs.Members.{all_at, by_name, from_map, here, there}
 use Rattle.tables.specs.Dates.{with_new_date}
 use Rattle.tables.specs.Files.{is_file_at}
 use Rattle.tables.specs.Pieces.{is_of}
@@ -34,11 +35,14 @@ use Rattle.tables.specs.declared.rows.File.{File}
 use Rattle.tables.specs.declared.rows.IndexText as rows_text
 use Rattle.tables.specs.declared.rows.Piece.{Piece}
 use Rattle.texts.specs.Indices.{all_texts}
-use Rattle.kept.specs.Kept.{AreArrivals, AreBodies, AreFiles, AreItems, AreSigned, AreUploads, IsKept, arrival_in, arrivals_in, book_in, bytes_of, date_row, files_in, has_body, print_at, wants_in}
-use Rattle.kept.specs.Making.{with_change, with_new_dates, with_new_texts, with_steps}
+use Rattle.kept.specs.Kept.{AreArrivals, AreFiles, AreItems, AreSigned, AreStored, AreUploads, IsKept, arrival_in, arrivals_in, book_in, bytes_of, date_row, files_in, has_body, print_at, wants_in}
+use Rattle.kept.specs.Making.{with_new_dates, with_new_texts}
+use Rattle.kept.proofs.BodyLemmas.{are_stored}
 use Rattle.kept.proofs.DateLemmas.{in_range_past, length_past, renewed_dates}
 use Rattle.kept.proofs.NameLemmas.{config_codenames}
 use Rattle.kept.proofs.PathLemmas.{config_paths}
+use Rattle.kept.proofs.RowLists.{found_passes}
+use Rattle.kept.proofs.SweptLemmas.{IsUnswept}
 use Rattle.kept.proofs.TextLemmas.{entry_of, renewed_texts}
 
 -- ---- what a search finds
@@ -62,7 +66,7 @@ found_in p (y ∷ ys) x h = by_case (p y) h (found_in p ys x)
 
 -- ---- bodies told apart by their prints
 
-module _ (t : Tables) (bodies : AreBodies t) where
+module _ (t : Tables) (bodies : AreStored t) where
   -- the body of a number has the print of its bytes
   body_at : (id : ℕ) → IsTrue (has_body t id)
       → (x : ℕ × Body) × Contains t.bodies x × (x.0 ≡ id) × (find (λ (y : ℕ × Body). nat_eq y.0 id) t.bodies ≡ Some x) × (x.1.print ≡ Some (print_of (bytes_of t id)))
@@ -90,45 +94,48 @@ module _ (t : Tables) (bodies : AreBodies t) where
     abbrev fits : Arrival → Bool
     fits a = same_print (print_of a.body) (print_of body)
 
-    has_fit : list_any fits (arrivals_in t) ≡ true
+    -- a body that arrived with its print has its bytes
+    arrived : (o : Option Arrival) → find fits (arrivals_in t) ≡ o → is_some (option_map (λ (a : Arrival). a.body) o) ≡ true
+        → option_map (λ (a : Arrival). a.body) o ≡ Some body
     unfolding arrivals_in
-    has_fit =
-        let x = body_at id known in
-        let a = any_some (λ (a : rows_arrival.Arrival). nat_eq a.body x.0.0) (rows_of t.arrivals) (all_at (λ (y : ℕ × Body). IsTrue (list_any (λ (a : rows_arrival.Arrival). nat_eq a.body y.0) (rows_of t.arrivals))) t.bodies x.0 bodies.used x.1) in
-        let is : a.0.body ≡ id = (Decides-eqb a.0.body x.0.0).0 a.2 ∙ x.2 in
-        any_true fits (map (arrival_in t) (rows_of t.arrivals)) (arrival_in t a.0) (contains_map (arrival_in t) a.0 (rows_of t.arrivals) a.1)
-        ((same_print-Decides (print_of (bytes_of t a.0.body)) (print_of body)).1 (ap (λ n. print_of (bytes_of t n)) is))
-
-    -- the first body that arrived with its print
-    arrived : option_map (λ (a : Arrival). a.body) (find fits (arrivals_in t)) ≡ Some body
-    unfolding arrivals_in
-    arrived =
-        let a = found fits (arrivals_in t) has_fit in
-        let row = from_map (arrival_in t) a.0 (rows_of t.arrivals) a.1 in
-        let bytes : bytes_of t row.0.body ≡ a.0.body = ap (λ (b : Arrival). b.body) row.2 in
-        let print : print_of (bytes_of t row.0.body) ≡ print_of body = ap print_of bytes ∙ (same_print-Decides (print_of a.0.body) (print_of body)).0 a.2 in
+    arrived None e some = absurd (true≢false (sym some))
+    arrived (Some a) e some =
+        let row = from_map (arrival_in t) a (rows_of t.arrivals) (found_in fits (map (arrival_in t) (rows_of t.arrivals)) a e) in
+        let bytes : bytes_of t row.0.body ≡ a.body = ap (λ (b : Arrival). b.body) row.2 in
+        let same : same_print (print_of a.body) (print_of body) ≡ true = found_passes fits (map (arrival_in t) (rows_of t.arrivals)) a e in
+        let print : print_of (bytes_of t row.0.body) ≡ print_of body = ap print_of bytes ∙ (same_print-Decides (print_of a.body) (print_of body)).0 same in
         let there_is : IsTrue (has_body t row.0.body) = all_at (λ (b : rows_arrival.Arrival). IsTrue (has_body t b.body)) (rows_of t.arrivals) row.0 arrivals.bodies row.1 in
-        ap (option_map (λ (b : Arrival). b.body)) a.3 ∙ ap Some (sym bytes ∙ same_bytes row.0.body id there_is known print)
+        ap Some (sym bytes ∙ same_bytes row.0.body id there_is known print)
 
-    -- the old file where its print fits is the same
-    old_or_arrived : (o : Option File) → ((f : File) → o ≡ Some f → IsTrue (has_body t f.body))
-        → option_or (option_and_then (λ bytes. if same_print (print_of bytes) (print_of body) then Some bytes else None) (option_map (λ (f : File). bytes_of t f.body) o)) (Some body) ≡ Some body
-    old_or_arrived None there_is = refl
-    old_or_arrived (Some f) there_is = by_case (same_print (print_of (bytes_of t f.body)) (print_of body)) refl
+    -- the old one where its print fits
+    abbrev if_fits : Option (List ℕ) → Option (List ℕ)
+    if_fits = option_and_then (λ bytes. if same_print (print_of bytes) (print_of body) then Some bytes else None)
+
+    -- the old file where its print fits, or one that arrived: where there is either, it has these bytes
+    old_or_arrived : (o : Option File) → ((f : File) → o ≡ Some f → IsTrue (has_body t f.body)) → (a : Option Arrival) → find fits (arrivals_in t) ≡ a
+        → is_some (option_or (if_fits (option_map (λ (f : File). bytes_of t f.body) o)) (option_map (λ (b : Arrival). b.body) a)) ≡ true
+        → option_or (if_fits (option_map (λ (f : File). bytes_of t f.body) o)) (option_map (λ (b : Arrival). b.body) a) ≡ Some body
+    old_or_arrived None there_is a e some = arrived a e some
+    old_or_arrived (Some f) there_is a e some = by_case (same_print (print_of (bytes_of t f.body)) (print_of body)) refl some
       where
-        by_case : (b : Bool) → same_print (print_of (bytes_of t f.body)) (print_of body) ≡ b → option_or (if b then Some (bytes_of t f.body) else None) (Some body) ≡ Some body
-        by_case true e = ap Some (same_bytes f.body id (there_is f refl) known ((same_print-Decides (print_of (bytes_of t f.body)) (print_of body)).0 e))
-        by_case false e = refl
+        by_case : (b : Bool) → same_print (print_of (bytes_of t f.body)) (print_of body) ≡ b
+            → is_some (option_or (if b then Some (bytes_of t f.body) else None) (option_map (λ (x : Arrival). x.body) a)) ≡ true
+            → option_or (if b then Some (bytes_of t f.body) else None) (option_map (λ (x : Arrival). x.body) a) ≡ Some body
+        by_case true same some = ap Some (same_bytes f.body id (there_is f refl) known ((same_print-Decides (print_of (bytes_of t f.body)) (print_of body)).0 same))
+        by_case false same some = arrived a e some
 
     is_stored : (book : Book) (path : List ℕ) → book.files ≡ files_in t → book.arrivals ≡ arrivals_in t → ((f : File) → Contains (rows_of t.files) f → IsTrue (has_body t f.body))
-        → stored_body book path (print_of body) ≡ Some body
+        → IsTrue (is_some (stored_body book path (print_of body))) → stored_body book path (print_of body) ≡ Some body
     unfolding stored_body files_in
-    is_stored book path files arrived_are there_is =
-        let old : Option (List ℕ) → Option (List ℕ) = option_and_then (λ bytes. if same_print (print_of bytes) (print_of body) then Some bytes else None) in
-        ap (λ (all : List Arrival). option_or (old (book.files path)) (option_map (λ (a : Arrival). a.body) (find fits all))) arrived_are
-        ∙ ap (λ o. option_or (old (book.files path)) o) arrived
-        ∙ ap (λ (fs : List ℕ → Option (List ℕ)). option_or (old (fs path)) (Some body)) files
-        ∙ old_or_arrived (find (is_file_at path) (rows_of t.files)) (λ f e. there_is f (found_in (is_file_at path) (rows_of t.files) f e))
+    is_stored book path files arrived_are there_is some =
+        let file : Option (List ℕ) = option_map (λ (f : File). bytes_of t f.body) (find (is_file_at path) (rows_of t.files)) in
+        let came : Option (List ℕ) = option_map (λ (a : Arrival). a.body) (find fits (arrivals_in t)) in
+        let is : stored_body book path (print_of body) ≡ option_or (if_fits file) came =
+        ap (λ (all : List Arrival). option_or (if_fits (book.files path)) (option_map (λ (a : Arrival). a.body) (find fits all))) arrived_are
+        ∙ ap (λ (fs : List ℕ → Option (List ℕ)). option_or (if_fits (fs path)) came) files in
+        is
+        ∙ old_or_arrived (find (is_file_at path) (rows_of t.files)) (λ f e. there_is f (found_in (is_file_at path) (rows_of t.files) f e)) (find fits (arrivals_in t)) refl
+        (ap is_some (sym is) ∙ some)
 
 -- ---- the files after a change
 
@@ -156,11 +163,12 @@ module _ (t new : Tables) (keeps : KeepsBodies t new) where
   unfolding has_body
   body_kept id h = subst (λ (bs : Numbered Body). IsTrue (list_any (λ (x : ℕ × Body). nat_eq x.0 id) bs)) keeps.bodies h
 
-  -- THE FILES of the pool after a change are those of the book after it.
-  pub files_amended : (book : Book) (shown after : ShelvesValue) → AreBodies t → AreArrivals t → AreFiles t shown → AreFiles new after → book.files ≡ files_in t → book.arrivals ≡ arrivals_in t
+  -- THE FILES of the pool after a change are those of the book after it, where the book has each body.
+  pub files_amended : (book : Book) (shown after : ShelvesValue) → AreStored t → AreArrivals t → AreFiles t shown → AreFiles new after → book.files ≡ files_in t → book.arrivals ≡ arrivals_in t
+      → ((path : List ℕ) (print : Print) → get (pool after) path ≡ Some print → IsTrue (is_some (stored_body book path print)))
       → (path : List ℕ) → files_in new path ≡ files_showing book after path
   unfolding files_in
-  files_amended book shown after bodies arrivals old files files_are arrivals_are path = by_case (find (is_file_at path) (rows_of new.files)) refl
+  files_amended book shown after bodies arrivals old files files_are arrivals_are has path = by_case (find (is_file_at path) (rows_of new.files)) refl
     where
       by_case : (o : Option File) → find (is_file_at path) (rows_of new.files) ≡ o → option_map (λ (f : File). bytes_of new f.body) o ≡ files_showing book after path
       by_case None e =
@@ -171,18 +179,19 @@ module _ (t new : Tables) (keeps : KeepsBodies t new) where
           let print : get (pool after) path ≡ Some (print_of (bytes_of t f.body)) =
           sym (files.are path) ∙ ap (option_and_then (λ (g : File). print_at new g.body)) e ∙ print_kept f.body ∙ print_is t bodies f.body there_is in
           ap Some (bytes_kept f.body)
-          ∙ sym (is_stored t bodies arrivals f.body there_is book path files_are arrivals_are (λ g at. all_at (λ (x : File). IsTrue (has_body t x.body)) (rows_of t.files) g old.bodies at))
+          ∙ sym (is_stored t bodies arrivals f.body there_is book path files_are arrivals_are (λ g at. all_at (λ (x : File). IsTrue (has_body t x.body)) (rows_of t.files) g old.bodies at)
+          (has path (print_of (bytes_of t f.body)) print))
           ∙ sym (ap (option_and_then (stored_body book path)) print)
 
--- THE BOOK that the tables keep after a change is the amended one.
+-- THE BOOK that the tables keep after a change is the amended one, where it had each body.
 pub amended_book : (t new : Tables) (config : ConfigValue) (judged : List Judgement) (shown : ShelvesValue) (dates : List ℕ) (change : Change)
-    → IsKept t config judged shown dates → KeepsBodies t new → AreFiles new (shown_past shown change.steps)
+    → IsKept t config judged shown dates → KeepsBodies t new → AreFiles new (shown_past shown change.steps) → HasEachBody (book_in config judged shown dates t) change
     → book_in config (judged ++ judgements change.steps) (shown_past shown change.steps) (dates_past change.moment dates change.steps) new ≡ amended (book_in config judged shown dates t) change
 unfolding book_in amended
-amended_book t new config judged shown dates change kept keeps files =
+amended_book t new config judged shown dates change kept keeps files has =
     let arrivals : arrivals_in new ≡ arrivals_in t = arrivals_kept t new keeps in
     let bodies : files_in new ≡ files_showing (book_in config judged shown dates t) (shown_past shown change.steps) =
-    fun_ext (files_amended t new keeps (book_in config judged shown dates t) shown (shown_past shown change.steps) kept.bodies kept.arrivals kept.files files refl refl) in
+    fun_ext (files_amended t new keeps (book_in config judged shown dates t) shown (shown_past shown change.steps) (are_stored t kept.bodies) kept.arrivals kept.files files refl refl has) in
     λ i. record {
       config = config;
       arrivals = arrivals i;
@@ -286,13 +295,12 @@ module _ (t new : Tables) (keeps : KeepsBodies t new) where
   have_same : with_bodies ≡ new
   have_same = λ i. record new { bodies = sym keeps.bodies i; pieces = sym keeps.pieces i; arrivals = sym keeps.arrivals i }
 
-  bodies_there : AreBodies t → AreBodies with_bodies
+  bodies_there : AreStored t → AreStored with_bodies
   unfolding bytes_of has_body
   bodies_there h = record {
     whole = h.whole;
     pieces = h.pieces;
     apart = h.apart;
-    used = h.used;
     owned = h.owned;
   }
 
@@ -300,8 +308,8 @@ module _ (t new : Tables) (keeps : KeepsBodies t new) where
   unfolding bytes_of has_body arrivals_in
   arrivals_there h = record { bodies = h.bodies; apart = h.apart; deliverable = h.deliverable }
 
-  pub bodies_stay : AreBodies t → AreBodies new
-  bodies_stay h = subst AreBodies have_same (bodies_there h)
+  pub bodies_stay : AreStored t → AreStored new
+  bodies_stay h = subst AreStored have_same (bodies_there h)
 
   pub arrivals_stay : AreArrivals t → AreArrivals new
   arrivals_stay h = subst AreArrivals have_same (arrivals_there h)
@@ -320,16 +328,21 @@ pub record AreStepped (t now : Tables) (config : ConfigValue) (judged : List Jud
   pub told : AreTold config.suites shown
   pub signed : AreSigned judged
 
--- THE ARCHIVE after a change: once its texts and dates are written the tables keep what it leaves, and the book is the
--- amended one.
+-- What the tables keep once a change is written, but for bodies that nothing uses any more, and that the book is then the amended
+-- one where it had each body.
+pub record IsWritten (t new : Tables) (config : ConfigValue) (judged : List Judgement) (shown : ShelvesValue) (dates : List ℕ) (change : Change) : Type 0 where
+  pub unswept : IsUnswept new config (judged ++ judgements change.steps) (shown_past shown change.steps) (dates_past change.moment dates change.steps)
+  pub keeps : KeepsBodies t new
+  pub book : HasEachBody (book_in config judged shown dates t) change
+      → book_in config (judged ++ judgements change.steps) (shown_past shown change.steps) (dates_past change.moment dates change.steps) new
+      ≡ amended (book_in config judged shown dates t) change
+
+-- THE ARCHIVE after the steps of a change, once its texts and dates are written.
 pub amended_archive : (t now : Tables) (config : ConfigValue) (judged : List Judgement) (shown : ShelvesValue) (dates : List ℕ) (change : Change)
     → IsKept t config judged shown dates → AreStepped t now config (judged ++ judgements change.steps) (shown_past shown change.steps)
     → change.moment ≤ latest → config_in config.text ≡ Ok config
     → AreRenewed (book_in config judged shown dates t) (amended (book_in config judged shown dates t) change) change.texts
-    → let new : Tables = with_new_dates config.suites change.moment change.steps (with_new_texts change.texts now) in
-    let past : List ℕ = dates_past change.moment dates change.steps in
-    IsKept new config (judged ++ judgements change.steps) (shown_past shown change.steps) past
-    × (book_in config (judged ++ judgements change.steps) (shown_past shown change.steps) past new ≡ amended (book_in config judged shown dates t) change)
+    → IsWritten t (with_new_dates config.suites change.moment change.steps (with_new_texts change.texts now)) config judged shown dates change
 amended_archive t now config judged shown dates change kept stepped small read renewed =
     let texts : Numbered rows_text.IndexText = (with_new_texts change.texts now).texts in
     let date_rows : Numbered Date = (with_new_dates config.suites change.moment change.steps (with_new_texts change.texts now)).dates in
@@ -339,14 +352,15 @@ amended_archive t now config judged shown dates change kept stepped small read r
     let keeps : KeepsBodies t (with_new_dates config.suites change.moment change.steps (with_new_texts change.texts now)) =
     subst (KeepsBodies t) is (keeps_stay now texts date_rows t stepped.keeps) in
     let files : AreFiles (with_new_dates config.suites change.moment change.steps (with_new_texts change.texts now)) (shown_past shown change.steps) =
-    subst (λ (u : Tables). AreFiles u (shown_past shown change.steps)) is (files_stay now texts date_rows (shown_past shown change.steps) stepped.files) in (
-      record {
+    subst (λ (u : Tables). AreFiles u (shown_past shown change.steps)) is (files_stay now texts date_rows (shown_past shown change.steps) stepped.files) in
+    record {
+      unswept = record {
         meta = ap (λ (u : Tables). rows_of u.meta) (sym is) ∙ ap rows_of stepped.meta ∙ kept.meta;
         read = read;
         sound = stepped.sound;
         told = stepped.told;
         signed = stepped.signed;
-        bodies = bodies_stay t _ keeps kept.bodies;
+        stored = bodies_stay t _ keeps (are_stored t kept.bodies);
         arrivals = arrivals_stay t _ keeps kept.arrivals;
         uploads = subst (λ (u : Tables). AreUploads u (judged ++ judgements change.steps)) is (uploads_stay now texts date_rows (judged ++ judgements change.steps) stepped.uploads);
         items = subst (λ (u : Tables). AreItems u config.suites (shown_past shown change.steps)) is (items_stay now texts date_rows config.suites (shown_past shown change.steps) stepped.items);
@@ -355,19 +369,7 @@ amended_archive t now config judged shown dates change kept stepped small read r
         date_rows = rows.date_rows;
         dated = rows.dated;
         in_range = rows.in_range;
-      },
-      amended_book t _ config judged shown dates change kept keeps files,
-    )
-
--- The same of the tables that a change makes.
-pub changed_archive : (t : Tables) (config : ConfigValue) (judged : List Judgement) (shown : ShelvesValue) (dates : List ℕ) (change : Change)
-    → IsKept t config judged shown dates → AreStepped t (with_steps config.suites (length judged) change.steps t) config (judged ++ judgements change.steps) (shown_past shown change.steps)
-    → change.moment ≤ latest → config_in config.text ≡ Ok config
-    → AreRenewed (book_in config judged shown dates t) (amended (book_in config judged shown dates t) change) change.texts
-    → let new : Tables = with_change config (length judged) change t in
-    let past : List ℕ = dates_past change.moment dates change.steps in
-    IsKept new config (judged ++ judgements change.steps) (shown_past shown change.steps) past
-    × (book_in config (judged ++ judgements change.steps) (shown_past shown change.steps) past new ≡ amended (book_in config judged shown dates t) change)
-unfolding with_change
-changed_archive t config judged shown dates change kept stepped small read renewed =
-    amended_archive t (with_steps config.suites (length judged) change.steps t) config judged shown dates change kept stepped small read renewed
+      };
+      keeps = keeps;
+      book = amended_book t _ config judged shown dates change kept keeps files;
+    }

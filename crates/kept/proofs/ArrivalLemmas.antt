@@ -14,7 +14,7 @@ use Rattle.sqlite_keyed.proofs.ListLemmas.{map-map}
 use Rattle.sums.specs.Prints.{print as print_of, same_print}
 use Rattle.sums.specs.declared.entries.Entry.{Entry}
 use Rattle.sums.specs.declared.print.Print.{Print}
-use Rattle.keep.specs.Book.{at_latest, has_arrival, is_body_of, is_same_pair, is_there, latest, with_arrival}
+use Rattle.keep.specs.Book.{at_latest, counts, current, has_arrival, is_body_of, is_same_pair, is_there, latest, with_arrival}
 use Rattle.keep.specs.Keeping.{IsDeliverable}
 use Rattle.keep.specs.declared.arrival.Arrival.{Arrival}
 use Rattle.keep.proofs.Finds.{is_some_of_find}
@@ -28,9 +28,11 @@ use Rattle.tables.specs.declared.rows.Arrival as rows_arrival
 use Rattle.tables.specs.declared.rows.Body.{Body}
 use Rattle.tables.specs.declared.rows.Upload.{Upload}
 use Rattle.tables.specs.declared.rows.Want.{Want}
-use Rattle.kept.specs.Kept.{AreArrivals, AreBodies, AreNumbered, arrival_in, arrivals_in, bytes_of, has_body, print_at}
+use Rattle.kept.specs.Cleaning.{counts_row}
+use Rattle.kept.specs.Kept.{AreArrivals, AreBodies, AreNumbered, AreStored, arrival_in, arrivals_in, bytes_of, has_body, is_used, print_at}
 use Rattle.kept.specs.Making.{is_here, number_with, with_arrived, with_bytes, with_delivered, with_requested, with_wants}
-use Rattle.kept.proofs.BodyLemmas.{AreStored, HasBody, Stores, all_if, any_false, any_same, any_with, apart_same, are_stored, body_found, by_number, found, has_body_if, its_print, list_any-map, map_alike, none_found, of_no_print, row_of_found, rows_added, same_number, same_row, stores}
+use Rattle.kept.proofs.BodyLemmas.{HasBody, Stores, all_if, any_false, any_same, any_with, apart_same, are_stored, arrived_used, body_found, by_number, found, has_body_if, its_print, list_any-map, map_alike, none_found, of_no_print, row_of_found, rows_added, same_number, same_row, stores, used_on}
+use Rattle.kept.proofs.Searches.{list_any-filter}
 
 -- ---- lists
 
@@ -77,6 +79,20 @@ same_pair t name bytes moment id h x is =
     (λ s. (sym s.0, sym (ap (bytes_of t) s.1 ∙ h.are)))
     (Decides-and (bytes_eq name x.name) (bytes_eq bytes (bytes_of t x.body)) (bytes_eq-Decides name x.name) (bytes_eq-Decides bytes (bytes_of t x.body))))
 
+-- ---- what counts
+
+turned : (a b : Bool) → (a && b) ≡ (b && a)
+turned true true = refl
+turned true false = refl
+turned false true = refl
+turned false false = refl
+
+-- a row counts exactly where its arrival does
+pub counts_as : (t : Tables) (seconds : Option ℕ) (at : ℕ) (a : rows_arrival.Arrival) → counts_row seconds at a ≡ counts seconds at (arrival_in t a)
+unfolding counts counts_row
+counts_as t None at a = refl
+counts_as t (Some s) at a = refl
+
 -- ---- an arrival
 
 -- What is left once a body has arrived under a name: the arrivals are those of the book, each body that was used is used
@@ -107,6 +123,16 @@ module _ (t : Tables) (up : Rises t.arrivals) (h : AreArrivals t) (name bytes : 
       any_same is_it (λ x. is_same_pair it (arrival_in t x.1)) t.arrivals tells
       ∙ sym (list_any-map (λ a. is_same_pair it (arrival_in t a)) (λ x. x.1) t.arrivals)
       ∙ sym (list_any-map (is_same_pair it) (arrival_in t) (rows_of t.arrivals))
+
+  -- the same among those that count at a moment
+  pub is_known_at : (seconds : Option ℕ) (at : ℕ) → list_any (λ x. is_it x && counts_row seconds at x.1) t.arrivals ≡ has_arrival (current seconds at (arrivals_in t)) it
+  unfolding has_arrival arrivals_in current
+  is_known_at seconds at =
+      any_same (λ x. is_it x && counts_row seconds at x.1) (λ x. counts seconds at (arrival_in t x.1) && is_same_pair it (arrival_in t x.1)) t.arrivals
+      (λ x c. (λ i. tells x c i && counts_as t seconds at x.1 i) ∙ turned (is_same_pair it (arrival_in t x.1)) (counts seconds at (arrival_in t x.1)))
+      ∙ sym (list_any-map (λ a. counts seconds at (arrival_in t a) && is_same_pair it (arrival_in t a)) (λ x. x.1) t.arrivals)
+      ∙ sym (list_any-map (λ b. counts seconds at b && is_same_pair it b) (arrival_in t) (rows_of t.arrivals))
+      ∙ sym (list_any-filter (is_same_pair it) (counts seconds at) (map (arrival_in t) (rows_of t.arrivals)))
 
   -- the row with the greater moment, where it is the one that arrives
   abbrev settled : ℕ × rows_arrival.Arrival → ℕ × rows_arrival.Arrival
@@ -335,8 +361,9 @@ pub record Delivers (t new : Tables) (name bytes : List ℕ) (moment : ℕ) : Ty
   pub bytes_kept : (id : ℕ) → has_body t id ≡ true → bytes_of new id ≡ bytes_of t id
   pub print_kept : (id : ℕ) → has_body t id ≡ true → print_at new id ≡ print_at t id
   pub body_kept : (id : ℕ) → has_body t id ≡ true → has_body new id ≡ true
-  pub known : is_some (find (λ x. is_arrival name (number_with (print_of bytes) (with_bytes (print_of bytes) bytes t)) x.1) t.arrivals)
-      ≡ has_arrival (arrivals_in t) (record { name = name; body = bytes; moment = moment })
+  pub known : (seconds : Option ℕ) (at : ℕ)
+      → list_any (λ x. is_arrival name (number_with (print_of bytes) (with_bytes (print_of bytes) bytes t)) x.1 && counts_row seconds at x.1) t.arrivals
+      ≡ has_arrival (current seconds at (arrivals_in t)) (record { name = name; body = bytes; moment = moment })
 
 -- the arrivals are the same while their bodies are
 arrivals_stay : (t now : Tables) (bytes : List ℕ) (id : ℕ) → AreArrivals t → Stores t now bytes id → arrivals_in now ≡ arrivals_in t
@@ -356,7 +383,7 @@ still_arrivals t now bytes id h st = record {
 
 -- bodies that are stored and used
 bodies_used : (s : Tables) (arrivals : Numbered rows_arrival.Arrival) (uploads : Numbered Upload) (wants : Numbered Want) → AreStored s
-    → All (λ x. IsTrue (list_any (λ a. nat_eq a.body x.0) (rows_of arrivals))) s.bodies → AreBodies (record s { arrivals = arrivals; uploads = uploads; wants = wants })
+    → All (λ x. IsTrue (is_used (record s { arrivals = arrivals; uploads = uploads; wants = wants }) x.0)) s.bodies → AreBodies (record s { arrivals = arrivals; uploads = uploads; wants = wants })
 unfolding bytes_of has_body
 bodies_used s arrivals uploads wants h used = record { whole = h.whole; pieces = h.pieces; apart = h.apart; used = used; owned = h.owned }
 
@@ -400,26 +427,29 @@ delivered_bodies t up b a name bytes moment in_range deliverable same listed =
     let from_stored : new ≡ record s { arrivals = core.arrivals; uploads = new.uploads; wants = new.wants } = is ∙ ap (λ (x : Tables). record x { uploads = new.uploads; wants = new.wants }) there.only in
     let have = subst (HaveBodies s) (sym from_stored) (have_bodies s core.arrivals new.uploads new.wants) in
     record {
-      bodies = subst AreBodies (sym from_stored) (bodies_used s core.arrivals new.uploads new.wants st.stored (all_if _ s.bodies (λ x c. used s core id st there x (st.others x c))));
+      bodies = subst AreBodies (sym from_stored) (bodies_used s core.arrivals new.uploads new.wants st.stored (all_if _ s.bodies (λ x c. used s core id new.uploads new.wants st there x (st.others x c))));
       arrivals = subst AreArrivals (sym is) (arrivals_beside core new.uploads new.wants there.arrivals);
       arrived = ap arrivals_in is ∙ same_arrivals core new.uploads new.wants ∙ there.arrived ∙ ap (λ l. with_arrival l (record { name = name; body = bytes; moment = moment })) stay;
       bytes_kept = λ n old. have.bytes_are n ∙ st.bytes_kept n old;
       print_kept = λ n old. have.prints_are n ∙ st.print_kept n old;
       body_kept = λ n old. have.bodies_are n ∙ st.body_kept n old;
-      known =
-          is_some_of_find (λ x. is_arrival name (number_with p s) x.1) t.arrivals
-          ∙ ap (λ n. list_any (λ (x : ℕ × rows_arrival.Arrival). is_arrival name n x.1) t.arrivals) number
-          ∙ ap (list_any (λ (x : ℕ × rows_arrival.Arrival). is_arrival name id x.1)) (sym st.arrivals_kept)
-          ∙ is_known s rising still name bytes moment id has
-          ∙ ap (λ l. has_arrival l (record { name = name; body = bytes; moment = moment })) stay;
+      known = λ seconds at.
+          ap (λ n. list_any (λ (x : ℕ × rows_arrival.Arrival). is_arrival name n x.1 && counts_row seconds at x.1) t.arrivals) number
+          ∙ ap (list_any (λ (x : ℕ × rows_arrival.Arrival). is_arrival name id x.1 && counts_row seconds at x.1)) (sym st.arrivals_kept)
+          ∙ is_known_at s rising still name bytes moment id has seconds at
+          ∙ ap (λ l. has_arrival (current seconds at l) (record { name = name; body = bytes; moment = moment })) stay;
     }
   where
-    used : (s core : Tables) (id : ℕ) → Stores t s bytes id → Arrives s name bytes moment id core → (x : ℕ × Body) → Contains t.bodies x ⊎ (x.0 ≡ id)
-        → IsTrue (list_any (λ a. nat_eq a.body x.0) (rows_of core.arrivals))
-    used s core id st there x (inl c) =
-        there.uses_kept x.0 (subst (λ l. IsTrue (list_any (λ a. nat_eq a.body x.0) (rows_of l))) (sym st.arrivals_kept)
-        (All-contains (λ x. IsTrue (list_any (λ a. nat_eq a.body x.0) (rows_of t.arrivals))) t.bodies x b.used c))
-    used s core id st there x (inr e) = subst (λ n. IsTrue (list_any (λ a. nat_eq a.body n) (rows_of core.arrivals))) (sym e) there.uses_it
+    used : (s core : Tables) (id : ℕ) (uploads : Numbered Upload) (wants : Numbered Want) → Stores t s bytes id → Arrives s name bytes moment id core
+        → (x : ℕ × Body) → Contains t.bodies x ⊎ (x.0 ≡ id) → IsTrue (is_used (record s { arrivals = core.arrivals; uploads = uploads; wants = wants }) x.0)
+    used s core id uploads wants st there x (inl c) =
+        used_on t (record s { arrivals = core.arrivals; uploads = uploads; wants = wants }) x.0
+        (λ e. there.uses_kept x.0 (subst (λ l. IsTrue (list_any (λ a. nat_eq a.body x.0) (rows_of l))) (sym st.arrivals_kept) e))
+        (λ e. subst (λ l. IsTrue (list_any (λ f. nat_eq f.body x.0) (rows_of l))) (sym st.files_kept) e)
+        (All-contains (λ x. IsTrue (is_used t x.0)) t.bodies x b.used c)
+    used s core id uploads wants st there x (inr e) =
+        let after : Tables = record s { arrivals = core.arrivals; uploads = uploads; wants = wants } in
+        subst (λ n. IsTrue (is_used after n)) (sym e) (arrived_used after id there.uses_it)
 
 -- ---- what is there
 

@@ -3,12 +3,12 @@ use Rattle.std.proofs.Common.{◌≡◌, ◌≢◌, ◌⊎◌, inl, inr, ℕ, ze
 use Rattle.std.specs.Prelude.{nat_eq}
 use Rattle.std.specs.List.{AllByRecursion, flat_map, list_any, range_with_len}
 use Rattle.std.specs.Option.{option_and_then, option_map, option_map_or, option_or}
-use Rattle.std.proofs.lemmas.Bool.{cases_order, eq-eqb, eqb-true, false_from_ne_true, false≢true, ne_eqb}
+use Rattle.std.proofs.lemmas.Bool.{cases_order, eq-eqb, eqb-true, false_from_ne_true, false≢true, ne_eqb, or_cases, or_left, or_right}
 use Rattle.std.proofs.lemmas.Bool.Decides.{Decides-eqb, Decides-like, same_from_decides}
 use Rattle.std.proofs.lemmas.List.{append-nil, append_assoc, drop-take, get_or_default, map-id, map_push, take-append-drop, take-take, take_all}
 use Rattle.std.proofs.lemmas.List.Concat.{flat_map-append}
 use Rattle.std.proofs.lemmas.List.Elements.{All-append, All-contains, All-contains_itself, All-from_recursion, All-map, All-push, All-same, All-weaker, Contains-append_left, Contains-append_right, Contains-get_or, Contains-push, Contains-push_cases, filter-append}
-use Rattle.std.proofs.lemmas.List.Folds.{Any-from_list_any, find-append, flat_map-map, list_any_at}
+use Rattle.std.proofs.lemmas.List.Folds.{Any-from_list_any, find-append, flat_map-map, list_any-append, list_any_at}
 use Rattle.std.proofs.lemmas.List.FromFn.{map-range_with_len_more}
 use Rattle.std.proofs.lemmas.List.Quantifiers.{all_pairs_push}
 use Rattle.std.proofs.lemmas.Option.{same_Some}
@@ -19,9 +19,11 @@ use Rattle.keep.proofs.Prints.{same_print-Decides}
 use Rattle.tables.specs.Bodies.{body_with, has_print}
 use Rattle.tables.specs.Pieces.{is_of}
 use Rattle.tables.specs.Rows.{Tables, Numbered, Rises, added, next_from, next_in, rows_of, with_body, with_piece}
+use Rattle.tables.specs.declared.rows.Arrival.{Arrival}
 use Rattle.tables.specs.declared.rows.Body.{Body}
+use Rattle.tables.specs.declared.rows.File.{File}
 use Rattle.tables.specs.declared.rows.Piece.{Piece}
-use Rattle.kept.specs.Kept.{AreBodies, bytes_of, has_body, piece_at, piece_count, pieces_for, pieces_of, print_at}
+use Rattle.kept.specs.Kept.{AreBodies, AreStored, bytes_of, has_body, is_used, piece_at, piece_count, pieces_for, pieces_of, print_at}
 use Rattle.kept.specs.Making.{with_bytes, with_pieces}
 
 -- ---- lists
@@ -180,13 +182,6 @@ rows_with (p ∷ ps) rows = rows_with ps (added rows p) ∙ ap (λ l. l ++ ps) (
 
 -- ---- bodies
 
--- The bodies are whole, in pieces and apart, whether they have arrived or not.
-pub record AreStored (t : Tables) : Type 0 where
-  pub whole : All (λ x. x.1.print ≡ Some (print_of (bytes_of t x.0))) t.bodies
-  pub pieces : All (λ x. pieces_of t x.0 ≡ pieces_for x.0 (bytes_of t x.0)) t.bodies
-  pub apart : AllPairs (λ x y. x.1.print ≢ y.1.print) t.bodies
-  pub owned : All (λ p. IsTrue (has_body t p.body)) (rows_of t.pieces)
-
 pub are_stored : (t : Tables) → AreBodies t → AreStored t
 are_stored t h = record { whole = h.whole; pieces = h.pieces; apart = h.apart; owned = h.owned }
 
@@ -285,6 +280,42 @@ of_no_print t h p e id is =
     let it = its_print t h id is in
     false_from_ne_true _ (λ same. no_body_found p t.bodies e it.body it.within (it.print ∙ ap Some ((same_print-Decides (print_of (bytes_of t id)) p).0 same)))
 
+-- ---- bodies that are used
+
+-- an arrival has the body of this number, or a file does
+abbrev pub arrival_has : Tables → ℕ → Bool
+arrival_has t id = list_any (λ a. nat_eq a.body id) (rows_of t.arrivals)
+
+abbrev pub file_has : Tables → ℕ → Bool
+file_has t id = list_any (λ f. nat_eq f.body id) (rows_of t.files)
+
+pub used_by : (t : Tables) (id : ℕ) → is_used t id ≡ (arrival_has t id || file_has t id)
+unfolding is_used
+used_by t id =
+    list_any-append (λ n. nat_eq n id) (map (λ (a : Arrival). a.body) (rows_of t.arrivals)) (map (λ (f : File). f.body) (rows_of t.files))
+    ∙ ap₂ ◌||◌ (list_any-map (λ n. nat_eq n id) (λ (a : Arrival). a.body) (rows_of t.arrivals)) (list_any-map (λ n. nat_eq n id) (λ (f : File). f.body) (rows_of t.files))
+
+pub arrived_used : (t : Tables) (id : ℕ) → arrival_has t id ≡ true → is_used t id ≡ true
+arrived_used t id e = used_by t id ∙ or_left (arrival_has t id) (file_has t id) e
+
+pub filed_used : (t : Tables) (id : ℕ) → file_has t id ≡ true → is_used t id ≡ true
+filed_used t id e = used_by t id ∙ or_right (arrival_has t id) (file_has t id) e
+
+-- the body of each arrival and of each file is used
+pub its_arrival : (t : Tables) (a : Arrival) → Contains (rows_of t.arrivals) a → is_used t a.body ≡ true
+its_arrival t a c = arrived_used t a.body (any_with (λ b. nat_eq b.body a.body) (rows_of t.arrivals) a c (eq-eqb a.body a.body refl))
+
+pub its_file : (t : Tables) (f : File) → Contains (rows_of t.files) f → is_used t f.body ≡ true
+its_file t f c = filed_used t f.body (any_with (λ g. nat_eq g.body f.body) (rows_of t.files) f c (eq-eqb f.body f.body refl))
+
+-- what is used stays so where the arrivals and the files that have it do
+pub used_on : (t after : Tables) (id : ℕ) → (arrival_has t id ≡ true → arrival_has after id ≡ true) → (file_has t id ≡ true → file_has after id ≡ true)
+    → is_used t id ≡ true → is_used after id ≡ true
+used_on t after id arrivals files used = elim (or_cases (arrival_has t id) (file_has t id) (sym (used_by t id) ∙ used)) [
+  | inl e ↦ arrived_used after id (arrivals e)
+  | inr e ↦ filed_used after id (files e)
+]
+
 -- ---- a body more
 
 -- The bytes are stored under this number, and what was there is there as before.
@@ -296,6 +327,7 @@ pub record Stores (t now : Tables) (bytes : List ℕ) (id : ℕ) : Type 0 where
   pub print_kept : (n : ℕ) → has_body t n ≡ true → print_at now n ≡ print_at t n
   pub body_kept : (n : ℕ) → has_body t n ≡ true → has_body now n ≡ true
   pub arrivals_kept : now.arrivals ≡ t.arrivals
+  pub files_kept : now.files ≡ t.files
   pub others : (x : ℕ × Body) → Contains now.bodies x → Contains t.bodies x ⊎ (x.0 ≡ id)
 
 module _ (t : Tables) (up : Rises t.bodies) (h : AreStored t) (bytes : List ℕ) (p : Print) (is : p ≡ print_of bytes) (absent : body_with p t.bodies ≡ None) where
@@ -389,6 +421,7 @@ module _ (t : Tables) (up : Rises t.bodies) (h : AreStored t) (bytes : List ℕ)
     print_kept = old_print;
     body_kept = old_body;
     arrivals_kept = refl;
+    files_kept = refl;
     others = λ x c. row_or_new x (Contains-push_cases t.bodies (next, new_body) x c);
   }
     where
@@ -418,6 +451,7 @@ stores t up h bytes same = by (body_with (print_of bytes) t.bodies) refl
         print_kept = λ n old. refl;
         body_kept = λ n old. old;
         arrivals_kept = refl;
+        files_kept = refl;
         others = λ x c. inl c;
       },
     )

@@ -20,6 +20,7 @@ use Rattle.kept.specs.KeeperLemmas.{book_set}
 use Rattle.kept.specs.Kept.{IsKept, book_in, bytes_of, files_in, has_body, print_at}
 use Rattle.kept.specs.OneBook.{one_book}
 use Rattle.kept.proofs.AmendedLemmas.{found_in, print_is}
+use Rattle.kept.proofs.BodyLemmas.{are_stored}
 
 module _ (t : Tables) (config : ConfigValue) (judged : List Judgement) (shown : ShelvesValue) (dates : List ℕ) (h : IsKept t config judged shown dates) where
   file_here : (path : List ℕ) (o : Option File) → find (is_file_at path) (rows_of t.files) ≡ o
@@ -27,7 +28,7 @@ module _ (t : Tables) (config : ConfigValue) (judged : List Judgement) (shown : 
   file_here path None e = sym (h.files.are path) ∙ ap (option_and_then (λ (f : File). print_at t f.body)) e
   file_here path (Some f) e =
       let there : IsTrue (has_body t f.body) = all_at (λ (g : File). IsTrue (has_body t g.body)) (rows_of t.files) f h.files.bodies (found_in (is_file_at path) (rows_of t.files) f e) in
-      sym (h.files.are path) ∙ ap (option_and_then (λ (g : File). print_at t g.body)) e ∙ print_is t h.bodies f.body there
+      sym (h.files.are path) ∙ ap (option_and_then (λ (g : File). print_at t g.body)) e ∙ print_is t (are_stored t h.bodies) f.body there
 
   kept_files : HasItsFiles (book_in config judged shown dates t)
   unfolding book_in files_in

@@ -1,15 +1,17 @@
 -- From what a call does to the database to what a keeper's book becomes.
-use Rattle.std.proofs.Common.{◌≡◌, ℕ, List, Option, Some, sym, ap, subst, ◌∙◌, IsTrue, Result, Ok, Err, OnOk, OnErr}
+use Rattle.std.proofs.Common.{◌≡◌, ℕ, List, ◌++◌, Option, Some, sym, ap, subst, ◌∙◌, IsTrue, Result, Ok, Err, OnOk, OnErr}
 use Rattle.std.proofs.Math.Logic.{∥∥₁_map}
 use Rattle.sqlite.specs.Effect.{Database}
 use Rattle.sqlite.specs.State.{State}
 use Rattle.sqlite.specs.Tree.{Trees}
 use Rattle.rules.specs.Values.{ConfigValue}
 use Rattle.suites.specs.Shelves.{ShelvesValue}
-use Rattle.keep.specs.Book.{Book}
+use Rattle.keep.specs.Book.{Book, amended, dates_past, judgements, shown_past}
+use Rattle.keep.specs.Keeping.{HasEachBody}
+use Rattle.keep.specs.declared.change.Change.{Change}
 use Rattle.keep.specs.declared.change.Judgement.{Judgement}
 use Rattle.tables.specs.Rows.{tables_in}
-use Rattle.kept.specs.Archives.{KeepsArchive, KeepsLeft, Turns, book_of}
+use Rattle.kept.specs.Archives.{Amends, KeepsArchive, KeepsLeft, Turns, book_of}
 use Rattle.kept.specs.KeeperLemmas.{left_is}
 use Rattle.kept.specs.Shown.{shown_in}
 use Rattle.kept.specs.Transactions.{IsUndone}
@@ -45,6 +47,12 @@ pub done_book : {config : ConfigValue} {judged judged_after : List Judgement} {s
     → book_of new config judged_after (shown_in config.suites (tables_in new)) dates_after ≡ step (book_of old config judged shown dates)
 done_book {config} {judged_after = judged_after} {dates_after = dates_after} old new turn =
     ap (λ s. book_of new config judged_after s dates_after) (shown_here new turn.kept) ∙ turn.book
+
+-- the book after a change, where it had each body
+pub amends_turns : {config : ConfigValue} {judged : List Judgement} {shown : ShelvesValue} {dates : List ℕ} {change : Change} (old new : Database)
+    → Amends old new config judged shown dates change → HasEachBody (book_of old config judged shown dates) change
+    → Turns old new config judged shown dates (judged ++ judgements change.steps) (shown_past shown change.steps) (dates_past change.moment dates change.steps) (λ b. amended b change)
+amends_turns old new amends has = record { kept = amends.kept; book = amends.book has }
 
 -- what a crash leaves of it
 pub turn_left : {config : ConfigValue} {judged judged_after : List Judgement} {shown shown_after : ShelvesValue} {dates dates_after : List ℕ} {step : Book → Book} (old new : Database) (trees : Trees) → trees ≡ new.trees → (left : Option Book)

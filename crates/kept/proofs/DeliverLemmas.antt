@@ -1,5 +1,5 @@
 -- What the parts of a delivery make of the tables.
-use Rattle.std.proofs.Common.{◌≡◌, ℕ, ◌+◌, ◌<◌, ◌≤◌, Bool, true, false, not, List, [], ◌∷◌, length, take, find, get_or, Some, None, is_some, IsTrue, refl, sym, ap, subst, ◌∙◌}
+use Rattle.std.proofs.Common.{◌≡◌, ℕ, ◌+◌, ◌<◌, ◌≤◌, Bool, true, false, List, [], ◌∷◌, length, take, find, get_or, Some, None, is_some, IsTrue, refl, sym, ap, subst, ◌∙◌}
 use Rattle.std.specs.List.{list_any}
 use Rattle.std.proofs.lemmas.Bool.{lt-ltb, le-ltb}
 use Rattle.std.proofs.lemmas.List.Sums.{fold_more}
@@ -117,10 +117,6 @@ module _ (name : List ℕ) (print : Print) (moment id : ℕ) (store : Tables →
   file_stored arrived marked =
       changes_as a d (λ t. with_here name print (with_arrived name id moment (store t))) _
       (λ t was. ap (λ n. with_here name print (with_arrived name n moment (store t))) (is t was)) (changes_then a c d _ _ (changes_then a b c _ _ stored arrived) marked)
-
-  pub file_new : (new : Bool) → ((t : Tables) → Holds b.now t → new ≡ not (is_some (find (λ x. is_arrival name id x.1) t.arrivals))) → (t : Tables) → Holds a.now t
-      → new ≡ not (is_some (find (λ x. is_arrival name (number t) x.1) (store t).arrivals))
-  file_new new tells t was = subst (λ n. new ≡ not (is_some (find (λ x. is_arrival name n x.1) (store t).arrivals))) (is t was) (tells (store t) (stored.held t was))
 
 module _ (name : List ℕ) (print : Print) (moment : ℕ) (store : Tables → Tables) (number : Tables → ℕ) (a b : State)
     (stored : Changes a b (λ t. with_here name print (with_arrived name (number t) moment (store t)))) where

@@ -1,5 +1,6 @@
 -- What a delivery leaves of an archive, and whether it is new there.
-use Rattle.std.proofs.Common.{◌≡◌, ℕ, ◌≤◌, Bool, true, false, List, find, Option, Some, None, option_map, is_some, refl, ap, ◌∙◌}
+use Rattle.std.proofs.Common.{◌≡◌, ℕ, ◌≤◌, Bool, true, false, ◌&&◌, List, Option, Some, None, option_map, is_some, refl, ap, ◌∙◌}
+use Rattle.std.specs.List.{list_any}
 use Rattle.std.specs.Prelude.{if◌then◌else◌}
 use Rattle.std.specs.Result.{result_ok}
 use Rattle.records.specs.Records.{changes_in}
@@ -7,14 +8,16 @@ use Rattle.rules.specs.Values.{ConfigValue}
 use Rattle.sums.specs.Prints.{print as print_of}
 use Rattle.sums.specs.declared.entries.Entry.{Entry}
 use Rattle.suites.specs.Shelves.{ShelvesValue}
-use Rattle.keep.specs.Book.{has_arrival, is_changes_name, latest, with_delivery}
+use Rattle.keep.specs.Book.{current, has_arrival, is_changes_name, latest, with_delivery}
 use Rattle.keep.specs.Keeping.{IsDeliverable}
 use Rattle.keep.specs.declared.change.Judgement.{Judgement}
 use Rattle.sqlite.specs.Effect.{Database}
 use Rattle.tables.specs.Arrivals.{is_arrival}
 use Rattle.tables.specs.Bodies.{body_with}
 use Rattle.tables.specs.Rows.{Tables, Holds, next_in, with_body}
+use Rattle.tables.specs.declared.rows.Arrival as rows_arrival
 use Rattle.tables.specs.declared.rows.Piece.{Piece}
+use Rattle.kept.specs.Cleaning.{counts_row}
 use Rattle.kept.specs.Kept.{AreNumbered, IsKept, book_in, bytes_of, pieces_for}
 use Rattle.kept.specs.Making.{number_with, with_bytes, with_delivered, with_pieces}
 use Rattle.kept.proofs.ArrivalLemmas.{delivered_bodies}
@@ -40,12 +43,13 @@ arrivals_beside t bytes = by (is_some (body_with (print_of bytes) t.bodies))
     by true = refl
     by false = ap (λ (x : Tables). x.arrivals) (only_pieces pieces one)
 
--- After a delivery the tables keep the book with one more arrival, and the search for its row tells whether it was there.
+-- After a delivery the tables keep the book with one more arrival, and the rows tell whether it was there and counted.
 pub record KeepsDelivery (t new : Tables) (config : ConfigValue) (judged : List Judgement) (shown : ShelvesValue) (dates : List ℕ) (name bytes : List ℕ) (moment : ℕ) : Type 0 where
   pub kept : IsKept new config judged shown dates
   pub book : book_in config judged shown dates new ≡ with_delivery (book_in config judged shown dates t) (record { name = name; body = bytes; moment = moment })
-  pub known : is_some (find (λ x. is_arrival name (number_with (print_of bytes) (with_bytes (print_of bytes) bytes t)) x.1) (with_bytes (print_of bytes) bytes t).arrivals)
-      ≡ has_arrival (book_in config judged shown dates t).arrivals (record { name = name; body = bytes; moment = moment })
+  pub known : (seconds : Option ℕ) (at : ℕ)
+      → list_any (λ x. is_arrival name (number_with (print_of bytes) (with_bytes (print_of bytes) bytes t)) x.1 && counts_row seconds at x.1) (with_bytes (print_of bytes) bytes t).arrivals
+      ≡ has_arrival (current seconds at (book_in config judged shown dates t).arrivals) (record { name = name; body = bytes; moment = moment })
 
 pub delivered_archive : (t : Tables) (config : ConfigValue) (judged : List Judgement) (shown : ShelvesValue) (dates : List ℕ) (name bytes : List ℕ) (moment : ℕ) (listed : Option (List Entry))
     → AreNumbered t → IsKept t config judged shown dates → moment ≤ latest → IsDeliverable name bytes
@@ -58,7 +62,7 @@ delivered_archive t config judged shown dates name bytes moment listed up h in_t
     record {
       kept = delivered.kept;
       book = delivered.book;
-      known =
-          ap (λ rows. is_some (find (λ x. is_arrival name (number_with (print_of bytes) (with_bytes (print_of bytes) bytes t)) x.1) rows)) (arrivals_beside t bytes)
-          ∙ (delivered_bodies t up h.bodies h.arrivals name bytes moment in_time deliverable same listed).known;
+      known = λ seconds at.
+          ap (list_any (λ (x : ℕ × rows_arrival.Arrival). is_arrival name (number_with (print_of bytes) (with_bytes (print_of bytes) bytes t)) x.1 && counts_row seconds at x.1)) (arrivals_beside t bytes)
+          ∙ (delivered_bodies t up h.bodies h.arrivals name bytes moment in_time deliverable same listed).known seconds at;
     }

@@ -24,7 +24,7 @@ use Rattle.tables.specs.Rows.{Tables, Numbered, Rises, rows_of}
 use Rattle.tables.specs.declared.rows.Arrival as rows_arrival
 use Rattle.tables.specs.declared.rows.Body.{Body}
 use Rattle.tables.specs.declared.rows.Upload.{Upload}
-use Rattle.kept.specs.Kept.{AreArrivals, AreBodies, AreUploads, arrival_in, arrivals_in, bytes_of, has_body, request_in, request_of}
+use Rattle.kept.specs.Kept.{AreArrivals, AreStored, AreUploads, arrival_in, arrivals_in, bytes_of, has_body, request_in, request_of}
 use Rattle.kept.specs.Reads.{bytes_with, due_in, missing_in, text_in, wanting_rows, upload_in, upload_with}
 use Rattle.kept.proofs.OrderLemmas.{unjudged_requests}
 use Rattle.kept.proofs.WaitingLemmas.{missing_in-wants, missing-wants, missing_wants}
@@ -116,11 +116,11 @@ module _ (t : Tables) where
   abbrev IsFound : List ℕ → Type 0
   IsFound body = bytes_with t (print_of body) ≡ Some body
 
-  body_found : AreBodies t → (id : ℕ) → has_body t id ≡ true → IsFound (bytes_of t id)
+  body_found : AreStored t → (id : ℕ) → has_body t id ≡ true → IsFound (bytes_of t id)
   unfolding bytes_with has_body
   body_found bodies id there = found_by_print id t.bodies (recursion_from_All _ t.bodies bodies.whole) bodies.apart there
 
-  pub arrivals_found : AreBodies t → AreArrivals t → AllByRecursion (λ a. IsFound a.body) (arrivals_in t)
+  pub arrivals_found : AreStored t → AreArrivals t → AllByRecursion (λ a. IsFound a.body) (arrivals_in t)
   unfolding arrivals_in
   arrivals_found bodies arrivals = go (rows_of t.arrivals) (recursion_from_All _ (rows_of t.arrivals) arrivals.bodies)
     where
@@ -254,7 +254,7 @@ filter_map_chosen p f (x ∷ xs) = elim (p x) as (λ b. cons_option (if b then S
 ]
 
 -- the uploads that are due are the same, in the same order
-pub due_are : (t : Tables) (b : Book) → b.arrivals ≡ arrivals_in t → Rises t.uploads → AreUploads t b.judged → AreBodies t → AreArrivals t
+pub due_are : (t : Tables) (b : Book) → b.arrivals ≡ arrivals_in t → Rises t.uploads → AreUploads t b.judged → AreStored t → AreArrivals t
     → filter_map (due_in t) (wanting_rows t) ≡ map (upload_of b.arrivals) (due b)
 unfolding due unjudged
 due_are t b same up uploads bodies arrivals =

@@ -30,7 +30,7 @@ use Rattle.kept.specs.Kept.{AreArrivals, AreBodies, AreItems, AreNumbered, AreUp
 use Rattle.kept.specs.Reads.{bytes_with, due_in, missing_in, text_in, upload_in, waiting_in, wanting, wanting_rows}
 use Rattle.kept.specs.Shown.{shown_in}
 use Rattle.kept.proofs.AmendedLemmas.{found_in}
-use Rattle.kept.proofs.BodyLemmas.{body_found, has_body_if, row_of_found}
+use Rattle.kept.proofs.BodyLemmas.{are_stored, body_found, has_body_if, row_of_found}
 use Rattle.kept.proofs.DueLemmas.{due_are}
 use Rattle.kept.proofs.LikeLemmas.{items_like}
 use Rattle.kept.proofs.RowLists.{all_filtered, find_kept}
@@ -206,7 +206,7 @@ bytes_by_print t up p (Some id) e =
     let there : has_body (finished t) id ≡ true = has_body_if (finished t) id (row_of_found (body_found p (finished t).bodies id same)) in
     ap (option_map (bytes_of t)) e ∙ ap Some (sym (bytes_finished t up id there)) ∙ ap (option_map (bytes_of (finished t))) (sym same)
 
-bytes_with_finished : (t : Tables) → Rises t.bodies → (p : Print) → bytes_with t p ≡ bytes_with (finished t) p
+pub bytes_with_finished : (t : Tables) → Rises t.bodies → (p : Print) → bytes_with t p ≡ bytes_with (finished t) p
 unfolding bytes_with
 bytes_with_finished t up p = bytes_by_print t up p (body_with p t.bodies) refl
 
@@ -229,7 +229,7 @@ pub dues_finished : (t : Tables) (b : Book) → Rises t.bodies → Rises t.uploa
     → filter_map (due_in t) (wanting_rows t) ≡ map (upload_of b.arrivals) (due b)
 unfolding finished wanting wanting_rows
 dues_finished t b up rise same uploads bodies arrivals =
-    (λ i. filter_map (λ x. due_finished t up x i) (wanting_rows t)) ∙ due_are (finished t) b same rise uploads bodies arrivals
+    (λ i. filter_map (λ x. due_finished t up x i) (wanting_rows t)) ∙ due_are (finished t) b same rise uploads (are_stored (finished t) bodies) arrivals
 
 pub waiting_finished : (t : Tables) (b : Book) → b.arrivals ≡ arrivals_in (finished t) → Rises t.uploads → AreUploads (finished t) b.judged → map (waiting_in t) (wanting_rows t) ≡ waiting_list b
 unfolding finished missing_in wanting wanting_rows

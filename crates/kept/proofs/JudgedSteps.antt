@@ -1,6 +1,6 @@
 -- Uploads after the steps of a change.
 use Rattle.std.proofs.Common.{◌≡◌, ◌≢◌, ℕ, zero, suc, ◌+◌, Bool, true, false, not, ◌&&◌, cond, List, [], ◌∷◌, ◌++◌, map, filter, length, take, Option, Some, None, refl, sym, ap, ap₂, subst, ◌∙◌, append_assoc, append-nil}
-use Rattle.std.specs.List.{AllByRecursion, cons_option, list_any}
+use Rattle.std.specs.List.{AllByRecursion, cons_option, filter_map, list_any}
 use Rattle.std.specs.Option.{option_map_or}
 use Rattle.std.specs.Ordering.{is_gt}
 use Rattle.std.proofs.lemmas.Bool.{and_right, false_from_ne_true, not_from_false, or_left, or_right}
@@ -8,7 +8,7 @@ use Rattle.std.proofs.lemmas.List.{length_push}
 use Rattle.sqlite_trees.specs.Tree.{IsAscending}
 use Rattle.sqlite_keyed.proofs.ListLemmas.{all-filter, all_map, all_weaker, ascending-filter, ascending-map, ascending_from_map}
 use Rattle.rules.specs.declared.suite.Suite.{Suite}
-use Rattle.keep.specs.Book.{Book, Candidate, candidates, due, in_order, is_complete, is_judged, judgements, judging_order, put_in_order, unjudged}
+use Rattle.keep.specs.Book.{Book, Candidate, candidate_of, candidates, due, in_order, is_complete, is_judged, judgements, judging_order, put_in_order, unjudged}
 use Rattle.keep.specs.Keeping.{sign_of, sign_on}
 use Rattle.keep.specs.declared.arrival.Arrival.{Arrival}
 use Rattle.keep.specs.declared.change.Judgement.{Judgement}
@@ -129,6 +129,68 @@ ascending_taken R zero xs up = tt
 ascending_taken R (suc n) [] up = tt
 ascending_taken R (suc n) (x ∷ xs) up = (all_taken (R x) n xs up.0, ascending_taken R n xs up.1)
 
+-- ---- what is made of some of the elements
+
+module _ {X Y : Type 0} (f : X → Option Y) (w : Y → Bool) (q : X → Bool) where
+  -- what is made of elements and passes
+  abbrev made : List X → List Y
+  made xs = filter w (filter_map f xs)
+
+  -- what holds of all that is made holds of what is made of some
+  pub all_chosen : (P : Y → Type 0) (xs : List X) → AllByRecursion P (made xs) → AllByRecursion P (made (filter q xs))
+  all_chosen P [] all = tt
+  all_chosen P (x ∷ xs) all = go (q x) (all_chosen P xs)
+    where
+      one : (y : Y) (c : Bool) (ys zs : List Y) → AllByRecursion P (cond c (y ∷ ys) ys) → (AllByRecursion P ys → AllByRecursion P zs) → AllByRecursion P (cond c (y ∷ zs) zs)
+      one y true ys zs all more = (all.0, more all.1)
+      one y false ys zs all more = more all
+
+      stays : (o : Option Y) → AllByRecursion P (filter w (cons_option o (filter_map f xs))) → (AllByRecursion P (made xs) → AllByRecursion P (made (filter q xs)))
+          → AllByRecursion P (filter w (cons_option o (filter_map f (filter q xs))))
+      stays None all more = more all
+      stays (Some y) all more = one y (w y) (made xs) (made (filter q xs)) all more
+
+      rest : (y : Y) (c : Bool) (ys : List Y) → AllByRecursion P (cond c (y ∷ ys) ys) → AllByRecursion P ys
+      rest y true ys all = all.1
+      rest y false ys all = all
+
+      goes : (o : Option Y) → AllByRecursion P (filter w (cons_option o (filter_map f xs))) → AllByRecursion P (made xs)
+      goes None all = all
+      goes (Some y) all = rest y (w y) (made xs) all
+
+      go : (b : Bool) → (AllByRecursion P (made xs) → AllByRecursion P (made (filter q xs)))
+          → AllByRecursion P (filter w (filter_map f (cond b (x ∷ filter q xs) (filter q xs))))
+      go true more = stays (f x) all more
+      go false more = more (goes (f x) all)
+
+  -- and so of what differs two by two
+  pub ascending_chosen : (R : Y → Y → Type 0) (xs : List X) → IsAscending R (made xs) → IsAscending R (made (filter q xs))
+  ascending_chosen R [] up = tt
+  ascending_chosen R (x ∷ xs) up = go (q x) (ascending_chosen R xs)
+    where
+      one : (y : Y) (c : Bool) → IsAscending R (cond c (y ∷ made xs) (made xs)) → (IsAscending R (made xs) → IsAscending R (made (filter q xs)))
+          → IsAscending R (cond c (y ∷ made (filter q xs)) (made (filter q xs)))
+      one y true up more = (all_chosen (R y) xs up.0, more up.1)
+      one y false up more = more up
+
+      stays : (o : Option Y) → IsAscending R (filter w (cons_option o (filter_map f xs))) → (IsAscending R (made xs) → IsAscending R (made (filter q xs)))
+          → IsAscending R (filter w (cons_option o (filter_map f (filter q xs))))
+      stays None up more = more up
+      stays (Some y) up more = one y (w y) up more
+
+      rest : (y : Y) (c : Bool) → IsAscending R (cond c (y ∷ made xs) (made xs)) → IsAscending R (made xs)
+      rest y true up = up.1
+      rest y false up = up
+
+      goes : (o : Option Y) → IsAscending R (filter w (cons_option o (filter_map f xs))) → IsAscending R (made xs)
+      goes None up = up
+      goes (Some y) up = rest y (w y) up
+
+      go : (b : Bool) → (IsAscending R (made xs) → IsAscending R (made (filter q xs)))
+          → IsAscending R (filter w (filter_map f (cond b (x ∷ filter q xs) (filter q xs))))
+      go true more = stays (f x) up more
+      go false more = more (goes (f x) up)
+
 module _ (arrivals : List Arrival) (judged : List Judgement) where
   abbrev waiting : List Candidate
   waiting = filter (λ c. not (is_judged judged c)) (candidates arrivals)
@@ -139,12 +201,18 @@ module _ (arrivals : List Arrival) (judged : List Judgement) where
       (λ c h. list_any-map (λ r. is_sign (sign_of c) r.0) (request_of arrivals) waiting ∙ h) waiting
       (any_itself (λ c d. is_sign (sign_of c) (sign_of d)) (λ c. (is_sign-Decides (sign_of c) (sign_of c)).1 refl) waiting)
 
-  -- the signs of the first that are due are asked for
-  due_asked : (n : ℕ) (p : Candidate → Bool) → AreAsked (requests arrivals judged) (map sign_of (take n (filter p (in_order waiting))))
-  due_asked n p =
+  -- the uploads that wait among some of the arrivals
+  abbrev waiting_of : (Arrival → Bool) → List Candidate
+  waiting_of some = filter (λ c. not (is_judged judged c)) (candidates (filter some arrivals))
+
+  -- the signs of the first of them that are due are asked for
+  due_asked : (some : Arrival → Bool) (n : ℕ) (p : Candidate → Bool) → AreAsked (requests arrivals judged) (map sign_of (take n (filter p (in_order (waiting_of some)))))
+  due_asked some n p =
       let P : Candidate → Type 0 = λ c. list_any (λ r. is_sign (sign_of c) r.0) (requests arrivals judged) ≡ true in
-      all_map (λ s. list_any (λ r. is_sign s r.0) (requests arrivals judged) ≡ true) sign_of (take n (filter p (in_order waiting)))
-      (all_taken P n (filter p (in_order waiting)) (all-filter P p (in_order waiting) (all_in_order P waiting all_asked)))
+      let those = waiting_of some in
+      all_map (λ s. list_any (λ r. is_sign s r.0) (requests arrivals judged) ≡ true) sign_of (take n (filter p (in_order those)))
+      (all_taken P n (filter p (in_order those)) (all-filter P p (in_order those) (all_in_order P those
+      (all_chosen candidate_of (λ c. not (is_judged judged c)) some P arrivals all_asked))))
 
 -- the uploads that wait have several signs
 waiting_differ : (t : Tables) (judged : List Judgement) → AreUploads t judged → IsAscending Differ (waiting (arrivals_in t) judged)
@@ -154,20 +222,23 @@ waiting_differ t judged are =
     (subst (IsAscending (λ (r q : Request). r.0 ≢ q.0)) rows.waiting
     (ascending-map (λ r q. r.0 ≢ q.0) (request (rows_of t.wants)) (filter is_waiting t.uploads) (ascending-filter (λ x y. sign_in x.1 ≢ sign_in y.1) is_waiting t.uploads rows.apart)))
 
--- The uploads after the steps of a change whose judged uploads are the first of those that are due.
-pub judged_steps : (suites : List Suite) (t : Tables) (judged : List Judgement) (book : Book) (steps : List Step) → AreNumbered t → AreUploads t judged
-    → book.arrivals ≡ arrivals_in t → book.judged ≡ judged
+-- The uploads after the steps of a change whose judged uploads are the first of those that are due among some of the arrivals.
+pub judged_steps : (suites : List Suite) (t : Tables) (judged : List Judgement) (some : Arrival → Bool) (book : Book) (steps : List Step) → AreNumbered t → AreUploads t judged
+    → book.arrivals ≡ filter some (arrivals_in t) → book.judged ≡ judged
     → map sign_on (judgements steps) ≡ map sign_of (take (length (judgements steps)) (due book))
     → AreUploads (with_steps suites (length judged) steps t) (judged ++ judgements steps)
 unfolding due unjudged
-judged_steps suites t judged book steps numbered are arrivals_are judged_are first =
+judged_steps suites t judged some book steps numbered are arrivals_are judged_are first =
     let n = length (judgements steps) in
     let A = arrivals_in t in
-    let first_due : map sign_on (judgements steps) ≡ map sign_of (take n (filter (is_complete A) (in_order (waiting A judged)))) =
+    let C = filter some A in
+    let those = waiting C judged in
+    let first_due : map sign_on (judgements steps) ≡ map sign_of (take n (filter (is_complete C) (in_order those))) =
     first ∙ ap₂ (λ l j. map sign_of (take n (filter (is_complete l) (in_order (waiting l j))))) arrivals_are judged_are in
     uploads_after_steps suites steps (length judged) t judged refl numbered.uploads are
-    (subst (AreAsked (requests A judged)) (sym first_due) (due_asked A judged n (is_complete A)))
+    (subst (AreAsked (requests A judged)) (sym first_due) (due_asked A judged some n (is_complete C)))
     (subst (IsAscending (λ s u. s ≢ u)) (sym first_due)
-    (ascending-map (λ s u. s ≢ u) sign_of (take n (filter (is_complete A) (in_order (waiting A judged))))
-    (ascending_taken Differ n (filter (is_complete A) (in_order (waiting A judged)))
-    (ascending-filter Differ (is_complete A) (in_order (waiting A judged)) (differ_in_order (waiting A judged) (waiting_differ t judged are))))))
+    (ascending-map (λ s u. s ≢ u) sign_of (take n (filter (is_complete C) (in_order those)))
+    (ascending_taken Differ n (filter (is_complete C) (in_order those))
+    (ascending-filter Differ (is_complete C) (in_order those)
+    (differ_in_order those (ascending_chosen candidate_of (λ c. not (is_judged judged c)) some Differ A (waiting_differ t judged are)))))))

@@ -15,6 +15,8 @@ pub mod LikeLemmas
 pub mod StepLemmas
 pub mod TextLemmas
 pub mod DateLemmas
+pub mod SweptLemmas
+pub mod RemainingFiles
 pub mod AmendedLemmas
 pub mod Searches
 pub mod WantLemmas
@@ -45,6 +47,7 @@ pub mod WaitingLemmas
 pub mod DueLemmas
 pub mod FinishedLemmas
 pub mod PassingLemmas
+pub mod SweptFinished
 pub mod ComingLemmas
 pub mod SamePieces
 pub mod EndedLemmas

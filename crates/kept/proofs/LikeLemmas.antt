@@ -3,7 +3,7 @@ use Rattle.std.proofs.Common.{◌≡◌, List, sym, subst}
 use Rattle.rules.specs.declared.suite.Suite.{Suite}
 use Rattle.suites.specs.Shelves.{ShelvesValue}
 use Rattle.tables.specs.Rows.{Tables}
-use Rattle.kept.specs.Kept.{AreBodies, AreFiles, AreItems, bytes_of, has_body}
+use Rattle.kept.specs.Kept.{AreFiles, AreItems, AreStored, bytes_of, has_body}
 
 module _ (old new : Tables) (suites : List Suite) (shown : ShelvesValue) where
   pub items_like : new.items ≡ old.items → new.refs ≡ old.refs → AreItems old suites shown → AreItems new suites shown
@@ -19,9 +19,9 @@ module _ (old new : Tables) (suites : List Suite) (shown : ShelvesValue) where
       let k : AreFiles (record old { bodies = new.bodies; files = new.files }) shown = subst (λ t. AreFiles t shown) (sym e) h in
       record { are = k.are; bodies = k.bodies; apart = k.apart }
 
-pub bodies_like : (old new : Tables) → new.pieces ≡ old.pieces → new.arrivals ≡ old.arrivals → new.bodies ≡ old.bodies → AreBodies old → AreBodies new
+pub stored_like : (old new : Tables) → new.pieces ≡ old.pieces → new.bodies ≡ old.bodies → AreStored old → AreStored new
 unfolding bytes_of has_body
-bodies_like old new pieces arrivals bodies h =
-    let e : record old { bodies = new.bodies; pieces = new.pieces; arrivals = new.arrivals } ≡ old = λ i. record old { bodies = bodies i; pieces = pieces i; arrivals = arrivals i } in
-    let k : AreBodies (record old { bodies = new.bodies; pieces = new.pieces; arrivals = new.arrivals }) = subst AreBodies (sym e) h in
-    record { whole = k.whole; pieces = k.pieces; apart = k.apart; used = k.used; owned = k.owned }
+stored_like old new pieces bodies h =
+    let e : record old { bodies = new.bodies; pieces = new.pieces } ≡ old = λ i. record old { bodies = bodies i; pieces = pieces i } in
+    let k : AreStored (record old { bodies = new.bodies; pieces = new.pieces }) = subst AreStored (sym e) h in
+    record { whole = k.whole; pieces = k.pieces; apart = k.apart; owned = k.owned }

@@ -1,4 +1,4 @@
--- A change writes no body and no piece, and looks for bodies by their prints alone: it goes past a body that is not whole.
+-- What a change writes is no body and no piece, and it looks for bodies by their prints alone: it goes past a body that is not whole.
 use Rattle.std.proofs.Common.{◌≡◌, ℕ, ◌+◌, Bool, true, false, if◌then◌else◌, List, [], ◌∷◌, find, fold, Option, Some, None, refl, sym, ap, ◌∙◌}
 use Rattle.std.specs.List.{enumerate_from, list_any}
 use Rattle.std.specs.Option.{option_map_or}
@@ -33,7 +33,7 @@ use Rattle.tables.specs.declared.rows.Ref.{Ref}
 use Rattle.tables.specs.declared.rows.Upload.{Upload}
 use Rattle.kept.specs.Finished.{finished, is_of_unfinished, is_unfinished}
 use Rattle.kept.specs.Kept.{is_on, item_row, refs_for}
-use Rattle.kept.specs.Making.{judged_by, with_change, with_judged, with_new_dates, with_new_texts, with_plan, with_pooled, with_refs, with_shown, with_step, with_steps, without_shown}
+use Rattle.kept.specs.Making.{judged_by, with_judged, with_new_dates, with_new_texts, with_plan, with_pooled, with_refs, with_shown, with_step, with_steps, with_written, without_shown}
 use Rattle.kept.proofs.FinishedLemmas.{body_finished}
 
 -- the rows with these bodies and pieces for theirs
@@ -138,9 +138,9 @@ passes_dates suites moment steps =
     passes_fold (λ now (s : ℕ × Suite). if some_touches s.0 steps then with_new_date s.1.codename moment now else now)
     (λ s. passes_if (with_new_date s.1.codename moment) (λ t bodies pieces same. refl) (some_touches s.0 steps)) (enumerate_from 0 suites)
 
-pub passes_change : (config : ConfigValue) (judged : ℕ) (change : Change) → Passes (with_change config judged change)
-unfolding with_change
-passes_change config judged change =
+pub passes_written : (config : ConfigValue) (judged : ℕ) (change : Change) → Passes (with_written config judged change)
+unfolding with_written
+passes_written config judged change =
     passes_then (λ t. with_new_texts change.texts (with_steps config.suites judged change.steps t)) (with_new_dates config.suites change.moment change.steps)
     (passes_then (with_steps config.suites judged change.steps) (with_new_texts change.texts) (passes_steps config.suites judged change.steps) (passes_texts change.texts))
     (passes_dates config.suites change.moment change.steps)

@@ -28,7 +28,7 @@ use Rattle.tables.specs.declared.rows.Body.{Body}
 use Rattle.tables.specs.declared.rows.File.{File}
 use Rattle.tables.specs.declared.rows.Item.{Item}
 use Rattle.tables.specs.declared.rows.Ref.{Ref}
-use Rattle.kept.specs.Kept.{AreBodies, AreFiles, AreItems, AreNumbered, has_body, is_on, item_row, refs_for, shown_row}
+use Rattle.kept.specs.Kept.{AreFiles, AreItems, AreNumbered, AreStored, has_body, is_on, item_row, refs_for, shown_row}
 use Rattle.kept.specs.Making.{with_plan, with_pooled, with_refs, with_shown, without_shown}
 use Rattle.kept.specs.Planned.{IsPlanned, KeepsOthers, MayPlan}
 use Rattle.kept.proofs.RowLists.{some_is_one, ascending_from_pairs, pairs_from_ascending, along_drops, along_puts}
@@ -257,7 +257,7 @@ files_are t shown h = record {
 }
 
 -- each body has a print
-pub all_printed : (t : Tables) → AreBodies t → AllByRecursion (λ x. x.1.print ≢ None) t.bodies
+pub all_printed : (t : Tables) → AreStored t → AllByRecursion (λ x. x.1.print ≢ None) t.bodies
 all_printed t h = recursion_from_All (λ (x : ℕ × Body). x.1.print ≢ None) t.bodies (λ k d lt none. let some = h.whole k d lt in cc)
 
 -- ---- the whole plan

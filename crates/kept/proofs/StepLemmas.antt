@@ -17,10 +17,10 @@ use Rattle.keep.specs.Book.{shown_past}
 use Rattle.keep.specs.Keeping.{AreSteps}
 use Rattle.keep.specs.declared.change.Judgement.{Judgement}
 use Rattle.keep.specs.declared.change.Step.{Step}
-use Rattle.kept.specs.Kept.{AreBodies, AreFiles, AreItems, AreNumbered}
+use Rattle.kept.specs.Kept.{AreFiles, AreItems, AreNumbered, AreStored}
 use Rattle.kept.specs.Making.{judged_by, with_judged, with_plan, with_step, with_steps}
 use Rattle.kept.specs.Planned.{IsStepped, IsPlanned, MayStep, MayPlan}
-use Rattle.kept.proofs.LikeLemmas.{bodies_like, files_like, items_like}
+use Rattle.kept.proofs.LikeLemmas.{files_like, items_like, stored_like}
 use Rattle.kept.proofs.PlanLemmas.{planned_rows}
 
 -- ---- a judgement
@@ -115,7 +115,7 @@ one_step suites judged step t shown after h = subst (λ u. IsStepped t u suites 
         uploads = left.rise h.numbered.uploads;
         items = subst Rises (sym (ap (λ (v : Tables). v.items) left.is)) h.numbered.items;
       };
-      bodies = bodies_like t u (ap (λ (v : Tables). v.pieces) left.is) (ap (λ (v : Tables). v.arrivals) left.is) (ap (λ (v : Tables). v.bodies) left.is) h.bodies;
+      bodies = stored_like t u (ap (λ (v : Tables). v.pieces) left.is) (ap (λ (v : Tables). v.bodies) left.is) h.bodies;
       items = items_like t u suites shown (ap (λ (v : Tables). v.items) left.is) (ap (λ (v : Tables). v.refs) left.is) h.items;
       files = files_like t u suites shown (ap (λ (v : Tables). v.bodies) left.is) (ap (λ (v : Tables). v.files) left.is) h.files;
       step = h.step;
@@ -130,7 +130,7 @@ one_step suites judged step t shown after h = subst (λ u. IsStepped t u suites 
 -- the facts of `MayStep`, step by step
 record May (t : Tables) (suites : List Suite) (shown : ShelvesValue) (steps : List Step) : Type 0 where
   numbered : AreNumbered t
-  bodies : AreBodies t
+  bodies : AreStored t
   items : AreItems t suites shown
   files : AreFiles t shown
   plans : AreSteps shown steps
@@ -154,7 +154,7 @@ module _ (suites : List Suite) (codenames : AllPairs (λ s r. s.codename ≢ r.c
       let rest : IsStepped (with_step suites judged step t) (with_steps suites (judged_by judged step) steps (with_step suites judged step t)) suites (shown_past (applied shown step.plan) steps) =
       steps_made steps (judged_by judged step) (with_step suites judged step t) (applied shown step.plan) (record {
         numbered = one.numbered;
-        bodies = bodies_like t (with_step suites judged step t) one.pieces one.arrivals one.bodies h.bodies;
+        bodies = stored_like t (with_step suites judged step t) one.pieces one.bodies h.bodies;
         items = one.items;
         files = one.files;
         plans = h.plans.1;

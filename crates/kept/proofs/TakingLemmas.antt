@@ -1,5 +1,6 @@
 -- From a transaction that takes a delivery to what a database keeps.
-use Rattle.std.proofs.Common.{◌≡◌, ℕ, ◌+◌, ◌%◌, ◌<◌, ◌≤◌, Bool, List, [], ◌∷◌, ◌++◌, length, Option, Some, None, unwrap_or, find, is_some, not, true, IsTrue, Result, Ok, Err, IfOk, OnOk, refl, sym, ap, subst, ◌∙◌, arith}
+use Rattle.std.proofs.Common.{◌≡◌, ℕ, ◌+◌, ◌%◌, ◌<◌, ◌≤◌, Bool, List, [], ◌∷◌, ◌++◌, length, Option, Some, None, unwrap_or, not, ◌&&◌, true, IsTrue, Result, Ok, Err, IfOk, OnOk, refl, sym, ap, subst, ◌∙◌, arith}
+use Rattle.std.specs.List.{list_any}
 use Rattle.sqlite.specs.Effect.{Database}
 use Rattle.sqlite.specs.State.{State, HasCleanDisk, Survives}
 use Rattle.sqlite.specs.Store.{Ghosts}
@@ -8,7 +9,7 @@ use Rattle.sqlite.proofs.StateLemmas.{survives_weaker}
 use Rattle.rules.specs.Values.{ConfigValue}
 use Rattle.sums.specs.Prints.{print as print_of}
 use Rattle.suites.specs.Shelves.{ShelvesValue}
-use Rattle.keep.specs.Book.{has_arrival, latest, with_delivery}
+use Rattle.keep.specs.Book.{at_moment, has_arrival, latest, span, with_delivery}
 use Rattle.keep.specs.Keeping.{IsDeliverable}
 use Rattle.keep.specs.declared.change.Judgement.{Judgement}
 use Rattle.std.proofs.lemmas.List.Elements.{All-contains}
@@ -16,9 +17,11 @@ use Rattle.sums.specs.declared.print.Print.{Print}
 use Rattle.tables.specs.Arrivals.{is_arrival}
 use Rattle.tables.specs.Bodies.{body_with}
 use Rattle.tables.specs.Rows.{Tables, Changes, Holds, next_in, tables_in}
+use Rattle.tables.specs.declared.rows.Arrival as rows_arrival
 use Rattle.tables.specs.declared.rows.Body.{Body}
 use Rattle.tables.proofs.BookLemmas.{held_tables, is_archive}
 use Rattle.kept.specs.Archives.{KeepsArchive, Turns, book_of}
+use Rattle.kept.specs.Cleaning.{counts_row}
 use Rattle.kept.specs.Coming.{Comes, HasComing, HasSamePieces, IsNoOther, IsSameAs, coming_number, ended_number, with_coming, with_ended, with_finished, with_next_piece}
 use Rattle.kept.specs.Finished.{finished, without_all, without_whole}
 use Rattle.kept.specs.Kept.{IsKept, book_in, bytes_of, has_body, pieces_for, pieces_of}
@@ -214,13 +217,17 @@ module _ (old : State) (settled : IsTrue old.is_open → old.now ≡ old.committ
       pub delivery_ends : HasComing (tables_in db) []
       delivery_ends = none_coming (tables_in db) (all_finished ∙ sym rows_are)
 
-    -- whether the arrival is new
+    -- whether the arrival is new at the moment
     pub delivery_new : (new : Bool)
-        → ((t : Tables) → Holds old.now t → new ≡ not (is_some (find (λ x. is_arrival name (ended_number body print t) x.1) (with_ended body print t).arrivals)))
-        → new ≡ not (has_arrival (book_of old.committed config judged shown dates).arrivals (record { name = name; body = bytes; moment = moment }))
+        → ((t : Tables) → Holds old.now t
+        → new ≡ not (list_any (λ x. is_arrival name (ended_number body print t) x.1 && counts_row (span config) moment x.1) (with_ended body print t).arrivals))
+        → new ≡ not (has_arrival (at_moment moment (book_of old.committed config judged shown dates)).arrivals (record { name = name; body = bytes; moment = moment }))
+    unfolding at_moment book_in
     delivery_new new answer =
         let number : ended_number body print was ≡ number_with (print_of bytes) (with_bytes (print_of bytes) bytes left) =
         (λ i. ended_number (comes.number i) (printed i) (comes.coming.rows i)) ∙ ended_numbered bytes left (print_of bytes) whole twice in
         let rows : with_ended body print was ≡ with_bytes (print_of bytes) bytes left =
         (λ i. with_ended (comes.number i) (printed i) (comes.coming.rows i)) ∙ ended_stored bytes left (print_of bytes) whole twice in
-        answer was held_now ∙ (λ i. not (is_some (find (λ x. is_arrival name (number i) x.1) (rows i).arrivals))) ∙ ap not keeps_delivery.known
+        answer was held_now
+        ∙ (λ i. not (list_any (λ (x : ℕ × rows_arrival.Arrival). is_arrival name (number i) x.1 && counts_row (span config) moment x.1) (rows i).arrivals))
+        ∙ ap not (keeps_delivery.known (span config) moment)

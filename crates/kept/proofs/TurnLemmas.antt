@@ -1,7 +1,7 @@
 -- What an archive turns into by a change.
-use Rattle.std.proofs.Common.{◌≡◌, ◌<◌, ◌≤◌, ℕ, ◌++◌, List, Option, is_some, length, All, sym, subst, ◌∙◌, Result, Ok, Err, OnOk, IsTrue, Bool, true, ap, arith}
+use Rattle.std.proofs.Common.{◌≡◌, ◌<◌, ◌≤◌, ℕ, List, [], Option, is_some, length, All, sym, subst, ◌∙◌, Result, Ok, Err, OnOk, IsTrue, Bool, true, false, if◌then◌else◌, ap, arith}
 use Rattle.std.specs.Prelude.{nat_lt}
-use Rattle.std.specs.List.{list_all}
+use Rattle.std.specs.List.{list_all, list_any}
 use Rattle.std.proofs.lemmas.Bool.Decides.{nat_tests}
 use Rattle.std.proofs.lemmas.List.Elements.{All-weaker}
 use Rattle.std.proofs.lemmas.List.Sums.{AllPass-from_list_all}
@@ -12,25 +12,31 @@ use Rattle.sqlite.proofs.StateLemmas.{survives_weaker}
 use Rattle.rules.specs.Values.{ConfigValue}
 use Rattle.rules.specs.declared.suite.Suite.{Suite}
 use Rattle.suites.specs.Shelves.{ShelvesValue}
-use Rattle.tables.specs.Rows.{Tables, Holds, tables_in}
+use Rattle.tables.specs.Rows.{Tables, Holds, Rises, rows_of, tables_in}
 use Rattle.tables.proofs.BookLemmas.{held_tables}
-use Rattle.keep.specs.Book.{amended, dates_past, judgements, latest, shown_past}
+use Rattle.keep.specs.Book.{latest}
 use Rattle.keep.specs.Keeping.{IsSound}
 use Rattle.keep.specs.declared.change.Change.{Change}
 use Rattle.keep.specs.declared.change.Judgement.{Judgement}
 use Rattle.keep.specs.declared.change.Step.{Step}
 use Rattle.kept.specs.Amending.{HasAllBodies}
-use Rattle.kept.specs.Archives.{KeepsArchive, Turns, book_of}
+use Rattle.kept.specs.Archives.{Amends, KeepsArchive, book_of}
 use Rattle.kept.specs.Changing.{is_within, puts_within}
 use Rattle.kept.specs.Coming.{Comes, HasComing}
 use Rattle.kept.specs.Finished.{finished}
-use Rattle.kept.specs.Making.{with_change}
+use Rattle.kept.specs.Kept.{AreArrivals, has_body}
+use Rattle.kept.specs.Making.{takes_file, with_change, with_written}
 use Rattle.kept.specs.Planned.{KeepsChange}
+use Rattle.kept.specs.Sweeping.{swept}
 use Rattle.kept.specs.Transactions.{IsDone, MayCommit}
-use Rattle.kept.proofs.ChangeLemmas.{kept_after}
-use Rattle.kept.proofs.ComingLemmas.{change_beside, number_by_bodies, whole_rows}
-use Rattle.kept.proofs.FinishedLemmas.{body_finished, finished_numbered, finished_rises, finished_twice}
-use Rattle.kept.proofs.PassingLemmas.{bodies_left, finished_passes, passes_change}
+use Rattle.kept.proofs.AmendLemmas.{swept_as, unswept_as}
+use Rattle.kept.proofs.AmendedLemmas.{IsWritten}
+use Rattle.kept.proofs.ChangeLemmas.{kept_after, written_after}
+use Rattle.kept.proofs.ComingLemmas.{change_beside, none_coming, number_by_bodies, whole_rows}
+use Rattle.kept.proofs.FinishedLemmas.{body_finished, finished_numbered, finished_rises, finished_twice, kept_finished}
+use Rattle.kept.proofs.PassingLemmas.{bodies_left, finished_passes, passes_written}
+use Rattle.kept.proofs.SweptFinished.{UseWhole, swept_finished, use_whole}
+use Rattle.kept.proofs.SweptLemmas.{bodies_swept}
 use Rattle.kept.proofs.DeliveredLemmas.{numbered}
 
 -- ---- what a change puts stands in the suites
@@ -54,10 +60,10 @@ all_within suites now steps made test tests same are passed =
 -- ---- the archive after a change
 
 -- what a change makes of a database, whatever archive of this configuration it was, with so many judgements
-abbrev pub TurnsBy : Database → Database → ConfigValue → ℕ → Change → Type 0
-TurnsBy before after config judged change = (prior : List Judgement) (shown : ShelvesValue) (dates : List ℕ)
+abbrev pub AmendsBy : Database → Database → ConfigValue → ℕ → Change → Type 0
+AmendsBy before after config judged change = (prior : List Judgement) (shown : ShelvesValue) (dates : List ℕ)
     → KeepsArchive before config prior shown dates → length prior ≡ judged → IsSound (book_of before config prior shown dates) change
-    → Turns before after config prior shown dates (prior ++ judgements change.steps) (shown_past shown change.steps) (dates_past change.moment dates change.steps) (λ b. amended b change)
+    → Amends before after config prior shown dates change
 
 -- what has come stays so beside a change
 abbrev pub KeepsComing : Database → Database → Type 0
@@ -67,14 +73,15 @@ bodies_arrived : (t : Tables) (steps : List Step) → HasAllBodies t steps → H
 bodies_arrived t steps h =
     subst (λ (look : Print → Option ℕ). All (λ (s : Step). All (λ f. IsTrue (is_some (look f.print))) s.plan.files_added) steps) (λ i p. sym (body_finished p t) i) h
 
-module _ (config : ConfigValue) (judged : ℕ) (change : Change) where
+-- where a change takes no file away, what comes stays so beside it
+module _ (config : ConfigValue) (judged : ℕ) (change : Change) (none : list_any takes_file change.steps ≡ false) where
   comes_beside : (before after : Database) → ((t : Tables) → Holds before t → Holds after (with_change config judged change t)) → {prior : List Judgement} {shown : ShelvesValue} {dates : List ℕ}
       → KeepsArchive before config prior shown dates → KeepsComing before after
   comes_beside before after held archive body count bytes comes =
-      let f = with_change config judged change in
-      let passes = passes_change config judged change in
+      let f = with_written config judged change in
+      let passes = passes_written config judged change in
       let t = tables_in before in
-      let rows : tables_in after ≡ f t = held_tables after (f t) (held t archive.held) in
+      let rows : tables_in after ≡ f t = held_tables after (with_change config judged change t) (held t archive.held) ∙ sym (unswept_as config judged change t none) in
       let whole = whole_rows (finished t) (finished_rises t archive.held.rows.bodies.rise) archive.kept.bodies in
       let same : finished (tables_in after) ≡ f (finished t) = ap finished rows ∙ finished_passes f passes t in
       record {
@@ -88,36 +95,101 @@ module _ (config : ConfigValue) (judged : ℕ) (change : Change) where
   done_keeps (Ok x) old new same done = λ prior shown dates archive. comes_beside old.committed new.committed (λ t was. done.held t (subst (λ db. Holds db t) (sym (same done.was_open)) was)) archive
   done_keeps (Err e) old new same done = tt
 
+-- ---- the rows that a change leaves
+
+module _ (config : ConfigValue) (judged : ℕ) (change : Change) (t : Tables) (up : Rises t.bodies) {prior : List Judgement} {shown : ShelvesValue} {dates : List ℕ}
+    (written : IsWritten (finished t) (with_written config judged change (finished t)) config prior shown dates change) where
+  abbrev made : Tables
+  made = with_written config judged change t
+
+  abbrev made_whole : Tables
+  made_whole = with_written config judged change (finished t)
+
+  whole_is : finished made ≡ made_whole
+  whole_is = finished_passes (with_written config judged change) (passes_written config judged change) t
+
+  uses : UseWhole made
+  uses =
+      use_whole made (subst AreArrivals (sym whole_is) written.unswept.arrivals)
+      (subst (λ (u : Tables). All (λ f. IsTrue (has_body u f.body)) (rows_of u.files)) (sym whole_is) written.unswept.files.bodies)
+
+  swept_is : swept made ≡ swept made_whole
+  swept_is = swept_finished made (subst Rises (sym (bodies_left (with_written config judged change) (passes_written config judged change) t)) up) uses ∙ ap swept whole_is
+
+  swept_whole : finished (swept made_whole) ≡ swept made_whole
+  swept_whole = kept_finished (swept made_whole) (bodies_swept made_whole written.unswept.stored)
+
+  -- the finished rows become the finished ones
+  change_finished : finished (with_change config judged change t) ≡ with_change config judged change (finished t)
+  unfolding with_change
+  change_finished = by (list_any takes_file change.steps)
+    where
+      by : (b : Bool) → finished (if b then swept made else made) ≡ (if b then swept made_whole else made_whole)
+      by true = ap finished swept_is ∙ swept_whole
+      by false = whole_is
+
+  -- where a file goes all rows are finished
+  change_ends : list_any takes_file change.steps ≡ true → with_change config judged change t ≡ with_change config judged change (finished t)
+  change_ends takes = sym (swept_as config judged change t takes) ∙ swept_is ∙ swept_as config judged change (finished t) takes
+
 module _ (config : ConfigValue) (judged : ℕ) (change : Change) (small : change.moment ≤ latest)
     (inside : All (λ s. All (λ e. e.0.suite < length config.suites) s.plan.put) change.steps) where
-  turns : (before after : Database) → ((t : Tables) → Holds before t → HasAllBodies t change.steps) → ((t : Tables) → Holds before t → Holds after (with_change config judged change t))
-      → TurnsBy before after config judged change
-  turns before after arrived held prior shown dates archive count sound =
-      let t = tables_in before in
-      let left = finished t in
-      let new : Tables = with_change config judged change t in
-      let holds : Holds after new = held t archive.held in
-      let rows : tables_in after ≡ new = held_tables after new holds in
-      let same : finished (tables_in after) ≡ with_change config judged change left = ap finished rows ∙ finished_passes (with_change config judged change) (passes_change config judged change) t in
-      let whole : KeepsChange left (with_change config judged change left) config prior shown dates change = subst (λ n. KeepsChange left (with_change config n change left) config prior shown dates change) count
-      (kept_after left config prior shown dates change archive.kept (finished_numbered t (numbered before t archive.held)) archive.kept.read sound small inside (bodies_arrived t change.steps (arrived t archive.held))) in
-      let there : KeepsChange left (finished (tables_in after)) config prior shown dates change = subst (λ s. KeepsChange left s config prior shown dates change) (sym same) whole in
-      record {
-        kept = record { held = subst (Holds after) (sym rows) holds; kept = there.kept };
-        book = there.book;
-      }
+  module _ (before after : Database) (arrived : (t : Tables) → Holds before t → HasAllBodies t change.steps) (held : (t : Tables) → Holds before t → Holds after (with_change config judged change t))
+      (prior : List Judgement) (shown : ShelvesValue) (dates : List ℕ) (archive : KeepsArchive before config prior shown dates) (count : length prior ≡ judged)
+      (sound : IsSound (book_of before config prior shown dates) change) where
+    abbrev rows_before : Tables
+    rows_before = tables_in before
+
+    abbrev whole_before : Tables
+    whole_before = finished rows_before
+
+    written : IsWritten whole_before (with_written config judged change whole_before) config prior shown dates change
+    written =
+        subst (λ n. IsWritten whole_before (with_written config n change whole_before) config prior shown dates change) count
+        (written_after whole_before config prior shown dates change archive.kept (finished_numbered rows_before (numbered before rows_before archive.held)) archive.kept.read sound small inside (bodies_arrived rows_before change.steps (arrived rows_before archive.held)))
+
+    whole : KeepsChange whole_before (with_change config judged change whole_before) config prior shown dates change
+    whole =
+        subst (λ n. IsWritten whole_before (with_written config n change whole_before) config prior shown dates change → KeepsChange whole_before (with_change config n change whole_before) config prior shown dates change) count
+        (kept_after whole_before config prior shown dates change archive.kept) written
+
+    rows : tables_in after ≡ with_change config judged change rows_before
+    rows = held_tables after (with_change config judged change rows_before) (held rows_before archive.held)
+
+    same : finished (tables_in after) ≡ with_change config judged change whole_before
+    same = ap finished rows ∙ change_finished config judged change rows_before archive.held.rows.bodies.rise written
+
+    amends : Amends before after config prior shown dates change
+    amends =
+        let there : KeepsChange whole_before (finished (tables_in after)) config prior shown dates change = subst (λ s. KeepsChange whole_before s config prior shown dates change) (sym same) whole in
+        record {
+          kept = record { held = subst (Holds after) (sym rows) (held rows_before archive.held); kept = there.kept };
+          book = there.book;
+        }
+
+    ends : list_any takes_file change.steps ≡ true → HasComing (tables_in after) []
+    ends takes = none_coming (tables_in after) (same ∙ sym (rows ∙ change_ends config judged change rows_before archive.held.rows.bodies.rise written takes))
 
   -- where the connection has no transaction, what it shows is what is committed
-  module _ (old new : State) (same : IsTrue old.is_open → old.now ≡ old.committed) where
+  module _ (old new : State) (settled : IsTrue old.is_open → old.now ≡ old.committed) where
     now_held : IsTrue old.is_open → (t : Tables) → Holds old.committed t → Holds old.now t
-    now_held up t was = subst (λ db. Holds db t) (sym (same up)) was
+    now_held up t was = subst (λ db. Holds db t) (sym (settled up)) was
 
-    pub done_turns : {X E : Type 0} (r : Result X E) → OnOk r (IsDone old new (with_change config judged change)) → OnOk r ((t : Tables) → Holds old.now t → HasAllBodies t change.steps)
-        → OnOk r (TurnsBy old.committed new.committed config judged change)
-    done_turns (Ok x) done arrived = turns old.committed new.committed (λ t was. arrived t (now_held done.was_open t was)) (λ t was. done.held t (now_held done.was_open t was))
-    done_turns (Err e) done arrived = tt
+    pub done_amends : {X E : Type 0} (r : Result X E) → OnOk r (IsDone old new (with_change config judged change)) → OnOk r ((t : Tables) → Holds old.now t → HasAllBodies t change.steps)
+        → OnOk r (AmendsBy old.committed new.committed config judged change)
+    done_amends (Ok x) done arrived = amends old.committed new.committed (λ t was. arrived t (now_held done.was_open t was)) (λ t was. done.held t (now_held done.was_open t was))
+    done_amends (Err e) done arrived = tt
 
-    pub crash_turns : Survives old new (λ trees. MayCommit old (with_change config judged change) trees × ((t : Tables) → Holds old.now t → HasAllBodies t change.steps))
-        → Survives old new (λ trees. (db : Database) × (trees ≡ db.trees) × IsTrue old.is_open × TurnsBy old.committed db config judged change)
-    crash_turns h = survives_weaker old new _ _ (λ clean trees may.
-        (may.0.0, may.0.1, may.0.2, turns old.committed may.0.0 (λ t was. may.1 t (now_held may.0.2 t was)) (λ t was. may.0.3 t (now_held may.0.2 t was)))) h
+    -- where a file goes nothing is coming any more
+    pub done_ends : list_any takes_file change.steps ≡ true → {X E : Type 0} (r : Result X E) → OnOk r (IsDone old new (with_change config judged change))
+        → OnOk r ((t : Tables) → Holds old.now t → HasAllBodies t change.steps)
+        → OnOk r ((prior : List Judgement) (shown : ShelvesValue) (dates : List ℕ) → KeepsArchive old.committed config prior shown dates → length prior ≡ judged
+        → IsSound (book_of old.committed config prior shown dates) change → HasComing (tables_in new.committed) [])
+    done_ends takes (Ok x) done arrived = λ prior shown dates archive count sound.
+        ends old.committed new.committed (λ t was. arrived t (now_held done.was_open t was)) (λ t was. done.held t (now_held done.was_open t was)) prior shown dates archive count sound takes
+    done_ends takes (Err e) done arrived = tt
+
+    pub crash_amends : Survives old new (λ trees. MayCommit old (with_change config judged change) trees × ((t : Tables) → Holds old.now t → HasAllBodies t change.steps))
+        → Survives old new (λ trees. (db : Database) × (trees ≡ db.trees) × IsTrue old.is_open × AmendsBy old.committed db config judged change)
+    crash_amends h = survives_weaker old new _ _ (λ clean trees may.
+        (may.0.0, may.0.1, may.0.2, amends old.committed may.0.0 (λ t was. may.1 t (now_held may.0.2 t was)) (λ t was. may.0.3 t (now_held may.0.2 t was)))) h

@@ -215,7 +215,7 @@ none_below q k [] all = refl
 none_below q k (x ∷ xs) all = let no : nat_eq x.0 k ≡ false = grind (arith, nat_tests, all.0) in rw (no, none_below q k xs all.1)
 
 -- a row is the only one of its number
-only_one : {X : Type 0} (q : ℕ × X → Bool) (xs : Numbered X) → Rises xs → AllByRecursion (λ x. list_any (λ z. nat_eq z.0 x.0 && q z) xs ≡ q x) xs
+pub only_one : {X : Type 0} (q : ℕ × X → Bool) (xs : Numbered X) → Rises xs → AllByRecursion (λ x. list_any (λ z. nat_eq z.0 x.0 && q z) xs ≡ q x) xs
 only_one q [] up = tt
 only_one q (x ∷ xs) up =
     let other : (y : ℕ) → x.0 < y → nat_eq x.0 y ≡ false = λ y low. grind (arith, nat_tests, low) in

@@ -1,12 +1,14 @@
 -- The archive that a database keeps, as a keeper sees it: that of its rows without a body that is not whole.
-use Rattle.std.specs.Prelude.{◌≡◌, ◌≤◌, ◌⊎◌, ℕ, List, Option, Some, None, IsTrue}
+use Rattle.std.specs.Prelude.{◌≡◌, ◌≤◌, ◌⊎◌, ℕ, List, ◌++◌, Option, Some, None, IsTrue}
 use Rattle.sqlite_disk.specs.Disk.{MoreFaults}
 use Rattle.sqlite.specs.Effect.{Database}
 use Rattle.sqlite.specs.State.{State, HasCleanDisk}
 use Rattle.sqlite.specs.Tree.{Trees}
 use Rattle.rules.specs.Values.{ConfigValue}
 use Rattle.suites.specs.Shelves.{ShelvesValue}
-use Rattle.keep.specs.Book.{Book}
+use Rattle.keep.specs.Book.{Book, amended, dates_past, judgements, shown_past}
+use Rattle.keep.specs.Keeping.{HasEachBody}
+use Rattle.keep.specs.declared.change.Change.{Change}
 use Rattle.keep.specs.declared.change.Judgement.{Judgement}
 use Rattle.tables.specs.Rows.{Holds, IsArchive, tables_in}
 use Rattle.kept.specs.Finished.{finished}
@@ -42,6 +44,14 @@ pub record Turns (before after : Database) (config : ConfigValue) (judged : List
     (judged_after : List Judgement) (shown_after : ShelvesValue) (dates_after : List ℕ) (step : Book → Book) : Type 0 where
   pub kept : KeepsArchive after config judged_after shown_after dates_after
   pub book : book_of after config judged_after shown_after dates_after ≡ step (book_of before config judged shown dates)
+
+-- What a change makes of what one database keeps: another keeps the changed archive, and its book is the amended one where the
+-- book had each body.
+pub record Amends (before after : Database) (config : ConfigValue) (judged : List Judgement) (shown : ShelvesValue) (dates : List ℕ) (change : Change) : Type 0 where
+  pub kept : KeepsArchive after config (judged ++ judgements change.steps) (shown_past shown change.steps) (dates_past change.moment dates change.steps)
+  pub book : HasEachBody (book_of before config judged shown dates) change
+      → book_of after config (judged ++ judgements change.steps) (shown_past shown change.steps) (dates_past change.moment dates change.steps)
+      ≡ amended (book_of before config judged shown dates) change
 
 -- What a read of a keeper leaves of its connection, where its database is that of an archive.
 pub record IsRead (old new : State) : Type 0 where

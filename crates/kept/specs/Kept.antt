@@ -1,5 +1,5 @@
 -- How the tables of an archive keep it: what their rows are, told from what is kept.
-use Rattle.std.specs.Prelude.{◌≡◌, ◌≢◌, ◌≤◌, ◌<◌, ℕ, ◌+◌, ◌*◌, ◌/◌, Bool, true, false, not, ◌&&◌, nat_eq, List, [], ◌∷◌, map, filter, find, take, drop, length, All, Option, Some, None, option_map, slice_get, IsTrue, Ok}
+use Rattle.std.specs.Prelude.{◌≡◌, ◌≢◌, ◌≤◌, ◌<◌, ℕ, ◌+◌, ◌*◌, ◌/◌, Bool, true, false, not, ◌&&◌, nat_eq, List, [], ◌∷◌, ◌++◌, map, filter, find, take, drop, length, All, Option, Some, None, option_map, slice_get, IsTrue, Ok}
 use Rattle.std.specs.List.{AllPairs, list_any, flat_map, enumerate_from, zip, range_with_len}
 use Rattle.std.specs.Option.{option_and_then, option_map_or}
 use Rattle.std.specs.FinMap.{get}
@@ -73,13 +73,27 @@ has_body t id = list_any (λ x. nat_eq x.0 id) t.bodies
 abbrev pub print_at : Tables → ℕ → Option Print
 print_at t id = option_and_then (λ x. x.1.print) (find (λ x. nat_eq x.0 id) t.bodies)
 
--- Each body is whole, in pieces, and its print is that of its bytes; no two have one print; each has arrived under some
--- name; and a piece is one of a body.
+-- the numbers of the bodies that arrivals and files of the pool have
+abbrev pub used_in : Tables → List ℕ
+used_in t = map (λ a. a.body) (rows_of t.arrivals) ++ map (λ f. f.body) (rows_of t.files)
+
+-- the body of this number has arrived under some name, or is that of a file
+unfoldable pub is_used : Tables → ℕ → Bool
+is_used t id = list_any (λ n. nat_eq n id) (used_in t)
+
+-- Each body is whole, in pieces, and its print is that of its bytes; no two have one print; and a piece is one of a body.
+pub record AreStored (t : Tables) : Type 0 where
+  pub whole : All (λ x. x.1.print ≡ Some (print_of (bytes_of t x.0))) t.bodies
+  pub pieces : All (λ x. pieces_of t x.0 ≡ pieces_for x.0 (bytes_of t x.0)) t.bodies
+  pub apart : AllPairs (λ x y. x.1.print ≢ y.1.print) t.bodies
+  pub owned : All (λ p. IsTrue (has_body t p.body)) (rows_of t.pieces)
+
+-- The same, and each is used.
 pub record AreBodies (t : Tables) : Type 0 where
   pub whole : All (λ x. x.1.print ≡ Some (print_of (bytes_of t x.0))) t.bodies
   pub pieces : All (λ x. pieces_of t x.0 ≡ pieces_for x.0 (bytes_of t x.0)) t.bodies
   pub apart : AllPairs (λ x y. x.1.print ≢ y.1.print) t.bodies
-  pub used : All (λ x. IsTrue (list_any (λ a. nat_eq a.body x.0) (rows_of t.arrivals))) t.bodies
+  pub used : All (λ x. IsTrue (is_used t x.0)) t.bodies
   pub owned : All (λ p. IsTrue (has_body t p.body)) (rows_of t.pieces)
 
 -- ---- arrivals

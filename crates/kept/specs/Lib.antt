@@ -1,4 +1,5 @@
 pub mod Kept
+pub mod Sweeping
 pub mod Making
 pub mod Amending
 pub mod Changing
@@ -13,5 +14,6 @@ pub mod Finished
 pub mod Archives
 pub mod Taking
 pub mod Coming
+pub mod Cleaning
 pub mod OneBook
 pub mod KeeperLemmas

@@ -1,7 +1,8 @@
 -- What the calls make of the tables.
-use Rattle.std.specs.Prelude.{ℕ, ◌+◌, Bool, false, if◌then◌else◌, nat_lt, List, [], ◌∷◌, fold, find, Option, Some, None, is_some, unwrap_or}
+use Rattle.std.specs.Prelude.{ℕ, ◌+◌, Bool, false, not, if◌then◌else◌, nat_lt, List, [], ◌∷◌, fold, find, Option, Some, None, is_some, unwrap_or}
 use Rattle.std.specs.List.{list_any, enumerate_from}
 use Rattle.std.specs.Option.{option_map_or}
+use Rattle.para.specs.Bytes.{is_nil}
 use Rattle.rules.specs.Values.{ConfigValue}
 use Rattle.rules.specs.Verdicts.{number_of}
 use Rattle.rules.specs.declared.suite.Suite.{Suite}
@@ -29,6 +30,7 @@ use Rattle.tables.specs.Wants.{with_here, without_wants}
 use Rattle.tables.specs.declared.rows.Piece.{Piece}
 use Rattle.tables.specs.declared.rows.Ref.{Ref}
 use Rattle.kept.specs.Kept.{pieces_for, refs_for, item_row, is_on}
+use Rattle.kept.specs.Sweeping.{swept}
 
 -- ---- a delivery
 
@@ -120,7 +122,16 @@ abbrev pub with_new_dates : List Suite → ℕ → List Step → Tables → Tabl
 with_new_dates suites moment steps t =
     fold (λ now s. if some_touches s.0 steps then with_new_date s.1.codename moment now else now) t (enumerate_from 0 suites)
 
--- the whole change
+-- the steps are made, and then the texts and the dates
+unfoldable pub with_written : ConfigValue → ℕ → Change → Tables → Tables
+with_written config judged change t =
+    with_new_dates config.suites change.moment change.steps (with_new_texts change.texts (with_steps config.suites judged change.steps t))
+
+-- the step takes a file of the pool away
+abbrev pub takes_file : Step → Bool
+takes_file s = not (is_nil s.plan.files_removed)
+
+-- The whole change: where it takes a file away, the bodies that nothing uses then go.
 unfoldable pub with_change : ConfigValue → ℕ → Change → Tables → Tables
 with_change config judged change t =
-    with_new_dates config.suites change.moment change.steps (with_new_texts change.texts (with_steps config.suites judged change.steps t))
+    if list_any takes_file change.steps then swept (with_written config judged change t) else with_written config judged change t

@@ -8,17 +8,17 @@ use Rattle.suites.specs.declared.plan.Plan.{Plan}
 use Rattle.tables.specs.Bodies.{body_with}
 use Rattle.tables.specs.Rows.{Tables}
 use Rattle.keep.specs.Book.{amended, dates_past, judgements, shown_past}
-use Rattle.keep.specs.Keeping.{AreSteps}
+use Rattle.keep.specs.Keeping.{AreSteps, HasEachBody}
 use Rattle.keep.specs.declared.change.Change.{Change}
 use Rattle.keep.specs.declared.change.Judgement.{Judgement}
 use Rattle.keep.specs.declared.change.Step.{Step}
-use Rattle.kept.specs.Kept.{AreBodies, AreFiles, AreItems, AreNumbered, IsKept, book_in}
+use Rattle.kept.specs.Kept.{AreFiles, AreItems, AreNumbered, AreStored, IsKept, book_in}
 
 -- The rows show what the plan was made for, and the plan can be made: what it puts stands in the suites, whose codenames
 -- differ, and each file that it adds has its body.
 pub record MayPlan (t : Tables) (suites : List Suite) (shown after : ShelvesValue) (plan : Plan) : Type 0 where
   pub numbered : AreNumbered t
-  pub bodies : AreBodies t
+  pub bodies : AreStored t
   pub items : AreItems t suites shown
   pub files : AreFiles t shown
   pub step : IsStep shown after plan
@@ -47,7 +47,7 @@ pub record IsPlanned (old new : Tables) (suites : List Suite) (shown : ShelvesVa
 -- The rows show what the first of these steps was made for, and each plan can be made in its turn.
 pub record MayStep (t : Tables) (suites : List Suite) (shown : ShelvesValue) (steps : List Step) : Type 0 where
   pub numbered : AreNumbered t
-  pub bodies : AreBodies t
+  pub bodies : AreStored t
   pub items : AreItems t suites shown
   pub files : AreFiles t shown
   pub plans : AreSteps shown steps
@@ -67,8 +67,9 @@ pub record IsStepped (old new : Tables) (suites : List Suite) (shown : ShelvesVa
   pub texts : new.texts ≡ old.texts
   pub dates : new.dates ≡ old.dates
 
--- the tables keep what a change leaves, and the book is the amended one
+-- The tables keep what a change leaves, and the book is the amended one where there was each body.
 pub record KeepsChange (t new : Tables) (config : ConfigValue) (judged : List Judgement) (shown : ShelvesValue) (dates : List ℕ) (change : Change) : Type 0 where
   pub kept : IsKept new config (judged ++ judgements change.steps) (shown_past shown change.steps) (dates_past change.moment dates change.steps)
-  pub book : book_in config (judged ++ judgements change.steps) (shown_past shown change.steps) (dates_past change.moment dates change.steps) new
+  pub book : HasEachBody (book_in config judged shown dates t) change
+      → book_in config (judged ++ judgements change.steps) (shown_past shown change.steps) (dates_past change.moment dates change.steps) new
       ≡ amended (book_in config judged shown dates t) change

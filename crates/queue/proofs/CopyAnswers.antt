@@ -1,6 +1,6 @@
 -- The answers of copies, from what the keeper and the plan say.
 use Rattle.std.proofs.Common.{◌≡◌, ◌<◌, ◌≤◌, ℕ, Bool, true, false, List, [], ◌∷◌, map, take, length, Option, Some, None, Ok, Err, refl, sym, ap, subst, ◌∙◌, nat_lt, nat_eq, if◌then◌else◌}
-use Rattle.std.specs.Prelude.{bytes_eq, not, position}
+use Rattle.std.specs.Prelude.{bytes_eq, not, position, ⊤}
 use Rattle.std.specs.FinMap.{entries}
 use Rattle.std.specs.List.{list_any}
 use Rattle.std.proofs.lemmas.Bool.{lt-ltb, le-ltb}
@@ -13,22 +13,24 @@ use Rattle.suites.specs.Shelves.{ShelvesValue}
 use Rattle.suites.specs.Told.{AreTold}
 use Rattle.suites.specs.declared.plan.Plan.{Plan}
 use Rattle.suites.proofs.ToldLemmas.{told_after_copy}
-use Rattle.keep.specs.Book.{Book, amended, due, judgements, latest, shown_past}
-use Rattle.keep.specs.Keeping.{AreRenewed, AreSteps, HasBodies, IsSound, NoCollision, sign_of, sign_on}
+use Rattle.keep.specs.Book.{Book, amended, at_moment, due, judgements, latest, shown_past}
+use Rattle.keep.specs.Keeping.{Apart, AreRenewed, AreSteps, HasBodies, HasEachBody, IsSound, NoCollision, sign_of, sign_on}
+use Rattle.keep.specs.declared.change.Change.{Change}
 use Rattle.keep.specs.declared.change.IndexText.{IndexText}
 use Rattle.keep.specs.declared.change.Step.{Step}
 use Rattle.queue.specs.Answers.{IsAnswer, IsFaithful, IsKept, IsStep, answer, is_free_copy, is_refused}
 use Rattle.queue.specs.Archives.{Stands, archive, book_from, book_of, is_shown_of, shown_by_print, shown_in, suite_named}
 use Rattle.queue.specs.Copies.{AreSuites, IsCopy, copy_fault, is_item_of, shows_source, source_fault, suites_fault}
 use Rattle.queue.specs.Deliveries.{or_else}
-use Rattle.queue.specs.Histories.{Copying, Count, History}
+use Rattle.queue.specs.Histories.{Copying, Count, History, followed}
 use Rattle.queue.specs.declared.fault.Fault.{Fault}
 use Rattle.queue.specs.declared.fault.Fault.TheVariants.{Moment, UnknownSuite, SameSuite, NothingToCopy}
 use Rattle.queue.proofs.Kept.{IsSame}
 use Rattle.queue.proofs.Known.{apart_with_empty, known}
 use Rattle.queue.proofs.RunAnswers.{without_texts}
-use Rattle.queue.proofs.SimulationCopies.{copy_step, copy_step_of, shown_of-printed}
-use Rattle.queue.proofs.StepAnswers.{refused_step}
+use Rattle.queue.proofs.SimulationCopies.{copy_has, copy_step, copy_step_of, shown_of-printed}
+use Rattle.queue.proofs.SimulationRun.{steps_at}
+use Rattle.queue.proofs.StepAnswers.{refused_step, stands_answered}
 
 -- ---- the fault
 
@@ -180,28 +182,52 @@ pub sound_copy : (moment : ℕ) (old now : Book) (config : ConfigValue) (shelves
     → IsSound now (record { moment = moment; steps = made; texts = texts })
 sound_copy moment old now config shelves f t source plan made texts same is_config is_shown is_steps copy renewed = record {
   plans = copy_steps old now config shelves f t source plan made same is_shown is_steps copy;
-  judged = subst (λ xs. map sign_on (judgements xs) ≡ map sign_of (take (length (judgements xs)) (due now))) (sym is_steps) refl;
+  judged = subst (λ xs. map sign_on (judgements xs) ≡ map sign_of (take (length (judgements xs)) (due (at_moment moment now)))) (sym is_steps) refl;
   texts = renewed;
   told = copy_told now config shelves f t source plan made is_config (is_shown ∙ ap (λ (b : Book). b.shown) (sym same)) is_steps copy;
 }
 
--- A copy that is done, where what the keeper says holds for all bodies without collision.
-pub done_copy : (may_fail : Bool) (h : History) (from to source : List ℕ) (moment f t : ℕ) (is_open : Type 0) (old now new : Book) (config : ConfigValue) (shelves : ShelvesValue) (plan : Plan) (made : List Step) (texts : List IndexText) (items : ℕ)
-    → Stands old h → IsFaithful h (Copying from to source moment ∷ []) → moment ≤ latest → now ≡ old → shelves ≡ old.shown → made ≡ copy_step_of plan ∷ []
-    → AreSuites old.config from to f t → config ≡ now.config → IsCopy config shelves f t source plan
-    → ((bodies : List (List ℕ)) → NoCollision bodies → HasBodies bodies now → new ≡ amended now (record { moment = moment; steps = made; texts = texts }))
-    → items ≡ length plan.put
-    → IsStep may_fail h (Copying from to source moment) (Ok (Count items)) is_open new
-unfolding shows_source is_item_of
-done_copy may_fail h from to source moment f t is_open old now new config shelves plan made texts items stands faithful in_time same is_shown is_steps suites is_config copied is count =
-    let bodies = [] ∷ faithful.bodies in
-    let apart = apart_with_empty faithful.bodies faithful.apart in
-    let have : HasBodies bodies old = subst (HasBodies bodies) (sym stands) (known h (Copying from to source moment ∷ []) faithful) in
-    let copy = copy_on old config shelves f t source plan (is_config ∙ ap (λ (b : Book). b.config) same) is_shown copied in
-    let is_new : new ≡ amended old (record { moment = moment; steps = copy_step_of plan ∷ []; texts = [] }) =
-    is bodies apart (subst (HasBodies bodies) (sym same) have)
-    ∙ ap (λ b. amended b (record { moment = moment; steps = made; texts = texts })) same
-    ∙ without_texts old moment made texts
-    ∙ ap (λ xs. amended old (record { moment = moment; steps = xs; texts = [] })) is_steps in
-    subst (λ n. IsStep may_fail h (Copying from to source moment) (Ok (Count n)) is_open new) (sym count)
-    (copy_step may_fail h from to source moment f t is_open old new plan stands faithful (le-ltb latest moment in_time) copy.sound suites.from_named suites.to_named suites.other copy.shows copy.step is_new)
+-- A copy, where what the keeper says holds for all bodies without collision.
+module _ (may_fail : Bool) (h : History) (from to source : List ℕ) (moment f t : ℕ) (old now : Book) (config : ConfigValue) (shelves : ShelvesValue) (plan : Plan) (made : List Step) (texts : List IndexText)
+    (stands : Stands old h) (faithful : IsFaithful h (Copying from to source moment ∷ [])) (in_time : moment ≤ latest)
+    (same : now ≡ old) (is_shown : shelves ≡ old.shown) (is_steps : made ≡ copy_step_of plan ∷ [])
+    (suites : AreSuites old.config from to f t) (is_config : config ≡ now.config) (copied : IsCopy config shelves f t source plan) where
+  abbrev change : Change
+  change = record { moment = moment; steps = made; texts = texts }
+
+  all_apart : NoCollision ([] ∷ faithful.bodies)
+  all_apart = apart_with_empty faithful.bodies faithful.apart
+
+  have_now : HasBodies ([] ∷ faithful.bodies) now
+  have_now = subst (HasBodies ([] ∷ faithful.bodies)) (sym (same ∙ stands)) (known h (Copying from to source moment ∷ []) faithful)
+
+  copy : IsCopy old.config old.shown f t source plan
+  copy = copy_on old config shelves f t source plan (is_config ∙ ap (λ (b : Book). b.config) same) is_shown copied
+
+  -- the book has a body for each file that the pool then has
+  has : HasEachBody now change
+  has =
+      subst (λ (b : Book). HasEachBody b change) (sym same)
+      (subst (λ (xs : List Step). HasEachBody old (steps_at moment xs)) (sym is_steps)
+      (copy_has h from to source moment f t old plan stands faithful copy.sound copy.step))
+
+  -- one that is done
+  pub done_copy : (is_open : Type 0) (new : Book) (items : ℕ) → Apart now (HasEachBody now change → new ≡ amended now change) → items ≡ length plan.put
+      → IsStep may_fail h (Copying from to source moment) (Ok (Count items)) is_open new
+  unfolding shows_source is_item_of
+  done_copy is_open new items is count =
+      let is_new : new ≡ amended old (steps_at moment (copy_step_of plan ∷ [])) =
+      is ([] ∷ faithful.bodies) all_apart have_now has
+      ∙ ap (λ b. amended b change) same
+      ∙ without_texts old moment made texts
+      ∙ ap (λ xs. amended old (steps_at moment xs)) is_steps in
+      subst (λ n. IsStep may_fail h (Copying from to source moment) (Ok (Count n)) is_open new) (sym count)
+      (copy_step may_fail h from to source moment f t is_open old new plan stands faithful (le-ltb latest moment in_time) copy.sound suites.from_named suites.to_named suites.other copy.shows copy.step is_new)
+
+  -- what a crash leaves that has all of it
+  pub left_copy : (left : Option Book) → Apart now (HasEachBody now change → left ≡ Some (amended now change))
+      → left ≡ Some (book_of (followed h (Copying from to source moment) (answer h (Copying from to source moment))))
+  left_copy left is =
+      is ([] ∷ faithful.bodies) all_apart have_now has
+      ∙ ap Some (stands_answered may_fail h (Copying from to source moment) (Count (length plan.put)) (amended now change)
+      (done_copy ⊤ (amended now change) (length plan.put) (λ bodies apart have each. refl) refl))

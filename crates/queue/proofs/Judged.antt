@@ -14,17 +14,17 @@ use Rattle.records.specs.Values.{ChangesValue}
 use Rattle.rules.specs.Values.{ConfigValue}
 use Rattle.sums.specs.Prints.{print as print_of, same_print}
 use Rattle.sums.specs.declared.print.Print.{Print}
-use Rattle.keep.specs.Book.{Book, Candidate, candidate_of, candidates, due, in_order, is_changes_name, is_complete, is_judged, judging_order, put_in_order, unjudged, upload_of}
+use Rattle.keep.specs.Book.{Book, Candidate, at_moment, candidate_of, candidates, due, in_order, is_changes_name, is_complete, is_judged, judging_order, put_in_order, unjudged, upload_of}
 use Rattle.keep.specs.Keeping.{NoCollision}
 use Rattle.keep.specs.declared.arrival.Arrival.{Arrival}
 use Rattle.keep.specs.declared.change.Judgement.{Judgement}
 use Rattle.queue.specs.Before.{before_each, before_each-push}
-use Rattle.queue.specs.Histories.{Call, Delivery, QueueRun, Copying, Lookup, WaitingList, Removing, VerdictList, Reply, Step, History, arrived, bodies_of_call, due_after, has_come, is_run, waiting_after, was_judged}
+use Rattle.queue.specs.Histories.{Call, Delivery, QueueRun, Copying, Lookup, WaitingList, Cleaning, Removing, VerdictList, Reply, Step, History, arrived, bodies_of_call, completes, counting, due_after, has_come, waiting_after, was_judged}
 use Rattle.queue.specs.Archives.{PlainArchive, Act, Whole, Copy, Remove, acted, acts_of, all_acts, archive, archive_of, book_from, book_of, removed, suite_named, whole, whole_of, with_admitted}
 use Rattle.queue.specs.Answers.{IsFaithful}
 use Rattle.queue.specs.declared.fault.Fault.{Fault}
 use Rattle.queue.proofs.Lists.{all_always, all_filter, all_filter_map, all_front, all_weaker, by_steps, filter_agree_on, list_any-map}
-use Rattle.queue.proofs.Known.{ArrivalsHave, StepsHave, Knows, arrived_have, arrivals_known, faithful_knows, with_empty, has_empty}
+use Rattle.queue.proofs.Known.{ArrivalsHave, StepsHave, Knows, arrived_have, counting_have, counting_known, faithful_knows, with_empty, has_empty}
 use Rattle.queue.proofs.Steps.{step_of, archive-push}
 
 -- ---- prints and candidates
@@ -176,13 +176,13 @@ removals_judge config None name moment a = refl
 removals_judge config (Some suite) name moment a = refl
 
 -- of the uploads that are due, one has the name and the print of c exactly where c has come, is complete and was not judged
-any_due : (bodies : List (List ℕ)) → NoCollision bodies → (opening : Book) (steps : List Step) → ArrivalsHave (Contains bodies) (arrived opening steps)
+any_due : (bodies : List (List ℕ)) → NoCollision bodies → (opening : Book) (steps : List Step) (moment : ℕ) → ArrivalsHave (Contains bodies) (counting opening steps moment)
     → (c : Candidate) → IsOf (Contains bodies) c
-    → list_any (is_signed c) (due_after opening steps)
-    ≡ ((not (was_judged opening steps c) && is_complete (arrived opening steps) c) && has_come (arrived opening steps) c)
+    → list_any (is_signed c) (due_after opening steps moment)
+    ≡ ((not (was_judged opening steps c) && is_complete (counting opening steps moment) c) && has_come (counting opening steps moment) c)
 unfolding waiting_after has_come
-any_due bodies apart opening steps h c hc =
-    let arrivals = arrived opening steps in
+any_due bodies apart opening steps moment h c hc =
+    let arrivals = counting opening steps moment in
     let fresh : Candidate → Bool = λ d. not (was_judged opening steps d) in
     let whole' : Candidate → Bool = is_complete arrivals in
     any_filter (is_signed c) whole' (in_order (filter fresh (candidates arrivals)))
@@ -214,10 +214,10 @@ any_due bodies apart opening steps h c hc =
 
 was_judged-push : (opening : Book) (steps : List Step) (call : Call) (outcome : Result Reply Fault) (c : Candidate)
     → was_judged opening (steps ++ step_of call outcome ∷ []) c
-    ≡ (was_judged opening steps c || (is_run call outcome && (has_come (arrived opening steps) c && is_complete (arrived opening steps) c)))
+    ≡ (was_judged opening steps c || completes opening steps c call outcome)
 unfolding was_judged
 was_judged-push opening steps call outcome c =
-    let t : List Step × Step → Bool = λ p. is_run p.1.call p.1.outcome && (has_come (arrived opening p.0) c && is_complete (arrived opening p.0) c) in
+    let t : List Step × Step → Bool = λ p. completes opening p.0 c p.1.call p.1.outcome in
     ap (λ ps. is_judged opening.judged c || list_any t ps) (before_each-push steps (step_of call outcome))
     ∙ ap (λ b. is_judged opening.judged c || b) (list_any-append t (before_each steps) ((steps, step_of call outcome) ∷ []) ∙ ap (λ b. list_any t (before_each steps) || b) (or_no (t (steps, step_of call outcome))))
     ∙ sym (or_assoc (is_judged opening.judged c) (list_any t (before_each steps)) (t (steps, step_of call outcome)))
@@ -233,13 +233,15 @@ judged_push : (bodies : List (List ℕ)) → NoCollision bodies → (h : History
     → (call : Call) (outcome : Result Reply Fault) (c : Candidate) → IsOf (Contains bodies) c
     → is_judged (archive h).judged c ≡ was_judged h.opening h.steps c
     → is_judged (fold (acted h.opening.config) (archive h) (acts_of h.opening h.steps call outcome)).judged c
-    ≡ (was_judged h.opening h.steps c || (is_run call outcome && (has_come (arrived h.opening h.steps) c && is_complete (arrived h.opening h.steps) c)))
-unfolding acts_of is_run
+    ≡ (was_judged h.opening h.steps c || completes h.opening h.steps c call outcome)
+unfolding acts_of completes
 judged_push bodies apart h hs (QueueRun moment) (Ok reply) c hc sofar =
-    judged_wholes h.opening.config moment (arrived h.opening h.steps) (due_after h.opening h.steps) (archive h) c
-    ∙ ap (λ b. b || list_any (is_signed c) (due_after h.opening h.steps)) sofar
-    ∙ ap (λ b. was_judged h.opening h.steps c || b) (any_due bodies apart h.opening h.steps hs c hc)
-    ∙ absorbed (was_judged h.opening h.steps c) (has_come (arrived h.opening h.steps) c) (is_complete (arrived h.opening h.steps) c)
+    let arrivals = counting h.opening h.steps moment in
+    let cs = due_after h.opening h.steps moment in
+    judged_wholes h.opening.config moment arrivals cs (archive h) c
+    ∙ ap (λ b. b || list_any (is_signed c) cs) sofar
+    ∙ ap (λ b. was_judged h.opening h.steps c || b) (any_due bodies apart h.opening h.steps moment (counting_have (Contains bodies) h.opening h.steps moment hs) c hc)
+    ∙ absorbed (was_judged h.opening h.steps c) (has_come arrivals c) (is_complete arrivals c)
 judged_push bodies apart h hs (Copying from to source moment) (Ok reply) c hc sofar =
     ap (λ js. is_judged js c) (copies_judge h.opening.config (suite_named h.opening.config from) (suite_named h.opening.config to) source moment (archive h))
     ∙ sofar ∙ sym (or_no (was_judged h.opening h.steps c))
@@ -252,6 +254,7 @@ judged_push bodies apart h hs (Copying from to source moment) (Err fault) c hc s
 judged_push bodies apart h hs (Delivery name body moment) outcome c hc sofar = sofar ∙ sym (or_no (was_judged h.opening h.steps c))
 judged_push bodies apart h hs (Lookup path) outcome c hc sofar = sofar ∙ sym (or_no (was_judged h.opening h.steps c))
 judged_push bodies apart h hs (WaitingList moment) outcome c hc sofar = sofar ∙ sym (or_no (was_judged h.opening h.steps c))
+judged_push bodies apart h hs (Cleaning moment) outcome c hc sofar = sofar ∙ sym (or_no (was_judged h.opening h.steps c))
 judged_push bodies apart h hs VerdictList outcome c hc sofar = sofar ∙ sym (or_no (was_judged h.opening h.steps c))
 
 judged_opening : (opening : Book) (c : Candidate) → is_judged (archive (record { opening = opening; steps = [] })).judged c ≡ was_judged opening [] c
@@ -274,26 +277,29 @@ is_judged-was_judged bodies apart h knows c hc =
     ∙ sym (was_judged-push h.opening xs x.call x.outcome c))
     h.steps knows.steps
 
--- the uploads without a verdict are those that no run has judged
-pub unjudged_known : (bodies : List (List ℕ)) → NoCollision bodies → (h : History) → Knows (Contains bodies) h → unjudged (book_of h) ≡ waiting_after h.opening h.steps
-unfolding unjudged waiting_after book_of book_from
-unjudged_known bodies apart h knows =
-    ap in_order (filter_agree_on (λ c. not (is_judged (archive h).judged c)) (λ c. not (was_judged h.opening h.steps c)) (candidates (arrived h.opening h.steps))
-    (all_weaker (IsOf (Contains bodies)) _ (λ c hc. ap not (is_judged-was_judged bodies apart h knows c hc)) (candidates (arrived h.opening h.steps))
-    (candidates_are_of (Contains bodies) (arrived h.opening h.steps) (arrivals_known (Contains bodies) h knows))))
+-- the uploads without a verdict that count at a moment are those that no run has judged
+pub unjudged_known : (bodies : List (List ℕ)) → NoCollision bodies → (h : History) → Knows (Contains bodies) h
+    → (moment : ℕ) → unjudged (at_moment moment (book_of h)) ≡ waiting_after h.opening h.steps moment
+unfolding unjudged waiting_after book_of book_from at_moment counting
+unjudged_known bodies apart h knows moment =
+    let all = candidates (counting h.opening h.steps moment) in
+    ap in_order (filter_agree_on (λ c. not (is_judged (archive h).judged c)) (λ c. not (was_judged h.opening h.steps c)) all
+    (all_weaker (IsOf (Contains bodies)) _ (λ c hc. ap not (is_judged-was_judged bodies apart h knows c hc)) all
+    (candidates_are_of (Contains bodies) (counting h.opening h.steps moment) (counting_known (Contains bodies) h knows moment))))
 
--- and those that are due are those that the next run judges
-pub due_known : (bodies : List (List ℕ)) → NoCollision bodies → (h : History) → Knows (Contains bodies) h → due (book_of h) ≡ due_after h.opening h.steps
-unfolding due book_of book_from
-due_known bodies apart h knows = ap (filter (is_complete (arrived h.opening h.steps))) (unjudged_known bodies apart h knows)
+-- and those that are due are those that a run at this moment judges
+pub due_known : (bodies : List (List ℕ)) → NoCollision bodies → (h : History) → Knows (Contains bodies) h
+    → (moment : ℕ) → due (at_moment moment (book_of h)) ≡ due_after h.opening h.steps moment
+unfolding due book_of book_from at_moment counting
+due_known bodies apart h knows moment = ap (filter (is_complete (counting h.opening h.steps moment))) (unjudged_known bodies apart h knows moment)
 
 -- the same of a faithful history
-pub unjudged_faithful : (h : History) (calls : List Call) → IsFaithful h calls → unjudged (book_of h) ≡ waiting_after h.opening h.steps
-unjudged_faithful h calls faithful =
+pub unjudged_faithful : (h : History) (calls : List Call) → IsFaithful h calls → (moment : ℕ) → unjudged (at_moment moment (book_of h)) ≡ waiting_after h.opening h.steps moment
+unjudged_faithful h calls faithful moment =
     let all = with_empty h calls faithful in
-    unjudged_known all.bodies all.apart h (faithful_knows h calls all (has_empty faithful.bodies))
+    unjudged_known all.bodies all.apart h (faithful_knows h calls all (has_empty faithful.bodies)) moment
 
-pub due_faithful : (h : History) (calls : List Call) → IsFaithful h calls → due (book_of h) ≡ due_after h.opening h.steps
-due_faithful h calls faithful =
+pub due_faithful : (h : History) (calls : List Call) → IsFaithful h calls → (moment : ℕ) → due (at_moment moment (book_of h)) ≡ due_after h.opening h.steps moment
+due_faithful h calls faithful moment =
     let all = with_empty h calls faithful in
-    due_known all.bodies all.apart h (faithful_knows h calls all (has_empty faithful.bodies))
+    due_known all.bodies all.apart h (faithful_knows h calls all (has_empty faithful.bodies)) moment

@@ -27,10 +27,10 @@ use Rattle.suites.specs.Shelves.{shown}
 use Rattle.suites.specs.Upload.{UploadValue, Part, items_of, source_item, binary_item, dsc_parts, sidecar_parts, package_file}
 use Rattle.suites.specs.declared.item.Item.{Item}
 use Rattle.suites.specs.declared.key.ShelfKey.{ShelfKey}
-use Rattle.keep.specs.Book.{Book, Candidate, at_latest, body_for, has_arrival, is_same_pair, with_arrival}
+use Rattle.keep.specs.Book.{Book, Candidate, at_latest, body_for, counts, current, has_arrival, is_same_pair, span, with_arrival}
 use Rattle.keep.specs.Keeping.{HasBodies, NoCollision}
 use Rattle.keep.specs.declared.arrival.Arrival.{Arrival}
-use Rattle.queue.specs.Histories.{Call, Delivery, QueueRun, Copying, Lookup, WaitingList, Removing, VerdictList, Reply, Step, History, arrived, arrivals_after, bodies_of, bodies_of_call, calls_of, due_after}
+use Rattle.queue.specs.Histories.{Call, Delivery, QueueRun, Copying, Lookup, WaitingList, Cleaning, Removing, VerdictList, Reply, Step, History, arrived, arrivals_after, bodies_of, bodies_of_call, calls_of, counting, due_after}
 use Rattle.queue.specs.Archives.{PlainArchive, Act, Whole, Copy, Remove, WholeUpload, BodyItem, acted, acts_of, archive, archive_of, all_acts, book_from, book_of, contents_of, copied, items_copied, items_given, listed_body, pool_in, removed, shown_in, suite_named, version_with, whole, whole_of, with_bodies, with_admitted}
 use Rattle.queue.specs.Answers.{IsFaithful, IsOpening}
 use Rattle.queue.specs.declared.fault.Fault.{Fault}
@@ -180,16 +180,23 @@ with_arrival_have K arrivals a h ha = joined (has_arrival arrivals a)
     joined true = all_map (λ (x : Arrival). K x.body) _ arrivals (all_weaker (λ (x : Arrival). K x.body) _ (λ d hd. renewed (is_same_pair a d) d hd) arrivals h)
     joined false = all_append (λ (x : Arrival). K x.body) arrivals (a ∷ []) h (ha, tt)
 
-arrivals_after_have : (K : List ℕ → Type 0) (arrivals : List Arrival) (call : Call) (outcome : Result Reply Fault) → ArrivalsHave K arrivals → AllByRecursion K (bodies_of_call call) → ArrivalsHave K (arrivals_after arrivals call outcome)
+-- what counts of them
+pub current_have : (K : List ℕ → Type 0) (seconds : Option ℕ) (moment : ℕ) (arrivals : List Arrival) → ArrivalsHave K arrivals → ArrivalsHave K (current seconds moment arrivals)
+unfolding current
+current_have K seconds moment arrivals h = all_filter (λ (a : Arrival). K a.body) (counts seconds moment) arrivals h
+
+arrivals_after_have : (K : List ℕ → Type 0) (seconds : Option ℕ) (arrivals : List Arrival) (call : Call) (outcome : Result Reply Fault) → ArrivalsHave K arrivals → AllByRecursion K (bodies_of_call call) → ArrivalsHave K (arrivals_after seconds arrivals call outcome)
 unfolding arrivals_after bodies_of_call
-arrivals_after_have K arrivals (Delivery name body moment) (Ok reply) h hb = with_arrival_have K arrivals (record { name = name; body = body; moment = moment }) h hb.0
-arrivals_after_have K arrivals (Delivery name body moment) (Err fault) h hb = h
-arrivals_after_have K arrivals (QueueRun moment) outcome h hb = h
-arrivals_after_have K arrivals (Copying from to source moment) outcome h hb = h
-arrivals_after_have K arrivals (Lookup path) outcome h hb = h
-arrivals_after_have K arrivals (WaitingList moment) outcome h hb = h
-arrivals_after_have K arrivals (Removing suite name moment) outcome h hb = h
-arrivals_after_have K arrivals VerdictList outcome h hb = h
+arrivals_after_have K seconds arrivals (Delivery name body moment) (Ok reply) h hb = with_arrival_have K arrivals (record { name = name; body = body; moment = moment }) h hb.0
+arrivals_after_have K seconds arrivals (Delivery name body moment) (Err fault) h hb = h
+arrivals_after_have K seconds arrivals (QueueRun moment) outcome h hb = h
+arrivals_after_have K seconds arrivals (Copying from to source moment) outcome h hb = h
+arrivals_after_have K seconds arrivals (Lookup path) outcome h hb = h
+arrivals_after_have K seconds arrivals (WaitingList moment) outcome h hb = h
+arrivals_after_have K seconds arrivals (Cleaning moment) (Ok reply) h hb = current_have K seconds moment arrivals h
+arrivals_after_have K seconds arrivals (Cleaning moment) (Err fault) h hb = h
+arrivals_after_have K seconds arrivals (Removing suite name moment) outcome h hb = h
+arrivals_after_have K seconds arrivals VerdictList outcome h hb = h
 
 -- the bodies that have arrived are those of the opening and of the calls
 pub arrived_have : (K : List ℕ → Type 0) (opening : Book) (steps : List Step) → ArrivalsHave K opening.arrivals → StepsHave K steps → ArrivalsHave K (arrived opening steps)
@@ -197,10 +204,15 @@ unfolding arrived
 arrived_have K opening steps opened =
     by_steps (λ (xs : List Step). StepsHave K xs → ArrivalsHave K (arrived opening xs)) (λ _. opened)
     (λ xs x sofar h. subst (ArrivalsHave K) (sym (arrived-push opening xs x.call x.outcome))
-    (arrivals_after_have K (arrived opening xs) x.call x.outcome
+    (arrivals_after_have K (span opening.config) (arrived opening xs) x.call x.outcome
     (sofar (all_front (λ (s : Step). AllByRecursion K (bodies_of_call s.call)) xs (x ∷ []) h))
     (all_back (λ (s : Step). AllByRecursion K (bodies_of_call s.call)) xs (x ∷ []) h).0))
     steps
+
+-- and so are those that count at a moment
+pub counting_have : (K : List ℕ → Type 0) (opening : Book) (steps : List Step) (moment : ℕ) → ArrivalsHave K (arrived opening steps) → ArrivalsHave K (counting opening steps moment)
+unfolding counting
+counting_have K opening steps moment h = current_have K (span opening.config) moment (arrived opening steps) h
 
 pub body_for_has : (K : List ℕ → Type 0) → K [] → (arrivals : List Arrival) → ArrivalsHave K arrivals → (entry : Entry) → K (body_for arrivals entry)
 unfolding body_for
@@ -231,7 +243,8 @@ all_acted_have K empty' config (act ∷ acts) a ha h = all_acted_have K empty' c
 acts_have : (K : List ℕ → Type 0) → K [] → (opening : Book) (steps : List Step) (call : Call) (outcome : Result Reply Fault) → ArrivalsHave K (arrived opening steps) → AllByRecursion (ActHas K) (acts_of opening steps call outcome)
 unfolding acts_of
 acts_have K empty' opening steps (QueueRun moment) (Ok reply) h =
-    all_map (ActHas K) _ (due_after opening steps) (all_always _ (whole_of_has K empty' (arrived opening steps) h) (due_after opening steps))
+    all_map (ActHas K) _ (due_after opening steps moment)
+    (all_always _ (whole_of_has K empty' (counting opening steps moment) (counting_have K opening steps moment h)) (due_after opening steps moment))
 acts_have K empty' opening steps (Copying from to source moment) (Ok reply) h =
     all_flat_map (ActHas K) _ _ (all_always _ (λ (f : ℕ). all_map (ActHas K) (λ (t : ℕ). Copy f t source moment) _ (all_always _ (λ t. tt) (option_to_list (suite_named opening.config to)))) (option_to_list (suite_named opening.config from)))
 acts_have K empty' opening steps (Removing suite name moment) (Ok reply) h =
@@ -242,6 +255,7 @@ acts_have K empty' opening steps (Copying from to source moment) (Err fault) h =
 acts_have K empty' opening steps (Delivery name body moment) outcome h = tt
 acts_have K empty' opening steps (Lookup path) outcome h = tt
 acts_have K empty' opening steps (WaitingList moment) outcome h = tt
+acts_have K empty' opening steps (Cleaning moment) outcome h = tt
 acts_have K empty' opening steps VerdictList outcome h = tt
 
 -- the bodies of the opening and of the calls so far are among these, and so is the empty one
@@ -271,6 +285,9 @@ archive_has K h knows =
 
 pub arrivals_known : (K : List ℕ → Type 0) (h : History) → Knows K h → ArrivalsHave K (arrived h.opening h.steps)
 arrivals_known K h knows = arrived_have K h.opening h.steps knows.arrivals knows.steps
+
+pub counting_known : (K : List ℕ → Type 0) (h : History) → Knows K h → (moment : ℕ) → ArrivalsHave K (counting h.opening h.steps moment)
+counting_known K h knows moment = counting_have K h.opening h.steps moment (arrivals_known K h knows)
 
 -- ---- faithful histories
 

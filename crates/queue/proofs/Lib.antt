@@ -37,5 +37,6 @@ pub mod RenewedSteps
 pub mod Renewed
 pub mod Reopening
 pub mod ReaderLemmas
+pub mod ForGood
 pub mod Stored
 pub mod Received

@@ -1,5 +1,6 @@
 -- The answers of removals, from what the keeper and the plan say.
 use Rattle.std.proofs.Common.{◌≡◌, ◌<◌, ◌≤◌, ℕ, Bool, true, false, List, [], ◌∷◌, map, take, length, Option, Some, None, Ok, Err, refl, sym, ap, subst, ◌∙◌, nat_lt, if◌then◌else◌}
+use Rattle.std.specs.Prelude.{⊤}
 use Rattle.std.specs.FinMap.{entries}
 use Rattle.std.specs.List.{list_any}
 use Rattle.std.proofs.lemmas.Bool.{lt-ltb, le-ltb}
@@ -11,22 +12,24 @@ use Rattle.suites.specs.Shelves.{ShelvesValue}
 use Rattle.suites.specs.Told.{AreTold}
 use Rattle.suites.specs.declared.plan.Plan.{Plan}
 use Rattle.suites.proofs.RemovalLemmas.{told_after_removal}
-use Rattle.keep.specs.Book.{Book, amended, due, judgements, latest, shown_past}
-use Rattle.keep.specs.Keeping.{AreRenewed, AreSteps, HasBodies, IsSound, NoCollision, sign_of, sign_on}
+use Rattle.keep.specs.Book.{Book, amended, at_moment, due, judgements, latest, shown_past}
+use Rattle.keep.specs.Keeping.{Apart, AreRenewed, AreSteps, HasBodies, HasEachBody, IsSound, NoCollision, sign_of, sign_on}
+use Rattle.keep.specs.declared.change.Change.{Change}
 use Rattle.keep.specs.declared.change.IndexText.{IndexText}
 use Rattle.keep.specs.declared.change.Step.{Step}
 use Rattle.queue.specs.Answers.{IsAnswer, IsFaithful, IsKept, IsStep, answer, is_free_removal, is_refused}
 use Rattle.queue.specs.Archives.{Stands, archive, book_from, book_of, shown_by_print, shown_in, suite_named}
 use Rattle.queue.specs.Deliveries.{or_else}
-use Rattle.queue.specs.Histories.{Removing, Count, History}
+use Rattle.queue.specs.Histories.{Removing, Count, History, followed}
 use Rattle.queue.specs.Removals.{IsRemoval, package_fault, removal_fault, shows_package, suite_fault}
 use Rattle.queue.specs.declared.fault.Fault.{Fault}
 use Rattle.queue.specs.declared.fault.Fault.TheVariants.{Moment, UnknownSuite, NothingToRemove}
 use Rattle.queue.proofs.Kept.{IsSame}
 use Rattle.queue.proofs.Known.{apart_with_empty, known}
 use Rattle.queue.proofs.RunAnswers.{without_texts}
-use Rattle.queue.proofs.SimulationRemovals.{removal_step, removal_step_of, shows-printed}
-use Rattle.queue.proofs.StepAnswers.{refused_step}
+use Rattle.queue.proofs.SimulationRemovals.{removal_has, removal_step, removal_step_of, shows-printed}
+use Rattle.queue.proofs.SimulationRun.{steps_at}
+use Rattle.queue.proofs.StepAnswers.{refused_step, stands_answered}
 
 -- ---- the fault
 
@@ -159,28 +162,52 @@ pub sound_removal : (moment : ℕ) (old now : Book) (shelves : ShelvesValue) (pl
     → IsSound now (record { moment = moment; steps = made; texts = texts })
 sound_removal moment old now shelves place name plan made texts same is_shown is_steps removal renewed = record {
   plans = removal_steps old now shelves place name plan made same is_shown is_steps removal;
-  judged = subst (λ xs. map sign_on (judgements xs) ≡ map sign_of (take (length (judgements xs)) (due now))) (sym is_steps) refl;
+  judged = subst (λ xs. map sign_on (judgements xs) ≡ map sign_of (take (length (judgements xs)) (due (at_moment moment now)))) (sym is_steps) refl;
   texts = renewed;
   told = removal_told now shelves place name plan made (is_shown ∙ ap (λ (b : Book). b.shown) (sym same)) is_steps removal;
 }
 
--- A removal that is done, where what the keeper says holds for all bodies without collision.
-pub done_removal : (may_fail : Bool) (h : History) (suite name : List ℕ) (moment place : ℕ) (is_open : Type 0) (old now new : Book) (shelves : ShelvesValue) (plan : Plan) (made : List Step) (texts : List IndexText) (items : ℕ)
-    → Stands old h → IsFaithful h (Removing suite name moment ∷ []) → moment ≤ latest → now ≡ old → shelves ≡ old.shown → made ≡ removal_step_of plan ∷ []
-    → suite_named old.config suite ≡ Some place → IsRemoval shelves place name plan
-    → ((bodies : List (List ℕ)) → NoCollision bodies → HasBodies bodies now → new ≡ amended now (record { moment = moment; steps = made; texts = texts }))
-    → items ≡ length plan.dropped
-    → IsStep may_fail h (Removing suite name moment) (Ok (Count items)) is_open new
-unfolding shows_package
-done_removal may_fail h suite name moment place is_open old now new shelves plan made texts items stands faithful in_time same is_shown is_steps named taken is count =
-    let bodies = [] ∷ faithful.bodies in
-    let apart = apart_with_empty faithful.bodies faithful.apart in
-    let have : HasBodies bodies old = subst (HasBodies bodies) (sym stands) (known h (Removing suite name moment ∷ []) faithful) in
-    let removal = removal_on old shelves place name plan is_shown taken in
-    let is_new : new ≡ amended old (record { moment = moment; steps = removal_step_of plan ∷ []; texts = [] }) =
-    is bodies apart (subst (HasBodies bodies) (sym same) have)
-    ∙ ap (λ b. amended b (record { moment = moment; steps = made; texts = texts })) same
-    ∙ without_texts old moment made texts
-    ∙ ap (λ xs. amended old (record { moment = moment; steps = xs; texts = [] })) is_steps in
-    subst (λ n. IsStep may_fail h (Removing suite name moment) (Ok (Count n)) is_open new) (sym count)
-    (removal_step may_fail h suite name moment place is_open old new plan stands faithful (le-ltb latest moment in_time) removal.sound named removal.shows removal.step removal.put removal.dropped is_new)
+-- A removal, where what the keeper says holds for all bodies without collision.
+module _ (may_fail : Bool) (h : History) (suite name : List ℕ) (moment place : ℕ) (old now : Book) (shelves : ShelvesValue) (plan : Plan) (made : List Step) (texts : List IndexText)
+    (stands : Stands old h) (faithful : IsFaithful h (Removing suite name moment ∷ [])) (in_time : moment ≤ latest)
+    (same : now ≡ old) (is_shown : shelves ≡ old.shown) (is_steps : made ≡ removal_step_of plan ∷ [])
+    (named : suite_named old.config suite ≡ Some place) (taken : IsRemoval shelves place name plan) where
+  abbrev change : Change
+  change = record { moment = moment; steps = made; texts = texts }
+
+  all_apart : NoCollision ([] ∷ faithful.bodies)
+  all_apart = apart_with_empty faithful.bodies faithful.apart
+
+  have_now : HasBodies ([] ∷ faithful.bodies) now
+  have_now = subst (HasBodies ([] ∷ faithful.bodies)) (sym (same ∙ stands)) (known h (Removing suite name moment ∷ []) faithful)
+
+  removal : IsRemoval old.shown place name plan
+  removal = removal_on old shelves place name plan is_shown taken
+
+  -- the book has a body for each file that the pool then has
+  has : HasEachBody now change
+  has =
+      subst (λ (b : Book). HasEachBody b change) (sym same)
+      (subst (λ (xs : List Step). HasEachBody old (steps_at moment xs)) (sym is_steps)
+      (removal_has h suite name moment place old plan stands faithful removal.sound removal.step removal.put removal.dropped))
+
+  -- one that is done
+  pub done_removal : (is_open : Type 0) (new : Book) (items : ℕ) → Apart now (HasEachBody now change → new ≡ amended now change) → items ≡ length plan.dropped
+      → IsStep may_fail h (Removing suite name moment) (Ok (Count items)) is_open new
+  unfolding shows_package
+  done_removal is_open new items is count =
+      let is_new : new ≡ amended old (steps_at moment (removal_step_of plan ∷ [])) =
+      is ([] ∷ faithful.bodies) all_apart have_now has
+      ∙ ap (λ b. amended b change) same
+      ∙ without_texts old moment made texts
+      ∙ ap (λ xs. amended old (steps_at moment xs)) is_steps in
+      subst (λ n. IsStep may_fail h (Removing suite name moment) (Ok (Count n)) is_open new) (sym count)
+      (removal_step may_fail h suite name moment place is_open old new plan stands faithful (le-ltb latest moment in_time) removal.sound named removal.shows removal.step removal.put removal.dropped is_new)
+
+  -- what a crash leaves that has all of it
+  pub left_removal : (left : Option Book) → Apart now (HasEachBody now change → left ≡ Some (amended now change))
+      → left ≡ Some (book_of (followed h (Removing suite name moment) (answer h (Removing suite name moment))))
+  left_removal left is =
+      is ([] ∷ faithful.bodies) all_apart have_now has
+      ∙ ap Some (stands_answered may_fail h (Removing suite name moment) (Count (length plan.dropped)) (amended now change)
+      (done_removal ⊤ (amended now change) (length plan.dropped) (λ bodies apart have each. refl) refl))

@@ -1,22 +1,24 @@
 -- The answers of runs, from what the keeper and the judging say.
-use Rattle.std.proofs.Common.{◌≡◌, ◌<◌, ◌≤◌, ℕ, Bool, false, List, [], ◌∷◌, map, Ok, Err, refl, sym, ap, subst, ◌∙◌}
+use Rattle.std.proofs.Common.{◌≡◌, ◌<◌, ◌≤◌, ℕ, Bool, false, List, [], ◌∷◌, map, Option, Some, Ok, Err, refl, sym, ap, subst, ◌∙◌}
+use Rattle.std.specs.Prelude.{⊤}
 use Rattle.std.proofs.lemmas.Bool.{lt-ltb, le-ltb}
 use Rattle.rules.specs.Values.{ConfigValue}
 use Rattle.suites.specs.Shelves.{AreSound, ShelvesValue}
 use Rattle.suites.specs.Upload.{UploadValue}
-use Rattle.keep.specs.Book.{Book, amended, due, judgements, latest, shown_past, upload_of}
-use Rattle.keep.specs.Keeping.{AreRenewed, AreSteps, HasBodies, IsSound, NoCollision, sign_of}
+use Rattle.keep.specs.Book.{Book, amended, at_moment, due, judgements, latest, shown_past, upload_of}
+use Rattle.keep.specs.Keeping.{Apart, AreRenewed, AreSteps, HasBodies, HasEachBody, IsSound, NoCollision, sign_of}
 use Rattle.keep.specs.declared.change.Change.{Change}
 use Rattle.keep.specs.declared.change.IndexText.{IndexText}
 use Rattle.keep.specs.declared.change.Step.{Step}
 use Rattle.queue.specs.Answers.{IsAnswer, IsFaithful, IsStep, answer, is_refused, report_line}
-use Rattle.queue.specs.Archives.{Stands}
-use Rattle.queue.specs.Histories.{History, Lines, QueueRun}
+use Rattle.queue.specs.Archives.{Stands, book_of}
+use Rattle.queue.specs.Histories.{History, Lines, QueueRun, followed}
 use Rattle.queue.specs.Judging.{AreJudged, after_uploads}
 use Rattle.queue.specs.declared.fault.Fault.TheVariants.{Moment}
 use Rattle.queue.proofs.Known.{apart_with_empty, known}
 use Rattle.queue.proofs.RunJudged.{StaysTold, is_sound, past_uploads, sign_in, steps_are}
-use Rattle.queue.proofs.SimulationRun.{run_step}
+use Rattle.queue.proofs.SimulationRun.{run_has, run_step, steps_at}
+use Rattle.queue.proofs.StepAnswers.{stands_answered}
 
 -- a moment past the limit is refused
 pub late_run : (may_fail : Bool) (h : History) (moment : ℕ) → latest < moment → IsAnswer may_fail h (QueueRun moment) (Err Moment)
@@ -70,11 +72,11 @@ pub run_past : (then : Book) (config : ConfigValue) (shelves after : ShelvesValu
 run_past then config shelves after them steps given is_shown is_given judged is =
     is ∙ past_uploads config shelves them steps judged ∙ ap (λ (m : ShelvesValue). shown_past m steps) is_shown ∙ ap (shown_past then.shown) (sym is_given)
 
--- The change of a run is sound, where the keeper's uploads have the names and the prints of those that are due, and its
+-- The change of a run is sound, where the keeper's uploads have the names and the prints of those that are due at its moment, and its
 -- texts are those that differ.
 pub sound_run : (moment : ℕ) (old now : Book) (config : ConfigValue) (shelves : ShelvesValue) (us them : List UploadValue) (steps made : List Step) (texts : List IndexText)
     → now ≡ old → config ≡ now.config → shelves ≡ old.shown → them ≡ us → made ≡ steps
-    → map sign_in us ≡ map sign_of (due old) → AreJudged config shelves them steps
+    → map sign_in us ≡ map sign_of (due (at_moment moment old)) → AreJudged config shelves them steps
     → AreRenewed now (amended now (record { moment = moment; steps = made; texts = texts })) texts
     → StaysTold config shelves them
     → IsSound now (record { moment = moment; steps = made; texts = texts })
@@ -82,31 +84,57 @@ sound_run moment old now config shelves us them steps made texts same is_config 
     let shown : shelves ≡ now.shown = is_shown ∙ ap (λ (b : Book). b.shown) (sym same) in
     is_sound now moment us made texts
     (subst (AreJudged now.config now.shown us) (sym is_steps) (judged_on now config shelves us them steps is_config shown is_us judged))
-    (signs ∙ ap (λ (b : Book). map sign_of (due b)) (sym same))
+    (signs ∙ ap (λ (b : Book). map sign_of (due (at_moment moment b))) (sym same))
     renewed
     (stays_on now config shelves us them is_config shown is_us stays)
 
--- A run that is done, where what the keeper says holds for all bodies without collision.
-pub ran_step : (may_fail : Bool) (h : History) (moment : ℕ) (is_open : Type 0) (old now new : Book) (config : ConfigValue) (shelves : ShelvesValue) (us them : List UploadValue) (steps made : List Step) (texts : List IndexText) (lines : List (List ℕ))
-    → Stands old h → IsFaithful h (QueueRun moment ∷ []) → moment ≤ latest
-    → now ≡ old → config ≡ now.config → shelves ≡ old.shown → them ≡ us → made ≡ steps
-    → ((bodies : List (List ℕ)) → NoCollision bodies → HasBodies bodies old → us ≡ map (upload_of old.arrivals) (due old))
-    → AreSound shelves → AreJudged config shelves them steps
-    → ((bodies : List (List ℕ)) → NoCollision bodies → HasBodies bodies now → new ≡ amended now (record { moment = moment; steps = made; texts = texts }))
-    → lines ≡ map report_line (judgements steps)
-    → IsStep may_fail h (QueueRun moment) (Ok (Lines lines)) is_open new
-ran_step may_fail h moment is_open old now new config shelves us them steps made texts lines stands faithful in_time same is_config is_shown is_us is_steps told sound judged is are =
-    let bodies = [] ∷ faithful.bodies in
-    let apart = apart_with_empty faithful.bodies faithful.apart in
-    let have : HasBodies bodies old = subst (HasBodies bodies) (sym stands) (known h (QueueRun moment ∷ []) faithful) in
-    let is_new : new ≡ amended old (record { moment = moment; steps = steps; texts = [] }) =
-    is bodies apart (subst (HasBodies bodies) (sym same) have)
-    ∙ ap (λ b. amended b (record { moment = moment; steps = made; texts = texts })) same
-    ∙ without_texts old moment made texts
-    ∙ ap (λ xs. amended old (record { moment = moment; steps = xs; texts = [] })) is_steps in
-    subst (λ ls. IsStep may_fail h (QueueRun moment) (Ok (Lines ls)) is_open new) (sym are)
-    (run_step may_fail h moment is_open old new us steps stands faithful (le-ltb latest moment in_time)
-    (subst AreSound is_shown sound)
-    (told bodies apart have)
-    (judged_on old config shelves us them steps (is_config ∙ ap (λ (b : Book). b.config) same) is_shown is_us judged)
-    is_new)
+-- A run, where what the keeper says holds for all bodies without collision.
+module _ (may_fail : Bool) (h : History) (moment : ℕ) (old now : Book) (config : ConfigValue) (shelves : ShelvesValue) (us them : List UploadValue) (steps made : List Step) (texts : List IndexText)
+    (stands : Stands old h) (faithful : IsFaithful h (QueueRun moment ∷ [])) (in_time : moment ≤ latest)
+    (same : now ≡ old) (is_config : config ≡ now.config) (is_shown : shelves ≡ old.shown) (is_us : them ≡ us) (is_steps : made ≡ steps)
+    (told : Apart old (us ≡ map (upload_of (at_moment moment old).arrivals) (due (at_moment moment old))))
+    (sound : AreSound shelves) (judged : AreJudged config shelves them steps) where
+  abbrev change : Change
+  change = record { moment = moment; steps = made; texts = texts }
+
+  all_apart : NoCollision ([] ∷ faithful.bodies)
+  all_apart = apart_with_empty faithful.bodies faithful.apart
+
+  have : HasBodies ([] ∷ faithful.bodies) old
+  have = subst (HasBodies ([] ∷ faithful.bodies)) (sym stands) (known h (QueueRun moment ∷ []) faithful)
+
+  have_now : HasBodies ([] ∷ faithful.bodies) now
+  have_now = subst (HasBodies ([] ∷ faithful.bodies)) (sym same) have
+
+  sound_here : AreSound old.shown
+  sound_here = subst AreSound is_shown sound
+
+  judged_here : AreJudged old.config old.shown us steps
+  judged_here = judged_on old config shelves us them steps (is_config ∙ ap (λ (b : Book). b.config) same) is_shown is_us judged
+
+  -- the book has a body for each file that the pool then has
+  has : HasEachBody now change
+  has =
+      subst (λ (b : Book). HasEachBody b change) (sym same)
+      (subst (λ (xs : List Step). HasEachBody old (steps_at moment xs)) (sym is_steps)
+      (run_has h moment old us steps stands faithful sound_here (told ([] ∷ faithful.bodies) all_apart have) judged_here))
+
+  -- one that is done
+  pub ran_step : (is_open : Type 0) (new : Book) (lines : List (List ℕ)) → Apart now (HasEachBody now change → new ≡ amended now change) → lines ≡ map report_line (judgements steps)
+      → IsStep may_fail h (QueueRun moment) (Ok (Lines lines)) is_open new
+  ran_step is_open new lines is are =
+      let is_new : new ≡ amended old (steps_at moment steps) =
+      is ([] ∷ faithful.bodies) all_apart have_now has
+      ∙ ap (λ b. amended b change) same
+      ∙ without_texts old moment made texts
+      ∙ ap (λ xs. amended old (steps_at moment xs)) is_steps in
+      subst (λ ls. IsStep may_fail h (QueueRun moment) (Ok (Lines ls)) is_open new) (sym are)
+      (run_step h moment old us steps stands faithful sound_here (told ([] ∷ faithful.bodies) all_apart have) judged_here may_fail is_open new (le-ltb latest moment in_time) is_new)
+
+  -- what a crash leaves that has all of it
+  pub ran_left : (left : Option Book) → Apart now (HasEachBody now change → left ≡ Some (amended now change))
+      → left ≡ Some (book_of (followed h (QueueRun moment) (answer h (QueueRun moment))))
+  ran_left left is =
+      is ([] ∷ faithful.bodies) all_apart have_now has
+      ∙ ap Some (stands_answered may_fail h (QueueRun moment) (Lines (map report_line (judgements steps))) (amended now change)
+      (ran_step ⊤ (amended now change) (map report_line (judgements steps)) (λ bodies apart have each. refl) refl))

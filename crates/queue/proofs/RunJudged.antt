@@ -8,7 +8,7 @@ use Rattle.suites.specs.Shelves.{ShelvesValue}
 use Rattle.suites.specs.Told.{AreTold}
 use Rattle.suites.specs.Upload.{UploadValue}
 use Rattle.sums.specs.declared.print.Print.{Print}
-use Rattle.keep.specs.Book.{Book, Candidate, amended, due, judgements, shown_past}
+use Rattle.keep.specs.Book.{Book, Candidate, amended, at_moment, due, judgements, shown_past}
 use Rattle.keep.specs.Keeping.{AreRenewed, AreSteps, IsSound, sign_of, sign_on}
 use Rattle.keep.specs.declared.change.Change.{Change}
 use Rattle.keep.specs.declared.change.IndexText.{IndexText}
@@ -67,17 +67,18 @@ past_uploads config shelves (u ∷ us) (s ∷ ss) are =
 abbrev pub StaysTold : ConfigValue → ShelvesValue → List UploadValue → Type 0
 StaysTold config shelves us = AreTold config.suites shelves → AreTold config.suites (after_uploads config shelves us)
 
--- a change of all uploads that are due is sound
+-- a change of all uploads that are due at its moment is sound
 pub is_sound : (book : Book) (moment : ℕ) (us : List UploadValue) (steps : List Step) (texts : List IndexText) → AreJudged book.config book.shown us steps
-    → map sign_in us ≡ map sign_of (due book) → AreRenewed book (amended book (record { moment = moment; steps = steps; texts = texts })) texts
+    → map sign_in us ≡ map sign_of (due (at_moment moment book)) → AreRenewed book (amended book (record { moment = moment; steps = steps; texts = texts })) texts
     → StaysTold book.config book.shown us
     → IsSound book (record { moment = moment; steps = steps; texts = texts })
 is_sound book moment us steps texts are signs renewed stays =
-    let all : map sign_on (judgements steps) ≡ map sign_of (due book) = signs_are book.config book.shown us steps are ∙ signs in
-    let count : length (judgements steps) ≡ length (due book) = sym (map_length sign_on (judgements steps)) ∙ ap length all ∙ map_length sign_of (due book) in
+    let cs : List Candidate = due (at_moment moment book) in
+    let all : map sign_on (judgements steps) ≡ map sign_of cs = signs_are book.config book.shown us steps are ∙ signs in
+    let count : length (judgements steps) ≡ length cs = sym (map_length sign_on (judgements steps)) ∙ ap length all ∙ map_length sign_of cs in
     record {
       plans = steps_are book.config book.shown us steps are;
-      judged = all ∙ ap (map sign_of) (sym (ap (λ n. take n (due book)) count ∙ take_all (due book)));
+      judged = all ∙ ap (map sign_of) (sym (ap (λ n. take n cs) count ∙ take_all cs));
       texts = renewed;
       told = λ told. subst (AreTold book.config.suites) (past_uploads book.config book.shown us steps are) (stays told);
     }

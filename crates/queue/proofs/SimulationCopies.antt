@@ -4,7 +4,7 @@ use Rattle.std.specs.Prelude.{Contains, bytes_eq}
 use Rattle.std.specs.FinMap.{entries, get, values}
 use Rattle.std.specs.List.{list_any}
 use Rattle.keep.specs.Book.{Book, amended, latest}
-use Rattle.keep.specs.Keeping.{NoCollision}
+use Rattle.keep.specs.Keeping.{HasEachBody, NoCollision}
 use Rattle.keep.specs.declared.arrival.Arrival.{Arrival}
 use Rattle.keep.specs.declared.change.Step.{Step}
 use Rattle.rules.specs.Suites.{keeps_architecture, keeps_component}
@@ -29,8 +29,8 @@ use Rattle.queue.proofs.Kept.{stands_kept}
 use Rattle.queue.proofs.Known.{archive_has, faithful_knows, has_empty, known, with_empty}
 use Rattle.queue.proofs.ShownPrints.{entries-shown_by_print, get-shown_by_print, printed_item}
 use Rattle.queue.proofs.Simulation.{AreSimulated, dates-with_items, shown-with_items}
-use Rattle.queue.proofs.SimulationFiles.{AreFrom, AreStored, amended-simulated, more_stored, shown_stored}
-use Rattle.queue.proofs.SimulationRun.{made_of}
+use Rattle.queue.proofs.SimulationFiles.{AreFrom, AreStored, amended-simulated, bodies-simulated, more_stored, shown_stored}
+use Rattle.queue.proofs.SimulationRun.{made_of, steps_at}
 use Rattle.queue.proofs.Steps.{book_of-followed}
 
 -- ---- the items
@@ -150,6 +150,13 @@ module _ (config : ConfigValue) (moment : ℕ) (a : PlainArchive) (from to : ℕ
       amended-simulated bodies config arrivals a (copied config moment a from to source) (record { moment = moment; steps = copy_step_of plan ∷ []; texts = [] }) apart known_from made
       (copied_stored arrivals config moment a from to source (shown_stored bodies arrivals a apart made agreed)) copied-simulated
 
+  -- and it has a body for each file
+  pub copied-bodies : (bodies : List (List ℕ)) (arrivals : List Arrival) → NoCollision bodies → AreFrom bodies arrivals → AreMadeOf bodies a.admitted → AreAgreed (files_of (values (shown_by_print a)))
+      → HasEachBody (book_from config arrivals a) (steps_at moment (copy_step_of plan ∷ []))
+  copied-bodies bodies arrivals apart known_from made agreed =
+      bodies-simulated bodies config arrivals a (copied config moment a from to source) (steps_at moment (copy_step_of plan ∷ [])) apart known_from made
+      (copied_stored arrivals config moment a from to source (shown_stored bodies arrivals a apart made agreed)) copied-simulated
+
   -- as many items are new as the plan puts
   pub copied-count : count_of_new to a (copied config moment a from to source) ≡ length plan.put
   unfolding count_of_new with_admitted
@@ -171,6 +178,24 @@ answer_copied : (h : History) (from to source : List ℕ) (moment f t : ℕ) →
     → answer h (Copying from to source moment) ≡ Ok (Count (count_of_new t (archive h) (copied h.opening.config moment (archive h) f t source)))
 unfolding answer
 answer_copied h from to source moment f t in_time first second other shows = rw (in_time, first, second, other, shows) refl
+
+-- the book has a body for each file that the pool then has
+pub copy_has : (h : History) (from to source : List ℕ) (moment f t : ℕ) (old : Book) (plan : Plan) → Stands old h → IsFaithful h (Copying from to source moment ∷ []) → AreSound old.shown
+    → plans.IsStep old.shown (plans.after_copy old.config old.shown f t source) plan
+    → HasEachBody old (steps_at moment (copy_step_of plan ∷ []))
+unfolding book_of book_from
+copy_has h from to source moment f t old plan stands faithful sound step =
+    let calls = Copying from to source moment ∷ [] in
+    let all = with_empty h calls faithful in
+    let arrivals = arrived h.opening h.steps in
+    let a = archive h in
+    let known_from : AreFrom all.bodies arrivals = (known h calls faithful).arrivals in
+    let made : AreMadeOf all.bodies a.admitted = made_of all.bodies a.admitted (archive_has (Contains all.bodies) h (faithful_knows h calls all (has_empty faithful.bodies))) in
+    let sound_here : AreSound (shown_by_print a) = subst (λ (b : Book). AreSound b.shown) stands sound in
+    let step_here : plans.IsStep (shown_by_print a) (plans.after_copy h.opening.config (shown_by_print a) f t source) plan =
+    subst (λ (b : Book). plans.IsStep b.shown (plans.after_copy b.config b.shown f t source) plan) stands step in
+    subst (λ (b : Book). HasEachBody b (steps_at moment (copy_step_of plan ∷ []))) (sym stands)
+    (copied-bodies h.opening.config moment a f t source plan step_here all.bodies arrivals all.apart known_from made sound_here.agreed)
 
 -- A copy that is done: its plan is made for what the book shows, and the book is then the old one with it.
 pub copy_step : (may_fail : Bool) (h : History) (from to source : List ℕ) (moment f t : ℕ) (is_open : Type 0) (old new : Book) (plan : Plan)

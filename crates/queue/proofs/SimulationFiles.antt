@@ -1,12 +1,13 @@
--- The files of the book after uploads are those of the pool of the plain archive.
+-- The files of the book after uploads are those of the pool of the plain archive, and it has a body for each.
 use Rattle.std.proofs.Common.{◌≡◌, ◌⊎◌, ℕ, Bool, true, false, cond, List, [], ◌∷◌, ◌++◌, map, find, Option, Some, None, option_map, option_and_then, refl, sym, ap, ◌∙◌, subst, inl, inr}
-use Rattle.std.specs.Prelude.{Contains, ⊤}
+use Rattle.std.specs.Prelude.{Contains, IsTrue, is_some, ⊤}
 use Rattle.std.specs.FinMap.{entries, get, values, get-from_entries}
 use Rattle.std.specs.Option.{option_or}
 use mathlib.Core.Path.{fun_ext}
 use Rattle.std.proofs.lemmas.List.Elements.{Contains-append_cases, Contains-append_left, Contains-append_right}
+use Rattle.std.proofs.lemmas.Option.{same_Some}
 use Rattle.keep.specs.Book.{Book, amended, files_showing, stored_body}
-use Rattle.keep.specs.Keeping.{NoCollision}
+use Rattle.keep.specs.Keeping.{HasEachBody, NoCollision}
 use Rattle.keep.specs.declared.arrival.Arrival.{Arrival}
 use Rattle.keep.specs.declared.change.Change.{Change}
 use Rattle.rules.specs.Judgement.{component}
@@ -19,7 +20,7 @@ use Rattle.suites.specs.Items.{Admitted, FileWith}
 use Rattle.suites.specs.KeyLemmas.{text_order_total, text_order-IsAntisymmetric}
 use Rattle.suites.specs.Plan.{admitted_if}
 use Rattle.suites.specs.Pool.{AreAgreed, files_of, files_with}
-use Rattle.suites.specs.Shelves.{shown}
+use Rattle.suites.specs.Shelves.{ShelvesValue, pool, shown}
 use Rattle.suites.proofs.ShownLemmas.{shown_after-shown}
 use Rattle.suites.specs.Upload.{file_at, items_of}
 use Rattle.queue.specs.Archives.{BodyItem, PlainArchive, WholeUpload, book_from, by_body, contents_of, items_given, pool_in, shown_by_print, shown_in, version_with, whole, with_admitted}
@@ -196,3 +197,22 @@ amended-simulated bodies config arrivals a b change apart from made kept is =
       files = files i;
       dates = is.dates i;
     }
+
+-- ---- a body for each file
+
+has_body : (book : Book) (path : List ℕ) (print : Print) (held : Option (List ℕ)) → option_map print_of held ≡ Some print
+    → ((body : List ℕ) → held ≡ Some body → stored_body book path (print_of body) ≡ Some body) → IsTrue (is_some (stored_body book path print))
+has_body book path print None is there = absurd (cc)
+has_body book path print (Some body) is there =
+    ap (λ (o : Option (List ℕ)). is_some o) (ap (stored_body book path) (sym (same_Some (print_of body) print is)) ∙ there body refl)
+
+-- THE BOOK has a body for each file that the pool of the plain archive has after the steps.
+pub bodies-simulated : (bodies : List (List ℕ)) (config : ConfigValue) (arrivals : List Arrival) (a b : PlainArchive) (change : Change) → NoCollision bodies → AreFrom bodies arrivals
+    → AreMadeOf bodies a.admitted → AreStored arrivals a (entries (shown_in b)) → AreSimulated change.moment a change.steps b
+    → HasEachBody (book_from config arrivals a) change
+unfolding book_from
+bodies-simulated bodies config arrivals a b change apart from made kept is path print at =
+    has_body (book_from config arrivals a) path print (get (pool_in b) path)
+    (sym (get-pool b path) ∙ ap (λ (s : ShelvesValue). get (pool s) path) (sym is.shown) ∙ at)
+    (λ body held. let file : FileWith (List ℕ) = record { path = path; contents = body } in
+    stored bodies config arrivals a apart from made file (pool_stored arrivals a b kept file held))

@@ -7,7 +7,7 @@ use mathlib.Core.Path.{fun_ext}
 use Rattle.std.proofs.lemmas.List.{length-map}
 use Rattle.std.proofs.lemmas.Slice.Eq.{bytes_eq-Decides}
 use Rattle.keep.specs.Book.{Book, amended, dates_after, latest, touches}
-use Rattle.keep.specs.Keeping.{NoCollision}
+use Rattle.keep.specs.Keeping.{HasEachBody, NoCollision}
 use Rattle.keep.specs.declared.arrival.Arrival.{Arrival}
 use Rattle.keep.specs.declared.change.Step.{Step}
 use Rattle.rules.specs.Values.{ConfigValue}
@@ -34,8 +34,8 @@ use Rattle.queue.proofs.Known.{archive_has, faithful_knows, has_empty, known, wi
 use Rattle.queue.proofs.Lists.{all_from_contained, list_any-map}
 use Rattle.queue.proofs.ShownPrints.{entries-shown_by_print}
 use Rattle.queue.proofs.Simulation.{AreSimulated}
-use Rattle.queue.proofs.SimulationFiles.{AreFrom, AreStored, amended-simulated, shown_stored}
-use Rattle.queue.proofs.SimulationRun.{made_of}
+use Rattle.queue.proofs.SimulationFiles.{AreFrom, AreStored, amended-simulated, bodies-simulated, shown_stored}
+use Rattle.queue.proofs.SimulationRun.{made_of, steps_at}
 use Rattle.queue.proofs.Steps.{book_of-followed}
 
 -- ---- the items
@@ -177,6 +177,13 @@ module _ (config : ConfigValue) (moment : ℕ) (a : PlainArchive) (suite : ℕ) 
       amended-simulated bodies config arrivals a (removed moment a suite name) (record { moment = moment; steps = removal_step_of plan ∷ []; texts = [] }) apart known_from made
       (removed_stored arrivals moment a suite name (shown_stored bodies arrivals a apart made agreed)) removed-simulated
 
+  -- and it has a body for each file
+  pub removed-bodies : (bodies : List (List ℕ)) (arrivals : List Arrival) → NoCollision bodies → AreFrom bodies arrivals → AreMadeOf bodies a.admitted → AreAgreed (files_of (values (shown_by_print a)))
+      → HasEachBody (book_from config arrivals a) (steps_at moment (removal_step_of plan ∷ []))
+  removed-bodies bodies arrivals apart known_from made agreed =
+      bodies-simulated bodies config arrivals a (removed moment a suite name) (steps_at moment (removal_step_of plan ∷ [])) apart known_from made
+      (removed_stored arrivals moment a suite name (shown_stored bodies arrivals a apart made agreed)) removed-simulated
+
   -- as many items were shown as the plan drops
   pub removed-count : count_of_shown suite name a ≡ length plan.dropped
   unfolding count_of_shown
@@ -190,6 +197,26 @@ answer_removed : (h : History) (suite name : List ℕ) (moment place : ℕ) → 
     → answer h (Removing suite name moment) ≡ Ok (Count (count_of_shown place name (archive h)))
 unfolding answer
 answer_removed h suite name moment place in_time named shows = rw (in_time, named, shows) refl
+
+-- the book has a body for each file that the pool then has
+pub removal_has : (h : History) (suite name : List ℕ) (moment place : ℕ) (old : Book) (plan : Plan) → Stands old h → IsFaithful h (Removing suite name moment ∷ []) → AreSound old.shown
+    → plans.IsStep old.shown (plans.after_removal old.shown place name) plan
+    → plan.put ≡ [] → plan.dropped ≡ plans.removed old.shown place name
+    → HasEachBody old (steps_at moment (removal_step_of plan ∷ []))
+unfolding book_of book_from
+removal_has h suite name moment place old plan stands faithful sound step put dropped =
+    let calls = Removing suite name moment ∷ [] in
+    let all = with_empty h calls faithful in
+    let arrivals = arrived h.opening h.steps in
+    let a = archive h in
+    let known_from : AreFrom all.bodies arrivals = (known h calls faithful).arrivals in
+    let made : AreMadeOf all.bodies a.admitted = made_of all.bodies a.admitted (archive_has (Contains all.bodies) h (faithful_knows h calls all (has_empty faithful.bodies))) in
+    let sound_here : AreSound (shown_by_print a) = subst (λ (b : Book). AreSound b.shown) stands sound in
+    let step_here : plans.IsStep (shown_by_print a) (plans.after_removal (shown_by_print a) place name) plan =
+    subst (λ (b : Book). plans.IsStep b.shown (plans.after_removal b.shown place name) plan) stands step in
+    let dropped_here : plan.dropped ≡ plans.removed (shown_by_print a) place name = subst (λ (b : Book). plan.dropped ≡ plans.removed b.shown place name) stands dropped in
+    subst (λ (b : Book). HasEachBody b (steps_at moment (removal_step_of plan ∷ []))) (sym stands)
+    (removed-bodies h.opening.config moment a place name plan step_here put dropped_here all.bodies arrivals all.apart known_from made sound_here.agreed)
 
 -- A removal that is done: its plan is made for what the book shows, and the book is then the old one with it.
 pub removal_step : (may_fail : Bool) (h : History) (suite name : List ℕ) (moment place : ℕ) (is_open : Type 0) (old new : Book) (plan : Plan)

@@ -6,10 +6,12 @@ use Rattle.std.specs.Ordering.{is_gt}
 use Rattle.std.specs.Result.{result_ok}
 use Rattle.std.proofs.Math.Seq.{drop-append_seam}
 use Rattle.std.proofs.lemmas.Option.{same_Some}
-use Rattle.keep.specs.Book.{Book, Candidate, amended, candidate_of, candidates, due, in_order, is_changes_name, is_complete, judgements, judging_order, latest, put_in_order, upload_of}
-use Rattle.keep.specs.Keeping.{NoCollision}
+use Rattle.keep.specs.Book.{Book, Candidate, amended, at_moment, candidate_of, candidates, due, in_order, is_changes_name, is_complete, judgements, judging_order, latest, put_in_order, span, upload_of}
+use Rattle.keep.specs.Keeping.{HasEachBody, NoCollision}
 use Rattle.keep.specs.declared.arrival.Arrival.{Arrival}
+use Rattle.keep.specs.declared.change.Change.{Change}
 use Rattle.keep.specs.declared.change.Step.{Step}
+use Rattle.keep.proofs.Moments.{current-part}
 use Rattle.records.specs.Records.{changes_in}
 use Rattle.records.specs.Values.{ChangesValue}
 use Rattle.rules.specs.Values.{ConfigValue}
@@ -20,7 +22,7 @@ use Rattle.suites.specs.Shelves.{AreSound}
 use Rattle.suites.specs.Upload.{UploadValue}
 use Rattle.queue.specs.Answers.{IsFaithful, IsStep, answer, new_lines, report_line}
 use Rattle.queue.specs.Archives.{PlainArchive, Stands, Whole, WholeUpload, acted, acts_of, archive, book_from, book_of, shown_by_print, shown_in, whole_of}
-use Rattle.queue.specs.Histories.{Call, History, Lines, QueueRun, Reply, arrivals_after, arrived, due_after, followed, waiting_after, was_judged}
+use Rattle.queue.specs.Histories.{Call, History, Lines, QueueRun, Reply, arrivals_after, arrived, counting, due_after, followed, waiting_after, was_judged}
 use Rattle.queue.specs.Histories as histories
 use Rattle.queue.specs.Judging.{AreJudged}
 use Rattle.queue.proofs.Contents.{AreMadeOf}
@@ -31,7 +33,7 @@ use Rattle.queue.proofs.Kept.{stands_kept}
 use Rattle.queue.proofs.Known.{ItemHas, ItemsHave, archive_has, faithful_knows, has_empty, known, with_empty}
 use Rattle.queue.proofs.Lists.{at_contained}
 use Rattle.queue.proofs.Simulation.{AreHanded, AreSimulated, acted-wholes, handed, simulated}
-use Rattle.queue.proofs.SimulationFiles.{AreArrived, AreFrom, AreStored, amended-simulated, handed_stored, shown_stored}
+use Rattle.queue.proofs.SimulationFiles.{AreArrived, AreFrom, AreStored, amended-simulated, bodies-simulated, handed_stored, shown_stored}
 use Rattle.queue.proofs.Steps.{book_of-followed}
 
 -- ---- what is due
@@ -76,14 +78,23 @@ candidate_read a c h = named (is_changes_name a.name) h
     named true e = read (result_ok (changes_in a.body)) refl e
     named false e = cc
 
-pub due_after-due : (opening : Book) (steps : List histories.Step) → AreDue (arrived opening steps) (due_after opening steps)
+pub due_after-due : (opening : Book) (steps : List histories.Step) (moment : ℕ) → AreDue (counting opening steps moment) (due_after opening steps moment)
 unfolding waiting_after
-due_after-due opening steps c at =
-    let arrivals = arrived opening steps in
-    let whole = from_filter (is_complete arrivals) c (waiting_after opening steps) at in
+due_after-due opening steps moment c at =
+    let arrivals = counting opening steps moment in
+    let whole = from_filter (is_complete arrivals) c (waiting_after opening steps moment) at in
     let fresh = from_filter (λ c. not (was_judged opening steps c)) c (candidates arrivals) (in_order_member (filter (λ c. not (was_judged opening steps c)) (candidates arrivals)) c whole.0) in
     let came = from_filter_map candidate_of arrivals c fresh.0 in
     record { read = candidate_read came.0 c came.2; complete = whole.1 }
+
+-- these arrivals are among those
+abbrev pub AreAmong : List Arrival → List Arrival → Type 0
+AreAmong now arrivals = (d : Arrival) → Contains now d → Contains arrivals d
+
+-- what counts at a moment has arrived
+counting_among : (opening : Book) (steps : List histories.Step) (moment : ℕ) → AreAmong (counting opening steps moment) (arrived opening steps)
+unfolding counting
+counting_among opening steps moment = current-part (span opening.config) moment (arrived opening steps)
 
 -- ---- handed over
 
@@ -98,11 +109,16 @@ due_handed bodies arrivals (c ∷ cs) from due =
       due_handed bodies arrivals cs from (λ d at. due d (there c d cs at)),
     )
 
-due_arrived : (arrivals : List Arrival) (cs : List Candidate) → AreDue arrivals cs → AreArrived arrivals (wholes arrivals cs)
-due_arrived arrivals [] due = tt
-due_arrived arrivals (c ∷ cs) due =
-    let is = due c (here c cs) in
-    (record { its = whole_of-bodies arrivals c is.read is.complete; come = whole_of-arrived arrivals c is.complete }, due_arrived arrivals cs (λ d at. due d (there c d cs at)))
+due_arrived : (arrivals now : List Arrival) (cs : List Candidate) → AreAmong now arrivals → AreDue now cs → AreArrived arrivals (wholes now cs)
+due_arrived arrivals now [] among due = tt
+due_arrived arrivals now (c ∷ cs) among due =
+    let is = due c (here c cs) in (
+      record {
+        its = whole_of-bodies now c is.read is.complete;
+        come = λ body at. let a = whole_of-arrived now c is.complete body at in (a.0, among a.0 a.1, a.2);
+      },
+      due_arrived arrivals now cs among (λ d at. due d (there c d cs at)),
+    )
 
 uploads_of : (arrivals : List Arrival) (cs : List Candidate) → map (λ (w : WholeUpload). w.upload) (wholes arrivals cs) ≡ map (upload_of arrivals) cs
 unfolding whole_of
@@ -113,30 +129,43 @@ uploads_of arrivals (c ∷ cs) = ap (λ rest. upload_of arrivals c ∷ rest) (up
 abbrev pub after_run : ConfigValue → ℕ → List Arrival → List Candidate → PlainArchive → PlainArchive
 after_run config moment arrivals cs a = fold (acted config) a (map (λ c. Whole (whole_of arrivals c) moment) cs)
 
-module _ (bodies : List (List ℕ)) (apart : NoCollision bodies) (config : ConfigValue) (moment : ℕ) (arrivals : List Arrival) (a : PlainArchive) (cs : List Candidate) (steps : List Step)
-    (from : AreFrom bodies arrivals) (made : AreMadeOf bodies a.admitted) (due : AreDue arrivals cs)
-    (judged : AreJudged config (shown_by_print a) (map (upload_of arrivals) cs) steps) where
-  run_handed : after_run config moment arrivals cs a ≡ handed config moment a (wholes arrivals cs)
-  run_handed = acted-wholes config moment (whole_of arrivals) cs a
+-- the change that steps are, whatever texts it names
+abbrev pub steps_at : ℕ → List Step → Change
+steps_at moment steps = record { moment = moment; steps = steps; texts = [] }
+
+-- Of the arrivals, `now` are those that count at the moment.
+module _ (bodies : List (List ℕ)) (apart : NoCollision bodies) (config : ConfigValue) (moment : ℕ) (arrivals now : List Arrival) (among : AreAmong now arrivals)
+    (a : PlainArchive) (cs : List Candidate) (steps : List Step) (from : AreFrom bodies arrivals) (made : AreMadeOf bodies a.admitted) (due : AreDue now cs)
+    (judged : AreJudged config (shown_by_print a) (map (upload_of now) cs) steps) where
+  run_handed : after_run config moment now cs a ≡ handed config moment a (wholes now cs)
+  run_handed = acted-wholes config moment (whole_of now) cs a
 
   -- what the run's steps make of the book is the book of the archive that the run leaves
-  pub run-simulated : AreSimulated moment a steps (after_run config moment arrivals cs a)
+  pub run-simulated : AreSimulated moment a steps (after_run config moment now cs a)
   run-simulated =
       subst (AreSimulated moment a steps) (sym run_handed)
-      (simulated bodies apart config moment a (wholes arrivals cs) steps made (due_handed bodies arrivals cs from due)
-      (subst (λ us. AreJudged config (shown_by_print a) us steps) (sym (uploads_of arrivals cs)) judged))
+      (simulated bodies apart config moment a (wholes now cs) steps made (due_handed bodies now cs (λ d at. from d (among d at)) due)
+      (subst (λ us. AreJudged config (shown_by_print a) us steps) (sym (uploads_of now cs)) judged))
+
+  -- what the suites then show has its files, in the pool or among the arrivals
+  run-stored : AreAgreed (files_of (values (shown_by_print a))) → AreStored arrivals a (entries (shown_in (after_run config moment now cs a)))
+  run-stored agreed =
+      subst (λ (b : PlainArchive). AreStored arrivals a (entries (shown_in b))) (sym run_handed)
+      (handed_stored arrivals config moment a a (wholes now cs) (shown_stored bodies arrivals a apart made agreed) (due_arrived arrivals now cs among due))
 
   -- THE BOOK after the run is that of the plain archive to which what was due was handed whole.
   pub run-amended : AreAgreed (files_of (values (shown_by_print a)))
-      → amended (book_from config arrivals a) (record { moment = moment; steps = steps; texts = [] }) ≡ book_from config arrivals (after_run config moment arrivals cs a)
+      → amended (book_from config arrivals a) (steps_at moment steps) ≡ book_from config arrivals (after_run config moment now cs a)
   run-amended agreed =
-      let after = handed config moment a (wholes arrivals cs) in
-      let stored : AreStored arrivals a (entries (shown_in after)) = handed_stored arrivals config moment a a (wholes arrivals cs) (shown_stored bodies arrivals a apart made agreed) (due_arrived arrivals cs due) in
-      amended-simulated bodies config arrivals a (after_run config moment arrivals cs a) (record { moment = moment; steps = steps; texts = [] }) apart from made
-      (subst (λ (b : PlainArchive). AreStored arrivals a (entries (shown_in b))) (sym run_handed) stored) run-simulated
+      amended-simulated bodies config arrivals a (after_run config moment now cs a) (steps_at moment steps) apart from made (run-stored agreed) run-simulated
+
+  -- and it has a body for each file
+  pub run-bodies : AreAgreed (files_of (values (shown_by_print a))) → HasEachBody (book_from config arrivals a) (steps_at moment steps)
+  run-bodies agreed =
+      bodies-simulated bodies config arrivals a (after_run config moment now cs a) (steps_at moment steps) apart from made (run-stored agreed) run-simulated
 
   -- what the run adds to the judged uploads
-  pub run-judgements : drop (length a.judged) (after_run config moment arrivals cs a).judged ≡ judgements steps
+  pub run-judgements : drop (length a.judged) (after_run config moment now cs a).judged ≡ judgements steps
   run-judgements = ap (drop (length a.judged)) (sym run-simulated.judged) ∙ drop-append_seam a.judged (judgements steps)
 
 -- ---- the step of a history
@@ -150,33 +179,64 @@ answer_in_time : (h : History) (moment : ℕ) → nat_lt latest moment ≡ false
 unfolding answer
 answer_in_time h moment in_time = rw in_time refl
 
--- A run that is done: the steps judge what is due on what the book shows, and the book is then the old one with them.
-pub run_step : (may_fail : Bool) (h : History) (moment : ℕ) (is_open : Type 0) (old new : Book) (us : List UploadValue) (steps : List Step)
-    → Stands old h → IsFaithful h (QueueRun moment ∷ []) → nat_lt latest moment ≡ false → AreSound old.shown
-    → us ≡ map (upload_of old.arrivals) (due old) → AreJudged old.config old.shown us steps
-    → new ≡ amended old (record { moment = moment; steps = steps; texts = [] })
-    → IsStep may_fail h (QueueRun moment) (Ok (Lines (map report_line (judgements steps)))) is_open new
-unfolding book_of book_from new_lines acts_of arrivals_after
-run_step may_fail h moment is_open old new us steps stands faithful in_time sound is_us judged is_new =
-    let all = with_empty h (QueueRun moment ∷ []) faithful in
-    let knows = faithful_knows h (QueueRun moment ∷ []) all (has_empty faithful.bodies) in
-    let config = h.opening.config in
-    let arrivals = arrived h.opening h.steps in
-    let cs = due_after h.opening h.steps in
-    let a = archive h in
-    let from : AreFrom all.bodies arrivals = (known h (QueueRun moment ∷ []) faithful).arrivals in
-    let made : AreMadeOf all.bodies a.admitted = made_of all.bodies a.admitted (archive_has (Contains all.bodies) h knows) in
-    let sound_here : AreSound (shown_by_print a) = subst (λ (b : Book). AreSound b.shown) stands sound in
-    let uploads : us ≡ map (upload_of arrivals) cs =
-    is_us ∙ ap (λ (b : Book). map (upload_of b.arrivals) (due b)) stands ∙ ap (map (upload_of arrivals)) (due_faithful h (QueueRun moment ∷ []) faithful) in
-    let judged_here : AreJudged config (shown_by_print a) (map (upload_of arrivals) cs) steps =
-    subst (λ us. AreJudged config (shown_by_print a) us steps) uploads (subst (λ (b : Book). AreJudged b.config b.shown us steps) stands judged) in
-    let lines : map report_line (judgements steps) ≡ new_lines h moment =
-    ap (map report_line) (sym (run-judgements all.bodies all.apart config moment arrivals a cs steps from made (due_after-due h.opening h.steps) judged_here)) in
-    record {
-      answered = ap (λ ls. Ok (Lines ls)) lines ∙ sym (answer_in_time h moment in_time);
-      kept = stands_kept is_open new (followed h (QueueRun moment) (Ok (Lines (map report_line (judgements steps)))))
-          (is_new ∙ ap (λ (b : Book). amended b (record { moment = moment; steps = steps; texts = [] })) stands
-          ∙ run-amended all.bodies all.apart config moment arrivals a cs steps from made (due_after-due h.opening h.steps) judged_here sound_here.agreed
-          ∙ sym (book_of-followed h (QueueRun moment) (Ok (Lines (map report_line (judgements steps))))));
-    }
+-- A run whose steps judge what is due on what the book shows.
+module _ (h : History) (moment : ℕ) (old : Book) (us : List UploadValue) (steps : List Step) (stands : Stands old h) (faithful : IsFaithful h (QueueRun moment ∷ []))
+    (sound : AreSound old.shown) (is_us : us ≡ map (upload_of (at_moment moment old).arrivals) (due (at_moment moment old))) (judged : AreJudged old.config old.shown us steps) where
+  abbrev now : List Arrival
+  now = counting h.opening h.steps moment
+
+  abbrev cs : List Candidate
+  cs = due_after h.opening h.steps moment
+
+  abbrev all : IsFaithful h (QueueRun moment ∷ [])
+  all = with_empty h (QueueRun moment ∷ []) faithful
+
+  known_from : AreFrom all.bodies (arrived h.opening h.steps)
+  unfolding book_of book_from
+  known_from = (known h (QueueRun moment ∷ []) faithful).arrivals
+
+  made : AreMadeOf all.bodies (archive h).admitted
+  made = made_of all.bodies (archive h).admitted (archive_has (Contains all.bodies) h (faithful_knows h (QueueRun moment ∷ []) all (has_empty faithful.bodies)))
+
+  sound_here : AreSound (shown_by_print (archive h))
+  unfolding book_of book_from
+  sound_here = subst (λ (b : Book). AreSound b.shown) stands sound
+
+  uploads : us ≡ map (upload_of now) cs
+  unfolding book_of book_from at_moment counting
+  uploads =
+      is_us ∙ ap (λ (b : Book). map (upload_of (at_moment moment b).arrivals) (due (at_moment moment b))) stands
+      ∙ ap (map (upload_of now)) (due_faithful h (QueueRun moment ∷ []) faithful moment)
+
+  judged_here : AreJudged h.opening.config (shown_by_print (archive h)) (map (upload_of now) cs) steps
+  unfolding book_of book_from
+  judged_here =
+      subst (λ us. AreJudged h.opening.config (shown_by_print (archive h)) us steps) uploads (subst (λ (b : Book). AreJudged b.config b.shown us steps) stands judged)
+
+  -- the book has a body for each file that the pool then has
+  pub run_has : HasEachBody old (steps_at moment steps)
+  unfolding book_of
+  run_has =
+      subst (λ (b : Book). HasEachBody b (steps_at moment steps)) (sym stands)
+      (run-bodies all.bodies all.apart h.opening.config moment (arrived h.opening h.steps) now (counting_among h.opening h.steps moment) (archive h) cs steps
+      known_from made (due_after-due h.opening h.steps moment) judged_here sound_here.agreed)
+
+  -- A run that is done: the book is then the old one with these steps.
+  pub run_step : (may_fail : Bool) (is_open : Type 0) (new : Book) → nat_lt latest moment ≡ false → new ≡ amended old (steps_at moment steps)
+      → IsStep may_fail h (QueueRun moment) (Ok (Lines (map report_line (judgements steps)))) is_open new
+  unfolding book_of book_from new_lines acts_of arrivals_after
+  run_step may_fail is_open new in_time is_new =
+      let config = h.opening.config in
+      let arrivals = arrived h.opening h.steps in
+      let a = archive h in
+      let among = counting_among h.opening h.steps moment in
+      let due_here = due_after-due h.opening h.steps moment in
+      let lines : map report_line (judgements steps) ≡ new_lines h moment =
+      ap (map report_line) (sym (run-judgements all.bodies all.apart config moment arrivals now among a cs steps known_from made due_here judged_here)) in
+      record {
+        answered = ap (λ ls. Ok (Lines ls)) lines ∙ sym (answer_in_time h moment in_time);
+        kept = stands_kept is_open new (followed h (QueueRun moment) (Ok (Lines (map report_line (judgements steps)))))
+            (is_new ∙ ap (λ (b : Book). amended b (steps_at moment steps)) stands
+            ∙ run-amended all.bodies all.apart config moment arrivals now among a cs steps known_from made due_here judged_here sound_here.agreed
+            ∙ sym (book_of-followed h (QueueRun moment) (Ok (Lines (map report_line (judgements steps))))));
+      }

@@ -10,7 +10,7 @@ use Rattle.sums.specs.Lines.{is_file_name}
 use Rattle.records.specs.Records.{changes_in}
 use Rattle.records.specs.Values.{ChangesValue}
 use Rattle.records.specs.declared.fault.RecordFault.{RecordFault}
-use Rattle.keep.specs.Book.{Book, has_arrival, is_changes_name, latest, text_at, unjudged, waiting_list, with_delivery}
+use Rattle.keep.specs.Book.{Book, at_moment, ended, has_arrival, is_changes_name, latest, span, text_at, unjudged, waiting_list, with_delivery}
 use Rattle.keep.specs.Keeping.{HasBodies, IsDeliverable, MayAnswer, NoCollision}
 use Rattle.keep.specs.declared.arrival.Arrival.{Arrival}
 use Rattle.keep.specs.declared.change.Judgement.{Judgement}
@@ -21,14 +21,14 @@ use Rattle.queue.specs.Answers.{IsAnswer, IsFaithful, IsKept, IsStep, answer, de
 use Rattle.queue.specs.Archives.{Stands, book_of, book_from}
 use Rattle.queue.specs.Deliveries.{IsKeepers, delivery_fault, fault_of_read, most_bytes, or_else, record_fault}
 use Rattle.queue.specs.Fault.{of_keeper}
-use Rattle.queue.specs.Histories.{Call, Delivery, QueueRun, Lookup, WaitingList, VerdictList, Reply, Stored, Lines, Found, History, arrived, bodies_of, bodies_of_call, calls_of, followed, waiting_after}
+use Rattle.queue.specs.Histories.{Call, Delivery, QueueRun, Lookup, WaitingList, Cleaning, VerdictList, Reply, Stored, Lines, Count, Found, History, arrived, bodies_of, bodies_of_call, calls_of, counting, followed, waiting_after}
 use Rattle.queue.specs.declared.fault.Fault.{Fault}
 use Rattle.queue.specs.declared.fault.Fault.TheVariants.{OutOfMemory, BadName, TooLarge, Record, Keeper, Moment, UnknownSuite, SameSuite, NothingToCopy, Ended, ReaderFailed, NothingToRemove}
 use Rattle.queue.proofs.Judged.{unjudged_faithful}
 use Rattle.queue.proofs.Kept.{IsSame, stands_kept}
 use Rattle.queue.proofs.Known.{known, apart_with_empty}
 use Rattle.queue.proofs.Lists.{contains_later}
-use Rattle.queue.proofs.Steps.{book_of-refused, book_of-delivered, book_of-looked_up, book_of-waited, book_of-listed}
+use Rattle.queue.proofs.Steps.{book_of-refused, book_of-cleaned, book_of-delivered, book_of-looked_up, book_of-waited, book_of-listed}
 
 -- ---- refusals
 
@@ -118,7 +118,7 @@ unfolding answer
 refused_delivery may_fail h name body moment fault (inl is) = subst (λ (f : Fault). IsAnswer may_fail h (Delivery name body moment) (Err f)) (sym is) tt
 refused_delivery may_fail h name body moment fault (inr is) =
     answered_fault may_fail h (Delivery name body moment) fault
-    (ap (λ f. delivery_answer f (not (has_arrival (arrived h.opening h.steps) (record { name = name; body = body; moment = moment })))) is)
+    (ap (λ f. delivery_answer f (not (has_arrival (counting h.opening h.steps moment) (record { name = name; body = body; moment = moment })))) is)
     (λ own own_is. delivery_apart name body moment own (is ∙ ap (λ (f : Fault). Some f) own_is))
 
 -- a delivery without a fault is not refused
@@ -159,10 +159,11 @@ delivered_last h name body moment =
 -- a delivery that is done, where what the keeper says holds for all bodies without collision
 pub delivered_step : (may_fail : Bool) (h : History) (name body : List ℕ) (moment : ℕ) (is_open : Type 0) (old new : Book) (fresh : Bool)
     → Stands old h → IsFaithful h (Delivery name body moment ∷ []) → delivery_fault name body moment ≡ None
-    → ((bodies : List (List ℕ)) → NoCollision bodies → HasBodies bodies old → Contains bodies body → fresh ≡ not (has_arrival old.arrivals (record { name = name; body = body; moment = moment })))
+    → ((bodies : List (List ℕ)) → NoCollision bodies → HasBodies bodies old → Contains bodies body
+    → fresh ≡ not (has_arrival (at_moment moment old).arrivals (record { name = name; body = body; moment = moment })))
     → ((bodies : List (List ℕ)) → NoCollision bodies → HasBodies bodies old → Contains bodies body → new ≡ with_delivery old (record { name = name; body = body; moment = moment }))
     → IsStep may_fail h (Delivery name body moment) (Ok (Stored fresh)) is_open new
-unfolding answer book_of book_from
+unfolding answer book_of book_from at_moment counting
 delivered_step may_fail h name body moment is_open old new fresh stands faithful none told is =
     let a : Arrival = record { name = name; body = body; moment = moment } in
     let bodies = [] ∷ faithful.bodies in
@@ -170,8 +171,8 @@ delivered_step may_fail h name body moment is_open old new fresh stands faithful
     let have : HasBodies bodies old = subst (HasBodies bodies) (sym stands) (known h (Delivery name body moment ∷ []) faithful) in
     let there : Contains bodies body = contains_later [] faithful.bodies body (faithful.delivered body (delivered_last h name body moment)) in
     record {
-      answered = sym (ap (λ f. delivery_answer f (not (has_arrival (arrived h.opening h.steps) a))) none
-          ∙ ap (λ b. Ok (Stored b)) (sym (told bodies apart have there ∙ ap (λ (b : Book). not (has_arrival b.arrivals a)) stands)));
+      answered = sym (ap (λ f. delivery_answer f (not (has_arrival (counting h.opening h.steps moment) a))) none
+          ∙ ap (λ b. Ok (Stored b)) (sym (told bodies apart have there ∙ ap (λ (b : Book). not (has_arrival (at_moment moment b).arrivals a)) stands)));
       kept = stands_kept is_open new (followed h (Delivery name body moment) (Ok (Stored fresh))) (is bodies apart have there ∙ ap (λ b. with_delivery b a) stands ∙ sym (book_of-delivered h name body moment (Stored fresh)));
     }
 
@@ -185,7 +186,7 @@ pub delivered_left : (may_fail : Bool) (h : History) (name body : List ℕ) (mom
     → left ≡ Some (book_of (followed h (Delivery name body moment) (answer h (Delivery name body moment))))
 delivered_left may_fail h name body moment old left stands faithful none is =
     let a : Arrival = record { name = name; body = body; moment = moment } in
-    let fresh = not (has_arrival old.arrivals a) in
+    let fresh = not (has_arrival (at_moment moment old).arrivals a) in
     let bodies = [] ∷ faithful.bodies in
     let have : HasBodies bodies old = subst (HasBodies bodies) (sym stands) (known h (Delivery name body moment ∷ []) faithful) in
     let there : Contains bodies body = contains_later [] faithful.bodies body (faithful.delivered body (delivered_last h name body moment)) in
@@ -204,12 +205,6 @@ left_delivered may_fail h name body moment was_open old left kept none made = el
   | inl is ↦ inl (is ∙ ap Some (kept.stands made.0))
   | inr whole ↦ inr (λ faithful. delivered_left may_fail h name body moment old left (kept.stands made.0) faithful none whole)
 ]
-
--- what a crash leaves that has all of a change, where what the keeper says holds for all bodies without collision
-pub left_whole : (h : History) (calls : List Call) (faithful : IsFaithful h calls) (now whole : Book) (left : Option Book) → now ≡ book_of h
-    → ((bodies : List (List ℕ)) → NoCollision bodies → HasBodies bodies now → left ≡ Some whole) → left ≡ Some whole
-left_whole h calls faithful now whole left is told =
-    told ([] ∷ faithful.bodies) (apart_with_empty faithful.bodies faithful.apart) (subst (HasBodies ([] ∷ faithful.bodies)) (sym is) (known h calls faithful))
 
 -- ---- look-ups
 
@@ -244,19 +239,20 @@ waiting_lines book = map-map _ _ (unjudged book)
 -- the waiting uploads, where what the keeper says holds for all bodies without collision
 pub waiting_step : (may_fail : Bool) (h : History) (moment : ℕ) (is_open : Type 0) (old new : Book) (waiting : List Waiting) (lines : List (List ℕ))
     → Stands old h → IsFaithful h (WaitingList moment ∷ []) → moment ≤ latest
-    → ((bodies : List (List ℕ)) → NoCollision bodies → HasBodies bodies old → waiting ≡ waiting_list old)
+    → ((bodies : List (List ℕ)) → NoCollision bodies → HasBodies bodies old → waiting ≡ waiting_list (at_moment moment old))
     → lines ≡ map line_on_waiting waiting → new ≡ old
     → IsStep may_fail h (WaitingList moment) (Ok (Lines lines)) is_open new
-unfolding answer book_of book_from
+unfolding answer book_of book_from at_moment counting
 waiting_step may_fail h moment is_open old new waiting lines stands faithful in_time told are same =
     let calls = WaitingList moment ∷ [] in
     let bodies = [] ∷ faithful.bodies in
     let have : HasBodies bodies old = subst (HasBodies bodies) (sym stands) (known h calls faithful) in
-    let told_lines : lines ≡ map (waiting_line (arrived h.opening h.steps)) (waiting_after h.opening h.steps) =
-    are ∙ ap (map line_on_waiting) (told bodies (apart_with_empty faithful.bodies faithful.apart) have ∙ ap waiting_list stands)
-    ∙ waiting_lines (book_of h) ∙ ap (map (waiting_line (arrived h.opening h.steps))) (unjudged_faithful h calls faithful) in
+    let told_lines : lines ≡ map (waiting_line (counting h.opening h.steps moment)) (waiting_after h.opening h.steps moment) =
+    are ∙ ap (map line_on_waiting) (told bodies (apart_with_empty faithful.bodies faithful.apart) have ∙ ap (λ b. waiting_list (at_moment moment b)) stands)
+    ∙ waiting_lines (at_moment moment (book_of h)) ∙ ap (map (waiting_line (counting h.opening h.steps moment))) (unjudged_faithful h calls faithful moment) in
     record {
-      answered = ap (λ ls. Ok (Lines ls)) told_lines ∙ sym (ap (λ b. if b then Err Moment else Ok (Lines (map (waiting_line (arrived h.opening h.steps)) (waiting_after h.opening h.steps)))) (le-ltb latest moment in_time));
+      answered = ap (λ ls. Ok (Lines ls)) told_lines
+          ∙ sym (ap (λ b. if b then Err Moment else Ok (Lines (map (waiting_line (counting h.opening h.steps moment)) (waiting_after h.opening h.steps moment)))) (le-ltb latest moment in_time));
       kept = stands_kept is_open new (followed h (WaitingList moment) (Ok (Lines lines))) (same ∙ stands ∙ sym (book_of-waited h moment (Ok (Lines lines))));
     }
 
@@ -272,6 +268,41 @@ verdicts_step may_fail h is_open old new judged lines stands told are same =
       answered = ap (λ ls. Ok (Lines ls)) (are ∙ ap (map report_line) (told ∙ ap (λ (b : Book). b.judged) stands));
       kept = stands_kept is_open new (followed h VerdictList (Ok (Lines lines))) (same ∙ stands ∙ sym (book_of-listed h (Ok (Lines lines))));
     }
+
+-- ---- cleanings
+
+pub late_cleaning : (may_fail : Bool) (h : History) (moment : ℕ) → latest < moment → IsAnswer may_fail h (Cleaning moment) (Err Moment)
+unfolding answer
+late_cleaning may_fail h moment late = rw (lt-ltb latest moment late) refl
+
+pub free_cleaning : (h : History) (moment : ℕ) → moment ≤ latest → is_refused h (Cleaning moment) ≡ false
+unfolding is_refused
+free_cleaning h moment in_time = le-ltb latest moment in_time
+
+-- how many arrivals of the book end by the moment
+abbrev count_in : ℕ → Book → ℕ
+count_in moment book = length (ended (span book.config) moment book.arrivals)
+
+-- a cleaning that is done
+pub cleaned_step : (may_fail : Bool) (h : History) (moment : ℕ) (is_open : Type 0) (old new : Book) (count : ℕ) → Stands old h → moment ≤ latest
+    → count ≡ length (ended (span old.config) moment old.arrivals) → new ≡ at_moment moment old
+    → IsStep may_fail h (Cleaning moment) (Ok (Count count)) is_open new
+unfolding answer book_of book_from
+cleaned_step may_fail h moment is_open old new count stands in_time told is =
+    record {
+      answered = ap (λ n. Ok (Count n)) (told ∙ ap (count_in moment) stands)
+          ∙ sym (ap (λ b. if b then Err Moment else Ok (Count (length (ended (span h.opening.config) moment (arrived h.opening h.steps))))) (le-ltb latest moment in_time));
+      kept = stands_kept is_open new (followed h (Cleaning moment) (Ok (Count count))) (is ∙ ap (at_moment moment) stands ∙ sym (book_of-cleaned h moment (Count count)));
+    }
+
+-- what a crash leaves that has all of it
+pub cleaned_left : (may_fail : Bool) (h : History) (moment : ℕ) (was_open : Type 0) (old : Book) (left : Option Book) → IsKept was_open old h → moment ≤ latest
+    → was_open × (left ≡ Some (at_moment moment old))
+    → left ≡ Some (book_of (followed h (Cleaning moment) (answer h (Cleaning moment))))
+cleaned_left may_fail h moment was_open old left kept in_time made =
+    made.1
+    ∙ ap Some (stands_answered may_fail h (Cleaning moment) (Count (count_in moment old)) (at_moment moment old)
+    (cleaned_step may_fail h moment ⊤ old (at_moment moment old) (count_in moment old) (kept.stands made.0) in_time refl refl))
 
 -- ---- runs
 

@@ -9,14 +9,14 @@ use Rattle.rules.specs.declared.verdict.Verdict.{Verdict}
 use Rattle.rules.specs.declared.verdict.Verdict.TheVariants as verdict
 use Rattle.suites.specs.Plan.{is_removed}
 use Rattle.texts.specs.Indices.{index_text}
-use Rattle.keep.specs.Book.{Book, Candidate, has_arrival, missing, latest}
+use Rattle.keep.specs.Book.{Book, Candidate, ended, has_arrival, missing, latest, span}
 use Rattle.keep.specs.Keeping.{NoCollision, HasBodies}
 use Rattle.keep.specs.declared.arrival.Arrival.{Arrival}
 use Rattle.keep.specs.declared.change.Judgement.{Judgement}
 use Rattle.keep.specs.declared.change.Waiting.{Waiting}
 use Rattle.queue.specs.Archives.{PlainArchive, archive, acted, acts_of, pool_in, shown_in, shown_by_print, suite_named, is_shown_of, copied, Stands}
 use Rattle.queue.specs.Deliveries.{IsOfDisk, delivery_fault}
-use Rattle.queue.specs.Histories.{Call, Delivery, QueueRun, Copying, Lookup, WaitingList, Removing, VerdictList, Reply, Stored, Lines, Count, Found, History, arrived, waiting_after, bodies_of, calls_of, followed}
+use Rattle.queue.specs.Histories.{Call, Delivery, QueueRun, Copying, Lookup, WaitingList, Cleaning, Removing, VerdictList, Reply, Stored, Lines, Count, Found, History, arrived, counting, waiting_after, bodies_of, calls_of, followed}
 use Rattle.queue.specs.declared.fault.Fault.{Fault}
 use Rattle.queue.specs.declared.fault.Fault.TheVariants.{OutOfMemory, Keeper, Moment, UnknownSuite, SameSuite, NothingToCopy, NothingToRemove}
 
@@ -34,7 +34,7 @@ new_lines h moment =
     let after = fold (acted h.opening.config) (archive h) (acts_of h.opening h.steps (QueueRun moment) (Ok (Lines []))) in
     map report_line (drop (length (archive h).judged) after.judged)
 
--- an upload that waits: the number of its entries that have not arrived, and its name
+-- an upload that waits: the number of its entries of which no body counts, and its name
 abbrev pub line_on_waiting : Waiting → List ℕ
 line_on_waiting w = decimal w.missing ++ codes " " ++ w.name
 
@@ -86,13 +86,15 @@ removal_answer a (Some suite) name =
 -- what the plain archive of the history answers to the call
 unfoldable pub answer : History → Call → Result Reply Fault
 answer h (Delivery name body moment) = delivery_answer (delivery_fault name body moment)
-    (not (has_arrival (arrived h.opening h.steps) (record { name = name; body = body; moment = moment })))
+    (not (has_arrival (counting h.opening h.steps moment) (record { name = name; body = body; moment = moment })))
 answer h (QueueRun moment) = unless_late moment (Ok (Lines (new_lines h moment)))
 answer h (Copying from to source moment) = unless_late moment
     (copy_answer h.opening.config (archive h) (suite_named h.opening.config from) (suite_named h.opening.config to) source moment)
 answer h (Lookup path) = Ok (Found (found_at h path))
 answer h (WaitingList moment) = unless_late moment
-    (Ok (Lines (map (waiting_line (arrived h.opening h.steps)) (waiting_after h.opening h.steps))))
+    (Ok (Lines (map (waiting_line (counting h.opening h.steps moment)) (waiting_after h.opening h.steps moment))))
+answer h (Cleaning moment) = unless_late moment
+    (Ok (Count (length (ended (span h.opening.config) moment (arrived h.opening h.steps)))))
 answer h (Removing suite name moment) = unless_late moment (removal_answer (archive h) (suite_named h.opening.config suite) name)
 answer h VerdictList = Ok (Lines (map report_line (archive h).judged))
 
@@ -117,6 +119,7 @@ is_refused h (QueueRun moment) = nat_lt latest moment
 is_refused h (Copying from to source moment) =
     nat_lt latest moment || are_no_two (suite_named h.opening.config from) (suite_named h.opening.config to)
 is_refused h (WaitingList moment) = nat_lt latest moment
+is_refused h (Cleaning moment) = nat_lt latest moment
 is_refused h (Removing suite name moment) = nat_lt latest moment || not (is_some (suite_named h.opening.config suite))
 is_refused h call = false
 

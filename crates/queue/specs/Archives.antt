@@ -22,7 +22,7 @@ use Rattle.keep.specs.Book.{Book, Candidate, body_for, upload_of}
 use Rattle.keep.specs.declared.arrival.Arrival.{Arrival}
 use Rattle.keep.specs.declared.change.Judgement.{Judgement}
 use Rattle.queue.specs.Before.{before_each}
-use Rattle.queue.specs.Histories.{Call, QueueRun, Copying, Removing, Reply, Step, History, arrived, due_after}
+use Rattle.queue.specs.Histories.{Call, QueueRun, Copying, Removing, Reply, Step, History, arrived, counting, due_after}
 use Rattle.queue.specs.declared.fault.Fault.{Fault}
 
 -- ---- what the plain archive has
@@ -146,15 +146,15 @@ acted config a (Whole upload moment) = whole config moment a upload
 acted config a (Copy from to source moment) = copied config moment a from to source
 acted config a (Remove suite name moment) = removed moment a suite name
 
--- a .changes with the body that has arrived for each file that it lists
+-- a .changes with the body that is among the arrivals for each file that it lists
 unfoldable pub whole_of : List Arrival → Candidate → WholeUpload
 whole_of arrivals c = record { upload = upload_of arrivals c; bodies = map (body_for arrivals) c.changes.entries }
 
--- What a call behind those before it does to the plain archive: a run that was done hands over each upload that is due;
--- a copy that was done copies, a removal that was done removes; no other call does anything.
+-- What a call behind those before it does to the plain archive: a run that was done hands over each upload that is due at its
+-- moment; a copy that was done copies, a removal that was done removes; no other call does anything, a cleaning neither.
 unfoldable pub acts_of : Book → List Step → Call → Result Reply Fault → List Act
 acts_of opening before (QueueRun moment) (Ok reply) =
-    map (λ c. Whole (whole_of (arrived opening before) c) moment) (due_after opening before)
+    map (λ c. Whole (whole_of (counting opening before moment) c) moment) (due_after opening before moment)
 acts_of opening before (Copying from to source moment) (Ok reply) = flat_map
     (λ f. map (λ t. Copy f t source moment) (option_to_list (suite_named opening.config to)))
     (option_to_list (suite_named opening.config from))

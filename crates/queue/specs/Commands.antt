@@ -3,7 +3,7 @@ use Rattle.std.specs.Prelude.{ℕ, Bool, true, false, List, map, Option, Result,
 use Rattle.std.specs.Option.{option_map}
 use Rattle.std.specs.declared.vec.Vec.{Vec}
 use Rattle.std.specs.declared.alloc.Global.{Global}
-use Rattle.queue.specs.Histories.{Call, Delivery, QueueRun, Copying, Lookup, WaitingList, Removing, VerdictList, Reply, Stored, Lines, Count, Found}
+use Rattle.queue.specs.Histories.{Call, Delivery, QueueRun, Copying, Lookup, WaitingList, Cleaning, Removing, VerdictList, Reply, Stored, Lines, Count, Found}
 use Rattle.queue.specs.declared.fault.Fault.{Fault}
 use Rattle.queue.specs.declared.command.Arrived.{Arrived}
 use Rattle.queue.specs.declared.command.Arrived.TheVariants.{New, Again}
@@ -43,6 +43,7 @@ call_of (command.Run moment) = QueueRun moment
 call_of (command.Copy from to source moment) = Copying (string_bytes from) (string_bytes to) (string_bytes source) moment
 call_of (command.Fetch path) = Lookup (string_bytes path)
 call_of (command.Waiting moment) = WaitingList moment
+call_of (command.Clean moment) = Cleaning moment
 call_of (command.Remove suite name moment) = Removing (string_bytes suite) (string_bytes name) moment
 call_of command.Verdicts = VerdictList
 
@@ -52,6 +53,7 @@ outcome_of (outcome.Run result) = reported result
 outcome_of (outcome.Copy result) = counted result
 outcome_of (outcome.Fetch result) = found result
 outcome_of (outcome.Waiting result) = reported result
+outcome_of (outcome.Clean result) = counted result
 outcome_of (outcome.Remove result) = counted result
 outcome_of (outcome.Verdicts result) = reported result
 
@@ -62,6 +64,7 @@ pub data Kind : Type 0 where
   CopyingSource : Kind
   Fetching : Kind
   ListingWaiting : Kind
+  CleaningUp : Kind
   RemovingPackage : Kind
   ListingVerdicts : Kind
 
@@ -71,6 +74,7 @@ kind_of_command (command.Run moment) = Running
 kind_of_command (command.Copy from to source moment) = CopyingSource
 kind_of_command (command.Fetch path) = Fetching
 kind_of_command (command.Waiting moment) = ListingWaiting
+kind_of_command (command.Clean moment) = CleaningUp
 kind_of_command (command.Remove suite name moment) = RemovingPackage
 kind_of_command command.Verdicts = ListingVerdicts
 
@@ -80,5 +84,6 @@ kind_of_outcome (outcome.Run result) = Running
 kind_of_outcome (outcome.Copy result) = CopyingSource
 kind_of_outcome (outcome.Fetch result) = Fetching
 kind_of_outcome (outcome.Waiting result) = ListingWaiting
+kind_of_outcome (outcome.Clean result) = CleaningUp
 kind_of_outcome (outcome.Remove result) = RemovingPackage
 kind_of_outcome (outcome.Verdicts result) = ListingVerdicts

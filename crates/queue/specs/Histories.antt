@@ -1,7 +1,7 @@
--- Histories of calls and their outcomes: what has arrived, and which uploads are complete.
+-- Histories of calls and their outcomes: what has arrived, what of it counts, and which uploads are complete.
 use Rattle.std.specs.Prelude.{ℕ, Bool, true, false, ◌&&◌, ◌||◌, not, List, [], ◌∷◌, ◌++◌, map, filter, bytes_eq, Option, Result, Ok}
 use Rattle.std.specs.List.{list_any, flat_map, fold}
-use Rattle.keep.specs.Book.{Book, Candidate, candidates, in_order, is_complete, is_judged, with_arrival}
+use Rattle.keep.specs.Book.{Book, Candidate, candidates, current, in_order, is_complete, is_judged, span, with_arrival}
 use Rattle.keep.specs.declared.arrival.Arrival.{Arrival}
 use Rattle.queue.specs.Before.{before_each}
 use Rattle.queue.specs.declared.fault.Fault.{Fault}
@@ -13,6 +13,7 @@ pub data Call : Type 0 where
   Copying : (from : List ℕ) (to : List ℕ) (source : List ℕ) (moment : ℕ) → Call
   Lookup : (path : List ℕ) → Call
   WaitingList : (moment : ℕ) → Call
+  Cleaning : (moment : ℕ) → Call
   Removing : (suite : List ℕ) (name : List ℕ) (moment : ℕ) → Call
   VerdictList : Call
 
@@ -33,40 +34,46 @@ pub record History : Type 0 where
   pub opening : Book
   pub steps : List Step
 
--- the arrivals after a call with this outcome: a delivery that was done adds its pair
-unfoldable pub arrivals_after : List Arrival → Call → Result Reply Fault → List Arrival
-arrivals_after arrivals (Delivery name body moment) (Ok reply) =
+-- The arrivals after a call with this outcome, where each counts for so many seconds: a delivery that was done adds its pair, a
+-- cleaning that was done leaves what counts at its moment.
+unfoldable pub arrivals_after : Option ℕ → List Arrival → Call → Result Reply Fault → List Arrival
+arrivals_after seconds arrivals (Delivery name body moment) (Ok reply) =
     with_arrival arrivals (record { name = name; body = body; moment = moment })
-arrivals_after arrivals call outcome = arrivals
+arrivals_after seconds arrivals (Cleaning moment) (Ok reply) = current seconds moment arrivals
+arrivals_after seconds arrivals call outcome = arrivals
 
--- the pairs of the opening and of deliveries that were done
+-- the pairs of the opening and of deliveries that were done, without those that cleanings took
 unfoldable pub arrived : Book → List Step → List Arrival
-arrived opening steps = fold (λ arrivals step. arrivals_after arrivals step.call step.outcome) opening.arrivals steps
+arrived opening steps =
+    fold (λ arrivals step. arrivals_after (span opening.config) arrivals step.call step.outcome) opening.arrivals steps
 
--- whether the call is a run that was done
-unfoldable pub is_run : Call → Result Reply Fault → Bool
-is_run (QueueRun moment) (Ok reply) = true
-is_run call outcome = false
+-- what of it counts at a moment
+unfoldable pub counting : Book → List Step → ℕ → List Arrival
+counting opening steps moment = current (span opening.config) moment (arrived opening steps)
 
 -- the .changes has arrived
 unfoldable pub has_come : List Arrival → Candidate → Bool
 has_come arrivals c = list_any (λ d. bytes_eq d.name c.name && bytes_eq d.body c.body) (candidates arrivals)
 
+-- The call is a run that was done, and at its own moment the .changes and each listed file counted.
+unfoldable pub completes : Book → List Step → Candidate → Call → Result Reply Fault → Bool
+completes opening before c (QueueRun moment) (Ok reply) =
+    has_come (counting opening before moment) c && is_complete (counting opening before moment) c
+completes opening before c call outcome = false
+
 -- The upload has a verdict in the opening, or was complete at a run among these calls that was done.
 unfoldable pub was_judged : Book → List Step → Candidate → Bool
 was_judged opening steps c =
-    is_judged opening.judged c
-    || list_any (λ p. is_run p.1.call p.1.outcome && (has_come (arrived opening p.0) c && is_complete (arrived opening p.0) c))
-    (before_each steps)
+    is_judged opening.judged c || list_any (λ p. completes opening p.0 c p.1.call p.1.outcome) (before_each steps)
 
--- the uploads that no run behind these calls has judged, in the order of judging
-unfoldable pub waiting_after : Book → List Step → List Candidate
-waiting_after opening steps =
-    in_order (filter (λ c. not (was_judged opening steps c)) (candidates (arrived opening steps)))
+-- the uploads that count at a moment and that no run among these calls has judged, in the order of judging
+unfoldable pub waiting_after : Book → List Step → ℕ → List Candidate
+waiting_after opening steps moment =
+    in_order (filter (λ c. not (was_judged opening steps c)) (candidates (counting opening steps moment)))
 
--- what a run behind these calls judges: what is complete, and was so at no earlier run
-abbrev pub due_after : Book → List Step → List Candidate
-due_after opening steps = filter (is_complete (arrived opening steps)) (waiting_after opening steps)
+-- what a run behind these calls judges at its moment: what is complete, and was so at no earlier run
+abbrev pub due_after : Book → List Step → ℕ → List Candidate
+due_after opening steps moment = filter (is_complete (counting opening steps moment)) (waiting_after opening steps moment)
 
 -- the bodies of the deliveries among these calls, done or not
 unfoldable pub bodies_of_call : Call → List (List ℕ)

@@ -1,7 +1,7 @@
 -- A delivery whose body a reader gives: what was read of it, and what becomes of it.
 use Rattle.std.specs.Prelude.{◌≡◌, ◌≤◌, ◌<◌, ◌%◌, ◌⊎◌, ◌++◌, [], ◌∷◌, ℕ, Bool, IsTrue, not, List, length, Option, Some, None, Result, Ok, Err}
 use Rattle.std.specs.Io.KnownBytes.{Consumes, IsAtEnd, Keeps}
-use Rattle.keep.specs.Book.{Book, has_arrival, with_delivery}
+use Rattle.keep.specs.Book.{Book, at_moment, has_arrival, with_delivery}
 use Rattle.keep.specs.Keeping.{ApartWith, IsDeliverable}
 use Rattle.keep.specs.declared.keeper.Keeper.{Ghosts}
 use Rattle.queue.specs.Answers.{IsFaithful, IsKept, answer}
@@ -67,12 +67,12 @@ pub record MayTake (coming : Option (List ℕ)) (size : ℕ) : Type 0 where
 abbrev pub MayBeKept : List ℕ → ℕ → Type 0
 MayBeKept name n = (body : List ℕ) → length body ≡ n → IsDeliverable name body
 
--- The body that the reader gave has arrived.
+-- The body that the reader gave has arrived; it is new where no arrival of this name and body counts at the moment.
 pub record HasArrived (gave gives : Option (List ℕ)) (n : ℕ) (is_clean : Type 0) (old after : Book) (name : List ℕ) (moment : ℕ) (new : Bool) : Type 0 where
   pub body : List ℕ
   pub gave_it : Gave gave gives n body
   pub arrives : is_clean → ApartWith old body (after ≡ with_delivery old (record { name = name; body = body; moment = moment }))
-  pub is_new : is_clean → ApartWith old body (new ≡ not (has_arrival old.arrivals (record { name = name; body = body; moment = moment })))
+  pub is_new : is_clean → ApartWith old body (new ≡ not (has_arrival (at_moment moment old).arrivals (record { name = name; body = body; moment = moment })))
 
 -- What a crash left is the book with the body that the reader gave.
 pub record IsLeft (gave gives : Option (List ℕ)) (n : ℕ) (old : Book) (left : Option Book) (name : List ℕ) (moment : ℕ) : Type 0 where

@@ -4,7 +4,7 @@ ghost use Rattle.std.specs.Prelude.{◌≡◌, ◌⊎◌, ◌<◌, ◌≤◌, �
 ghost use Rattle.queue.specs.Answers.{is_free_copy, is_free_removal};
 ghost use Rattle.queue.specs.Commands.{stored, reported, counted, found};
 ghost use Rattle.queue.specs.Copies.{copy_fault};
-ghost use Rattle.queue.specs.Histories.{Delivery, QueueRun, Copying, Lookup, WaitingList, Removing, VerdictList};
+ghost use Rattle.queue.specs.Histories.{Delivery, QueueRun, Copying, Lookup, WaitingList, Cleaning, Removing, VerdictList};
 ghost use Rattle.keep.specs.Book.{latest};
 ghost use Rattle.queue.specs.Deliveries.{delivery_fault, IsKeepers};
 ghost use Rattle.queue.specs.Removals.{removal_fault};
@@ -44,9 +44,9 @@ impl<K: Keeper> Archive<K> {
         keeper
     }
 
-    /// Takes a delivery of a body under a file name at a moment, in seconds since 1970-01-01 00:00:00 UTC, and says
-    /// whether that name and body are new. It is refused, the lowest first, for a bad name, a body of more than 4194304
-    /// bytes, a name that ends in `.changes` with a body that is no .changes, and a moment after 2099.
+    /// Takes a delivery of a body under a file name at a moment, in seconds since 1970-01-01 00:00:00 UTC, and says whether it
+    /// is new: whether no arrival of that name and body counts at the moment. It is refused, the lowest first, for a bad name, a
+    /// body of more than 4194304 bytes, a name that ends in `.changes` with a body that is no .changes, and a moment after 2099.
     pub fn deliver(
         &mut self,
         alloc: Global,
@@ -74,8 +74,8 @@ impl<K: Keeper> Archive<K> {
         }
     }
 
-    /// Judges each upload that is complete and has no verdict, at a moment, in seconds since 1970-01-01 00:00:00 UTC,
-    /// and reports a line for each. Refused for a moment after 2099. Where it is refused and the keeper is open no upload
+    /// Judges each upload that has no verdict and is complete in what counts at a moment, in seconds since 1970-01-01 00:00:00
+    /// UTC, and reports a line for each. Refused for a moment after 2099. Where it is refused and the keeper is open no upload
     /// was judged.
     pub fn run(&mut self, alloc: Global, moment: u64) -> Result<Report, Fault>
         ensures lasts { Lasts K.Keeper self.old.keeper self.new.keeper }
@@ -207,8 +207,8 @@ impl<K: Keeper> Archive<K> {
         }
     }
 
-    /// The uploads without a verdict, a line for each: the number of listed files that have not arrived, and the name
-    /// of the .changes. Refused for a moment after 2099.
+    /// The uploads without a verdict whose .changes counts at a moment, in seconds since 1970-01-01 00:00:00 UTC, a line for
+    /// each: the number of listed files that do not count, and the name of the .changes. Refused for a moment after 2099.
     pub fn waiting(&mut self, alloc: Global, moment: u64) -> Result<Report, Fault>
         // The book stays as it was, and a crash leaves what it would have left before.
         ensures reads { Reads K.Keeper self.old.keeper self.new.keeper }
@@ -224,6 +224,26 @@ impl<K: Keeper> Archive<K> {
         Ok(Report {
             lines: waiting_lines(alloc, &uploads)?,
         })
+    }
+
+    /// Takes away each arrival that does not count any more at a moment, in seconds since 1970-01-01 00:00:00 UTC, and says how
+    /// many there were. What was judged stays judged, and all that the suites show stays. Refused for a moment after 2099.
+    pub fn clean(&mut self, alloc: Global, moment: u64) -> Result<u64, Fault>
+        ensures lasts { Lasts K.Keeper self.old.keeper self.new.keeper }
+        // Behind a success the keeper is open.
+        ensures served { IsServed K.Keeper self.new.keeper (counted result) }
+        ensures step { Does K.Keeper self.old.keeper (Cleaning moment) (counted result) self.new.keeper }
+        // A refusal leaves the book as it was, whatever the history.
+        ensures err { OnErr result (IsUndone K.Keeper self.old.keeper self.new.keeper) }
+        // A crash leaves what it would have left before, or all that the call does.
+        ensures crash { LeavesStep K.Keeper self.old.keeper (Cleaning moment) self.new.keeper }
+        ensures late { latest < moment → result ≡ Err Fault.Moment }
+        ensures refused { IfErr result (λ e. (latest < moment) ⊎ IsKeepers K.may_fail (moment ≤ latest) e) }
+    {
+        if moment > LATEST {
+            return Err(Fault::Moment);
+        }
+        Ok(self.keeper.clean(alloc, moment)?)
     }
 
     /// All lines that runs have reported, in the order in which the uploads were judged.

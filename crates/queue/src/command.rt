@@ -5,9 +5,9 @@ use crate::fault::Fault;
 /// Whether a delivery is new.
 #[derive(Clone, Copy, Debug, PartialEq, Eq)]
 pub enum Arrived {
-    /// No body of this print had arrived under this name.
+    /// No body of this print counted under this name.
     New,
-    /// The same name and print had arrived before.
+    /// The same name and print had arrived before, and counted still.
     Again,
 }
 
@@ -40,6 +40,9 @@ pub enum Command {
     Waiting {
         moment: u64,
     },
+    Clean {
+        moment: u64,
+    },
     Remove {
         suite: String,
         name: String,
@@ -56,6 +59,7 @@ pub enum Outcome {
     Copy(Result<u64, Fault>),
     Fetch(Result<Option<Vec<u8>>, Fault>),
     Waiting(Result<Report, Fault>),
+    Clean(Result<u64, Fault>),
     Remove(Result<u64, Fault>),
     Verdicts(Result<Report, Fault>),
 }

@@ -32,6 +32,7 @@ impl<K: Keeper> Archive<K> {
             } => Outcome::Copy(self.copy(alloc, from, to, source, *moment)),
             Command::Fetch { path } => Outcome::Fetch(self.fetch(alloc, path)),
             Command::Waiting { moment } => Outcome::Waiting(self.waiting(alloc, *moment)),
+            Command::Clean { moment } => Outcome::Clean(self.clean(alloc, *moment)),
             Command::Remove {
                 suite,
                 name,

@@ -1,9 +1,10 @@
 //! Laws of histories.
 
-ghost use Rattle.std.specs.Prelude.{◌≡◌, ◌⊎◌, ℕ, List, [], ◌∷◌, Option, Some};
-ghost use Rattle.keep.specs.Book.{Book, HasItsFiles};
+ghost use Rattle.std.specs.Prelude.{◌≡◌, ◌⊎◌, ◌≤◌, ℕ, List, [], ◌∷◌, Option, Some, None, Result, Ok};
+ghost use Rattle.keep.specs.Book.{Book, HasItsFiles, latest};
 ghost use Rattle.queue.specs.Archives.{book_of, Stands};
-ghost use Rattle.queue.specs.Histories.{Call, Delivery, History, followed, opened_with};
+ghost use Rattle.queue.specs.Histories.{Call, Cleaning, Count, Delivery, History, Reply, Step, arrived, counting, followed, opened_with};
+ghost use Rattle.queue.specs.declared.fault.Fault.{Fault};
 ghost use Rattle.rules.specs.Values.{ConfigValue};
 ghost use Rattle.std.specs.FinMap.{values};
 ghost use Rattle.suites.specs.Pool.{AreAgreed, files_of};
@@ -30,6 +31,16 @@ pub fn a_book_opens_its_history()
 pub fn a_history_goes_on_from_its_book()
     ensures { (h : History) (calls : List Call) → AreAgreed (files_of (values (book_of h).shown)) → IsFaithful h calls
         → IsFaithful (opened_with (book_of h)) calls }
+{}
+
+/// Where the configuration has no number of days, all that has arrived counts at each moment, and a cleaning takes nothing and
+/// leaves the book as it is: then the promise is that of an archive which keeps arrivals for good.
+pub fn for_good()
+    ensures counts { (opening : Book) (steps : List Step) (moment : ℕ) → opening.config.keep_days ≡ None
+        → counting opening steps moment ≡ arrived opening steps }
+    ensures nothing { (h : History) (moment : ℕ) → h.opening.config.keep_days ≡ None → moment ≤ latest → answer h (Cleaning moment) ≡ Ok (Count 0) }
+    ensures same { (h : History) (moment : ℕ) (outcome : Result Reply Fault) → h.opening.config.keep_days ≡ None
+        → book_of (followed h (Cleaning moment) outcome) ≡ book_of h }
 {}
 
 /// What is said of a crash in a call, and what is said of one in a delivery, which is stored piece by piece, are both said of a

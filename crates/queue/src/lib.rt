@@ -1,4 +1,5 @@
-//! The archive: deliveries, also from a reader, queue runs, copies, removals, look-ups and lists of commands over any keeper.
+//! The archive: deliveries, also from a reader, queue runs, copies, removals, cleanings, look-ups and lists of commands over any
+//! keeper.
 #![tactic(auto)]
 
 mod archive;
@@ -22,7 +23,7 @@ pub use command::{Arrived, Command, Outcome, Report};
 pub use fault::Fault;
 pub use laws::{
     a_book_opens_its_history, a_crash_is_of_a_call, a_history_goes_on_from_its_book,
-    a_stop_leaves_a_book, nothing_is_an_opening,
+    a_stop_leaves_a_book, for_good, nothing_is_an_opening,
 };
 pub use once::drive_anew;
 pub use reading::{ReaderFailed, read_some};

@@ -36,7 +36,7 @@ fn arrived(fresh: bool) -> Arrived
 
 impl<K: Keeper> Archive<K> {
     /// Takes a delivery whose body of `size` bytes a reader gives, at a moment, in seconds since 1970-01-01 00:00:00 UTC,
-    /// and says whether that name and body are new. The body is read and stored in pieces of at most 65536 bytes; that of
+    /// and says whether it is new, as `deliver` does. The body is read and stored in pieces of at most 65536 bytes; that of
     /// a .changes is read whole and as a record before it is stored. A body that is refused is read to its end, but for
     /// one of more than 4194304 bytes, of which nothing is read, and for a fault of memory or of the keeper, which ends the
     /// reading. An input that ends early and a reader that fails are told before any other refusal of what is read.

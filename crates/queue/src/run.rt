@@ -88,7 +88,7 @@ pub fn report_lines(alloc: Global, steps: &[Step]) -> Result<Vec<String>, AllocE
     Ok(lines)
 }
 
-/// A line on an upload without a verdict: the number of its listed files that have not arrived, and its name.
+/// A line on an upload without a verdict: the number of its listed files that are missing, and its name.
 pub fn waiting_line(alloc: Global, upload: &Waiting) -> Result<String, AllocError>
     ensures { IfOk result (λ line. string_bytes line ≡ line_on_waiting upload.now) }
 {

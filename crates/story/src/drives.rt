@@ -70,6 +70,9 @@ fn command_of(alloc: Global, words: &[Vec<u8>]) -> Result<Command, Unread> {
         "waiting" => Ok(Command::Waiting {
             moment: moment_of(words)?,
         }),
+        "clean" => Ok(Command::Clean {
+            moment: moment_of(words)?,
+        }),
         "verdicts" if words.is_empty() => Ok(Command::Verdicts),
         _ => Err(Unread::BadWords),
     }
@@ -97,7 +100,9 @@ fn outcome_text(alloc: Global, outcome: Outcome) -> Result<Vec<u8>, Unread> {
         Outcome::Run(done) | Outcome::Waiting(done) | Outcome::Verdicts(done) => report_text(
             alloc, done,
         ),
-        Outcome::Copy(done) | Outcome::Remove(done) => number_text(alloc, done),
+        Outcome::Copy(done) | Outcome::Remove(done) | Outcome::Clean(done) => number_text(
+            alloc, done,
+        ),
         Outcome::Fetch(done) => found_text(alloc, done),
     }
 }

@@ -1,4 +1,4 @@
-//! Stories of archives, as rows: deliveries, runs, copies, removals, look-ups and requests, over any keeper.
+//! Stories of archives, as rows: deliveries, runs, copies, removals, cleanings, look-ups and requests, over any keeper.
 #![tactic(auto)]
 
 mod delivery;

@@ -88,6 +88,7 @@ fn add_wanted(text: &mut String, wanted: &Wanted) -> Result<(), AllocError> {
             write!(text, "fetch {path:?} {kind}")
         }
         Wanted::Waiting => text.push_str("waiting"),
+        Wanted::Clean => text.push_str("clean"),
         Wanted::Verdicts => text.push_str("verdicts"),
         Wanted::Remove { suite, name } => write!(text, "remove {suite:?} {name:?}"),
     }

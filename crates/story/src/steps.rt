@@ -1,4 +1,4 @@
-//! Deliveries, runs, lists, look-ups, copies and removals.
+//! Deliveries, runs, lists, look-ups, copies, removals and cleanings.
 
 use crate::delivery::delivery_of;
 use crate::outcomes::{arrived_text, found_text, number_text, refused_text, report_text};
@@ -120,4 +120,16 @@ pub fn remove<K: Keeper>(
         alloc,
         archive.remove(alloc, suite, name, number_of(moment)?),
     )
+}
+
+/// `clean MOMENT`: how many arrivals it took away, or the fault.
+pub fn clean<K: Keeper>(
+    alloc: Global,
+    archive: &mut Archive<K>,
+    words: &[Vec<u8>],
+) -> Result<Vec<u8>, Unread> {
+    let [moment] = words else {
+        return Err(Unread::BadWords);
+    };
+    number_text(alloc, archive.clean(alloc, number_of(moment)?))
 }

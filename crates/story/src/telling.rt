@@ -8,7 +8,7 @@ use crate::outcomes::printed;
 use crate::reading::{status, wanted};
 use crate::receptions::{receive, receive_fails};
 use crate::requests::{left, request};
-use crate::steps::{copy, deliver, has, moment_of, remove, run, show, verdicts, waiting};
+use crate::steps::{clean, copy, deliver, has, moment_of, remove, run, show, verdicts, waiting};
 use keep::{KeepFault, Keeper, LATEST};
 use queue::Archive;
 use rows::{Answers, Unread, said, text_of};
@@ -41,8 +41,8 @@ fn asked_by_reader<K: Keeper>(
     }
 }
 
-/// What an archive answers to a question: `deliver`, `run`, `waiting`, `verdicts`, `show`, `has`, `copy`, `remove`, `drive` and those
-/// on requests and readers.
+/// What an archive answers to a question: `deliver`, `run`, `waiting`, `verdicts`, `show`, `has`, `copy`, `remove`, `clean`, `drive`
+/// and those on requests and readers.
 pub fn asked<K: Keeper>(
     alloc: Global,
     archive: &mut Archive<K>,
@@ -58,6 +58,7 @@ pub fn asked<K: Keeper>(
         "has" => has(alloc, archive, words),
         "copy" => copy(alloc, archive, words),
         "remove" => remove(alloc, archive, words),
+        "clean" => clean(alloc, archive, words),
         "drive" => drive(alloc, archive, words),
         _ => asked_by_reader(alloc, archive, verb, words),
     }

@@ -1,11 +1,13 @@
 -- What the statements on arrivals do.
-use Rattle.std.proofs.Common.{◌≡◌, ℕ, pos, [], ◌∷◌, Ok, Err, Result, OnOk, refl, true, List, find, drop, Option}
+use Rattle.std.proofs.Common.{◌≡◌, ℕ, pos, [], ◌∷◌, Ok, Err, Result, OnOk, refl, true, List, map, filter, find, drop, Option, sym, ap, ◌∙◌}
 use Rattle.sqlite.specs.Table.{Table}
-use Rattle.sqlite.specs.Order.{Row}
+use Rattle.sqlite.specs.Order.{Row, column}
+use Rattle.sqlite.specs.Term.{col}
 use Rattle.sqlite.specs.declared.types.Value.TheVariants.{Null, Text}
 use Rattle.sqlite.specs.Cast.{cast_row}
 use Rattle.sqlite.specs.declared.error.Error.{Error}
 use Rattle.sqlite.specs.State.{State, ExecutesInside, IsUnchanged}
+use Rattle.sqlite_keyed.proofs.ListLemmas.{map-map}
 use Rattle.sqlite_typed.proofs.TestLemmas.{then_term, last_term}
 use Rattle.sqlite_typed.proofs.AnswerLemmas.{unfiltered}
 use Rattle.tables.specs.Reading.{IsRead, IsReadFirst}
@@ -16,13 +18,14 @@ use Rattle.tables.proofs.AddLemmas.{adds_row, adds_id}
 use Rattle.tables.proofs.ShownLemmas.{Shows, shown, reads_shown, first_shown}
 use Rattle.std.specs.Prelude.{nat_eq}
 use Rattle.tables.specs.Schema.{archive_schema, arrivals}
-use Rattle.tables.specs.Rows.{whole, Tables, Holds, Changes, with_arrival, arrival_cells, arrival_of, row_of, stored, next_in}
-use Rattle.tables.specs.Arrivals.{is_arrival, with_moment}
+use Rattle.tables.specs.Rows.{whole, Tables, Holds, Changes, with_arrival, arrival_cells, arrival_of, nat_of, row_of, rows_of, stored, next_in}
+use Rattle.tables.specs.Arrivals.{is_arrival, with_moment, without_arrival}
 use Rattle.tables.specs.declared.rows.Arrival.{Arrival}
-use Rattle.tables.specs.declared.arrivals.TheConstants.{INSERT_ARRIVAL, SELECT_ARRIVAL, UPDATE_MOMENT}
-use Rattle.tables.proofs.ArrivalsMeaning.{insert_arrival_terms, insert_arrival_is, insert_arrival_plain, arrival_columns, arrival_is, arrival_id_is, select_arrival_is, select_arrival_plain, update_moment_columns, update_moment_is, update_moment_plain}
+use Rattle.tables.specs.declared.arrivals.TheConstants.{INSERT_ARRIVAL, SELECT_ARRIVAL, SELECT_ARRIVALS, SELECT_BODIES, UPDATE_MOMENT, DELETE_ARRIVAL}
+use Rattle.tables.proofs.ArrivalsMeaning.{insert_arrival_terms, insert_arrival_is, insert_arrival_plain, arrival_columns, arrival_is, arrival_id_is, select_arrival_is, select_arrival_plain, select_arrivals_is, select_arrivals_plain, select_bodies_is, select_bodies_plain, update_moment_columns, update_moment_is, update_moment_plain, delete_arrival_columns, delete_arrival_is, delete_arrival_plain}
 use Rattle.tables.proofs.HoldsLemmas.{with_arrivals}
-use Rattle.tables.proofs.UpdateLemmas.{updates, updates_rows}
+use Rattle.tables.proofs.SelectLemmas.{reads_rows}
+use Rattle.tables.proofs.UpdateLemmas.{updates, updates_rows, deletes, deletes_rows}
 
 abbrev arrivals_table : Table
 arrivals_table = record arrivals { tree = 5 }
@@ -54,6 +57,27 @@ pub arrival_answer : (old new : State) (t : Tables) (name : List ℕ) (body : �
 arrival_answer old new t name body found was h =
     first_shown arrival_cells 5 arrival_is arrival_columns (Text name ∷ whole body ∷ []) SELECT_ARRIVAL.now old new t.arrivals was.schema was.rows.arrivals (λ x. is_arrival name body x.1) arrival_of (λ _. refl) (arrival_shows name body) found h
 
+arrivals_show : Shows arrival_cells 5 [] arrival_columns [] (λ _. true) (shown arrival_cells) SELECT_ARRIVALS.now
+arrivals_show = record { names = _; is = select_arrivals_is.0; plain = select_arrivals_plain; unlisted = select_arrivals_is.1; tests = λ _. refl; shows = λ _. refl; real = λ _. refl }
+
+pub arrivals_answer : (old new : State) (t : Tables) (all : List (ℕ × Arrival)) → Holds old.now t → IsRead (row_of arrival_of) SELECT_ARRIVALS.now [] old new all
+    → (all ≡ t.arrivals) × IsUnchanged old new
+arrivals_answer old new t all was h =
+    let done = reads_shown arrival_cells 5 [] arrival_columns [] SELECT_ARRIVALS.now old new t.arrivals was.schema was.rows.arrivals (λ _. true) arrival_of (λ _. refl) arrivals_show all h in
+    (unfiltered t.arrivals done.0, done.1)
+
+pub arrived_bodies_answer : (old new : State) (t : Tables) (all : List ℕ) → Holds old.now t → IsRead (λ row. nat_of (column row 0)) SELECT_BODIES.now [] old new all
+    → (all ≡ map (λ a. a.body) (rows_of t.arrivals)) × IsUnchanged old new
+arrived_bodies_answer old new t all was h =
+    let show = λ (x : ℕ × Arrival). whole x.1.body ∷ [] in
+    let rows =
+    reads_rows arrival_cells 5 [] (col 1 3 ∷ []) [] (λ _. true) show (λ _. refl) (λ _. refl)
+    SELECT_BODIES.now _ (λ _. refl) old new h.rows t.arrivals select_bodies_is.0 select_bodies_plain select_bodies_is.1 was.schema was.rows.arrivals h.shown in (
+      h.are ∙ ap (map (λ row. nat_of (column row 0))) rows ∙ map-map (λ row. nat_of (column row 0)) show (filter (λ _. true) t.arrivals)
+          ∙ ap (map (λ (x : ℕ × Arrival). x.1.body)) (unfiltered t.arrivals refl) ∙ sym (map-map (λ (a : Arrival). a.body) (λ (x : ℕ × Arrival). x.1) t.arrivals),
+      h.same,
+    )
+
 -- the row that an update makes of a row
 abbrev updated : ℕ → ℕ × Arrival → Row
 updated moment x = whole x.0 ∷ whole x.0 ∷ Null ∷ Text x.1.name ∷ whole x.1.body ∷ whole moment ∷ []
@@ -73,3 +97,16 @@ changes_moment old new id moment (Ok count) h = record {
   shown = h.1;
 }
 changes_moment old new id moment (Err e) h = tt
+
+pub removes_arrival : (old new : State) (id : ℕ) (r : Result ℕ Error) → ExecutesInside 0 DELETE_ARRIVAL.now (whole id ∷ []) old new r → OnOk r (Changes old new (without_arrival id))
+removes_arrival old new id (Ok count) h = record {
+  held = λ t was.
+      let params = whole id ∷ [] in
+      let did = deletes DELETE_ARRIVAL.now 3 _ delete_arrival_plain arrivals_table refl delete_arrival_is old new params count was.schema h.0 in
+      let now = deletes_rows arrival_cells 5 arrival_id_is delete_arrival_columns params (λ x. nat_eq x.0 id) (λ x. whole x.0 ∷ [])
+      (λ x. last_term (whole_test x.0 id)) (λ _. refl) (λ _. refl) (λ _. refl)
+      old new t.arrivals was.rows.arrivals did.0 did.1 did.2 in
+      record { schema = did.2.schema_is; rows = with_arrivals old.now.trees new.now.trees t was.rows _ now did.2.others };
+  shown = h.1;
+}
+removes_arrival old new id (Err e) h = tt

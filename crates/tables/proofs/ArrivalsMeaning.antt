@@ -2,7 +2,7 @@
 use Rattle.std.proofs.Common.{◌≡◌, refl, ◌∷◌, [], List, codes, false}
 use Rattle.sqlite_tied.specs.Compute.{everything}
 use Rattle.sqlite.specs.declared.types.Value.TheVariants.{Null}
-use Rattle.sqlite.specs.Command.TheVariants.{Insert, Select, Update}
+use Rattle.sqlite.specs.Command.TheVariants.{Insert, Select, Update, Delete}
 use Rattle.sqlite.specs.Source.TheVariants.{Values}
 use Rattle.sqlite.specs.Term.{Term, lit, col}
 use Rattle.sqlite.specs.Listing.{understood, reads_listing}
@@ -11,7 +11,7 @@ use Rattle.sqlite.specs.Collation.TheVariants.{Binary}
 use Rattle.sqlite_sql.specs.Term.{op2}
 use Rattle.sqlite_sql.specs.declared.ops.BinaryOp.TheVariants.{Compare}
 use Rattle.sqlite_sql.specs.declared.ops.CompareOp.TheVariants.{Eq}
-use Rattle.tables.specs.declared.arrivals.TheConstants.{INSERT_ARRIVAL, SELECT_ARRIVAL, UPDATE_MOMENT}
+use Rattle.tables.specs.declared.arrivals.TheConstants.{INSERT_ARRIVAL, SELECT_ARRIVAL, SELECT_ARRIVALS, SELECT_BODIES, UPDATE_MOMENT, DELETE_ARRIVAL}
 use Rattle.tables.specs.Schema.{archive_schema}
 use Rattle.tables.proofs.SelectLemmas.{rows_query}
 use Rattle.tables.proofs.UpdateLemmas.{edit_query}
@@ -24,6 +24,9 @@ arrival_is = op2 (Compare Eq Binary) (col 1 2) (col 0 0) ∷ op2 (Compare Eq Bin
 
 abbrev pub arrival_id_is : List Term
 arrival_id_is = op2 (Compare Eq Binary) (col 1 0) (col 0 0) ∷ []
+
+abbrev pub delete_arrival_columns : List Term
+delete_arrival_columns = col 1 0 ∷ []
 
 abbrev pub update_moment_columns : List Term
 update_moment_columns = col 1 0 ∷ col 1 0 ∷ lit Null ∷ col 1 2 ∷ col 1 3 ∷ col 0 1 ∷ []
@@ -47,6 +50,22 @@ pub select_arrival_plain : IsPlain (understood archive_schema SELECT_ARRIVAL.now
 unfolding understood everything
 select_arrival_plain = (refl, refl)
 
+pub select_arrivals_is : (command_of (understood archive_schema SELECT_ARRIVALS.now) ≡ Select (record { lets = []; body = rows_query 5 [] arrival_columns }) (codes "id" ∷ codes "id" ∷ codes "name" ∷ codes "body" ∷ codes "moment" ∷ [])) × (reads_listing archive_schema SELECT_ARRIVALS.now ≡ false)
+unfolding understood everything
+select_arrivals_is = (refl, refl)
+
+pub select_arrivals_plain : IsPlain (understood archive_schema SELECT_ARRIVALS.now)
+unfolding understood everything
+select_arrivals_plain = (refl, refl)
+
+pub select_bodies_is : (command_of (understood archive_schema SELECT_BODIES.now) ≡ Select (record { lets = []; body = rows_query 5 [] (col 1 3 ∷ []) }) (codes "body" ∷ [])) × (reads_listing archive_schema SELECT_BODIES.now ≡ false)
+unfolding understood everything
+select_bodies_is = (refl, refl)
+
+pub select_bodies_plain : IsPlain (understood archive_schema SELECT_BODIES.now)
+unfolding understood everything
+select_bodies_plain = (refl, refl)
+
 pub update_moment_is : command_of (understood archive_schema UPDATE_MOMENT.now) ≡ Update 3 (record { lets = []; body = edit_query 5 arrival_id_is update_moment_columns })
 unfolding understood everything
 update_moment_is = refl
@@ -54,3 +73,11 @@ update_moment_is = refl
 pub update_moment_plain : IsPlain (understood archive_schema UPDATE_MOMENT.now)
 unfolding understood everything
 update_moment_plain = (refl, refl)
+
+pub delete_arrival_is : command_of (understood archive_schema DELETE_ARRIVAL.now) ≡ Delete 3 (record { lets = []; body = edit_query 5 arrival_id_is delete_arrival_columns })
+unfolding understood everything
+delete_arrival_is = refl
+
+pub delete_arrival_plain : IsPlain (understood archive_schema DELETE_ARRIVAL.now)
+unfolding understood everything
+delete_arrival_plain = (refl, refl)

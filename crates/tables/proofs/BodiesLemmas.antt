@@ -1,5 +1,5 @@
 -- What the statements on bodies do.
-use Rattle.std.proofs.Common.{◌≡◌, ℕ, drop, pos, [], ◌∷◌, Ok, Err, Result, OnOk, nat_eq, refl, true, false, List, map, filter, slice_get, Option, Some, None, ap, ◌∙◌, option_map, ◌&&◌}
+use Rattle.std.proofs.Common.{◌≡◌, ℕ, drop, pos, [], ◌∷◌, Ok, Err, Result, OnOk, nat_eq, refl, true, false, List, map, filter, find, slice_get, Option, Some, None, ap, ◌∙◌, option_map, ◌&&◌}
 use Rattle.sqlite.specs.Table.{Table}
 use Rattle.sqlite.specs.Order.{Row, column}
 use Rattle.sqlite.specs.Term.{col}
@@ -9,6 +9,7 @@ use Rattle.sqlite.specs.declared.error.Error.{Error}
 use Rattle.sqlite.specs.State.{State, ExecutesInside, IsUnchanged}
 use Rattle.sqlite.specs.Values.{or_null}
 use Rattle.sqlite_keyed.proofs.ListLemmas.{map-map, slice_get-filter}
+use Rattle.sqlite_typed.proofs.AnswerLemmas.{unfiltered}
 use Rattle.sqlite_typed.proofs.TestLemmas.{last_term, truth_or}
 use Rattle.sqlite_sql.specs.Ops.{binary}
 use Rattle.sqlite_sql.specs.declared.ops.CompareOp.TheVariants.{Eq}
@@ -16,18 +17,19 @@ use Rattle.sqlite_sql.specs.declared.ops.BinaryOp.TheVariants.{Compare}
 use Rattle.sqlite.specs.Collation.TheVariants.{Binary}
 use Rattle.sums.specs.declared.print.Print.{Print}
 use Rattle.tables.specs.Schema.{archive_schema, bodies}
-use Rattle.tables.specs.Rows.{whole, print_cells, Numbered, Tables, Holds, Changes, with_body, body_cells, full_body, nat_of, next_in, stored}
+use Rattle.tables.specs.Rows.{whole, print_cells, Numbered, Tables, Holds, Changes, with_body, body_cells, body_of, full_body, nat_of, next_in, row_of, stored}
 use Rattle.tables.specs.Bodies.{has_print, body_with, with_print, without_body}
-use Rattle.tables.specs.Reading.{IsReadFirst}
+use Rattle.tables.specs.Reading.{IsRead, IsReadFirst}
 use Rattle.tables.specs.declared.rows.Body.{Body}
-use Rattle.tables.specs.declared.bodies.TheConstants.{INSERT_BODY, INSERT_BEGUN, UPDATE_PRINT, SELECT_BODY, DELETE_BODY}
+use Rattle.tables.specs.declared.bodies.TheConstants.{INSERT_BODY, INSERT_BEGUN, UPDATE_PRINT, SELECT_BODY, SELECT_NUMBERED, SELECT_NUMBERS, DELETE_BODY}
 use Rattle.tables.proofs.CastLemmas.{cast_null, cast_int}
-use Rattle.tables.proofs.BodiesMeaning.{insert_body_terms, insert_body_is, insert_body_plain, insert_begun_terms, insert_begun_is, insert_begun_plain, update_print_columns, update_print_is, update_print_plain, print_terms, select_body_is, select_body_plain, body_id_is, delete_body_columns, delete_body_is, delete_body_plain}
+use Rattle.tables.proofs.BodiesMeaning.{insert_body_terms, insert_body_is, insert_body_plain, insert_begun_terms, insert_begun_is, insert_begun_plain, update_print_columns, update_print_is, update_print_plain, print_terms, select_body_is, select_body_plain, body_id_is, body_columns, select_numbered_is, select_numbered_plain, select_numbers_is, select_numbers_plain, delete_body_columns, delete_body_is, delete_body_plain}
 use Rattle.tables.proofs.InsertLemmas.{puts}
 use Rattle.tables.proofs.AddLemmas.{adds_row, adds_id}
 use Rattle.tables.proofs.HoldsLemmas.{with_bodies}
-use Rattle.tables.proofs.FullLemmas.{Storing, raw, raw_cells, raw_rows, value_in, full_as, full_rows_as, added_of, next_of, changed_of, reads_full, deletes_full}
+use Rattle.tables.proofs.FullLemmas.{Storing, raw, raw_cells, raw_rows, value_in, full_as, full_rows_as, added_of, next_of, changed_of, reads_full, first_value, deletes_full}
 use Rattle.tables.proofs.PrintLemmas.{print_test}
+use Rattle.tables.proofs.ShownLemmas.{Shows, shown}
 use Rattle.tables.proofs.EqualLemmas.{whole_test}
 use Rattle.sqlite_sql.specs.Term.{eval_all}
 use Rattle.tables.proofs.UpdateLemmas.{deletes, updates, updates_rows}
@@ -143,6 +145,30 @@ body_answer old new t p found was h =
       h.is ∙ ap (λ all. slice_get all 0) (h.read.are ∙ ap (map (λ row. nat_of (column row 0))) rows ∙ map-map (λ row. nat_of (column row 0)) show some)
           ∙ number_of_first some ∙ ap (option_map (λ x. x.0)) (slice_get-filter (λ x. has_print p x.1) t.bodies),
       h.read.same,
+    )
+
+body_back : (x : ℕ × Body) → row_of body_of (shown body_cells x) ≡ x
+body_back x = elim x.1.print as (λ p. row_of body_of (shown body_cells (x.0, record { print = p })) ≡ (x.0, record { print = p })) [ None ↦ refl | Some p ↦ refl ]
+
+numbered_show : (id : ℕ) → Shows body_cells 1 body_id_is body_columns (whole id ∷ []) (λ x. nat_eq x.0 id) (shown body_cells) SELECT_NUMBERED.now
+numbered_show id = record { names = _; is = select_numbered_is.0; plain = select_numbered_plain; unlisted = select_numbered_is.1; tests = λ x. last_term (whole_test x.0 id); shows = λ _. refl; real = λ _. refl }
+
+pub numbered_answer : (old new : State) (t : Tables) (id : ℕ) (found : Option (ℕ × Body)) → Holds old.now t → IsReadFirst (row_of body_of) SELECT_NUMBERED.now (whole id ∷ []) old new found
+    → (found ≡ find (λ x. nat_eq x.0 id) t.bodies) × IsUnchanged old new
+numbered_answer old new t id found was h =
+    first_value storing 1 body_id_is body_columns (whole id ∷ []) SELECT_NUMBERED.now old new t.bodies was.schema was.rows.bodies (λ x. nat_eq x.0 id) body_of body_back (numbered_show id)
+    (record { tests = λ _. refl; shows = λ _. refl }) found h
+
+pub numbers_answer : (old new : State) (t : Tables) (all : List ℕ) → Holds old.now t → IsRead (λ row. nat_of (column row 0)) SELECT_NUMBERS.now [] old new all
+    → (all ≡ map (λ x. x.0) t.bodies) × IsUnchanged old new
+numbers_answer old new t all was h =
+    let show = λ (x : ℕ × Body). whole x.0 ∷ [] in
+    let rows =
+    reads_full storing 1 [] (col 1 0 ∷ []) [] (λ _. true) show (record { tests = λ _. refl; shows = λ _. refl }) (λ _. refl) (λ _. refl)
+    SELECT_NUMBERS.now _ (λ _. refl) old new h.rows t.bodies select_numbers_is.0 select_numbers_plain select_numbers_is.1 was.schema was.rows.bodies h.shown in (
+      h.are ∙ ap (map (λ row. nat_of (column row 0))) rows ∙ map-map (λ row. nat_of (column row 0)) show (filter (λ _. true) t.bodies)
+          ∙ ap (map (λ (x : ℕ × Body). x.0)) (unfiltered t.bodies refl),
+      h.same,
     )
 
 pub removes_body : (old new : State) (id : ℕ) (r : Result ℕ Error) → ExecutesInside 0 DELETE_BODY.now (whole id ∷ []) old new r → OnOk r (Changes old new (without_body id))

@@ -11,7 +11,7 @@ use Rattle.sqlite.specs.Collation.TheVariants.{Binary}
 use Rattle.sqlite_sql.specs.Term.{op2}
 use Rattle.sqlite_sql.specs.declared.ops.BinaryOp.TheVariants.{Compare}
 use Rattle.sqlite_sql.specs.declared.ops.CompareOp.TheVariants.{Eq}
-use Rattle.tables.specs.declared.bodies.TheConstants.{INSERT_BODY, INSERT_BEGUN, UPDATE_PRINT, SELECT_BODY, DELETE_BODY}
+use Rattle.tables.specs.declared.bodies.TheConstants.{INSERT_BODY, INSERT_BEGUN, UPDATE_PRINT, SELECT_BODY, SELECT_NUMBERED, SELECT_NUMBERS, DELETE_BODY}
 use Rattle.tables.specs.Schema.{archive_schema}
 use Rattle.tables.proofs.SelectLemmas.{rows_query}
 use Rattle.tables.proofs.UpdateLemmas.{edit_query}
@@ -42,6 +42,25 @@ select_body_plain = (refl, refl)
 
 abbrev pub body_id_is : List Term
 body_id_is = op2 (Compare Eq Binary) (col 1 0) (col 0 0) ∷ []
+
+abbrev pub body_columns : List Term
+body_columns = col 1 0 ∷ col 1 0 ∷ col 1 2 ∷ col 1 3 ∷ col 1 4 ∷ col 1 5 ∷ []
+
+pub select_numbered_is : (command_of (understood archive_schema SELECT_NUMBERED.now) ≡ Select (record { lets = []; body = rows_query 1 body_id_is body_columns }) (codes "id" ∷ codes "id" ∷ codes "size" ∷ codes "md5" ∷ codes "sha1" ∷ codes "sha256" ∷ [])) × (reads_listing archive_schema SELECT_NUMBERED.now ≡ false)
+unfolding understood everything
+select_numbered_is = (refl, refl)
+
+pub select_numbered_plain : IsPlain (understood archive_schema SELECT_NUMBERED.now)
+unfolding understood everything
+select_numbered_plain = (refl, refl)
+
+pub select_numbers_is : (command_of (understood archive_schema SELECT_NUMBERS.now) ≡ Select (record { lets = []; body = rows_query 1 [] (col 1 0 ∷ []) }) (codes "id" ∷ [])) × (reads_listing archive_schema SELECT_NUMBERS.now ≡ false)
+unfolding understood everything
+select_numbers_is = (refl, refl)
+
+pub select_numbers_plain : IsPlain (understood archive_schema SELECT_NUMBERS.now)
+unfolding understood everything
+select_numbers_plain = (refl, refl)
 
 abbrev pub delete_body_columns : List Term
 delete_body_columns = col 1 0 ∷ []

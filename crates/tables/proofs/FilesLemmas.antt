@@ -1,26 +1,30 @@
 -- What the statements on files do.
-use Rattle.std.proofs.Common.{◌≡◌, ℕ, pos, [], ◌∷◌, Ok, Err, Result, OnOk, refl, List, find, Option, ap, ◌∙◌}
+use Rattle.std.proofs.Common.{◌≡◌, ℕ, pos, [], ◌∷◌, Ok, Err, Result, OnOk, refl, true, List, map, filter, find, Option, sym, ap, ◌∙◌}
 use Rattle.sqlite.specs.Table.{Table}
+use Rattle.sqlite.specs.Order.{column}
+use Rattle.sqlite.specs.Term.{col}
 use Rattle.sqlite.specs.declared.types.Value.TheVariants.{Null, Text}
 use Rattle.sqlite.specs.Cast.{cast_row}
 use Rattle.sqlite.specs.declared.error.Error.{Error}
 use Rattle.sqlite.specs.State.{State, ExecutesInside, IsUnchanged}
 use Rattle.sqlite_typed.proofs.TestLemmas.{last_term}
-use Rattle.tables.specs.Reading.{IsReadFirst}
+use Rattle.sqlite_typed.proofs.AnswerLemmas.{unfiltered}
+use Rattle.tables.specs.Reading.{IsRead, IsReadFirst}
 use Rattle.tables.proofs.CastLemmas.{cast_null, cast_int}
 use Rattle.tables.proofs.EqualLemmas.{text_test}
 use Rattle.tables.proofs.InsertLemmas.{puts}
 use Rattle.tables.proofs.AddLemmas.{adds_row}
 use Rattle.tables.proofs.ShownLemmas.{Shows, reads_stored}
-use Rattle.sqlite_keyed.proofs.ListLemmas.{slice_get-filter}
+use Rattle.sqlite_keyed.proofs.ListLemmas.{map-map, slice_get-filter}
 use Rattle.std.specs.Prelude.{slice_get}
 use Rattle.tables.specs.Schema.{archive_schema, files}
-use Rattle.tables.specs.Rows.{whole, Tables, Holds, Changes, with_file, file_cells, file_of, stored, rows_of}
+use Rattle.tables.specs.Rows.{whole, Tables, Holds, Changes, with_file, file_cells, file_of, nat_of, stored, rows_of}
 use Rattle.tables.specs.Files.{is_file_at, without_file}
 use Rattle.tables.specs.declared.rows.File.{File}
-use Rattle.tables.specs.declared.files.TheConstants.{INSERT_FILE, SELECT_FILE, DELETE_FILE}
-use Rattle.tables.proofs.FilesMeaning.{insert_file_terms, insert_file_is, insert_file_plain, file_columns, file_path_is, select_file_is, select_file_plain, delete_file_columns, delete_file_is, delete_file_plain}
+use Rattle.tables.specs.declared.files.TheConstants.{INSERT_FILE, SELECT_FILE, SELECT_BODIES, DELETE_FILE}
+use Rattle.tables.proofs.FilesMeaning.{insert_file_terms, insert_file_is, insert_file_plain, file_columns, file_path_is, select_file_is, select_file_plain, select_bodies_is, select_bodies_plain, delete_file_columns, delete_file_is, delete_file_plain}
 use Rattle.tables.proofs.HoldsLemmas.{with_files}
+use Rattle.tables.proofs.SelectLemmas.{reads_rows}
 use Rattle.tables.proofs.UpdateLemmas.{deletes, deletes_rows}
 
 abbrev files_table : Table
@@ -48,6 +52,18 @@ pub file_answer : (old new : State) (t : Tables) (path : List ℕ) (found : Opti
 file_answer old new t path found was h =
     let all = reads_stored file_cells 17 file_path_is file_columns (Text path ∷ []) SELECT_FILE.now old new t.files was.schema was.rows.files (is_file_at path) file_of (λ _. refl) (file_shows path) h.all h.read in
     (h.is ∙ ap (λ l. slice_get l 0) all.0 ∙ slice_get-filter (is_file_at path) (rows_of t.files), all.1)
+
+pub filed_bodies_answer : (old new : State) (t : Tables) (all : List ℕ) → Holds old.now t → IsRead (λ row. nat_of (column row 0)) SELECT_BODIES.now [] old new all
+    → (all ≡ map (λ f. f.body) (rows_of t.files)) × IsUnchanged old new
+filed_bodies_answer old new t all was h =
+    let show = λ (x : ℕ × File). whole x.1.body ∷ [] in
+    let rows =
+    reads_rows file_cells 17 [] (col 1 2 ∷ []) [] (λ _. true) show (λ _. refl) (λ _. refl)
+    SELECT_BODIES.now _ (λ _. refl) old new h.rows t.files select_bodies_is.0 select_bodies_plain select_bodies_is.1 was.schema was.rows.files h.shown in (
+      h.are ∙ ap (map (λ row. nat_of (column row 0))) rows ∙ map-map (λ row. nat_of (column row 0)) show (filter (λ _. true) t.files)
+          ∙ ap (map (λ (x : ℕ × File). x.1.body)) (unfiltered t.files refl) ∙ sym (map-map (λ (f : File). f.body) (λ (x : ℕ × File). x.1) t.files),
+      h.same,
+    )
 
 pub removes_file : (old new : State) (path : List ℕ) (r : Result ℕ Error) → ExecutesInside 0 DELETE_FILE.now (Text path ∷ []) old new r → OnOk r (Changes old new (without_file path))
 removes_file old new path (Ok count) h = record {

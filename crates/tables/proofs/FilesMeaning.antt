@@ -11,7 +11,7 @@ use Rattle.sqlite.specs.Collation.TheVariants.{Binary}
 use Rattle.sqlite_sql.specs.Term.{op2}
 use Rattle.sqlite_sql.specs.declared.ops.BinaryOp.TheVariants.{Compare}
 use Rattle.sqlite_sql.specs.declared.ops.CompareOp.TheVariants.{Eq}
-use Rattle.tables.specs.declared.files.TheConstants.{INSERT_FILE, SELECT_FILE, DELETE_FILE}
+use Rattle.tables.specs.declared.files.TheConstants.{INSERT_FILE, SELECT_FILE, SELECT_BODIES, DELETE_FILE}
 use Rattle.tables.specs.Schema.{archive_schema}
 use Rattle.tables.proofs.SelectLemmas.{rows_query}
 use Rattle.tables.proofs.UpdateLemmas.{edit_query}
@@ -43,6 +43,14 @@ select_file_is = (refl, refl)
 pub select_file_plain : IsPlain (understood archive_schema SELECT_FILE.now)
 unfolding understood everything
 select_file_plain = (refl, refl)
+
+pub select_bodies_is : (command_of (understood archive_schema SELECT_BODIES.now) ≡ Select (record { lets = []; body = rows_query 17 [] (col 1 2 ∷ []) }) (codes "body" ∷ [])) × (reads_listing archive_schema SELECT_BODIES.now ≡ false)
+unfolding understood everything
+select_bodies_is = (refl, refl)
+
+pub select_bodies_plain : IsPlain (understood archive_schema SELECT_BODIES.now)
+unfolding understood everything
+select_bodies_plain = (refl, refl)
 
 pub delete_file_is : command_of (understood archive_schema DELETE_FILE.now) ≡ Delete 8 (record { lets = []; body = edit_query 17 file_path_is delete_file_columns })
 unfolding understood everything

@@ -19,14 +19,14 @@ use Rattle.std.specs.Prelude.{nat_eq}
 use Rattle.sums.specs.declared.print.Print.{Print}
 use Rattle.tables.specs.Schema.{archive_schema, uploads}
 use Rattle.tables.specs.Rows.{whole, print_cells, Tables, Holds, Changes, full_upload, with_upload, upload_cells, upload_of, row_of, some_nat, stored, next_in}
-use Rattle.tables.specs.Uploads.{is_upload, with_verdict}
+use Rattle.tables.specs.Uploads.{is_upload, with_verdict, without_upload}
 use Rattle.tables.specs.declared.rows.Upload.{Upload}
-use Rattle.tables.specs.declared.uploads.TheConstants.{INSERT_UPLOAD, SELECT_UPLOAD, SELECT_NUMBERED, UPDATE_VERDICT}
-use Rattle.tables.proofs.UploadsMeaning.{insert_upload_terms, insert_upload_is, insert_upload_plain, upload_columns, upload_is, upload_id_is, select_upload_is, select_upload_plain, select_numbered_is, select_numbered_plain, update_verdict_columns, update_verdict_is, update_verdict_plain}
+use Rattle.tables.specs.declared.uploads.TheConstants.{INSERT_UPLOAD, SELECT_UPLOAD, SELECT_NUMBERED, UPDATE_VERDICT, DELETE_UPLOAD}
+use Rattle.tables.proofs.UploadsMeaning.{insert_upload_terms, insert_upload_is, insert_upload_plain, upload_columns, upload_is, upload_id_is, select_upload_is, select_upload_plain, select_numbered_is, select_numbered_plain, update_verdict_columns, update_verdict_is, update_verdict_plain, delete_upload_columns, delete_upload_is, delete_upload_plain}
 use Rattle.tables.proofs.HoldsLemmas.{with_uploads}
-use Rattle.tables.proofs.FullLemmas.{Storing, raw, raw_cells, raw_rows, value_in, full_as, full_rows_as, added_of, next_of, changed_of, first_value}
+use Rattle.tables.proofs.FullLemmas.{Storing, raw, raw_cells, raw_rows, value_in, full_as, full_rows_as, added_of, next_of, changed_of, first_value, deletes_full}
 use Rattle.sqlite_sql.specs.Term.{eval_all}
-use Rattle.tables.proofs.UpdateLemmas.{updates, updates_rows}
+use Rattle.tables.proofs.UpdateLemmas.{deletes, updates, updates_rows}
 
 abbrev uploads_table : Table
 uploads_table = record uploads { tree = 7 }
@@ -109,3 +109,16 @@ changes_verdict old new id place verdict (Ok count) h = record {
   shown = h.1;
 }
 changes_verdict old new id place verdict (Err e) h = tt
+
+pub removes_upload : (old new : State) (id : ℕ) (r : Result ℕ Error) → ExecutesInside 0 DELETE_UPLOAD.now (whole id ∷ []) old new r → OnOk r (Changes old new (without_upload id))
+removes_upload old new id (Ok count) h = record {
+  held = λ t was.
+      let params = whole id ∷ [] in
+      let did = deletes DELETE_UPLOAD.now 4 _ delete_upload_plain uploads_table refl delete_upload_is old new params count was.schema h.0 in
+      let now = deletes_full storing 7 upload_id_is delete_upload_columns params (λ x. nat_eq x.0 id) (λ x. whole x.0 ∷ []) (record { tests = λ _. refl; shows = λ _. refl })
+      (λ x. last_term (whole_test x.0 id)) (λ _. refl) (λ _. refl) (λ _. refl)
+      old new t.uploads was.rows.uploads did.0 did.1 did.2 in
+      record { schema = did.2.schema_is; rows = with_uploads old.now.trees new.now.trees t was.rows _ now did.2.others };
+  shown = h.1;
+}
+removes_upload old new id (Err e) h = tt

@@ -2,7 +2,7 @@
 use Rattle.std.proofs.Common.{◌≡◌, refl, ◌∷◌, [], List, codes, false}
 use Rattle.sqlite_tied.specs.Compute.{everything}
 use Rattle.sqlite.specs.declared.types.Value.TheVariants.{Null}
-use Rattle.sqlite.specs.Command.TheVariants.{Insert, Select, Update}
+use Rattle.sqlite.specs.Command.TheVariants.{Insert, Select, Update, Delete}
 use Rattle.sqlite.specs.Source.TheVariants.{Values}
 use Rattle.sqlite.specs.Term.{Term, lit, col}
 use Rattle.sqlite.specs.Listing.{understood, reads_listing}
@@ -11,7 +11,7 @@ use Rattle.sqlite.specs.Collation.TheVariants.{Binary}
 use Rattle.sqlite_sql.specs.Term.{op2}
 use Rattle.sqlite_sql.specs.declared.ops.BinaryOp.TheVariants.{Compare}
 use Rattle.sqlite_sql.specs.declared.ops.CompareOp.TheVariants.{Eq}
-use Rattle.tables.specs.declared.uploads.TheConstants.{INSERT_UPLOAD, SELECT_UPLOAD, SELECT_NUMBERED, UPDATE_VERDICT}
+use Rattle.tables.specs.declared.uploads.TheConstants.{INSERT_UPLOAD, SELECT_UPLOAD, SELECT_NUMBERED, UPDATE_VERDICT, DELETE_UPLOAD}
 use Rattle.tables.specs.Schema.{archive_schema}
 use Rattle.tables.proofs.SelectLemmas.{rows_query}
 use Rattle.tables.proofs.UpdateLemmas.{edit_query}
@@ -27,6 +27,9 @@ upload_id_is = op2 (Compare Eq Binary) (col 1 0) (col 0 0) ∷ []
 
 abbrev pub update_verdict_columns : List Term
 update_verdict_columns = col 1 0 ∷ col 1 0 ∷ lit Null ∷ col 1 2 ∷ col 1 3 ∷ col 1 4 ∷ col 1 5 ∷ col 1 6 ∷ col 0 1 ∷ col 0 2 ∷ []
+
+abbrev pub delete_upload_columns : List Term
+delete_upload_columns = col 1 0 ∷ []
 
 abbrev pub insert_upload_terms : List Term
 insert_upload_terms = lit Null ∷ lit Null ∷ col 0 0 ∷ col 0 1 ∷ col 0 2 ∷ col 0 3 ∷ col 0 4 ∷ lit Null ∷ lit Null ∷ []
@@ -62,3 +65,11 @@ update_verdict_is = refl
 pub update_verdict_plain : IsPlain (understood archive_schema UPDATE_VERDICT.now)
 unfolding understood everything
 update_verdict_plain = (refl, refl)
+
+pub delete_upload_is : command_of (understood archive_schema DELETE_UPLOAD.now) ≡ Delete 4 (record { lets = []; body = edit_query 7 upload_id_is delete_upload_columns })
+unfolding understood everything
+delete_upload_is = refl
+
+pub delete_upload_plain : IsPlain (understood archive_schema DELETE_UPLOAD.now)
+unfolding understood everything
+delete_upload_plain = (refl, refl)

@@ -18,10 +18,10 @@ use Rattle.tables.proofs.ShownLemmas.{Shows, shown, reads_stored}
 use Rattle.sums.specs.declared.print.Print.{Print}
 use Rattle.tables.specs.Schema.{archive_schema, wants}
 use Rattle.tables.specs.Rows.{whole, flag, print_cells, Tables, Holds, Changes, with_want, want_cells, want_of, stored, rows_of}
-use Rattle.tables.specs.Wants.{is_wanted_by, is_want, with_here, without_wants}
+use Rattle.tables.specs.Wants.{is_wanted_by, is_want, with_away, with_here, without_wants}
 use Rattle.tables.specs.declared.rows.Want.{Want}
-use Rattle.tables.specs.declared.wants.TheConstants.{INSERT_WANT, SELECT_WANTS_OF, UPDATE_HERE, DELETE_WANTS}
-use Rattle.tables.proofs.WantsMeaning.{insert_want_terms, insert_want_is, insert_want_plain, want_columns, want_upload_is, want_is, select_wants_of_is, select_wants_of_plain, update_here_columns, update_here_is, update_here_plain, delete_wants_columns, delete_wants_is, delete_wants_plain}
+use Rattle.tables.specs.declared.wants.TheConstants.{INSERT_WANT, SELECT_WANTS_OF, UPDATE_HERE, UPDATE_AWAY, DELETE_WANTS}
+use Rattle.tables.proofs.WantsMeaning.{insert_want_terms, insert_want_is, insert_want_plain, want_columns, want_upload_is, want_is, select_wants_of_is, select_wants_of_plain, update_here_columns, update_here_is, update_here_plain, update_away_columns, update_away_is, update_away_plain, delete_wants_columns, delete_wants_is, delete_wants_plain}
 use Rattle.tables.proofs.HoldsLemmas.{with_wants}
 use Rattle.tables.proofs.UpdateLemmas.{updates, updates_rows, deletes, deletes_rows}
 
@@ -73,6 +73,27 @@ changes_here old new name print (Ok count) h = record {
   shown = h.1;
 }
 changes_here old new name print (Err e) h = tt
+
+-- the row that the other update makes of a row
+abbrev updated_away : ℕ × Want → Row
+updated_away x = whole x.0 ∷ whole x.0 ∷ whole x.1.upload ∷ Text x.1.name ∷ (print_cells x.1.print ++ whole 0 ∷ [])
+
+away_cast : (x : ℕ × Want) → cast_row wants_table (drop 1 (updated_away x)) ≡ stored want_cells (x.0, record x.1 { here = false })
+away_cast x = rw (cast_int (pos x.0), cast_int (pos x.1.upload), cast_int (pos x.1.print.size), cast_int (pos 0))
+
+pub changes_away : (old new : State) (name : List ℕ) (print : Print) (r : Result ℕ Error) → ExecutesInside 0 UPDATE_AWAY.now (Text name ∷ print_cells print) old new r
+    → OnOk r (Changes old new (with_away name print))
+changes_away old new name print (Ok count) h = record {
+  held = λ t was.
+      let params = Text name ∷ print_cells print in
+      let did = updates UPDATE_AWAY.now 5 _ update_away_plain wants_table refl update_away_is old new params count was.schema h.0 in
+      let now = updates_rows want_cells 10 want_is update_away_columns params (λ x. is_want name print x.1) updated_away
+      (λ x. then_term (text_test x.1.name name) (print_test x.1.print print)) (λ _. refl) (λ _. refl) (λ _. refl)
+      old new t.wants was.rows.wants did.0 did.1 (λ x. record x { here = false }) wants_table away_cast did.2 in
+      record { schema = did.2.schema_is; rows = with_wants old.now.trees new.now.trees t was.rows _ now did.2.others };
+  shown = h.1;
+}
+changes_away old new name print (Err e) h = tt
 
 pub changes_wants : (old new : State) (upload : ℕ) (r : Result ℕ Error) → ExecutesInside 0 DELETE_WANTS.now (whole upload ∷ []) old new r → OnOk r (Changes old new (without_wants upload))
 changes_wants old new upload (Ok count) h = record {

@@ -11,7 +11,7 @@ use Rattle.sqlite.specs.Collation.TheVariants.{Binary}
 use Rattle.sqlite_sql.specs.Term.{op2}
 use Rattle.sqlite_sql.specs.declared.ops.BinaryOp.TheVariants.{Compare}
 use Rattle.sqlite_sql.specs.declared.ops.CompareOp.TheVariants.{Eq}
-use Rattle.tables.specs.declared.wants.TheConstants.{INSERT_WANT, SELECT_WANTS_OF, UPDATE_HERE, DELETE_WANTS}
+use Rattle.tables.specs.declared.wants.TheConstants.{INSERT_WANT, SELECT_WANTS_OF, UPDATE_HERE, UPDATE_AWAY, DELETE_WANTS}
 use Rattle.tables.specs.Schema.{archive_schema}
 use Rattle.tables.proofs.SelectLemmas.{rows_query}
 use Rattle.tables.proofs.UpdateLemmas.{edit_query}
@@ -27,6 +27,9 @@ want_is = op2 (Compare Eq Binary) (col 1 2) (col 0 0) ∷ op2 (Compare Eq Binary
 
 abbrev pub update_here_columns : List Term
 update_here_columns = col 1 0 ∷ col 1 0 ∷ col 1 1 ∷ col 1 2 ∷ col 1 3 ∷ col 1 4 ∷ col 1 5 ∷ col 1 6 ∷ lit (Int (pos 1)) ∷ []
+
+abbrev pub update_away_columns : List Term
+update_away_columns = col 1 0 ∷ col 1 0 ∷ col 1 1 ∷ col 1 2 ∷ col 1 3 ∷ col 1 4 ∷ col 1 5 ∷ col 1 6 ∷ lit (Int (pos 0)) ∷ []
 
 abbrev pub delete_wants_columns : List Term
 delete_wants_columns = col 1 0 ∷ []
@@ -57,6 +60,14 @@ update_here_is = refl
 pub update_here_plain : IsPlain (understood archive_schema UPDATE_HERE.now)
 unfolding understood everything
 update_here_plain = (refl, refl)
+
+pub update_away_is : command_of (understood archive_schema UPDATE_AWAY.now) ≡ Update 5 (record { lets = []; body = edit_query 10 want_is update_away_columns })
+unfolding understood everything
+update_away_is = refl
+
+pub update_away_plain : IsPlain (understood archive_schema UPDATE_AWAY.now)
+unfolding understood everything
+update_away_plain = (refl, refl)
 
 pub delete_wants_is : command_of (understood archive_schema DELETE_WANTS.now) ≡ Delete 5 (record { lets = []; body = edit_query 10 want_upload_is delete_wants_columns })
 unfolding understood everything

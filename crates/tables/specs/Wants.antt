@@ -1,5 +1,5 @@
 -- What the statements on wants speak of.
-use Rattle.std.specs.Prelude.{ℕ, ℤ, pos, negsuc, ◌≤◌, Bool, true, ◌&&◌, List, Option, None, Some, IfSome, MatchOption, IsTrue, nat_eq, nat_lt, bytes_eq}
+use Rattle.std.specs.Prelude.{ℕ, ℤ, pos, negsuc, ◌≤◌, Bool, true, false, ◌&&◌, List, Option, None, Some, IfSome, MatchOption, IsTrue, nat_eq, nat_lt, bytes_eq}
 use Rattle.std.specs.List.{list_any}
 use Rattle.sums.specs.declared.print.Print.{Print}
 use Rattle.sums.specs.Prints.{same_print}
@@ -17,6 +17,10 @@ is_want name print x = bytes_eq x.name name && same_print x.print print
 -- a body of this name and print has arrived
 abbrev pub with_here : List ℕ → Print → Tables → Tables
 with_here name print t = record t { wants = changed (λ x. is_want name print x.1) (λ x. record x { here = true }) t.wants }
+
+-- no body of this name and print is there any more
+abbrev pub with_away : List ℕ → Print → Tables → Tables
+with_away name print t = record t { wants = changed (λ x. is_want name print x.1) (λ x. record x { here = false }) t.wants }
 
 -- the entries of this upload are gone
 abbrev pub without_wants : ℕ → Tables → Tables

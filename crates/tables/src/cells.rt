@@ -2,7 +2,7 @@
 
 ghost use Rattle.std.specs.Prelude.{◌≡◌, ℕ, pos, ◌<◌, ◌+◌, ◌^◌, ◌==◌, not, length, IfOk, IfSome};
 ghost use Rattle.sqlite.specs.Order.{column, bytes};
-ghost use Rattle.tables.specs.Rows.{nat_of, some_nat, print_at};
+ghost use Rattle.tables.specs.Rows.{nat_of, some_nat, some_print, print_at};
 
 use crate::read::{FromRow, whole_at};
 use sqlite::types::Type;
@@ -74,4 +74,15 @@ pub(crate) fn print_at(row: &Row, at: usize) -> Result<Print, Error>
         sha1: digest_at(row, at + 2)?,
         sha256: digest_at(row, at + 3)?,
     })
+}
+
+/// The print in four columns, unless the first is NULL.
+pub(crate) fn some_print_at(row: &Row, at: usize) -> Result<Option<Print>, Error>
+    requires { at + 3 < 2 ^ 64 }
+    ensures { IfOk result (λ print. print ≡ some_print row.now at (some_nat (column row.now at))) }
+{
+    match some_whole_at(row, at)? {
+        Some(_) => Ok(Some(print_at(row, at)?)),
+        None => Ok(None),
+    }
 }

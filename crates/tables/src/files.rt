@@ -1,13 +1,14 @@
 //! The files of the pool, and their bodies.
 
-ghost use Rattle.std.specs.Prelude.{◌≡◌, find, false, IsTrue, IfOk, OnOk, OnErr};
-ghost use Rattle.sqlite.specs.State.{HasCleanDisk, IsUnchanged, Survives};
+ghost use Rattle.std.specs.Prelude.{◌≡◌, find, false, map, IsTrue, IfOk, OnOk, OnErr};
+ghost use Rattle.sqlite.specs.State.{HasCleanDisk, IsUnchanged, Survives, KeepsCommit};
 ghost use Rattle.sqlite.specs.Held.{state};
+ghost use Rattle.tables.specs.Inside.{GoesOn};
 ghost use Rattle.tables.specs.Rows.{Tables, Holds, Changes, Fails, IsForeign, with_file, file_of, rows_of};
 ghost use Rattle.tables.specs.Files.{is_file_at, without_file};
 
 use crate::number::whole;
-use crate::read::{FromRow, select_first, text_at, whole_at};
+use crate::read::{FromRow, select_first, select_inside, text_at, whole_at};
 use crate::rows::File;
 use sqlite::{Alter, Connection, Error, Row, Transaction, params};
 use std::alloc::Global;
@@ -15,6 +16,8 @@ use std::alloc::Global;
 const INSERT_FILE: &str = "INSERT INTO files (path, body) VALUES (?1, ?2)";
 
 const SELECT_FILE: &str = "SELECT rowid, path, body FROM files WHERE path = ?1 ORDER BY rowid";
+
+const SELECT_BODIES: &str = "SELECT body FROM files ORDER BY rowid";
 
 const DELETE_FILE: &str = "DELETE FROM files WHERE path = ?1";
 
@@ -61,6 +64,25 @@ pub fn file_at<S: Alter>(
     ensures survives { Survives (state S.Store conn.old) (state S.Store conn.new) (λ _. IsForeign (state S.Store conn.old).now) }
 {
     select_first(alloc, conn, SELECT_FILE, params![path])
+}
+
+/// The number of the body of each file, inside a transaction.
+pub fn filed_bodies_inside<S: Alter>(
+    alloc: Global,
+    tx: &mut Transaction<'_, S>,
+) -> Result<Vec<u64>, Error>
+    ensures same_reference { tx.new.conn.ghost_name ≡ tx.old.conn.ghost_name }
+    ensures ok { HasCleanDisk (state S.Store tx.new.conn.now) → (t : Tables) → Holds (state S.Store tx.old.conn.now).now t
+        → IfOk result (λ all. (all.items ≡ map (λ f. f.body) (rows_of t.files)) × IsUnchanged (state S.Store tx.old.conn.now) (state S.Store tx.new.conn.now)) }
+    ensures err { HasCleanDisk (state S.Store tx.new.conn.now) → (t : Tables) → Holds (state S.Store tx.old.conn.now).now t
+        → OnErr result (Fails (state S.Store tx.old.conn.now) (state S.Store tx.new.conn.now)) }
+    ensures goes_on { HasCleanDisk (state S.Store tx.new.conn.now) → IsTrue (state S.Store tx.old.conn.now).in_transaction
+        → OnOk result (GoesOn (state S.Store tx.old.conn.now) (state S.Store tx.new.conn.now)) }
+    ensures kept { HasCleanDisk (state S.Store tx.new.conn.now) → IsTrue (state S.Store tx.old.conn.now).in_transaction
+        → OnErr result (KeepsCommit (state S.Store tx.old.conn.now) (state S.Store tx.new.conn.now)) }
+    ensures survives { Survives (state S.Store tx.old.conn.now) (state S.Store tx.new.conn.now) (λ _. ⊥) }
+{
+    select_inside(alloc, tx, SELECT_BODIES, &[])
 }
 
 /// Removes the file of a path, if there is one.

@@ -5,7 +5,7 @@ ghost use Rattle.sqlite.specs.State.{HasCleanDisk, IsUnchanged, Survives, KeepsC
 ghost use Rattle.sqlite.specs.Held.{state};
 ghost use Rattle.tables.specs.Inside.{GoesOn};
 ghost use Rattle.tables.specs.Rows.{Tables, Holds, Changes, Fails, IsForeign, with_upload, upload_of, next_in};
-ghost use Rattle.tables.specs.Uploads.{is_upload, with_verdict};
+ghost use Rattle.tables.specs.Uploads.{is_upload, with_verdict, without_upload};
 
 use crate::cells::{print_at, row_number, some_whole_at};
 use crate::number::whole;
@@ -25,6 +25,8 @@ const SELECT_NUMBERED: &str =
     "SELECT rowid, id, name, size, md5, sha1, sha256, place, verdict FROM uploads WHERE id = ?1 ORDER BY rowid";
 
 const UPDATE_VERDICT: &str = "UPDATE uploads SET place = ?2, verdict = ?3 WHERE id = ?1";
+
+const DELETE_UPLOAD: &str = "DELETE FROM uploads WHERE id = ?1";
 
 impl FromRow for Upload {
     ghost of_row = { upload_of };
@@ -126,5 +128,19 @@ pub fn set_verdict<S: Alter>(
     let place = whole(place)?;
     let verdict = whole(verdict)?;
     tx.execute(UPDATE_VERDICT, params![id, place, verdict])?;
+    Ok(())
+}
+
+/// Removes the upload of a number. Its entries go first: one that still has some is refused.
+pub fn delete_upload<S: Alter>(tx: &mut Transaction<'_, S>, id: u64) -> Result<(), Error>
+    ensures same_reference { tx.new.conn.ghost_name ≡ tx.old.conn.ghost_name }
+    ensures ok { HasCleanDisk (state S.Store tx.new.conn.now) → IsTrue (state S.Store tx.old.conn.now).in_transaction
+        → OnOk result (Changes (state S.Store tx.old.conn.now) (state S.Store tx.new.conn.now) (without_upload id)) }
+    ensures err { HasCleanDisk (state S.Store tx.new.conn.now) → IsTrue (state S.Store tx.old.conn.now).in_transaction
+        → OnErr result (Fails (state S.Store tx.old.conn.now) (state S.Store tx.new.conn.now)) }
+    ensures survives { Survives (state S.Store tx.old.conn.now) (state S.Store tx.new.conn.now) (λ _. ⊥) }
+{
+    let id = whole(id)?;
+    tx.execute(DELETE_UPLOAD, params![id])?;
     Ok(())
 }

@@ -4,7 +4,7 @@ ghost use Rattle.std.specs.Prelude.{◌≡◌, filter, false, IsTrue, IfOk, OnOk
 ghost use Rattle.sqlite.specs.State.{HasCleanDisk, IsUnchanged, Survives};
 ghost use Rattle.sqlite.specs.Held.{state};
 ghost use Rattle.tables.specs.Rows.{Tables, Holds, Changes, Fails, IsForeign, with_want, want_of, rows_of};
-ghost use Rattle.tables.specs.Wants.{IsNextWanting, is_wanted_by, with_here, without_wants};
+ghost use Rattle.tables.specs.Wants.{IsNextWanting, is_wanted_by, with_away, with_here, without_wants};
 
 use crate::cells::{flag_at, print_at};
 use crate::number::{below, whole};
@@ -24,6 +24,9 @@ const SELECT_NEXT: &str = "SELECT upload FROM wants WHERE upload > ?1 ORDER BY u
 
 const UPDATE_HERE: &str =
     "UPDATE wants SET here = 1 WHERE name = ?1 AND size = ?2 AND md5 = ?3 AND sha1 = ?4 AND sha256 = ?5";
+
+const UPDATE_AWAY: &str =
+    "UPDATE wants SET here = 0 WHERE name = ?1 AND size = ?2 AND md5 = ?3 AND sha1 = ?4 AND sha256 = ?5";
 
 const DELETE_WANTS: &str = "DELETE FROM wants WHERE upload = ?1";
 
@@ -85,6 +88,27 @@ pub fn mark_here<S: Alter>(
     let sha1: &[u8] = &print.sha1;
     let sha256: &[u8] = &print.sha256;
     tx.execute(UPDATE_HERE, params![name, size, md5, sha1, sha256])?;
+    Ok(())
+}
+
+/// Notes in every upload that no body of a name and a print is there.
+pub fn mark_away<S: Alter>(
+    tx: &mut Transaction<'_, S>,
+    name: &str,
+    print: &Print,
+) -> Result<(), Error>
+    ensures same_reference { tx.new.conn.ghost_name ≡ tx.old.conn.ghost_name }
+    ensures ok { HasCleanDisk (state S.Store tx.new.conn.now) → IsTrue (state S.Store tx.old.conn.now).in_transaction
+        → OnOk result (Changes (state S.Store tx.old.conn.now) (state S.Store tx.new.conn.now) (with_away name.now print.now)) }
+    ensures err { HasCleanDisk (state S.Store tx.new.conn.now) → IsTrue (state S.Store tx.old.conn.now).in_transaction
+        → OnErr result (Fails (state S.Store tx.old.conn.now) (state S.Store tx.new.conn.now)) }
+    ensures survives { Survives (state S.Store tx.old.conn.now) (state S.Store tx.new.conn.now) (λ _. ⊥) }
+{
+    let size = whole(print.size)?;
+    let md5: &[u8] = &print.md5;
+    let sha1: &[u8] = &print.sha1;
+    let sha256: &[u8] = &print.sha256;
+    tx.execute(UPDATE_AWAY, params![name, size, md5, sha1, sha256])?;
     Ok(())
 }
 

@@ -71,6 +71,10 @@ impl<K: Keeper> Keeper for Counting<K> {
         self.inner.apply(alloc, change)
     }
 
+    fn clean(&mut self, alloc: Global, moment: u64) -> Result<u64, KeepFault> {
+        self.inner.clean(alloc, moment)
+    }
+
     fn file(&mut self, alloc: Global, path: &str) -> Result<Option<Vec<u8>>, KeepFault> {
         self.inner.file(alloc, path)
     }

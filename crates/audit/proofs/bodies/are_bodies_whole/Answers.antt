@@ -13,4 +13,4 @@ returns c =
     let whole = c.are_whole.result in
     IfOk-weaker whole _ _ (bodies_fit (tables_with all))
     (subst (λ (a : AllRows). IfOk whole (λ fit. IsTrue fit ↔ All (IsBodyFit (tables_with a)) all.bodies.items)) c.new.ensures
-    (subst (λ rows. IfOk whole (λ fit. IsTrue fit ↔ All (IsBodyFit (tables_with c.new.result.all.now)) rows)) c.deref-3.ensures.value c.are_whole.ensures))
+    (subst (λ rows. IfOk whole (λ fit. IsTrue fit ↔ All (IsBodyFit (tables_with c.new.result.all.now)) rows)) c.deref-4.ensures.value c.are_whole.ensures))

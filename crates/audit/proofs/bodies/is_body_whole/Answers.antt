@@ -3,14 +3,14 @@ use Rattle.std.proofs.lemmas.Bool.{false≢true}
 use Rattle.sums.specs.Prints.{print}
 use Rattle.tables_read.specs.All.{tables_with}
 use Rattle.kept.specs.Kept.{bytes_of, pieces_for}
-use Rattle.audit.proofs.BodiesLemmas.{arrived_same}
+use Rattle.audit.proofs.BodiesLemmas.{used_same}
 use Rattle.audit.proofs.bodies.is_body_whole.Goals as goal
 
 pub returns-then-not-is_among : goal.returns-then-not-is_among
 returns-then-not-is_among c = (
   λ e. absurd (false≢true e),
   λ fit. absurd (false≢true (sym c.if-not-is_among.true ∙ c.is_among.ensures
-      ∙ arrived_same c.args.pieces.now.all.now.arrivals.items c.args.arrived.now c.args.row.now.0 c.requires ∙ fit.used)),
+      ∙ used_same (tables_with c.args.pieces.now.all.now) c.args.used.now c.args.row.now.0 c.requires ∙ fit.used)),
 )
 
 pub returns : goal.returns
@@ -23,7 +23,7 @@ returns c =
       λ e. record {
         whole = c.is_print_of.ensures.0 e ∙ same;
         pieces = sym c.about.ensures ∙ c.are_pieces_of.ensures.0 c.if-not-are_pieces_of.false ∙ ap (pieces_for id) bytes;
-        used = sym (arrived_same all.arrivals.items c.args.arrived.now id c.requires) ∙ sym c.is_among.ensures ∙ c.if-not-is_among.false;
+        used = sym (used_same (tables_with all) c.args.used.now id c.requires) ∙ sym c.is_among.ensures ∙ c.if-not-is_among.false;
       },
       λ fit. c.is_print_of.ensures.1 (fit.whole ∙ sym same),
     )

@@ -2,7 +2,8 @@ use Rattle.std.proofs.Common.{arith}
 use Rattle.sqlite.specs.State.{HasCleanDisk}
 use Rattle.sqlite.specs.Held.{state}
 use Rattle.kept.specs.Coming.{ended_number, with_ended}
-use Rattle.kept.proofs.DeliverLemmas.{file_stored, file_new}
+use Rattle.bodies.proofs.ArrivedLemmas.{new_once_stored}
+use Rattle.kept.proofs.DeliverLemmas.{file_stored}
 use Rattle.bodies.proofs.finishing.store_file.Goals as goal
 
 pub returns-clause-ok : goal.returns-clause-ok
@@ -20,5 +21,5 @@ returns-clause-ok g c clean inside =
     let store = with_ended finished.body finished.print in
     let number = ended_number finished.body finished.print in (
       file_stored finished.name.now finished.print finished.moment c.in_ok-body.body store number old one two new stored.0 stored.1 arrived.0 marked,
-      file_new finished.name.now finished.print finished.moment c.in_ok-body.body store number old one two new stored.0 stored.1 c.in_ok-new.new arrived.1,
+      new_once_stored finished.span finished.moment finished.name.now c.in_ok-body.body store number old one stored.0 stored.1 c.in_ok-new.new arrived.1,
     )

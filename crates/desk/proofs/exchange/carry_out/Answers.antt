@@ -1,7 +1,7 @@
 use Rattle.std.proofs.Common.{◌≤◌, ℕ, List, Ok, Err, ap, subst, refl, false, option_map}
 use Rattle.desk.specs.Message.{message_of}
 use Rattle.desk.specs.Request.{body_length, want_of}
-use Rattle.desk.specs.Want.{copying, delivery, fetching, queue_run, removing, verdict_list, waiting_list}
+use Rattle.desk.specs.Want.{cleaning, copying, delivery, fetching, queue_run, removing, verdict_list, waiting_list}
 use Rattle.desk.specs.declared.head.Wanted.{Wanted}
 use Rattle.queue.specs.Commands.{lines_of}
 use Rattle.queue.specs.Histories.{Lines, Count, Found}
@@ -65,6 +65,14 @@ returns-in-Ok-waiting-clause-carried_out g c =
 pub returns-in-Err-waiting-clause-carried_out : goal.returns-in-Err-waiting-clause-carried_out
 returns-in-Err-waiting-clause-carried_out g c =
     rw c.in-Waiting.is (without_body g.K.Keeper _ _ _ waiting_list c.args.moment _ refl (record { outcome = Err c.in-Err-waiting.fault; done = c.in-Err-waiting.ensures.step; message_is = c.fault_reply-in-Err-waiting.ensures }))
+
+pub returns-in-Ok-clean-clause-carried_out : goal.returns-in-Ok-clean-clause-carried_out
+returns-in-Ok-clean-clause-carried_out g c =
+    rw c.in-Clean.is (without_body g.K.Keeper _ _ _ cleaning c.args.moment _ refl (record { outcome = Ok (Count c.in-Ok-clean.count); done = c.in-Ok-clean.ensures.step; message_is = ap message_of c.new-in-Ok-clean.ensures }))
+
+pub returns-in-Err-clean-clause-carried_out : goal.returns-in-Err-clean-clause-carried_out
+returns-in-Err-clean-clause-carried_out g c =
+    rw c.in-Clean.is (without_body g.K.Keeper _ _ _ cleaning c.args.moment _ refl (record { outcome = Err c.in-Err-clean.fault; done = c.in-Err-clean.ensures.step; message_is = c.fault_reply-in-Err-clean.ensures }))
 
 pub returns-in-Ok-verdicts-clause-carried_out : goal.returns-in-Ok-verdicts-clause-carried_out
 returns-in-Ok-verdicts-clause-carried_out g c =

@@ -1,4 +1,4 @@
-use Rattle.desk.specs.Paths.{to_incoming, to_copy, to_dists, to_pool, to_remove, to_run, to_queue, to_verdicts}
+use Rattle.desk.specs.Paths.{to_incoming, to_copy, to_dists, to_pool, to_remove, to_run, to_queue, to_clean, to_verdicts}
 use Rattle.desk.proofs.RouteLemmas.{place_asks}
 use Rattle.desk.proofs.laws.paths_with_a_route.Goals as goal
 
@@ -13,6 +13,9 @@ returns-clause-copy c from to source h1 h2 h3 = place_asks (to_copy from to sour
 
 pub returns-clause-waiting : goal.returns-clause-waiting
 returns-clause-waiting c = place_asks to_queue tt
+
+pub returns-clause-clean : goal.returns-clause-clean
+returns-clause-clean c = place_asks to_clean tt
 
 pub returns-clause-verdicts : goal.returns-clause-verdicts
 returns-clause-verdicts c = place_asks to_verdicts tt

@@ -1,6 +1,6 @@
 use Rattle.std.proofs.Common.{◌≡◌, ℕ, ◌<◌, ◌+◌, ◌-◌, ◌∷◌, List, drop, get_or, length, ap, ◌∙◌, sym, arith}
 use Rattle.std.proofs.lemmas.List.{drop_more}
-use Rattle.keep.specs.Scan.{unjudged_in}
+use Rattle.keep.specs.Scan.{counted, unjudged_in}
 use Rattle.keep.specs.declared.arrival.Arrival.{Arrival}
 use Rattle.keep.proofs.scan.unjudged.Goals as goal
 
@@ -17,5 +17,5 @@ loop-left-preserved c = record {
   found =
       let within : c.loop-left.left - 1 < length c.args.arrivals.now = omega arith in
       c.in_ok-add_unjudged.ensures (drop c.loop-left.left c.args.arrivals.now) c.loop-left.invariant.found
-      ∙ ap (λ xs. unjudged_in xs c.args.judged.now) (sym (earlier c.args.arrivals.now c.loop-left.left c.index-arrivals-left.result c.loop-left-test.true within c.index-arrivals-left.is));
+      ∙ ap (λ xs. unjudged_in (counted c.args.counting xs) c.args.judged.now) (sym (earlier c.args.arrivals.now c.loop-left.left c.index-arrivals-left.result c.loop-left-test.true within c.index-arrivals-left.is));
 }

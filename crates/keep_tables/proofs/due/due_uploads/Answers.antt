@@ -1,13 +1,10 @@
-use Rattle.std.proofs.Common.{◌≡◌, ◌++◌, length, map, ap, sym, ◌∙◌, arith}
+use Rattle.std.proofs.Common.{◌≡◌, ◌++◌, length, ap, sym, ◌∙◌, arith}
 use Rattle.std.specs.List.{filter_map}
 use Rattle.sqlite.specs.Held.{state}
 use Rattle.sqlite.specs.State.{HasCleanDisk}
 use Rattle.sqlite.proofs.Callers.{unchanged_then}
-use Rattle.keep.specs.Book.{due}
-use Rattle.keep.proofs.Signs.{signs_of}
-use Rattle.kept.specs.Reads.{due_in}
-use Rattle.kept.proofs.FinishedLemmas.{dues_finished}
 use Rattle.kept.proofs.ReadsLemmas.{found_all, found_more, found_none, held_after, on_err, survives_after, undone_after, undone_if_unchanged}
+use Rattle.keep_tables.specs.Moments.{due_at}
 use Rattle.keep_tables.proofs.due.due_uploads.Goals as goal
 
 pub returns-in_err-id-items-clause-survives : goal.returns-in_err-id-items-clause-survives
@@ -21,7 +18,7 @@ loop-id-init g c = record {
   read = λ clean t was.
       let read = c.in_ok-items.ensures.ok clean t was in
       let rest = c.into_iter-id-iterator.result.rest.items in
-      (ap (λ us. us ++ filter_map (due_in t) rest) c.new-uploads.ensures.items ∙ ap (filter_map (due_in t)) (c.into_iter-id-iterator.ensures.into_iter_gives.0 ∙ read.0), read.1);
+      (ap (λ us. us ++ filter_map (due_at c.args.span c.args.moment t) rest) c.new-uploads.ensures.items ∙ ap (filter_map (due_at c.args.span c.args.moment t)) (c.into_iter-id-iterator.ensures.into_iter_gives.0 ∙ read.0), read.1);
 }
 
 pub loop-id-preserved : goal.loop-id-preserved
@@ -36,7 +33,7 @@ loop-id-preserved g c =
           let early : HasCleanDisk mid = omega (arith, c.due_upload.ensures.survives.clean, clean) in
           let before = c.loop-id.invariant.read early t was in
           let read = c.in_ok-due.ensures.ok clean t (held_after old mid before.1 t was) in (
-            found_none (due_in t) c.loop-id.uploads.items (c.in-Some.id, c.in-Some.upload) c.next.new.self.rest.items (sym c.in_default.is ∙ read.0) c.in-Some.ensures.steps.0 before.0,
+            found_none (due_at c.args.span c.args.moment t) c.loop-id.uploads.items (c.in-Some.id, c.in-Some.upload) c.next.new.self.rest.items (sym c.in_default.is ∙ read.0) c.in-Some.ensures.steps.0 before.0,
             unchanged_then old mid new before.1 read.1,
           );
     }
@@ -54,7 +51,7 @@ loop-id-preserved-in-Continue-branch-4 g c =
           let early : HasCleanDisk mid = omega (arith, c.due_upload.ensures.survives.clean, clean) in
           let before = c.loop-id.invariant.read early t was in
           let read = c.in_ok-due.ensures.ok clean t (held_after old mid before.1 t was) in (
-            found_more (due_in t) c.loop-id.uploads.items (c.in-Some.id, c.in-Some.upload) c.next.new.self.rest.items c.in_ok-push.ensures.items (sym c.in-Some-2.is ∙ read.0)
+            found_more (due_at c.args.span c.args.moment t) c.loop-id.uploads.items (c.in-Some.id, c.in-Some.upload) c.next.new.self.rest.items c.in_ok-push.ensures.items (sym c.in-Some-2.is ∙ read.0)
                 c.in-Some.ensures.steps.0 before.0,
             unchanged_then old mid new before.1 read.1,
           );
@@ -90,13 +87,7 @@ returns-in_err-push-clause-survives g c =
     survives_after (state g.S.Store c.args.conn.now) (state g.S.Store c.loop-id.conn) (state g.S.Store c.due_upload.new.conn)
     (λ clean t was. (c.loop-id.invariant.read clean t was).1) c.loop-id.invariant.survives c.due_upload.ensures.survives
 
-pub returns-clause-uploads : goal.returns-clause-uploads
-returns-clause-uploads g c clean t was b same uploads bodies arrivals =
+pub returns-clause-ok : goal.returns-clause-ok
+returns-clause-ok g c clean t was =
     let none : length c.loop-id.id-iterator.rest.items ≡ 0 = omega (arith, c.in-None.ensures.steps.0, c.loop-id.id-iterator.rest.ok.0) in
-    found_all (due_in t) c.loop-id.uploads.items c.loop-id.id-iterator.rest.items none (c.loop-id.invariant.read clean t was).0 ∙ dues_finished t b was.rows.bodies.rise was.rows.uploads.rise same uploads bodies arrivals
-
-pub returns-clause-signs : goal.returns-clause-signs
-returns-clause-signs g c clean t was b same uploads bodies arrivals =
-    let none : length c.loop-id.id-iterator.rest.items ≡ 0 = omega (arith, c.in-None.ensures.steps.0, c.loop-id.id-iterator.rest.ok.0) in
-    ap (map (λ u. (u.name, u.print))) (found_all (due_in t) c.loop-id.uploads.items c.loop-id.id-iterator.rest.items none (c.loop-id.invariant.read clean t was).0 ∙ dues_finished t b was.rows.bodies.rise was.rows.uploads.rise same uploads bodies arrivals)
-    ∙ signs_of b.arrivals (due b)
+    found_all (due_at c.args.span c.args.moment t) c.loop-id.uploads.items c.loop-id.id-iterator.rest.items none (c.loop-id.invariant.read clean t was).0

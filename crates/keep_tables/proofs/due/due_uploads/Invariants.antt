@@ -3,7 +3,7 @@ use Rattle.std.specs.List.{filter_map}
 use Rattle.sqlite.specs.Held.{state}
 use Rattle.sqlite.specs.State.{HasCleanDisk, IsUnchanged, Survives}
 use Rattle.tables.specs.Rows.{Tables, Holds}
-use Rattle.kept.specs.Reads.{due_in, wanting_rows}
+use Rattle.keep_tables.specs.Moments.{due_at, rows_at}
 use Rattle.keep_tables.proofs.due.due_uploads.Given as goal
 
 -- the uploads so far, and those that are left
@@ -12,6 +12,6 @@ invariant-loop-id g l = record {
   idle : l.fn.conn.in_transaction ≡ false → l.conn.in_transaction ≡ false;
   survives : Survives (state g.S.Store l.fn.conn) (state g.S.Store l.conn) (λ _. (t : Tables) → ¬ Holds (state g.S.Store l.fn.conn).now t);
   read : HasCleanDisk (state g.S.Store l.conn) → (t : Tables) → Holds (state g.S.Store l.fn.conn).now t
-      → (l.uploads.items ++ filter_map (due_in t) l.id-iterator.rest.items ≡ filter_map (due_in t) (wanting_rows t))
+      → (l.uploads.items ++ filter_map (due_at l.span l.moment t) l.id-iterator.rest.items ≡ filter_map (due_at l.span l.moment t) (rows_at l.span l.moment t))
       × IsUnchanged (state g.S.Store l.fn.conn) (state g.S.Store l.conn);
 }

@@ -1,10 +1,13 @@
-use Rattle.std.proofs.Common.{not, ap, ◌∙◌, arith, refl}
+use Rattle.std.proofs.Common.{map, not, ap, ◌∙◌, arith}
+use Rattle.std.proofs.lemmas.Result.{IfOk-weaker}
 use Rattle.sqlite.specs.Held.{state}
 use Rattle.sqlite.specs.State.{HasCleanDisk}
+use Rattle.keep.specs.Book.{at_moment, due}
+use Rattle.keep.proofs.Signs.{signs_of}
 use Rattle.tables.specs.Rows.{tables_in}
 use Rattle.kept.specs.Archives.{book_of}
-use Rattle.kept.specs.Kept.{book_in}
 use Rattle.kept.proofs.ReadCalls.{open_after, read_after, rows_after, undone_either}
+use Rattle.keep_tables.proofs.MomentReads.{dues_at}
 use Rattle.keep_tables.proofs.reads.read_due.Goals as goal
 
 pub returns-clause-read : goal.returns-clause-read
@@ -26,23 +29,25 @@ returns-clause-open g c clean is =
     open_after old mid new c.in_ok-serve.ensures.ok settled c.due_uploads.result early is (λ archive. c.due_uploads.ensures.unchanged clean _ archive)
 
 pub returns-clause-uploads : goal.returns-clause-uploads
-unfolding book_in
-returns-clause-uploads g c clean config judged shown dates keeps =
+returns-clause-uploads g c clean config judged shown dates keeps same =
     let old = state g.S.Store c.args.conn.now in
     let mid = state g.S.Store c.serve.new.conn in
     let new = state g.S.Store c.due_uploads.new.conn in
     let settled = c.is_autocommit-settled.ensures.settled (c.is_autocommit-settled.ensures.value ∙ ap not c.requires.idle) in
     let early : HasCleanDisk mid = omega (arith, c.due_uploads.ensures.survives.clean, clean) in
     let rows = rows_after old mid new c.in_ok-serve.ensures.ok settled early keeps in
-    c.due_uploads.ensures.uploads clean (tables_in old.committed) rows (book_of old.committed config judged shown dates) refl keeps.kept.uploads keeps.kept.bodies keeps.kept.arrivals
+    IfOk-weaker c.due_uploads.result _ _ (λ uploads is. is ∙ dues_at old.committed config judged shown dates keeps c.args.seconds same c.args.moment)
+    (c.due_uploads.ensures.ok clean (tables_in old.committed) rows)
 
 pub returns-clause-signs : goal.returns-clause-signs
-unfolding book_in
-returns-clause-signs g c clean config judged shown dates keeps =
+returns-clause-signs g c clean config judged shown dates keeps same =
     let old = state g.S.Store c.args.conn.now in
     let mid = state g.S.Store c.serve.new.conn in
     let new = state g.S.Store c.due_uploads.new.conn in
     let settled = c.is_autocommit-settled.ensures.settled (c.is_autocommit-settled.ensures.value ∙ ap not c.requires.idle) in
     let early : HasCleanDisk mid = omega (arith, c.due_uploads.ensures.survives.clean, clean) in
     let rows = rows_after old mid new c.in_ok-serve.ensures.ok settled early keeps in
-    c.due_uploads.ensures.signs clean (tables_in old.committed) rows (book_of old.committed config judged shown dates) refl keeps.kept.uploads keeps.kept.bodies keeps.kept.arrivals
+    let b = at_moment c.args.moment (book_of old.committed config judged shown dates) in
+    IfOk-weaker c.due_uploads.result _ _
+    (λ uploads is. ap (map (λ u. (u.name, u.print))) (is ∙ dues_at old.committed config judged shown dates keeps c.args.seconds same c.args.moment) ∙ signs_of b.arrivals (due b))
+    (c.due_uploads.ensures.ok clean (tables_in old.committed) rows)

@@ -2,7 +2,7 @@ use Rattle.std.proofs.Common.{◌≡◌, ◌++◌, false, map}
 use Rattle.sqlite.specs.Held.{state}
 use Rattle.sqlite.specs.State.{HasCleanDisk, IsUnchanged, Survives}
 use Rattle.tables.specs.Rows.{Tables, Holds}
-use Rattle.kept.specs.Reads.{wanting_rows, waiting_in}
+use Rattle.keep_tables.specs.Moments.{rows_at, waiting_at}
 use Rattle.keep_tables.proofs.waiting.waiting_uploads.Given as goal
 
 -- the uploads so far, and those that are left
@@ -11,6 +11,6 @@ invariant-loop-id g l = record {
   idle : l.fn.conn.in_transaction ≡ false → l.conn.in_transaction ≡ false;
   survives : Survives (state g.S.Store l.fn.conn) (state g.S.Store l.conn) (λ _. (t : Tables) → ¬ Holds (state g.S.Store l.fn.conn).now t);
   read : HasCleanDisk (state g.S.Store l.conn) → (t : Tables) → Holds (state g.S.Store l.fn.conn).now t
-      → (l.waiting.items ++ map (waiting_in t) l.id-iterator.rest.items ≡ map (waiting_in t) (wanting_rows t))
+      → (l.waiting.items ++ map (waiting_at l.span l.moment t) l.id-iterator.rest.items ≡ map (waiting_at l.span l.moment t) (rows_at l.span l.moment t))
       × IsUnchanged (state g.S.Store l.fn.conn) (state g.S.Store l.conn);
 }

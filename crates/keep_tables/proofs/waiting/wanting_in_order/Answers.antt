@@ -1,9 +1,10 @@
 use Rattle.std.proofs.Common.{ap, ◌∙◌}
-use Rattle.kept.specs.Reads.{row_order, sorted_by, wanting_rows}
+use Rattle.kept.specs.Reads.{row_order, sorted_by}
+use Rattle.keep_tables.specs.Moments.{rows_at}
 use Rattle.keep_tables.proofs.waiting.wanting_in_order.Goals as goal
 
 pub returns-clause-ok : goal.returns-clause-ok
-unfolding wanting_rows
+unfolding rows_at
 returns-clause-ok g c clean t was =
-    let read = c.in_ok-uploads.ensures.ok clean t was in
+    let read = c.in_ok-rows.ensures.ok clean t was in
     (c.in_ok-sorted.ensures ∙ ap (sorted_by row_order) read.0, read.1)

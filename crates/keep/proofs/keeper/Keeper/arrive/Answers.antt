@@ -1,7 +1,7 @@
 use Rattle.std.proofs.Common.{◌≡◌, ◌++◌, ◌∙◌, ◌<◌, ℕ, List, [], Some, length, take, min, not, ap, sym, refl, subst, arith}
 use Rattle.std.specs.Option.{option_map}
 use Rattle.std.proofs.lemmas.Result.{IfOk-weaker, on_err_weaker, on_ok_weaker}
-use Rattle.keep.specs.Book.{Book, has_arrival, with_delivery}
+use Rattle.keep.specs.Book.{Book, at_moment, has_arrival, with_delivery}
 use Rattle.keep.specs.Keeping.{HasBodies}
 use Rattle.keep.proofs.Pieces.{all_come, piece_length, piece_more, some_left, whole_more}
 use Rattle.keep.proofs.Staying.{lasts_on, left_arriving, left_staying, on_err, stays_on}
@@ -79,7 +79,7 @@ returns-clause-new g c clean =
     let come = parts.3 was ∙ ap (λ (body : List ℕ). Some body) (all_come c.args.body.now parts.0 c.loop-rest.rest.now parts.1 c.loop-rest-test.ensures) in
     let same = c.loop-rest.invariant.stays.same was (c.loop-rest.invariant.served was) in
     IfOk-weaker c.finish.result _ _ (λ new told bodies apart has there.
-    subst (λ (b : Book). new ≡ not (has_arrival b.arrivals (record { name = c.args.name.now; body = c.args.body.now; moment = c.args.moment }))) same
+    subst (λ (b : Book). new ≡ not (has_arrival (at_moment c.args.moment b).arrivals (record { name = c.args.name.now; body = c.args.body.now; moment = c.args.moment }))) same
     (told c.args.body.now come bodies apart (subst (HasBodies bodies) (sym same) has) there)) (c.finish.ensures.new clean)
 
 pub returns-clause-ok : goal.returns-clause-ok

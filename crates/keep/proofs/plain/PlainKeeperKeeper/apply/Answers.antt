@@ -20,7 +20,7 @@ dates_after-requires-clause-dates c = subst (All (λ date. date ≤ 4102444799))
 
 pub returns-clause-ok : goal.returns-clause-ok
 unfolding plain_book
-returns-clause-ok c = λ clean bodies apart has.
+returns-clause-ok c = λ clean bodies apart has each.
     let self = c.args.self.now in
     let change = c.args.change.now in
     let steps = c.as_slice-steps.ensures in

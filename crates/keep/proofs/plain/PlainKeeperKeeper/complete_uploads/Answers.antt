@@ -1,15 +1,34 @@
-use Rattle.std.proofs.Common.{◌≡◌, map, filter, ap, ◌∙◌}
-use Rattle.keep.specs.Book.{due, is_complete, unjudged, upload_of}
+use Rattle.std.proofs.Common.{◌≡◌, List, map, filter, ap, ◌∙◌}
+use Rattle.suites.specs.Upload.{UploadValue}
+use Rattle.keep.specs.Book.{at_moment, due, is_complete, span, unjudged, upload_of}
 use Rattle.keep.specs.Plain.{plain_book}
-use Rattle.keep.specs.Scan.{unjudged_in}
+use Rattle.keep.specs.Scan.{counted, unjudged_in}
+use Rattle.keep.specs.declared.arrival.Arrival.{Arrival}
+use Rattle.keep.specs.declared.arrival.Counting.{Counting}
+use Rattle.keep.specs.declared.change.Judgement.{Judgement}
 use Rattle.keep.proofs.Signs.{signs_of}
 use Rattle.keep.proofs.plain.PlainKeeperKeeper.complete_uploads.Goals as goal
 
 pub returns-clause-signs : goal.returns-clause-signs
-unfolding plain_book due unjudged
+unfolding plain_book at_moment due unjudged
 returns-clause-signs c = λ clean.
+    let arrivals = c.args.self.now.arrivals.items in
+    let counting : Counting = record { span = span c.args.self.now.config; moment = c.args.moment } in
+    let complete : List Arrival → List Judgement → List UploadValue = λ all judged. map (upload_of all) (filter (is_complete all) (unjudged_in all judged)) in
     ap (map (λ u. (u.name, u.print)))
     (c.in_ok-complete_uploads.ensures
-    ∙ ap (λ arrivals. map (upload_of arrivals) (filter (is_complete arrivals) (unjudged_in arrivals c.deref-2.result.now))) c.deref.ensures.value
-    ∙ ap (λ judged. map (upload_of c.args.self.now.arrivals.items) (filter (is_complete c.args.self.now.arrivals.items) (unjudged_in c.args.self.now.arrivals.items judged))) c.deref-2.ensures.value)
-    ∙ signs_of c.args.self.now.arrivals.items _
+    ∙ ap (λ (k : Counting). complete (counted k c.deref.result.now) c.deref-2.result.now) c.new-counting.ensures
+    ∙ ap (λ all. complete (counted counting all) c.deref-2.result.now) c.deref.ensures.value
+    ∙ ap (complete (counted counting arrivals)) c.deref-2.ensures.value)
+    ∙ signs_of (counted counting arrivals) _
+
+pub returns-clause-uploads : goal.returns-clause-uploads
+unfolding plain_book at_moment due unjudged
+returns-clause-uploads c = λ clean bodies apart has.
+    let arrivals = c.args.self.now.arrivals.items in
+    let counting : Counting = record { span = span c.args.self.now.config; moment = c.args.moment } in
+    let complete : List Arrival → List Judgement → List UploadValue = λ all judged. map (upload_of all) (filter (is_complete all) (unjudged_in all judged)) in
+    c.in_ok-complete_uploads.ensures
+    ∙ ap (λ (k : Counting). complete (counted k c.deref.result.now) c.deref-2.result.now) c.new-counting.ensures
+    ∙ ap (λ all. complete (counted counting all) c.deref-2.result.now) c.deref.ensures.value
+    ∙ ap (complete (counted counting arrivals)) c.deref-2.ensures.value

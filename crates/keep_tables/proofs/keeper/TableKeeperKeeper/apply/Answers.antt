@@ -1,4 +1,5 @@
-use Rattle.std.proofs.Common.{◌≡◌, ◌++◌, inl, inr, refl, sym, subst, ◌∙◌, arith}
+use Rattle.std.proofs.Common.{◌≡◌, ◌++◌, inl, inr, refl, sym, ap, subst, ◌∙◌, arith}
+use Rattle.std.specs.List.{list_any}
 use Rattle.std.proofs.Math.Logic.{∥∥₁_elim, ∥∥₁_map}
 use Rattle.sqlite.specs.Held.{state}
 use Rattle.sqlite.specs.State.{HasCleanDisk}
@@ -7,10 +8,11 @@ use Rattle.tables.specs.Rows.{tables_in}
 use Rattle.kept.specs.Archives.{KeepsArchive, book_of}
 use Rattle.kept.specs.Kept.{book_in}
 use Rattle.kept.specs.KeeperLemmas.{book_set, left_set}
+use Rattle.kept.specs.Making.{takes_file}
 use Rattle.kept.specs.Shown.{shown_in}
 use Rattle.std.proofs.Props.{props}
-use Rattle.keep_tables.proofs.UnderWayLemmas.{beside_under, undone_kept, undone_under}
-use Rattle.kept.proofs.CallLemmas.{kept_here, turn_left, done_book}
+use Rattle.keep_tables.proofs.UnderWayLemmas.{changed_under, undone_kept, undone_under}
+use Rattle.kept.proofs.CallLemmas.{amends_turns, done_book, kept_here, turn_left}
 use Rattle.keep_tables.proofs.keeper.TableKeeperKeeper.apply.Goals as goal
 
 pub invariant_of-self-in-Ok : goal.invariant_of-self-in-Ok
@@ -37,8 +39,11 @@ invariant_of-self-in-Ok g c =
       under_way = λ clean up.
           let early : HasCleanDisk old = omega (arith, c.make_change.ensures.crash.clean, clean) in
           let was_open = (c.in-Ok.ensures.open clean).0 in
+          let went : c.some_take_files.result ≡ list_any takes_file steps = c.some_take_files.ensures ∙ ap (list_any takes_file) c.as_slice-steps.ensures in
           ∥∥₁_elim (c.args.self.now.kept early was_open) (hlevel props) (λ was.
-          ∥∥₁_map (c.args.self.now.under_way early was_open) (λ under. beside_under old.committed new.committed c.args.self.now.begun (c.in-Ok.ensures.beside clean _ _ _ was) under));
+          ∥∥₁_map (c.args.self.now.under_way early was_open) (λ under. changed_under old.committed new.committed c.args.self.now.begun c.forget_if.new.begun c.some_take_files.result c.forget_if.ensures
+          (λ yes. c.in-Ok.ensures.ends clean (sym went ∙ yes) _ _ _ was (sym (c.len.ensures ∙ c.args.self.now.judged.ok.0)) (c.requires.sound early was_open))
+          (λ no. c.in-Ok.ensures.beside clean (sym went ∙ no) _ _ _ was) under));
     }
     )
 
@@ -85,7 +90,7 @@ returns-in-Err-clause-lasts g c =
     }
 
 pub returns-in-Ok-clause-ok : goal.returns-in-Ok-clause-ok
-returns-in-Ok-clause-ok g c clean bodies apart has =
+returns-in-Ok-clause-ok g c clean bodies apart has each =
     let old = state g.S.Store c.args.self.now.conn in
     let new = state g.S.Store c.make_change.new.conn in
     let config = c.args.self.now.config in
@@ -98,7 +103,7 @@ returns-in-Ok-clause-ok g c clean bodies apart has =
     let was_open = (c.in-Ok.ensures.open clean).0 in
     ∥∥₁_elim (c.args.self.now.kept early was_open) (book_set _ _) (λ was.
     (λ i. book_of new.committed config (judged i) (shown_in config.suites (tables_in new.committed)) (dates i))
-    ∙ done_book old.committed new.committed (c.in-Ok.ensures.done clean _ _ _ was (sym (c.len.ensures ∙ c.args.self.now.judged.ok.0)) (c.requires.sound early was_open)))
+    ∙ done_book old.committed new.committed (amends_turns old.committed new.committed (c.in-Ok.ensures.done clean _ _ _ was (sym (c.len.ensures ∙ c.args.self.now.judged.ok.0)) (c.requires.sound early was_open)) each))
 
 pub returns-in-Ok-clause-crash : goal.returns-in-Ok-clause-crash
 returns-in-Ok-clause-crash g c clean left might =
@@ -108,8 +113,8 @@ returns-in-Ok-clause-crash g c clean left might =
       | inl before ↦ inl (might.0, before, might.2)
       | inr new ↦ inr (
         new.2,
-        λ bodies apart has. ∥∥₁_elim (c.args.self.now.kept early new.2) (left_set _ _) (λ was.
-            turn_left old.committed new.0 might.0 new.1 left might.2 (new.3 _ _ _ was (sym (c.len.ensures ∙ c.args.self.now.judged.ok.0)) (c.requires.sound early new.2))),
+        λ bodies apart has each. ∥∥₁_elim (c.args.self.now.kept early new.2) (left_set _ _) (λ was.
+            turn_left old.committed new.0 might.0 new.1 left might.2 (amends_turns old.committed new.0 (new.3 _ _ _ was (sym (c.len.ensures ∙ c.args.self.now.judged.ok.0)) (c.requires.sound early new.2)) each)),
       )
     ]
 
@@ -121,7 +126,7 @@ returns-in-Err-clause-crash g c clean left might =
       | inl before ↦ inl (might.0, before, might.2)
       | inr new ↦ inr (
         new.2,
-        λ bodies apart has. ∥∥₁_elim (c.args.self.now.kept early new.2) (left_set _ _) (λ was.
-            turn_left old.committed new.0 might.0 new.1 left might.2 (new.3 _ _ _ was (sym (c.len.ensures ∙ c.args.self.now.judged.ok.0)) (c.requires.sound early new.2))),
+        λ bodies apart has each. ∥∥₁_elim (c.args.self.now.kept early new.2) (left_set _ _) (λ was.
+            turn_left old.committed new.0 might.0 new.1 left might.2 (amends_turns old.committed new.0 (new.3 _ _ _ was (sym (c.len.ensures ∙ c.args.self.now.judged.ok.0)) (c.requires.sound early new.2)) each)),
       )
     ]

@@ -24,12 +24,12 @@ returns-in-Ok-clause-served g c clean = c.in-Ok.ensures.open clean (was_archive 
 pub returns-in-Ok-clause-signs : goal.returns-in-Ok-clause-signs
 returns-in-Ok-clause-signs g c clean =
     let kept = was_kept (state g.S.Store c.args.self.now.conn) (state g.S.Store c.read_due.new.conn) c.read_due.ensures.read c.args.self.now.kept clean (returns-in-Ok-clause-served g c clean) in
-    ∥∥₁_elim kept (hlevel props) (λ was. c.in-Ok.ensures.signs clean _ _ _ _ was)
+    ∥∥₁_elim kept (hlevel props) (λ was. c.in-Ok.ensures.signs clean _ _ _ _ was c.span_of-seconds.ensures)
 
 pub returns-in-Ok-clause-uploads : goal.returns-in-Ok-clause-uploads
 returns-in-Ok-clause-uploads g c clean bodies apart has =
     let kept = was_kept (state g.S.Store c.args.self.now.conn) (state g.S.Store c.read_due.new.conn) c.read_due.ensures.read c.args.self.now.kept clean (returns-in-Ok-clause-served g c clean) in
-    ∥∥₁_elim kept (hlevel props) (λ was. c.in-Ok.ensures.uploads clean _ _ _ _ was)
+    ∥∥₁_elim kept (hlevel props) (λ was. c.in-Ok.ensures.uploads clean _ _ _ _ was c.span_of-seconds.ensures)
 
 pub returns-in-Ok-clause-reads : goal.returns-in-Ok-clause-reads
 unfolding book_in

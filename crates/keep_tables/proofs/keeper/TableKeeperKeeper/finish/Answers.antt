@@ -126,7 +126,7 @@ returns-in-Ok-clause-new g c clean body told bodies apart has here =
     let was_open = (c.in-Ok.ensures.open clean).0 in
     ∥∥₁_elim (c.args.self.now.kept early was_open) (hlevel props) (λ was. ∥∥₁_elim (c.args.self.now.under_way early was_open) (hlevel props) (λ under.
     let k = ends old.committed was c.args.self.now.begun c.in-Some.begun is under c.args.name.now body told (c.requires.whole early was_open) in
-    c.in-Ok.ensures.new clean _ _ _ _ body was k.begun.comes (c.finish-print.ensures body (k.begun.printer k.coming) k.short) k.deliverable))
+    c.in-Ok.ensures.new clean _ _ _ _ body was k.begun.comes (c.finish-print.ensures body (k.begun.printer k.coming) k.short) k.deliverable c.span_of.ensures))
 
 pub returns-in-Ok-clause-ok : goal.returns-in-Ok-clause-ok
 returns-in-Ok-clause-ok g c clean body told bodies apart has here =

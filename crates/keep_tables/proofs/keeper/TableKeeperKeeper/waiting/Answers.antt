@@ -24,7 +24,7 @@ returns-in-Ok-clause-served g c clean = c.in-Ok.ensures.open clean (was_archive 
 pub returns-in-Ok-clause-waiting : goal.returns-in-Ok-clause-waiting
 returns-in-Ok-clause-waiting g c clean bodies apart has =
     let kept = was_kept (state g.S.Store c.args.self.now.conn) (state g.S.Store c.read_waiting.new.conn) c.read_waiting.ensures.read c.args.self.now.kept clean (returns-in-Ok-clause-served g c clean) in
-    ∥∥₁_elim kept (hlevel props) (λ was. c.in-Ok.ensures.waiting clean _ _ _ _ was)
+    ∥∥₁_elim kept (hlevel props) (λ was. c.in-Ok.ensures.waiting clean _ _ _ _ was c.span_of-seconds.ensures)
 
 pub returns-in-Ok-clause-reads : goal.returns-in-Ok-clause-reads
 unfolding book_in

@@ -1,17 +1,16 @@
-use Rattle.std.proofs.Common.{◌≡◌, ◌<◌, true, length, Some, [], ◌∷◌, inl, inr, refl, sym, ap, subst, ◌∙◌}
-use Rattle.std.specs.Prelude.{⊤}
+use Rattle.std.proofs.Common.{◌≡◌, ◌<◌, true, length, Some, inl, inr, sym, ap, subst, ◌∙◌}
 use Rattle.std.proofs.lemmas.Result.{err_from_is_err_and}
 use Rattle.rules.specs.Values.{ConfigValue}
 use Rattle.suites.specs.Plan as plans
 use Rattle.queue.specs.Answers.{is_free_copy}
 use Rattle.queue.specs.Archives.{book_of}
 use Rattle.queue.specs.Copies.{AreSuites, copy_fault}
-use Rattle.queue.specs.Histories.{Copying, Count}
+use Rattle.queue.specs.Histories.{Copying}
 use Rattle.queue.specs.declared.fault.Fault.TheVariants.{Moment}
-use Rattle.queue.proofs.CopyAnswers.{done_copy, free_copy, late_fault, may_copy, named_fault, named_in, copy_past, copy_steps, named_place, no_fault, nothing_fault, refused_copy, sound_copy}
+use Rattle.queue.proofs.CopyAnswers.{done_copy, free_copy, late_fault, left_copy, may_copy, named_fault, named_in, copy_past, copy_steps, named_place, no_fault, nothing_fault, refused_copy, sound_copy}
 use Rattle.queue.proofs.RunAnswers.{renewed_change}
 use Rattle.queue.proofs.Kept.{same_by, same_past, untouched}
-use Rattle.queue.proofs.StepAnswers.{keeper_step, keepers_own, left_whole, memory_own, memory_step, stands_answered}
+use Rattle.queue.proofs.StepAnswers.{keeper_step, keepers_own, memory_own, memory_step}
 use Rattle.queue.proofs.archive.Archive.copy.Goals as goal
 
 pub returns-then-moment-gt-LATEST-clause-step : goal.returns-then-moment-gt-LATEST-clause-step
@@ -137,12 +136,13 @@ returns-clause-step g c h kept faithful clean =
     let up_now = c.in_ok-apply.ensures.lasts.was_open clean (c.in_ok-apply.ensures.served clean) in
     let clean_then = reads.lasts.clean clean_now in
     let up_then = reads.lasts.was_open clean_now up_now in
-    done_copy g.K.Keeper.may_fail h c.args.from.now c.args.to.now c.args.source.now c.args.moment c.in_ok-from.from c.in_ok-from.to _
-    (g.K.Keeper.book c.args.self.now.keeper) (g.K.Keeper.book c.renewed_texts.new.keeper) (g.K.Keeper.book c.apply.new.self) c.config-2.result.now c.in_ok-shelves.shelves c.in_ok-plan.plan c.in_ok-steps.steps c.from_vec.result _
+    done_copy g.K.Keeper.may_fail h c.args.from.now c.args.to.now c.args.source.now c.args.moment c.in_ok-from.from c.in_ok-from.to
+    (g.K.Keeper.book c.args.self.now.keeper) (g.K.Keeper.book c.renewed_texts.new.keeper) c.config-2.result.now c.in_ok-shelves.shelves c.in_ok-plan.plan c.in_ok-steps.steps c.from_vec.result
     (kept.stands (c.in_ok-shelves.ensures.reads.lasts.was_open clean_then up_then)) faithful c.if-moment-gt-LATEST.false
     (reads.same clean_now up_now ∙ c.in_ok-shelves.ensures.reads.same clean_then up_then) (c.in_ok-shelves.ensures.shelves clean_then) c.in_ok-steps.ensures.steps
     (subst (λ config. AreSuites config c.args.from.now c.args.to.now c.in_ok-from.from c.in_ok-from.to) c.config.ensures c.in_ok-from.ensures.suites)
-    (c.config-2.ensures ∙ sym reads.lasts.config) c.in_ok-plan.ensures.plan (c.in_ok-apply.ensures.ok clean) (ap length c.as_slice.ensures)
+    (c.config-2.ensures ∙ sym reads.lasts.config) c.in_ok-plan.ensures.plan
+    _ (g.K.Keeper.book c.apply.new.self) _ (c.in_ok-apply.ensures.ok clean) (ap length c.as_slice.ensures)
 
 pub returns-clause-done : goal.returns-clause-done
 returns-clause-done g c clean =
@@ -202,14 +202,15 @@ returns-in_err-apply-clause-crash g c h kept faithful clean left may =
     let clean_then = reads.lasts.clean clean_now in
     elim (c.in_err-apply.ensures.crash clean left may) [
       | inl before ↦ inl (c.in_ok-shelves.ensures.reads.crash clean_then left (reads.crash clean_now left before))
-      | inr made ↦ inr (left_whole h ((Copying c.args.from.now c.args.to.now c.args.source.now c.args.moment) ∷ []) faithful (g.K.Keeper.book c.renewed_texts.new.keeper) _ left (reads.same clean_now made.0 ∙ c.in_ok-shelves.ensures.reads.same clean_then (reads.lasts.was_open clean_now made.0) ∙ kept.stands (c.in_ok-shelves.ensures.reads.lasts.was_open clean_then (reads.lasts.was_open clean_now made.0))) made.1
-          ∙ ap Some (stands_answered g.K.Keeper.may_fail h (Copying c.args.from.now c.args.to.now c.args.source.now c.args.moment) (Count (length c.in_ok-plan.plan.put)) _
-          (done_copy g.K.Keeper.may_fail h c.args.from.now c.args.to.now c.args.source.now c.args.moment c.in_ok-from.from c.in_ok-from.to ⊤
-          (g.K.Keeper.book c.args.self.now.keeper) (g.K.Keeper.book c.renewed_texts.new.keeper) _ c.config-2.result.now c.in_ok-shelves.shelves c.in_ok-plan.plan c.in_ok-steps.steps c.from_vec.result (length c.in_ok-plan.plan.put)
-          (kept.stands (c.in_ok-shelves.ensures.reads.lasts.was_open clean_then (reads.lasts.was_open clean_now made.0))) faithful c.if-moment-gt-LATEST.false
-          (reads.same clean_now made.0 ∙ c.in_ok-shelves.ensures.reads.same clean_then (reads.lasts.was_open clean_now made.0)) (c.in_ok-shelves.ensures.shelves clean_then) c.in_ok-steps.ensures.steps
+      | inr made ↦
+          let up_then = reads.lasts.was_open clean_now made.0 in
+          inr (left_copy g.K.Keeper.may_fail h c.args.from.now c.args.to.now c.args.source.now c.args.moment c.in_ok-from.from c.in_ok-from.to
+          (g.K.Keeper.book c.args.self.now.keeper) (g.K.Keeper.book c.renewed_texts.new.keeper) c.config-2.result.now c.in_ok-shelves.shelves c.in_ok-plan.plan c.in_ok-steps.steps c.from_vec.result
+          (kept.stands (c.in_ok-shelves.ensures.reads.lasts.was_open clean_then up_then)) faithful c.if-moment-gt-LATEST.false
+          (reads.same clean_now made.0 ∙ c.in_ok-shelves.ensures.reads.same clean_then up_then) (c.in_ok-shelves.ensures.shelves clean_then) c.in_ok-steps.ensures.steps
           (subst (λ config. AreSuites config c.args.from.now c.args.to.now c.in_ok-from.from c.in_ok-from.to) c.config.ensures c.in_ok-from.ensures.suites)
-          (c.config-2.ensures ∙ sym reads.lasts.config) c.in_ok-plan.ensures.plan (λ bodies apart have. refl) refl)))
+          (c.config-2.ensures ∙ sym reads.lasts.config) c.in_ok-plan.ensures.plan
+          left made.1)
     ]
 
 pub returns-clause-crash : goal.returns-clause-crash
@@ -219,12 +220,13 @@ returns-clause-crash g c h kept faithful clean left may =
     let clean_then = reads.lasts.clean clean_now in
     elim (c.in_ok-apply.ensures.crash clean left may) [
       | inl before ↦ inl (c.in_ok-shelves.ensures.reads.crash clean_then left (reads.crash clean_now left before))
-      | inr made ↦ inr (left_whole h ((Copying c.args.from.now c.args.to.now c.args.source.now c.args.moment) ∷ []) faithful (g.K.Keeper.book c.renewed_texts.new.keeper) _ left (reads.same clean_now made.0 ∙ c.in_ok-shelves.ensures.reads.same clean_then (reads.lasts.was_open clean_now made.0) ∙ kept.stands (c.in_ok-shelves.ensures.reads.lasts.was_open clean_then (reads.lasts.was_open clean_now made.0))) made.1
-          ∙ ap Some (stands_answered g.K.Keeper.may_fail h (Copying c.args.from.now c.args.to.now c.args.source.now c.args.moment) (Count (length c.in_ok-plan.plan.put)) _
-          (done_copy g.K.Keeper.may_fail h c.args.from.now c.args.to.now c.args.source.now c.args.moment c.in_ok-from.from c.in_ok-from.to ⊤
-          (g.K.Keeper.book c.args.self.now.keeper) (g.K.Keeper.book c.renewed_texts.new.keeper) _ c.config-2.result.now c.in_ok-shelves.shelves c.in_ok-plan.plan c.in_ok-steps.steps c.from_vec.result (length c.in_ok-plan.plan.put)
-          (kept.stands (c.in_ok-shelves.ensures.reads.lasts.was_open clean_then (reads.lasts.was_open clean_now made.0))) faithful c.if-moment-gt-LATEST.false
-          (reads.same clean_now made.0 ∙ c.in_ok-shelves.ensures.reads.same clean_then (reads.lasts.was_open clean_now made.0)) (c.in_ok-shelves.ensures.shelves clean_then) c.in_ok-steps.ensures.steps
+      | inr made ↦
+          let up_then = reads.lasts.was_open clean_now made.0 in
+          inr (left_copy g.K.Keeper.may_fail h c.args.from.now c.args.to.now c.args.source.now c.args.moment c.in_ok-from.from c.in_ok-from.to
+          (g.K.Keeper.book c.args.self.now.keeper) (g.K.Keeper.book c.renewed_texts.new.keeper) c.config-2.result.now c.in_ok-shelves.shelves c.in_ok-plan.plan c.in_ok-steps.steps c.from_vec.result
+          (kept.stands (c.in_ok-shelves.ensures.reads.lasts.was_open clean_then up_then)) faithful c.if-moment-gt-LATEST.false
+          (reads.same clean_now made.0 ∙ c.in_ok-shelves.ensures.reads.same clean_then up_then) (c.in_ok-shelves.ensures.shelves clean_then) c.in_ok-steps.ensures.steps
           (subst (λ config. AreSuites config c.args.from.now c.args.to.now c.in_ok-from.from c.in_ok-from.to) c.config.ensures c.in_ok-from.ensures.suites)
-          (c.config-2.ensures ∙ sym reads.lasts.config) c.in_ok-plan.ensures.plan (λ bodies apart have. refl) refl)))
+          (c.config-2.ensures ∙ sym reads.lasts.config) c.in_ok-plan.ensures.plan
+          left made.1)
     ]

@@ -38,6 +38,12 @@ returns-in-Waiting-clause-step g c =
     (ap call_of (sym c.in-Waiting.is))
     c.waiting.ensures.step
 
+pub returns-in-Clean-clause-step : goal.returns-in-Clean-clause-step
+returns-in-Clean-clause-step g c =
+    subst (λ (call : Call). Does g.K.Keeper c.args.self.now.keeper call (counted c.clean.result) c.clean.new.self.keeper)
+    (ap call_of (sym c.in-Clean.is))
+    c.clean.ensures.step
+
 pub returns-in-Remove-clause-step : goal.returns-in-Remove-clause-step
 returns-in-Remove-clause-step g c =
     subst (λ (call : Call). Does g.K.Keeper c.args.self.now.keeper call (counted c.remove.result) c.remove.new.self.keeper)

@@ -1,16 +1,15 @@
-use Rattle.std.proofs.Common.{◌≡◌, true, length, Some, [], ◌∷◌, inl, inr, refl, sym, ap, subst, ◌∙◌}
-use Rattle.std.specs.Prelude.{⊤}
+use Rattle.std.proofs.Common.{◌≡◌, true, length, Some, inl, inr, sym, ap, subst, ◌∙◌}
 use Rattle.std.proofs.lemmas.Result.{err_from_is_err_and}
 use Rattle.suites.specs.Plan as plans
 use Rattle.queue.specs.Answers.{is_free_removal}
 use Rattle.queue.specs.Archives.{book_of, suite_named}
-use Rattle.queue.specs.Histories.{Removing, Count}
+use Rattle.queue.specs.Histories.{Removing}
 use Rattle.queue.specs.Removals.{removal_fault}
 use Rattle.queue.specs.declared.fault.Fault.TheVariants.{Moment}
-use Rattle.queue.proofs.RemovalAnswers.{done_removal, free_removal, late_fault, may_remove, no_fault, nothing_fault, refused_removal, removal_past, removal_steps, sound_removal, unknown_fault, unknown_in}
+use Rattle.queue.proofs.RemovalAnswers.{done_removal, free_removal, late_fault, left_removal, may_remove, no_fault, nothing_fault, refused_removal, removal_past, removal_steps, sound_removal, unknown_fault, unknown_in}
 use Rattle.queue.proofs.RunAnswers.{renewed_change}
 use Rattle.queue.proofs.Kept.{same_by, same_past, untouched}
-use Rattle.queue.proofs.StepAnswers.{keeper_step, keepers_own, left_whole, memory_own, memory_step, stands_answered}
+use Rattle.queue.proofs.StepAnswers.{keeper_step, keepers_own, memory_own, memory_step}
 use Rattle.queue.proofs.archive.Archive.remove.Goals as goal
 
 pub returns-then-moment-gt-LATEST-clause-step : goal.returns-then-moment-gt-LATEST-clause-step
@@ -124,12 +123,13 @@ returns-clause-step g c h kept faithful clean =
     let up_now = c.in_ok-apply.ensures.lasts.was_open clean (c.in_ok-apply.ensures.served clean) in
     let clean_then = reads.lasts.clean clean_now in
     let up_then = reads.lasts.was_open clean_now up_now in
-    done_removal g.K.Keeper.may_fail h c.args.suite.now c.args.name.now c.args.moment c.in_ok-place.place _
-    (g.K.Keeper.book c.args.self.now.keeper) (g.K.Keeper.book c.renewed_texts.new.keeper) (g.K.Keeper.book c.apply.new.self) c.in_ok-shelves.shelves c.in_ok-plan.plan c.in_ok-steps.steps c.from_vec.result _
+    done_removal g.K.Keeper.may_fail h c.args.suite.now c.args.name.now c.args.moment c.in_ok-place.place
+    (g.K.Keeper.book c.args.self.now.keeper) (g.K.Keeper.book c.renewed_texts.new.keeper) c.in_ok-shelves.shelves c.in_ok-plan.plan c.in_ok-steps.steps c.from_vec.result
     (kept.stands (c.in_ok-shelves.ensures.reads.lasts.was_open clean_then up_then)) faithful c.if-moment-gt-LATEST.false
     (reads.same clean_now up_now ∙ c.in_ok-shelves.ensures.reads.same clean_then up_then) (c.in_ok-shelves.ensures.shelves clean_then) c.in_ok-steps.ensures.steps
     (subst (λ config. suite_named config c.args.suite.now ≡ Some c.in_ok-place.place) c.config.ensures c.in_ok-place.ensures.suite)
-    c.in_ok-plan.ensures.plan (c.in_ok-apply.ensures.ok clean) (ap length c.as_slice.ensures)
+    c.in_ok-plan.ensures.plan
+    _ (g.K.Keeper.book c.apply.new.self) _ (c.in_ok-apply.ensures.ok clean) (ap length c.as_slice.ensures)
 
 pub returns-clause-done : goal.returns-clause-done
 returns-clause-done g c clean =
@@ -189,14 +189,15 @@ returns-in_err-apply-clause-crash g c h kept faithful clean left may =
     let clean_then = reads.lasts.clean clean_now in
     elim (c.in_err-apply.ensures.crash clean left may) [
       | inl before ↦ inl (c.in_ok-shelves.ensures.reads.crash clean_then left (reads.crash clean_now left before))
-      | inr made ↦ inr (left_whole h ((Removing c.args.suite.now c.args.name.now c.args.moment) ∷ []) faithful (g.K.Keeper.book c.renewed_texts.new.keeper) _ left (reads.same clean_now made.0 ∙ c.in_ok-shelves.ensures.reads.same clean_then (reads.lasts.was_open clean_now made.0) ∙ kept.stands (c.in_ok-shelves.ensures.reads.lasts.was_open clean_then (reads.lasts.was_open clean_now made.0))) made.1
-          ∙ ap Some (stands_answered g.K.Keeper.may_fail h (Removing c.args.suite.now c.args.name.now c.args.moment) (Count (length c.in_ok-plan.plan.dropped)) _
-          (done_removal g.K.Keeper.may_fail h c.args.suite.now c.args.name.now c.args.moment c.in_ok-place.place ⊤
-          (g.K.Keeper.book c.args.self.now.keeper) (g.K.Keeper.book c.renewed_texts.new.keeper) _ c.in_ok-shelves.shelves c.in_ok-plan.plan c.in_ok-steps.steps c.from_vec.result (length c.in_ok-plan.plan.dropped)
-          (kept.stands (c.in_ok-shelves.ensures.reads.lasts.was_open clean_then (reads.lasts.was_open clean_now made.0))) faithful c.if-moment-gt-LATEST.false
-          (reads.same clean_now made.0 ∙ c.in_ok-shelves.ensures.reads.same clean_then (reads.lasts.was_open clean_now made.0)) (c.in_ok-shelves.ensures.shelves clean_then) c.in_ok-steps.ensures.steps
+      | inr made ↦
+          let up_then = reads.lasts.was_open clean_now made.0 in
+          inr (left_removal g.K.Keeper.may_fail h c.args.suite.now c.args.name.now c.args.moment c.in_ok-place.place
+          (g.K.Keeper.book c.args.self.now.keeper) (g.K.Keeper.book c.renewed_texts.new.keeper) c.in_ok-shelves.shelves c.in_ok-plan.plan c.in_ok-steps.steps c.from_vec.result
+          (kept.stands (c.in_ok-shelves.ensures.reads.lasts.was_open clean_then up_then)) faithful c.if-moment-gt-LATEST.false
+          (reads.same clean_now made.0 ∙ c.in_ok-shelves.ensures.reads.same clean_then up_then) (c.in_ok-shelves.ensures.shelves clean_then) c.in_ok-steps.ensures.steps
           (subst (λ config. suite_named config c.args.suite.now ≡ Some c.in_ok-place.place) c.config.ensures c.in_ok-place.ensures.suite)
-          c.in_ok-plan.ensures.plan (λ bodies apart have. refl) refl)))
+          c.in_ok-plan.ensures.plan
+          left made.1)
     ]
 
 pub returns-clause-crash : goal.returns-clause-crash
@@ -206,12 +207,13 @@ returns-clause-crash g c h kept faithful clean left may =
     let clean_then = reads.lasts.clean clean_now in
     elim (c.in_ok-apply.ensures.crash clean left may) [
       | inl before ↦ inl (c.in_ok-shelves.ensures.reads.crash clean_then left (reads.crash clean_now left before))
-      | inr made ↦ inr (left_whole h ((Removing c.args.suite.now c.args.name.now c.args.moment) ∷ []) faithful (g.K.Keeper.book c.renewed_texts.new.keeper) _ left (reads.same clean_now made.0 ∙ c.in_ok-shelves.ensures.reads.same clean_then (reads.lasts.was_open clean_now made.0) ∙ kept.stands (c.in_ok-shelves.ensures.reads.lasts.was_open clean_then (reads.lasts.was_open clean_now made.0))) made.1
-          ∙ ap Some (stands_answered g.K.Keeper.may_fail h (Removing c.args.suite.now c.args.name.now c.args.moment) (Count (length c.in_ok-plan.plan.dropped)) _
-          (done_removal g.K.Keeper.may_fail h c.args.suite.now c.args.name.now c.args.moment c.in_ok-place.place ⊤
-          (g.K.Keeper.book c.args.self.now.keeper) (g.K.Keeper.book c.renewed_texts.new.keeper) _ c.in_ok-shelves.shelves c.in_ok-plan.plan c.in_ok-steps.steps c.from_vec.result (length c.in_ok-plan.plan.dropped)
-          (kept.stands (c.in_ok-shelves.ensures.reads.lasts.was_open clean_then (reads.lasts.was_open clean_now made.0))) faithful c.if-moment-gt-LATEST.false
-          (reads.same clean_now made.0 ∙ c.in_ok-shelves.ensures.reads.same clean_then (reads.lasts.was_open clean_now made.0)) (c.in_ok-shelves.ensures.shelves clean_then) c.in_ok-steps.ensures.steps
+      | inr made ↦
+          let up_then = reads.lasts.was_open clean_now made.0 in
+          inr (left_removal g.K.Keeper.may_fail h c.args.suite.now c.args.name.now c.args.moment c.in_ok-place.place
+          (g.K.Keeper.book c.args.self.now.keeper) (g.K.Keeper.book c.renewed_texts.new.keeper) c.in_ok-shelves.shelves c.in_ok-plan.plan c.in_ok-steps.steps c.from_vec.result
+          (kept.stands (c.in_ok-shelves.ensures.reads.lasts.was_open clean_then up_then)) faithful c.if-moment-gt-LATEST.false
+          (reads.same clean_now made.0 ∙ c.in_ok-shelves.ensures.reads.same clean_then up_then) (c.in_ok-shelves.ensures.shelves clean_then) c.in_ok-steps.ensures.steps
           (subst (λ config. suite_named config c.args.suite.now ≡ Some c.in_ok-place.place) c.config.ensures c.in_ok-place.ensures.suite)
-          c.in_ok-plan.ensures.plan (λ bodies apart have. refl) refl)))
+          c.in_ok-plan.ensures.plan
+          left made.1)
     ]

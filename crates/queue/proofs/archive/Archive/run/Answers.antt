@@ -1,14 +1,14 @@
-use Rattle.std.proofs.Common.{◌≤◌, inl, inr, [], ◌∷◌, Some, refl, sym, ap, ◌∙◌}
-use Rattle.std.specs.Prelude.{⊤, map}
+use Rattle.std.proofs.Common.{◌≤◌, inl, inr, sym, ap, ◌∙◌}
+use Rattle.std.specs.Prelude.{map}
 use Rattle.std.proofs.lemmas.Result.{err_from_is_err_and}
 use Rattle.keep.specs.Book.{Book, judgements, latest}
 use Rattle.queue.specs.Answers.{report_line}
-use Rattle.queue.specs.Histories.{Lines, QueueRun}
+use Rattle.queue.specs.Histories.{QueueRun}
 use Rattle.queue.specs.declared.fault.Fault.TheVariants.{Moment}
 use Rattle.queue.proofs.Kept.{same_by, same_past, untouched}
 use Rattle.queue.proofs.ReadLemmas.{reads_more}
-use Rattle.queue.proofs.StepAnswers.{keeper_step, keepers_own, left_whole, memory_own, memory_step, refused_step, stands_answered}
-use Rattle.queue.proofs.RunAnswers.{free_run, late_run, ran_step, renewed_change, run_past, run_steps, sound_run}
+use Rattle.queue.proofs.StepAnswers.{keeper_step, keepers_own, memory_own, memory_step, refused_step}
+use Rattle.queue.proofs.RunAnswers.{free_run, late_run, ran_left, ran_step, renewed_change, run_past, run_steps, sound_run}
 use Rattle.queue.proofs.archive.Archive.run.Goals as goal
 
 pub returns-then-moment-gt-LATEST-clause-step : goal.returns-then-moment-gt-LATEST-clause-step
@@ -105,9 +105,9 @@ returns-clause-step g c h kept faithful clean =
     let clean_first = c.in_ok-shelves.ensures.reads.lasts.clean clean_then in
     let up_first = c.in_ok-shelves.ensures.reads.lasts.was_open clean_then up_then in
     let listed = c.in_ok-uploads.ensures.reads.same clean_first up_first in
-    ran_step g.K.Keeper.may_fail h c.args.moment _ (g.K.Keeper.book c.args.self.now.keeper) (g.K.Keeper.book c.renewed_texts.new.keeper) (g.K.Keeper.book c.apply.new.self)
+    ran_step g.K.Keeper.may_fail h c.args.moment (g.K.Keeper.book c.args.self.now.keeper) (g.K.Keeper.book c.renewed_texts.new.keeper)
     c.config.result.now c.in_ok-shelves.shelves
-    c.in_ok-uploads.uploads.items c.deref.result.now c.in_ok-steps.steps.items c.from_vec.result c.from_vec-2.result _
+    c.in_ok-uploads.uploads.items c.deref.result.now c.in_ok-steps.steps.items c.from_vec.result c.from_vec-2.result
     (kept.stands (c.in_ok-uploads.ensures.reads.lasts.was_open clean_first up_first)) faithful
     c.if-moment-gt-LATEST.false
     (reads.same clean_now up_now ∙ c.in_ok-shelves.ensures.reads.same clean_then up_then ∙ listed)
@@ -118,6 +118,7 @@ returns-clause-step g c h kept faithful clean =
     (c.in_ok-uploads.ensures.uploads clean_first)
     c.in_ok-steps.ensures.sound
     c.in_ok-steps.ensures.steps
+    _ (g.K.Keeper.book c.apply.new.self) _
     (c.in_ok-apply.ensures.ok clean)
     (c.in_ok-lines.ensures ∙ ap (λ steps. map report_line (judgements steps)) c.deref-2.ensures.value)
 
@@ -203,11 +204,9 @@ returns-in_err-apply-clause-crash g c h kept faithful clean left may =
           let up_then = reads.lasts.was_open clean_now made.0 in
           let up_first = c.in_ok-shelves.ensures.reads.lasts.was_open clean_then up_then in
           let listed = c.in_ok-uploads.ensures.reads.same clean_first up_first in
-          inr (left_whole h ((QueueRun c.args.moment) ∷ []) faithful (g.K.Keeper.book c.renewed_texts.new.keeper) _ left (reads.same clean_now made.0 ∙ c.in_ok-shelves.ensures.reads.same clean_then up_then ∙ listed ∙ kept.stands (c.in_ok-uploads.ensures.reads.lasts.was_open clean_first up_first)) made.1
-          ∙ ap Some (stands_answered g.K.Keeper.may_fail h (QueueRun c.args.moment) (Lines (map report_line (judgements c.in_ok-steps.steps.items))) _
-          (ran_step g.K.Keeper.may_fail h c.args.moment ⊤ (g.K.Keeper.book c.args.self.now.keeper) (g.K.Keeper.book c.renewed_texts.new.keeper) _
+          inr (ran_left g.K.Keeper.may_fail h c.args.moment (g.K.Keeper.book c.args.self.now.keeper) (g.K.Keeper.book c.renewed_texts.new.keeper)
           c.config.result.now c.in_ok-shelves.shelves
-          c.in_ok-uploads.uploads.items c.deref.result.now c.in_ok-steps.steps.items c.from_vec.result c.from_vec-2.result (map report_line (judgements c.in_ok-steps.steps.items))
+          c.in_ok-uploads.uploads.items c.deref.result.now c.in_ok-steps.steps.items c.from_vec.result c.from_vec-2.result
           (kept.stands (c.in_ok-uploads.ensures.reads.lasts.was_open clean_first up_first)) faithful
           c.if-moment-gt-LATEST.false
           (reads.same clean_now made.0 ∙ c.in_ok-shelves.ensures.reads.same clean_then up_then ∙ listed)
@@ -218,8 +217,7 @@ returns-in_err-apply-clause-crash g c h kept faithful clean left may =
           (c.in_ok-uploads.ensures.uploads clean_first)
           c.in_ok-steps.ensures.sound
           c.in_ok-steps.ensures.steps
-          (λ bodies apart have. refl)
-          refl)))
+          left made.1)
     ]
 
 pub returns-clause-crash : goal.returns-clause-crash
@@ -234,11 +232,9 @@ returns-clause-crash g c h kept faithful clean left may =
           let up_then = reads.lasts.was_open clean_now made.0 in
           let up_first = c.in_ok-shelves.ensures.reads.lasts.was_open clean_then up_then in
           let listed = c.in_ok-uploads.ensures.reads.same clean_first up_first in
-          inr (left_whole h ((QueueRun c.args.moment) ∷ []) faithful (g.K.Keeper.book c.renewed_texts.new.keeper) _ left (reads.same clean_now made.0 ∙ c.in_ok-shelves.ensures.reads.same clean_then up_then ∙ listed ∙ kept.stands (c.in_ok-uploads.ensures.reads.lasts.was_open clean_first up_first)) made.1
-          ∙ ap Some (stands_answered g.K.Keeper.may_fail h (QueueRun c.args.moment) (Lines (map report_line (judgements c.in_ok-steps.steps.items))) _
-          (ran_step g.K.Keeper.may_fail h c.args.moment ⊤ (g.K.Keeper.book c.args.self.now.keeper) (g.K.Keeper.book c.renewed_texts.new.keeper) _
+          inr (ran_left g.K.Keeper.may_fail h c.args.moment (g.K.Keeper.book c.args.self.now.keeper) (g.K.Keeper.book c.renewed_texts.new.keeper)
           c.config.result.now c.in_ok-shelves.shelves
-          c.in_ok-uploads.uploads.items c.deref.result.now c.in_ok-steps.steps.items c.from_vec.result c.from_vec-2.result (map report_line (judgements c.in_ok-steps.steps.items))
+          c.in_ok-uploads.uploads.items c.deref.result.now c.in_ok-steps.steps.items c.from_vec.result c.from_vec-2.result
           (kept.stands (c.in_ok-uploads.ensures.reads.lasts.was_open clean_first up_first)) faithful
           c.if-moment-gt-LATEST.false
           (reads.same clean_now made.0 ∙ c.in_ok-shelves.ensures.reads.same clean_then up_then ∙ listed)
@@ -249,6 +245,5 @@ returns-clause-crash g c h kept faithful clean left may =
           (c.in_ok-uploads.ensures.uploads clean_first)
           c.in_ok-steps.ensures.sound
           c.in_ok-steps.ensures.steps
-          (λ bodies apart have. refl)
-          refl)))
+          left made.1)
     ]

@@ -1,0 +1,20 @@
+use Rattle.std.proofs.Common.{◌≡◌, List, map, ap, ◌∙◌}
+use Rattle.keep.specs.Book.{at_moment, span, unjudged, waiting_list}
+use Rattle.keep.specs.Plain.{plain_book}
+use Rattle.keep.specs.Scan.{counted, unjudged_in, waiting_of}
+use Rattle.keep.specs.declared.arrival.Arrival.{Arrival}
+use Rattle.keep.specs.declared.arrival.Counting.{Counting}
+use Rattle.keep.specs.declared.change.Judgement.{Judgement}
+use Rattle.keep.specs.declared.change.Waiting.{Waiting}
+use Rattle.keep.proofs.plain.PlainKeeperKeeper.waiting.Goals as goal
+
+pub returns-clause-waiting : goal.returns-clause-waiting
+unfolding plain_book at_moment waiting_list unjudged
+returns-clause-waiting c = λ clean bodies apart has.
+    let arrivals = c.args.self.now.arrivals.items in
+    let counting : Counting = record { span = span c.args.self.now.config; moment = c.args.moment } in
+    let waiting : List Arrival → List Judgement → List Waiting = λ all judged. map (waiting_of all) (unjudged_in all judged) in
+    c.in_ok-waiting_uploads.ensures
+    ∙ ap (λ (k : Counting). waiting (counted k c.deref.result.now) c.deref-2.result.now) c.new-counting.ensures
+    ∙ ap (λ all. waiting (counted counting all) c.deref-2.result.now) c.deref.ensures.value
+    ∙ ap (waiting (counted counting arrivals)) c.deref-2.ensures.value

@@ -1,0 +1,329 @@
+-- What the reads find at a moment is what the book has then.
+use Rattle.std.proofs.Common.{◌≡◌, ℕ, ◌<◌, Bool, true, false, not, ◌&&◌, cond, nat_eq, if◌then◌else◌, List, [], ◌∷◌, map, filter, length, Option, Some, None, option_map, unwrap_or, refl, sym, ap, ap₂, subst, ◌∙◌, true≢false}
+use Rattle.std.specs.List.{AllByRecursion, cons_option, filter_map, list_any}
+use Rattle.std.specs.Option.{option_and_then, option_map_or}
+use Rattle.std.specs.Ordering.{is_gt}
+use Rattle.std.specs.Result.{result_ok}
+use Rattle.std.specs.declared.cmp.Ordering.{Ordering}
+use Rattle.std.proofs.lemmas.Bool.{and_right, eqb-true}
+use Rattle.std.proofs.lemmas.List.{length-map}
+use Rattle.sqlite.specs.Effect.{Database}
+use Rattle.sqlite_keyed.proofs.ListLemmas.{all-filter, all_of, all_weaker, ascending-filter, filter-filter, filter-map, filter_all, filter_same, map_same}
+use Rattle.records.specs.Records.{changes_in}
+use Rattle.records.specs.Values.{ChangesValue}
+use Rattle.rules.specs.Values.{ConfigValue}
+use Rattle.sums.specs.declared.entries.Entry.{Entry}
+use Rattle.sums.specs.declared.print.Print.{Print}
+use Rattle.suites.specs.Shelves.{ShelvesValue}
+use Rattle.suites.specs.Upload.{UploadValue, has_text}
+use Rattle.keep.specs.Book.{Book, at_moment, counts, current, due, span, upload_of, waiting_list}
+use Rattle.keep.specs.declared.arrival.Arrival.{Arrival}
+use Rattle.keep.specs.declared.change.Judgement.{Judgement}
+use Rattle.keep.specs.declared.change.Waiting.{Waiting}
+use Rattle.tables.specs.Arrivals.{is_arrival}
+use Rattle.tables.specs.Rows.{Rises, Tables, rows_of, tables_in}
+use Rattle.tables.specs.Uploads.{is_judged as has_place}
+use Rattle.tables.specs.Wants.{is_wanted_by}
+use Rattle.tables.specs.declared.rows.Upload.{Upload}
+use Rattle.tables.specs.declared.rows.Want.{Want}
+use Rattle.kept.specs.Archives.{KeepsArchive, book_of}
+use Rattle.kept.specs.Cleaning.{counts_row, has_ended, is_current, with_current}
+use Rattle.kept.specs.Finished.{finished}
+use Rattle.kept.specs.Kept.{AreArrivals, AreNumbered, AreStored, AreUploads, arrivals_in, book_in, bytes_of}
+use Rattle.kept.specs.Reads.{bytes_with, due_in, missing_in, put_by, row_order, sorted_by, text_in, upload_in, waiting_in, wanting, wanting_rows}
+use Rattle.kept.proofs.BodyLemmas.{are_stored}
+use Rattle.kept.proofs.DeliveredLemmas.{numbered}
+use Rattle.kept.proofs.DueLemmas.{due_are}
+use Rattle.kept.proofs.FinishedLemmas.{body_finished, bytes_with_finished, dues_finished, waiting_finished}
+use Rattle.kept.proofs.LikeLemmas.{stored_like}
+use Rattle.kept.proofs.RowLists.{all_filtered}
+use Rattle.kept.proofs.Searches.{filter_twice, map_same_on}
+use Rattle.kept.proofs.WaitingLemmas.{waiting_list_is}
+use Rattle.kept.proofs.WantingLemmas.{only_one, wanting_unjudged}
+use Rattle.cleaning.proofs.CurrentLemmas.{arrivals_current, arrivals_left}
+use Rattle.cleaning.proofs.CurrentUploads.{uploads_left, wants_left}
+use Rattle.keep_tables.specs.Moments.{due_at, found_current, is_had, missing_at, rows_at, waiting_at}
+use Rattle.keep_tables.proofs.FoundArrivals.{current_if_found}
+
+-- ---- lists
+
+-- those that are made where they pass are those that pass
+chosen : {X : Type 0} (p : X → Bool) (xs : List X) → filter_map (λ x. if p x then Some x else None) xs ≡ filter p xs
+chosen p [] = refl
+chosen p (x ∷ xs) = elim (p x) as (λ b. cons_option (if b then Some x else None) (filter_map (λ y. if p y then Some y else None) xs) ≡ cond b (x ∷ filter p xs) (filter p xs)) [
+  | true ↦ ap (λ ys. x ∷ ys) (chosen p xs)
+  | false ↦ chosen p xs
+]
+
+made_same : {X Y : Type 0} (f g : X → Option Y) (xs : List X) → AllByRecursion (λ x. f x ≡ g x) xs → filter_map f xs ≡ filter_map g xs
+made_same f g [] h = refl
+made_same f g (x ∷ xs) h = ap₂ cons_option h.0 (made_same f g xs h.1)
+
+all_put : {X : Type 0} (P : X → Type 0) (order : X → X → Ordering) (x : X) (ys : List X) → P x → AllByRecursion P ys → AllByRecursion P (put_by order x ys)
+all_put P order x [] is all = (is, tt)
+all_put P order x (y ∷ ys) is all = elim (is_gt (order x y)) as (λ b. AllByRecursion P (if b then y ∷ put_by order x ys else x ∷ y ∷ ys)) [
+  | true ↦ (all.0, all_put P order x ys is all.1)
+  | false ↦ (is, all)
+]
+
+-- what holds of each holds of each once they are in order
+all_sorted : {X : Type 0} (P : X → Type 0) (order : X → X → Ordering) (xs : List X) → AllByRecursion P xs → AllByRecursion P (sorted_by order xs)
+all_sorted P order [] all = tt
+all_sorted P order (x ∷ xs) all = all_put P order x (sorted_by order xs) all.0 (all_sorted P order xs all.1)
+
+unset : (b : Bool) → not b ≡ true → b ≡ false
+unset true e = absurd (true≢false (sym e))
+unset false e = refl
+
+and_true : (b : Bool) → (b && true) ≡ b
+and_true true = refl
+and_true false = refl
+
+-- of those that are not judged the ones that count are the ones that have not ended
+left_waits : (j c : Bool) → (not j && c) ≡ (not (not j && not c) && not j)
+left_waits true c = refl
+left_waits false true = refl
+left_waits false false = refl
+
+-- ---- an upload as it is read
+
+abbrev waits_for : List ℕ → ℕ → Waiting
+waits_for name missing = record { name = name; missing = missing }
+
+-- by the bodies that are found
+abbrev read_by : (Print → Option (List ℕ)) → Upload → Option UploadValue
+read_by bytes u = option_and_then (λ body. option_map (λ (c : ChangesValue). record {
+  name = u.name;
+  print = u.print;
+  changes = c;
+  texts = map (λ (e : Entry). if has_text e.name then unwrap_or (bytes e.print) [] else []) c.entries;
+}) (result_ok (changes_in body))) (bytes u.print)
+
+-- where it is complete
+abbrev due_if : ℕ → Option UploadValue → Option UploadValue
+due_if missing upload = if nat_eq missing 0 then upload else None
+
+-- ---- where what arrives counts for good
+
+for_good : (moment : ℕ) (arrivals : List Arrival) → current None moment arrivals ≡ arrivals
+unfolding current counts
+for_good moment arrivals = filter_all (counts None moment) arrivals (all_of (λ a. counts None moment a ≡ true) (λ a. refl) arrivals)
+
+rows_for_good : (moment : ℕ) (t : Tables) → rows_at None moment t ≡ wanting_rows t
+unfolding rows_at wanting_rows
+rows_for_good moment t = ap (sorted_by row_order) (chosen (λ (x : ℕ × Upload). true) (wanting t) ∙ filter_all (λ (x : ℕ × Upload). true) (wanting t) (all_of (λ (x : ℕ × Upload). true ≡ true) (λ x. refl) (wanting t)))
+
+missing_for_good : (moment : ℕ) (t : Tables) (id : ℕ) → missing_at None moment t id ≡ missing_in t id
+unfolding missing_at missing_in
+missing_for_good moment t id = ap length (filter_same (λ (w : Want). not (is_had None moment t w)) (λ w. not w.here) (λ w. ap not (and_true w.here)) (filter (is_wanted_by id) (rows_of t.wants)))
+
+-- ---- where it does so for some seconds
+
+module _ (t : Tables) (judged : List Judgement) (up : AreNumbered t) (stored : AreStored (finished t)) (arrived : AreArrivals (finished t)) (uploads : AreUploads (finished t) judged)
+    (seconds moment : ℕ) where
+  abbrev whole : Tables
+  whole = finished t
+
+  abbrev left : Tables
+  left = with_current (Some seconds) moment whole
+
+  abbrev cur : List ℕ → Print → Bool
+  cur name print = is_current (Some seconds) moment whole name print
+
+  abbrev ended : Upload → Bool
+  ended u = has_ended (Some seconds) moment whole u
+
+  abbrev unjudged : ℕ × Upload → Bool
+  unjudged x = not (has_place x.1)
+
+  -- an upload of this number has ended
+  abbrev has_gone : ℕ → Bool
+  has_gone id = list_any (λ x. nat_eq x.0 id && ended x.1) whole.uploads
+
+  same_current : (name : List ℕ) (print : Print) → found_current (Some seconds) moment t name print ≡ cur name print
+  unfolding is_current finished
+  same_current name print =
+      current_if_found t arrived.apart (Some seconds) moment name print
+      ∙ ap (λ (o : Option ℕ). option_map_or (λ body. list_any (λ a. is_arrival name body a && counts_row (Some seconds) moment a) (rows_of t.arrivals)) o false) (sym (body_finished print t))
+
+  left_rises : Rises left.uploads
+  unfolding with_current finished
+  left_rises = ascending-filter (λ a b. a.0 < b.0) (λ x. not (ended x.1)) t.uploads up.uploads
+
+  whole_rises : Rises whole.uploads
+  unfolding finished
+  whole_rises = up.uploads
+
+  left_uploads : AreUploads left judged
+  left_uploads = uploads_left whole (Some seconds) moment judged whole_rises stored arrived uploads
+
+  -- ---- the uploads
+
+  wanting_left : wanting left ≡ filter unjudged (filter (λ x. not (ended x.1)) whole.uploads)
+  unfolding with_current
+  wanting_left = wanting_unjudged left judged left_rises left_uploads
+
+  wanting_whole : wanting t ≡ filter unjudged whole.uploads
+  unfolding finished wanting
+  wanting_whole = wanting_unjudged whole judged whole_rises uploads
+
+  rows_then : rows_at (Some seconds) moment t ≡ wanting_rows left
+  unfolding rows_at wanting_rows
+  rows_then =
+      let found : ℕ × Upload → Bool = λ x. found_current (Some seconds) moment t x.1.name x.1.print in
+      let counted : ℕ × Upload → Bool = λ x. cur x.1.name x.1.print in
+      let lives : ℕ × Upload → Bool = λ x. not (ended x.1) in
+      ap (sorted_by row_order)
+      (chosen found (wanting t)
+      ∙ filter_same found counted (λ x. same_current x.1.name x.1.print) (wanting t)
+      ∙ ap (filter counted) wanting_whole
+      ∙ sym (filter_twice unjudged counted whole.uploads)
+      ∙ filter_same (λ x. unjudged x && counted x) (λ x. lives x && unjudged x) (λ x. left_waits (has_place x.1) (cur x.1.name x.1.print)) whole.uploads
+      ∙ filter_twice lives unjudged whole.uploads
+      ∙ sym wanting_left)
+
+  -- none of them has ended
+  none_gone : AllByRecursion (λ x. has_gone x.0 ≡ false) (wanting_rows left)
+  unfolding wanting_rows
+  none_gone =
+      let HasNotGone : ℕ × Upload → Type 0 = λ x. has_gone x.0 ≡ false in
+      all_sorted HasNotGone row_order (wanting left)
+      (subst (AllByRecursion HasNotGone) (sym wanting_left)
+      (all-filter HasNotGone unjudged (filter (λ x. not (ended x.1)) whole.uploads)
+      (all_filtered HasNotGone (λ x. not (ended x.1)) whole.uploads
+      (all_weaker (λ x. has_gone x.0 ≡ ended x.1) (λ x. not (ended x.1) ≡ true → HasNotGone x) (λ x is stays. is ∙ unset (ended x.1) stays) whole.uploads
+      (only_one (λ x. ended x.1) whole.uploads whole_rises)))))
+
+  -- ---- what they want
+
+  abbrev stays : Want → Bool
+  stays w = not (has_gone w.upload)
+
+  -- a want is here where it counts
+  abbrev turn : Want → Want
+  turn w = cond (not (cur w.name w.print)) (record w { here = false }) w
+
+  turn_upload : (w : Want) → (turn w).upload ≡ w.upload
+  turn_upload w = elim (cur w.name w.print) as (λ b. (cond (not b) (record w { here = false }) w).upload ≡ w.upload) [ true ↦ refl | false ↦ refl ]
+
+  turn_here : (w : Want) → (w.here && cur w.name w.print) ≡ (turn w).here
+  turn_here w =
+      elim (cur w.name w.print) as (λ b. (w.here && b) ≡ (cond (not b) (record w { here = false }) w).here) [
+        | true ↦ and_true w.here
+        | false ↦ and_right w.here false refl
+      ]
+
+  wants_then : (id : ℕ) → has_gone id ≡ false → filter (is_wanted_by id) (rows_of left.wants) ≡ map turn (filter (is_wanted_by id) (rows_of whole.wants))
+  wants_then id none =
+      ap (filter (is_wanted_by id)) (wants_left whole (Some seconds) moment)
+      ∙ filter-map (is_wanted_by id) turn (filter stays (rows_of whole.wants))
+      ∙ ap (map turn)
+      (filter_same (λ w. is_wanted_by id (turn w)) (is_wanted_by id) (λ w. ap (λ k. nat_eq k id) (turn_upload w)) (filter stays (rows_of whole.wants))
+      ∙ filter-filter (is_wanted_by id) stays its_own (rows_of whole.wants))
+    where
+      its_own : (w : Want) → is_wanted_by id w ≡ true → stays w ≡ true
+      its_own w mine = ap not (ap has_gone (eqb-true w.upload id mine) ∙ none)
+
+  missing_then : (id : ℕ) → has_gone id ≡ false → missing_at (Some seconds) moment t id ≡ missing_in left id
+  unfolding missing_at missing_in finished
+  missing_then id none =
+      let mine : List Want = filter (is_wanted_by id) (rows_of t.wants) in
+      ap length (filter_same (λ (w : Want). not (is_had (Some seconds) moment t w)) (λ w. not (turn w).here) (λ w. ap not (ap (λ b. w.here && b) (same_current w.name w.print) ∙ turn_here w)) mine)
+      ∙ sym (length-map (filter (λ w. not (turn w).here) mine) turn)
+      ∙ ap length (sym (filter-map (λ (w : Want). not w.here) turn mine))
+      ∙ ap (λ (ws : List Want). length (filter (λ w. not w.here) ws)) (sym (wants_then id none))
+
+  -- ---- the reads
+
+  left_stored : AreStored left
+  unfolding with_current
+  left_stored = stored_like whole left refl refl stored
+
+  left_arrived : AreArrivals left
+  left_arrived = arrivals_left whole stored arrived (Some seconds) moment
+
+  same_bytes : (print : Print) → bytes_with whole print ≡ bytes_with left print
+  unfolding bytes_with bytes_of with_current
+  same_bytes print = refl
+
+  bytes_then : (print : Print) → bytes_with t print ≡ bytes_with left print
+  bytes_then print = bytes_with_finished t up.bodies print ∙ same_bytes print
+
+  upload_then : (u : Upload) → upload_in t u ≡ upload_in left u
+  unfolding upload_in text_in
+  upload_then u = λ i. read_by (λ print. bytes_then print i) u
+
+  due_then : (x : ℕ × Upload) → has_gone x.0 ≡ false → due_at (Some seconds) moment t x ≡ due_in left x
+  due_then x none = ap₂ due_if (missing_then x.0 none) (upload_then x.1)
+
+  waiting_then : (x : ℕ × Upload) → has_gone x.0 ≡ false → waiting_at (Some seconds) moment t x ≡ waiting_in left x
+  waiting_then x none = ap (waits_for x.1.name) (missing_then x.0 none)
+
+  module _ (b : Book) (same : b.arrivals ≡ arrivals_in left) (judged_are : b.judged ≡ judged) where
+    their_uploads : AreUploads left b.judged
+    their_uploads = subst (AreUploads left) (sym judged_are) left_uploads
+
+    pub dues_then : filter_map (due_at (Some seconds) moment t) (rows_at (Some seconds) moment t) ≡ map (upload_of b.arrivals) (due b)
+    dues_then =
+        ap (filter_map (due_at (Some seconds) moment t)) rows_then
+        ∙ made_same (due_at (Some seconds) moment t) (due_in left) (wanting_rows left)
+        (all_weaker (λ x. has_gone x.0 ≡ false) (λ x. due_at (Some seconds) moment t x ≡ due_in left x) due_then (wanting_rows left) none_gone)
+        ∙ due_are left b same left_rises their_uploads left_stored left_arrived
+
+    pub waits_then : map (waiting_at (Some seconds) moment t) (rows_at (Some seconds) moment t) ≡ waiting_list b
+    waits_then =
+        ap (map (waiting_at (Some seconds) moment t)) rows_then
+        ∙ map_same_on (waiting_at (Some seconds) moment t) (waiting_in left) (wanting_rows left)
+        (all_weaker (λ x. has_gone x.0 ≡ false) (λ x. waiting_at (Some seconds) moment t x ≡ waiting_in left x) waiting_then (wanting_rows left) none_gone)
+        ∙ waiting_list_is left b same left_rises their_uploads
+
+-- ---- the book at a moment
+
+module _ (db : Database) (config : ConfigValue) (judged : List Judgement) (shown : ShelvesValue) (dates : List ℕ) (keeps : KeepsArchive db config judged shown dates) where
+  abbrev rows : Tables
+  rows = tables_in db
+
+  abbrev book_then : ℕ → Book
+  book_then moment = at_moment moment (book_of db config judged shown dates)
+
+  rise : AreNumbered rows
+  rise = numbered db rows keeps.held
+
+  all_stored : AreStored (finished rows)
+  all_stored = are_stored (finished rows) keeps.kept.bodies
+
+  judged_then : (moment : ℕ) → (book_then moment).judged ≡ judged
+  unfolding at_moment book_in
+  judged_then moment = refl
+
+  -- the arrivals that count
+  arrivals_then : (s : Option ℕ) → s ≡ span config → (moment : ℕ) → (book_then moment).arrivals ≡ current s moment (arrivals_in (finished rows))
+  unfolding at_moment book_in
+  arrivals_then s same moment = ap (λ o. current o moment (arrivals_in (finished rows))) (sym same)
+
+  uploads_then : (moment : ℕ) → AreUploads (finished rows) (book_then moment).judged
+  uploads_then moment = subst (AreUploads (finished rows)) (sym (judged_then moment)) keeps.kept.uploads
+
+  -- THE UPLOADS THAT ARE DUE at a moment.
+  pub dues_at : (seconds : Option ℕ) → seconds ≡ span config → (moment : ℕ)
+      → filter_map (due_at seconds moment rows) (rows_at seconds moment rows) ≡ map (upload_of (book_then moment).arrivals) (due (book_then moment))
+  dues_at None same moment =
+      let alike : (x : ℕ × Upload) → due_at None moment rows x ≡ due_in rows x = λ x. ap (λ n. due_if n (upload_in rows x.1)) (missing_for_good moment rows x.0) in
+      ap (filter_map (due_at None moment rows)) (rows_for_good moment rows)
+      ∙ made_same (due_at None moment rows) (due_in rows) (wanting_rows rows) (all_of (λ x. due_at None moment rows x ≡ due_in rows x) alike (wanting_rows rows))
+      ∙ dues_finished rows (book_then moment) rise.bodies rise.uploads (arrivals_then None same moment ∙ for_good moment (arrivals_in (finished rows))) (uploads_then moment)
+      keeps.kept.bodies keeps.kept.arrivals
+  dues_at (Some seconds) same moment =
+      dues_then rows judged rise all_stored keeps.kept.arrivals keeps.kept.uploads seconds moment (book_then moment)
+      (arrivals_then (Some seconds) same moment ∙ sym (arrivals_current (finished rows) all_stored keeps.kept.arrivals (Some seconds) moment)) (judged_then moment)
+
+  -- WHAT UPLOADS WAIT FOR at a moment.
+  pub waits_at : (seconds : Option ℕ) → seconds ≡ span config → (moment : ℕ)
+      → map (waiting_at seconds moment rows) (rows_at seconds moment rows) ≡ waiting_list (book_then moment)
+  waits_at None same moment =
+      ap (map (waiting_at None moment rows)) (rows_for_good moment rows)
+      ∙ map_same (waiting_at None moment rows) (waiting_in rows) (λ x. ap (waits_for x.1.name) (missing_for_good moment rows x.0)) (wanting_rows rows)
+      ∙ waiting_finished rows (book_then moment) (arrivals_then None same moment ∙ for_good moment (arrivals_in (finished rows))) rise.uploads (uploads_then moment)
+  waits_at (Some seconds) same moment =
+      waits_then rows judged rise all_stored keeps.kept.arrivals keeps.kept.uploads seconds moment (book_then moment)
+      (arrivals_then (Some seconds) same moment ∙ sym (arrivals_current (finished rows) all_stored keeps.kept.arrivals (Some seconds) moment)) (judged_then moment)

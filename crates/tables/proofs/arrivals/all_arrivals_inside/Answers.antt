@@ -1,0 +1,16 @@
+use Rattle.std.proofs.lemmas.Result.{IfOk-weaker}
+use Rattle.sqlite.specs.Held.{state}
+use Rattle.tables.specs.declared.arrivals.TheConstants.{SELECT_ARRIVALS}
+use Rattle.tables.proofs.ReadLemmas.{plain_in}
+use Rattle.tables.proofs.ArrivalsMeaning.{select_arrivals_plain}
+use Rattle.tables.proofs.ArrivalsLemmas.{arrivals_answer}
+use Rattle.tables.proofs.arrivals.all_arrivals_inside.Goals as goal
+
+pub returns-clause-ok : goal.returns-clause-ok
+returns-clause-ok g c clean t was =
+    let old = state g.S.Store c.args.tx.now.conn.now in
+    IfOk-weaker c.select_inside.result _ _ (λ all h. arrivals_answer old (state g.S.Store c.select_inside.new.tx.conn.now) t all.items was h)
+    (c.select_inside.ensures.ok clean (plain_in SELECT_ARRIVALS.now select_arrivals_plain old was.schema))
+
+pub returns-clause-err : goal.returns-clause-err
+returns-clause-err g c clean t was = c.select_inside.ensures.err clean (plain_in SELECT_ARRIVALS.now select_arrivals_plain (state g.S.Store c.args.tx.now.conn.now) was.schema)
