@@ -7,7 +7,7 @@ length_one : {X : Type 0} (b : Bool) (y : X) → length (cond b (y ∷ []) []) �
 length_one true y = refl
 length_one false y = refl
 
-turned : (b : Bool) → (if b then 0 else 1) ≡ (if not b then 1 else 0)
+turned : (b : Bool) → ◌≡◌ {A = ℕ} (if b then 0 else 1) (if not b then 1 else 0)
 turned true = refl
 turned false = refl
 
