@@ -3,6 +3,7 @@ pub mod BodiesLemmas
 pub mod DatesLemmas
 pub mod FilesLemmas
 pub mod ItemsLemmas
+pub mod KeyedLemmas
 pub mod MetaLemmas
 pub mod PiecesLemmas
 pub mod TextsLemmas

@@ -2,6 +2,7 @@ pub mod Arrivals
 pub mod Bodies
 pub mod Files
 pub mod Items
+pub mod Lookups
 pub mod Parts
 pub mod TextRows
 pub mod Uploads

@@ -11,6 +11,7 @@ ghost use Rattle.tables_read.specs.All.{AreConstrained, tables_with};
 ghost use Rattle.audit.specs.Parts.{BodiesFit, UploadsFit};
 ghost use Rattle.audit.specs.Uploads.{AreBesides};
 
+use crate::keyed::Rows;
 use crate::pieces::Pieces;
 use arrived::arrived_among;
 use awaited::awaited_among;
@@ -26,7 +27,8 @@ fn are_besides(alloc: Global, all: &AllRows, judged: &[Judgement]) -> Result<boo
         → IfOk result (λ fit. MatchBool fit (AreBesides (tables_with all.now) judged.now)
         (AreBesides (tables_with all.now) judged.now → ⊥)) }
 {
-    let Some(arrived) = arrived_among(alloc, &all.arrivals, &all.bodies)? else {
+    let bodies = Rows::new(&all.bodies);
+    let Some(arrived) = arrived_among(alloc, &all.arrivals, &bodies)? else {
         return Ok(false);
     };
     let awaited = awaited_among(alloc, &Pieces::new(all), judged, &arrived)?;

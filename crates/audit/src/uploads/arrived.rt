@@ -4,6 +4,7 @@ ghost use Rattle.std.specs.Prelude.{◌≡◌, None, Contains, IfOk, IfSome, map
 ghost use Rattle.tables.specs.Rows.{rows_of};
 ghost use Rattle.audit.specs.Uploads.{is_listed_as, is_there_among, print_among, printed, with_print, with_print_in};
 
+use crate::keyed::Rows;
 use std::alloc::{AllocError, Global};
 use sums::{Entry, Print};
 use tables::rows::{Arrival, Body};
@@ -28,18 +29,25 @@ fn print_of_body(bodies: &[(u64, Body)], id: u64) -> Option<Print>
     None
 }
 
+/// The print of the body of a number, looked up among all bodies.
+fn print_by_number(bodies: &Rows<'_, (u64, Body)>, id: u64) -> Option<Print>
+    ensures { result ≡ print_among bodies.now.all.now id }
+{
+    print_of_body(bodies.about(id), id)
+}
+
 /// The arrivals with the prints of their bodies, where each has one.
 pub fn arrived_among<'a>(
     alloc: Global,
     arrivals: &'a [(u64, Arrival)],
-    bodies: &[(u64, Body)],
+    bodies: &Rows<'_, (u64, Body)>,
 ) -> Result<Option<Vec<Arrived<'a>>>, AllocError>
-    ensures some { IfOk result (λ o. IfSome o (λ arrived. map with_print arrived.items ≡ map (with_print_in bodies.now) (rows_of arrivals.now))) }
-    ensures none { IfOk result (λ o. o ≡ None → Contains (map (λ a. print_among bodies.now a.body) (rows_of arrivals.now)) None) }
+    ensures some { IfOk result (λ o. IfSome o (λ arrived. map with_print arrived.items ≡ map (with_print_in bodies.now.all.now) (rows_of arrivals.now))) }
+    ensures none { IfOk result (λ o. o ≡ None → Contains (map (λ a. print_among bodies.now.all.now a.body) (rows_of arrivals.now)) None) }
 {
     let mut arrived = Vec::new(alloc);
     for (_, arrival) in arrivals {
-        let Some(print) = print_of_body(bodies, arrival.body) else {
+        let Some(print) = print_by_number(bodies, arrival.body) else {
             return Ok(None);
         };
         arrived.push(Arrived { arrival, print })?;

@@ -14,7 +14,7 @@ use Rattle.audit.proofs.uploads.are_besides.Goals as goal
 pub returns-in_default : goal.returns-in_default
 returns-in_default c keys fit b =
     none_unprinted (tables_with c.args.all.now) keys fit
-    (unprinted_at c.deref.result.now c.args.all.now.arrivals.items c.deref-2.result.now c.args.all.now.bodies.items c.deref.ensures.value c.deref-2.ensures.value
+    (unprinted_at c.deref-2.result.now c.args.all.now.arrivals.items c.new-bodies.result.all.now c.args.all.now.bodies.items c.deref-2.ensures.value (c.new-bodies.ensures ∙ c.deref.ensures.value)
     (c.in_ok-arrived.ensures.none c.in_default.is))
 
 pub returns-then-not-are_requests : goal.returns-then-not-are_requests
@@ -23,8 +23,8 @@ returns-then-not-are_requests c keys fit b =
     let arrived = c.in-Some.arrived.items in
     let awaited = c.in_ok-awaited.awaited.items in
     besides_other (tables_with all) c.args.judged.now arrived awaited keys fit
-    (prints_at c.deref.result.now all.arrivals.items c.deref-2.result.now all.bodies.items arrived c.deref.ensures.value c.deref-2.ensures.value
-    (some_of (λ (v : Vec Arrived Global). map with_print v.items ≡ map (with_print_in c.deref-2.result.now) (rows_of c.deref.result.now)) c.in_ok-arrived.field-0 c.in-Some.arrived c.in-Some.is c.in_ok-arrived.ensures.some))
+    (prints_at c.deref-2.result.now all.arrivals.items c.new-bodies.result.all.now all.bodies.items arrived c.deref-2.ensures.value (c.new-bodies.ensures ∙ c.deref.ensures.value)
+    (some_of (λ (v : Vec Arrived Global). map with_print v.items ≡ map (with_print_in c.new-bodies.result.all.now) (rows_of c.deref-2.result.now)) c.in_ok-arrived.field-0 c.in-Some.arrived c.in-Some.is c.in_ok-arrived.ensures.some))
     (c.in_ok-awaited.ensures ∙ ap₂ (λ (ps : Numbered Piece) (xs : List Arrived). filter_map (found_awaited ps c.args.judged.now) (map printed xs)) (ap (λ (a : AllRows). a.pieces.items) c.new.ensures) c.deref-3.ensures.value)
     (when_false (AreAsked all.uploads.items all.wants.items arrived awaited) (AreAsked all.uploads.items all.wants.items arrived awaited → ⊥) (grind arith)
     (asked_at c.are_requests.result c.deref-4.result.now all.uploads.items c.deref-5.result.now all.wants.items c.deref-6.result.now arrived c.deref-7.result.now awaited
@@ -37,8 +37,8 @@ returns c keys fit =
     let arrived = c.in-Some.arrived.items in
     let awaited = c.in_ok-awaited.awaited.items in
     besides_owned (tables_with all) c.args.judged.now arrived awaited keys fit
-    (prints_at c.deref.result.now all.arrivals.items c.deref-2.result.now all.bodies.items arrived c.deref.ensures.value c.deref-2.ensures.value
-    (some_of (λ (v : Vec Arrived Global). map with_print v.items ≡ map (with_print_in c.deref-2.result.now) (rows_of c.deref.result.now)) c.in_ok-arrived.field-0 c.in-Some.arrived c.in-Some.is c.in_ok-arrived.ensures.some))
+    (prints_at c.deref-2.result.now all.arrivals.items c.new-bodies.result.all.now all.bodies.items arrived c.deref-2.ensures.value (c.new-bodies.ensures ∙ c.deref.ensures.value)
+    (some_of (λ (v : Vec Arrived Global). map with_print v.items ≡ map (with_print_in c.new-bodies.result.all.now) (rows_of c.deref-2.result.now)) c.in_ok-arrived.field-0 c.in-Some.arrived c.in-Some.is c.in_ok-arrived.ensures.some))
     (c.in_ok-awaited.ensures ∙ ap₂ (λ (ps : Numbered Piece) (xs : List Arrived). filter_map (found_awaited ps c.args.judged.now) (map printed xs)) (ap (λ (a : AllRows). a.pieces.items) c.new.ensures) c.deref-3.ensures.value)
     c.are_owned.result
     (when_true (AreAsked all.uploads.items all.wants.items arrived awaited) (AreAsked all.uploads.items all.wants.items arrived awaited → ⊥) (grind arith)
