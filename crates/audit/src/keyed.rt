@@ -4,7 +4,7 @@ ghost use Rattle.std.specs.Prelude.{◌≡◌, ◌↔◌, ◌<◌, ◌≤◌, �
 ghost use Rattle.std.specs.List.Sorted.{IsNonDecreasingBy, IsPartitionPoint};
 ghost use Rattle.audit.specs.Lookups.{rise_from, with_key};
 
-use tables::rows::Body;
+use tables::rows::{Body, Ref};
 
 /// A row that is looked up by a number.
 pub trait Keyed {
@@ -21,6 +21,15 @@ impl Keyed for (u64, Body) {
 
     fn key(&self) -> u64 {
         self.0
+    }
+}
+
+/// A file of an item is looked up by the item.
+impl Keyed for (u64, Ref) {
+    ghost key_of = { λ x. x.1.item };
+
+    fn key(&self) -> u64 {
+        self.1.item
     }
 }
 
