@@ -1,6 +1,6 @@
 use Rattle.std.proofs.lemmas.Result.{err_from_is_err_and}
 use Rattle.tables_read.proofs.CauseLemmas.{lacks_number}
-use Rattle.tables_read.proofs.table.numbered.Goals as goal
+use Rattle.tables_read.proofs.answer.numbered.Goals as goal
 
 pub returns-in_err-id-clause-cause : goal.returns-in_err-id-clause-cause
 returns-in_err-id-clause-cause g c =
