@@ -96,3 +96,15 @@ rows_same {X} p xs ys e =
     filter-map p (λ (x : ℕ × X). x.1) xs
     ∙ ap (map (λ (x : ℕ × X). x.1)) e
     ∙ sym (filter-map p (λ (x : ℕ × X). x.1) ys)
+
+-- whether one passes another test, too
+pub any_same : {X : Type 0} (p q : X → Bool) (xs ys : List X) → filter p xs ≡ filter p ys → list_any (λ x. p x && q x) xs ≡ list_any (λ x. p x && q x) ys
+any_same {X} p q xs ys e = any_passing xs ∙ ap (list_any q) e ∙ sym (any_passing ys)
+  where
+    any_passing : (zs : List X) → list_any (λ x. p x && q x) zs ≡ list_any q (filter p zs)
+    any_passing [] = refl
+    any_passing (z ∷ zs) = go (p z) (any_passing zs)
+      where
+        go : (b : Bool) → list_any (λ x. p x && q x) zs ≡ list_any q (filter p zs) → (b && q z) || list_any (λ x. p x && q x) zs ≡ list_any q (cond b (z ∷ filter p zs) (filter p zs))
+        go true more = ap (λ t. q z || t) more
+        go false more = more

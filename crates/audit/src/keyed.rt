@@ -4,7 +4,7 @@ ghost use Rattle.std.specs.Prelude.{◌≡◌, ◌↔◌, ◌<◌, ◌≤◌, �
 ghost use Rattle.std.specs.List.Sorted.{IsNonDecreasingBy, IsPartitionPoint};
 ghost use Rattle.audit.specs.Lookups.{rise_from, with_key};
 
-use tables::rows::{Body, Ref};
+use tables::rows::{Body, Ref, Upload, Want};
 
 /// A row that is looked up by a number.
 pub trait Keyed {
@@ -30,6 +30,24 @@ impl Keyed for (u64, Ref) {
 
     fn key(&self) -> u64 {
         self.1.item
+    }
+}
+
+/// An upload is looked up by its own number.
+impl Keyed for (u64, Upload) {
+    ghost key_of = { λ x. x.0 };
+
+    fn key(&self) -> u64 {
+        self.0
+    }
+}
+
+/// What an upload wants is looked up by the upload.
+impl Keyed for (u64, Want) {
+    ghost key_of = { λ x. x.1.upload };
+
+    fn key(&self) -> u64 {
+        self.1.upload
     }
 }
 

@@ -32,10 +32,12 @@ fn are_besides(alloc: Global, all: &AllRows, judged: &[Judgement]) -> Result<boo
         return Ok(false);
     };
     let awaited = awaited_among(alloc, &Pieces::new(all), judged, &arrived)?;
-    if !are_requests(&all.uploads, &all.wants, &arrived, &awaited) {
+    let wants = Rows::new(&all.wants);
+    if !are_requests(&all.uploads, &wants, &arrived, &awaited) {
         return Ok(false);
     }
-    Ok(are_owned(&all.wants, &all.uploads))
+    let uploads = Rows::new(&all.uploads);
+    Ok(are_owned(&all.wants, &uploads))
 }
 
 /// The judged uploads in their order, where the rows of uploads and of what they want are those of an archive.

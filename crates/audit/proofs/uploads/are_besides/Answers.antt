@@ -27,8 +27,8 @@ returns-then-not-are_requests c keys fit b =
     (some_of (λ (v : Vec Arrived Global). map with_print v.items ≡ map (with_print_in c.new-bodies.result.all.now) (rows_of c.deref-2.result.now)) c.in_ok-arrived.field-0 c.in-Some.arrived c.in-Some.is c.in_ok-arrived.ensures.some))
     (c.in_ok-awaited.ensures ∙ ap₂ (λ (ps : Numbered Piece) (xs : List Arrived). filter_map (found_awaited ps c.args.judged.now) (map printed xs)) (ap (λ (a : AllRows). a.pieces.items) c.new.ensures) c.deref-3.ensures.value)
     (when_false (AreAsked all.uploads.items all.wants.items arrived awaited) (AreAsked all.uploads.items all.wants.items arrived awaited → ⊥) (grind arith)
-    (asked_at c.are_requests.result c.deref-4.result.now all.uploads.items c.deref-5.result.now all.wants.items c.deref-6.result.now arrived c.deref-7.result.now awaited
-    c.deref-4.ensures.value c.deref-5.ensures.value c.deref-6.ensures.value c.deref-7.ensures.value c.are_requests.ensures))
+    (asked_at c.are_requests.result c.deref-5.result.now all.uploads.items c.new-wants.result.all.now all.wants.items c.deref-6.result.now arrived c.deref-7.result.now awaited
+    c.deref-5.ensures.value (c.new-wants.ensures ∙ c.deref-4.ensures.value) c.deref-6.ensures.value c.deref-7.ensures.value c.are_requests.ensures))
     b
 
 pub returns : goal.returns
@@ -42,6 +42,6 @@ returns c keys fit =
     (c.in_ok-awaited.ensures ∙ ap₂ (λ (ps : Numbered Piece) (xs : List Arrived). filter_map (found_awaited ps c.args.judged.now) (map printed xs)) (ap (λ (a : AllRows). a.pieces.items) c.new.ensures) c.deref-3.ensures.value)
     c.are_owned.result
     (when_true (AreAsked all.uploads.items all.wants.items arrived awaited) (AreAsked all.uploads.items all.wants.items arrived awaited → ⊥) (grind arith)
-    (asked_at c.are_requests.result c.deref-4.result.now all.uploads.items c.deref-5.result.now all.wants.items c.deref-6.result.now arrived c.deref-7.result.now awaited
-    c.deref-4.ensures.value c.deref-5.ensures.value c.deref-6.ensures.value c.deref-7.ensures.value c.are_requests.ensures))
-    (owned_at c.are_owned.result c.deref-9.result.now all.uploads.items c.deref-8.result.now all.wants.items c.deref-9.ensures.value c.deref-8.ensures.value c.are_owned.ensures)
+    (asked_at c.are_requests.result c.deref-5.result.now all.uploads.items c.new-wants.result.all.now all.wants.items c.deref-6.result.now arrived c.deref-7.result.now awaited
+    c.deref-5.ensures.value (c.new-wants.ensures ∙ c.deref-4.ensures.value) c.deref-6.ensures.value c.deref-7.ensures.value c.are_requests.ensures))
+    (owned_at c.are_owned.result c.new-uploads.result.all.now all.uploads.items c.deref-9.result.now all.wants.items (c.new-uploads.ensures ∙ c.deref-8.ensures.value) c.deref-9.ensures.value c.are_owned.ensures)
