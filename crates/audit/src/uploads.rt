@@ -3,6 +3,8 @@
 mod arrived;
 mod awaited;
 mod judged;
+mod lookups;
+mod signs;
 mod wanted;
 
 ghost use Rattle.std.specs.Prelude.{◌≡◌, None, IfOk, IfSome, List, MatchBool};
@@ -17,6 +19,7 @@ use arrived::arrived_among;
 use awaited::awaited_among;
 use judged::{are_placed, judged_until, last_place};
 use keep::Judgement;
+use lookups::{Verdicts, There};
 use std::alloc::{AllocError, Global};
 use tables_read::AllRows;
 use wanted::{are_owned, are_requests};
@@ -31,9 +34,12 @@ fn are_besides(alloc: Global, all: &AllRows, judged: &[Judgement]) -> Result<boo
     let Some(arrived) = arrived_among(alloc, &all.arrivals, &bodies)? else {
         return Ok(false);
     };
-    let awaited = awaited_among(alloc, &Pieces::new(all), judged, &arrived)?;
+    let pieces = Pieces::new(all);
+    let verdicts = Verdicts::new(alloc, judged)?;
+    let awaited = awaited_among(alloc, &pieces, &verdicts, &arrived)?;
+    let there = There::new(alloc, &arrived)?;
     let wants = Rows::new(&all.wants);
-    if !are_requests(&all.uploads, &wants, &arrived, &awaited) {
+    if !are_requests(&all.uploads, &wants, &there, &awaited) {
         return Ok(false);
     }
     let uploads = Rows::new(&all.uploads);

@@ -2,9 +2,11 @@
 
 ghost use Rattle.std.specs.Prelude.{◌≡◌, None, Contains, IfOk, IfSome, map};
 ghost use Rattle.tables.specs.Rows.{rows_of};
-ghost use Rattle.audit.specs.Uploads.{is_listed_as, is_there_among, print_among, printed, with_print, with_print_in};
+ghost use Rattle.audit.specs.Uploads.{is_there_among, print_among, printed, with_print, with_print_in};
 
 use crate::keyed::Rows;
+use crate::uploads::lookups::There;
+use crate::uploads::signs::sign_of_entry;
 use std::alloc::{AllocError, Global};
 use sums::{Entry, Print};
 use tables::rows::{Arrival, Body};
@@ -55,24 +57,10 @@ pub fn arrived_among<'a>(
     Ok(Some(arrived))
 }
 
-/// Whether the arrival has the listed name and print.
-fn is_listed(arrived: &Arrived<'_>, entry: &Entry) -> bool
-    ensures { result ≡ is_listed_as entry.now (printed arrived.now) }
-{
-    if arrived.print != entry.print {
-        return false;
-    }
-    arrived.arrival.name.as_str() == entry.name.as_str()
-}
-
 /// Whether a body of the listed name and print has arrived.
-pub fn is_there(arrived: &[Arrived<'_>], entry: &Entry) -> bool
-    ensures { result ≡ is_there_among (map printed arrived.now) entry.now }
+pub fn is_there(arrived: &There<'_>, entry: &Entry) -> bool
+    ensures { result ≡ is_there_among (map printed arrived.now.all.now) entry.now }
 {
-    for one in arrived {
-        if is_listed(one, entry) {
-            return true;
-        }
-    }
-    false
+    let sign = sign_of_entry(entry);
+    arrived.has(&sign)
 }

@@ -7,15 +7,16 @@ ghost use Rattle.tables.specs.Uploads.{is_judged as has_place};
 ghost use Rattle.audit.specs.Uploads.{awaited_view, printed, request_among, request_row, wanted_among, want_row, wants_among};
 
 use crate::keyed::Rows;
-use crate::uploads::arrived::{Arrived, is_there};
+use crate::uploads::arrived::is_there;
 use crate::uploads::awaited::Awaited;
+use crate::uploads::lookups::There;
 use sums::Entry;
 use tables::rows::{Upload, Want};
 
 /// Whether the row is that of the listed file, with whether it is there.
-fn is_wanted(want: &Want, arrived: &[Arrived<'_>], entry: &Entry) -> bool
-    ensures { MatchBool result (want_row want.now ≡ wanted_among (map printed arrived.now) entry.now)
-        (want_row want.now ≡ wanted_among (map printed arrived.now) entry.now → ⊥) }
+fn is_wanted(want: &Want, arrived: &There<'_>, entry: &Entry) -> bool
+    ensures { MatchBool result (want_row want.now ≡ wanted_among (map printed arrived.now.all.now) entry.now)
+        (want_row want.now ≡ wanted_among (map printed arrived.now.all.now) entry.now → ⊥) }
 {
     if want.print != entry.print {
         return false;
@@ -30,11 +31,11 @@ fn is_wanted(want: &Want, arrived: &[Arrived<'_>], entry: &Entry) -> bool
 fn are_wanted(
     wants: &[(u64, Want)],
     upload: u64,
-    arrived: &[Arrived<'_>],
+    arrived: &There<'_>,
     entries: &[Entry],
 ) -> bool
-    ensures { MatchBool result (wants_among wants.now upload ≡ map (wanted_among (map printed arrived.now)) entries.now)
-        (wants_among wants.now upload ≡ map (wanted_among (map printed arrived.now)) entries.now → ⊥) }
+    ensures { MatchBool result (wants_among wants.now upload ≡ map (wanted_among (map printed arrived.now.all.now)) entries.now)
+        (wants_among wants.now upload ≡ map (wanted_among (map printed arrived.now.all.now)) entries.now → ⊥) }
 {
     let mut next = 0;
     for (_, want) in wants {
@@ -55,11 +56,11 @@ fn are_wanted(
 fn are_wanted_by(
     wants: &Rows<'_, (u64, Want)>,
     upload: u64,
-    arrived: &[Arrived<'_>],
+    arrived: &There<'_>,
     entries: &[Entry],
 ) -> bool
-    ensures { MatchBool result (wants_among wants.now.all.now upload ≡ map (wanted_among (map printed arrived.now)) entries.now)
-        (wants_among wants.now.all.now upload ≡ map (wanted_among (map printed arrived.now)) entries.now → ⊥) }
+    ensures { MatchBool result (wants_among wants.now.all.now upload ≡ map (wanted_among (map printed arrived.now.all.now)) entries.now)
+        (wants_among wants.now.all.now upload ≡ map (wanted_among (map printed arrived.now.all.now)) entries.now → ⊥) }
 {
     are_wanted(wants.about(upload), upload, arrived, entries)
 }
@@ -68,11 +69,11 @@ fn are_wanted_by(
 fn is_request(
     row: &(u64, Upload),
     wants: &Rows<'_, (u64, Want)>,
-    arrived: &[Arrived<'_>],
+    arrived: &There<'_>,
     awaited: &Awaited<'_>,
 ) -> bool
-    ensures { MatchBool result (request_row wants.now.all.now row.now ≡ request_among (map printed arrived.now) (awaited_view awaited.now))
-        (request_row wants.now.all.now row.now ≡ request_among (map printed arrived.now) (awaited_view awaited.now) → ⊥) }
+    ensures { MatchBool result (request_row wants.now.all.now row.now ≡ request_among (map printed arrived.now.all.now) (awaited_view awaited.now))
+        (request_row wants.now.all.now row.now ≡ request_among (map printed arrived.now.all.now) (awaited_view awaited.now) → ⊥) }
 {
     if row.1.print != awaited.print {
         return false;
@@ -87,14 +88,14 @@ fn is_request(
 pub fn are_requests(
     uploads: &[(u64, Upload)],
     wants: &Rows<'_, (u64, Want)>,
-    arrived: &[Arrived<'_>],
+    arrived: &There<'_>,
     awaited: &[Awaited<'_>],
 ) -> bool
     ensures { MatchBool result
         (map (request_row wants.now.all.now) (filter (λ x. not (has_place x.1)) uploads.now)
-        ≡ map (request_among (map printed arrived.now)) (map awaited_view awaited.now))
+        ≡ map (request_among (map printed arrived.now.all.now)) (map awaited_view awaited.now))
         (map (request_row wants.now.all.now) (filter (λ x. not (has_place x.1)) uploads.now)
-        ≡ map (request_among (map printed arrived.now)) (map awaited_view awaited.now) → ⊥) }
+        ≡ map (request_among (map printed arrived.now.all.now)) (map awaited_view awaited.now) → ⊥) }
 {
     let mut next = 0;
     for row in uploads {
