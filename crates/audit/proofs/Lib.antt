@@ -6,6 +6,7 @@ pub mod ItemsLemmas
 pub mod KeyedLemmas
 pub mod MetaLemmas
 pub mod PiecesLemmas
+pub mod PlacesLemmas
 pub mod SignsLemmas
 pub mod TextsLemmas
 pub mod UploadsFits

@@ -4,6 +4,7 @@ pub mod Files
 pub mod Items
 pub mod Lookups
 pub mod Parts
+pub mod Places
 pub mod Signs
 pub mod TextRows
 pub mod Uploads

@@ -4,6 +4,7 @@ mod arrived;
 mod awaited;
 mod judged;
 mod lookups;
+mod places;
 mod signs;
 mod wanted;
 
