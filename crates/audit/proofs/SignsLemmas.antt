@@ -3,12 +3,11 @@ use Rattle.std.proofs.Common.{◌≡◌, ℕ, zero, suc, ◌+◌, ◌<◌, ◌�
 use Rattle.std.specs.Prelude.{is_ok, nat_lt}
 use Rattle.std.specs.declared.cmp.Ordering.{Ordering}
 use Rattle.std.specs.declared.cmp.Ordering.TheVariants.{Less, Equal, Greater}
-use Rattle.std.specs.Cmp.{IsStrictWeakOrder, IsTotalOrder, nat_cmp_total, on_total, then_total, tied_itself}
-use Rattle.std.specs.FinMap.{IsAntisymmetric, nat_cmp-IsAntisymmetric}
+use Rattle.std.specs.Cmp.{IsStrictWeakOrder, IsTotalOrder, tied_itself}
 use Rattle.std.specs.Fn.{Called, ComparesAs}
 use Rattle.std.specs.List.{list_any}
 use Rattle.std.specs.List.Sorted.{IsBinarySearchResult, IsPermutation, IsSearchInRange, IsSortedBy, IsSortedByKey}
-use Rattle.std.specs.Ordering.{is_eq, is_lt, nat_cmp, ordering_then}
+use Rattle.std.specs.Ordering.{is_eq, is_lt}
 use Rattle.std.proofs.lemmas.Bool.{ltb-false, ltb-true}
 use Rattle.std.proofs.lemmas.Fn.{always_returns_same}
 use Rattle.std.proofs.lemmas.List.{map-append, map_more}
@@ -17,51 +16,16 @@ use denote.Param.Members.{Mut}
 use denote.Ref.{Bor}
 use Rattle.keep.specs.declared.change.Judgement.{Judgement}
 use Rattle.kept.specs.Reads.{sign_order}
+use Rattle.kept.proofs.SignOrder.{sign_order_total, sign_order-IsAntisymmetric}
 use Rattle.kept.proofs.WantLemmas.{is_sign-Decides}
 use Rattle.sums.specs.declared.entries.Entry.{Entry}
 use Rattle.sums.specs.Prints.{same_print}
-use Rattle.suites.specs.KeyLemmas.{text_order_total, text_order-IsAntisymmetric}
-use Rattle.suites.specs.Keys.{text_order}
 use Rattle.audit.specs.Signs.{AreInOrder, SignValue, arrived_sign, entry_sign, has_sign, judgement_sign, sign_of}
 use Rattle.audit.specs.Uploads.{Printed, has_judgement, is_there_among, printed}
 use Rattle.audit.specs.declared.uploads.arrived.Arrived.{Arrived}
 use Rattle.audit.specs.declared.uploads.signs.Sign.{Sign}
 
--- ---- the order
-
-pub sign_order_total : IsTotalOrder sign_order
-unfolding sign_order
-sign_order_total =
-    then_total (on_total (λ (s : SignValue). s.0) text_order_total)
-    (then_total (on_total (λ (s : SignValue). s.1.sha256) text_order_total)
-    (then_total (on_total (λ (s : SignValue). s.1.sha1) text_order_total)
-    (then_total (on_total (λ (s : SignValue). s.1.md5) text_order_total) (on_total (λ (s : SignValue). s.1.size) nat_cmp_total))))
-
-first_tied : (a b : Ordering) → ordering_then a b ≡ Equal → a ≡ Equal
-first_tied Less b e = e
-first_tied Equal b e = refl
-first_tied Greater b e = e
-
-second_tied : (a b : Ordering) → ordering_then a b ≡ Equal → b ≡ Equal
-second_tied Less b e = cc
-second_tied Equal b e = e
-second_tied Greater b e = cc
-
-same_sign : (a b : SignValue) → a.0 ≡ b.0 → a.1.sha256 ≡ b.1.sha256 → a.1.sha1 ≡ b.1.sha1 → a.1.md5 ≡ b.1.md5 → a.1.size ≡ b.1.size → a ≡ b
-same_sign a b n s t m z = λ i. (n i, record { size = z i; md5 = m i; sha1 = t i; sha256 = s i })
-
-pub sign_order-IsAntisymmetric : IsAntisymmetric sign_order
-unfolding sign_order
-sign_order-IsAntisymmetric a b e =
-    let two = second_tied _ _ e in
-    let three = second_tied _ _ two in
-    let four = second_tied _ _ three in
-    same_sign a b
-    (text_order-IsAntisymmetric a.0 b.0 (first_tied _ _ e))
-    (text_order-IsAntisymmetric a.1.sha256 b.1.sha256 (first_tied _ _ two))
-    (text_order-IsAntisymmetric a.1.sha1 b.1.sha1 (first_tied _ _ three))
-    (text_order-IsAntisymmetric a.1.md5 b.1.md5 (first_tied _ _ four))
-    (nat_cmp-IsAntisymmetric a.1.size b.1.size (second_tied _ _ four))
+-- ---- signs in order
 
 -- a sort by a total order of keys leaves these in order
 pub sorted_by_key : {K : Type 0} {R : K → K → Ordering} (o : IsTotalOrder R) {X : Type 0} (key : X → K) {F : Type 0} {g : Mut F (Bor X × (Bor X × Unit {0})) Ordering} {f : F} (xs : List X)

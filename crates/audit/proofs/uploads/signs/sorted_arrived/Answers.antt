@@ -1,6 +1,7 @@
 use Rattle.std.proofs.Common.{map, rules}
+use Rattle.kept.proofs.SignOrder.{sign_order_total}
 use Rattle.audit.specs.Signs.{arrived_sign, sign_of}
-use Rattle.audit.proofs.SignsLemmas.{moved, sign_order_total, sorted_by_key}
+use Rattle.audit.proofs.SignsLemmas.{moved, sorted_by_key}
 use Rattle.audit.proofs.uploads.signs.sorted_arrived.Goals as goal
 
 pub returns-clause-rise : goal.returns-clause-rise
