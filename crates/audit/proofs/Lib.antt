@@ -5,7 +5,6 @@ pub mod FilesLemmas
 pub mod ItemsLemmas
 pub mod KeyedLemmas
 pub mod MetaLemmas
-pub mod PiecesLemmas
 pub mod PlacesLemmas
 pub mod SignsLemmas
 pub mod TextsLemmas

@@ -4,7 +4,7 @@ ghost use Rattle.std.specs.Prelude.{◌≡◌, ◌↔◌, ◌<◌, ◌≤◌, �
 ghost use Rattle.std.specs.List.Sorted.{IsNonDecreasingBy, IsPartitionPoint};
 ghost use Rattle.audit.specs.Lookups.{rise_from, with_key};
 
-use tables::rows::{Body, Ref, Upload, Want};
+use tables::rows::{Body, Piece, Ref, Upload, Want};
 
 /// A row that is looked up by a number.
 pub trait Keyed {
@@ -21,6 +21,15 @@ impl Keyed for (u64, Body) {
 
     fn key(&self) -> u64 {
         self.0
+    }
+}
+
+/// A piece is looked up by its body.
+impl Keyed for (u64, Piece) {
+    ghost key_of = { λ x. x.1.body };
+
+    fn key(&self) -> u64 {
+        self.1.body
     }
 }
 
@@ -74,7 +83,7 @@ fn do_rise<T: Keyed>(rows: &[T]) -> bool
 }
 
 /// Whether the rows stand in rising order of their numbers, some of which may be equal.
-fn are_in_order<T: Keyed>(rows: &[T]) -> bool
+pub fn are_in_order<T: Keyed>(rows: &[T]) -> bool
     ensures { IsTrue result ↔ IsNonDecreasingBy T.key_of rows.now }
 {
     do_rise(rows)
@@ -99,7 +108,7 @@ fn count_up_to<T: Keyed>(rows: &[T], id: u64) -> usize
 }
 
 /// The rows of a number, where the rows stand in order.
-fn part_of<T: Keyed>(rows: &[T], id: u64) -> &[T]
+pub fn part_of<T: Keyed>(rows: &[T], id: u64) -> &[T]
     requires { IsNonDecreasingBy T.key_of rows.now }
     ensures { with_key T.key_of id result.now ≡ with_key T.key_of id rows.now }
 {
