@@ -1,5 +1,6 @@
-use Rattle.std.proofs.Common.{◌≤◌, inl, inr, sym, ap, ◌∙◌}
-use Rattle.std.specs.Prelude.{map}
+use Rattle.std.proofs.Common.{◌≡◌, ◌≤◌, ℕ, ◌==◌, true, List, [], ◌∷◌, length, vec_len, inl, inr, refl, sym, ap, ◌∙◌, arith}
+use Rattle.std.specs.Prelude.{map, string_bytes}
+use Rattle.std.proofs.lemmas.Bool.Decides.{nat_tests}
 use Rattle.std.proofs.lemmas.Result.{err_from_is_err_and}
 use Rattle.keep.specs.Book.{Book, judgements, latest}
 use Rattle.queue.specs.Answers.{report_line}
@@ -8,7 +9,7 @@ use Rattle.queue.specs.declared.fault.Fault.TheVariants.{Moment}
 use Rattle.queue.proofs.Kept.{same_by, same_past, untouched}
 use Rattle.queue.proofs.ReadLemmas.{reads_more}
 use Rattle.queue.proofs.StepAnswers.{keeper_step, keepers_own, memory_own, memory_step, refused_step}
-use Rattle.queue.proofs.RunAnswers.{free_run, late_run, ran_left, ran_step, renewed_change, run_past, run_steps, sound_run}
+use Rattle.queue.proofs.RunAnswers.{free_run, idle_step, late_run, ran_left, ran_step, renewed_change, run_past, run_steps, sound_run}
 use Rattle.queue.proofs.archive.Archive.run.Goals as goal
 
 pub returns-then-moment-gt-LATEST-clause-step : goal.returns-then-moment-gt-LATEST-clause-step
@@ -21,6 +22,23 @@ returns-in_err-uploads-clause-step g c h kept faithful clean =
     rw p.1 (keeper_step g.K.Keeper.may_fail h (QueueRun c.args.moment) c.in_err-uploads.field-0.0 p.0 _ _ _ _ p.2 kept
     (same_by c.in_err-uploads.ensures.reads.lasts clean c.in_err-uploads.ensures.reads.same) c.in_err-uploads.ensures.cause
     (free_run h c.args.moment c.if-moment-gt-LATEST.false))
+
+-- no item, as the test says
+no_items : {X : Type 0} (n : ℕ) (xs : List X) → n ≡ length xs → (n == 0) ≡ true → xs ≡ []
+no_items n [] l e = refl
+no_items n (x ∷ xs) l e = absurd (grind (arith, nat_tests))
+
+pub returns-then-is_empty-clause-step : goal.returns-then-is_empty-clause-step
+returns-then-is_empty-clause-step g c h kept faithful clean =
+    let up = c.in_ok-uploads.ensures.served clean in
+    idle_step g.K.Keeper.may_fail h c.args.moment (g.K.Keeper.book c.args.self.now.keeper) c.in_ok-uploads.uploads.items
+    (kept.stands (c.in_ok-uploads.ensures.reads.lasts.was_open clean up)) faithful
+    c.if-moment-gt-LATEST.false
+    (no_items (vec_len c.in_ok-uploads.uploads) c.in_ok-uploads.uploads.items c.in_ok-uploads.uploads.ok.0 (sym c.is_empty.ensures ∙ c.if-is_empty.true))
+    (c.in_ok-uploads.ensures.signs clean)
+    _ (g.K.Keeper.book c.complete_uploads.new.self) _
+    (c.in_ok-uploads.ensures.reads.same clean up)
+    (ap (map string_bytes) c.new.ensures.items)
 
 pub returns-in_err-shelves-clause-step : goal.returns-in_err-shelves-clause-step
 returns-in_err-shelves-clause-step g c h kept faithful clean =
@@ -173,6 +191,9 @@ returns-then-moment-gt-LATEST-clause-crash g c h kept faithful clean left may = 
 
 pub returns-in_err-uploads-clause-crash : goal.returns-in_err-uploads-clause-crash
 returns-in_err-uploads-clause-crash g c h kept faithful clean left may = inl (c.in_err-uploads.ensures.reads.crash clean left may)
+
+pub returns-then-is_empty-clause-crash : goal.returns-then-is_empty-clause-crash
+returns-then-is_empty-clause-crash g c h kept faithful clean left may = inl (c.in_ok-uploads.ensures.reads.crash clean left may)
 
 pub returns-in_err-shelves-clause-crash : goal.returns-in_err-shelves-clause-crash
 returns-in_err-shelves-clause-crash g c h kept faithful clean left may =
