@@ -16,4 +16,6 @@ pub use change::{Change, IndexText, Judgement, Step, Waiting};
 pub use fault::KeepFault;
 pub use keeper::{Keeper, LATEST, PIECE_SIZE};
 pub use plain::PlainKeeper;
-pub use steps::{copied_judgements, dates_after, judged_after, some_changes_suite};
+pub use steps::{
+    append_judgements, copied_judgements, dates_after, room_for_judgements, some_changes_suite,
+};

@@ -10,7 +10,9 @@ use crate::pool::{PoolBody, body_at_path, pool_bodies};
 use crate::scan::{
     complete_uploads, has_arrival, has_current, mark_all, remove_ended, waiting_uploads,
 };
-use crate::steps::{copied_judgements, dates_after, judged_after, shelves_after};
+use crate::steps::{
+    append_judgements, copied_judgements, dates_after, room_for_judgements, shelves_after,
+};
 use para::Text;
 use rules::Config;
 use std::alloc::Global;
@@ -141,11 +143,11 @@ impl Keeper for PlainKeeper {
     #[tactic(auto, unfolding(crate::specs::Plain::plain_book))]
     fn apply(&mut self, alloc: Global, change: &Change) -> Result<(), KeepFault> {
         let steps = change.steps.as_slice();
-        let judged = judged_after(alloc, &self.judged, steps)?;
         let shelves = shelves_after(alloc, &self.shelves, steps)?;
         let dates = dates_after(alloc, &self.dates, steps, change.moment)?;
         let files = pool_bodies(alloc, &self.arrivals, &self.files, &shelves)?;
-        self.judged = judged;
+        let judged = room_for_judgements(alloc, &mut self.judged, steps)?;
+        append_judgements(&mut self.judged, judged);
         self.shelves = shelves;
         self.dates = dates;
         self.files = files;

@@ -17,8 +17,8 @@ use crate::current::span_of;
 use crate::reads::{read_due, read_file, read_nothing, read_shown, read_text, read_waiting};
 use bodies::{Begun, Finished};
 use keep::{
-    Change, Judgement, KeepFault, Keeper, LATEST, Waiting, copied_judgements, dates_after,
-    judged_after,
+    Change, Judgement, KeepFault, Keeper, LATEST, Waiting, append_judgements, copied_judgements,
+    dates_after, room_for_judgements,
 };
 use keep_rows::{create, fault_of, is_without_tables, some_take_files};
 use rules::Config;
@@ -276,8 +276,8 @@ impl<S: Alter + Drop> Keeper for TableKeeper<S> {
     #[tactic(auto, unfolding(kept::specs::Kept::book_in))]
     fn apply(&mut self, alloc: Global, change: &Change) -> Result<(), KeepFault> {
         let steps = change.steps.as_slice();
-        let judged = judged_after(alloc, &self.judged, steps)?;
         let dates = dates_after(alloc, &self.dates, steps, change.moment)?;
+        let judged = room_for_judgements(alloc, &mut self.judged, steps)?;
         match make_change(
             alloc,
             &mut self.conn,
@@ -286,7 +286,7 @@ impl<S: Alter + Drop> Keeper for TableKeeper<S> {
             change,
         ) {
             Ok(()) => {
-                self.judged = judged;
+                append_judgements(&mut self.judged, judged);
                 self.dates = dates;
                 forget_if(&mut self.begun, some_take_files(steps));
                 Ok(())
