@@ -120,6 +120,8 @@ impl Keeper for DiskKeeper {
         Err(KeepFault::OutOfMemory)
     }
 
+    fn hold(&mut self, _shelves: Shelves) {}
+
     fn clean(&mut self, _alloc: Global, _moment: u64) -> Result<u64, KeepFault> {
         Err(KeepFault::OutOfMemory)
     }

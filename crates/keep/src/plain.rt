@@ -155,6 +155,12 @@ impl Keeper for PlainKeeper {
     }
 
     #[tactic(auto, unfolding(crate::specs::Plain::plain_book))]
+    fn hold(&mut self, shelves: Shelves) {
+        // The shelves that are kept are these.
+        let _ = shelves;
+    }
+
+    #[tactic(auto, unfolding(crate::specs::Plain::plain_book))]
     fn clean(&mut self, alloc: Global, moment: u64) -> Result<u64, KeepFault> {
         let _ = alloc;
         let counting = Counting::new(&self.config, moment);

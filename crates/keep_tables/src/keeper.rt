@@ -8,13 +8,14 @@ ghost use Rattle.bodies.specs.UnderWay.{IsUnderWay};
 ghost use Rattle.kept.specs.Archives.{KeepsArchive};
 ghost use Rattle.kept.specs.Coming.{HasComing};
 ghost use Rattle.kept.specs.Shown.{shown_in};
+ghost use Rattle.keep_tables.specs.AtHand.{AreAtHand};
 
 use crate::begun::{begun, forget_if, is_coming, number_of, stop};
 use crate::calls::{clear, finish_delivery, forget_body, take_piece};
 use crate::changes::make_change;
 use crate::cleaning::clean_up;
 use crate::current::span_of;
-use crate::reads::{read_due, read_file, read_nothing, read_shown, read_text, read_waiting};
+use crate::reads::{read_due, read_file, read_nothing, read_text, read_waiting, show};
 use bodies::{Begun, Finished};
 use keep::{
     Change, Judgement, KeepFault, Keeper, LATEST, Waiting, append_judgements, copied_judgements,
@@ -28,7 +29,7 @@ use suites::{Shelves, Upload};
 use sums::Printer;
 
 /// A keeper over the tables of a database, which its connection is to. The configuration, the judgements and the dates are
-/// held beside the tables, all else is read from them.
+/// held beside the tables, and between calls what the suites show; all else is read from them.
 #[derive(Drop)]
 pub struct TableKeeper<S: Alter + Drop> {
     conn: Connection<S>,
@@ -38,11 +39,14 @@ pub struct TableKeeper<S: Alter + Drop> {
     dates: Vec<u64>,
     /// The body that was begun last, until it has arrived or its rows are gone.
     begun: Option<Begun>,
+    /// What the suites show, where a call left it here. The next that asks for it takes it out.
+    spare: Option<Shelves>,
     ghost idle: { conn.in_transaction ≡ false },
     ghost in_range: { ∥ All (λ date. date ≤ 4_102_444_799) dates.items ∥₁ },
     ghost kept: { HasCleanDisk (state S.Store conn) → IsTrue (state S.Store conn).is_open
         → ∥ KeepsArchive (state S.Store conn).committed config judged.items (shown_in config.suites (tables_in (state S.Store conn).committed)) dates.items ∥₁ },
     ghost under_way: { HasCleanDisk (state S.Store conn) → IsTrue (state S.Store conn).is_open → ∥ IsUnderWay (tables_in (state S.Store conn).committed) begun ∥₁ },
+    ghost at_hand: { HasCleanDisk (state S.Store conn) → IsTrue (state S.Store conn).is_open → ∥ AreAtHand config (state S.Store conn).committed spare ∥₁ },
 }
 
 impl<S: Alter + Drop> TableKeeper<S> {
@@ -91,6 +95,7 @@ impl<S: Alter + Drop> TableKeeper<S> {
                 judged: Vec::new(alloc),
                 dates,
                 begun: None,
+                spare: None,
             }),
             Err(error) => Err((connection, fault_of(error))),
         }
@@ -117,6 +122,7 @@ impl<S: Alter + Drop> TableKeeper<S> {
             judged,
             dates,
             begun: None,
+            spare: None,
         }
     }
 
@@ -130,6 +136,7 @@ impl<S: Alter + Drop> TableKeeper<S> {
             judged: _,
             dates: _,
             begun: _,
+            spare: _,
         } = self;
         conn
     }
@@ -267,7 +274,8 @@ impl<S: Alter + Drop> Keeper for TableKeeper<S> {
 
     #[tactic(auto, unfolding(kept::specs::Kept::book_in))]
     fn shelves(&mut self, alloc: Global) -> Result<Shelves, KeepFault> {
-        match read_shown(alloc, &mut self.conn, &self.config) {
+        let spare = self.spare.take();
+        match show(alloc, &mut self.conn, &self.config, spare) {
             Ok(shelves) => Ok(shelves),
             Err(error) => Err(fault_of(error)),
         }
@@ -288,11 +296,17 @@ impl<S: Alter + Drop> Keeper for TableKeeper<S> {
             Ok(()) => {
                 append_judgements(&mut self.judged, judged);
                 self.dates = dates;
+                self.spare = None;
                 forget_if(&mut self.begun, some_take_files(steps));
                 Ok(())
             }
             Err(error) => Err(fault_of(error)),
         }
+    }
+
+    #[tactic(auto, unfolding(kept::specs::Kept::book_in))]
+    fn hold(&mut self, shelves: Shelves) {
+        self.spare = Some(shelves);
     }
 
     #[tactic(auto, unfolding(kept::specs::Kept::book_in))]

@@ -1,6 +1,6 @@
 //! The reads of a keeper, over the connection alone.
 
-ghost use Rattle.std.specs.Prelude.{◌≡◌, ℕ, List, map, false, IsTrue, IfOk, OnOk};
+ghost use Rattle.std.specs.Prelude.{◌≡◌, ℕ, List, map, false, IsTrue, IfOk, IfSome, OnOk};
 ghost use Rattle.std.specs.Option.{option_map};
 ghost use Rattle.sqlite.specs.Held.{state};
 ghost use Rattle.sqlite.specs.State.{HasCleanDisk};
@@ -117,8 +117,8 @@ pub fn read_text<S: Alter>(
     }
 }
 
-/// What the suites show.
-pub fn read_shown<S: Alter>(
+/// What the rows show.
+fn read_shown<S: Alter>(
     alloc: Global,
     conn: &mut Connection<S>,
     config: &Config,
@@ -146,4 +146,29 @@ pub fn read_nothing<S: Alter>(alloc: Global, conn: &mut Connection<S>) -> Result
     ensures open { HasCleanDisk (state S.Store conn.new) → OnOk result (IsTrue (state S.Store conn.new).is_open) }
 {
     serve(alloc, conn)
+}
+
+/// What the suites show: the shelves that are at hand, where the database serves still, or else what its rows show.
+pub fn show<S: Alter>(
+    alloc: Global,
+    conn: &mut Connection<S>,
+    config: &Config,
+    spare: Option<Shelves>,
+) -> Result<Shelves, Error>
+    requires idle { conn.old.in_transaction ≡ false }
+    ensures idle { conn.new.in_transaction ≡ false }
+    ensures read { IsRead (state S.Store conn.old) (state S.Store conn.new) }
+    ensures open { HasCleanDisk (state S.Store conn.new) → (IsTrue (state S.Store conn.old).is_open → ∥ IsArchive (state S.Store conn.old).committed ∥₁)
+        → OnOk result (IsTrue (state S.Store conn.new).is_open) }
+    ensures shown { HasCleanDisk (state S.Store conn.new) → (judged : List Judgement) (shown : ShelvesValue) (dates : List ℕ)
+        → KeepsArchive (state S.Store conn.old).committed config.now judged shown dates → IfSome spare (λ shelves. shelves ≡ shown)
+        → IfOk result (λ shelves. shelves ≡ shown) }
+{
+    match spare {
+        Some(shelves) => {
+            read_nothing(alloc, conn)?;
+            Ok(shelves)
+        }
+        None => read_shown(alloc, conn, config),
+    }
 }

@@ -108,6 +108,7 @@ impl<K: Keeper> Archive<K> {
             texts: Listed::from_vec(texts),
         };
         self.keeper.apply(alloc, &change)?;
+        self.keeper.hold(shelves);
         Ok(Report { lines })
     }
 
@@ -152,6 +153,7 @@ impl<K: Keeper> Archive<K> {
             texts: Listed::from_vec(texts),
         };
         self.keeper.apply(alloc, &change)?;
+        self.keeper.hold(shelves);
         Ok(items)
     }
 
@@ -195,6 +197,7 @@ impl<K: Keeper> Archive<K> {
             texts: Listed::from_vec(texts),
         };
         self.keeper.apply(alloc, &change)?;
+        self.keeper.hold(shelves);
         Ok(count)
     }
 

@@ -71,6 +71,10 @@ impl<K: Keeper> Keeper for Counting<K> {
         self.inner.apply(alloc, change)
     }
 
+    fn hold(&mut self, shelves: Shelves) {
+        self.inner.hold(shelves);
+    }
+
     fn clean(&mut self, alloc: Global, moment: u64) -> Result<u64, KeepFault> {
         self.inner.clean(alloc, moment)
     }

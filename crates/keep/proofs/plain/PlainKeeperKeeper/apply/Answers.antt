@@ -40,3 +40,7 @@ returns-clause-ok c = λ clean bodies apart has each.
     (subst (λ arrivals. PoolHas arrivals self.files.items c.in_ok-files.files.items (files_of (values c.in_ok-shelves.shelves))) c.deref-2.ensures.value
     (subst (λ files. PoolHas c.deref-2.result.now files c.in_ok-files.files.items (files_of (values c.in_ok-shelves.shelves))) c.deref-3.ensures.value c.in_ok-files.ensures)))
     (c.in_ok-dates.ensures.after ∙ ap (λ old. dates_past change.moment old c.as_slice-steps.result.now) c.deref.ensures.value ∙ ap (dates_past change.moment self.dates.items) steps)
+
+pub returns-clause-shown : goal.returns-clause-shown
+unfolding plain_book
+returns-clause-shown c = λ clean. c.in_ok-shelves.ensures ∙ ap (shown_past c.args.self.now.shelves) c.as_slice-steps.ensures

@@ -27,6 +27,7 @@ invariant_of-result g c =
           ∣ subst (λ j. KeepsArchive db config j (shown_in config.suites (tables_in db)) c.in-Ok.dates.items) (sym c.new.ensures.items)
           (subst (λ d. KeepsArchive db config [] (shown_in config.suites (tables_in db)) d) (sym dates) (kept_here db archive)) ∣₁;
       under_way = λ clean up. ∣ founded_whole db config c.args.moment c.text.ensures.read c.requires ((c.in-Ok-create.ensures.done clean).held free) ∣₁;
+      at_hand = λ clean up. ∣ tt ∣₁;
     }
     )
 

@@ -8,12 +8,13 @@ use Rattle.keep.proofs.Staying.{on_err}
 use Rattle.tables.specs.Rows.{tables_in}
 use Rattle.kept.specs.Archives.{KeepsArchive, book_of}
 use Rattle.kept.specs.Kept.{book_in}
-use Rattle.kept.specs.KeeperLemmas.{book_set, left_set}
+use Rattle.kept.specs.KeeperLemmas.{book_set, left_set, shelves_set}
 use Rattle.kept.specs.Making.{takes_file}
 use Rattle.kept.specs.Shown.{shown_in}
 use Rattle.std.proofs.Props.{props}
+use Rattle.keep_tables.specs.AtHand.{AreAtHand}
 use Rattle.keep_tables.proofs.UnderWayLemmas.{changed_under, undone_kept, undone_under}
-use Rattle.kept.proofs.CallLemmas.{amends_turns, done_book, kept_here, turn_left}
+use Rattle.kept.proofs.CallLemmas.{amends_turns, done_book, kept_here, shown_here, turn_left}
 use Rattle.keep_tables.proofs.keeper.TableKeeperKeeper.apply.Goals as goal
 
 -- behind the room that is made the judgements are the same
@@ -23,6 +24,7 @@ invariant_of-self g c = record {
   in_range = c.args.self.now.in_range;
   kept = rw c.room_for_judgements.ensures.same c.args.self.now.kept;
   under_way = c.args.self.now.under_way;
+  at_hand = c.args.self.now.at_hand;
 }
 
 pub returns-in_err-judged-clause-err : goal.returns-in_err-judged-clause-err
@@ -62,6 +64,7 @@ invariant_of-self-in-Ok g c =
           ∥∥₁_map (c.args.self.now.under_way early was_open) (λ under. changed_under old.committed new.committed c.args.self.now.begun c.forget_if.new.begun c.some_take_files.result c.forget_if.ensures
           (λ yes. c.in-Ok.ensures.ends clean (sym went ∙ yes) _ _ _ was count (c.requires.sound early was_open))
           (λ no. c.in-Ok.ensures.beside clean (sym went ∙ no) _ _ _ was) under));
+      at_hand = λ clean up. ∣ tt ∣₁;
     }
     )
 
@@ -81,6 +84,9 @@ invariant_of-self-in-Err-1 g c =
       under_way = λ clean up.
           let early : HasCleanDisk old = omega (arith, c.make_change.ensures.crash.clean, clean) in
           undone_under old new c.args.self.now.begun (c.in-Err.ensures.undone clean) (c.args.self.now.under_way early) up;
+      at_hand = λ clean up.
+          let early : HasCleanDisk old = omega (arith, c.make_change.ensures.crash.clean, clean) in
+          undone_kept (λ db. ∥ AreAtHand c.args.self.now.config db c.args.self.now.spare ∥₁) old new (c.in-Err.ensures.undone clean) (c.args.self.now.at_hand early) up;
     }
     )
 
@@ -124,6 +130,17 @@ returns-in-Ok-clause-ok g c clean bodies apart has each =
     ∥∥₁_elim (c.args.self.now.kept early was_open) (book_set _ _) (λ was.
     (λ i. book_of new.committed config (judged i) (shown_in config.suites (tables_in new.committed)) (dates i))
     ∙ done_book old.committed new.committed (amends_turns old.committed new.committed (c.in-Ok.ensures.done clean _ _ _ was count (c.requires.sound early was_open)) each))
+
+pub returns-in-Ok-clause-shown : goal.returns-in-Ok-clause-shown
+unfolding book_in
+returns-in-Ok-clause-shown g c clean =
+    let old = state g.S.Store c.args.self.now.conn in
+    let new = state g.S.Store c.make_change.new.conn in
+    let count = sym (c.len.ensures ∙ c.room_for_judgements.new.judged.ok.0 ∙ ap length c.in_ok-judged.ensures.same) in
+    let early : HasCleanDisk old = omega (arith, c.make_change.ensures.crash.clean, clean) in
+    let was_open = (c.in-Ok.ensures.open clean).0 in
+    ∥∥₁_elim (c.args.self.now.kept early was_open) (shelves_set _ _) (λ was.
+    shown_here new.committed (c.in-Ok.ensures.done clean _ _ _ was count (c.requires.sound early was_open)).kept)
 
 pub returns-in-Err-clause-err : goal.returns-in-Err-clause-err
 returns-in-Err-clause-err g c clean up =

@@ -113,11 +113,31 @@ returns-in_err-apply-clause-step g c h kept faithful clean =
     (same_past read (same_by c.in_err-apply.ensures.lasts clean c.in_err-apply.ensures.err)) c.in_err-apply.ensures.cause
     (free_run h c.args.moment c.if-moment-gt-LATEST.false))
 
+-- the shelves show what the change leaves
+pub hold-requires : goal.hold-requires
+hold-requires g c clean up =
+    let reads = c.in_ok-texts.ensures.reads in
+    let clean_now = c.in_ok-apply.ensures.lasts.clean clean in
+    let up_now = c.in_ok-apply.ensures.lasts.was_open clean up in
+    let clean_then = reads.lasts.clean clean_now in
+    let up_then = reads.lasts.was_open clean_now up_now in
+    let now = g.K.Keeper.book c.renewed_texts.new.keeper in
+    let same = reads.same clean_now up_now ∙ c.in_ok-shelves.ensures.reads.same clean_then up_then in
+    run_past now c.config.result.now c.in_ok-shelves.shelves c.judged_steps.new.shelves c.deref.result.now c.in_ok-steps.steps.items c.from_vec.result
+    (c.in_ok-shelves.ensures.shelves clean_then ∙ sym (ap (λ (b : Book). b.shown) same)) c.from_vec.ensures c.in_ok-steps.ensures.steps c.in_ok-steps.ensures.shelves
+    ∙ sym (c.in_ok-apply.ensures.shown clean)
+
+pub returns-clause-served : goal.returns-clause-served
+returns-clause-served g c clean = c.hold.ensures.served clean (c.in_ok-apply.ensures.served (c.hold.ensures.reads.lasts.clean clean))
+
 pub returns-clause-step : goal.returns-clause-step
 returns-clause-step g c h kept faithful clean =
     let reads = c.in_ok-texts.ensures.reads in
-    let clean_now = c.in_ok-apply.ensures.lasts.clean clean in
-    let up_now = c.in_ok-apply.ensures.lasts.was_open clean (c.in_ok-apply.ensures.served clean) in
+    let held = c.hold.ensures.reads in
+    let clean_made = held.lasts.clean clean in
+    let up_made = c.in_ok-apply.ensures.served clean_made in
+    let clean_now = c.in_ok-apply.ensures.lasts.clean clean_made in
+    let up_now = c.in_ok-apply.ensures.lasts.was_open clean_made up_made in
     let clean_then = reads.lasts.clean clean_now in
     let up_then = reads.lasts.was_open clean_now up_now in
     let clean_first = c.in_ok-shelves.ensures.reads.lasts.clean clean_then in
@@ -136,8 +156,8 @@ returns-clause-step g c h kept faithful clean =
     (c.in_ok-uploads.ensures.uploads clean_first)
     c.in_ok-steps.ensures.sound
     c.in_ok-steps.ensures.steps
-    _ (g.K.Keeper.book c.apply.new.self) _
-    (c.in_ok-apply.ensures.ok clean)
+    _ (g.K.Keeper.book c.hold.new.self) _
+    (λ bodies apart has each. held.same clean (c.hold.ensures.served clean up_made) ∙ c.in_ok-apply.ensures.ok clean_made bodies apart has each)
     (c.in_ok-lines.ensures ∙ ap (λ steps. map report_line (judgements steps)) c.deref-2.ensures.value)
 
 pub returns-then-moment-gt-LATEST-clause-refused : goal.returns-then-moment-gt-LATEST-clause-refused
@@ -244,10 +264,11 @@ returns-in_err-apply-clause-crash g c h kept faithful clean left may =
 pub returns-clause-crash : goal.returns-clause-crash
 returns-clause-crash g c h kept faithful clean left may =
     let reads = c.in_ok-texts.ensures.reads in
-    let clean_now = c.in_ok-apply.ensures.lasts.clean clean in
+    let clean_made = c.hold.ensures.reads.lasts.clean clean in
+    let clean_now = c.in_ok-apply.ensures.lasts.clean clean_made in
     let clean_then = reads.lasts.clean clean_now in
     let clean_first = c.in_ok-shelves.ensures.reads.lasts.clean clean_then in
-    elim (c.in_ok-apply.ensures.crash clean left may) [
+    elim (c.in_ok-apply.ensures.crash clean_made left (c.hold.ensures.reads.crash clean left may)) [
       | inl before ↦ inl (c.in_ok-uploads.ensures.reads.crash clean_first left (c.in_ok-shelves.ensures.reads.crash clean_then left (reads.crash clean_now left before)))
       | inr made ↦
           let up_then = reads.lasts.was_open clean_now made.0 in
