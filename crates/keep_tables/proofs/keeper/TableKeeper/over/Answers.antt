@@ -6,5 +6,5 @@ invariant_of-result g c = record {
   in_range = c.requires.in_range;
   kept = c.requires.kept;
   under_way = λ clean up. ∣ c.requires.whole clean up ∣₁;
-  at_hand = λ clean up. ∣ tt ∣₁;
+  at_hand = λ clean up. ∣ c.requires.shown clean up ∣₁;
 }
