@@ -4,12 +4,14 @@ ghost use Rattle.std.specs.Prelude.{◌≡◌, ◌≤◌, ◌++◌, ◌⊎◌, [
 ghost use Rattle.std.specs.Option.{option_map};
 ghost use Rattle.keep.specs.Book.{Book, amended, at_moment, due, ended, has_arrival, latest, shown_past, span, text_at, upload_of, waiting_list, with_delivery};
 ghost use Rattle.keep.specs.Keeping.{Apart, ApartWith, HasEachBody, IsDeliverable, IsSound, IsWholeFor, Lasts, Leaves, MayAnswer, Reads, Stays, TakesPiece, sign_of};
+ghost use Rattle.sums.specs.Prints.{print as print_of};
 
 use crate::change::{Change, Judgement, Waiting};
 use crate::fault::KeepFault;
 use rules::Config;
 use std::alloc::Global;
 use suites::{Shelves, Upload};
+use sums::Print;
 
 /// The last moment that may be handed in: 2099-12-31 23:59:59 UTC.
 pub const LATEST: u64 = 4_102_444_799;
@@ -193,6 +195,13 @@ pub trait Keeper {
         ensures reads { Reads is_clean is_open faults book may_leave self.old self.new }
         ensures served { is_clean self.new → OnOk result (is_open self.new) }
         ensures text { is_clean self.new → IfOk result (λ text. option_map (λ body. body.items) text ≡ text_at (book self.old) path.now) }
+        ensures cause { IfErr result (MayAnswer may_fail) };
+
+    /// The print of the index text at a path without a leading slash.
+    fn text_print(&mut self, alloc: Global, path: &str) -> Result<Option<Print>, KeepFault>
+        ensures reads { Reads is_clean is_open faults book may_leave self.old self.new }
+        ensures served { is_clean self.new → OnOk result (is_open self.new) }
+        ensures print { is_clean self.new → IfOk result (λ found. found ≡ option_map print_of (text_at (book self.old) path.now)) }
         ensures cause { IfErr result (MayAnswer may_fail) };
 
     /// The uploads without a verdict, in the order of `complete_uploads`, each with the number of its entries that have

@@ -7,6 +7,7 @@ use crate::change::{Change, Judgement, Waiting};
 use crate::fault::KeepFault;
 use crate::keeper::{Keeper, LATEST};
 use crate::pool::{PoolBody, body_at_path, pool_bodies};
+use crate::printing::print_of_text;
 use crate::scan::{
     complete_uploads, has_arrival, has_current, mark_all, remove_ended, waiting_uploads,
 };
@@ -17,7 +18,7 @@ use para::Text;
 use rules::Config;
 use std::alloc::Global;
 use suites::{Shelves, Upload};
-use sums::print_of;
+use sums::{Print, print_of};
 use texts::index_text;
 
 /// A plain keeper. It refuses a call for want of memory alone.
@@ -175,6 +176,12 @@ impl Keeper for PlainKeeper {
     #[tactic(auto, unfolding(crate::specs::Plain::plain_book))]
     fn text(&mut self, alloc: Global, path: &str) -> Result<Option<Vec<u8>>, KeepFault> {
         Ok(index_text(alloc, &self.config, &self.shelves, &self.dates, path)?)
+    }
+
+    #[tactic(auto, unfolding(crate::specs::Plain::plain_book))]
+    fn text_print(&mut self, alloc: Global, path: &str) -> Result<Option<Print>, KeepFault> {
+        let text = index_text(alloc, &self.config, &self.shelves, &self.dates, path)?;
+        Ok(print_of_text(&text))
     }
 
     #[tactic(auto, unfolding(crate::specs::Plain::plain_book, crate::specs::Book::waiting_list, crate::specs::Book::unjudged))]

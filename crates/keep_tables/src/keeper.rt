@@ -8,14 +8,17 @@ ghost use Rattle.bodies.specs.UnderWay.{IsUnderWay};
 ghost use Rattle.kept.specs.Archives.{KeepsArchive};
 ghost use Rattle.kept.specs.Coming.{HasComing};
 ghost use Rattle.kept.specs.Shown.{shown_in};
-ghost use Rattle.keep_tables.specs.AtHand.{AreAtHand};
+ghost use Rattle.keep_tables.specs.AtHand.{AreAtHand, AreKnown};
 
 use crate::begun::{begun, forget_if, is_coming, number_of, stop};
 use crate::calls::{clear, finish_delivery, forget_body, take_piece};
 use crate::changes::make_change;
 use crate::cleaning::clean_up;
 use crate::current::span_of;
-use crate::reads::{read_due, read_file, read_nothing, read_text, read_waiting, show};
+use crate::known::{TextPrint, forget_prints, known_print, note_print};
+use crate::reads::{
+    read_due, read_file, read_nothing, read_print, read_text, read_waiting, show,
+};
 use bodies::{Begun, Finished};
 use keep::{
     Change, Judgement, KeepFault, Keeper, LATEST, Waiting, append_judgements, copied_judgements,
@@ -26,10 +29,10 @@ use rules::Config;
 use sqlite::{Alter, Connection};
 use std::alloc::Global;
 use suites::{Shelves, Upload};
-use sums::Printer;
+use sums::{Print, Printer};
 
 /// A keeper over the tables of a database, which its connection is to. The configuration, the judgements and the dates are
-/// held beside the tables, and between calls what the suites show; all else is read from them.
+/// held beside the tables, and between calls what the suites show and the prints of index texts; all else is read from them.
 #[derive(Drop)]
 pub struct TableKeeper<S: Alter + Drop> {
     conn: Connection<S>,
@@ -41,12 +44,16 @@ pub struct TableKeeper<S: Alter + Drop> {
     begun: Option<Begun>,
     /// What the suites show, where a call left it here. The next that asks for it takes it out.
     spare: Option<Shelves>,
+    /// The prints of index texts that are known.
+    prints: Vec<TextPrint>,
     ghost idle: { conn.in_transaction ≡ false },
     ghost in_range: { ∥ All (λ date. date ≤ 4_102_444_799) dates.items ∥₁ },
     ghost kept: { HasCleanDisk (state S.Store conn) → IsTrue (state S.Store conn).is_open
         → ∥ KeepsArchive (state S.Store conn).committed config judged.items (shown_in config.suites (tables_in (state S.Store conn).committed)) dates.items ∥₁ },
     ghost under_way: { HasCleanDisk (state S.Store conn) → IsTrue (state S.Store conn).is_open → ∥ IsUnderWay (tables_in (state S.Store conn).committed) begun ∥₁ },
     ghost at_hand: { HasCleanDisk (state S.Store conn) → IsTrue (state S.Store conn).is_open → ∥ AreAtHand config (state S.Store conn).committed spare ∥₁ },
+    ghost known: { HasCleanDisk (state S.Store conn) → IsTrue (state S.Store conn).is_open
+        → ∥ AreKnown config (shown_in config.suites (tables_in (state S.Store conn).committed)) dates.items prints.items ∥₁ },
 }
 
 impl<S: Alter + Drop> TableKeeper<S> {
@@ -96,15 +103,17 @@ impl<S: Alter + Drop> TableKeeper<S> {
                 dates,
                 begun: None,
                 spare: None,
+                prints: Vec::new(alloc),
             }),
             Err(error) => Err((connection, fault_of(error))),
         }
     }
 
-    /// The keeper over a database that keeps an archive of this configuration that shows this, with these judged uploads in
-    /// order, and for each suite in the order of the configuration the moment at which what it shows last changed. Each of its
-    /// bodies is whole.
+    /// The keeper over a database whose archive is of this configuration and shows this, with these judged uploads in order,
+    /// and for each suite in the order of the configuration the moment at which what it shows last changed. Each of its bodies
+    /// is whole.
     pub(crate) fn over(
+        alloc: Global,
         connection: Connection<S>,
         config: Config,
         judged: Vec<Judgement>,
@@ -126,6 +135,7 @@ impl<S: Alter + Drop> TableKeeper<S> {
             dates,
             begun: None,
             spare: Some(shelves),
+            prints: Vec::new(alloc),
         }
     }
 
@@ -140,6 +150,7 @@ impl<S: Alter + Drop> TableKeeper<S> {
             dates: _,
             begun: _,
             spare: _,
+            prints: _,
         } = self;
         conn
     }
@@ -300,6 +311,7 @@ impl<S: Alter + Drop> Keeper for TableKeeper<S> {
                 append_judgements(&mut self.judged, judged);
                 self.dates = dates;
                 self.spare = None;
+                forget_prints(&mut self.prints, change.texts.as_slice());
                 forget_if(&mut self.begun, some_take_files(steps));
                 Ok(())
             }
@@ -336,6 +348,18 @@ impl<S: Alter + Drop> Keeper for TableKeeper<S> {
     fn text(&mut self, alloc: Global, path: &str) -> Result<Option<Vec<u8>>, KeepFault> {
         match read_text(alloc, &mut self.conn, path) {
             Ok(text) => Ok(text),
+            Err(error) => Err(fault_of(error)),
+        }
+    }
+
+    #[tactic(auto, unfolding(kept::specs::Kept::book_in))]
+    fn text_print(&mut self, alloc: Global, path: &str) -> Result<Option<Print>, KeepFault> {
+        let known = known_print(&self.prints, path);
+        match read_print(alloc, &mut self.conn, known, path) {
+            Ok(print) => {
+                note_print(alloc, &mut self.prints, path, print);
+                Ok(print)
+            }
             Err(error) => Err(fault_of(error)),
         }
     }

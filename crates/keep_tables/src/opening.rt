@@ -96,7 +96,11 @@ fn find_archive<S: Alter>(alloc: Global, conn: &mut Connection<S>) -> Result<Opt
 }
 
 /// The keeper over the tables of an archive whose bodies are whole.
-fn keeper_over<S: Alter + Drop>(connection: Connection<S>, held: Held) -> TableKeeper<S>
+fn keeper_over<S: Alter + Drop>(
+    alloc: Global,
+    connection: Connection<S>,
+    held: Held,
+) -> TableKeeper<S>
     requires idle { connection.in_transaction ≡ false }
     requires kept { HasCleanDisk (state S.Store connection) → IsTrue (state S.Store connection).is_open
         → ∥ KeepsArchive (state S.Store connection).committed held.config held.judged.items (shown_in held.config.suites (tables_in (state S.Store connection).committed)) held.dates.items ∥₁ }
@@ -111,11 +115,12 @@ fn keeper_over<S: Alter + Drop>(connection: Connection<S>, held: Held) -> TableK
         dates,
         shelves,
     } = held;
-    TableKeeper::over(connection, config, judged, dates, shelves)
+    TableKeeper::over(alloc, connection, config, judged, dates, shelves)
 }
 
 /// The keeper of an archive that was found, once the bodies that are not whole are away.
 fn keeper_of<S: Alter + Drop>(
+    alloc: Global,
     mut connection: Connection<S>,
     found: Found,
 ) -> Result<TableKeeper<S>, (Connection<S>, KeepFault)>
@@ -132,10 +137,10 @@ fn keeper_of<S: Alter + Drop>(
 {
     let Found { held, unfinished } = found;
     if unfinished.is_empty() {
-        return Ok(keeper_over(connection, held));
+        return Ok(keeper_over(alloc, connection, held));
     }
     match remove_all(&mut connection, &unfinished) {
-        Ok(()) => Ok(keeper_over(connection, held)),
+        Ok(()) => Ok(keeper_over(alloc, connection, held)),
         Err(failure) => Err((connection, fault_of(failure))),
     }
 }
@@ -164,7 +169,7 @@ impl<S: Alter + Drop> TableKeeper<S> {
             return Err((connection, KeepFault::Tables));
         }
         match find_archive(alloc, &mut connection) {
-            Ok(Some(found)) => keeper_of(connection, found),
+            Ok(Some(found)) => keeper_of(alloc, connection, found),
             Ok(None) => Err((connection, KeepFault::Tables)),
             Err(error) => Err((connection, fault_of(error))),
         }

@@ -1,8 +1,9 @@
-use Rattle.std.proofs.Common.{◌≡◌, ◌++◌, length, inl, inr, refl, sym, ap, subst, ◌∙◌, arith}
+use Rattle.std.proofs.Common.{◌≡◌, ℕ, List, ◌++◌, filter, length, not, inl, inr, refl, sym, ap, subst, ◌∙◌, arith}
 use Rattle.std.specs.List.{list_any}
 use Rattle.std.proofs.Math.Logic.{∥∥₁_elim, ∥∥₁_map}
 use Rattle.sqlite.specs.Held.{state}
 use Rattle.sqlite.specs.State.{HasCleanDisk}
+use Rattle.suites.specs.Shelves.{ShelvesValue}
 use Rattle.keep.specs.Book.{dates_past, judgements}
 use Rattle.keep.proofs.Staying.{on_err}
 use Rattle.tables.specs.Rows.{tables_in}
@@ -12,7 +13,9 @@ use Rattle.kept.specs.KeeperLemmas.{book_set, left_set, shelves_set}
 use Rattle.kept.specs.Making.{takes_file}
 use Rattle.kept.specs.Shown.{shown_in}
 use Rattle.std.proofs.Props.{props}
-use Rattle.keep_tables.specs.AtHand.{AreAtHand}
+use Rattle.keep_tables.specs.AtHand.{AreAtHand, AreKnown, is_renewed}
+use Rattle.keep_tables.specs.declared.known.TextPrint.{TextPrint}
+use Rattle.keep_tables.proofs.AtHandLemmas.{known_past}
 use Rattle.keep_tables.proofs.UnderWayLemmas.{changed_under, undone_kept, undone_under}
 use Rattle.kept.proofs.CallLemmas.{amends_turns, done_book, kept_here, shown_here, turn_left}
 use Rattle.keep_tables.proofs.keeper.TableKeeperKeeper.apply.Goals as goal
@@ -25,6 +28,7 @@ invariant_of-self g c = record {
   kept = rw c.room_for_judgements.ensures.same c.args.self.now.kept;
   under_way = c.args.self.now.under_way;
   at_hand = c.args.self.now.at_hand;
+  known = c.args.self.now.known;
 }
 
 pub returns-in_err-judged-clause-err : goal.returns-in_err-judged-clause-err
@@ -65,6 +69,16 @@ invariant_of-self-in-Ok g c =
           (λ yes. c.in-Ok.ensures.ends clean (sym went ∙ yes) _ _ _ was count (c.requires.sound early was_open))
           (λ no. c.in-Ok.ensures.beside clean (sym went ∙ no) _ _ _ was) under));
       at_hand = λ clean up. ∣ tt ∣₁;
+      known = λ clean up.
+          let early : HasCleanDisk old = omega (arith, c.make_change.ensures.crash.clean, clean) in
+          let was_open = (c.in-Ok.ensures.open clean).0 in
+          let prints : c.forget_prints.new.prints.items ≡ filter (λ p. not (is_renewed c.args.change.now.texts p.path)) c.args.self.now.prints.items =
+          c.forget_prints.ensures ∙ ap (λ texts. filter (λ (p : TextPrint). not (is_renewed texts p.path)) c.args.self.now.prints.items) c.as_slice.ensures in
+          ∥∥₁_elim (c.args.self.now.kept early was_open) (hlevel props) (λ was. ∥∥₁_map (c.args.self.now.known early was_open) (λ known.
+          let shown = shown_here new.committed (c.in-Ok.ensures.done clean _ _ _ was count (c.requires.sound early was_open)).kept in
+          subst (λ (x : ShelvesValue × List ℕ × List TextPrint). AreKnown config x.0 x.1 x.2) (λ i. (sym shown i, sym dates i, sym prints i))
+          (known_past old.committed config c.args.self.now.judged.items (shown_in config.suites (tables_in old.committed)) c.args.self.now.dates.items c.args.change.now c.args.self.now.prints.items
+          (c.requires.sound early was_open).texts known)));
     }
     )
 
@@ -87,6 +101,10 @@ invariant_of-self-in-Err-1 g c =
       at_hand = λ clean up.
           let early : HasCleanDisk old = omega (arith, c.make_change.ensures.crash.clean, clean) in
           undone_kept (λ db. ∥ AreAtHand c.args.self.now.config db c.args.self.now.spare ∥₁) old new (c.in-Err.ensures.undone clean) (c.args.self.now.at_hand early) up;
+      known = λ clean up.
+          let early : HasCleanDisk old = omega (arith, c.make_change.ensures.crash.clean, clean) in
+          undone_kept (λ db. ∥ AreKnown c.args.self.now.config (shown_in c.args.self.now.config.suites (tables_in db)) c.args.self.now.dates.items c.args.self.now.prints.items ∥₁)
+          old new (c.in-Err.ensures.undone clean) (c.args.self.now.known early) up;
     }
     )
 

@@ -10,6 +10,7 @@ invariant_of-self g c = record {
   kept = c.args.self.now.kept;
   under_way = c.args.self.now.under_way;
   at_hand = λ clean up. ∣ c.requires.shown clean up ∣₁;
+  known = c.args.self.now.known;
 }
 
 pub returns-clause-reads : goal.returns-clause-reads

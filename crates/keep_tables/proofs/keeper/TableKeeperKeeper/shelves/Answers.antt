@@ -3,9 +3,11 @@ use Rattle.std.proofs.Math.Logic.{∥∥₁_elim}
 use Rattle.sqlite.specs.Held.{state}
 use Rattle.kept.specs.Kept.{book_in}
 use Rattle.kept.specs.KeeperLemmas.{shelves_set}
+use Rattle.kept.specs.Shown.{shown_in}
 use Rattle.tables.specs.Rows.{tables_in}
 use Rattle.bodies.specs.UnderWay.{IsUnderWay}
 use Rattle.kept.proofs.KeeperReads.{left_before, same_after, still, still_kept, was_archive, was_kept}
+use Rattle.keep_tables.specs.AtHand.{AreKnown}
 use Rattle.keep_tables.proofs.AtHandLemmas.{none_at_hand, taken_at_hand}
 use Rattle.keep_tables.proofs.keeper.TableKeeperKeeper.shelves.Goals as goal
 
@@ -18,6 +20,9 @@ invariant_of-self g c = record {
       still (state g.S.Store c.args.self.now.conn) (state g.S.Store c.show.new.conn) c.show.ensures.read c.args.self.now.kept
       (λ db. ∥ IsUnderWay (tables_in db) c.args.self.now.begun ∥₁) c.args.self.now.under_way;
   at_hand = λ clean up. ∣ none_at_hand c.args.self.now.config (state g.S.Store c.show.new.conn).committed c.take-spare.new.self c.take-spare.ensures.after ∣₁;
+  known =
+      still (state g.S.Store c.args.self.now.conn) (state g.S.Store c.show.new.conn) c.show.ensures.read c.args.self.now.kept
+      (λ db. ∥ AreKnown c.args.self.now.config (shown_in c.args.self.now.config.suites (tables_in db)) c.args.self.now.dates.items c.args.self.now.prints.items ∥₁) c.args.self.now.known;
 }
 
 pub returns-in-Ok-clause-served : goal.returns-in-Ok-clause-served
