@@ -16,9 +16,7 @@ use crate::changes::make_change;
 use crate::cleaning::clean_up;
 use crate::current::span_of;
 use crate::known::{TextPrint, forget_prints, known_print, note_print};
-use crate::reads::{
-    read_due, read_file, read_nothing, read_print, read_text, read_waiting, show,
-};
+use crate::reads::{read_due, read_file, read_nothing, read_print, read_text, read_waiting, show};
 use bodies::{Begun, Finished};
 use keep::{
     Change, Judgement, KeepFault, Keeper, LATEST, Waiting, append_judgements, copied_judgements,
