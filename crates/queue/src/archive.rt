@@ -93,6 +93,11 @@ impl<K: Keeper> Archive<K> {
             return Err(Fault::Moment);
         }
         let uploads = self.keeper.complete_uploads(alloc, moment)?;
+        if uploads.is_empty() {
+            return Ok(Report {
+                lines: Vec::new(alloc),
+            });
+        }
         let mut shelves = self.keeper.shelves(alloc)?;
         let steps = judged_steps(alloc, self.keeper.config(), &mut shelves, &uploads)?;
         let lines = report_lines(alloc, &steps)?;
@@ -103,6 +108,7 @@ impl<K: Keeper> Archive<K> {
             texts: Listed::from_vec(texts),
         };
         self.keeper.apply(alloc, &change)?;
+        self.keeper.hold(shelves);
         Ok(Report { lines })
     }
 
@@ -147,6 +153,7 @@ impl<K: Keeper> Archive<K> {
             texts: Listed::from_vec(texts),
         };
         self.keeper.apply(alloc, &change)?;
+        self.keeper.hold(shelves);
         Ok(items)
     }
 
@@ -190,6 +197,7 @@ impl<K: Keeper> Archive<K> {
             texts: Listed::from_vec(texts),
         };
         self.keeper.apply(alloc, &change)?;
+        self.keeper.hold(shelves);
         Ok(count)
     }
 
