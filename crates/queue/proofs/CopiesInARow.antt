@@ -1,5 +1,5 @@
 -- A promotion leaves and answers what a copy of each of its source packages in turn leaves and answers.
-use Rattle.std.proofs.Common.{◌≡◌, ◌≤◌, ℕ, Bool, true, false, cond, not, ◌&&◌, ◌||◌, List, [], ◌∷◌, ◌++◌, map, filter, flat_map, fold, Option, Some, None, option_to_list, slice_get, nat_eq, nat_lt, Result, Ok, Err, refl, sym, ap, ◌∙◌, append-nil, if◌then◌else◌}
+use Rattle.std.proofs.Common.{◌≡◌, ◌≤◌, ◌+◌, ℕ, Bool, true, false, cond, not, ◌&&◌, ◌||◌, List, [], ◌∷◌, ◌++◌, map, filter, flat_map, fold, Option, Some, None, option_to_list, slice_get, nat_eq, nat_lt, Result, Ok, Err, refl, sym, ap, ◌∙◌, append-nil, if◌then◌else◌}
 use Rattle.std.specs.FinMap.{entries}
 use Rattle.std.specs.List.{enumerate_from, list_any}
 use Rattle.std.proofs.lemmas.Bool.{le-ltb}
@@ -37,7 +37,7 @@ nothing_changed suite shelves =
 dates_stay : (moment : ℕ) (shelves : ShelvesWith BodyItem) (n : ℕ) (dates : List ℕ) → map (λ (d : ℕ × ℕ). if is_changed d.0 shelves shelves then moment else d.1) (enumerate_from n dates) ≡ dates
 dates_stay moment shelves n [] = refl
 dates_stay moment shelves n (date ∷ dates) =
-    λ i. (if nothing_changed n shelves i then moment else date) ∷ dates_stay moment shelves (suc n) dates i
+    λ i. (if nothing_changed n shelves i then moment else date) ∷ dates_stay moment shelves (n + 1) dates i
 
 with_none : (moment : ℕ) (a : PlainArchive) → with_items moment [] a ≡ a
 unfolding with_admitted
