@@ -119,6 +119,11 @@ pub enum Wanted {
         suite: String,
         name: String,
     },
+    /// A promotion of all that a suite shows.
+    Promote {
+        from: String,
+        to: String,
+    },
 }
 
 /// Reads a whole head: its target is checked, then its Transfer-Encoding, its route, the parameters of that, its method
@@ -289,6 +294,10 @@ fn read_route(
         Route::Remove => Ok(Wanted::Remove {
             suite: decode_param(alloc, params, "suite")?,
             name: decode_param(alloc, params, "package")?,
+        }),
+        Route::Promote => Ok(Wanted::Promote {
+            from: decode_param(alloc, params, "from")?,
+            to: decode_param(alloc, params, "to")?,
         }),
     }
 }

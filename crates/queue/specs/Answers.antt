@@ -86,6 +86,14 @@ copies_in config moment from to a (source ∷ sources) =
     (source, new_items config moment from to a source)
     ∷ copies_in config moment from to (copied config moment a from to source) sources
 
+-- a line on such a copy: how many items are new, and the name of the source package; or that it is refused
+abbrev pub line_on_copy : Option ℕ → List ℕ → List ℕ
+line_on_copy (Some items) source = decimal items ++ codes " " ++ source
+line_on_copy None source = codes "refused Q8 " ++ source
+
+abbrev pub copy_line : List ℕ × Option ℕ → List ℕ
+copy_line copy = line_on_copy copy.1 copy.0
+
 -- of suites that are there: they differ, or else what the copies of the source packages answer
 abbrev pub promotion_answer : ConfigValue → PlainArchive → Option ℕ → Option ℕ → Option (List (List ℕ)) → ℕ → Result Reply Fault
 promotion_answer config a (Some from) (Some to) sources moment =

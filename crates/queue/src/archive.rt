@@ -1,8 +1,8 @@
 //! The archive over a keeper.
 
-ghost use Rattle.std.specs.Prelude.{◌≡◌, ◌⊎◌, ◌<◌, ◌≤◌, ⊤, true, Some, None, Err, IfOk, IfErr, OnErr};
-ghost use Rattle.queue.specs.Answers.{is_free_copy, is_free_removal};
-ghost use Rattle.queue.specs.Commands.{stored, reported, counted, found, names_given, promoted};
+ghost use Rattle.std.specs.Prelude.{◌≡◌, ◌⊎◌, ◌<◌, ◌≤◌, ⊤, true, Some, None, Err, IfOk, IfErr, OnErr, map};
+ghost use Rattle.queue.specs.Answers.{copy_line, is_free_copy, is_free_removal};
+ghost use Rattle.queue.specs.Commands.{stored, reported, counted, found, copies_of, lines_of, names_given, promoted};
 ghost use Rattle.queue.specs.Copies.{copy_fault};
 ghost use Rattle.queue.specs.Histories.{Delivery, QueueRun, Copying, Lookup, WaitingList, Cleaning, Removing, Promoting, VerdictList};
 ghost use Rattle.keep.specs.Book.{latest};
@@ -15,7 +15,7 @@ use crate::command::{Arrived, Promotion, Report};
 use crate::copy::{copy_plan, only_step, two_suites};
 use crate::delivery::check_delivery;
 use crate::fault::Fault;
-use crate::promotion::{Copied, copied_steps, sources_of};
+use crate::promotion::{Copied, copied_steps, copy_lines, sources_of};
 use crate::removal::{place_of, removal_plan};
 use crate::renewal::renewed_texts;
 use crate::report::{verdict_lines, waiting_lines};
@@ -173,6 +173,7 @@ impl<K: Keeper> Archive<K> {
         ensures err { OnErr result (IsUndone K.Keeper self.old.keeper self.new.keeper) }
         // A crash leaves what it would have left before, or all that the call does.
         ensures crash { LeavesStep K.Keeper self.old.keeper (Promoting from.now to.now (names_given sources.now) moment) self.new.keeper }
+        ensures lines { IfOk result (λ promotion. lines_of promotion.report ≡ map copy_line (copies_of promotion)) }
         ensures done { IfOk result (λ _. promotion_fault (K.book self.old.keeper).config from.now to.now moment ≡ None) }
         ensures late { latest < moment → result ≡ Err Fault.Moment }
         // The fault by the moment and the configuration, or else one of the keeper's own.
@@ -193,6 +194,7 @@ impl<K: Keeper> Archive<K> {
             to,
             &sources,
         )?;
+        let lines = copy_lines(alloc, &copies)?;
         let texts = renewed_texts(alloc, &mut self.keeper, &shelves, &steps, moment)?;
         let change = Change {
             moment,
@@ -200,7 +202,10 @@ impl<K: Keeper> Archive<K> {
             texts: Listed::from_vec(texts),
         };
         self.keeper.apply(alloc, &change)?;
-        Ok(Promotion { copies })
+        Ok(Promotion {
+            copies,
+            report: Report { lines },
+        })
     }
 
     /// Removes from a suite, by its codename, all items of a package's name, sources and packages alike, at a moment, in

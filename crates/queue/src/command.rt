@@ -30,6 +30,8 @@ pub struct SourceCopy {
 #[derive(Debug, Drop)]
 pub struct Promotion {
     pub copies: Vec<SourceCopy>,
+    /// A line for each: `COUNT SOURCE`, or `refused Q8 SOURCE` where nothing is shown of it.
+    pub report: Report,
 }
 
 /// A call of the archive, with its arguments. Moments are in seconds since 1970-01-01 00:00:00 UTC.

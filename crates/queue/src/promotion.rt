@@ -1,10 +1,10 @@
 //! Promotions: copies of several source packages, or of all that a suite shows, as steps of one change.
 
-ghost use Rattle.std.specs.Prelude.{◌≡◌, ◌<◌, ℕ, Bool, List, Option, Some, None, IfOk, OnOk, cond, if◌then◌else◌, length, map, nat_eq, string_bytes};
-ghost use Rattle.keep.specs.declared.change.Step.{Step as StepValue};
+ghost use Rattle.std.specs.Prelude.{◌≡◌, ◌<◌, Some, None, IfOk, OnOk, cond, if◌then◌else◌, length, map, nat_eq, string_bytes};
 ghost use Rattle.suites.specs.Plan.{after_copy};
 ghost use Rattle.suites.specs.Shelves.{AreSound};
 ghost use Rattle.suites.specs.Told.{AreTold};
+ghost use Rattle.queue.specs.Answers.{copy_line, line_on_copy};
 ghost use Rattle.queue.specs.Archives.{each_once, with_name};
 ghost use Rattle.queue.specs.Commands.{copy_of, names_given};
 ghost use Rattle.queue.specs.Promotions.{AreCopied, IsCopyStep, after_copies, copies_on, sources_from, sources_on};
@@ -188,4 +188,26 @@ pub fn copied_steps(
         steps.push(step)?;
     }
     Ok(Copied { steps, copies })
+}
+
+/// A line on a copy: `COUNT SOURCE`, or `refused Q8 SOURCE` where nothing is shown of the source package.
+fn copy_line(alloc: Global, items: Option<u64>, source: &str) -> Result<String, AllocError>
+    ensures { IfOk result (λ line. string_bytes line ≡ line_on_copy items source.now) }
+{
+    match items {
+        Some(items) => format!(in alloc; "{items} {source}"),
+        None => format!(in alloc; "refused Q8 {source}"),
+    }
+}
+
+/// A line on each copy.
+pub fn copy_lines(alloc: Global, copies: &[SourceCopy]) -> Result<Vec<String>, AllocError>
+    ensures { IfOk result (λ lines. map string_bytes lines.items ≡ map copy_line (map copy_of copies.now)) }
+{
+    let mut lines = Vec::new(alloc);
+    for copy in copies {
+        let line = copy_line(alloc, copy.items, copy.source.as_str())?;
+        lines.push(line)?;
+    }
+    Ok(lines)
 }

@@ -2,7 +2,7 @@ use Rattle.std.proofs.Common.{◌≡◌, ◌<◌, true, map, length, Some, inl, 
 use Rattle.std.specs.String.{string_bytes}
 use Rattle.std.proofs.lemmas.Result.{err_from_is_err_and}
 use Rattle.rules.specs.Values.{ConfigValue}
-use Rattle.queue.specs.Answers.{is_free_copy}
+use Rattle.queue.specs.Answers.{copy_line, is_free_copy}
 use Rattle.queue.specs.Commands.{copy_of, names_given}
 use Rattle.queue.specs.Copies.{AreSuites}
 use Rattle.queue.specs.Histories.{Promoting}
@@ -86,6 +86,17 @@ returns-in_err-steps-clause-refused g c =
     let p = err_from_is_err_and c.from_residual-in_err-steps.result c.from_residual-in_err-steps.ensures.1 in
     rw p.1 (inr (memory_own g.K.Keeper.may_fail (is_free_copy (g.K.Keeper.book c.args.self.now.keeper).config c.args.from.now c.args.to.now c.args.moment ≡ true) p.0 p.2))
 
+pub returns-in_err-lines-clause-step : goal.returns-in_err-lines-clause-step
+returns-in_err-lines-clause-step g c h kept faithful clean =
+    let p = err_from_is_err_and c.from_residual-in_err-lines.result c.from_residual-in_err-lines.ensures.1 in
+    rw p.1 (memory_step g.K.Keeper.may_fail h (Promoting c.args.from.now c.args.to.now (names_given c.args.sources.now) c.args.moment) p.0 _ _ _ _ p.2 kept
+    (same_by c.in_ok-shelves.ensures.reads.lasts clean c.in_ok-shelves.ensures.reads.same))
+
+pub returns-in_err-lines-clause-refused : goal.returns-in_err-lines-clause-refused
+returns-in_err-lines-clause-refused g c =
+    let p = err_from_is_err_and c.from_residual-in_err-lines.result c.from_residual-in_err-lines.ensures.1 in
+    rw p.1 (inr (memory_own g.K.Keeper.may_fail (is_free_copy (g.K.Keeper.book c.args.self.now.keeper).config c.args.from.now c.args.to.now c.args.moment ≡ true) p.0 p.2))
+
 pub returns-in_err-texts-clause-step : goal.returns-in_err-texts-clause-step
 returns-in_err-texts-clause-step g c h kept faithful clean =
     let p = err_from_is_err_and c.from_residual-in_err-texts.result c.from_residual-in_err-texts.ensures.1 in
@@ -117,11 +128,11 @@ apply-requires-clause-sound g c clean up =
     sound_promotion c.args.moment old now c.config-2.result.now c.in_ok-shelves.shelves c.in_ok-from.from c.in_ok-from.to
     names c.in_ok-steps.steps.items c.from_vec.result c.from_vec-2.result
     (reads.same clean up ∙ same) (c.config-2.ensures ∙ sym reads.lasts.config) is_shown c.from_vec.ensures c.in_ok-steps.ensures.steps c.in_ok-steps.ensures.told
-    (renewed_change c.args.moment then now c.copied_steps.new.shelves c.deref-2.result.now c.from_vec.result c.in_ok-texts.texts.items c.from_vec-2.result
-    (reads.same clean up) (c.from_vec.ensures ∙ sym c.deref-2.ensures.value) c.from_vec-2.ensures
+    (renewed_change c.args.moment then now c.copied_steps.new.shelves c.deref-3.result.now c.from_vec.result c.in_ok-texts.texts.items c.from_vec-2.result
+    (reads.same clean up) (c.from_vec.ensures ∙ sym c.deref-3.ensures.value) c.from_vec-2.ensures
     (c.in_ok-texts.ensures.renewed clean)
-    (promotion_steps old then c.config-2.result.now c.in_ok-shelves.shelves c.in_ok-from.from c.in_ok-from.to names c.in_ok-steps.steps.items c.deref-2.result.now same is_shown c.deref-2.ensures.value c.in_ok-steps.ensures.steps)
-    (promotion_past old then c.config-2.result.now c.in_ok-shelves.shelves c.copied_steps.new.shelves c.in_ok-from.from c.in_ok-from.to names c.in_ok-steps.steps.items c.deref-2.result.now same is_shown c.deref-2.ensures.value c.in_ok-steps.ensures.steps c.in_ok-steps.ensures.shelves))
+    (promotion_steps old then c.config-2.result.now c.in_ok-shelves.shelves c.in_ok-from.from c.in_ok-from.to names c.in_ok-steps.steps.items c.deref-3.result.now same is_shown c.deref-3.ensures.value c.in_ok-steps.ensures.steps)
+    (promotion_past old then c.config-2.result.now c.in_ok-shelves.shelves c.copied_steps.new.shelves c.in_ok-from.from c.in_ok-from.to names c.in_ok-steps.steps.items c.deref-3.result.now same is_shown c.deref-3.ensures.value c.in_ok-steps.ensures.steps c.in_ok-steps.ensures.shelves))
 
 pub returns-in_err-apply-clause-step : goal.returns-in_err-apply-clause-step
 returns-in_err-apply-clause-step g c h kept faithful clean =
@@ -158,6 +169,9 @@ returns-clause-step g c h kept faithful clean =
     c.in_ok-steps.ensures.sound c.in_ok-steps.ensures.steps
     _ (g.K.Keeper.book c.apply.new.self) (map copy_of c.in_ok-steps.copies.items) (c.in_ok-apply.ensures.ok clean) c.in_ok-steps.ensures.copies
 
+pub returns-clause-lines : goal.returns-clause-lines
+returns-clause-lines g c = c.in_ok-lines.ensures ∙ ap (λ copies. map copy_line (map copy_of copies)) c.deref-2.ensures.value
+
 pub returns-clause-done : goal.returns-clause-done
 returns-clause-done g c =
     no_promotion_fault (g.K.Keeper.book c.args.self.now.keeper) c.config.result.now c.args.from.now c.args.to.now c.args.moment c.in_ok-from.from c.in_ok-from.to
@@ -177,6 +191,9 @@ returns-in_err-sources-clause-crash g c h kept faithful clean left may = inl (c.
 
 pub returns-in_err-steps-clause-crash : goal.returns-in_err-steps-clause-crash
 returns-in_err-steps-clause-crash g c h kept faithful clean left may = inl (c.in_ok-shelves.ensures.reads.crash clean left may)
+
+pub returns-in_err-lines-clause-crash : goal.returns-in_err-lines-clause-crash
+returns-in_err-lines-clause-crash g c h kept faithful clean left may = inl (c.in_ok-shelves.ensures.reads.crash clean left may)
 
 pub returns-in_err-texts-clause-crash : goal.returns-in_err-texts-clause-crash
 returns-in_err-texts-clause-crash g c h kept faithful clean left may =
