@@ -20,6 +20,13 @@ path_rule = record (new_rule (codes "PATH")) {
   range = Some (record { start_inclusive = 1; end_inclusive = 18446744073709551615 });
 }
 
+-- any number of words, which may be left out
+abbrev pub source_rule : Rule
+source_rule = record (new_rule (codes "SOURCE")) {
+  action = Some Append;
+  range = Some (record { start_inclusive = 1; end_inclusive = 18446744073709551615 });
+}
+
 -- --db FILE
 abbrev pub db_rule : Rule
 db_rule = record (word_rule (codes "db")) { long = Some (codes "db"); value_names = 1 }
@@ -64,6 +71,11 @@ copy_app =
     with_rule (with_rule (with_rule (timed_app (codes "copy")) (word_rule (codes "FROM"))) (word_rule (codes "TO")))
     (word_rule (codes "SOURCE"))
 
+abbrev pub promote_app : App
+promote_app =
+    with_rule (with_rule (with_rule (timed_app (codes "promote")) (word_rule (codes "FROM"))) (word_rule (codes "TO")))
+    source_rule
+
 abbrev pub remove_app : App
 remove_app = with_rule (with_rule (timed_app (codes "remove")) (word_rule (codes "SUITE"))) (word_rule (codes "PACKAGE"))
 
@@ -89,9 +101,10 @@ new_archive = record (new_app (codes "archive")) {
 -- with the commands that change an archive
 abbrev pub with_changes : App → App
 with_changes app =
-    with_subcommand (with_subcommand (with_subcommand (with_subcommand (with_subcommand (with_subcommand app init_app.top) put_app.top)
+    with_subcommand (with_subcommand (with_subcommand (with_subcommand (with_subcommand (with_subcommand (with_subcommand app init_app.top) put_app.top)
     (timed_app (codes "run")).top)
     copy_app.top)
+    promote_app.top)
     remove_app.top)
     (timed_app (codes "clean")).top
 

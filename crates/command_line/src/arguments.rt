@@ -2,7 +2,7 @@
 
 ghost use Rattle.std.specs.Prelude.{◌≡◌, false};
 ghost use Rattle.clap.specs.Words.{rule_of};
-ghost use Rattle.command_line.specs.Shape.{at_rule, count_rule, db_rule, log_rule, moments_rule, path_rule, word_rule};
+ghost use Rattle.command_line.specs.Shape.{at_rule, count_rule, db_rule, log_rule, moments_rule, path_rule, source_rule, word_rule};
 
 use clap::{Arg, ArgAction, value_parser};
 use keep::LATEST;
@@ -29,6 +29,17 @@ pub fn paths<'a>(alloc: Global, meaning: &'a str) -> Arg<'a>
 {
     Arg::new(alloc, "PATH")
         .required(true)
+        .action(ArgAction::Append)
+        .num_args(1..)
+        .help(meaning)
+}
+
+/// Any number of sources, and what each means.
+pub fn sources<'a>(alloc: Global, meaning: &'a str) -> Arg<'a>
+    ensures rule { rule_of result ≡ source_rule }
+    ensures local { result.global ≡ false }
+{
+    Arg::new(alloc, "SOURCE")
         .action(ArgAction::Append)
         .num_args(1..)
         .help(meaning)
