@@ -19,6 +19,7 @@ COMMANDS = {
     "run": ["--db", "a.db", "--at", "0"],
     "clean": ["--db", "a.db", "--at", "0"],
     "copy": ["--db", "a.db", "--at", "0", "box", "lab", "hello"],
+    "promote": ["--db", "a.db", "--at", "0", "box", "lab"],
     "remove": ["--db", "a.db", "--at", "0", "box", "hello"],
     "show": ["--db", "a.db", "dists/box/Release"],
     "waiting": ["--db", "a.db", "--at", "0"],
@@ -35,11 +36,18 @@ USAGES = {
     "run": "run --db <FILE> --at <N>",
     "clean": "clean --db <FILE> --at <N>",
     "copy": "copy --db <FILE> --at <N> <FROM> <TO> <SOURCE>",
+    "promote": "promote --db <FILE> --at <N> <FROM> <TO> [SOURCE]...",
     "remove": "remove --db <FILE> --at <N> <SUITE> <PACKAGE>",
     "show": "show --db <FILE> <PATH>",
     "waiting": "waiting --db <FILE> --at <N>",
     "verdicts": "verdicts --db <FILE>",
     "serve": "serve .*--db <FILE> --at <N>.* <ADDRESS> <COUNT>",
+}
+
+# Patterns of the usages that have words which may be left out.
+OPEN_USAGES = {
+    "promote": r"promote --db <FILE> --at <N> <FROM> <TO>(?: \[SOURCE\]\.\.\.)?",
+    "serve": r"serve (?:\[OPTIONS\] )?--db <FILE> --at <N> <ADDRESS> <COUNT>",
 }
 
 
@@ -212,8 +220,8 @@ class Help(Words):
                 self.assertRegex(told, rf"(?m)^Usage: archive {self.pattern(command)}$")
 
     def pattern(self, command):
-        """A pattern of a command's usage. Only that of `serve` has options that may be left out."""
-        return r"serve (?:\[OPTIONS\] )?--db <FILE> --at <N> <ADDRESS> <COUNT>" if command == "serve" else re.escape(USAGES[command])
+        """A pattern of a command's usage. Only those of `serve` and `promote` have words that may be left out."""
+        return OPEN_USAGES.get(command, re.escape(USAGES[command]))
 
 
 if __name__ == "__main__":
