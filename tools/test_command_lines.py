@@ -44,12 +44,6 @@ USAGES = {
     "serve": "serve .*--db <FILE> --at <N>.* <ADDRESS> <COUNT>",
 }
 
-# Patterns of the usages that have words which may be left out.
-OPEN_USAGES = {
-    "promote": r"promote --db <FILE> --at <N> <FROM> <TO>(?: \[SOURCE\]\.\.\.)?",
-    "serve": r"serve (?:\[OPTIONS\] )?--db <FILE> --at <N> <ADDRESS> <COUNT>",
-}
-
 
 class Words(Lines):
     def setUp(self):
@@ -220,8 +214,8 @@ class Help(Words):
                 self.assertRegex(told, rf"(?m)^Usage: archive {self.pattern(command)}$")
 
     def pattern(self, command):
-        """A pattern of a command's usage. Only those of `serve` and `promote` have words that may be left out."""
-        return OPEN_USAGES.get(command, re.escape(USAGES[command]))
+        """A pattern of a command's usage. Only that of `serve` has options that may be left out."""
+        return r"serve (?:\[OPTIONS\] )?--db <FILE> --at <N> <ADDRESS> <COUNT>" if command == "serve" else re.escape(USAGES[command])
 
 
 if __name__ == "__main__":
