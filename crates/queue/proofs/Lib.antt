@@ -25,6 +25,7 @@ pub mod DatesCounts
 pub mod SimulationCopies
 pub mod SimulationRemovals
 pub mod PromotionSteps
+pub mod PromotionGroups
 pub mod SimulationPromotions
 pub mod CopyAnswers
 pub mod RemovalAnswers

@@ -15,7 +15,7 @@ use crate::command::{Arrived, Promotion, Report};
 use crate::copy::{copy_plan, only_step, two_suites};
 use crate::delivery::check_delivery;
 use crate::fault::Fault;
-use crate::promotion::{Copied, copied_steps, copy_lines, sources_of};
+use crate::promotion::{Copied, copied_steps, copy_lines, groups_of, sources_of};
 use crate::removal::{place_of, removal_plan};
 use crate::renewal::renewed_texts;
 use crate::report::{verdict_lines, waiting_lines};
@@ -186,6 +186,7 @@ impl<K: Keeper> Archive<K> {
         let (from, to) = two_suites(self.keeper.config(), from, to)?;
         let mut shelves = self.keeper.shelves(alloc)?;
         let sources = sources_of(alloc, &shelves, from, sources)?;
+        let groups = groups_of(alloc, &shelves, from)?;
         let Copied { steps, copies } = copied_steps(
             alloc,
             self.keeper.config(),
@@ -193,6 +194,7 @@ impl<K: Keeper> Archive<K> {
             from,
             to,
             &sources,
+            &groups,
         )?;
         let lines = copy_lines(alloc, &copies)?;
         let texts = renewed_texts(alloc, &mut self.keeper, &shelves, &steps, moment)?;

@@ -60,7 +60,7 @@ fn is_item_of(suite: usize, source: &str, key: &ShelfKey, item: &Item) -> bool
 }
 
 /// Whether a suite, by its position, shows an item of the source package.
-pub fn shows_source(shelves: &Shelves, suite: usize, source: &str) -> bool
+fn shows_source(shelves: &Shelves, suite: usize, source: &str) -> bool
     ensures { result ≡ shows_source shelves.now suite source.now }
 {
     for (key, item) in shelves.items() {

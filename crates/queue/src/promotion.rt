@@ -1,21 +1,21 @@
 //! Promotions: copies of several source packages, or of all that a suite shows, as steps of one change.
 
-ghost use Rattle.std.specs.Prelude.{◌≡◌, ◌<◌, Some, None, IfOk, OnOk, cond, if◌then◌else◌, length, map, nat_eq, string_bytes};
-ghost use Rattle.suites.specs.Plan.{after_copy};
+ghost use Rattle.std.specs.Prelude.{◌≡◌, ◌<◌, ◌==◌, ◌++◌, ◌∷◌, [], ℕ, List, false, Some, None, IfOk, OnOk, bytes_eq, cond, if◌then◌else◌, length, map, nat_eq, not, string_bytes};
+ghost use Rattle.std.specs.BTreeMap.{get_by_text};
+ghost use Rattle.suites.specs.Plan.{after_copy, shelves_of};
 ghost use Rattle.suites.specs.Shelves.{AreSound};
 ghost use Rattle.suites.specs.Told.{AreTold};
 ghost use Rattle.queue.specs.Answers.{copy_line, line_on_copy};
 ghost use Rattle.queue.specs.Archives.{each_once, with_name};
 ghost use Rattle.queue.specs.Commands.{copy_of, names_given};
-ghost use Rattle.queue.specs.Promotions.{AreCopied, IsCopyStep, after_copies, copies_on, sources_from, sources_on};
+ghost use Rattle.queue.specs.Promotions.{AreCopied, IsCopyStep, after_copies, copies_on, keys_in, sources_from, sources_on};
 
 use crate::command::SourceCopy;
-use crate::copy::shows_source;
 use keep::Step;
 use rules::Config;
 use std::alloc::{AllocError, Global};
-use std::collections::BTreeSet;
-use suites::{ShelfKey, Shelves, plan_copy};
+use std::collections::{BTreeMap, BTreeSet};
+use suites::{ShelfKey, Shelves, plan_copy_of};
 
 /// Adds a name to a set of names.
 fn add_name(alloc: Global, names: &mut BTreeSet<String>, name: &str) -> Result<(), AllocError>
@@ -110,8 +110,88 @@ pub fn sources_of(
     }
 }
 
+/// Takes the shelves of a source package out of the groups.
+fn take_keys(
+    alloc: Global,
+    groups: &mut BTreeMap<String, Vec<ShelfKey>>,
+    source: &str,
+) -> Vec<ShelfKey>
+    ensures keys { result.items ≡ keys_in (get_by_text groups.old source.now) }
+    ensures others { (q : List ℕ) → bytes_eq source.now q ≡ false → get_by_text groups.new q ≡ get_by_text groups.old q }
+{
+    match groups.remove(source) {
+        Some(keys) => keys,
+        None => Vec::new(alloc),
+    }
+}
+
+/// Adds a shelf to those of a source package.
+fn add_key(
+    alloc: Global,
+    groups: &mut BTreeMap<String, Vec<ShelfKey>>,
+    source: &str,
+    key: &ShelfKey,
+) -> Result<(), AllocError>
+    ensures { OnOk result ((q : List ℕ) → keys_in (get_by_text groups.new q) ≡ keys_in (get_by_text groups.old q) ++ cond (bytes_eq source.now q) (key.now ∷ []) []) }
+{
+    let mut keys = take_keys(alloc, groups, source);
+    keys.push(key.try_clone()?)?;
+    let owned = String::from_str(alloc, source)?;
+    groups.insert(owned, keys)?;
+    Ok(())
+}
+
+/// Adds a shelf to those of a source package, if it passes.
+fn add_key_if(
+    alloc: Global,
+    groups: &mut BTreeMap<String, Vec<ShelfKey>>,
+    passes: bool,
+    source: &str,
+    key: &ShelfKey,
+) -> Result<(), AllocError>
+    ensures { OnOk result ((q : List ℕ) → keys_in (get_by_text groups.new q) ≡ cond passes (keys_in (get_by_text groups.old q) ++ cond (bytes_eq source.now q) (key.now ∷ []) []) (keys_in (get_by_text groups.old q))) }
+{
+    if passes {
+        add_key(alloc, groups, source, key)?;
+    }
+    Ok(())
+}
+
+/// The shelves of a suite, by its position, in groups: for each source package those of its items, in their order.
+pub fn groups_of(
+    alloc: Global,
+    shelves: &Shelves,
+    suite: usize,
+) -> Result<BTreeMap<String, Vec<ShelfKey>>, AllocError>
+    ensures { IfOk result (λ groups. (q : List ℕ) → keys_in (get_by_text groups q) ≡ shelves_of shelves.now suite q) }
+{
+    let mut groups = BTreeMap::new(alloc);
+    for (key, item) in shelves.items() {
+        let is_shown = is_in(suite, key);
+        add_key_if(alloc, &mut groups, is_shown, item.source.as_str(), key)?;
+    }
+    Ok(groups)
+}
+
+/// The shelves of a source package.
+fn keys_of<'g>(groups: &'g BTreeMap<String, Vec<ShelfKey>>, source: &str) -> &'g [ShelfKey]
+    ensures { result.now ≡ keys_in (get_by_text groups.now source.now) }
+{
+    match groups.get(source) {
+        Some(keys) => keys.as_slice(),
+        None => &[],
+    }
+}
+
+/// Whether there is a shelf.
+fn is_any(keys: &[ShelfKey]) -> bool
+    ensures { result ≡ not (length keys.now == 0) }
+{
+    !keys.is_empty()
+}
+
 /// The step of a copy of the items of a source package between two suites, by their positions, made on the shelves. Where the
-/// first shows none it changes nothing.
+/// first shows none it changes nothing. The items stand on these shelves.
 fn copy_step(
     alloc: Global,
     config: &Config,
@@ -119,14 +199,16 @@ fn copy_step(
     from: usize,
     to: usize,
     source: &str,
+    keys: &[ShelfKey],
 ) -> Result<Step, AllocError>
     requires from { from < length config.now.suites }
     requires to { to < length config.now.suites }
+    requires keys { keys.now ≡ shelves_of shelves.old from source.now }
     ensures step { IfOk result (IsCopyStep config.now shelves.old from to source.now) }
     ensures shelves { OnOk result (shelves.new ≡ after_copy config.now shelves.old from to source.now) }
     ensures told { AreTold config.now.suites shelves.old → AreTold config.now.suites (after_copy config.now shelves.old from to source.now) }
 {
-    let plan = plan_copy(alloc, config, shelves, from, to, source)?;
+    let plan = plan_copy_of(alloc, config, shelves, from, to, source, keys)?;
     shelves.apply(alloc, &plan)?;
     Ok(Step {
         judgement: None,
@@ -152,8 +234,8 @@ pub struct Copied {
     pub copies: Vec<SourceCopy>,
 }
 
-/// Copies the items of each source package in turn between two suites, by their positions, each from the shelves as those
-/// before it left them.
+/// Copies the items of each source package in turn from a suite to another, by their positions, each from the shelves as those
+/// before it left them. The groups are the shelves of the first suite, of which a copy changes none.
 pub fn copied_steps(
     alloc: Global,
     config: &Config,
@@ -161,9 +243,12 @@ pub fn copied_steps(
     from: usize,
     to: usize,
     sources: &[String],
+    groups: &BTreeMap<String, Vec<ShelfKey>>,
 ) -> Result<Copied, AllocError>
     requires from { from < length config.now.suites }
     requires to { to < length config.now.suites }
+    requires other { nat_eq from to ≡ false }
+    requires groups { (q : List ℕ) → keys_in (get_by_text groups.now q) ≡ shelves_of shelves.old from q }
     ensures steps { IfOk result (λ copied. AreCopied config.now from to shelves.old (map string_bytes sources.now) copied.steps.items) }
     ensures copies { IfOk result (λ copied. map copy_of copied.copies.items ≡ copies_on config.now from to shelves.old (map string_bytes sources.now) copied.steps.items) }
     ensures shelves { OnOk result (shelves.new ≡ after_copies config.now from to shelves.old (map string_bytes sources.now)) }
@@ -177,8 +262,9 @@ pub fn copied_steps(
     let mut copies = Vec::new(alloc);
     for source in sources {
         let name = source.as_str();
-        let is_shown = shows_source(shelves, from, name);
-        let step = copy_step(alloc, config, shelves, from, to, name)?;
+        let keys = keys_of(groups, name);
+        let is_shown = is_any(keys);
+        let step = copy_step(alloc, config, shelves, from, to, name, keys)?;
         let items = items_of(is_shown, &step);
         let copy = SourceCopy {
             source: String::from_str(alloc, name)?,

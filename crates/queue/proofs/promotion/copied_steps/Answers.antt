@@ -1,17 +1,23 @@
-use Rattle.std.proofs.Common.{◌≡◌, ℕ, take, ◌+◌, List, [], ◌∷◌, ◌++◌, map, Some, None, length, if◌then◌else◌, sym, ap, subst, ◌∙◌}
+use Rattle.std.proofs.Common.{◌≡◌, ◌==◌, not, ℕ, take, ◌+◌, List, [], ◌∷◌, ◌++◌, map, Some, None, length, if◌then◌else◌, sym, ap, subst, ◌∙◌}
 use Rattle.std.specs.String.{string_bytes}
 use Rattle.std.proofs.lemmas.Grind.{fold-append}
 use Rattle.std.proofs.lemmas.List.{map-append, take_more}
 use Rattle.keep.specs.declared.change.Step.{Step}
-use Rattle.suites.specs.Plan.{after_copy}
+use Rattle.suites.specs.Plan.{after_copy, shelves_of}
 use Rattle.suites.specs.Shelves.{ShelvesValue}
 use Rattle.suites.specs.Told.{AreTold}
+use Rattle.suites.specs.declared.key.ShelfKey.{ShelfKey}
 use Rattle.queue.specs.Commands.{copy_of}
 use Rattle.queue.specs.Copies.{shows_source}
 use Rattle.queue.specs.Promotions.{AreCopied, IsCopyStep, after_copies, copies_on, items_put}
 use Rattle.queue.specs.declared.command.SourceCopy.{SourceCopy}
+use Rattle.queue.proofs.PromotionGroups.{group_stays, shown_by_shelves}
 use Rattle.queue.proofs.PromotionSteps.{copied-push, copies-push}
 use Rattle.queue.proofs.promotion.copied_steps.Goals as goal
+
+pub copy_step-requires-clause-keys : goal.copy_step-requires-clause-keys
+copy_step-requires-clause-keys c =
+    c.keys_of-keys.ensures ∙ c.requires.groups c.as_str-name.result.now ∙ sym (c.loop-source.invariant.same c.as_str-name.result.now)
 
 pub loop-source-preserved : goal.loop-source-preserved
 loop-source-preserved c =
@@ -38,8 +44,11 @@ loop-source-preserved c =
     fold-append (λ (m : ShelvesValue) (n : List ℕ). after_copy config m from to n) before ss (s ∷ []) in
     let after : after_copy config c.loop-source.shelves from to c.as_str-name.result.now ≡ after_copies config from to before (map string_bytes (take (i + 1) c.args.sources.now)) =
     (λ k. after_copy config (is_now k) from to (named k)) ∙ sym pushed ∙ ap (after_copies config from to before) (sym more) in
-    let shown : c.shows_source-is_shown.result ≡ shows_source now from s =
-    c.shows_source-is_shown.ensures ∙ (λ k. shows_source (is_now k) from (named k)) in
+    let keys_are : c.keys_of-keys.result.now ≡ shelves_of c.loop-source.shelves from c.as_str-name.result.now =
+    c.keys_of-keys.ensures ∙ c.requires.groups c.as_str-name.result.now ∙ sym (c.loop-source.invariant.same c.as_str-name.result.now) in
+    let shown : c.is_any-is_shown.result ≡ shows_source now from s =
+    c.is_any-is_shown.ensures ∙ ap (λ (keys : List ShelfKey). not (length keys == 0)) keys_are ∙ shown_by_shelves c.loop-source.shelves from c.as_str-name.result.now
+    ∙ (λ k. shows_source (is_now k) from (named k)) in
     let items : c.items_of-items.result ≡ items_put now from s step =
     c.items_of-items.ensures ∙ ap (λ b. if b then Some (length step.plan.put) else None) shown in
     let text : string_bytes c.in_ok-from_str.field-0 ≡ s = c.in_ok-from_str.ensures.ok ∙ named in
@@ -55,6 +64,9 @@ loop-source-preserved c =
           ∙ ap (copies_on config from to before (ss ++ s ∷ [])) (sym c.in_ok-push-2.ensures.items)
           ∙ ap (λ names. copies_on config from to before names c.push-2.new.self.items) (sym more);
       shelves = c.in_ok-step.ensures.shelves ∙ after;
+      same = λ q. ap (λ (m : ShelvesValue). shelves_of m from q) c.in_ok-step.ensures.shelves
+          ∙ group_stays config c.loop-source.shelves from to c.as_str-name.result.now q c.requires.other
+          ∙ c.loop-source.invariant.same q;
       told = λ told. subst (AreTold config.suites) after
           (c.in_ok-step.ensures.told (subst (AreTold config.suites) (sym is_now) (c.loop-source.invariant.told told)));
     }

@@ -63,6 +63,23 @@ returns-in_err-sources-clause-refused g c =
     let p = err_from_is_err_and c.from_residual-in_err-sources.result c.from_residual-in_err-sources.ensures.1 in
     rw p.1 (inr (memory_own g.K.Keeper.may_fail (is_free_copy (g.K.Keeper.book c.args.self.now.keeper).config c.args.from.now c.args.to.now c.args.moment ≡ true) p.0 p.2))
 
+pub returns-in_err-groups-clause-step : goal.returns-in_err-groups-clause-step
+returns-in_err-groups-clause-step g c h kept faithful clean =
+    let p = err_from_is_err_and c.from_residual-in_err-groups.result c.from_residual-in_err-groups.ensures.1 in
+    rw p.1 (memory_step g.K.Keeper.may_fail h (Promoting c.args.from.now c.args.to.now (names_given c.args.sources.now) c.args.moment) p.0 _ _ _ _ p.2 kept
+    (same_by c.in_ok-shelves.ensures.reads.lasts clean c.in_ok-shelves.ensures.reads.same))
+
+pub returns-in_err-groups-clause-refused : goal.returns-in_err-groups-clause-refused
+returns-in_err-groups-clause-refused g c =
+    let p = err_from_is_err_and c.from_residual-in_err-groups.result c.from_residual-in_err-groups.ensures.1 in
+    rw p.1 (inr (memory_own g.K.Keeper.may_fail (is_free_copy (g.K.Keeper.book c.args.self.now.keeper).config c.args.from.now c.args.to.now c.args.moment ≡ true) p.0 p.2))
+
+pub copied_steps-requires-clause-other : goal.copied_steps-requires-clause-other
+copied_steps-requires-clause-other g c = c.in_ok-from.ensures.suites.other
+
+pub copied_steps-requires-clause-groups : goal.copied_steps-requires-clause-groups
+copied_steps-requires-clause-groups g c = c.in_ok-groups.ensures
+
 pub copied_steps-requires-clause-from : goal.copied_steps-requires-clause-from
 copied_steps-requires-clause-from g c =
     subst (λ (config : ConfigValue). c.in_ok-from.from < length config.suites)
@@ -188,6 +205,9 @@ returns-in_err-shelves-clause-crash g c h kept faithful clean left may = inl (c.
 
 pub returns-in_err-sources-clause-crash : goal.returns-in_err-sources-clause-crash
 returns-in_err-sources-clause-crash g c h kept faithful clean left may = inl (c.in_ok-shelves.ensures.reads.crash clean left may)
+
+pub returns-in_err-groups-clause-crash : goal.returns-in_err-groups-clause-crash
+returns-in_err-groups-clause-crash g c h kept faithful clean left may = inl (c.in_ok-shelves.ensures.reads.crash clean left may)
 
 pub returns-in_err-steps-clause-crash : goal.returns-in_err-steps-clause-crash
 returns-in_err-steps-clause-crash g c h kept faithful clean left may = inl (c.in_ok-shelves.ensures.reads.crash clean left may)
