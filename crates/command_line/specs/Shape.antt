@@ -12,20 +12,16 @@ use Rattle.command_line.specs.CommandLines.{most_connections}
 abbrev pub word_rule : Text → Rule
 word_rule name = record (new_rule name) { required = true; action = Some Set }
 
--- one or more words
-abbrev pub path_rule : Rule
-path_rule = record (new_rule (codes "PATH")) {
-  required = true;
+-- any number of words, which may be left out
+abbrev pub many_rule : Text → Rule
+many_rule name = record (new_rule name) {
   action = Some Append;
   range = Some (record { start_inclusive = 1; end_inclusive = 18446744073709551615 });
 }
 
--- any number of words, which may be left out
-abbrev pub source_rule : Rule
-source_rule = record (new_rule (codes "SOURCE")) {
-  action = Some Append;
-  range = Some (record { start_inclusive = 1; end_inclusive = 18446744073709551615 });
-}
+-- one or more words
+abbrev pub path_rule : Rule
+path_rule = record (many_rule (codes "PATH")) { required = true }
 
 -- --db FILE
 abbrev pub db_rule : Rule
@@ -74,7 +70,7 @@ copy_app =
 abbrev pub promote_app : App
 promote_app =
     with_rule (with_rule (with_rule (timed_app (codes "promote")) (word_rule (codes "FROM"))) (word_rule (codes "TO")))
-    source_rule
+    (many_rule (codes "SOURCE"))
 
 abbrev pub remove_app : App
 remove_app = with_rule (with_rule (timed_app (codes "remove")) (word_rule (codes "SUITE"))) (word_rule (codes "PACKAGE"))

@@ -4,7 +4,7 @@ ghost use Rattle.std.specs.Prelude.{IfOk, codes};
 ghost use Rattle.clap.specs.Words.{App, with_rule, with_subcommand};
 ghost use Rattle.command_line.specs.Shape.{archive_app, new_archive, IsCommand, try_app, compare_app, init_app, put_app, db_app, timed_app, copy_app, promote_app, remove_app, show_app, serve_app, word_rule, moments_rule, log_rule, with_changes, with_questions};
 
-use crate::arguments::{at, count, db, log, moments, paths, sources, word};
+use crate::arguments::{at, count, db, log, many, moments, paths, word};
 use crate::version::VERSION;
 use clap::Command;
 use std::alloc::{AllocError, Global};
@@ -120,8 +120,9 @@ fn promote_command<'a>(alloc: Global) -> Result<Command<'a>, AllocError>
         "The suite that shows them",
     )?
     .arg(word(alloc, "TO", "The suite that is to show them"))?
-    .arg(sources(
+    .arg(many(
         alloc,
+        "SOURCE",
         "The name of a source; without one, all that FROM shows",
     ))
 }

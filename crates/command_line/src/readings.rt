@@ -71,11 +71,13 @@ fn read_copy<'a>(alloc: Global, found: &ArgMatches<'a>) -> Result<CommandLine<'a
 fn read_promote<'a>(alloc: Global, found: &ArgMatches<'a>) -> Result<CommandLine<'a>, LineFault>
     ensures { IfOk result (IsLine (Some (codes "promote", rows_of (found_of found.now)))) }
 {
+    let from = required(alloc, found, "FROM")?;
+    let to = required(alloc, found, "TO")?;
     Ok(CommandLine::Promote {
         db: required(alloc, found, "db")?,
         at: moment(alloc, found)?,
-        from: required(alloc, found, "FROM")?,
-        to: required(alloc, found, "TO")?,
+        from,
+        to,
         sources: sources(alloc, found)?,
     })
 }

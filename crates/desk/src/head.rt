@@ -295,10 +295,11 @@ fn read_route(
             suite: decode_param(alloc, params, "suite")?,
             name: decode_param(alloc, params, "package")?,
         }),
-        Route::Promote => Ok(Wanted::Promote {
-            from: decode_param(alloc, params, "from")?,
-            to: decode_param(alloc, params, "to")?,
-        }),
+        Route::Promote => {
+            let from = decode_param(alloc, params, "from")?;
+            let to = decode_param(alloc, params, "to")?;
+            Ok(Wanted::Promote { from, to })
+        }
     }
 }
 

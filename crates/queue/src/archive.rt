@@ -187,7 +187,7 @@ impl<K: Keeper> Archive<K> {
         let mut shelves = self.keeper.shelves(alloc)?;
         let sources = sources_of(alloc, &shelves, from, sources)?;
         let groups = groups_of(alloc, &shelves, from)?;
-        let Copied { steps, copies } = copied_steps(
+        let Copied { made, copies } = copied_steps(
             alloc,
             self.keeper.config(),
             &mut shelves,
@@ -197,10 +197,10 @@ impl<K: Keeper> Archive<K> {
             &groups,
         )?;
         let lines = copy_lines(alloc, &copies)?;
-        let texts = renewed_texts(alloc, &mut self.keeper, &shelves, &steps, moment)?;
+        let texts = renewed_texts(alloc, &mut self.keeper, &shelves, &made, moment)?;
         let change = Change {
             moment,
-            steps: Listed::from_vec(steps),
+            steps: Listed::from_vec(made),
             texts: Listed::from_vec(texts),
         };
         self.keeper.apply(alloc, &change)?;

@@ -100,12 +100,12 @@ pub fn sources_of(
 {
     match sources {
         Some(sources) => {
-            let names = in_order(alloc, sources)?;
-            listed(alloc, names)
+            let named = in_order(alloc, sources)?;
+            listed(alloc, named)
         }
         None => {
-            let names = shown_sources(alloc, shelves, from)?;
-            listed(alloc, names)
+            let shown = shown_sources(alloc, shelves, from)?;
+            listed(alloc, shown)
         }
     }
 }
@@ -230,7 +230,7 @@ fn items_of(is_shown: bool, step: &Step) -> Option<u64>
 /// The steps of copies, and what each copy answers.
 #[derive(Drop)]
 pub struct Copied {
-    pub steps: Vec<Step>,
+    pub made: Vec<Step>,
     pub copies: Vec<SourceCopy>,
 }
 
@@ -249,8 +249,8 @@ pub fn copied_steps(
     requires to { to < length config.now.suites }
     requires other { nat_eq from to ≡ false }
     requires groups { (q : List ℕ) → keys_in (get_by_text groups.now q) ≡ shelves_of shelves.old from q }
-    ensures steps { IfOk result (λ copied. AreCopied config.now from to shelves.old (map string_bytes sources.now) copied.steps.items) }
-    ensures copies { IfOk result (λ copied. map copy_of copied.copies.items ≡ copies_on config.now from to shelves.old (map string_bytes sources.now) copied.steps.items) }
+    ensures steps { IfOk result (λ copied. AreCopied config.now from to shelves.old (map string_bytes sources.now) copied.made.items) }
+    ensures copies { IfOk result (λ copied. map copy_of copied.copies.items ≡ copies_on config.now from to shelves.old (map string_bytes sources.now) copied.made.items) }
     ensures shelves { OnOk result (shelves.new ≡ after_copies config.now from to shelves.old (map string_bytes sources.now)) }
     ensures sound { AreSound shelves.old }
     // What records tell of all that is shown stays so.
@@ -273,7 +273,10 @@ pub fn copied_steps(
         copies.push(copy)?;
         steps.push(step)?;
     }
-    Ok(Copied { steps, copies })
+    Ok(Copied {
+        made: steps,
+        copies,
+    })
 }
 
 /// A line on a copy: `COUNT SOURCE`, or `refused Q8 SOURCE` where nothing is shown of the source package.

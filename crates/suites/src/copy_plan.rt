@@ -90,9 +90,9 @@ pub fn plan_copy(
 fn is_kept(target: &Suite, item: &Item) -> bool
     ensures { result ≡ (keeps_component target.now item.now.component && keeps_architecture target.now item.now.architecture) }
 {
-    let keeps_component = target.keeps_component(item.component.as_str());
-    let keeps_architecture = target.keeps_architecture(item.architecture.as_str());
-    keeps_component && keeps_architecture
+    let has_component = target.keeps_component(item.component.as_str());
+    let has_architecture = target.keeps_architecture(item.architecture.as_str());
+    has_component && has_architecture
 }
 
 /// Adds a copy of the item on a shelf, if the target keeps it.
@@ -153,6 +153,6 @@ pub fn plan_copy_of(
     // For the prover alone: the shelves are sound.
     shelves.agree();
     let target = &config.suites()[to];
-    let items = kept_items(alloc, shelves, target, keys)?;
-    plan_admission(alloc, shelves, to, items)
+    let kept = kept_items(alloc, shelves, target, keys)?;
+    plan_admission(alloc, shelves, to, kept)
 }

@@ -15,8 +15,8 @@ use Rattle.suites.proofs.copy_plan.plan_copy_of.Goals as goal
 pub plan_admission-requires : goal.plan_admission-requires
 plan_admission-requires c =
     let target = c.index-suites-to.result in
-    let are : c.in_ok-items.items.items ≡ taken c.args.shelves.now c.args.from c.args.to c.args.source.now target =
-    c.in_ok-items.ensures ∙ ap (flat_map (λ key. kept_by target (get c.args.shelves.now key))) c.requires.keys ∙ kept-taken c.args.shelves.now c.args.from c.args.source.now target in
+    let are : c.in_ok-kept.kept.items ≡ taken c.args.shelves.now c.args.from c.args.to c.args.source.now target =
+    c.in_ok-kept.ensures ∙ ap (flat_map (λ key. kept_by target (get c.args.shelves.now key))) c.requires.keys ∙ kept-taken c.args.shelves.now c.args.from c.args.source.now target in
     subst (λ (items : List Item). MayJoin c.args.shelves.now (map (standing c.args.to) items)) (sym are)
     (copies_join c.args.shelves.now c.args.from c.args.to c.args.source.now target c.agree.ensures)
 
@@ -25,16 +25,16 @@ returns-clause-step c =
     let within : c.args.to < length c.suites.result.now = omega (arith, c.requires.to, ap length c.suites.ensures) in
     let target = ap (λ suites. slice_get suites c.args.to) (sym c.suites.ensures)
     ∙ slice_get_read c.suites.result.now (length c.suites.result.now) c.args.to c.index-suites-to.result refl within c.index-suites-to.is in
-    let are : c.in_ok-items.items.items ≡ taken c.args.shelves.now c.args.from c.args.to c.args.source.now c.index-suites-to.result =
-    c.in_ok-items.ensures ∙ ap (flat_map (λ key. kept_by c.index-suites-to.result (get c.args.shelves.now key))) c.requires.keys
+    let are : c.in_ok-kept.kept.items ≡ taken c.args.shelves.now c.args.from c.args.to c.args.source.now c.index-suites-to.result =
+    c.in_ok-kept.ensures ∙ ap (flat_map (λ key. kept_by c.index-suites-to.result (get c.args.shelves.now key))) c.requires.keys
     ∙ kept-taken c.args.shelves.now c.args.from c.args.source.now c.index-suites-to.result in
     subst (λ (items : List (ShelfKey × Item)). IfOk c.plan_admission.result (IsStep c.args.shelves.now (shown_after version_of c.args.shelves.now items)))
     (ap (map (standing c.args.to)) are
     ∙ sym (copied-is c.args.shelves.now c.args.from c.args.to c.args.source.now c.index-suites-to.result c.args.config.now target))
     c.plan_admission.ensures.step
 
-pub returns-in_err-items-clause-told : goal.returns-in_err-items-clause-told
-returns-in_err-items-clause-told c = told_after_copy c.args.config.now c.args.shelves.now c.args.from c.args.to c.args.source.now
+pub returns-in_err-kept-clause-told : goal.returns-in_err-kept-clause-told
+returns-in_err-kept-clause-told c = told_after_copy c.args.config.now c.args.shelves.now c.args.from c.args.to c.args.source.now
 
 pub returns-clause-told : goal.returns-clause-told
 returns-clause-told c = told_after_copy c.args.config.now c.args.shelves.now c.args.from c.args.to c.args.source.now

@@ -92,15 +92,15 @@ copied_steps-requires-clause-to g c =
     (c.config.ensures ∙ sym c.in_ok-shelves.ensures.reads.lasts.config ∙ sym c.config-2.ensures)
     (named_place c.config.result.now c.args.to.now c.in_ok-from.to c.in_ok-from.ensures.suites.to_named)
 
-pub returns-in_err-steps-clause-step : goal.returns-in_err-steps-clause-step
-returns-in_err-steps-clause-step g c h kept faithful clean =
-    let p = err_from_is_err_and c.from_residual-in_err-steps.result c.from_residual-in_err-steps.ensures.1 in
+pub returns-in_err-made-clause-step : goal.returns-in_err-made-clause-step
+returns-in_err-made-clause-step g c h kept faithful clean =
+    let p = err_from_is_err_and c.from_residual-in_err-made.result c.from_residual-in_err-made.ensures.1 in
     rw p.1 (memory_step g.K.Keeper.may_fail h (Promoting c.args.from.now c.args.to.now (names_given c.args.sources.now) c.args.moment) p.0 _ _ _ _ p.2 kept
     (same_by c.in_ok-shelves.ensures.reads.lasts clean c.in_ok-shelves.ensures.reads.same))
 
-pub returns-in_err-steps-clause-refused : goal.returns-in_err-steps-clause-refused
-returns-in_err-steps-clause-refused g c =
-    let p = err_from_is_err_and c.from_residual-in_err-steps.result c.from_residual-in_err-steps.ensures.1 in
+pub returns-in_err-made-clause-refused : goal.returns-in_err-made-clause-refused
+returns-in_err-made-clause-refused g c =
+    let p = err_from_is_err_and c.from_residual-in_err-made.result c.from_residual-in_err-made.ensures.1 in
     rw p.1 (inr (memory_own g.K.Keeper.may_fail (is_free_copy (g.K.Keeper.book c.args.self.now.keeper).config c.args.from.now c.args.to.now c.args.moment ≡ true) p.0 p.2))
 
 pub returns-in_err-lines-clause-step : goal.returns-in_err-lines-clause-step
@@ -143,13 +143,13 @@ apply-requires-clause-sound g c clean up =
     let is_shown = c.in_ok-shelves.ensures.shelves clean_then in
     let names = map string_bytes c.deref.result.now in
     sound_promotion c.args.moment old now c.config-2.result.now c.in_ok-shelves.shelves c.in_ok-from.from c.in_ok-from.to
-    names c.in_ok-steps.steps.items c.from_vec.result c.from_vec-2.result
-    (reads.same clean up ∙ same) (c.config-2.ensures ∙ sym reads.lasts.config) is_shown c.from_vec.ensures c.in_ok-steps.ensures.steps c.in_ok-steps.ensures.told
+    names c.in_ok-made.made.items c.from_vec.result c.from_vec-2.result
+    (reads.same clean up ∙ same) (c.config-2.ensures ∙ sym reads.lasts.config) is_shown c.from_vec.ensures c.in_ok-made.ensures.steps c.in_ok-made.ensures.told
     (renewed_change c.args.moment then now c.copied_steps.new.shelves c.deref-3.result.now c.from_vec.result c.in_ok-texts.texts.items c.from_vec-2.result
     (reads.same clean up) (c.from_vec.ensures ∙ sym c.deref-3.ensures.value) c.from_vec-2.ensures
     (c.in_ok-texts.ensures.renewed clean)
-    (promotion_steps old then c.config-2.result.now c.in_ok-shelves.shelves c.in_ok-from.from c.in_ok-from.to names c.in_ok-steps.steps.items c.deref-3.result.now same is_shown c.deref-3.ensures.value c.in_ok-steps.ensures.steps)
-    (promotion_past old then c.config-2.result.now c.in_ok-shelves.shelves c.copied_steps.new.shelves c.in_ok-from.from c.in_ok-from.to names c.in_ok-steps.steps.items c.deref-3.result.now same is_shown c.deref-3.ensures.value c.in_ok-steps.ensures.steps c.in_ok-steps.ensures.shelves))
+    (promotion_steps old then c.config-2.result.now c.in_ok-shelves.shelves c.in_ok-from.from c.in_ok-from.to names c.in_ok-made.made.items c.deref-3.result.now same is_shown c.deref-3.ensures.value c.in_ok-made.ensures.steps)
+    (promotion_past old then c.config-2.result.now c.in_ok-shelves.shelves c.copied_steps.new.shelves c.in_ok-from.from c.in_ok-from.to names c.in_ok-made.made.items c.deref-3.result.now same is_shown c.deref-3.ensures.value c.in_ok-made.ensures.steps c.in_ok-made.ensures.shelves))
 
 pub returns-in_err-apply-clause-step : goal.returns-in_err-apply-clause-step
 returns-in_err-apply-clause-step g c h kept faithful clean =
@@ -177,14 +177,14 @@ returns-clause-step g c h kept faithful clean =
     let clean_then = reads.lasts.clean clean_now in
     let up_then = reads.lasts.was_open clean_now up_now in
     done_promotion g.K.Keeper.may_fail h c.args.from.now c.args.to.now (names_given c.args.sources.now) c.args.moment c.in_ok-from.from c.in_ok-from.to
-    (g.K.Keeper.book c.args.self.now.keeper) (g.K.Keeper.book c.renewed_texts.new.keeper) c.config-2.result.now c.in_ok-shelves.shelves (map string_bytes c.deref.result.now) c.in_ok-steps.steps.items c.from_vec.result c.from_vec-2.result
+    (g.K.Keeper.book c.args.self.now.keeper) (g.K.Keeper.book c.renewed_texts.new.keeper) c.config-2.result.now c.in_ok-shelves.shelves (map string_bytes c.deref.result.now) c.in_ok-made.made.items c.from_vec.result c.from_vec-2.result
     (kept.stands (c.in_ok-shelves.ensures.reads.lasts.was_open clean_then up_then)) faithful c.if-moment-gt-LATEST.false
     (reads.same clean_now up_now ∙ c.in_ok-shelves.ensures.reads.same clean_then up_then) (c.in_ok-shelves.ensures.shelves clean_then) c.from_vec.ensures
     (subst (λ config. AreSuites config c.args.from.now c.args.to.now c.in_ok-from.from c.in_ok-from.to) c.config.ensures c.in_ok-from.ensures.suites)
     (c.config-2.ensures ∙ sym reads.lasts.config)
     (ap (map string_bytes) c.deref.ensures.value ∙ c.in_ok-sources.ensures)
-    c.in_ok-steps.ensures.sound c.in_ok-steps.ensures.steps
-    _ (g.K.Keeper.book c.apply.new.self) (map copy_of c.in_ok-steps.copies.items) (c.in_ok-apply.ensures.ok clean) c.in_ok-steps.ensures.copies
+    c.in_ok-made.ensures.sound c.in_ok-made.ensures.steps
+    _ (g.K.Keeper.book c.apply.new.self) (map copy_of c.in_ok-made.copies.items) (c.in_ok-apply.ensures.ok clean) c.in_ok-made.ensures.copies
 
 pub returns-clause-lines : goal.returns-clause-lines
 returns-clause-lines g c = c.in_ok-lines.ensures ∙ ap (λ copies. map copy_line (map copy_of copies)) c.deref-2.ensures.value
@@ -209,8 +209,8 @@ returns-in_err-sources-clause-crash g c h kept faithful clean left may = inl (c.
 pub returns-in_err-groups-clause-crash : goal.returns-in_err-groups-clause-crash
 returns-in_err-groups-clause-crash g c h kept faithful clean left may = inl (c.in_ok-shelves.ensures.reads.crash clean left may)
 
-pub returns-in_err-steps-clause-crash : goal.returns-in_err-steps-clause-crash
-returns-in_err-steps-clause-crash g c h kept faithful clean left may = inl (c.in_ok-shelves.ensures.reads.crash clean left may)
+pub returns-in_err-made-clause-crash : goal.returns-in_err-made-clause-crash
+returns-in_err-made-clause-crash g c h kept faithful clean left may = inl (c.in_ok-shelves.ensures.reads.crash clean left may)
 
 pub returns-in_err-lines-clause-crash : goal.returns-in_err-lines-clause-crash
 returns-in_err-lines-clause-crash g c h kept faithful clean left may = inl (c.in_ok-shelves.ensures.reads.crash clean left may)
@@ -230,13 +230,13 @@ returns-in_err-apply-clause-crash g c h kept faithful clean left may =
       | inr made ↦
           let up_then = reads.lasts.was_open clean_now made.0 in
           inr (left_promotion g.K.Keeper.may_fail h c.args.from.now c.args.to.now (names_given c.args.sources.now) c.args.moment c.in_ok-from.from c.in_ok-from.to
-          (g.K.Keeper.book c.args.self.now.keeper) (g.K.Keeper.book c.renewed_texts.new.keeper) c.config-2.result.now c.in_ok-shelves.shelves (map string_bytes c.deref.result.now) c.in_ok-steps.steps.items c.from_vec.result c.from_vec-2.result
+          (g.K.Keeper.book c.args.self.now.keeper) (g.K.Keeper.book c.renewed_texts.new.keeper) c.config-2.result.now c.in_ok-shelves.shelves (map string_bytes c.deref.result.now) c.in_ok-made.made.items c.from_vec.result c.from_vec-2.result
           (kept.stands (c.in_ok-shelves.ensures.reads.lasts.was_open clean_then up_then)) faithful c.if-moment-gt-LATEST.false
           (reads.same clean_now made.0 ∙ c.in_ok-shelves.ensures.reads.same clean_then up_then) (c.in_ok-shelves.ensures.shelves clean_then) c.from_vec.ensures
           (subst (λ config. AreSuites config c.args.from.now c.args.to.now c.in_ok-from.from c.in_ok-from.to) c.config.ensures c.in_ok-from.ensures.suites)
           (c.config-2.ensures ∙ sym reads.lasts.config)
           (ap (map string_bytes) c.deref.ensures.value ∙ c.in_ok-sources.ensures)
-          c.in_ok-steps.ensures.sound c.in_ok-steps.ensures.steps
+          c.in_ok-made.ensures.sound c.in_ok-made.ensures.steps
           left made.1)
     ]
 
@@ -250,12 +250,12 @@ returns-clause-crash g c h kept faithful clean left may =
       | inr made ↦
           let up_then = reads.lasts.was_open clean_now made.0 in
           inr (left_promotion g.K.Keeper.may_fail h c.args.from.now c.args.to.now (names_given c.args.sources.now) c.args.moment c.in_ok-from.from c.in_ok-from.to
-          (g.K.Keeper.book c.args.self.now.keeper) (g.K.Keeper.book c.renewed_texts.new.keeper) c.config-2.result.now c.in_ok-shelves.shelves (map string_bytes c.deref.result.now) c.in_ok-steps.steps.items c.from_vec.result c.from_vec-2.result
+          (g.K.Keeper.book c.args.self.now.keeper) (g.K.Keeper.book c.renewed_texts.new.keeper) c.config-2.result.now c.in_ok-shelves.shelves (map string_bytes c.deref.result.now) c.in_ok-made.made.items c.from_vec.result c.from_vec-2.result
           (kept.stands (c.in_ok-shelves.ensures.reads.lasts.was_open clean_then up_then)) faithful c.if-moment-gt-LATEST.false
           (reads.same clean_now made.0 ∙ c.in_ok-shelves.ensures.reads.same clean_then up_then) (c.in_ok-shelves.ensures.shelves clean_then) c.from_vec.ensures
           (subst (λ config. AreSuites config c.args.from.now c.args.to.now c.in_ok-from.from c.in_ok-from.to) c.config.ensures c.in_ok-from.ensures.suites)
           (c.config-2.ensures ∙ sym reads.lasts.config)
           (ap (map string_bytes) c.deref.ensures.value ∙ c.in_ok-sources.ensures)
-          c.in_ok-steps.ensures.sound c.in_ok-steps.ensures.steps
+          c.in_ok-made.ensures.sound c.in_ok-made.ensures.steps
           left made.1)
     ]
