@@ -12,7 +12,7 @@ ghost use Rattle.kept.specs.Shown.{shown_in};
 use crate::begun::{begun, forget_if, is_coming, number_of, stop};
 use crate::calls::{clear, finish_delivery, forget_body, take_piece};
 use crate::changes::make_change;
-use crate::cleaning::clean_up;
+use crate::cleanings::clean_up;
 use crate::current::span_of;
 use crate::reads::{read_due, read_file, read_nothing, read_shown, read_text, read_waiting};
 use bodies::{Begun, Finished};

@@ -6,7 +6,7 @@
 mod begun;
 mod calls;
 mod changes;
-mod cleaning;
+mod cleanings;
 mod current;
 mod due;
 mod keeper;

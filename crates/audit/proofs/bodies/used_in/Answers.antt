@@ -9,5 +9,5 @@ returns c =
     record {
       rise = IsNonDecreasingBy-from_sort (λ n. n) numbers c.sort_unstable.ensures.sorted;
       are = subst (λ (l : List ℕ). IsPermutation l numbers)
-          (c.extend_from_slice.ensures.ok ∙ ap₂ ◌++◌ c.in_ok-numbers.ensures (c.deref.ensures.value ∙ c.in_ok-filed.ensures)) c.sort_unstable.ensures.permutation;
+          (c.in_ok-extend_from_slice.ensures.items ∙ ap₂ ◌++◌ c.in_ok-numbers.ensures (c.deref.ensures.value ∙ c.in_ok-filed.ensures)) c.sort_unstable.ensures.permutation;
     }

@@ -75,6 +75,7 @@ pub returns-in-Ok-clause-served : goal.returns-in-Ok-clause-served
 returns-in-Ok-clause-served g c clean = (c.in-Ok.ensures.open clean).1
 
 pub returns-in-Ok-clause-count : goal.returns-in-Ok-clause-count
+unfolding book_in
 returns-in-Ok-clause-count g c clean =
     let old = state g.S.Store c.args.self.now.conn in
     let early : HasCleanDisk old = omega (arith, c.clean_up.ensures.crash.clean, clean) in

@@ -5,7 +5,7 @@ use Rattle.tables.proofs.TransactionLemmas.{on_ok}
 use Rattle.tables.specs.Rows.{Holds, tables_in}
 use Rattle.cleaning.proofs.CleanCalls.{clean_count, clean_turns}
 use Rattle.kept.proofs.TakingLemmas.{both_if}
-use Rattle.keep_tables.proofs.cleaning.clean_up.Goals as goal
+use Rattle.keep_tables.proofs.cleanings.clean_up.Goals as goal
 
 pub returns-clause-done : goal.returns-clause-done
 returns-clause-done g c clean config judged shown dates keeps same =
