@@ -88,6 +88,22 @@ fn listed(alloc: Global, names: BTreeSet<String>) -> Result<Vec<String>, AllocEr
     Ok(list)
 }
 
+/// Names in the order of their bytes, each once, as a list.
+fn named_sources(alloc: Global, names: &[String]) -> Result<Vec<String>, AllocError>
+    ensures { IfOk result (λ list. map string_bytes list.items ≡ each_once (map string_bytes names.now)) }
+{
+    let named = in_order(alloc, names)?;
+    listed(alloc, named)
+}
+
+/// The source packages of which a suite shows an item, by its position, as a list; in the order of their bytes, each once.
+fn all_sources(alloc: Global, shelves: &Shelves, suite: usize) -> Result<Vec<String>, AllocError>
+    ensures { IfOk result (λ list. map string_bytes list.items ≡ each_once (sources_on shelves.now suite)) }
+{
+    let shown = shown_sources(alloc, shelves, suite)?;
+    listed(alloc, shown)
+}
+
 /// The source packages of a promotion from a suite, by its position: those that are named, or else all of which it shows an
 /// item; in the order of their bytes, each once.
 pub fn sources_of(
@@ -99,14 +115,8 @@ pub fn sources_of(
     ensures { IfOk result (λ list. map string_bytes list.items ≡ sources_from shelves.now from (names_given sources.now)) }
 {
     match sources {
-        Some(sources) => {
-            let named = in_order(alloc, sources)?;
-            listed(alloc, named)
-        }
-        None => {
-            let shown = shown_sources(alloc, shelves, from)?;
-            listed(alloc, shown)
-        }
+        Some(sources) => named_sources(alloc, sources),
+        None => all_sources(alloc, shelves, from),
     }
 }
 
