@@ -32,6 +32,8 @@ PIECES = {
     "dput": "dput box ready/",
     "lists": "/queue http:",
     "trusted": "deb [trusted=yes]",
+    "promote": "archive promote --db box.db",
+    "promote by HTTP": "/promote/box/lab",
     "remove": "archive remove --db box.db",
     "again": "again.changes",
     "remove by HTTP": "/remove/box/hello",

@@ -19,6 +19,7 @@ COMMANDS = {
     "run": (["--at", "0"], (0, "", "")),
     "clean": (["--at", "0"], (0, "0\n", "")),
     "copy": (["--at", "0", "box", "box", "hello"], (1, "", "archive: Q7\n")),
+    "promote": (["--at", "0", "box", "box"], (1, "", "archive: Q7\n")),
     "remove": (["--at", "0", "box", "nosuch"], (1, "", "archive: Q11\n")),
     "show": (["pool/main/h/hello/hello_1.0-1_amd64.deb"], (0, "abc", "")),
     "waiting": (["--at", "0"], (0, "", "")),

@@ -77,7 +77,10 @@ class Lines:
         return taken
 
     def copy_all(self, sources):
-        """Copies these sources to it."""
+        """Copies these sources to it, in one change."""
+        taken, printed = self.line("promote", "box", "lab", *sources)
+        check(printed.decode().splitlines(), [f"1 {source}" for source in sorted(sources)])
+        return taken
 
     def opening(self):
         """Opens the archive, and lists what was judged."""
@@ -130,12 +133,16 @@ class Served(Lines):
         return taken[0]
 
     def copy(self, source):
-        return self.copy_all([source])
+        with self.server.taking() as taken:
+            check(self.server.ask("POST", f"copy/box/lab/{source}"), (200, b"1\n"))
+        return taken[0]
 
     def copy_all(self, sources):
+        """Copies all that the first suite shows, these sources among it, in one change."""
         with self.server.taking() as taken:
-            for source in sources:
-                check(self.server.ask("POST", f"copy/box/lab/{source}"), (200, b"1\n"))
+            status, lines = self.server.ask("POST", "promote/box/lab")
+        check(status, 200)
+        check({f"1 {source}".encode() for source in sources} - set(lines.splitlines()), set())
         return taken[0]
 
     def opening(self):

@@ -169,6 +169,21 @@ fn done<'a, K: Keeper + Drop, F: InFile<K>, W: Write, E: Write>(
                 source,
             },
         ),
+        CommandLine::Promote {
+            db,
+            at,
+            from,
+            to,
+            sources,
+        } => (
+            *db,
+            Word::Promote {
+                at: *at,
+                from,
+                to,
+                sources,
+            },
+        ),
         CommandLine::Remove {
             db,
             at,
