@@ -67,6 +67,9 @@ copy_app =
 abbrev pub remove_app : App
 remove_app = with_rule (with_rule (timed_app (codes "remove")) (word_rule (codes "SUITE"))) (word_rule (codes "PACKAGE"))
 
+abbrev pub batch_app : App
+batch_app = with_rule (timed_app (codes "batch")) (word_rule (codes "LIST"))
+
 abbrev pub show_app : App
 show_app = with_rule (db_app (codes "show")) (word_rule (codes "PATH"))
 
@@ -89,11 +92,12 @@ new_archive = record (new_app (codes "archive")) {
 -- with the commands that change an archive
 abbrev pub with_changes : App → App
 with_changes app =
-    with_subcommand (with_subcommand (with_subcommand (with_subcommand (with_subcommand (with_subcommand app init_app.top) put_app.top)
+    with_subcommand (with_subcommand (with_subcommand (with_subcommand (with_subcommand (with_subcommand (with_subcommand app init_app.top) put_app.top)
     (timed_app (codes "run")).top)
     copy_app.top)
     remove_app.top)
-    (timed_app (codes "clean")).top
+    (timed_app (codes "clean")).top)
+    batch_app.top
 
 -- with the commands that ask an archive, and the one that serves it
 abbrev pub with_questions : App → App

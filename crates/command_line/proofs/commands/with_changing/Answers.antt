@@ -7,4 +7,5 @@ returns c app whole =
     let three = c.with-command-3.ensures _ _ two c.run_command.ensures in
     let four = c.with-command-4.ensures _ _ three c.copy_command.ensures in
     let five = c.with-command-5.ensures _ _ four c.remove_command.ensures in
-    c.with.ensures _ _ five c.clean_command.ensures
+    let six = c.with-command-6.ensures _ _ five c.clean_command.ensures in
+    c.with.ensures _ _ six c.batch_command.ensures
