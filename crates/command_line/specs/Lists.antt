@@ -5,8 +5,8 @@ use Rattle.std.specs.List.{list_any, slice_split, before_first, after_first, fil
 use Rattle.std.specs.Str.{bytes_eq, is_utf8}
 use Rattle.command_line.specs.declared.list.Entry.{Entry}
 use Rattle.command_line.specs.declared.list.Entry.TheVariants as entry
-use Rattle.command_line.specs.declared.list.ListFault.{ListFault}
-use Rattle.command_line.specs.declared.list.ListFault.TheVariants.{Line}
+use Rattle.command_line.specs.declared.list.BatchFault.{BatchFault}
+use Rattle.command_line.specs.declared.list.BatchFault.TheVariants.{Line}
 
 -- what a line asks for
 pub data Asked : Type 0 where
@@ -109,7 +109,7 @@ abbrev pub lines_in : List ℕ → List (List ℕ)
 lines_in list = slice_split is_newline list
 
 -- the first bad one of lines that stand behind so many others, by its number
-abbrev pub fault_behind : ℕ → List (List ℕ) → Option ListFault
+abbrev pub fault_behind : ℕ → List (List ℕ) → Option BatchFault
 fault_behind count [] = None
 fault_behind count (line ∷ more) = if is_bad line then Some (Line (count + 1)) else fault_behind (count + 1) more
 
@@ -118,7 +118,7 @@ abbrev pub asked_by_lines : List (List ℕ) → List Asked
 asked_by_lines ls = filter_map asked ls
 
 -- why a list is refused: its first bad line
-abbrev pub list_fault : List ℕ → Option ListFault
+abbrev pub list_fault : List ℕ → Option BatchFault
 list_fault list = fault_behind 0 (lines_in list)
 
 -- what a list asks for

@@ -11,7 +11,7 @@ mod version;
 mod words;
 
 pub use arguments::MOST_CONNECTIONS;
-pub use list::{Entry, ListFault, read_list};
+pub use list::{BatchFault, Entry, read_list};
 pub use parsed::{CommandLine, LineFault};
 pub use version::VERSION;
 pub use words::line;

@@ -4,7 +4,7 @@ ghost use Rattle.std.specs.Prelude.{◌≡◌, ◌⊎◌, Some, None, map, is_so
 ghost use Rattle.std.specs.Option.{option_map};
 ghost use Rattle.std.specs.List.{list_any};
 ghost use Rattle.command_line.specs.Lists.{asked, asked_by, asked_by_lines, asked_by_list, command_in, command_of, copy_of, fault_behind, is_bad, is_passed_over, is_space, is_word, lines_in, list_fault, lone, parted, put_of, removal_of, two_words, worded};
-ghost use Rattle.command_line.specs.declared.list.ListFault.TheVariants.{OutOfMemory};
+ghost use Rattle.command_line.specs.declared.list.BatchFault.TheVariants.{OutOfMemory};
 
 use std::alloc::{AllocError, Global};
 use std::str;
@@ -39,18 +39,18 @@ pub enum Entry<'a> {
 
 /// Why a list is not read.
 #[derive(Clone, Copy, Debug, PartialEq, Eq)]
-pub enum ListFault {
+pub enum BatchFault {
     /// No memory was left.
     OutOfMemory,
     /// The first bad line has this number, from 1.
     Line(usize),
 }
 
-impl From<AllocError> for ListFault {
+impl From<AllocError> for BatchFault {
     ghost from_gives = { λ _ fault. fault ≡ OutOfMemory };
 
-    fn from(_error: AllocError) -> ListFault {
-        ListFault::OutOfMemory
+    fn from(_error: AllocError) -> BatchFault {
+        BatchFault::OutOfMemory
     }
 }
 
@@ -227,12 +227,12 @@ fn lines_of(alloc: Global, list: &[u8]) -> Result<Vec<&[u8]>, AllocError>
 }
 
 /// The first bad one of these lines, by its number.
-fn lines_fault(lines: &[&[u8]]) -> Option<ListFault>
+fn lines_fault(lines: &[&[u8]]) -> Option<BatchFault>
     ensures { result ≡ fault_behind 0 (map (λ line. line.now) lines.now) }
 {
     for (index, line) in lines.iter().enumerate() {
         if is_bad(line) {
-            return Some(ListFault::Line(index + 1));
+            return Some(BatchFault::Line(index + 1));
         }
     }
     None
@@ -252,7 +252,7 @@ fn entries_of<'a>(alloc: Global, lines: &[&'a [u8]]) -> Result<Vec<Entry<'a>>, A
 }
 
 /// What these lines ask for, where none of them is bad.
-fn read_lines<'a>(alloc: Global, lines: &[&'a [u8]]) -> Result<Vec<Entry<'a>>, ListFault>
+fn read_lines<'a>(alloc: Global, lines: &[&'a [u8]]) -> Result<Vec<Entry<'a>>, BatchFault>
     ensures good { IfOk result (λ _. fault_behind 0 (map (λ line. line.now) lines.now) ≡ None) }
     ensures read { IfOk result (λ entries. map asked_by entries.items ≡ asked_by_lines (map (λ line. line.now) lines.now)) }
     ensures refused { IfErr result (λ e. (e ≡ OutOfMemory) ⊎ (fault_behind 0 (map (λ line. line.now) lines.now) ≡ Some e)) }
@@ -278,7 +278,7 @@ fn read_lines<'a>(alloc: Global, lines: &[&'a [u8]]) -> Result<Vec<Entry<'a>>, L
 /// with one space between the words. PATH is all that stands behind `put` and its space, so that it may hold spaces; no
 /// other word may. A line that is empty or begins with `#` is passed over. A last line needs no newline. A list with any
 /// other line, or with a command that is not UTF-8, is refused with the number of the first of these lines, from 1.
-pub fn read_list<'a>(alloc: Global, list: &'a [u8]) -> Result<Vec<Entry<'a>>, ListFault>
+pub fn read_list<'a>(alloc: Global, list: &'a [u8]) -> Result<Vec<Entry<'a>>, BatchFault>
     // A list that is read has no bad line.
     ensures good { IfOk result (λ _. list_fault list.now ≡ None) }
     // It gives what its lines ask for.

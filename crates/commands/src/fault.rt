@@ -1,6 +1,6 @@
 //! Why the program ends before it is done.
 
-use command_line::ListFault;
+use command_line::BatchFault;
 use keep::KeepFault;
 use queue::Fault;
 use rules::ConfigFault;
@@ -74,11 +74,11 @@ impl From<VersionFault> for Stop<'_> {
     }
 }
 
-impl From<ListFault> for Stop<'_> {
-    fn from(fault: ListFault) -> Self {
+impl From<BatchFault> for Stop<'_> {
+    fn from(fault: BatchFault) -> Self {
         match fault {
-            ListFault::OutOfMemory => Stop::Refused(Fault::OutOfMemory),
-            ListFault::Line(number) => Stop::BadLine(number),
+            BatchFault::OutOfMemory => Stop::Refused(Fault::OutOfMemory),
+            BatchFault::Line(number) => Stop::BadLine(number),
         }
     }
 }
