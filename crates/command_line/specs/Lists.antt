@@ -9,17 +9,17 @@ use Rattle.command_line.specs.declared.list.BatchFault.{BatchFault}
 use Rattle.command_line.specs.declared.list.BatchFault.TheVariants.{Line}
 
 -- what a line asks for
-pub data Asked : Type 0 where
-  putting : (path : List ℕ) → Asked
-  running : Asked
-  copying : (from to source : List ℕ) → Asked
-  removing : (suite name : List ℕ) → Asked
-  cleaning : Asked
-  waiting_list : Asked
-  verdict_list : Asked
+pub data Meaning : Type 0 where
+  putting : (path : List ℕ) → Meaning
+  running : Meaning
+  copying : (from to source : List ℕ) → Meaning
+  removing : (suite name : List ℕ) → Meaning
+  cleaning : Meaning
+  waiting_list : Meaning
+  verdict_list : Meaning
 
 -- the same of an entry, without where its words lie in memory
-abbrev pub asked_by : Entry → Asked
+abbrev pub asked_by : Entry → Meaning
 asked_by (entry.Put path) = putting path.now
 asked_by entry.Run = running
 asked_by (entry.Copy from to source) = copying from.now to.now source.now
@@ -46,44 +46,44 @@ unfoldable pub two_words : List ℕ → Option (List ℕ × List ℕ)
 two_words text = option_and_then (λ parts. if is_word parts.0 && is_word parts.1 then Some parts else None) (parted text)
 
 -- PATH, which may hold spaces
-unfoldable pub put_of : List ℕ → Option Asked
+unfoldable pub put_of : List ℕ → Option Meaning
 put_of path = if length path == 0 then None else Some (putting path)
 
 -- FROM TO SOURCE
-unfoldable pub copy_of : List ℕ → Option Asked
+unfoldable pub copy_of : List ℕ → Option Meaning
 copy_of text =
     option_and_then (λ parts. option_and_then (λ more. if is_word parts.0 then Some (copying parts.0 more.0 more.1) else None) (two_words parts.1))
     (parted text)
 
 -- SUITE PACKAGE
-unfoldable pub removal_of : List ℕ → Option Asked
+unfoldable pub removal_of : List ℕ → Option Meaning
 removal_of text = option_and_then (λ words. Some (removing words.0 words.1)) (two_words text)
 
 -- a command with what stands behind its space
-unfoldable pub worded : List ℕ → List ℕ → Option Asked
+unfoldable pub worded : List ℕ → List ℕ → Option Meaning
 worded command rest =
     if bytes_eq command (codes "put") then put_of rest
     else (if bytes_eq command (codes "copy") then copy_of rest
     else (if bytes_eq command (codes "remove") then removal_of rest else None))
 
 -- a command that is one word
-unfoldable pub lone : List ℕ → Option Asked
+unfoldable pub lone : List ℕ → Option Meaning
 lone line =
     if bytes_eq line (codes "run") then Some running
     else (if bytes_eq line (codes "clean") then Some cleaning
     else (if bytes_eq line (codes "waiting") then Some waiting_list
     else (if bytes_eq line (codes "verdicts") then Some verdict_list else None)))
 
-abbrev pub command_by : Option (List ℕ × List ℕ) → List ℕ → Option Asked
+abbrev pub command_by : Option (List ℕ × List ℕ) → List ℕ → Option Meaning
 command_by None line = lone line
 command_by (Some parts) line = worded parts.0 parts.1
 
 -- the command that a text is, if it is one
-unfoldable pub command_of : List ℕ → Option Asked
+unfoldable pub command_of : List ℕ → Option Meaning
 command_of text = command_by (parted text) text
 
 -- the command that bytes are, which are a text then
-unfoldable pub command_in : List ℕ → Option Asked
+unfoldable pub command_in : List ℕ → Option Meaning
 command_in line = if is_utf8 line then command_of line else None
 
 -- ---- the lines of a list
@@ -94,7 +94,7 @@ is_passed_over [] = true
 is_passed_over (b ∷ bs) = b == 35
 
 -- what a line of a list asks for, if it is not passed over
-unfoldable pub asked : List ℕ → Option Asked
+unfoldable pub asked : List ℕ → Option Meaning
 asked line = if is_passed_over line then None else command_in line
 
 -- a line that is neither passed over nor a command
@@ -114,7 +114,7 @@ fault_behind count [] = None
 fault_behind count (line ∷ more) = if is_bad line then Some (Line (count + 1)) else fault_behind (count + 1) more
 
 -- what lines ask for, in their order
-abbrev pub asked_by_lines : List (List ℕ) → List Asked
+abbrev pub asked_by_lines : List (List ℕ) → List Meaning
 asked_by_lines ls = filter_map asked ls
 
 -- why a list is refused: its first bad line
@@ -122,5 +122,5 @@ abbrev pub list_fault : List ℕ → Option BatchFault
 list_fault list = fault_behind 0 (lines_in list)
 
 -- what a list asks for
-abbrev pub asked_by_list : List ℕ → List Asked
+abbrev pub asked_by_list : List ℕ → List Meaning
 asked_by_list list = asked_by_lines (lines_in list)
