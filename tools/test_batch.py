@@ -21,7 +21,7 @@ MOMENT = "1467436850"
 LINES, UPLOADS = 1000, 20
 
 # How often each command is given, on average, of a hundred.
-SHARES = {"put": 56, "other": 4, "run": 8, "copy": 12, "remove": 6, "clean": 4, "waiting": 6, "verdicts": 4}
+SHARES = {"put": 54, "promote": 2, "other": 4, "run": 8, "copy": 12, "remove": 6, "clean": 4, "waiting": 6, "verdicts": 4}
 
 # What a list calls a number that a command prints.
 DONE = {"copy": "copied", "remove": "removed", "clean": "cleaned"}
@@ -75,6 +75,7 @@ class Batch(unittest.TestCase):
                 "put": ["put", drawn.choice(self.paths)],
                 "other": ["put", drawn.choice(others)],
                 "copy": ["copy", *suites, source],
+                "promote": ["promote", *suites],
                 "remove": ["remove", suites[0], source],
             }.get(word, [word])
 
@@ -82,11 +83,11 @@ class Batch(unittest.TestCase):
         """What a command prints that is given by itself, as a list tells it, on both outputs."""
         moment = [] if word == "verdicts" else ["--at", MOMENT]
         _, printed, told = self.ran(word, "--db", db, *moment, *words)
-        if word not in DONE:
-            return printed, told
-        if told:
+        if told and word != "put":
             fault = told.removeprefix("archive: ").rstrip("\n")
             return " ".join(["refused", fault, *words]) + "\n", ""
+        if word not in DONE:
+            return printed, told
         return " ".join([DONE[word], printed.rstrip("\n"), *words[-1:]]) + "\n", ""
 
     def test_a_list_gives_what_its_commands_give_one_by_one(self):

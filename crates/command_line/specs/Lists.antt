@@ -13,6 +13,7 @@ pub data Meaning : Type 0 where
   putting : (path : List ℕ) → Meaning
   running : Meaning
   copying : (from to source : List ℕ) → Meaning
+  promoting : (from to : List ℕ) → Meaning
   removing : (suite name : List ℕ) → Meaning
   cleaning : Meaning
   waiting_list : Meaning
@@ -23,6 +24,7 @@ abbrev pub asked_by : Entry → Meaning
 asked_by (entry.Put path) = putting path.now
 asked_by entry.Run = running
 asked_by (entry.Copy from to source) = copying from.now to.now source.now
+asked_by (entry.Promote from to) = promoting from.now to.now
 asked_by (entry.Remove suite name) = removing suite.now name.now
 asked_by entry.Clean = cleaning
 asked_by entry.Waiting = waiting_list
@@ -55,6 +57,10 @@ copy_of text =
     option_and_then (λ parts. option_and_then (λ more. if is_word parts.0 then Some (copying parts.0 more.0 more.1) else None) (two_words parts.1))
     (parted text)
 
+-- FROM TO
+unfoldable pub promotion_of : List ℕ → Option Meaning
+promotion_of text = option_and_then (λ words. Some (promoting words.0 words.1)) (two_words text)
+
 -- SUITE PACKAGE
 unfoldable pub removal_of : List ℕ → Option Meaning
 removal_of text = option_and_then (λ words. Some (removing words.0 words.1)) (two_words text)
@@ -64,7 +70,8 @@ unfoldable pub worded : List ℕ → List ℕ → Option Meaning
 worded command rest =
     if bytes_eq command (codes "put") then put_of rest
     else (if bytes_eq command (codes "copy") then copy_of rest
-    else (if bytes_eq command (codes "remove") then removal_of rest else None))
+    else (if bytes_eq command (codes "promote") then promotion_of rest
+    else (if bytes_eq command (codes "remove") then removal_of rest else None)))
 
 -- a command that is one word
 unfoldable pub lone : List ℕ → Option Meaning

@@ -3,7 +3,7 @@
 ghost use Rattle.std.specs.Prelude.{◌≡◌, ◌⊎◌, Some, None, map, is_some, IfOk, IfErr};
 ghost use Rattle.std.specs.Option.{option_map};
 ghost use Rattle.std.specs.List.{list_any};
-ghost use Rattle.command_line.specs.Lists.{asked, asked_by, asked_by_lines, asked_by_list, command_in, command_of, copy_of, fault_behind, is_bad, is_passed_over, is_space, is_word, lines_in, list_fault, lone, parted, put_of, removal_of, two_words, worded};
+ghost use Rattle.command_line.specs.Lists.{asked, asked_by, asked_by_lines, asked_by_list, command_in, command_of, copy_of, fault_behind, is_bad, is_passed_over, is_space, is_word, lines_in, list_fault, lone, parted, promotion_of, put_of, removal_of, two_words, worded};
 ghost use Rattle.command_line.specs.declared.list.BatchFault.TheVariants.{OutOfMemory};
 
 use std::alloc::{AllocError, Global};
@@ -23,6 +23,11 @@ pub enum Entry<'a> {
         from: &'a str,
         to: &'a str,
         source: &'a str,
+    },
+    /// Copies all packages that a suite shows to another.
+    Promote {
+        from: &'a str,
+        to: &'a str,
     },
     /// Removes all items of a package's name from a suite.
     Remove {
@@ -116,6 +121,15 @@ fn copy_of(text: &str) -> Option<Entry<'_>>
     }
 }
 
+/// `FROM TO`.
+#[tactic(auto, unfolding(crate::specs::Lists::promotion_of))]
+fn promotion_of(text: &str) -> Option<Entry<'_>>
+    ensures { option_map asked_by result ≡ promotion_of text.now }
+{
+    let (from, to) = two_words(text)?;
+    Some(Entry::Promote { from, to })
+}
+
 /// `SUITE PACKAGE`.
 #[tactic(auto, unfolding(crate::specs::Lists::removal_of))]
 fn removal_of(text: &str) -> Option<Entry<'_>>
@@ -134,6 +148,8 @@ fn worded<'a>(command: &str, rest: &'a str) -> Option<Entry<'a>>
         put_of(rest)
     } else if command == "copy" {
         copy_of(rest)
+    } else if command == "promote" {
+        promotion_of(rest)
     } else if command == "remove" {
         removal_of(rest)
     } else {
@@ -269,6 +285,7 @@ fn read_lines<'a>(alloc: Global, lines: &[&'a [u8]]) -> Result<Vec<Entry<'a>>, B
 /// put PATH
 /// run
 /// copy FROM TO SOURCE
+/// promote FROM TO
 /// remove SUITE PACKAGE
 /// clean
 /// waiting

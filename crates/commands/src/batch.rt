@@ -8,7 +8,7 @@ use crate::doing::{body_of, file_name, read_of};
 use crate::fault::Stop;
 use command_line::{Entry, read_list};
 use keep::Keeper;
-use queue::{Archive, Command, Fault, Outcome, Report};
+use queue::{Archive, Command, Fault, Outcome, Promotion, Report};
 use std::alloc::{AllocError, Global};
 use std::fs::File;
 use std::io::{self, Read, Write};
@@ -50,7 +50,10 @@ fn size_of(command: &Command) -> u64 {
 
 /// Whether a line is answered by lines, of which there may be many.
 fn has_lines(entry: &Entry<'_>) -> bool {
-    matches!(entry, Entry::Run | Entry::Waiting | Entry::Verdicts)
+    matches!(
+        entry,
+        Entry::Run | Entry::Promote { .. } | Entry::Waiting | Entry::Verdicts
+    )
 }
 
 impl<'l> Group<'l> {
@@ -141,6 +144,16 @@ fn copying(
     })
 }
 
+/// The promotion of all that a suite shows to another at a moment.
+fn promoting(alloc: Global, at: u64, from: &str, to: &str) -> Result<Command, AllocError> {
+    Ok(Command::Promote {
+        from: String::from_str(alloc, from)?,
+        to: String::from_str(alloc, to)?,
+        sources: None,
+        moment: at,
+    })
+}
+
 /// The removal of a package's name from a suite at a moment.
 fn removing(alloc: Global, at: u64, suite: &str, name: &str) -> Result<Command, AllocError> {
     Ok(Command::Remove {
@@ -162,6 +175,7 @@ fn command_of<'a, R: Files + AllocGlobal, E: Write>(
         Entry::Put { path } => return delivery(rt, opening, path, err),
         Entry::Run => Command::Run { moment: at },
         Entry::Copy { from, to, source } => copying(alloc, at, from, to, source)?,
+        Entry::Promote { from, to } => promoting(alloc, at, from, to)?,
         Entry::Remove { suite, name } => removing(alloc, at, suite, name)?,
         Entry::Clean => Command::Clean { moment: at },
         Entry::Waiting => Command::Waiting { moment: at },
@@ -190,6 +204,7 @@ fn print_refused<'a, W: Write>(
     }
     match entry {
         Entry::Copy { from, to, source } => writeln!(out, "refused {fault} {from} {to} {source}")?,
+        Entry::Promote { from, to } => writeln!(out, "refused {fault} {from} {to}")?,
         Entry::Remove { suite, name } => writeln!(out, "refused {fault} {suite} {name}")?,
         _ => writeln!(out, "refused {fault}")?,
     }
@@ -205,6 +220,21 @@ fn print_lines<'a, W: Write>(
     match done {
         Ok(report) => {
             print_report(report, out)?;
+            Ok(true)
+        }
+        Err(fault) => print_refused(*fault, entry, out),
+    }
+}
+
+/// Prints `COUNT SOURCE` for each source of a promotion, and says whether it was done.
+fn print_promotion<'a, W: Write>(
+    done: &Result<Promotion, Fault>,
+    entry: &Entry<'_>,
+    out: &mut W,
+) -> Result<bool, Stop<'a>> {
+    match done {
+        Ok(promotion) => {
+            print_report(&promotion.report, out)?;
             Ok(true)
         }
         Err(fault) => print_refused(*fault, entry, out),
@@ -244,6 +274,7 @@ fn print_outcome<'a, W: Write>(
         Outcome::Copy(done) | Outcome::Remove(done) | Outcome::Clean(done) => {
             print_count(done, entry, out)
         }
+        Outcome::Promote(done) => print_promotion(done, entry, out),
         // No line asks for a file.
         Outcome::Fetch(_) => Ok(true),
     }
