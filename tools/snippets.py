@@ -42,6 +42,7 @@ PIECES = {
     "log": "1467436850 PUT ",
     "queue.service": "Description=One run of the queue of box\n",
     "queue.timer": "Description=Runs the queue of box each minute\n",
+    "batch": "archive batch --db box.db",
     "clean": "archive clean --db box.db",
     "clean.service": "Description=One cleaning of box\n",
     "clean.timer": "Description=Cleans box each day\n",

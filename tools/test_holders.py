@@ -18,6 +18,7 @@ COMMANDS = {
     "put": (["--at", "0", f"{DATA}/{NAMES[1]}"], (0, f"again {NAMES[1]}\n", "")),
     "run": (["--at", "0"], (0, "", "")),
     "clean": (["--at", "0"], (0, "0\n", "")),
+    "batch": (["--at", "0", os.devnull], (0, "", "")),
     "copy": (["--at", "0", "box", "box", "hello"], (1, "", "archive: Q7\n")),
     "promote": (["--at", "0", "box", "box"], (1, "", "archive: Q7\n")),
     "remove": (["--at", "0", "box", "nosuch"], (1, "", "archive: Q11\n")),

@@ -100,6 +100,15 @@ class Commands(Case):
             for option in re.findall(r"--\w+", " ".join(words)):
                 self.assertIn(option, told)
 
+    @needs("dpkg-deb")
+    def test_a_list_is_done_over_one_opening(self):
+        self.made()
+        self.ready()
+        names = self.names()
+        self.assertEqual(self.shell(snippet("batch")), "".join(f"new {it}\n" for it in names) + f"accepted {CHANGES}\n")
+        piped = snippet("batch", {" > list\narchive": " | archive", '" list': '" -'})
+        self.assertEqual(self.shell(piped), "".join(f"again {it}\n" for it in names))
+
     def test_a_moment_never_falls(self):
         now = int(time.time())
         for last, wanted in ((None, now), (now - 1000, now), (now + 1000, now + 1000)):

@@ -75,6 +75,9 @@ promote_app =
 abbrev pub remove_app : App
 remove_app = with_rule (with_rule (timed_app (codes "remove")) (word_rule (codes "SUITE"))) (word_rule (codes "PACKAGE"))
 
+abbrev pub batch_app : App
+batch_app = with_rule (timed_app (codes "batch")) (word_rule (codes "LIST"))
+
 abbrev pub show_app : App
 show_app = with_rule (db_app (codes "show")) (word_rule (codes "PATH"))
 
@@ -102,7 +105,8 @@ with_changes app =
     copy_app.top)
     promote_app.top)
     remove_app.top)
-    (timed_app (codes "clean")).top
+    (timed_app (codes "clean")).top)
+    batch_app.top
 
 -- with the commands that ask an archive, and the one that serves it
 abbrev pub with_questions : App → App

@@ -62,6 +62,12 @@ pub enum CommandLine<'a> {
         db: &'a str,
         at: u64,
     },
+    /// Does the commands of a list, which is a file, or standard input where it is `-`.
+    Batch {
+        db: &'a str,
+        at: u64,
+        list: &'a str,
+    },
     /// Prints an index or a file of the pool.
     Show {
         db: &'a str,

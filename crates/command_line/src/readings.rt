@@ -102,6 +102,16 @@ fn read_clean<'a>(alloc: Global, found: &ArgMatches<'a>) -> Result<CommandLine<'
     })
 }
 
+fn read_batch<'a>(alloc: Global, found: &ArgMatches<'a>) -> Result<CommandLine<'a>, LineFault>
+    ensures { IfOk result (IsLine (Some (codes "batch", rows_of (found_of found.now)))) }
+{
+    Ok(CommandLine::Batch {
+        db: required(alloc, found, "db")?,
+        at: moment(alloc, found)?,
+        list: required(alloc, found, "LIST")?,
+    })
+}
+
 fn read_show<'a>(alloc: Global, found: &ArgMatches<'a>) -> Result<CommandLine<'a>, LineFault>
     ensures { IfOk result (IsLine (Some (codes "show", rows_of (found_of found.now)))) }
 {
@@ -159,6 +169,7 @@ pub fn command_of<'a>(
         "promote" => read_promote(alloc, found),
         "remove" => read_remove(alloc, found),
         "clean" => read_clean(alloc, found),
+        "batch" => read_batch(alloc, found),
         "show" => read_show(alloc, found),
         "waiting" => read_waiting(alloc, found),
         "verdicts" => read_verdicts(alloc, found),

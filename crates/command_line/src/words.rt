@@ -23,6 +23,7 @@ use std::alloc::Global;
 /// promote --db FILE --at N FROM TO [SOURCE..]
 /// remove --db FILE --at N SUITE PACKAGE
 /// clean --db FILE --at N
+/// batch --db FILE --at N LIST
 /// show --db FILE PATH
 /// waiting --db FILE --at N
 /// verdicts --db FILE

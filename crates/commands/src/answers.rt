@@ -10,7 +10,7 @@ use std::io::{self, Write};
 use std::rt::Files;
 
 /// Prints the lines of a report.
-fn print_report<W: Write>(report: &Report, out: &mut W) -> io::Result<()> {
+pub fn print_report<W: Write>(report: &Report, out: &mut W) -> io::Result<()> {
     for line in &report.lines {
         writeln!(out, "{line}")?;
     }
@@ -19,7 +19,7 @@ fn print_report<W: Write>(report: &Report, out: &mut W) -> io::Result<()> {
 
 /// Prints `new NAME`, `again NAME` or `refused FAULT NAME`, and says whether a delivery was taken. Want of memory and a
 /// fault of the keeper end the program instead.
-fn print_arrived<'a, W: Write>(
+pub fn print_arrived<'a, W: Write>(
     arrived: Result<Arrived, Fault>,
     name: &str,
     out: &mut W,

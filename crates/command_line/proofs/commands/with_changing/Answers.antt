@@ -8,4 +8,5 @@ returns c app whole =
     let four = c.with-command-4.ensures _ _ three c.copy_command.ensures in
     let five = c.with-command-5.ensures _ _ four c.promote_command.ensures in
     let six = c.with-command-6.ensures _ _ five c.remove_command.ensures in
-    c.with.ensures _ _ six c.clean_command.ensures
+    let seven = c.with-command-7.ensures _ _ six c.clean_command.ensures in
+    c.with.ensures _ _ seven c.batch_command.ensures
