@@ -211,6 +211,7 @@ impl<K: Keeper> Archive<K> {
             texts: Listed::from_vec(texts),
         };
         self.keeper.apply(alloc, &change)?;
+        self.keeper.hold(shelves);
         Ok(Promotion {
             copies,
             report: Report { lines },

@@ -169,11 +169,30 @@ returns-in_err-apply-clause-refused g c =
     (may_copy (g.K.Keeper.book c.args.self.now.keeper) c.config.result.now c.args.from.now c.args.to.now c.args.moment c.in_ok-from.from c.in_ok-from.to
     c.config.ensures c.if-moment-gt-LATEST.false c.in_ok-from.ensures.suites)))
 
+-- the shelves show what the change leaves
+pub hold-requires : goal.hold-requires
+hold-requires g c clean up =
+    let reads = c.in_ok-texts.ensures.reads in
+    let clean_now = c.in_ok-apply.ensures.lasts.clean clean in
+    let up_now = c.in_ok-apply.ensures.lasts.was_open clean up in
+    let clean_then = reads.lasts.clean clean_now in
+    let up_then = reads.lasts.was_open clean_now up_now in
+    promotion_past (g.K.Keeper.book c.args.self.now.keeper) (g.K.Keeper.book c.renewed_texts.new.keeper) c.config-2.result.now c.in_ok-shelves.shelves c.copied_steps.new.shelves c.in_ok-from.from c.in_ok-from.to
+    (map string_bytes c.deref.result.now) c.in_ok-made.made.items c.from_vec.result
+    (reads.same clean_now up_now ∙ c.in_ok-shelves.ensures.reads.same clean_then up_then) (c.in_ok-shelves.ensures.shelves clean_then) c.from_vec.ensures c.in_ok-made.ensures.steps c.in_ok-made.ensures.shelves
+    ∙ sym (c.in_ok-apply.ensures.shown clean)
+
+pub returns-clause-served : goal.returns-clause-served
+returns-clause-served g c clean = c.hold.ensures.served clean (c.in_ok-apply.ensures.served (c.hold.ensures.reads.lasts.clean clean))
+
 pub returns-clause-step : goal.returns-clause-step
 returns-clause-step g c h kept faithful clean =
     let reads = c.in_ok-texts.ensures.reads in
-    let clean_now = c.in_ok-apply.ensures.lasts.clean clean in
-    let up_now = c.in_ok-apply.ensures.lasts.was_open clean (c.in_ok-apply.ensures.served clean) in
+    let held = c.hold.ensures.reads in
+    let clean_made = held.lasts.clean clean in
+    let up_made = c.in_ok-apply.ensures.served clean_made in
+    let clean_now = c.in_ok-apply.ensures.lasts.clean clean_made in
+    let up_now = c.in_ok-apply.ensures.lasts.was_open clean_made up_made in
     let clean_then = reads.lasts.clean clean_now in
     let up_then = reads.lasts.was_open clean_now up_now in
     done_promotion g.K.Keeper.may_fail h c.args.from.now c.args.to.now (names_given c.args.sources.now) c.args.moment c.in_ok-from.from c.in_ok-from.to
@@ -184,7 +203,7 @@ returns-clause-step g c h kept faithful clean =
     (c.config-2.ensures ∙ sym reads.lasts.config)
     (ap (map string_bytes) c.deref.ensures.value ∙ c.in_ok-sources.ensures)
     c.in_ok-made.ensures.sound c.in_ok-made.ensures.steps
-    _ (g.K.Keeper.book c.apply.new.self) (map copy_of c.in_ok-made.copies.items) (c.in_ok-apply.ensures.ok clean) c.in_ok-made.ensures.copies
+    _ (g.K.Keeper.book c.hold.new.self) (map copy_of c.in_ok-made.copies.items) (λ bodies apart has each. held.same clean (c.hold.ensures.served clean up_made) ∙ c.in_ok-apply.ensures.ok clean_made bodies apart has each) c.in_ok-made.ensures.copies
 
 pub returns-clause-lines : goal.returns-clause-lines
 returns-clause-lines g c = c.in_ok-lines.ensures ∙ ap (λ copies. map copy_line (map copy_of copies)) c.deref-2.ensures.value
@@ -243,9 +262,10 @@ returns-in_err-apply-clause-crash g c h kept faithful clean left may =
 pub returns-clause-crash : goal.returns-clause-crash
 returns-clause-crash g c h kept faithful clean left may =
     let reads = c.in_ok-texts.ensures.reads in
-    let clean_now = c.in_ok-apply.ensures.lasts.clean clean in
+    let clean_made = c.hold.ensures.reads.lasts.clean clean in
+    let clean_now = c.in_ok-apply.ensures.lasts.clean clean_made in
     let clean_then = reads.lasts.clean clean_now in
-    elim (c.in_ok-apply.ensures.crash clean left may) [
+    elim (c.in_ok-apply.ensures.crash clean_made left (c.hold.ensures.reads.crash clean left may)) [
       | inl before ↦ inl (c.in_ok-shelves.ensures.reads.crash clean_then left (reads.crash clean_now left before))
       | inr made ↦
           let up_then = reads.lasts.was_open clean_now made.0 in
