@@ -149,7 +149,8 @@ pub fn plan_copy_of(
     ensures told { AreTold config.now.suites shelves.now → AreTold config.now.suites (after_copy config.now shelves.now from to source.now) }
 {
     // What stands on these shelves is of this suite and this source.
-    let _ = (from, source);
+    let _ = from;
+    let _ = source;
     // For the prover alone: the shelves are sound.
     shelves.agree();
     let target = &config.suites()[to];
