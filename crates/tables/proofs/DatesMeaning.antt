@@ -32,7 +32,7 @@ suite_is = op2 (Compare Eq Binary) (col 1 1) (col 0 0) ∷ []
 abbrev pub update_date_columns : List Term
 update_date_columns = col 1 0 ∷ col 1 0 ∷ col 1 1 ∷ col 0 1 ∷ []
 
-pub update_date_is : command_of (understood archive_schema UPDATE_DATE.now) ≡ Update 10 (record { lets = []; body = edit_query 21 suite_is update_date_columns })
+pub update_date_is : command_of (understood archive_schema UPDATE_DATE.now) ≡ Update 10 (record { lets = []; body = edit_query 22 suite_is update_date_columns })
 unfolding understood everything
 update_date_is = refl
 

@@ -160,7 +160,7 @@ module _ (old new : Trees) (t : Tables) (was : HoldsRows old t) where
     dates = kept date_cells t.dates was.dates (others.1.1.1.1.1.1.1.1.1.1.0 (omega arith));
   }
 
-  pub with_texts : (rows : Numbered IndexText) → HasRows text_cells rows (new 19) → KeepsOthers 19 old new → HoldsRows new (record t { texts = rows })
+  pub with_texts : (rows : Numbered IndexText) → HasRows text_cells rows (new 20) → KeepsOthers 20 old new → HoldsRows new (record t { texts = rows })
   with_texts rows now others = record {
     meta = kept meta_cells t.meta was.meta (others.0 (omega arith));
     bodies = kept body_cells t.bodies was.bodies (ap (map full_body) (others.1.0 (omega arith)));
@@ -175,7 +175,7 @@ module _ (old new : Trees) (t : Tables) (was : HoldsRows old t) where
     dates = kept date_cells t.dates was.dates (others.1.1.1.1.1.1.1.1.1.1.0 (omega arith));
   }
 
-  pub with_dates : (rows : Numbered Date) → HasRows date_cells rows (new 21) → KeepsOthers 21 old new → HoldsRows new (record t { dates = rows })
+  pub with_dates : (rows : Numbered Date) → HasRows date_cells rows (new 22) → KeepsOthers 22 old new → HoldsRows new (record t { dates = rows })
   with_dates rows now others = record {
     meta = kept meta_cells t.meta was.meta (others.0 (omega arith));
     bodies = kept body_cells t.bodies was.bodies (ap (map full_body) (others.1.0 (omega arith)));

@@ -33,7 +33,7 @@ text_columns = col 1 0 ∷ col 1 1 ∷ col 1 2 ∷ []
 abbrev pub path_is : List Term
 path_is = op2 (Compare Eq Binary) (col 1 1) (col 0 0) ∷ []
 
-pub select_text_is : (command_of (understood archive_schema SELECT_TEXT.now) ≡ Select (record { lets = []; body = rows_query 19 path_is text_columns }) (codes "rowid" ∷ codes "path" ∷ codes "body" ∷ [])) × (reads_listing archive_schema SELECT_TEXT.now ≡ false)
+pub select_text_is : (command_of (understood archive_schema SELECT_TEXT.now) ≡ Select (record { lets = []; body = rows_query 20 path_is text_columns }) (codes "rowid" ∷ codes "path" ∷ codes "body" ∷ [])) × (reads_listing archive_schema SELECT_TEXT.now ≡ false)
 unfolding understood everything
 select_text_is = (refl, refl)
 
@@ -44,7 +44,7 @@ select_text_plain = (refl, refl)
 abbrev pub update_text_columns : List Term
 update_text_columns = col 1 0 ∷ col 1 0 ∷ col 1 1 ∷ col 0 1 ∷ []
 
-pub update_text_is : command_of (understood archive_schema UPDATE_TEXT.now) ≡ Update 9 (record { lets = []; body = edit_query 19 path_is update_text_columns })
+pub update_text_is : command_of (understood archive_schema UPDATE_TEXT.now) ≡ Update 9 (record { lets = []; body = edit_query 20 path_is update_text_columns })
 unfolding understood everything
 update_text_is = refl
 

@@ -146,8 +146,8 @@ pub record HoldsRows (trees : Trees) (t : Tables) : Type 0 where
   pub items : HasRows item_cells t.items (trees 13)
   pub refs : HasRows ref_cells t.refs (trees 15)
   pub files : HasRows file_cells t.files (trees 17)
-  pub texts : HasRows text_cells t.texts (trees 19)
-  pub dates : HasRows date_cells t.dates (trees 21)
+  pub texts : HasRows text_cells t.texts (trees 20)
+  pub dates : HasRows date_cells t.dates (trees 22)
 
 -- the database is not that of an archive
 abbrev pub IsForeign : Database → Type 0
@@ -233,8 +233,8 @@ tables_of trees = record {
   items = map (row_of item_of) (trees 13);
   refs = map (row_of ref_of) (trees 15);
   files = map (row_of file_of) (trees 17);
-  texts = map (row_of text_of) (trees 19);
-  dates = map (row_of date_of) (trees 21);
+  texts = map (row_of text_of) (trees 20);
+  dates = map (row_of date_of) (trees 22);
 }
 
 abbrev pub tables_in : Database → Tables

@@ -78,9 +78,9 @@ module _ (db : Database) (is : db.schema ≡ archive_schema) (sound : IsDatabase
   bodies_clash =
       guarded archive_schema db.trees bodies_table (automatic bodies_table 0 (2 ∷ 3 ∷ 4 ∷ 5 ∷ []) 2) (keeps Unique) (has_got archive_schema.tables 1 bodies_table refl) (has_got archive_schema.indexes 0 _ refl) refl
 
-  arrivals_clash : HasNoClash (2 ∷ 3 ∷ []) (db.trees 5)
+  arrivals_clash : HasNoClash (3 ∷ 2 ∷ []) (db.trees 5)
   arrivals_clash =
-      guarded archive_schema db.trees arrivals_table (automatic arrivals_table 0 (2 ∷ 3 ∷ []) 6) (keeps Unique) (has_got archive_schema.tables 3 arrivals_table refl) (has_got archive_schema.indexes 2 _ refl) refl
+      guarded archive_schema db.trees arrivals_table (automatic arrivals_table 0 (3 ∷ 2 ∷ []) 6) (keeps Unique) (has_got archive_schema.tables 3 arrivals_table refl) (has_got archive_schema.indexes 2 _ refl) refl
 
   places_clash : HasNoClash (7 ∷ []) (db.trees 7)
   places_clash =
@@ -137,10 +137,10 @@ same_bodies x y some same =
       ),
     )
 
-same_arrivals : (x y : ℕ × Arrival) → is_arrival x.1.name x.1.body y.1 ≡ true → AreSame (2 ∷ 3 ∷ []) (stored arrival_cells x) (stored arrival_cells y)
+same_arrivals : (x y : ℕ × Arrival) → is_arrival x.1.name x.1.body y.1 ≡ true → AreSame (3 ∷ 2 ∷ []) (stored arrival_cells x) (stored arrival_cells y)
 same_arrivals x y same =
     let parts = and_parts _ _ same in
-    ((ap Text (sym (same_bytes _ _ parts.0)), refl), ((ap whole (sym (eqb-true _ _ parts.1)), refl), tt))
+    ((ap whole (sym (eqb-true _ _ parts.1)), refl), ((ap Text (sym (same_bytes _ _ parts.0)), refl), tt))
 
 same_uploads : (x y : ℕ × Upload) → name_and_print x.1 ≡ name_and_print y.1 → AreSame (2 ∷ 3 ∷ 4 ∷ 5 ∷ 6 ∷ []) (stored upload_cells x) (stored upload_cells y)
 same_uploads x y same =
@@ -187,7 +187,7 @@ module _ (db : Database) (t : Tables) (sound : IsDatabase db) (holds : Holds db 
         owned arrival_cells body_cells (db.trees 5) (map full_body (db.trees 1)) t.arrivals t.bodies 3 (λ a. a.body) holds.rows.arrivals holds.rows.bodies (λ _. refl)
         (parents_read full_body (λ _. refl) 3 (db.trees 1) (db.trees 5) (arrivals_refer db holds.schema sound));
     arrivals_apart =
-        rows_apart arrival_cells (2 ∷ 3 ∷ []) (db.trees 5) t.arrivals holds.rows.arrivals (arrivals_clash db holds.schema sound) (λ a b. is_arrival a.name a.body b ≡ false)
+        rows_apart arrival_cells (3 ∷ 2 ∷ []) (db.trees 5) t.arrivals holds.rows.arrivals (arrivals_clash db holds.schema sound) (λ a b. is_arrival a.name a.body b ≡ false)
         (λ x y no. false_from_ne_true _ (λ same. no (same_arrivals x y same)));
     uploads_apart =
         rows_apart upload_cells (2 ∷ 3 ∷ 4 ∷ 5 ∷ 6 ∷ []) (map full_upload (db.trees 7)) t.uploads holds.rows.uploads uploads_named (λ u v. name_and_print u ≢ name_and_print v) (λ x y no same. no (same_uploads x y same));

@@ -14,8 +14,8 @@ use Rattle.keep_tables.proofs.AtHandLemmas.{still_at_hand, still_known}
 use Rattle.keep_tables.proofs.UnderWayLemmas.{undone_kept, undone_under}
 use Rattle.keep_tables.proofs.keeper.TableKeeperKeeper.clean.Goals as goal
 
-pub invariant_of-self-in-Ok : goal.invariant_of-self-in-Ok
-invariant_of-self-in-Ok g c =
+pub invariant_of-self : goal.invariant_of-self
+invariant_of-self g c =
     let old = state g.S.Store c.args.self.now.conn in
     let new = state g.S.Store c.clean_up.new.conn in (
     record {
@@ -44,8 +44,8 @@ invariant_of-self-in-Ok g c =
     }
     )
 
-pub invariant_of-self-in-Err : goal.invariant_of-self-in-Err
-invariant_of-self-in-Err g c =
+pub invariant_of-self-in-Err-1 : goal.invariant_of-self-in-Err-1
+invariant_of-self-in-Err-1 g c =
     let old = state g.S.Store c.args.self.now.conn in
     let new = state g.S.Store c.clean_up.new.conn in (
     record {
