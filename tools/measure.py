@@ -3,10 +3,12 @@ import argparse
 import contextlib
 import ctypes
 import dataclasses
+import hashlib
 import os
 import platform
 import shlex
 import socket
+import sqlite3
 import subprocess
 import sys
 import tempfile
@@ -92,6 +94,28 @@ def line(words, folder=None, status=0):
     if os.waitstatus_to_exitcode(ended) != status:
         stop(f"{' '.join(words[:3])} .. did not end with status {status}: {printed[-500:].decode(errors='replace')}")
     return Taken(used.ru_utime + used.ru_stime, elapsed, used.ru_maxrss), printed
+
+
+@contextlib.contextmanager
+def taking():
+    """A list to which what this script takes in this time is added, without its memory."""
+    taken, before, start = [], time.process_time(), time.perf_counter()
+    yield taken
+    taken.append(Taken(time.process_time() - before, time.perf_counter() - start, 0))
+
+
+def digests(file):
+    """What the three digests of all bodies of a database file take, by hashlib. To read the bodies is not counted."""
+    held = sqlite3.connect(file)
+    found, parts = held.execute("SELECT bytes FROM pieces"), []
+    while pieces := found.fetchmany(1000):
+        with taking() as taken:
+            for (piece,) in pieces:
+                for digest in ("md5", "sha1", "sha256"):
+                    hashlib.new(digest, piece).digest()
+        parts += taken
+    held.close()
+    return total(parts)
 
 
 def free_port():

@@ -3,6 +3,7 @@
 order, and the lines are run in a folder that is new with each file: what one leaves in files, those behind it find.
 
     line WORD..            what a line prints, its errors behind a line `errors:`, and its exit status; `(no newline)` behind a text without an end
+    line-with TEXT WORD..  the same where this text is on standard input
     cut-output N WORD..    the same where standard output takes N bytes and then fails
     cut-errors N WORD..    the same where standard error does
     write NAME BODY        `written`
@@ -84,6 +85,14 @@ class Folder:
         ran = self.ran(words)
         return told(ran.stdout, ran.stderr, ran.returncode)
 
+    def line_with(self, text, *words):
+        """What a line prints that has this text on standard input."""
+        with tempfile.TemporaryFile() as file:
+            file.write(text)
+            file.seek(0)
+            ran = self.ran(words, stdin=file)
+        return told(ran.stdout, ran.stderr, ran.returncode)
+
     def cut(self, output, room, words):
         """What a line prints of which this output is a file that has room for so many bytes: there it has come to the most that a file
         may have. The signal that tells of this is ignored, as Python does, and so the call alone tells it."""
@@ -120,6 +129,7 @@ class Folder:
 
 QUESTIONS = {
     b"line": Folder.line,
+    b"line-with": Folder.line_with,
     b"cut-output": Folder.cut_output,
     b"cut-errors": Folder.cut_errors,
     b"write": Folder.write,
@@ -222,7 +232,7 @@ class Reading(unittest.TestCase):
                 self.assertEqual(self.read(text), "unread")
 
     def test_what_is_no_question(self):
-        for words in ([b"nothing"], [b"read"], [b"read", b"a", b"b"], [b"cut-output"], [b"cut-output", b"x", b"compare", b"1", b"2"]):
+        for words in ([b"nothing"], [b"read"], [b"read", b"a", b"b"], [b"line-with"], [b"cut-output"], [b"cut-output", b"x", b"compare", b"1", b"2"]):
             with self.subTest(words), self.assertRaises(Unread):
                 answer(Folder("no program", "no folder"), words)
 

@@ -42,6 +42,12 @@ class Case(snippets.Case):
         self.room.write("work/box.conf", snippet("configuration") + "KeepDays: 90\n")
         self.shell("rm -f box.db*; archive init --db box.db --at 1 box.conf")
 
+    def made_with_lab(self):
+        """Makes the archive of the page with a second suite, lab, that keeps what box keeps."""
+        lab = "\nCodename: lab\nArchitectures: amd64 source\nComponents: main\n"
+        self.room.write("work/box.conf", snippet("configuration") + lab)
+        self.shell("rm -f box.db*; archive init --db box.db --at 1 box.conf")
+
     def ready(self, package=HELLO, folder="ready"):
         """Makes the upload of a package, by with_sidecars. Its paths are in the file `files`."""
         self.shell(f"with_sidecars {built(self.room.folder, package)} {folder} > files")
@@ -94,6 +100,15 @@ class Commands(Case):
             for option in re.findall(r"--\w+", " ".join(words)):
                 self.assertIn(option, told)
 
+    @needs("dpkg-deb")
+    def test_a_list_is_done_over_one_opening(self):
+        self.made()
+        self.ready()
+        names = self.names()
+        self.assertEqual(self.shell(snippet("batch")), "".join(f"new {it}\n" for it in names) + f"accepted {CHANGES}\n")
+        piped = snippet("batch", {" > list\narchive": " | archive", '" list': '" -'})
+        self.assertEqual(self.shell(piped), "".join(f"again {it}\n" for it in names))
+
     def test_a_moment_never_falls(self):
         now = int(time.time())
         for last, wanted in ((None, now), (now - 1000, now), (now + 1000, now + 1000)):
@@ -139,6 +154,15 @@ class Rules(Case):
         self.shell("rm box.db*; archive init --db box.db --at 1 box.conf")
         self.judged()
         self.assertEqual(self.shell("archive copy --db box.db --at 1 box lab hello"), "2\n")
+
+    @needs("dpkg-deb")
+    def test_a_whole_suite_is_copied(self):
+        self.made_with_lab()
+        self.judged()
+        self.assertEqual(self.shell(snippet("promote")), "2 hello\n")
+        self.assertEqual(self.shell(snippet("promote")), "0 hello\n")
+        status, printed, told = self.room.run("archive promote --db box.db --at 4000000000 box lab world hello")
+        self.assertEqual((status, printed, told), (1, "0 hello\nrefused Q8 world\n", ""))
 
     @needs("dpkg-deb")
     def test_a_package_is_taken_out_and_brought_back(self):
@@ -287,6 +311,15 @@ class Serving(Case):
         port = self.serve()
         self.assertEqual(self.shell(snippet("remove by HTTP", self.at(port))), "2\n")
         self.assertEqual(self.shell(f"curl -sS --fail http://127.0.0.1:{port}/{PACKAGES}"), "")
+
+    @needs("dpkg-deb", "curl")
+    def test_a_whole_suite_is_copied_by_curl(self):
+        self.made_with_lab()
+        self.ready()
+        self.shell('archive put --db box.db --at "$(date +%s)" $(cat files); archive run --db box.db --at "$(date +%s)"')
+        port = self.serve()
+        self.assertEqual(self.shell(snippet("promote by HTTP", self.at(port))), "2 hello\n")
+        self.assertEqual(self.shell(snippet("promote by HTTP", self.at(port))), "0 hello\n")
 
     @needs("dpkg-deb", "apt-get")
     def test_a_release_expires_and_is_renewed(self):

@@ -117,6 +117,7 @@ class Proxy(unittest.TestCase):
             ("queue/clean", "-X POST", "404 405"),
             ("copy/box/box/hello", "-X POST", "404 405"),
             ("remove/box/hello", "-X POST", "404 405"),
+            ("promote/box/lab", "-X POST", "404 405"),
             ("queue", "-X POST", "403"),
             ("incoming/hello_1.0-1_amd64.deb", "-T box.conf", "401"),
             ("incoming/hello_1.0-1_amd64.deb", "-T box.conf -u ann:guess", "401"),

@@ -32,6 +32,16 @@ def check(found, wanted):
         measure.stop(f"what came is {found!r:.300}, and not {wanted!r:.300}")
 
 
+def put_lines(paths, word):
+    """What is printed for files that were all handed in, with this word for each."""
+    return "".join(f"{word} {os.path.basename(path)}\n" for path in paths).encode()
+
+
+def check_promoted(lines, sources):
+    """Checks that each of these sources, perhaps among others, was copied."""
+    check({f"1 {source}".encode() for source in sources} - set(lines.splitlines()), set())
+
+
 def check_run(lines, count):
     """Checks that a run accepted so many uploads, and judged no more."""
     check([line.split()[0] for line in lines.decode().splitlines()], ["accepted"] * count)
@@ -42,6 +52,7 @@ class Lines:
 
     title = "archive, by command lines"
     opens_each_time = True
+    takes_lists = True
 
     def __init__(self, program, folder):
         self.program, self.db, self.conf = program, f"{folder}/box.db", f"{folder}/box.conf"
@@ -60,9 +71,18 @@ class Lines:
         for first in range(0, len(paths), MOST_WORDS):
             some = paths[first:first + MOST_WORDS]
             taken, printed = self.line("put", *some)
-            check(printed.decode().split("\n"), [f"{word} {os.path.basename(path)}" for path in some] + [""])
+            check(printed, put_lines(some, word))
             parts.append(taken)
         return measure.total(parts)
+
+    def hand_in_and_run(self, paths, count, word="new"):
+        """Delivers files and runs the queue, in which so many uploads are due then, by one list of commands."""
+        pathlib.Path(f"{self.db}.list").write_text("".join(f"put {path}\n" for path in paths) + "run\n")
+        taken, printed = self.line("batch", f"{self.db}.list")
+        delivered = put_lines(paths, word)
+        check(printed[:len(delivered)], delivered)
+        check_run(printed[len(delivered):], count)
+        return taken
 
     def run(self, count):
         """Runs the queue, in which so many uploads are due."""
@@ -77,7 +97,10 @@ class Lines:
         return taken
 
     def copy_all(self, sources):
-        """Copies these sources to it."""
+        """Copies all that the first suite shows, these sources among it, in one change."""
+        taken, printed = self.line("promote", "box", "lab")
+        check_promoted(printed, sources)
+        return taken
 
     def opening(self):
         """Opens the archive, and lists what was judged."""
@@ -101,6 +124,7 @@ class Served(Lines):
 
     title = "archive, by HTTP"
     opens_each_time = False
+    takes_lists = False
 
     def __init__(self, program, folder):
         super().__init__(program, folder)
@@ -130,12 +154,15 @@ class Served(Lines):
         return taken[0]
 
     def copy(self, source):
-        return self.copy_all([source])
+        with self.server.taking() as taken:
+            check(self.server.ask("POST", f"copy/box/lab/{source}"), (200, b"1\n"))
+        return taken[0]
 
     def copy_all(self, sources):
         with self.server.taking() as taken:
-            for source in sources:
-                check(self.server.ask("POST", f"copy/box/lab/{source}"), (200, b"1\n"))
+            status, lines = self.server.ask("POST", "promote/box/lab")
+        check(status, 200)
+        check_promoted(lines, sources)
         return taken[0]
 
     def opening(self):
@@ -166,6 +193,7 @@ class Reprepro:
     """What `reprepro processincoming` makes of the same files, with the same indices and none of them compressed."""
 
     title = "reprepro"
+    takes_lists = False
     INDICES = "DebIndices: Packages Release .\nDscIndices: Sources Release .\n"
     INCOMING = "Name: default\nIncomingDir: incoming\nTempDir: tmp\nAllow: box\nPermit: unused_files\nCleanup: unused_files\n"
 
@@ -183,9 +211,11 @@ class Reprepro:
         (self.base / "conf/incoming").write_text(self.INCOMING)
 
     def hand_in(self, paths, word="new"):
-        """Files are handed in by copying them to a folder, which is not measured."""
-        for path in paths:
-            shutil.copy(path, self.base / "incoming")
+        """Files are handed in by `cp` to a folder."""
+        parts = []
+        for first in range(0, len(paths), MOST_WORDS):
+            parts.append(measure.line(["cp", "-t", str(self.base / "incoming"), *paths[first:first + MOST_WORDS]])[0])
+        return measure.total(parts)
 
     def run(self, count):
         taken, _ = self.line("processincoming", "default")

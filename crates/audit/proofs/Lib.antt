@@ -3,8 +3,10 @@ pub mod BodiesLemmas
 pub mod DatesLemmas
 pub mod FilesLemmas
 pub mod ItemsLemmas
+pub mod KeyedLemmas
 pub mod MetaLemmas
-pub mod PiecesLemmas
+pub mod PlacesLemmas
+pub mod SignsLemmas
 pub mod TextsLemmas
 pub mod UploadsFits
 pub mod UploadsJudged

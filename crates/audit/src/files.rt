@@ -7,6 +7,7 @@ ghost use Rattle.tables_read.specs.All.{AreConstrained, tables_with};
 ghost use Rattle.kept.specs.Kept.{AreFiles};
 ghost use Rattle.audit.specs.Files.{AreThose, HasPrint, is_path, print_in};
 
+use crate::keyed::Rows;
 use std::alloc::{AllocError, Global};
 use std::collections::BTreeMap;
 use suites::{SharedFile, Shelves};
@@ -26,6 +27,13 @@ fn print_of(bodies: &[(u64, Body)], id: u64) -> Option<Print>
     None
 }
 
+/// The print of the body of a number, looked up among all bodies.
+fn print_by_number(bodies: &Rows<'_, (u64, Body)>, id: u64) -> Option<Print>
+    ensures { result ≡ print_in bodies.now.all.now id }
+{
+    print_of(bodies.about(id), id)
+}
+
 /// Whether two prints are the same, or neither is there.
 fn are_same(one: Option<Print>, other: Option<Print>) -> bool
     ensures { IsTrue result ↔ one ≡ other }
@@ -38,12 +46,12 @@ fn are_same(one: Option<Print>, other: Option<Print>) -> bool
 }
 
 /// Whether the body of each file has the print that the pool has at the file's path.
-fn have_prints(shelves: &Shelves, bodies: &[(u64, Body)], files: &[(u64, File)]) -> bool
-    ensures { IsTrue result ↔ All (HasPrint (pool_of shelves.now) bodies.now) files.now }
+fn have_prints(shelves: &Shelves, bodies: &Rows<'_, (u64, Body)>, files: &[(u64, File)]) -> bool
+    ensures { IsTrue result ↔ All (HasPrint (pool_of shelves.now) bodies.now.all.now) files.now }
 {
     for (_, file) in files {
         if !are_same(
-            print_of(bodies, file.body),
+            print_by_number(bodies, file.body),
             shelves.file(file.path.as_str()),
         ) {
             return false;
@@ -81,10 +89,10 @@ fn has_each(paths: &BTreeMap<String, u64>, pool: &BTreeMap<String, SharedFile>) 
 fn are_those(
     alloc: Global,
     shelves: &Shelves,
-    bodies: &[(u64, Body)],
+    bodies: &Rows<'_, (u64, Body)>,
     files: &[(u64, File)],
 ) -> Result<bool, AllocError>
-    ensures { IfOk result (λ those. IsTrue those ↔ AreThose (pool_of shelves.now) bodies.now files.now) }
+    ensures { IfOk result (λ those. IsTrue those ↔ AreThose (pool_of shelves.now) bodies.now.all.now files.now) }
 {
     if !have_prints(shelves, bodies, files) {
         return Ok(false);
@@ -98,5 +106,6 @@ pub fn are_files_of(alloc: Global, all: &AllRows, shelves: &Shelves) -> Result<b
     ensures fit { IfOk result (λ those. AreConstrained (tables_with all.now) →
         IsTrue those ↔ AreFiles (tables_with all.now) shelves.now) }
 {
-    are_those(alloc, shelves, all.bodies.as_slice(), all.files.as_slice())
+    let bodies = Rows::new(all.bodies.as_slice());
+    are_those(alloc, shelves, &bodies, all.files.as_slice())
 }

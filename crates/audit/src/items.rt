@@ -7,6 +7,7 @@ ghost use Rattle.kept.specs.Kept.{AreItems, AreReadable, IsReadable};
 ghost use Rattle.kept.specs.Shown.{MayStand, PutsRow};
 ghost use Rattle.audit.specs.Items.{AreShown, AreStopped, Joins, MayJoin, are_numbered_from, refs_at};
 
+use crate::keyed::Rows;
 use para::Listed;
 use rules::{Config, Suite};
 use shelve::put_row;
@@ -57,6 +58,17 @@ fn refs_of(alloc: Global, refs: &[(u64, Ref)], item: u64) -> Result<Vec<Ref>, Al
     Ok(found)
 }
 
+/// Copies of the rows of an item's files, in the order of the rows, looked up among all files.
+fn refs_by_item(
+    alloc: Global,
+    refs: &Rows<'_, (u64, Ref)>,
+    item: u64,
+) -> Result<Vec<Ref>, AllocError>
+    ensures { IfOk result (λ found. found.items ≡ refs_at refs.now.all.now item) }
+{
+    refs_of(alloc, refs.about(item), item)
+}
+
 /// Whether the files of an item are numbered 1, 2 and so on.
 fn are_numbered(refs: &[Ref]) -> bool
     ensures { result ≡ are_numbered_from 1 refs.now }
@@ -97,13 +109,13 @@ fn put(
     suites: &[Suite],
     id: u64,
     row: &Item,
-    refs: &[(u64, Ref)],
+    refs: &Rows<'_, (u64, Ref)>,
 ) -> Result<bool, AllocError>
     ensures yes { IfOk result (λ joins. IsTrue joins →
-        Joins suites.now refs.now (id, row.now) shelves.old shelves.new) }
-    ensures no { IfOk result (λ joins. joins ≡ false → ¬ MayJoin suites.now refs.now (id, row.now) shelves.old) }
+        Joins suites.now refs.now.all.now (id, row.now) shelves.old shelves.new) }
+    ensures no { IfOk result (λ joins. joins ≡ false → ¬ MayJoin suites.now refs.now.all.now (id, row.now) shelves.old) }
 {
-    let refs = refs_of(alloc, refs, id)?;
+    let refs = refs_by_item(alloc, refs, id)?;
     if !are_numbered(&refs) {
         return Ok(false);
     }
@@ -115,10 +127,10 @@ fn shelves_of(
     alloc: Global,
     suites: &[Suite],
     items: &[(u64, Item)],
-    refs: &[(u64, Ref)],
+    refs: &Rows<'_, (u64, Ref)>,
 ) -> Result<Option<Shelves>, AllocError>
-    ensures some { IfOk result (λ o. IfSome o (AreShown suites.now refs.now items.now)) }
-    ensures none { IfOk result (λ o. o ≡ None → AreStopped suites.now refs.now items.now) }
+    ensures some { IfOk result (λ o. IfSome o (AreShown suites.now refs.now.all.now items.now)) }
+    ensures none { IfOk result (λ o. o ≡ None → AreStopped suites.now refs.now.all.now items.now) }
 {
     let mut shelves = Shelves::new(alloc);
     for (id, row) in items {
@@ -143,12 +155,8 @@ pub fn shelves_in(
 {
     // For the prover alone: the configuration is what its text spells, so no two suites have one codename.
     let _ = config.text();
-    let found = shelves_of(
-        alloc,
-        config.suites(),
-        all.items.as_slice(),
-        all.refs.as_slice(),
-    )?;
+    let refs = Rows::new(all.refs.as_slice());
+    let found = shelves_of(alloc, config.suites(), all.items.as_slice(), &refs)?;
     let Some(shelves) = found else {
         return Ok(None);
     };

@@ -6,6 +6,7 @@ mod bodies;
 mod dates;
 mod files;
 mod items;
+mod keyed;
 mod meta;
 mod pieces;
 mod signed;

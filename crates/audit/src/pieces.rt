@@ -1,13 +1,13 @@
 //! The pieces of the bodies, and where those of one body stand.
 
-ghost use Rattle.std.specs.Prelude.{◌≡◌, ◌↔◌, ◌<◌, ◌≤◌, filter, length, IsTrue};
-ghost use Rattle.std.specs.List.Sorted.{IsPartitionPoint};
+ghost use Rattle.std.specs.Prelude.{◌≡◌, ◌↔◌, filter, IsTrue};
 ghost use Rattle.tables.specs.Pieces.{is_of};
 ghost use Rattle.tables.specs.Rows.{rows_of};
 ghost use Rattle.tables_read.specs.All.{tables_with};
 ghost use Rattle.kept.specs.Kept.{pieces_of};
 ghost use Rattle.audit.specs.Bodies.{AreByBody};
 
+use crate::keyed;
 use tables::rows::Piece;
 use tables_read::AllRows;
 
@@ -15,30 +15,7 @@ use tables_read::AllRows;
 fn are_by_body(pieces: &[(u64, Piece)]) -> bool
     ensures { IsTrue result ↔ AreByBody pieces.now }
 {
-    for later in 1..pieces.len() {
-        if pieces[later].1.body < pieces[later - 1].1.body {
-            return false;
-        }
-    }
-    true
-}
-
-/// How many pieces stand before those of a body, where the pieces stand by body.
-fn count_below(pieces: &[(u64, Piece)], id: u64) -> usize
-    requires { AreByBody pieces.now }
-    ensures bound { result ≤ length pieces.now }
-    ensures parted { IsPartitionPoint (λ x. x.1.body < id) (λ x. id ≤ x.1.body) pieces.now result }
-{
-    pieces.partition_point(|row| row.1.body < id)
-}
-
-/// How many pieces stand before those of the bodies above one, where the pieces stand by body.
-fn count_up_to(pieces: &[(u64, Piece)], id: u64) -> usize
-    requires { AreByBody pieces.now }
-    ensures bound { result ≤ length pieces.now }
-    ensures parted { IsPartitionPoint (λ x. x.1.body ≤ id) (λ x. id < x.1.body) pieces.now result }
-{
-    pieces.partition_point(|row| row.1.body <= id)
+    keyed::are_in_order(pieces)
 }
 
 /// The pieces of a body, where the pieces stand by body.
@@ -46,9 +23,7 @@ fn part_of(pieces: &[(u64, Piece)], id: u64) -> &[(u64, Piece)]
     requires { AreByBody pieces.now }
     ensures { filter (is_of id) (rows_of result.now) ≡ filter (is_of id) (rows_of pieces.now) }
 {
-    let (_, rest) = pieces.split_at(count_below(pieces, id));
-    let (part, _) = rest.split_at(count_up_to(rest, id));
-    part
+    keyed::part_of(pieces, id)
 }
 
 /// The pieces of these rows, and whether they stand by body, in rising order of the bodies' numbers.

@@ -3,6 +3,9 @@
 mod arrived;
 mod awaited;
 mod judged;
+mod lookups;
+mod places;
+mod signs;
 mod wanted;
 
 ghost use Rattle.std.specs.Prelude.{◌≡◌, None, IfOk, IfSome, List, MatchBool};
@@ -11,11 +14,13 @@ ghost use Rattle.tables_read.specs.All.{AreConstrained, tables_with};
 ghost use Rattle.audit.specs.Parts.{BodiesFit, UploadsFit};
 ghost use Rattle.audit.specs.Uploads.{AreBesides};
 
+use crate::keyed::Rows;
 use crate::pieces::Pieces;
 use arrived::arrived_among;
 use awaited::awaited_among;
 use judged::{are_placed, judged_until, last_place};
 use keep::Judgement;
+use lookups::{Verdicts, There};
 use std::alloc::{AllocError, Global};
 use tables_read::AllRows;
 use wanted::{are_owned, are_requests};
@@ -26,14 +31,20 @@ fn are_besides(alloc: Global, all: &AllRows, judged: &[Judgement]) -> Result<boo
         → IfOk result (λ fit. MatchBool fit (AreBesides (tables_with all.now) judged.now)
         (AreBesides (tables_with all.now) judged.now → ⊥)) }
 {
-    let Some(arrived) = arrived_among(alloc, &all.arrivals, &all.bodies)? else {
+    let bodies = Rows::new(&all.bodies);
+    let Some(arrived) = arrived_among(alloc, &all.arrivals, &bodies)? else {
         return Ok(false);
     };
-    let awaited = awaited_among(alloc, &Pieces::new(all), judged, &arrived)?;
-    if !are_requests(&all.uploads, &all.wants, &arrived, &awaited) {
+    let pieces = Pieces::new(all);
+    let verdicts = Verdicts::new(alloc, judged)?;
+    let awaited = awaited_among(alloc, &pieces, &verdicts, &arrived)?;
+    let there = There::new(alloc, &arrived)?;
+    let wants = Rows::new(&all.wants);
+    if !are_requests(&all.uploads, &wants, &there, &awaited) {
         return Ok(false);
     }
-    Ok(are_owned(&all.wants, &all.uploads))
+    let uploads = Rows::new(&all.uploads);
+    Ok(are_owned(&all.wants, &uploads))
 }
 
 /// The judged uploads in their order, where the rows of uploads and of what they want are those of an archive.

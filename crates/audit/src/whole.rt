@@ -1,12 +1,12 @@
 //! Whether all rows are those of an archive.
 
-ghost use Rattle.std.specs.Prelude.{◌≡◌, ◌≤◌, ◌↔◌, ℕ, List, All, None, false, length, IsTrue, IfOk, IfSome};
+ghost use Rattle.std.specs.Prelude.{◌≡◌, ◌≤◌, ◌↔◌, ℕ, List, All, None, length, IsTrue, IfOk, IfSome};
 ghost use Rattle.suites.specs.Shelves.{ShelvesValue};
 ghost use Rattle.keep.specs.declared.change.Judgement.{Judgement as JudgementValue};
 ghost use Rattle.tables_read.specs.All.{AreConstrained, tables_with};
-ghost use Rattle.kept.specs.Kept.{AreReadable};
+ghost use Rattle.kept.specs.Kept.{AreReadable, IsKept};
 ghost use Rattle.audit.specs.Parts.{ArrivalsFit, BodiesFit};
-ghost use Rattle.audit.specs.Whole.{KeepsNone, KeepsSome, RestFits, ShownFits};
+ghost use Rattle.audit.specs.Whole.{KeepsNone, RestFits, ShownFits};
 
 use crate::arrivals::are_arrivals_deliverable;
 use crate::bodies::are_bodies_whole;
@@ -20,41 +20,47 @@ use crate::uploads::judgements_in;
 use keep::{Judgement, LATEST};
 use rules::Config;
 use std::alloc::{AllocError, Global};
+use suites::Shelves;
 use tables_read::AllRows;
 use told::are_told;
 
-/// What a keeper holds beside the tables: the configuration, the judged uploads in order, and for each suite the moment at
-/// which what it shows last changed.
+/// What a keeper holds beside the tables: the configuration, the judged uploads in order, for each suite the moment at which
+/// what it shows last changed, and what the suites show.
 #[derive(Drop)]
 pub struct Held {
     pub config: Config,
     pub judged: Vec<Judgement>,
     pub dates: Vec<u64>,
+    pub shelves: Shelves,
     ghost in_range: { All (λ date. date ≤ 4_102_444_799) dates.items },
 }
 
-/// Whether the rows show the items, the files and the texts of an archive of this configuration, with these dates.
-fn shows_archive(
+/// What the suites show, where the rows are the items, the files and the texts of an archive of this configuration, with these
+/// dates.
+fn shelves_shown(
     alloc: Global,
     all: &AllRows,
     config: &Config,
     dates: &[u64],
-) -> Result<bool, AllocError>
+) -> Result<Option<Shelves>, AllocError>
     requires dated { length dates.now ≡ length config.now.suites }
     requires in_range { All (λ date. date ≤ LATEST) dates.now }
-    ensures fits { AreConstrained (tables_with all.now) → IfOk result (λ fits. IsTrue fits → (shown : ShelvesValue) × ShownFits (tables_with all.now) config.now shown dates.now) }
-    ensures none { AreConstrained (tables_with all.now) → IfOk result (λ fits. fits ≡ false → AreReadable (tables_with all.now) → (shown : ShelvesValue) → ShownFits (tables_with all.now) config.now shown dates.now → ⊥) }
+    ensures some { AreConstrained (tables_with all.now) → IfOk result (λ o. IfSome o (λ shelves. ShownFits (tables_with all.now) config.now shelves dates.now)) }
+    ensures none { AreConstrained (tables_with all.now) → IfOk result (λ o. o ≡ None → AreReadable (tables_with all.now) → (shown : ShelvesValue) → ShownFits (tables_with all.now) config.now shown dates.now → ⊥) }
 {
     let Some(shelves) = shelves_in(alloc, all, config)? else {
-        return Ok(false);
+        return Ok(None);
     };
     if !are_told(alloc, config, &shelves)? {
-        return Ok(false);
+        return Ok(None);
     }
     if !are_files_of(alloc, all, &shelves)? {
-        return Ok(false);
+        return Ok(None);
     }
-    are_texts_of(alloc, all, config, &shelves, dates)
+    if !are_texts_of(alloc, all, config, &shelves, dates)? {
+        return Ok(None);
+    }
+    Ok(Some(shelves))
 }
 
 /// Whether the rows are those of whole bodies that arrived under names which may be delivered.
@@ -69,7 +75,7 @@ fn have_arrived(alloc: Global, all: &AllRows) -> Result<bool, AllocError>
 
 /// What a keeper holds of an archive of this configuration with these rows, where they are those of one.
 fn held_of(alloc: Global, all: &AllRows, config: Config) -> Result<Option<Held>, AllocError>
-    ensures some { AreConstrained (tables_with all.now) → BodiesFit (tables_with all.now) → IfOk result (λ o. IfSome o (λ held. (held.config ≡ config) × (shown : ShelvesValue) × RestFits (tables_with all.now) config held.judged.items shown held.dates.items)) }
+    ensures some { AreConstrained (tables_with all.now) → BodiesFit (tables_with all.now) → IfOk result (λ o. IfSome o (λ held. (held.config ≡ config) × RestFits (tables_with all.now) config held.judged.items held.shelves held.dates.items)) }
     ensures none { AreConstrained (tables_with all.now) → BodiesFit (tables_with all.now) → IfOk result (λ o. o ≡ None → AreReadable (tables_with all.now) → (judged : List JudgementValue) (shown : ShelvesValue) (dates : List ℕ) → RestFits (tables_with all.now) config judged shown dates → ⊥) }
 {
     let Some(judged) = judgements_in(alloc, all)? else {
@@ -81,19 +87,20 @@ fn held_of(alloc: Global, all: &AllRows, config: Config) -> Result<Option<Held>,
     let Some(dates) = dates_in(alloc, all, &config)? else {
         return Ok(None);
     };
-    if !shows_archive(alloc, all, &config, &dates)? {
+    let Some(shelves) = shelves_shown(alloc, all, &config, &dates)? else {
         return Ok(None);
-    }
+    };
     Ok(Some(Held {
         config,
         judged,
         dates,
+        shelves,
     }))
 }
 
 /// What a keeper holds of an archive with these rows, where they are those of one.
 pub fn archive_in(alloc: Global, all: &AllRows) -> Result<Option<Held>, AllocError>
-    ensures some { AreConstrained (tables_with all.now) → IfOk result (λ o. IfSome o (λ held. KeepsSome (tables_with all.now) held.config held.judged.items held.dates.items)) }
+    ensures some { AreConstrained (tables_with all.now) → IfOk result (λ o. IfSome o (λ held. IsKept (tables_with all.now) held.config held.judged.items held.shelves held.dates.items)) }
     ensures none { AreConstrained (tables_with all.now) → IfOk result (λ o. o ≡ None → AreReadable (tables_with all.now) → KeepsNone (tables_with all.now)) }
 {
     let Some(config) = config_in(alloc, all)? else {

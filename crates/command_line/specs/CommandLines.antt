@@ -9,7 +9,7 @@ use Rattle.std.specs.Borrow.{Bor}
 use Rattle.clap.specs.Words.{Row, Text, all_of, first_of}
 use Rattle.keep.specs.Book.{latest}
 use Rattle.command_line.specs.declared.parsed.CommandLine.{CommandLine}
-use Rattle.command_line.specs.declared.parsed.CommandLine.TheVariants.{Try, Compare, Init, Put, Run, Copy, Remove, Clean, Show, Waiting, Verdicts, Serve}
+use Rattle.command_line.specs.declared.parsed.CommandLine.TheVariants.{Try, Compare, Init, Put, Run, Copy, Promote, Remove, Clean, Batch, Show, Waiting, Verdicts, Serve}
 
 -- the most connections that one call of the program serves
 abbrev pub most_connections : ℕ
@@ -30,6 +30,10 @@ IsOptionalWord id rows word = option_map (λ text. text.now) word ≡ first_of i
 -- whether this flag was given
 abbrev pub is_true : Text → List Row → Bool
 is_true id rows = option_map_or (λ text. bytes_eq text (codes "true")) (first_of id rows) false
+
+-- the words are those that this argument was given, if it was given any
+abbrev pub AreWords : Text → List Row → Option (Vec (Bor (List ℕ)) Global) → Type 0
+AreWords id rows words = option_map (λ given. map (λ word. word.now) given.items) words ≡ all_of id rows
 
 -- the paths are those given, one or more
 abbrev pub HasPaths : List Row → Vec (Bor (List ℕ)) Global → Type 0
@@ -60,9 +64,14 @@ IsLine found (Run db at) = IsNamed found (codes "run") (λ rows. IsWord (codes "
 IsLine found (Copy db at from to source) = IsNamed found (codes "copy") (λ rows.
     IsWord (codes "db") rows db × IsMoment rows at × IsWord (codes "FROM") rows from × IsWord (codes "TO") rows to
     × IsWord (codes "SOURCE") rows source)
+IsLine found (Promote db at from to sources) = IsNamed found (codes "promote") (λ rows.
+    IsWord (codes "db") rows db × IsMoment rows at × IsWord (codes "FROM") rows from × IsWord (codes "TO") rows to
+    × AreWords (codes "SOURCE") rows sources)
 IsLine found (Remove db at suite name) = IsNamed found (codes "remove") (λ rows.
     IsWord (codes "db") rows db × IsMoment rows at × IsWord (codes "SUITE") rows suite × IsWord (codes "PACKAGE") rows name)
 IsLine found (Clean db at) = IsNamed found (codes "clean") (λ rows. IsWord (codes "db") rows db × IsMoment rows at)
+IsLine found (Batch db at list) = IsNamed found (codes "batch") (λ rows.
+    IsWord (codes "db") rows db × IsMoment rows at × IsWord (codes "LIST") rows list)
 IsLine found (Show db path) = IsNamed found (codes "show") (λ rows.
     IsWord (codes "db") rows db × IsWord (codes "PATH") rows path)
 IsLine found (Waiting db at) = IsNamed found (codes "waiting") (λ rows. IsWord (codes "db") rows db × IsMoment rows at)

@@ -1,3 +1,4 @@
 pub mod CommandLines
 pub mod Fault
+pub mod Lists
 pub mod Shape

@@ -12,13 +12,16 @@ use Rattle.command_line.specs.CommandLines.{most_connections}
 abbrev pub word_rule : Text → Rule
 word_rule name = record (new_rule name) { required = true; action = Some Set }
 
--- one or more words
-abbrev pub path_rule : Rule
-path_rule = record (new_rule (codes "PATH")) {
-  required = true;
+-- any number of words, which may be left out
+abbrev pub many_rule : Text → Rule
+many_rule name = record (new_rule name) {
   action = Some Append;
   range = Some (record { start_inclusive = 1; end_inclusive = 18446744073709551615 });
 }
+
+-- one or more words
+abbrev pub path_rule : Rule
+path_rule = record (many_rule (codes "PATH")) { required = true }
 
 -- --db FILE
 abbrev pub db_rule : Rule
@@ -64,8 +67,16 @@ copy_app =
     with_rule (with_rule (with_rule (timed_app (codes "copy")) (word_rule (codes "FROM"))) (word_rule (codes "TO")))
     (word_rule (codes "SOURCE"))
 
+abbrev pub promote_app : App
+promote_app =
+    with_rule (with_rule (with_rule (timed_app (codes "promote")) (word_rule (codes "FROM"))) (word_rule (codes "TO")))
+    (many_rule (codes "SOURCE"))
+
 abbrev pub remove_app : App
 remove_app = with_rule (with_rule (timed_app (codes "remove")) (word_rule (codes "SUITE"))) (word_rule (codes "PACKAGE"))
+
+abbrev pub batch_app : App
+batch_app = with_rule (timed_app (codes "batch")) (word_rule (codes "LIST"))
 
 abbrev pub show_app : App
 show_app = with_rule (db_app (codes "show")) (word_rule (codes "PATH"))
@@ -89,11 +100,13 @@ new_archive = record (new_app (codes "archive")) {
 -- with the commands that change an archive
 abbrev pub with_changes : App → App
 with_changes app =
-    with_subcommand (with_subcommand (with_subcommand (with_subcommand (with_subcommand (with_subcommand app init_app.top) put_app.top)
+    with_subcommand (with_subcommand (with_subcommand (with_subcommand (with_subcommand (with_subcommand (with_subcommand app init_app.top) put_app.top)
     (timed_app (codes "run")).top)
     copy_app.top)
+    promote_app.top)
     remove_app.top)
-    (timed_app (codes "clean")).top
+    (timed_app (codes "clean")).top)
+    batch_app.top
 
 -- with the commands that ask an archive, and the one that serves it
 abbrev pub with_questions : App → App

@@ -2,7 +2,7 @@
 
 ghost use Rattle.std.specs.Prelude.{◌≡◌, false};
 ghost use Rattle.clap.specs.Words.{rule_of};
-ghost use Rattle.command_line.specs.Shape.{at_rule, count_rule, db_rule, log_rule, moments_rule, path_rule, word_rule};
+ghost use Rattle.command_line.specs.Shape.{at_rule, count_rule, db_rule, log_rule, many_rule, moments_rule, path_rule, word_rule};
 
 use clap::{Arg, ArgAction, value_parser};
 use keep::LATEST;
@@ -22,16 +22,23 @@ pub fn word<'a>(alloc: Global, name: &'a str, meaning: &'a str) -> Arg<'a>
         .help(meaning)
 }
 
+/// Any number of words, and what each means.
+pub fn many<'a>(alloc: Global, id: &'a str, meaning: &'a str) -> Arg<'a>
+    ensures rule { rule_of result ≡ many_rule id.now }
+    ensures local { result.global ≡ false }
+{
+    Arg::new(alloc, id)
+        .action(ArgAction::Append)
+        .num_args(1..)
+        .help(meaning)
+}
+
 /// One path or more, and what each means.
 pub fn paths<'a>(alloc: Global, meaning: &'a str) -> Arg<'a>
     ensures rule { rule_of result ≡ path_rule }
     ensures local { result.global ≡ false }
 {
-    Arg::new(alloc, "PATH")
-        .required(true)
-        .action(ArgAction::Append)
-        .num_args(1..)
-        .help(meaning)
+    many(alloc, "PATH", meaning).required(true)
 }
 
 /// `--db FILE`, the database.

@@ -2,9 +2,9 @@
 
 ghost use Rattle.std.specs.Prelude.{IfOk, codes};
 ghost use Rattle.clap.specs.Words.{App, with_rule, with_subcommand};
-ghost use Rattle.command_line.specs.Shape.{archive_app, new_archive, IsCommand, try_app, compare_app, init_app, put_app, db_app, timed_app, copy_app, remove_app, show_app, serve_app, word_rule, moments_rule, log_rule, with_changes, with_questions};
+ghost use Rattle.command_line.specs.Shape.{archive_app, new_archive, IsCommand, try_app, compare_app, init_app, put_app, db_app, timed_app, copy_app, promote_app, remove_app, batch_app, show_app, serve_app, word_rule, moments_rule, log_rule, with_changes, with_questions};
 
-use crate::arguments::{at, count, db, log, moments, paths, word};
+use crate::arguments::{at, count, db, log, many, moments, paths, word};
 use crate::version::VERSION;
 use clap::Command;
 use std::alloc::{AllocError, Global};
@@ -109,6 +109,24 @@ fn copy_command<'a>(alloc: Global) -> Result<Command<'a>, AllocError>
     .arg(word(alloc, "SOURCE", "The name of the source"))
 }
 
+fn promote_command<'a>(alloc: Global) -> Result<Command<'a>, AllocError>
+    ensures { IfOk result (IsCommand promote_app) }
+{
+    worded_command(
+        alloc,
+        "promote",
+        "Copies several sources or all of a suite at once, prints how many are new",
+        "FROM",
+        "The suite that shows them",
+    )?
+    .arg(word(alloc, "TO", "The suite that is to show them"))?
+    .arg(many(
+        alloc,
+        "SOURCE",
+        "The name of a source; without one, all that FROM shows",
+    ))
+}
+
 fn remove_command<'a>(alloc: Global) -> Result<Command<'a>, AllocError>
     ensures { IfOk result (IsCommand remove_app) }
 {
@@ -129,6 +147,18 @@ fn clean_command<'a>(alloc: Global) -> Result<Command<'a>, AllocError>
         alloc,
         "clean",
         "Takes away the arrivals that count no more, prints how many",
+    )
+}
+
+fn batch_command<'a>(alloc: Global) -> Result<Command<'a>, AllocError>
+    ensures { IfOk result (IsCommand batch_app) }
+{
+    worded_command(
+        alloc,
+        "batch",
+        "Does the commands of a list over one opening, prints what each answers",
+        "LIST",
+        "The file of the list, a command a line; - is standard input",
     )
 }
 
@@ -212,8 +242,10 @@ fn with_changing<'a>(
     let command = with(command, put_command(alloc));
     let command = with(command, run_command(alloc));
     let command = with(command, copy_command(alloc));
+    let command = with(command, promote_command(alloc));
     let command = with(command, remove_command(alloc));
-    with(command, clean_command(alloc))
+    let command = with(command, clean_command(alloc));
+    with(command, batch_command(alloc))
 }
 
 /// A command with those subcommands that ask an archive, and the one that serves it.

@@ -1,8 +1,9 @@
-//! The program's command line: what its words ask for, as clap reads them.
+//! The program's command line: what its words ask for, as clap reads them, and what each line of a list of commands asks for.
 #![tactic(auto)]
 
 mod arguments;
 mod commands;
+mod list;
 mod parsed;
 mod readings;
 mod values;
@@ -10,6 +11,7 @@ mod version;
 mod words;
 
 pub use arguments::MOST_CONNECTIONS;
+pub use list::{BatchFault, Entry, read_list};
 pub use parsed::{CommandLine, LineFault};
 pub use version::VERSION;
 pub use words::line;

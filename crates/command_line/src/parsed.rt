@@ -42,6 +42,14 @@ pub enum CommandLine<'a> {
         to: &'a str,
         source: &'a str,
     },
+    /// Copies several sources from a suite to another in one change: those that are named, or else all that it shows.
+    Promote {
+        db: &'a str,
+        at: u64,
+        from: &'a str,
+        to: &'a str,
+        sources: Option<Vec<&'a str>>,
+    },
     /// Removes all items of a package's name from a suite.
     Remove {
         db: &'a str,
@@ -53,6 +61,12 @@ pub enum CommandLine<'a> {
     Clean {
         db: &'a str,
         at: u64,
+    },
+    /// Does the commands of a list, which is a file, or standard input where it is `-`.
+    Batch {
+        db: &'a str,
+        at: u64,
+        list: &'a str,
     },
     /// Prints an index or a file of the pool.
     Show {

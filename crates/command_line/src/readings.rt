@@ -6,7 +6,7 @@ ghost use Rattle.command_line.specs.CommandLines.{IsLine};
 
 use crate::arguments::MOST_CONNECTIONS;
 use crate::parsed::{CommandLine, LineFault};
-use crate::values::{is_set, lacking, moment, number, optional, paths, required};
+use crate::values::{is_set, lacking, moment, number, optional, paths, required, sources};
 use clap::ArgMatches;
 use std::alloc::Global;
 
@@ -68,6 +68,20 @@ fn read_copy<'a>(alloc: Global, found: &ArgMatches<'a>) -> Result<CommandLine<'a
     })
 }
 
+fn read_promote<'a>(alloc: Global, found: &ArgMatches<'a>) -> Result<CommandLine<'a>, LineFault>
+    ensures { IfOk result (IsLine (Some (codes "promote", rows_of (found_of found.now)))) }
+{
+    let from = required(alloc, found, "FROM")?;
+    let to = required(alloc, found, "TO")?;
+    Ok(CommandLine::Promote {
+        db: required(alloc, found, "db")?,
+        at: moment(alloc, found)?,
+        from,
+        to,
+        sources: sources(alloc, found)?,
+    })
+}
+
 fn read_remove<'a>(alloc: Global, found: &ArgMatches<'a>) -> Result<CommandLine<'a>, LineFault>
     ensures { IfOk result (IsLine (Some (codes "remove", rows_of (found_of found.now)))) }
 {
@@ -85,6 +99,16 @@ fn read_clean<'a>(alloc: Global, found: &ArgMatches<'a>) -> Result<CommandLine<'
     Ok(CommandLine::Clean {
         db: required(alloc, found, "db")?,
         at: moment(alloc, found)?,
+    })
+}
+
+fn read_batch<'a>(alloc: Global, found: &ArgMatches<'a>) -> Result<CommandLine<'a>, LineFault>
+    ensures { IfOk result (IsLine (Some (codes "batch", rows_of (found_of found.now)))) }
+{
+    Ok(CommandLine::Batch {
+        db: required(alloc, found, "db")?,
+        at: moment(alloc, found)?,
+        list: required(alloc, found, "LIST")?,
     })
 }
 
@@ -142,8 +166,10 @@ pub fn command_of<'a>(
         "put" => read_put(alloc, found),
         "run" => read_run(alloc, found),
         "copy" => read_copy(alloc, found),
+        "promote" => read_promote(alloc, found),
         "remove" => read_remove(alloc, found),
         "clean" => read_clean(alloc, found),
+        "batch" => read_batch(alloc, found),
         "show" => read_show(alloc, found),
         "waiting" => read_waiting(alloc, found),
         "verdicts" => read_verdicts(alloc, found),

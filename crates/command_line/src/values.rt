@@ -1,9 +1,9 @@
 //! Values of a line's words, from its matches.
 
-ghost use Rattle.std.specs.Prelude.{◌≡◌, codes, map, IfOk};
+ghost use Rattle.std.specs.Prelude.{◌≡◌, codes, IfOk};
 ghost use Rattle.std.specs.Option.{option_map};
-ghost use Rattle.clap.specs.Words.{all_of, first_of, found_of, rows_of};
-ghost use Rattle.command_line.specs.CommandLines.{HasPaths, IsMoment, IsNumber, IsOptionalWord, IsWord, is_true};
+ghost use Rattle.clap.specs.Words.{first_of, found_of, rows_of};
+ghost use Rattle.command_line.specs.CommandLines.{AreWords, HasPaths, IsMoment, IsNumber, IsOptionalWord, IsWord, is_true};
 
 use crate::commands::commands;
 use crate::parsed::LineFault;
@@ -85,11 +85,15 @@ pub fn moment(alloc: Global, found: &ArgMatches<'_>) -> Result<u64, LineFault>
     number(alloc, found, "at", 0, LATEST)
 }
 
-fn texts<'a>(alloc: Global, found: &ArgMatches<'a>) -> Result<Option<Vec<&'a str>>, AllocError>
-    ensures { IfOk result (λ given. option_map (λ paths. map (λ path. path.now) paths.items) given ≡ all_of (codes "PATH") (rows_of (found_of found.now))) }
+fn texts<'a>(
+    alloc: Global,
+    found: &ArgMatches<'a>,
+    id: &str,
+) -> Result<Option<Vec<&'a str>>, AllocError>
+    ensures { IfOk result (AreWords id.now (rows_of (found_of found.now))) }
 {
-    match found.get_strs("PATH") {
-        Some(paths) => Ok(Some(Vec::from_slice(alloc, paths)?)),
+    match found.get_strs(id) {
+        Some(texts) => Ok(Some(Vec::from_slice(alloc, texts)?)),
         None => Ok(None),
     }
 }
@@ -98,8 +102,18 @@ fn texts<'a>(alloc: Global, found: &ArgMatches<'a>) -> Result<Option<Vec<&'a str
 pub fn paths<'a>(alloc: Global, found: &ArgMatches<'a>) -> Result<Vec<&'a str>, LineFault>
     ensures { IfOk result (HasPaths (rows_of (found_of found.now))) }
 {
-    match texts(alloc, found)? {
+    match texts(alloc, found, "PATH")? {
         Some(paths) if !paths.is_empty() => Ok(paths),
         _ => Err(lacking(alloc)),
     }
+}
+
+/// The sources of a command, in their order, if any are named.
+pub fn sources<'a>(
+    alloc: Global,
+    found: &ArgMatches<'a>,
+) -> Result<Option<Vec<&'a str>>, LineFault>
+    ensures { IfOk result (AreWords (codes "SOURCE") (rows_of (found_of found.now))) }
+{
+    Ok(texts(alloc, found, "SOURCE")?)
 }

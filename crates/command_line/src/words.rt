@@ -20,17 +20,19 @@ use std::alloc::Global;
 /// put --db FILE --at N PATH..
 /// run --db FILE --at N
 /// copy --db FILE --at N FROM TO SOURCE
+/// promote --db FILE --at N FROM TO [SOURCE..]
 /// remove --db FILE --at N SUITE PACKAGE
 /// clean --db FILE --at N
+/// batch --db FILE --at N LIST
 /// show --db FILE PATH
 /// waiting --db FILE --at N
 /// verdicts --db FILE
 /// serve --db FILE --at N [--moments MOMENTS] [--log] ADDRESS COUNT
 /// ```
 ///
-/// where `PATH..` is one path or more, N is 0 to 4102444799 and COUNT 1 to 1000000. It is refused with the text of
-/// the help or the version that was asked for, or with one that says why the words are no line; where there are none, that is
-/// the help.
+/// where `PATH..` is one path or more, `[SOURCE..]` any number of sources, N is 0 to 4102444799 and COUNT 1 to 1000000. It is
+/// refused with the text of the help or the version that was asked for, or with one that says why the words are no line; where
+/// there are none, that is the help.
 pub fn line<'a>(alloc: Global, words: &'a [&'a str]) -> Result<CommandLine<'a>, LineFault>
     ensures said { IfOk result (IsLine (subcommand_of archive_app (map (λ word. word.now) words.entry.now))) }
     // Only words in which clap finds no fault are a line.

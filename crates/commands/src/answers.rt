@@ -4,13 +4,13 @@ use crate::database::{is_of_database, length_of};
 use crate::doing::{body_of, file_name, opened};
 use crate::fault::Stop;
 use keep::Keeper;
-use queue::{Archive, Arrived, Fault, Report};
+use queue::{Archive, Arrived, Fault, Promotion, Report};
 use std::alloc::Global;
 use std::io::{self, Write};
 use std::rt::Files;
 
 /// Prints the lines of a report.
-fn print_report<W: Write>(report: &Report, out: &mut W) -> io::Result<()> {
+pub fn print_report<W: Write>(report: &Report, out: &mut W) -> io::Result<()> {
     for line in &report.lines {
         writeln!(out, "{line}")?;
     }
@@ -19,7 +19,7 @@ fn print_report<W: Write>(report: &Report, out: &mut W) -> io::Result<()> {
 
 /// Prints `new NAME`, `again NAME` or `refused FAULT NAME`, and says whether a delivery was taken. Want of memory and a
 /// fault of the keeper end the program instead.
-fn print_arrived<'a, W: Write>(
+pub fn print_arrived<'a, W: Write>(
     arrived: Result<Arrived, Fault>,
     name: &str,
     out: &mut W,
@@ -94,6 +94,16 @@ pub fn run<'a, K: Keeper, W: Write>(
     Ok(())
 }
 
+/// Whether each source of a promotion was shown.
+fn all_are_copied(promotion: &Promotion) -> bool {
+    for copy in &promotion.copies {
+        if copy.items.is_none() {
+            return false;
+        }
+    }
+    true
+}
+
 /// Copies a source's packages from the suite `from` to the suite `to` at a moment, and prints how many items of `to`
 /// are new.
 pub fn copy<'a, K: Keeper, W: Write>(
@@ -108,6 +118,43 @@ pub fn copy<'a, K: Keeper, W: Write>(
     let items = archive.copy(alloc, from, to, source, at)?;
     writeln!(out, "{items}")?;
     Ok(())
+}
+
+/// Names as texts of their own.
+fn owned<'a>(alloc: Global, names: &[&'a str]) -> Result<Vec<String>, Stop<'a>> {
+    let mut texts = Vec::new(alloc);
+    for name in names {
+        texts.push(String::from_str(alloc, name)?)?;
+    }
+    Ok(texts)
+}
+
+/// The sources that are named, if any are, as texts of their own.
+fn owned_sources<'a>(
+    alloc: Global,
+    sources: &Option<Vec<&'a str>>,
+) -> Result<Option<Vec<String>>, Stop<'a>> {
+    match sources {
+        Some(names) => Ok(Some(owned(alloc, names)?)),
+        None => Ok(None),
+    }
+}
+
+/// Copies several sources from the suite `from` to the suite `to` in one change at a moment, and prints a line for each: how
+/// many items of `to` are new, or that it is refused. Says whether none was.
+pub fn promote<'a, K: Keeper, W: Write>(
+    alloc: Global,
+    archive: &mut Archive<K>,
+    at: u64,
+    from: &str,
+    to: &str,
+    sources: &Option<Vec<&'a str>>,
+    out: &mut W,
+) -> Result<bool, Stop<'a>> {
+    let sources = owned_sources(alloc, sources)?;
+    let promotion = archive.promote(alloc, from, to, &sources, at)?;
+    print_report(&promotion.report, out)?;
+    Ok(all_are_copied(&promotion))
 }
 
 /// Removes all items of a package's name from a suite at a moment, and prints how many the suite showed.

@@ -1,5 +1,6 @@
 //! What the program does for a line.
 
+use crate::batch::batch_file;
 use crate::database::InFile;
 use crate::fault::Stop;
 use crate::words::{self, Serving, Word};
@@ -47,15 +48,20 @@ pub fn opened<'a, R: Files>(rt: &R, path: &'a str) -> Result<R::File, Stop<'a>> 
     }
 }
 
-/// The bytes of a file that was given.
-pub fn body_of<'a, R: Files + AllocGlobal>(rt: &R, path: &'a str) -> Result<Vec<u8>, Stop<'a>> {
-    match read_file(rt, path) {
+/// What was read of a file that was given, or why the program ends.
+pub fn read_of<'a>(read: io::Result<Vec<u8>>, path: &'a str) -> Result<Vec<u8>, Stop<'a>> {
+    match read {
         Ok(body) => Ok(body),
         Err(error) if error.kind() == io::ErrorKind::OutOfMemory => {
             Err(Stop::Refused(Fault::OutOfMemory))
         }
         Err(_) => Err(Stop::Unreadable(path)),
     }
+}
+
+/// The bytes of a file that was given.
+pub fn body_of<'a, R: Files + AllocGlobal>(rt: &R, path: &'a str) -> Result<Vec<u8>, Stop<'a>> {
+    read_of(read_file(rt, path), path)
 }
 
 /// An archive of its own, with the configuration that `try` has.
@@ -169,6 +175,21 @@ fn done<'a, K: Keeper + Drop, F: InFile<K>, W: Write, E: Write>(
                 source,
             },
         ),
+        CommandLine::Promote {
+            db,
+            at,
+            from,
+            to,
+            sources,
+        } => (
+            *db,
+            Word::Promote {
+                at: *at,
+                from,
+                to,
+                sources,
+            },
+        ),
         CommandLine::Remove {
             db,
             at,
@@ -183,6 +204,9 @@ fn done<'a, K: Keeper + Drop, F: InFile<K>, W: Write, E: Write>(
             },
         ),
         CommandLine::Clean { db, at } => (*db, Word::Clean { at: *at }),
+        CommandLine::Batch { db, at, list } => {
+            return batch_file::<K, F, W, E>(rt, db, *at, list, out, err);
+        }
         CommandLine::Show { db, path } => (*db, Word::Show { path }),
         CommandLine::Waiting { db, at } => (*db, Word::Waiting { at: *at }),
         CommandLine::Verdicts { db } => (*db, Word::Verdicts),
@@ -221,9 +245,10 @@ fn finished<'a, K: Keeper + Drop, F: InFile<K>, W: Write, E: Write>(
 }
 
 /// Does a line over keepers of this type, which `F` opens and makes, and answers the exit status: 0 where it is done; 1 where
-/// something is refused or a file can't be read; 3 where memory runs out, a disk fails or is full, the address can't be used, or
-/// an output fails. What was refused is a line on `err`, but for the files of a `put`, which have their lines on `out`; where an
-/// output fails nothing more is printed. The log of a `serve` is on `err` too.
+/// something is refused or a file can't be read; 2 where a list has a bad line; 3 where memory runs out, a disk fails or is full,
+/// the address can't be used, or an output fails. What was refused is a line on `err`, but for the files of a `put` and the
+/// commands of a list, which have their lines on `out`; where an output fails nothing more is printed. The log of a `serve` is
+/// on `err` too.
 pub fn act<K: Keeper + Drop, F: InFile<K>, W: Write, E: Write>(
     rt: &HostRuntime,
     line: &CommandLine<'_>,

@@ -1,5 +1,6 @@
 //! Why the program ends before it is done.
 
+use command_line::BatchFault;
 use keep::KeepFault;
 use queue::Fault;
 use rules::ConfigFault;
@@ -13,6 +14,9 @@ use vers::VersionFault;
 pub enum Stop<'a> {
     #[error("archive: cannot read {0}")]
     Unreadable(&'a str),
+    /// A list of commands has this line, counted from 1, that is neither a command nor passed over.
+    #[error("archive: line {0}")]
+    BadLine(usize),
     #[error("archive: {0}")]
     Refused(Fault),
     /// The database is not opened, or no archive is made in it.
@@ -70,6 +74,15 @@ impl From<VersionFault> for Stop<'_> {
     }
 }
 
+impl From<BatchFault> for Stop<'_> {
+    fn from(fault: BatchFault) -> Self {
+        match fault {
+            BatchFault::OutOfMemory => Stop::Refused(Fault::OutOfMemory),
+            BatchFault::Line(number) => Stop::BadLine(number),
+        }
+    }
+}
+
 impl From<io::Error> for Stop<'_> {
     fn from(_error: io::Error) -> Self {
         Stop::Unwritten
@@ -77,11 +90,13 @@ impl From<io::Error> for Stop<'_> {
 }
 
 impl Stop<'_> {
-    /// The exit status: 1 where something is refused or can't be read, 3 for want of memory, a disk that fails, a size
-    /// that is too large, an address that can't be used, an archive that can't be served on, or an output that fails.
+    /// The exit status: 1 where something is refused or can't be read, 2 for a list with a bad line, 3 for want of memory,
+    /// a disk that fails, a size that is too large, an address that can't be used, an archive that can't be served on, or
+    /// an output that fails.
     pub fn status(&self) -> u8 {
         match self {
             Stop::Unreadable(_) | Stop::NotFound | Stop::NoArchive(KeepFault::Tables) => 1,
+            Stop::BadLine(_) => 2,
             Stop::NoArchive(_) => 3,
             Stop::Refused(Fault::OutOfMemory | Fault::Keeper(_)) => 3,
             Stop::Refused(_) => 1,

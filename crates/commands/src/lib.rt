@@ -3,6 +3,7 @@
 #![tactic(auto)]
 
 mod answers;
+mod batch;
 mod client;
 mod database;
 mod doing;

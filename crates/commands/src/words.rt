@@ -33,6 +33,13 @@ pub enum Word<'w, 'a> {
         to: &'w str,
         source: &'w str,
     },
+    /// Copies several sources from a suite to another, those that are named or else all that it shows, with a line for each.
+    Promote {
+        at: u64,
+        from: &'w str,
+        to: &'w str,
+        sources: &'w Option<Vec<&'a str>>,
+    },
     /// Removes a package from a suite, and prints how many items it showed.
     Remove {
         at: u64,
@@ -191,6 +198,12 @@ fn ask<'a, K: Keeper, W: Write>(
             to,
             source,
         } => answers::copy(alloc, archive, at, from, to, source, out)?,
+        Word::Promote {
+            at,
+            from,
+            to,
+            sources,
+        } => return answers::promote(alloc, archive, at, from, to, sources, out),
         Word::Remove { at, suite, name } => {
             answers::remove(alloc, archive, at, suite, name, out)?;
         }

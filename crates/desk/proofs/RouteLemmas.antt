@@ -13,7 +13,7 @@ use Rattle.desk.specs.declared.routes.Route.TheVariants as at
 use Rattle.desk.specs.Want.{◌>>=◌, Want, asked_at, beside, command_at, found_route, parameters, routes, wanted_at}
 use Rattle.desk.specs.declared.head.Refusal.{Refusal}
 use Rattle.desk.specs.declared.head.Refusal.TheVariants.{NotFound}
-use Rattle.desk.specs.Paths.{Place, to_incoming, to_run, to_copy, to_queue, to_clean, to_verdicts, to_dists, to_pool, to_remove, print_path, IsPlace, IsPart, IsRest, is_byte, is_slash, route_of, wanted_of}
+use Rattle.desk.specs.Paths.{Place, to_incoming, to_run, to_copy, to_queue, to_clean, to_verdicts, to_dists, to_pool, to_remove, to_promote, print_path, IsPlace, IsPart, IsRest, is_byte, is_slash, route_of, wanted_of}
 use Rattle.desk.proofs.FieldLemmas.{both}
 use Rattle.desk.proofs.SeekLemmas.{led, led_first, led_found, first_or, or_found, or_first, or_second, skip, enter, part_first, end_found, rest_first, last_first, last_found, cut_first, cut_found, slash_any}
 use Rattle.matchit.specs.Rows.{RowsOf}
@@ -54,6 +54,7 @@ place_row to_verdicts = row_of (parse_route (codes "/verdicts")) at.Verdicts
 place_row (to_dists rest) = row_of (parse_route (codes "/dists/{*path}")) at.Dists
 place_row (to_pool rest) = row_of (parse_route (codes "/pool/{*path}")) at.Pool
 place_row (to_remove suite name) = row_of (parse_route (codes "/remove/{suite}/{package}")) at.Remove
+place_row (to_promote from to) = row_of (parse_route (codes "/promote/{from}/{to}")) at.Promote
 
 abbrev Rows : Type 0
 Rows = RowsOf (RouteOf Route)
@@ -63,6 +64,9 @@ copies = (256 ∷ 47 ∷ 256 ∷ 47 ∷ 256 ∷ [], place_row (to_copy [] [] [])
 
 abbrev removes : Rows
 removes = (256 ∷ 47 ∷ 256 ∷ [], place_row (to_remove [] [])) ∷ []
+
+abbrev promotes : Rows
+promotes = (256 ∷ 47 ∷ 256 ∷ [], place_row (to_promote [] [])) ∷ []
 
 abbrev names : Rows
 names = (256 ∷ [], place_row (to_incoming [])) ∷ []
@@ -97,8 +101,11 @@ from_remove = led (codes "remove/") removes ++ led (codes "verdicts") verdicts
 abbrev from_queue : Rows
 from_queue = led (codes "queue") after_queue ++ from_remove
 
+abbrev after_p : Rows
+after_p = led (codes "ool/") pools ++ led (codes "romote/") promotes
+
 abbrev from_pool : Rows
-from_pool = led (codes "pool/") pools ++ from_queue
+from_pool = led (codes "p") after_p ++ from_queue
 
 abbrev from_incoming : Rows
 from_incoming = led (codes "incoming/") names ++ from_pool
@@ -182,13 +189,31 @@ found_in_queue path row whole h w f =
       | inr v ↦ found_in_remove path row whole h w v
     ]
 
+found_behind_p : (path : List ℕ) (row : RouteOf Route) (whole : List ℕ) → list_all is_byte path ≡ true → whole ≡ codes "/p" ++ path → first after_p path ≡ Some row → IsFound whole row
+found_behind_p path row whole h w f =
+    elim (or_found _ _ row (sym (first_or 111 (codes "ol/") pools (led (codes "romote/") promotes) path refl refl refl refl) ∙ f)) [
+      | inl q ↦
+          let (rest, split, found) = led_found (codes "ool/") pools path row refl q in
+          let (is_rest, is) = rest_found (place_row (to_pool [])) row rest (behind (codes "ool/") path rest h split) found in
+          record { place = to_pool rest; is_place = is_rest; whole = w ∙ ap (λ l. codes "/p" ++ l) split; row_is = is }
+      | inr v ↦
+          let (rest, split, found) = led_found (codes "romote/") promotes path row refl v in
+          let one = cut_found (256 ∷ []) (place_row (to_promote [] [])) row rest (behind (codes "romote/") path rest h split) found in
+          let (is_part, is) = last_found (place_row (to_promote [] [])) row one.rest one.bytes one.found in
+          record {
+            place = to_promote one.part one.rest;
+            is_place = (one.is_part, is_part);
+            whole = w ∙ ap (λ l. codes "/p" ++ l) (split ∙ ap (λ l. codes "romote/" ++ l) one.whole);
+            row_is = is;
+          }
+    ]
+
 found_in_pool : (path : List ℕ) (row : RouteOf Route) (whole : List ℕ) → list_all is_byte path ≡ true → whole ≡ 47 ∷ path → first from_pool path ≡ Some row → IsFound whole row
 found_in_pool path row whole h w f =
-    elim (or_found _ _ row (sym (first_or 112 (codes "ool/") pools from_queue path refl refl refl refl) ∙ f)) [
+    elim (or_found _ _ row (sym (first_or 112 [] after_p from_queue path refl refl refl refl) ∙ f)) [
       | inl q ↦
-          let (rest, split, found) = led_found (codes "pool/") pools path row refl q in
-          let (is_rest, is) = rest_found (place_row (to_pool [])) row rest (behind (codes "pool/") path rest h split) found in
-          record { place = to_pool rest; is_place = is_rest; whole = w ∙ ap (λ l. 47 ∷ l) split; row_is = is }
+          let (rest, split, found) = led_found (codes "p") after_p path row refl q in
+          found_behind_p rest row whole (behind (codes "p") path rest h split) (w ∙ ap (λ l. 47 ∷ l) split) found
       | inr v ↦ found_in_queue path row whole h w v
     ]
 
@@ -276,8 +301,10 @@ pool_first rest h =
     ∙ skip 99 (codes "opy/") copies from_dists 112 (codes "ool/" ++ rest) refl refl refl refl refl
     ∙ skip 100 (codes "ists/") dists from_incoming 112 (codes "ool/" ++ rest) refl refl refl refl refl
     ∙ skip 105 (codes "ncoming/") names from_pool 112 (codes "ool/" ++ rest) refl refl refl refl refl
-    ∙ enter 112 (codes "ool/") pools from_queue (codes "pool/" ++ rest) (place_row (to_pool [])) refl refl refl refl
-    (led_first (codes "pool/") pools rest refl ∙ rest_of_path (place_row (to_pool [])) rest h)
+    ∙ enter 112 [] after_p from_queue (codes "pool/" ++ rest) (place_row (to_pool [])) refl refl refl refl
+    (led_first (codes "p") after_p (codes "ool/" ++ rest) refl
+    ∙ enter 111 (codes "ol/") pools (led (codes "romote/") promotes) (codes "ool/" ++ rest) (place_row (to_pool [])) refl refl refl refl
+    (led_first (codes "ool/") pools rest refl ∙ rest_of_path (place_row (to_pool [])) rest h))
 
 remove_first : (suite name : List ℕ) → IsPart suite → IsPart name → first routes (print_path (to_remove suite name)) ≡ Some (place_row (to_remove suite name))
 remove_first suite name h1 h2 =
@@ -287,12 +314,27 @@ remove_first suite name h1 h2 =
     ∙ skip 99 (codes "opy/") copies from_dists 114 (codes "emove/" ++ (suite ++ 47 ∷ name)) refl refl refl refl refl
     ∙ skip 100 (codes "ists/") dists from_incoming 114 (codes "emove/" ++ (suite ++ 47 ∷ name)) refl refl refl refl refl
     ∙ skip 105 (codes "ncoming/") names from_pool 114 (codes "emove/" ++ (suite ++ 47 ∷ name)) refl refl refl refl refl
-    ∙ skip 112 (codes "ool/") pools from_queue 114 (codes "emove/" ++ (suite ++ 47 ∷ name)) refl refl refl refl refl
+    ∙ skip 112 [] after_p from_queue 114 (codes "emove/" ++ (suite ++ 47 ∷ name)) refl refl refl refl refl
     ∙ skip 113 (codes "ueue") after_queue from_remove 114 (codes "emove/" ++ (suite ++ 47 ∷ name)) refl refl refl refl refl
     ∙ enter 114 (codes "emove/") removes (led (codes "verdicts") verdicts) (codes "remove/" ++ (suite ++ 47 ∷ name)) k refl refl refl refl
     (led_first (codes "remove/") removes (suite ++ 47 ∷ name) refl
     ∙ part_first (256 ∷ []) k suite name h1
     ∙ last_first k name h2)
+
+promote_first : (from to : List ℕ) → IsPart from → IsPart to → first routes (print_path (to_promote from to)) ≡ Some (place_row (to_promote from to))
+promote_first from to h1 h2 =
+    let k = place_row (to_promote [] []) in
+    ap (λ rs. first rs (print_path (to_promote from to))) rows_are
+    ∙ led_first (codes "/") from_copy (codes "promote/" ++ (from ++ 47 ∷ to)) refl
+    ∙ skip 99 (codes "opy/") copies from_dists 112 (codes "romote/" ++ (from ++ 47 ∷ to)) refl refl refl refl refl
+    ∙ skip 100 (codes "ists/") dists from_incoming 112 (codes "romote/" ++ (from ++ 47 ∷ to)) refl refl refl refl refl
+    ∙ skip 105 (codes "ncoming/") names from_pool 112 (codes "romote/" ++ (from ++ 47 ∷ to)) refl refl refl refl refl
+    ∙ enter 112 [] after_p from_queue (codes "promote/" ++ (from ++ 47 ∷ to)) k refl refl refl refl
+    (led_first (codes "p") after_p (codes "romote/" ++ (from ++ 47 ∷ to)) refl
+    ∙ skip 111 (codes "ol/") pools (led (codes "romote/") promotes) 114 (codes "omote/" ++ (from ++ 47 ∷ to)) refl refl refl refl refl
+    ∙ led_first (codes "romote/") promotes (from ++ 47 ∷ to) refl
+    ∙ part_first (256 ∷ []) k from to h1
+    ∙ last_first k to h2)
 
 run_first : first routes (codes "/queue/run") ≡ Some (place_row to_run)
 unfolding routes matchit_on_literals
@@ -320,6 +362,7 @@ place_first to_verdicts h = verdicts_first
 place_first (to_dists rest) h = dists_first rest h
 place_first (to_pool rest) h = pool_first rest h
 place_first (to_remove suite name) h = remove_first suite name h.0 h.1
+place_first (to_promote from to) h = promote_first from to h.0 h.1
 
 -- ---- its parameters
 
@@ -334,6 +377,7 @@ place_parameters to_verdicts = []
 place_parameters (to_dists rest) = (codes "path", rest) ∷ []
 place_parameters (to_pool rest) = (codes "path", rest) ∷ []
 place_parameters (to_remove suite name) = (codes "suite", suite) ∷ (codes "package", name) ∷ []
+place_parameters (to_promote from to) = (codes "from", from) ∷ (codes "to", to) ∷ []
 
 at_start : (pattern path : List ℕ) → IsAt pattern path 0 0 pattern path
 at_start pattern path = record { tokens_left = refl; bytes_left = refl; within = omega arith; fits = omega arith }
@@ -382,6 +426,17 @@ remove_parameters suite name h =
     ∙ ap (λ l. (codes "suite", suite) ∷ l)
     (walk_last row.pattern row.text path (17, 24) 9 (0 + 8 + length suite) 256 (47 ∷ []) name refl refl s1)
 
+promote_parameters : (from to : List ℕ) → IsPart from → parameters (place_row (to_promote from to)) (print_path (to_promote from to)) ≡ place_parameters (to_promote from to)
+unfolding matchit_on_literals
+promote_parameters from to h =
+    let row : RouteOf Route = place_row (to_promote [] []) in
+    let path : List ℕ = print_path (to_promote from to) in
+    let s0 : IsAt row.pattern path 0 0 (codes "/promote/" ++ 256 ∷ 47 ∷ 256 ∷ []) (codes "/promote/" ++ (from ++ 47 ∷ to)) = at_start row.pattern path in
+    let s1 = cut_on row.pattern path 0 0 (codes "/promote/") (256 ∷ []) from to s0 in
+    walk_cut row.pattern row.text path (10, 14) ((17, 19) ∷ []) 0 0 (codes "/promote/") (256 ∷ []) from to refl (slash_any from ∙ h.no_slash) (omega arith) s0
+    ∙ ap (λ l. (codes "from", from) ∷ l)
+    (walk_last row.pattern row.text path (17, 19) 10 (0 + 9 + length from) 256 (47 ∷ []) to refl refl s1)
+
 no_parameters : (row : RouteOf Route) (path : List ℕ) → row.names ≡ [] → parameters row path ≡ []
 no_parameters row path e = ap (λ ns. walk row.pattern row.text path ns 0 0) e
 
@@ -411,6 +466,7 @@ parameters_are to_verdicts h = verdicts_parameters
 parameters_are (to_dists rest) h = dists_parameters rest
 parameters_are (to_pool rest) h = pool_parameters rest
 parameters_are (to_remove suite name) h = remove_parameters suite name h.0
+parameters_are (to_promote from to) h = promote_parameters from to h.0
 
 -- ---- what a path asks for
 
@@ -428,6 +484,7 @@ row_value to_verdicts = refl
 row_value (to_dists rest) = refl
 row_value (to_pool rest) = refl
 row_value (to_remove suite name) = refl
+row_value (to_promote from to) = refl
 
 asked_place : (p : Place) → beside (route_of p) (wanted_at (route_of p) (place_parameters p) (print_path p)) ≡ beside (route_of p) (wanted_of p)
 asked_place (to_incoming name) = refl
@@ -439,6 +496,7 @@ asked_place to_verdicts = refl
 asked_place (to_dists rest) = refl
 asked_place (to_pool rest) = refl
 asked_place (to_remove suite name) = refl
+asked_place (to_promote from to) = refl
 
 -- the path of a place asks for its command
 pub place_asks : (p : Place) → IsPlace p → asked_at (print_path p) ≡ beside (route_of p) (wanted_of p)

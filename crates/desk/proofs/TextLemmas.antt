@@ -10,7 +10,7 @@ use Rattle.matchit.specs.Params.{AllText}
 use Rattle.matchit.specs.Router.{RouteOf}
 use Rattle.matchit.specs.Seek.{first}
 use Rattle.desk.specs.declared.routes.Route.{Route}
-use Rattle.desk.specs.Paths.{Place, to_incoming, to_run, to_copy, to_queue, to_clean, to_verdicts, to_dists, to_pool, to_remove, print_path, is_byte}
+use Rattle.desk.specs.Paths.{Place, to_incoming, to_run, to_copy, to_queue, to_clean, to_verdicts, to_dists, to_pool, to_remove, to_promote, print_path, is_byte}
 use Rattle.desk.specs.Want.{parameters, routes}
 use Rattle.desk.proofs.FieldLemmas.{both}
 use Rattle.desk.proofs.RouteLemmas.{route_found, place_row, place_parameters, parameters_are}
@@ -54,6 +54,10 @@ place_text (to_remove suite name) u =
     let one = utf8_cut (codes "/remove") (suite ++ 47 ∷ name) u in
     let two = utf8_cut suite name one.1 in
     (name_text (codes "suite") refl, two.0, (name_text (codes "package") refl, two.1, tt))
+place_text (to_promote from to) u =
+    let one = utf8_cut (codes "/promote") (from ++ 47 ∷ to) u in
+    let two = utf8_cut from to one.1 in
+    (name_text (codes "from") refl, two.0, (name_text (codes "to") refl, two.1, tt))
 
 pub all_bytes : (xs : List ℕ) → ((i : ℕ) → get_or xs i 0 < 256) → list_all is_byte xs ≡ true
 all_bytes [] f = refl

@@ -11,7 +11,7 @@ use Rattle.httparse.specs.declared.spans.RequestSpans.{RequestSpans}
 use Rattle.desk.specs.declared.head.Refusal.{Refusal}
 use Rattle.desk.specs.declared.head.Refusal.TheVariants.{BadRequest, NotFound, MethodNotAllowed, LengthRequired, PayloadTooLarge, HeadTooLarge, NotImplemented, OutOfMemory}
 use Rattle.desk.specs.declared.routes.Route.{Route}
-use Rattle.desk.specs.Want.{◌>>=◌, Want, delivery, queue_run, copying, fetching, waiting_list, cleaning, verdict_list, removing, asked_at, content_length, is_named, is_path, method_of, pass, wanted_by, with_length}
+use Rattle.desk.specs.Want.{◌>>=◌, Want, delivery, queue_run, copying, fetching, waiting_list, cleaning, verdict_list, removing, promoting, asked_at, content_length, is_named, is_path, method_of, pass, wanted_by, with_length}
 use Rattle.desk.specs.Request.{Gives, HeadAsks, IsHead, body_length}
 
 -- what is said of a result is said of it in other words
@@ -111,6 +111,7 @@ small_length waiting_list length want is = small_other waiting_list want (unwrap
 small_length cleaning length want is = small_other cleaning want (unwrap_or length 0 == 0) refl is
 small_length verdict_list length want is = small_other verdict_list want (unwrap_or length 0 == 0) refl is
 small_length (removing a b) length want is = small_other (removing a b) want (unwrap_or length 0 == 0) refl is
+small_length (promoting a b) length want is = small_other (promoting a b) want (unwrap_or length 0 == 0) refl is
 
 small_behind : (right : Bool) (e : Refusal) (w : Want) (length : Result (Option ℕ) Refusal) (want : Want) → (pass right e >>= (λ _. length >>= (λ n. with_length w n))) ≡ Ok want
     → body_length want ≤ 4194304

@@ -1,16 +1,17 @@
 -- What is asked of the archive, and the reply to what it answers.
-use Rattle.std.specs.Prelude.{ℕ, Bool, true, false, List, codes, decimal, Option, Result, Ok, Err, Some, None}
+use Rattle.std.specs.Prelude.{ℕ, Bool, true, false, List, codes, decimal, map, Option, Result, Ok, Err, Some, None}
 use Rattle.std.specs.List.{flat_map}
+use Rattle.queue.specs.Answers.{copy_line}
 use Rattle.queue.specs.Fault.{fault_text}
-use Rattle.queue.specs.Histories.{Call, Delivery, QueueRun, Copying, Lookup, WaitingList, Cleaning, Removing, VerdictList, Reply, Stored, Lines, Count, Found}
+use Rattle.queue.specs.Histories.{Call, Delivery, QueueRun, Copying, Lookup, WaitingList, Cleaning, Removing, Promoting, VerdictList, Reply, Stored, Lines, Count, Found, Copies}
 use Rattle.queue.specs.declared.fault.Fault.{Fault}
 use Rattle.queue.specs.declared.fault.Fault.TheVariants as fault
 use Rattle.desk.specs.Answer.{refusal_message, text_message}
 use Rattle.desk.specs.Reply.{Message, line}
-use Rattle.desk.specs.Want.{Want, delivery, queue_run, copying, fetching, waiting_list, cleaning, verdict_list, removing}
+use Rattle.desk.specs.Want.{Want, delivery, queue_run, copying, fetching, waiting_list, cleaning, verdict_list, removing, promoting}
 use Rattle.desk.specs.declared.head.Refusal.TheVariants as refusal
 
--- the call that is wanted, with the body that came, at the moment that is handed in
+-- The call that is wanted, with the body that came, at the moment that is handed in. A promotion is of all that the suite shows.
 abbrev pub call_wanted : Want → List ℕ → ℕ → Call
 call_wanted (delivery name length) body moment = Delivery name body moment
 call_wanted queue_run body moment = QueueRun moment
@@ -20,6 +21,7 @@ call_wanted waiting_list body moment = WaitingList moment
 call_wanted cleaning body moment = Cleaning moment
 call_wanted verdict_list body moment = VerdictList
 call_wanted (removing suite name) body moment = Removing suite name moment
+call_wanted (promoting from to) body moment = Promoting from to None moment
 
 -- whether a file of the pool is wanted
 abbrev pub is_pool_file : Want → Bool
@@ -32,6 +34,7 @@ done_message is_pool (Stored true) = text_message 201 (line (codes "new"))
 done_message is_pool (Stored false) = text_message 200 (line (codes "again"))
 done_message is_pool (Lines lines) = text_message 200 (flat_map line lines)
 done_message is_pool (Count items) = text_message 200 (line (decimal items))
+done_message is_pool (Copies copies) = text_message 200 (flat_map line (map copy_line copies))
 done_message is_pool (Found None) = refusal_message refusal.NotFound
 done_message is_pool (Found (Some file)) = record { status = 200; allow = None; is_binary = is_pool; body = file }
 

@@ -4,7 +4,7 @@ use Rattle.std.specs.List.{list_any, list_all}
 use Rattle.desk.specs.declared.routes.Route.{Route}
 use Rattle.desk.specs.declared.routes.Route.TheVariants as at
 use Rattle.desk.specs.declared.head.Refusal.{Refusal}
-use Rattle.desk.specs.Want.{◌>>=◌, Want, delivery, queue_run, copying, waiting_list, cleaning, verdict_list, removing, decoded, fetched_at}
+use Rattle.desk.specs.Want.{◌>>=◌, Want, delivery, queue_run, copying, waiting_list, cleaning, verdict_list, removing, promoting, decoded, fetched_at}
 
 -- what a path names, its parameters as they were sent
 pub data Place : Type 0 where
@@ -17,6 +17,7 @@ pub data Place : Type 0 where
   to_dists : (rest : List ℕ) → Place
   to_pool : (rest : List ℕ) → Place
   to_remove : (suite name : List ℕ) → Place
+  to_promote : (from to : List ℕ) → Place
 
 abbrev pub is_byte : ℕ → Bool
 is_byte b = nat_lt b 256
@@ -46,6 +47,7 @@ print_path to_verdicts = codes "/verdicts"
 print_path (to_dists rest) = codes "/dists/" ++ rest
 print_path (to_pool rest) = codes "/pool/" ++ rest
 print_path (to_remove suite name) = codes "/remove/" ++ (suite ++ 47 ∷ name)
+print_path (to_promote from to) = codes "/promote/" ++ (from ++ 47 ∷ to)
 
 -- each parameter has its form
 abbrev pub IsPlace : Place → Type 0
@@ -58,6 +60,7 @@ IsPlace to_verdicts = Unit {0}
 IsPlace (to_dists rest) = IsRest rest
 IsPlace (to_pool rest) = IsRest rest
 IsPlace (to_remove suite name) = IsPart suite × IsPart name
+IsPlace (to_promote from to) = IsPart from × IsPart to
 
 -- the route of a place
 abbrev pub route_of : Place → Route
@@ -70,6 +73,7 @@ route_of to_verdicts = at.Verdicts
 route_of (to_dists rest) = at.Dists
 route_of (to_pool rest) = at.Pool
 route_of (to_remove suite name) = at.Remove
+route_of (to_promote from to) = at.Promote
 
 -- what is wanted at a place, its parameters decoded
 abbrev pub wanted_of : Place → Result Want Refusal
@@ -91,3 +95,7 @@ wanted_of (to_remove suite name) = do
   decoded_suite ← decoded suite
   decoded_name ← decoded name
   Ok (removing decoded_suite decoded_name)
+wanted_of (to_promote from to) = do
+  decoded_from ← decoded from
+  decoded_to ← decoded to
+  Ok (promoting decoded_from decoded_to)

@@ -8,7 +8,7 @@ use Rattle.desk.specs.declared.routes.Route.{Route}
 use Rattle.desk.specs.declared.head.Wanted.{Wanted}
 use Rattle.desk.specs.declared.head.Wanted.TheVariants as w
 use Rattle.desk.specs.Transfer.{IsBeginning, ends_head, NotEarlier}
-use Rattle.desk.specs.Want.{Want, wanted, delivery, queue_run, copying, fetching, waiting_list, cleaning, verdict_list, removing}
+use Rattle.desk.specs.Want.{Want, wanted, delivery, queue_run, copying, fetching, waiting_list, cleaning, verdict_list, removing, promoting}
 
 -- a `Wanted` without where it lies in memory
 abbrev pub want_of : Wanted → Want
@@ -20,6 +20,7 @@ want_of w.Waiting = waiting_list
 want_of w.Clean = cleaning
 want_of w.Verdicts = verdict_list
 want_of (w.Remove suite name) = removing (string_bytes suite) (string_bytes name)
+want_of (w.Promote from to) = promoting (string_bytes from) (string_bytes to)
 
 -- the same beside its route
 abbrev pub found_want : Route × Wanted → Route × Want
@@ -67,6 +68,7 @@ body_length waiting_list = 0
 body_length cleaning = 0
 body_length verdict_list = 0
 body_length (removing a b) = 0
+body_length (promoting a b) = 0
 
 -- what a connection asks for
 pub data Asked : Type 0 where

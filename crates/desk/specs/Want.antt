@@ -30,6 +30,7 @@ pub data Want : Type 0 where
   cleaning : Want
   verdict_list : Want
   removing : (suite name : List ℕ) → Want
+  promoting : (from to : List ℕ) → Want
 
 infixl 10 ◌>>=◌
 -- what comes first may refuse, and else the rest goes on
@@ -60,6 +61,7 @@ route_texts =
     ∷ (codes "/pool/{*path}", at.Pool)
     ∷ (codes "/remove/{suite}/{package}", at.Remove)
     ∷ (codes "/queue/clean", at.Clean)
+    ∷ (codes "/promote/{from}/{to}", at.Promote)
     ∷ []
 
 -- a router's rows and one route more
@@ -113,6 +115,10 @@ wanted_at at.Remove taken path = do
   suite ← decoded (parameter taken (codes "suite"))
   name ← decoded (parameter taken (codes "package"))
   Ok (removing suite name)
+wanted_at at.Promote taken path = do
+  from ← decoded (parameter taken (codes "from"))
+  to ← decoded (parameter taken (codes "to"))
+  Ok (promoting from to)
 
 -- the method that a route wants (RFC 9110, section 9)
 abbrev pub method_of : Route → List ℕ
@@ -125,6 +131,7 @@ method_of at.Dists = codes "GET"
 method_of at.Pool = codes "GET"
 method_of at.Remove = codes "POST"
 method_of at.Clean = codes "POST"
+method_of at.Promote = codes "POST"
 
 -- ---- the fields
 
@@ -160,6 +167,7 @@ with_length waiting_list length = if unwrap_or length 0 == 0 then Ok waiting_lis
 with_length cleaning length = if unwrap_or length 0 == 0 then Ok cleaning else Err BadRequest
 with_length verdict_list length = if unwrap_or length 0 == 0 then Ok verdict_list else Err BadRequest
 with_length (removing a b) length = if unwrap_or length 0 == 0 then Ok (removing a b) else Err BadRequest
+with_length (promoting a b) length = if unwrap_or length 0 == 0 then Ok (promoting a b) else Err BadRequest
 
 -- ---- the head
 

@@ -1,5 +1,5 @@
 //! One connection: its request, the call of the archive that it asks for, and the reply.
-ghost use Rattle.std.specs.Prelude.{◌≡◌, ◌≤◌, Bool, Some, None, IfOk, OnErr, MatchResult};
+ghost use Rattle.std.specs.Prelude.{◌≡◌, ◌≤◌, Bool, Some, None, IfOk, OnErr, MatchResult, map};
 ghost use Rattle.std.specs.Option.{option_map};
 ghost use Rattle.desk.specs.Answer.{text_message};
 ghost use Rattle.desk.specs.Calls.{done_message, fault_message, reception_message};
@@ -8,8 +8,9 @@ ghost use Rattle.desk.specs.Incoming.{ReadsBeginning, ReadsUpTo};
 ghost use Rattle.desk.specs.Message.{message_of};
 ghost use Rattle.desk.specs.Reply.{line};
 ghost use Rattle.desk.specs.Request.{body_length, want_of};
-ghost use Rattle.queue.specs.Commands.{found, lines_of, is_new};
-ghost use Rattle.queue.specs.Histories.{Stored, Lines, Count, Found};
+ghost use Rattle.queue.specs.Answers.{copy_line};
+ghost use Rattle.queue.specs.Commands.{copies_of, found, lines_of, is_new};
+ghost use Rattle.queue.specs.Histories.{Copies, Stored, Lines, Count, Found};
 ghost use Rattle.queue.specs.Receiving.{IsAsBefore};
 ghost use Rattle.queue.specs.Steps.{Lasts};
 
@@ -19,7 +20,7 @@ use crate::reply::{Body, Reply, write_reply};
 use crate::request::{Request, read_request};
 use http::StatusCode;
 use keep::Keeper;
-use queue::{Archive, Arrived, Fault, ReaderFailed, Report};
+use queue::{Archive, Arrived, Fault, Promotion, ReaderFailed, Report};
 use std::alloc::Global;
 use std::error::Error;
 use std::fmt;
@@ -176,6 +177,12 @@ fn carry_out<K: Keeper, R: Read>(
                 Err(fault) => Ok(fault_reply(fault)),
             }
         }
+        Wanted::Promote { from, to } => {
+            match archive.promote(alloc, from.as_str(), to.as_str(), &None, moment) {
+                Ok(promotion) => Ok(promotion_reply(promotion)),
+                Err(fault) => Ok(fault_reply(fault)),
+            }
+        }
     }
 }
 
@@ -191,6 +198,14 @@ fn arrived_reply(arrived: Arrived) -> Reply
 fn report_reply(report: Report) -> Reply
     ensures { (is_pool : Bool) → message_of result ≡ done_message is_pool (Lines (lines_of report)) }
 {
+    Reply::new(StatusCode::OK, Body::Lines(report.lines))
+}
+
+fn promotion_reply(promotion: Promotion) -> Reply
+    requires { lines_of promotion.report ≡ map copy_line (copies_of promotion) }
+    ensures { (is_pool : Bool) → message_of result ≡ done_message is_pool (Copies (copies_of promotion)) }
+{
+    let Promotion { copies: _, report } = promotion;
     Reply::new(StatusCode::OK, Body::Lines(report.lines))
 }
 

@@ -119,6 +119,11 @@ pub enum Wanted {
         suite: String,
         name: String,
     },
+    /// A promotion of all that a suite shows.
+    Promote {
+        from: String,
+        to: String,
+    },
 }
 
 /// Reads a whole head: its target is checked, then its Transfer-Encoding, its route, the parameters of that, its method
@@ -290,6 +295,11 @@ fn read_route(
             suite: decode_param(alloc, params, "suite")?,
             name: decode_param(alloc, params, "package")?,
         }),
+        Route::Promote => {
+            let from = decode_param(alloc, params, "from")?;
+            let to = decode_param(alloc, params, "to")?;
+            Ok(Wanted::Promote { from, to })
+        }
     }
 }
 

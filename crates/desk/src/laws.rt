@@ -8,11 +8,11 @@ ghost use Rattle.queue.specs.Answers.{IsRun};
 ghost use Rattle.queue.specs.Histories.{bodies_of, opened_with};
 ghost use Rattle.queue.specs.Steps.{Lasts, Reads};
 ghost use Rattle.desk.specs.Connections.{AreServed, Visit, calls_in, outcomes_in};
-ghost use Rattle.desk.specs.Paths.{IsPart, IsPlace, IsRest, Place, is_byte, print_path, route_of, wanted_of, to_incoming, to_copy, to_dists, to_pool, to_remove, to_run, to_queue, to_clean, to_verdicts};
+ghost use Rattle.desk.specs.Paths.{IsPart, IsPlace, IsRest, Place, is_byte, print_path, route_of, wanted_of, to_incoming, to_copy, to_dists, to_pool, to_promote, to_remove, to_run, to_queue, to_clean, to_verdicts};
 ghost use Rattle.desk.specs.Request.{Asked, IsRequest};
 ghost use Rattle.desk.specs.Want.{Want, asked_at, beside, route_for};
 ghost use Rattle.desk.specs.declared.head.Refusal.TheVariants.{NotFound};
-ghost use Rattle.desk.specs.declared.routes.Route.TheVariants.{Clean, Copy, Deliver, Dists, Pool, Remove, Run, Verdicts, Waiting};
+ghost use Rattle.desk.specs.declared.routes.Route.TheVariants.{Clean, Copy, Deliver, Dists, Pool, Promote, Remove, Run, Verdicts, Waiting};
 
 use keep::Keeper;
 
@@ -36,6 +36,8 @@ pub fn paths_with_a_route()
     ensures pool { (rest : List ℕ) → IsRest rest → asked_at (codes "/pool/" ++ rest) ≡ beside Pool (wanted_of (to_pool rest)) }
     ensures remove { (suite name : List ℕ) → IsPart suite → IsPart name →
         asked_at (codes "/remove/" ++ (suite ++ 47 ∷ name)) ≡ beside Remove (wanted_of (to_remove suite name)) }
+    ensures promote { (from to : List ℕ) → IsPart from → IsPart to →
+        asked_at (codes "/promote/" ++ (from ++ 47 ∷ to)) ≡ beside Promote (wanted_of (to_promote from to)) }
 {}
 
 /// Every other path has no route. Nothing is done: the law is the contract.

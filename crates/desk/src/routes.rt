@@ -18,6 +18,7 @@ pub enum Route {
     Pool,
     Remove,
     Clean,
+    Promote,
 }
 
 impl Route {
@@ -27,7 +28,7 @@ impl Route {
     {
         match self {
             Route::Deliver => Method::PUT,
-            Route::Run | Route::Copy | Route::Remove | Route::Clean => Method::POST,
+            Route::Run | Route::Copy | Route::Remove | Route::Clean | Route::Promote => Method::POST,
             Route::Waiting | Route::Verdicts | Route::Dists | Route::Pool => Method::GET,
         }
     }
@@ -57,6 +58,7 @@ fn add_others(router: &mut Router<Route>) -> Result<(), InsertError>
     router.insert("/pool/{*path}", Route::Pool)?;
     router.insert("/remove/{suite}/{package}", Route::Remove)?;
     router.insert("/queue/clean", Route::Clean)?;
+    router.insert("/promote/{from}/{to}", Route::Promote)?;
     Ok(())
 }
 

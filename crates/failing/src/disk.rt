@@ -7,6 +7,7 @@ use keep::{Change, Judgement, KeepFault, Keeper, LATEST, PlainKeeper, Waiting};
 use rules::Config;
 use std::alloc::Global;
 use suites::{Shelves, Upload};
+use sums::Print;
 
 /// A keeper that takes deliveries, and refuses all else for want of memory. What lies on its disk is what the last delivery left.
 /// A delivery that fails is counted, and shuts the keeper.
@@ -120,6 +121,8 @@ impl Keeper for DiskKeeper {
         Err(KeepFault::OutOfMemory)
     }
 
+    fn hold(&mut self, _shelves: Shelves) {}
+
     fn clean(&mut self, _alloc: Global, _moment: u64) -> Result<u64, KeepFault> {
         Err(KeepFault::OutOfMemory)
     }
@@ -129,6 +132,10 @@ impl Keeper for DiskKeeper {
     }
 
     fn text(&mut self, _alloc: Global, _path: &str) -> Result<Option<Vec<u8>>, KeepFault> {
+        Err(KeepFault::OutOfMemory)
+    }
+
+    fn text_print(&mut self, _alloc: Global, _path: &str) -> Result<Option<Print>, KeepFault> {
         Err(KeepFault::OutOfMemory)
     }
 

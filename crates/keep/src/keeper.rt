@@ -2,14 +2,16 @@
 
 ghost use Rattle.std.specs.Prelude.{◌≡◌, ◌≤◌, ◌++◌, ◌⊎◌, [], ℕ, Bool, List, Option, Some, None, IfOk, IfErr, OnOk, OnErr, length, map, not};
 ghost use Rattle.std.specs.Option.{option_map};
-ghost use Rattle.keep.specs.Book.{Book, amended, at_moment, due, ended, has_arrival, latest, span, text_at, upload_of, waiting_list, with_delivery};
+ghost use Rattle.keep.specs.Book.{Book, amended, at_moment, due, ended, has_arrival, latest, shown_past, span, text_at, upload_of, waiting_list, with_delivery};
 ghost use Rattle.keep.specs.Keeping.{Apart, ApartWith, HasEachBody, IsDeliverable, IsSound, IsWholeFor, Lasts, Leaves, MayAnswer, Reads, Stays, TakesPiece, sign_of};
+ghost use Rattle.sums.specs.Prints.{print as print_of};
 
 use crate::change::{Change, Judgement, Waiting};
 use crate::fault::KeepFault;
 use rules::Config;
 use std::alloc::Global;
 use suites::{Shelves, Upload};
+use sums::Print;
 
 /// The last moment that may be handed in: 2099-12-31 23:59:59 UTC.
 pub const LATEST: u64 = 4_102_444_799;
@@ -152,10 +154,20 @@ pub trait Keeper {
         ensures served { is_clean self.new → OnOk result (is_open self.new) }
         ensures ok { is_clean self.new → OnOk result (Apart (book self.old) (HasEachBody (book self.old) change.now
             → book self.new ≡ amended (book self.old) change.now)) }
+        // What the suites show then, whatever the bodies.
+        ensures shown { is_clean self.new → OnOk result ((book self.new).shown ≡ shown_past (book self.old).shown change.now.steps) }
         ensures err { is_clean self.new → is_open self.new → OnErr result (book self.new ≡ book self.old) }
         ensures cause { IfErr result (MayAnswer may_fail) }
         ensures crash { Leaves is_clean is_open may_leave self.old self.new (λ left. Apart (book self.old) (HasEachBody (book self.old) change.now
             → left ≡ Some (amended (book self.old) change.now))) };
+
+    /// Takes what the suites show, as a change has left it, so that the next call of `shelves` need not make it anew. Nothing
+    /// that is kept changes.
+    fn hold(&mut self, shelves: Shelves)
+        requires shown { is_clean self.now → is_open self.now → shelves ≡ (book self.now).shown }
+        ensures reads { Reads is_clean is_open faults book may_leave self.old self.new }
+        ensures served { is_clean self.new → is_open self.old → is_open self.new }
+        ensures beside { coming self.new ≡ coming self.old };
 
     /// Takes away each arrival that does not count at the moment, and says how many there were. The verdicts, what the suites
     /// show and the files stay. A crash leaves what it would have left before, or the book without these arrivals. It has
@@ -183,6 +195,13 @@ pub trait Keeper {
         ensures reads { Reads is_clean is_open faults book may_leave self.old self.new }
         ensures served { is_clean self.new → OnOk result (is_open self.new) }
         ensures text { is_clean self.new → IfOk result (λ text. option_map (λ body. body.items) text ≡ text_at (book self.old) path.now) }
+        ensures cause { IfErr result (MayAnswer may_fail) };
+
+    /// The print of the index text at a path without a leading slash.
+    fn text_print(&mut self, alloc: Global, path: &str) -> Result<Option<Print>, KeepFault>
+        ensures reads { Reads is_clean is_open faults book may_leave self.old self.new }
+        ensures served { is_clean self.new → OnOk result (is_open self.new) }
+        ensures print { is_clean self.new → IfOk result (λ found. found ≡ option_map print_of (text_at (book self.old) path.now)) }
         ensures cause { IfErr result (MayAnswer may_fail) };
 
     /// The uploads without a verdict, in the order of `complete_uploads`, each with the number of its entries that have

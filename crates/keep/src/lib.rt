@@ -8,6 +8,7 @@ mod fault;
 mod keeper;
 mod plain;
 mod pool;
+mod printing;
 mod scan;
 mod steps;
 
@@ -16,4 +17,7 @@ pub use change::{Change, IndexText, Judgement, Step, Waiting};
 pub use fault::KeepFault;
 pub use keeper::{Keeper, LATEST, PIECE_SIZE};
 pub use plain::PlainKeeper;
-pub use steps::{copied_judgements, dates_after, judged_after, some_changes_suite};
+pub use printing::print_of_text;
+pub use steps::{
+    append_judgements, copied_judgements, dates_after, room_for_judgements, some_changes_suite,
+};

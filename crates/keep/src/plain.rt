@@ -7,15 +7,18 @@ use crate::change::{Change, Judgement, Waiting};
 use crate::fault::KeepFault;
 use crate::keeper::{Keeper, LATEST};
 use crate::pool::{PoolBody, body_at_path, pool_bodies};
+use crate::printing::print_of_text;
 use crate::scan::{
     complete_uploads, has_arrival, has_current, mark_all, remove_ended, waiting_uploads,
 };
-use crate::steps::{copied_judgements, dates_after, judged_after, shelves_after};
+use crate::steps::{
+    append_judgements, copied_judgements, dates_after, room_for_judgements, shelves_after,
+};
 use para::Text;
 use rules::Config;
 use std::alloc::Global;
 use suites::{Shelves, Upload};
-use sums::print_of;
+use sums::{Print, print_of};
 use texts::index_text;
 
 /// A plain keeper. It refuses a call for want of memory alone.
@@ -141,15 +144,21 @@ impl Keeper for PlainKeeper {
     #[tactic(auto, unfolding(crate::specs::Plain::plain_book))]
     fn apply(&mut self, alloc: Global, change: &Change) -> Result<(), KeepFault> {
         let steps = change.steps.as_slice();
-        let judged = judged_after(alloc, &self.judged, steps)?;
         let shelves = shelves_after(alloc, &self.shelves, steps)?;
         let dates = dates_after(alloc, &self.dates, steps, change.moment)?;
         let files = pool_bodies(alloc, &self.arrivals, &self.files, &shelves)?;
-        self.judged = judged;
+        let judged = room_for_judgements(alloc, &mut self.judged, steps)?;
+        append_judgements(&mut self.judged, judged);
         self.shelves = shelves;
         self.dates = dates;
         self.files = files;
         Ok(())
+    }
+
+    #[tactic(auto, unfolding(crate::specs::Plain::plain_book))]
+    fn hold(&mut self, shelves: Shelves) {
+        // The shelves that are kept are these.
+        let _ = shelves;
     }
 
     #[tactic(auto, unfolding(crate::specs::Plain::plain_book))]
@@ -167,6 +176,12 @@ impl Keeper for PlainKeeper {
     #[tactic(auto, unfolding(crate::specs::Plain::plain_book))]
     fn text(&mut self, alloc: Global, path: &str) -> Result<Option<Vec<u8>>, KeepFault> {
         Ok(index_text(alloc, &self.config, &self.shelves, &self.dates, path)?)
+    }
+
+    #[tactic(auto, unfolding(crate::specs::Plain::plain_book))]
+    fn text_print(&mut self, alloc: Global, path: &str) -> Result<Option<Print>, KeepFault> {
+        let text = index_text(alloc, &self.config, &self.shelves, &self.dates, path)?;
+        Ok(print_of_text(&text))
     }
 
     #[tactic(auto, unfolding(crate::specs::Plain::plain_book, crate::specs::Book::waiting_list, crate::specs::Book::unjudged))]

@@ -1,6 +1,6 @@
 //! What the steps of a change make of the plain keeper's lists.
 
-ghost use Rattle.std.specs.Prelude.{◌≡◌, ◌≤◌, ◌++◌, All, IfOk};
+ghost use Rattle.std.specs.Prelude.{◌≡◌, ◌≤◌, ◌+◌, ◌++◌, All, IfOk, vec_capacity, vec_len};
 ghost use Rattle.keep.specs.Book.{dates_past, judgements, shown_past, touches};
 ghost use Rattle.keep.specs.Keeping.{AreSteps};
 ghost use Rattle.keep.specs.Scan.{is_put_in, some_touches};
@@ -32,21 +32,40 @@ pub fn copied_judgements(alloc: Global, judged: &[Judgement]) -> Result<Vec<Judg
     Ok(copies)
 }
 
-/// The judgements so far, and those of a change.
-pub fn judged_after(
-    alloc: Global,
-    judged: &[Judgement],
-    steps: &[Step],
-) -> Result<Vec<Judgement>, AllocError>
-    ensures { IfOk result (λ all. all.items ≡ judged.now ++ judgements steps.now) }
+/// The judgements of a change.
+fn judgements_of(alloc: Global, steps: &[Step]) -> Result<Vec<Judgement>, AllocError>
+    ensures { IfOk result (λ more. more.items ≡ judgements steps.now) }
 {
-    let mut all = copied_judgements(alloc, judged)?;
+    let mut more = Vec::new(alloc);
     for step in steps {
         if let Some(one) = &step.judgement {
-            all.push(copied_judgement(one)?)?;
+            more.push(copied_judgement(one)?)?;
         }
     }
-    Ok(all)
+    Ok(more)
+}
+
+/// The judgements of a change, and room for them behind those so far, which stay.
+pub fn room_for_judgements(
+    alloc: Global,
+    judged: &mut Vec<Judgement>,
+    steps: &[Step],
+) -> Result<Vec<Judgement>, AllocError>
+    ensures more { IfOk result (λ more. more.items ≡ judgements steps.now) }
+    ensures room { IfOk result (λ more. vec_len judged.new + vec_len more ≤ vec_capacity judged.new) }
+    ensures same { judged.new.items ≡ judged.old.items }
+{
+    let more = judgements_of(alloc, steps)?;
+    judged.reserve(more.len())?;
+    Ok(more)
+}
+
+/// Appends judgements for which there is room.
+pub fn append_judgements(judged: &mut Vec<Judgement>, mut more: Vec<Judgement>)
+    requires { vec_len judged.old + vec_len more ≤ vec_capacity judged.old }
+    ensures { judged.new.items ≡ judged.old.items ++ more.items }
+{
+    judged.append(&mut more).unwrap();
 }
 
 /// What the suites show after the steps.

@@ -3,6 +3,7 @@ pub mod KeeperLemmas
 pub mod KeptBook
 pub mod OpenLemmas
 pub mod UnderWayLemmas
+pub mod AtHandLemmas
 pub mod MomentLemmas
 pub mod FoundArrivals
 pub mod MomentReads

@@ -8,6 +8,7 @@ use Rattle.sqlite.specs.Effect.{Database}
 use Rattle.sqlite.specs.State.{State, IsUnchanged}
 use Rattle.sqlite.specs.Tree.{Trees}
 use Rattle.rules.specs.Values.{ConfigValue}
+use Rattle.suites.specs.Shelves.{ShelvesValue}
 use Rattle.keep.specs.Book.{Book}
 use Rattle.keep.specs.declared.change.Judgement.{Judgement}
 use Rattle.tables.proofs.BookLemmas.{held_tables, is_archive}
@@ -21,7 +22,9 @@ use Rattle.kept.specs.Shown.{shown_in}
 use Rattle.kept.proofs.CallLemmas.{kept_here, shown_here}
 use Rattle.kept.proofs.RealRows.{kept_readable, kept_real}
 use Rattle.kept.proofs.ComingLemmas.{none_coming}
-use Rattle.kept.proofs.FinishedLemmas.{finished_twice}
+use Rattle.kept.proofs.FinishedLemmas.{finished_twice, shown_finished}
+use Rattle.kept.proofs.NameLemmas.{config_codenames}
+use Rattle.kept.proofs.ShownLemmas.{shown_is}
 use Rattle.kept.specs.Coming.{HasComing}
 use Rattle.kept.specs.Finished.{finished, is_unfinished, without_all}
 use Rattle.kept.specs.Transactions.{IsDone, IsUndone, MayCommit}
@@ -80,6 +83,13 @@ archive_shown : (db : Database) (config : ConfigValue) (judged : List Judgement)
     → ∥ KeepsArchive db config judged (shown_in config.suites (tables_in db)) dates ∥₁
 archive_shown db config judged dates held keeps = ∥∥₁_map keeps (λ some. kept_here db (record { held = held; kept = some.1 }))
 
+-- what the whole rows are found to show is what all rows show
+pub found_shown : (t whole : Tables) → whole ≡ finished t → (config : ConfigValue) (judged : List Judgement) (shown : ShelvesValue) (dates : List ℕ) → IsKept whole config judged shown dates
+    → shown ≡ shown_in config.suites t
+found_shown t whole is config judged shown dates kept =
+    sym (shown_is whole config.suites shown kept.items kept.sound.at_home (config_codenames config kept.read))
+    ∙ ap (shown_in config.suites) is ∙ shown_finished config.suites t
+
 -- ---- once the bodies that are not whole are away
 
 rising : (db : Database) (t : Tables) → Holds db t → Rises t.bodies
@@ -103,6 +113,10 @@ module _ (s : State) (config : ConfigValue) (judged : List Judgement) (dates ids
 
   rows_finished_are : (new : Database) → ((t : Tables) → Holds s.now t → Holds new (without_all ids t)) → finished (tables_in new) ≡ finished (tables_in s.now)
   rows_finished_are new now = ap finished (rows_are new now) ∙ finished_twice (tables_in s.now)
+
+  -- and show what was shown
+  pub shown_still : (new : Database) → ((t : Tables) → Holds s.now t → Holds new (without_all ids t)) → shown_in config.suites (tables_in new) ≡ shown_in config.suites (tables_in s.now)
+  shown_still new now = ap (shown_in config.suites) (rows_are new now) ∙ shown_finished config.suites (tables_in s.now)
 
   -- it keeps the archive
   pub keeps_finished : (new : Database) → ((t : Tables) → Holds s.now t → Holds new (without_all ids t)) → ∥ KeepsArchive new config judged (shown_in config.suites (tables_in new)) dates ∥₁
@@ -162,6 +176,10 @@ module _ (s : State) (config : ConfigValue) (judged : List Judgement) (dates ids
   -- without any numbers the database is the archive's
   pub keeps_same : ids ≡ [] → ∥ KeepsArchive s.committed config judged (shown_in config.suites (tables_in s.committed)) dates ∥₁
   keeps_same none = keeps_finished s.committed (λ t held. subst (λ l. Holds s.committed (without_all l t)) (sym none) (subst (λ db. Holds db t) found.rests held))
+
+  -- what is committed shows what was found
+  pub shown_same : shown_in config.suites (tables_in s.committed) ≡ shown_in config.suites (tables_in s.now)
+  shown_same = ap (λ db. shown_in config.suites (tables_in db)) (sym found.rests)
 
   pub whole_same : ids ≡ [] → HasComing (tables_in s.committed) []
   whole_same none = whole_finished s.committed (λ t held. subst (λ l. Holds s.committed (without_all l t)) (sym none) (subst (λ db. Holds db t) found.rests held))

@@ -2,3 +2,4 @@ pub mod Keepers
 pub mod Finishing
 pub mod Opened
 pub mod Moments
+pub mod AtHand

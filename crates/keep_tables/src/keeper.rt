@@ -8,27 +8,29 @@ ghost use Rattle.bodies.specs.UnderWay.{IsUnderWay};
 ghost use Rattle.kept.specs.Archives.{KeepsArchive};
 ghost use Rattle.kept.specs.Coming.{HasComing};
 ghost use Rattle.kept.specs.Shown.{shown_in};
+ghost use Rattle.keep_tables.specs.AtHand.{AreAtHand, AreKnown};
 
 use crate::begun::{begun, forget_if, is_coming, number_of, stop};
 use crate::calls::{clear, finish_delivery, forget_body, take_piece};
 use crate::changes::make_change;
 use crate::cleanings::clean_up;
 use crate::current::span_of;
-use crate::reads::{read_due, read_file, read_nothing, read_shown, read_text, read_waiting};
+use crate::known::{TextPrint, forget_prints, known_print, note_print};
+use crate::reads::{read_due, read_file, read_nothing, read_print, read_text, read_waiting, show};
 use bodies::{Begun, Finished};
 use keep::{
-    Change, Judgement, KeepFault, Keeper, LATEST, Waiting, copied_judgements, dates_after,
-    judged_after,
+    Change, Judgement, KeepFault, Keeper, LATEST, Waiting, append_judgements, copied_judgements,
+    dates_after, room_for_judgements,
 };
 use keep_rows::{create, fault_of, is_without_tables, some_take_files};
 use rules::Config;
 use sqlite::{Alter, Connection};
 use std::alloc::Global;
 use suites::{Shelves, Upload};
-use sums::Printer;
+use sums::{Print, Printer};
 
 /// A keeper over the tables of a database, which its connection is to. The configuration, the judgements and the dates are
-/// held beside the tables, all else is read from them.
+/// held beside the tables, and between calls what the suites show and the prints of index texts; all else is read from them.
 #[derive(Drop)]
 pub struct TableKeeper<S: Alter + Drop> {
     conn: Connection<S>,
@@ -38,11 +40,18 @@ pub struct TableKeeper<S: Alter + Drop> {
     dates: Vec<u64>,
     /// The body that was begun last, until it has arrived or its rows are gone.
     begun: Option<Begun>,
+    /// What the suites show, where a call left it here. The next that asks for it takes it out.
+    spare: Option<Shelves>,
+    /// The prints of index texts that are known.
+    prints: Vec<TextPrint>,
     ghost idle: { conn.in_transaction ≡ false },
     ghost in_range: { ∥ All (λ date. date ≤ 4_102_444_799) dates.items ∥₁ },
     ghost kept: { HasCleanDisk (state S.Store conn) → IsTrue (state S.Store conn).is_open
         → ∥ KeepsArchive (state S.Store conn).committed config judged.items (shown_in config.suites (tables_in (state S.Store conn).committed)) dates.items ∥₁ },
     ghost under_way: { HasCleanDisk (state S.Store conn) → IsTrue (state S.Store conn).is_open → ∥ IsUnderWay (tables_in (state S.Store conn).committed) begun ∥₁ },
+    ghost at_hand: { HasCleanDisk (state S.Store conn) → IsTrue (state S.Store conn).is_open → ∥ AreAtHand config (state S.Store conn).committed spare ∥₁ },
+    ghost known: { HasCleanDisk (state S.Store conn) → IsTrue (state S.Store conn).is_open
+        → ∥ AreKnown config (shown_in config.suites (tables_in (state S.Store conn).committed)) dates.items prints.items ∥₁ },
 }
 
 impl<S: Alter + Drop> TableKeeper<S> {
@@ -91,24 +100,30 @@ impl<S: Alter + Drop> TableKeeper<S> {
                 judged: Vec::new(alloc),
                 dates,
                 begun: None,
+                spare: None,
+                prints: Vec::new(alloc),
             }),
             Err(error) => Err((connection, fault_of(error))),
         }
     }
 
-    /// The keeper over a database that keeps an archive of this configuration, with these judged uploads in order, and for each
-    /// suite in the order of the configuration the moment at which what it shows last changed. Each of its bodies is whole.
+    /// The keeper over a database whose archive is of this configuration and shows this, with these judged uploads in order,
+    /// and for each suite in the order of the configuration the moment at which what it shows last changed. Each of its bodies
+    /// is whole.
     pub(crate) fn over(
+        alloc: Global,
         connection: Connection<S>,
         config: Config,
         judged: Vec<Judgement>,
         dates: Vec<u64>,
+        shelves: Shelves,
     ) -> TableKeeper<S>
         requires idle { connection.in_transaction ≡ false }
         requires in_range { ∥ All (λ date. date ≤ LATEST) dates.items ∥₁ }
         requires kept { HasCleanDisk (state S.Store connection) → IsTrue (state S.Store connection).is_open
             → ∥ KeepsArchive (state S.Store connection).committed config judged.items (shown_in config.suites (tables_in (state S.Store connection).committed)) dates.items ∥₁ }
         requires whole { HasCleanDisk (state S.Store connection) → IsTrue (state S.Store connection).is_open → HasComing (tables_in (state S.Store connection).committed) [] }
+        requires shown { HasCleanDisk (state S.Store connection) → IsTrue (state S.Store connection).is_open → shelves ≡ shown_in config.suites (tables_in (state S.Store connection).committed) }
         ensures { (result.conn ≡ connection) × (result.config ≡ config) × (result.judged ≡ judged) × (result.dates ≡ dates) }
     {
         TableKeeper {
@@ -117,6 +132,8 @@ impl<S: Alter + Drop> TableKeeper<S> {
             judged,
             dates,
             begun: None,
+            spare: Some(shelves),
+            prints: Vec::new(alloc),
         }
     }
 
@@ -130,6 +147,8 @@ impl<S: Alter + Drop> TableKeeper<S> {
             judged: _,
             dates: _,
             begun: _,
+            spare: _,
+            prints: _,
         } = self;
         conn
     }
@@ -267,7 +286,8 @@ impl<S: Alter + Drop> Keeper for TableKeeper<S> {
 
     #[tactic(auto, unfolding(kept::specs::Kept::book_in))]
     fn shelves(&mut self, alloc: Global) -> Result<Shelves, KeepFault> {
-        match read_shown(alloc, &mut self.conn, &self.config) {
+        let spare = self.spare.take();
+        match show(alloc, &mut self.conn, &self.config, spare) {
             Ok(shelves) => Ok(shelves),
             Err(error) => Err(fault_of(error)),
         }
@@ -276,8 +296,8 @@ impl<S: Alter + Drop> Keeper for TableKeeper<S> {
     #[tactic(auto, unfolding(kept::specs::Kept::book_in))]
     fn apply(&mut self, alloc: Global, change: &Change) -> Result<(), KeepFault> {
         let steps = change.steps.as_slice();
-        let judged = judged_after(alloc, &self.judged, steps)?;
         let dates = dates_after(alloc, &self.dates, steps, change.moment)?;
+        let judged = room_for_judgements(alloc, &mut self.judged, steps)?;
         match make_change(
             alloc,
             &mut self.conn,
@@ -286,13 +306,20 @@ impl<S: Alter + Drop> Keeper for TableKeeper<S> {
             change,
         ) {
             Ok(()) => {
-                self.judged = judged;
+                append_judgements(&mut self.judged, judged);
                 self.dates = dates;
+                self.spare = None;
+                forget_prints(&mut self.prints, change.texts.as_slice());
                 forget_if(&mut self.begun, some_take_files(steps));
                 Ok(())
             }
             Err(error) => Err(fault_of(error)),
         }
+    }
+
+    #[tactic(auto, unfolding(kept::specs::Kept::book_in))]
+    fn hold(&mut self, shelves: Shelves) {
+        self.spare = Some(shelves);
     }
 
     #[tactic(auto, unfolding(kept::specs::Kept::book_in))]
@@ -319,6 +346,18 @@ impl<S: Alter + Drop> Keeper for TableKeeper<S> {
     fn text(&mut self, alloc: Global, path: &str) -> Result<Option<Vec<u8>>, KeepFault> {
         match read_text(alloc, &mut self.conn, path) {
             Ok(text) => Ok(text),
+            Err(error) => Err(fault_of(error)),
+        }
+    }
+
+    #[tactic(auto, unfolding(kept::specs::Kept::book_in))]
+    fn text_print(&mut self, alloc: Global, path: &str) -> Result<Option<Print>, KeepFault> {
+        let known = known_print(&self.prints, path);
+        match read_print(alloc, &mut self.conn, known, path) {
+            Ok(print) => {
+                note_print(alloc, &mut self.prints, path, print);
+                Ok(print)
+            }
             Err(error) => Err(fault_of(error)),
         }
     }

@@ -10,6 +10,7 @@ mod cleanings;
 mod current;
 mod due;
 mod keeper;
+mod known;
 pub mod laws;
 mod meaning;
 mod opening;

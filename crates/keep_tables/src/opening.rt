@@ -40,6 +40,7 @@ struct Found {
 fn found_in(alloc: Global, all: AllRows) -> Result<Option<Found>, AllocError>
     ensures some { AreConstrained (tables_with all) → IfOk result (λ o. IfSome o (λ found. KeepsSome (finished (tables_with all)) found.held.config found.held.judged.items found.held.dates.items
         × (found.unfinished.items ≡ unfinished_ids (tables_with all).bodies))) }
+    ensures shown { AreConstrained (tables_with all) → IfOk result (λ o. IfSome o (λ found. found.held.shelves ≡ shown_in found.held.config.suites (tables_with all))) }
     ensures none { AreConstrained (tables_with all) → Rises (tables_with all).bodies → IfOk result (λ o. o ≡ None → AreReadable (tables_with all) → KeepsNone (finished (tables_with all))) }
 {
     let unfinished = unfinished_among(alloc, &all.bodies)?;
@@ -60,6 +61,7 @@ fn archive_of<S: Alter>(alloc: Global, conn: &mut Connection<S>) -> Result<Optio
     ensures some { HasCleanDisk (state S.Store conn.new) → IfOk result (λ o. IfSome o (λ found. IsUnchanged (state S.Store conn.old) (state S.Store conn.new)
         × IsArchiveOf (state S.Store conn.old).now found.held.config found.held.judged.items found.held.dates.items
         × (found.unfinished.items ≡ unfinished_ids (tables_in (state S.Store conn.old).now).bodies))) }
+    ensures shown { HasCleanDisk (state S.Store conn.new) → IfOk result (λ o. IfSome o (λ found. found.held.shelves ≡ shown_in found.held.config.suites (tables_in (state S.Store conn.old).now))) }
     ensures none { HasCleanDisk (state S.Store conn.new) → IfOk result (λ o. o ≡ None → Stands (state S.Store conn.old) (state S.Store conn.new)
         × IsNoArchive (state S.Store conn.old).now) }
     ensures err { HasCleanDisk (state S.Store conn.new) → OnErr result (Fails (state S.Store conn.old) (state S.Store conn.new)) }
@@ -80,6 +82,7 @@ fn find_archive<S: Alter>(alloc: Global, conn: &mut Connection<S>) -> Result<Opt
     ensures some { HasCleanDisk (state S.Store conn.new) → IfOk result (λ o. IfSome o (λ found. IsUnchanged (state S.Store conn.old) (state S.Store conn.new)
         × IsArchiveOf (state S.Store conn.old).now found.held.config found.held.judged.items found.held.dates.items
         × (found.unfinished.items ≡ unfinished_ids (tables_in (state S.Store conn.old).now).bodies))) }
+    ensures shown { HasCleanDisk (state S.Store conn.new) → IfOk result (λ o. IfSome o (λ found. found.held.shelves ≡ shown_in found.held.config.suites (tables_in (state S.Store conn.old).now))) }
     ensures none { HasCleanDisk (state S.Store conn.new) → IfOk result (λ o. o ≡ None → Stands (state S.Store conn.old) (state S.Store conn.new)
         × IsNoArchive (state S.Store conn.old).now) }
     ensures err { HasCleanDisk (state S.Store conn.new) → OnErr result (Fails (state S.Store conn.old) (state S.Store conn.new)) }
@@ -93,11 +96,16 @@ fn find_archive<S: Alter>(alloc: Global, conn: &mut Connection<S>) -> Result<Opt
 }
 
 /// The keeper over the tables of an archive whose bodies are whole.
-fn keeper_over<S: Alter + Drop>(connection: Connection<S>, held: Held) -> TableKeeper<S>
+fn keeper_over<S: Alter + Drop>(
+    alloc: Global,
+    connection: Connection<S>,
+    held: Held,
+) -> TableKeeper<S>
     requires idle { connection.in_transaction ≡ false }
     requires kept { HasCleanDisk (state S.Store connection) → IsTrue (state S.Store connection).is_open
         → ∥ KeepsArchive (state S.Store connection).committed held.config held.judged.items (shown_in held.config.suites (tables_in (state S.Store connection).committed)) held.dates.items ∥₁ }
     requires whole { HasCleanDisk (state S.Store connection) → IsTrue (state S.Store connection).is_open → HasComing (tables_in (state S.Store connection).committed) [] }
+    requires shown { HasCleanDisk (state S.Store connection) → IsTrue (state S.Store connection).is_open → held.shelves ≡ shown_in held.config.suites (tables_in (state S.Store connection).committed) }
     ensures conn { result.conn ≡ connection }
     ensures held { (result.config ≡ held.config) × (result.judged ≡ held.judged) × (result.dates ≡ held.dates) }
 {
@@ -105,17 +113,20 @@ fn keeper_over<S: Alter + Drop>(connection: Connection<S>, held: Held) -> TableK
         config,
         judged,
         dates,
+        shelves,
     } = held;
-    TableKeeper::over(connection, config, judged, dates)
+    TableKeeper::over(alloc, connection, config, judged, dates, shelves)
 }
 
 /// The keeper of an archive that was found, once the bodies that are not whole are away.
 fn keeper_of<S: Alter + Drop>(
+    alloc: Global,
     mut connection: Connection<S>,
     found: Found,
 ) -> Result<TableKeeper<S>, (Connection<S>, KeepFault)>
     requires idle { connection.in_transaction ≡ false }
     requires found { HasCleanDisk (state S.Store connection) → IsFound (state S.Store connection) found.held.config found.held.judged.items found.held.dates.items found.unfinished.items }
+    requires shown { HasCleanDisk (state S.Store connection) → found.held.shelves ≡ shown_in found.held.config.suites (tables_in (state S.Store connection).now) }
     ensures opened { IfOk result (λ keeper. HasCleanDisk (state S.Store keeper.conn) → IsFinished (state S.Store connection) (state S.Store keeper.conn)
         × KeepsFinished (state S.Store connection).committed (config_in_use keeper) (table_book keeper)) }
     ensures fault { IfErr result (λ e. e.1 ≢ NoArchive) }
@@ -126,10 +137,10 @@ fn keeper_of<S: Alter + Drop>(
 {
     let Found { held, unfinished } = found;
     if unfinished.is_empty() {
-        return Ok(keeper_over(connection, held));
+        return Ok(keeper_over(alloc, connection, held));
     }
     match remove_all(&mut connection, &unfinished) {
-        Ok(()) => Ok(keeper_over(connection, held)),
+        Ok(()) => Ok(keeper_over(alloc, connection, held)),
         Err(failure) => Err((connection, fault_of(failure))),
     }
 }
@@ -158,7 +169,7 @@ impl<S: Alter + Drop> TableKeeper<S> {
             return Err((connection, KeepFault::Tables));
         }
         match find_archive(alloc, &mut connection) {
-            Ok(Some(found)) => keeper_of(connection, found),
+            Ok(Some(found)) => keeper_of(alloc, connection, found),
             Ok(None) => Err((connection, KeepFault::Tables)),
             Err(error) => Err((connection, fault_of(error))),
         }

@@ -1,6 +1,6 @@
 //! The reads of a keeper, over the connection alone.
 
-ghost use Rattle.std.specs.Prelude.{◌≡◌, ℕ, List, map, false, IsTrue, IfOk, OnOk};
+ghost use Rattle.std.specs.Prelude.{◌≡◌, ℕ, List, Some, map, false, IsTrue, IfOk, IfSome, OnOk};
 ghost use Rattle.std.specs.Option.{option_map};
 ghost use Rattle.sqlite.specs.Held.{state};
 ghost use Rattle.sqlite.specs.State.{HasCleanDisk};
@@ -8,6 +8,7 @@ ghost use Rattle.keep.specs.Book.{at_moment, due, span, text_at, upload_of, wait
 ghost use Rattle.keep.specs.Keeping.{sign_of};
 ghost use Rattle.keep.specs.declared.change.Judgement.{Judgement};
 ghost use Rattle.rules.specs.Values.{ConfigValue};
+ghost use Rattle.sums.specs.Prints.{print as print_of};
 ghost use Rattle.suites.specs.Shelves.{ShelvesValue};
 ghost use Rattle.tables.specs.Rows.{IsArchive};
 ghost use Rattle.kept.specs.Archives.{IsRead, KeepsArchive, book_of};
@@ -16,11 +17,12 @@ use crate::due::due_uploads;
 use crate::showing::read_shelves;
 use crate::waiting::waiting_uploads;
 use bodies::file_body;
-use keep::Waiting;
+use keep::{Waiting, print_of_text};
 use rules::Config;
 use sqlite::{Alter, Connection, Error};
 use std::alloc::Global;
 use suites::{Shelves, Upload};
+use sums::Print;
 use tables::serving::serve;
 use tables::texts::select_text;
 
@@ -117,8 +119,8 @@ pub fn read_text<S: Alter>(
     }
 }
 
-/// What the suites show.
-pub fn read_shown<S: Alter>(
+/// What the rows show.
+fn read_shown<S: Alter>(
     alloc: Global,
     conn: &mut Connection<S>,
     config: &Config,
@@ -146,4 +148,59 @@ pub fn read_nothing<S: Alter>(alloc: Global, conn: &mut Connection<S>) -> Result
     ensures open { HasCleanDisk (state S.Store conn.new) → OnOk result (IsTrue (state S.Store conn.new).is_open) }
 {
     serve(alloc, conn)
+}
+
+/// What the suites show: the shelves that are at hand, where the database serves still, or else what its rows show.
+pub fn show<S: Alter>(
+    alloc: Global,
+    conn: &mut Connection<S>,
+    config: &Config,
+    spare: Option<Shelves>,
+) -> Result<Shelves, Error>
+    requires idle { conn.old.in_transaction ≡ false }
+    ensures idle { conn.new.in_transaction ≡ false }
+    ensures read { IsRead (state S.Store conn.old) (state S.Store conn.new) }
+    ensures open { HasCleanDisk (state S.Store conn.new) → (IsTrue (state S.Store conn.old).is_open → ∥ IsArchive (state S.Store conn.old).committed ∥₁)
+        → OnOk result (IsTrue (state S.Store conn.new).is_open) }
+    ensures shown { HasCleanDisk (state S.Store conn.new) → (judged : List Judgement) (shown : ShelvesValue) (dates : List ℕ)
+        → KeepsArchive (state S.Store conn.old).committed config.now judged shown dates → IfSome spare (λ shelves. shelves ≡ shown)
+        → IfOk result (λ shelves. shelves ≡ shown) }
+{
+    match spare {
+        Some(shelves) => {
+            read_nothing(alloc, conn)?;
+            Ok(shelves)
+        }
+        None => read_shown(alloc, conn, config),
+    }
+}
+
+/// The print of the text of the index at a path: the one that is known, where the database serves still, or else that of the
+/// text that is read.
+pub fn read_print<S: Alter>(
+    alloc: Global,
+    conn: &mut Connection<S>,
+    known: Option<Print>,
+    path: &str,
+) -> Result<Option<Print>, Error>
+    requires idle { conn.old.in_transaction ≡ false }
+    ensures idle { conn.new.in_transaction ≡ false }
+    ensures read { IsRead (state S.Store conn.old) (state S.Store conn.new) }
+    ensures open { HasCleanDisk (state S.Store conn.new) → (IsTrue (state S.Store conn.old).is_open → ∥ IsArchive (state S.Store conn.old).committed ∥₁)
+        → OnOk result (IsTrue (state S.Store conn.new).is_open) }
+    ensures print { HasCleanDisk (state S.Store conn.new) → (config : ConfigValue) (judged : List Judgement) (shown : ShelvesValue) (dates : List ℕ)
+        → KeepsArchive (state S.Store conn.old).committed config judged shown dates
+        → IfSome known (λ p. option_map print_of (text_at (book_of (state S.Store conn.old).committed config judged shown dates) path.now) ≡ Some p)
+        → IfOk result (λ found. found ≡ option_map print_of (text_at (book_of (state S.Store conn.old).committed config judged shown dates) path.now)) }
+{
+    match known {
+        Some(print) => {
+            read_nothing(alloc, conn)?;
+            Ok(Some(print))
+        }
+        None => {
+            let text = read_text(alloc, conn, path)?;
+            Ok(print_of_text(&text))
+        }
+    }
 }

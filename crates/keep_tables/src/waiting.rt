@@ -1,12 +1,12 @@
 //! The uploads that are not judged, in the order of judging, and what they wait for.
 
-ghost use Rattle.std.specs.Prelude.{◌≡◌, ◌≤◌, ◌++◌, ◌∷◌, false, length, filter, map, not, take, drop, IfOk, OnOk, OnErr};
+ghost use Rattle.std.specs.Prelude.{◌≡◌, false, length, filter, map, not, IfOk, OnOk, OnErr};
 ghost use Rattle.std.specs.List.{filter_map};
 ghost use Rattle.sqlite.specs.Held.{state};
 ghost use Rattle.sqlite.specs.State.{HasCleanDisk, IsUnchanged, Survives};
 ghost use Rattle.tables.specs.Rows.{Tables, Holds};
 ghost use Rattle.kept.specs.Kept.{sign_in};
-ghost use Rattle.kept.specs.Reads.{Rests, put_by, row_order, sign_order, sorted_by, wanting};
+ghost use Rattle.kept.specs.Reads.{Rests, row_order, sign_order, sorted_by, wanting};
 ghost use Rattle.kept.specs.Transactions.{IsUndone};
 ghost use Rattle.keep_tables.specs.Moments.{is_had, missing_at, row_at, rows_at, waiting_at};
 
@@ -33,41 +33,12 @@ fn judging_order(a: &Upload, b: &Upload) -> Ordering
         .then(a.print.size.cmp(&b.print.size))
 }
 
-/// Where another upload stands among these, which are in order: before those that tie with it.
-fn place(sorted: &[(u64, Upload)], other: &(u64, Upload)) -> usize
-    ensures within { result ≤ length sorted.now }
-    ensures placed { put_by row_order other.now sorted.now ≡ take result sorted.now ++ other.now ∷ drop result sorted.now }
-{
-    for (index, one) in sorted.iter().enumerate() {
-        if !judging_order(&other.1, &one.1).is_gt() {
-            return index;
-        }
-    }
-    sorted.len()
-}
-
-/// Adds an upload in its place among these, which are in order.
-fn put(sorted: &mut Vec<(u64, Upload)>, other: (u64, Upload)) -> Result<(), AllocError>
-    ensures { OnOk result (sorted.new.items ≡ put_by row_order other sorted.old.items) }
-{
-    let place = place(sorted, &other);
-    sorted.insert(place, other)?;
-    Ok(())
-}
-
-/// The uploads in the order of judging.
-fn in_judging_order(
-    alloc: Global,
-    mut uploads: Vec<(u64, Upload)>,
-) -> Result<Vec<(u64, Upload)>, AllocError>
+/// The uploads in the order of judging, those that tie as they stand.
+fn in_judging_order(mut uploads: Vec<(u64, Upload)>) -> Result<Vec<(u64, Upload)>, AllocError>
     ensures { IfOk result (λ sorted. sorted.items ≡ sorted_by row_order uploads.items) }
 {
-    let mut sorted = Vec::new(alloc);
-    uploads.reverse();
-    for upload in uploads {
-        put(&mut sorted, upload)?;
-    }
-    Ok(sorted)
+    uploads.sort_by(|a, b| judging_order(&a.1, &b.1))?;
+    Ok(uploads)
 }
 
 /// The upload with its number, where it counts still at the moment.
@@ -140,7 +111,7 @@ pub(crate) fn wanting_in_order<S: Alter>(
     ensures survives { Survives (state S.Store conn.old) (state S.Store conn.new) (λ _. (t : Tables) → ¬ Holds (state S.Store conn.old).now t) }
 {
     let rows = wanting_still(alloc, conn, span, moment)?;
-    let sorted = in_judging_order(alloc, rows)?;
+    let sorted = in_judging_order(rows)?;
     Ok(sorted)
 }
 

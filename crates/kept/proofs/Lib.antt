@@ -20,6 +20,8 @@ pub mod RemainingFiles
 pub mod AmendedLemmas
 pub mod Searches
 pub mod WantLemmas
+pub mod SignOrder
+pub mod SortedLemmas
 pub mod RequestLemmas
 pub mod UploadLemmas
 pub mod JudgedLemmas

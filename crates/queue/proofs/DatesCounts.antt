@@ -30,7 +30,7 @@ use Rattle.queue.proofs.ShownPrints.{printed_item}
 
 -- ---- lists in the order of their keys
 
-T_from_true : (b : Bool) → b ≡ true → T b
+pub T_from_true : (b : Bool) → b ≡ true → T b
 T_from_true true h = tt
 T_from_true false h = cc
 
@@ -59,7 +59,7 @@ module _ {K X : Type 0} (R : K → K → Ordering) where
   sorted_kept e es true below sorted = both_true (below_all R e.0 es) (is_sorted R es) below sorted
   sorted_kept e es false below sorted = sorted
 
-  sorted_filter : (p : K × X → Bool) (es : List (K × X)) → is_sorted R es ≡ true → is_sorted R (filter p es) ≡ true
+  pub sorted_filter : (p : K × X → Bool) (es : List (K × X)) → is_sorted R es ≡ true → is_sorted R (filter p es) ≡ true
   sorted_filter p [] h = refl
   sorted_filter p (e ∷ es) h =
       let parts = both (below_all R e.0 es) (is_sorted R es) h in
@@ -112,7 +112,7 @@ module _ {K X : Type 0} {R : K → K → Ordering} (total : IsTotalOrder R) (sam
       kept_first p q e es (p e) refl t (rest ∙ ap (passing p q) none) ∙ ap (λ k. cond (p (k, e.1)) (Some e.1) None) (sym key)
   find_step p q e es below rest false t = kept_other p q e (filter p es) (p e) t ∙ rest
 
-  find_filter : (p : K × X → Bool) (q : K) (es : List (K × X)) → is_sorted R es ≡ true → find R q (filter p es) ≡ passing p q (find R q es)
+  pub find_filter : (p : K × X → Bool) (q : K) (es : List (K × X)) → is_sorted R es ≡ true → find R q (filter p es) ≡ passing p q (find R q es)
   find_filter p q [] h = refl
   find_filter p q (e ∷ es) h =
       let parts = both (below_all R e.0 es) (is_sorted R es) h in

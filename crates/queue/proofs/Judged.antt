@@ -19,8 +19,8 @@ use Rattle.keep.specs.Keeping.{NoCollision}
 use Rattle.keep.specs.declared.arrival.Arrival.{Arrival}
 use Rattle.keep.specs.declared.change.Judgement.{Judgement}
 use Rattle.queue.specs.Before.{before_each, before_each-push}
-use Rattle.queue.specs.Histories.{Call, Delivery, QueueRun, Copying, Lookup, WaitingList, Cleaning, Removing, VerdictList, Reply, Step, History, arrived, bodies_of_call, completes, counting, due_after, has_come, waiting_after, was_judged}
-use Rattle.queue.specs.Archives.{PlainArchive, Act, Whole, Copy, Remove, acted, acts_of, all_acts, archive, archive_of, book_from, book_of, removed, suite_named, whole, whole_of, with_admitted}
+use Rattle.queue.specs.Histories.{Call, Delivery, QueueRun, Copying, Lookup, WaitingList, Cleaning, Removing, Promoting, VerdictList, Reply, Step, History, arrived, bodies_of_call, completes, counting, due_after, has_come, waiting_after, was_judged}
+use Rattle.queue.specs.Archives.{PlainArchive, Act, Whole, Copy, Remove, Promote, acted, acts_of, all_acts, archive, archive_of, book_from, book_of, copied, copied_all, removed, sources_in, suite_named, whole, whole_of, with_admitted}
 use Rattle.queue.specs.Answers.{IsFaithful}
 use Rattle.queue.specs.declared.fault.Fault.{Fault}
 use Rattle.queue.proofs.Lists.{all_always, all_filter, all_filter_map, all_front, all_weaker, by_steps, filter_agree_on, list_any-map}
@@ -175,6 +175,17 @@ unfolding removed with_admitted
 removals_judge config None name moment a = refl
 removals_judge config (Some suite) name moment a = refl
 
+copied_all_judge : (config : ConfigValue) (moment from to : ℕ) (sources : List (List ℕ)) (a : PlainArchive) → (copied_all config moment from to a sources).judged ≡ a.judged
+unfolding with_admitted
+copied_all_judge config moment from to [] a = refl
+copied_all_judge config moment from to (source ∷ sources) a = copied_all_judge config moment from to sources (copied config moment a from to source)
+
+promotions_judge : (config : ConfigValue) (from to : Option ℕ) (sources : Option (List (List ℕ))) (moment : ℕ) (a : PlainArchive)
+    → (fold (acted config) a (flat_map (λ f. map (λ t. Promote f t sources moment) (option_to_list to)) (option_to_list from))).judged ≡ a.judged
+promotions_judge config None to sources moment a = refl
+promotions_judge config (Some from) None sources moment a = refl
+promotions_judge config (Some from) (Some to) sources moment a = copied_all_judge config moment from to (sources_in a from sources) a
+
 -- of the uploads that are due, one has the name and the print of c exactly where c has come, is complete and was not judged
 any_due : (bodies : List (List ℕ)) → NoCollision bodies → (opening : Book) (steps : List Step) (moment : ℕ) → ArrivalsHave (Contains bodies) (counting opening steps moment)
     → (c : Candidate) → IsOf (Contains bodies) c
@@ -248,6 +259,10 @@ judged_push bodies apart h hs (Copying from to source moment) (Ok reply) c hc so
 judged_push bodies apart h hs (Removing suite name moment) (Ok reply) c hc sofar =
     ap (λ js. is_judged js c) (removals_judge h.opening.config (suite_named h.opening.config suite) name moment (archive h))
     ∙ sofar ∙ sym (or_no (was_judged h.opening h.steps c))
+judged_push bodies apart h hs (Promoting from to sources moment) (Ok reply) c hc sofar =
+    ap (λ js. is_judged js c) (promotions_judge h.opening.config (suite_named h.opening.config from) (suite_named h.opening.config to) sources moment (archive h))
+    ∙ sofar ∙ sym (or_no (was_judged h.opening h.steps c))
+judged_push bodies apart h hs (Promoting from to sources moment) (Err fault) c hc sofar = sofar ∙ sym (or_no (was_judged h.opening h.steps c))
 judged_push bodies apart h hs (Removing suite name moment) (Err fault) c hc sofar = sofar ∙ sym (or_no (was_judged h.opening h.steps c))
 judged_push bodies apart h hs (QueueRun moment) (Err fault) c hc sofar = sofar ∙ sym (or_no (was_judged h.opening h.steps c))
 judged_push bodies apart h hs (Copying from to source moment) (Err fault) c hc sofar = sofar ∙ sym (or_no (was_judged h.opening h.steps c))

@@ -30,8 +30,8 @@ use Rattle.suites.specs.declared.key.ShelfKey.{ShelfKey}
 use Rattle.keep.specs.Book.{Book, Candidate, at_latest, body_for, counts, current, has_arrival, is_same_pair, span, with_arrival}
 use Rattle.keep.specs.Keeping.{HasBodies, NoCollision}
 use Rattle.keep.specs.declared.arrival.Arrival.{Arrival}
-use Rattle.queue.specs.Histories.{Call, Delivery, QueueRun, Copying, Lookup, WaitingList, Cleaning, Removing, VerdictList, Reply, Step, History, arrived, arrivals_after, bodies_of, bodies_of_call, calls_of, counting, due_after}
-use Rattle.queue.specs.Archives.{PlainArchive, Act, Whole, Copy, Remove, WholeUpload, BodyItem, acted, acts_of, archive, archive_of, all_acts, book_from, book_of, contents_of, copied, items_copied, items_given, listed_body, pool_in, removed, shown_in, suite_named, version_with, whole, whole_of, with_bodies, with_admitted}
+use Rattle.queue.specs.Histories.{Call, Delivery, QueueRun, Copying, Lookup, WaitingList, Cleaning, Removing, Promoting, VerdictList, Reply, Step, History, arrived, arrivals_after, bodies_of, bodies_of_call, calls_of, counting, due_after}
+use Rattle.queue.specs.Archives.{PlainArchive, Act, Whole, Copy, Remove, Promote, WholeUpload, BodyItem, acted, acts_of, archive, archive_of, all_acts, book_from, book_of, contents_of, copied, copied_all, items_copied, items_given, listed_body, pool_in, removed, shown_in, sources_in, suite_named, version_with, whole, whole_of, with_bodies, with_admitted}
 use Rattle.queue.specs.Answers.{IsFaithful, IsOpening}
 use Rattle.queue.specs.declared.fault.Fault.{Fault}
 use Rattle.queue.proofs.Lists.{all_append, all_front, all_back, all_weaker, all_map, all_unmap, all_filter, all_filter_map, all_flat_map, all_from_flat_map, all_contained, all_from_contained, all_always, at_contained, at_some, by_steps, contains_cases, contains_later, find_have, map_have, or_have, unwrap_or_has}
@@ -162,6 +162,11 @@ copied_has K config moment a from to source ha =
     (all_filter (λ (e : Admitted (List ℕ)). ItemHas K e.1) _ (entries (shown_in a)) (shown_have K a ha)))
     (option_to_list (slice_get config.suites to))))
 
+pub copied_all_has : (K : List ℕ → Type 0) (config : ConfigValue) (moment from to : ℕ) (sources : List (List ℕ)) (a : PlainArchive) → ItemsHave K a.admitted → ItemsHave K (copied_all config moment from to a sources).admitted
+copied_all_has K config moment from to [] a ha = ha
+copied_all_has K config moment from to (source ∷ sources) a ha =
+    copied_all_has K config moment from to sources (copied config moment a from to source) (copied_has K config moment a from to source ha)
+
 pub removed_has : (K : List ℕ → Type 0) (moment : ℕ) (a : PlainArchive) (suite : ℕ) (name : List ℕ) → ItemsHave K a.admitted → ItemsHave K (removed moment a suite name).admitted
 unfolding removed with_admitted
 removed_has K moment a suite name ha = all_filter (λ (e : Admitted (List ℕ)). ItemHas K e.1) _ a.admitted ha
@@ -196,6 +201,7 @@ arrivals_after_have K seconds arrivals (WaitingList moment) outcome h hb = h
 arrivals_after_have K seconds arrivals (Cleaning moment) (Ok reply) h hb = current_have K seconds moment arrivals h
 arrivals_after_have K seconds arrivals (Cleaning moment) (Err fault) h hb = h
 arrivals_after_have K seconds arrivals (Removing suite name moment) outcome h hb = h
+arrivals_after_have K seconds arrivals (Promoting from to sources moment) outcome h hb = h
 arrivals_after_have K seconds arrivals VerdictList outcome h hb = h
 
 -- the bodies that have arrived are those of the opening and of the calls
@@ -230,11 +236,13 @@ abbrev pub ActHas : (List ℕ → Type 0) → Act → Type 0
 ActHas K (Whole w moment) = AllByRecursion K w.bodies
 ActHas K (Copy from to source moment) = ⊤
 ActHas K (Remove suite name moment) = ⊤
+ActHas K (Promote from to sources moment) = ⊤
 
 acted_has : (K : List ℕ → Type 0) → K [] → (config : ConfigValue) (a : PlainArchive) (act : Act) → ItemsHave K a.admitted → ActHas K act → ItemsHave K (acted config a act).admitted
 acted_has K empty' config a (Whole w moment) ha h = whole_has K empty' config moment a w ha h
 acted_has K empty' config a (Copy from to source moment) ha h = copied_has K config moment a from to source ha
 acted_has K empty' config a (Remove suite name moment) ha h = removed_has K moment a suite name ha
+acted_has K empty' config a (Promote from to sources moment) ha h = copied_all_has K config moment from to (sources_in a from sources) a ha
 
 pub all_acted_have : (K : List ℕ → Type 0) → K [] → (config : ConfigValue) (acts : List Act) (a : PlainArchive) → ItemsHave K a.admitted → AllByRecursion (ActHas K) acts → ItemsHave K (fold (acted config) a acts).admitted
 all_acted_have K empty' config [] a ha h = ha
@@ -249,7 +257,10 @@ acts_have K empty' opening steps (Copying from to source moment) (Ok reply) h =
     all_flat_map (ActHas K) _ _ (all_always _ (λ (f : ℕ). all_map (ActHas K) (λ (t : ℕ). Copy f t source moment) _ (all_always _ (λ t. tt) (option_to_list (suite_named opening.config to)))) (option_to_list (suite_named opening.config from)))
 acts_have K empty' opening steps (Removing suite name moment) (Ok reply) h =
     all_map (ActHas K) (λ (s : ℕ). Remove s name moment) _ (all_always _ (λ s. tt) (option_to_list (suite_named opening.config suite)))
+acts_have K empty' opening steps (Promoting from to sources moment) (Ok reply) h =
+    all_flat_map (ActHas K) _ _ (all_always _ (λ (f : ℕ). all_map (ActHas K) (λ (t : ℕ). Promote f t sources moment) _ (all_always _ (λ t. tt) (option_to_list (suite_named opening.config to)))) (option_to_list (suite_named opening.config from)))
 acts_have K empty' opening steps (Removing suite name moment) (Err fault) h = tt
+acts_have K empty' opening steps (Promoting from to sources moment) (Err fault) h = tt
 acts_have K empty' opening steps (QueueRun moment) (Err fault) h = tt
 acts_have K empty' opening steps (Copying from to source moment) (Err fault) h = tt
 acts_have K empty' opening steps (Delivery name body moment) outcome h = tt

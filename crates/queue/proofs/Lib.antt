@@ -24,8 +24,13 @@ pub mod CopyShown
 pub mod DatesCounts
 pub mod SimulationCopies
 pub mod SimulationRemovals
+pub mod PromotionSteps
+pub mod PromotionGroups
+pub mod SimulationPromotions
 pub mod CopyAnswers
 pub mod RemovalAnswers
+pub mod PromotionAnswers
+pub mod CopiesInARow
 pub mod Runs
 pub mod Openings
 pub mod RenewedLists

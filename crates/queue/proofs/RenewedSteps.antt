@@ -1,7 +1,7 @@
 -- The steps of the functions that find the texts that are other than the kept ones.
 use Rattle.std.proofs.Common.{◌≡◌, ℕ, ◌+◌, ◌<◌, Bool, true, false, if◌then◌else◌, List, [], ◌∷◌, ◌++◌, length, drop, take, get_or, slice_get, map, codes, Option, Some, None, is_some, unwrap_or, refl, sym, ap, ◌∙◌, append_assoc, append-nil, arith}
 use Rattle.std.specs.List.{flat_map}
-use Rattle.std.specs.Option.{option_map_or}
+use Rattle.std.specs.Option.{option_map, option_map_or}
 use Rattle.std.proofs.lemmas.List.{drop_more, map-append, take_more}
 use Rattle.std.proofs.lemmas.Option.{get_or_from_slice_get, same_Some, slice_get-get_or}
 use Rattle.keep.specs.Scan.{some_touches}
@@ -33,6 +33,18 @@ kept_index old shelves steps folder place path whole kept own path_is whole_is k
     ap (λ (p : List ℕ). index p own) path_is
     ∙ ap (index (place_path place)) (own_is ∙ ap (λ (o : Option (List ℕ)). print (unwrap_or o [])) there_is)
     ∙ ap (λ (b : Bool). index (place_path place) (print (if b then place_text shelves folder.suite place else unwrap_or (old (path_in folder (place_path place))) []))) (sym unchanged)
+
+-- its text is none of those that are other
+pub kept_texts : (old : List ℕ → Option (List ℕ)) (shelves : ShelvesValue) (steps : List Step) (folder : Folder) (place : Place) → some_changes_index folder.suite place steps ≡ false
+    → renewed_index old shelves steps folder place ≡ []
+unfolding renewed_index
+kept_texts old shelves steps folder place unchanged = rw unchanged refl
+
+-- the print of the text that is kept, by the print of the text where there is one
+pub print_or : (kept : Option (List ℕ)) → unwrap_or (option_map print kept) (print []) ≡ print_kept kept
+unfolding print_kept
+print_or None = refl
+print_or (Some text) = refl
 
 -- one more of a list that is gone over
 pub mapped_more : {X Y : Type 0} (f : X → Y) (xs : List X) (i : ℕ) (x : X) (ys zs : List Y) (y : Y) → i < length xs → x ≡ get_or xs i x

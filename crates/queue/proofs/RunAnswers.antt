@@ -1,24 +1,28 @@
 -- The answers of runs, from what the keeper and the judging say.
-use Rattle.std.proofs.Common.{◌≡◌, ◌<◌, ◌≤◌, ℕ, Bool, false, List, [], ◌∷◌, map, Option, Some, Ok, Err, refl, sym, ap, subst, ◌∙◌}
+use Rattle.std.proofs.Common.{◌≡◌, ◌<◌, ◌≤◌, ℕ, Bool, false, List, [], ◌∷◌, map, fold, drop, length, append-nil, Option, Some, Ok, Err, refl, sym, ap, subst, ◌∙◌}
 use Rattle.std.specs.Prelude.{⊤}
+use Rattle.std.proofs.Math.Seq.{drop-append_seam}
 use Rattle.std.proofs.lemmas.Bool.{lt-ltb, le-ltb}
 use Rattle.rules.specs.Values.{ConfigValue}
 use Rattle.suites.specs.Shelves.{AreSound, ShelvesValue}
 use Rattle.suites.specs.Upload.{UploadValue}
-use Rattle.keep.specs.Book.{Book, amended, at_moment, due, judgements, latest, shown_past, upload_of}
+use Rattle.keep.specs.Book.{Book, Candidate, amended, at_moment, due, judgements, latest, shown_past, upload_of}
 use Rattle.keep.specs.Keeping.{Apart, AreRenewed, AreSteps, HasBodies, HasEachBody, IsSound, NoCollision, sign_of}
 use Rattle.keep.specs.declared.change.Change.{Change}
 use Rattle.keep.specs.declared.change.IndexText.{IndexText}
 use Rattle.keep.specs.declared.change.Step.{Step}
-use Rattle.queue.specs.Answers.{IsAnswer, IsFaithful, IsStep, answer, is_refused, report_line}
-use Rattle.queue.specs.Archives.{Stands, book_of}
-use Rattle.queue.specs.Histories.{History, Lines, QueueRun, followed}
+use Rattle.queue.specs.Answers.{IsAnswer, IsFaithful, IsStep, answer, is_refused, new_lines, report_line}
+use Rattle.queue.specs.Archives.{Stands, Whole, acted, acts_of, archive, book_of, whole_of}
+use Rattle.queue.specs.Histories.{History, Lines, QueueRun, Reply, arrivals_after, counting, due_after, followed}
 use Rattle.queue.specs.Judging.{AreJudged, after_uploads}
 use Rattle.queue.specs.declared.fault.Fault.TheVariants.{Moment}
+use Rattle.queue.proofs.Judged.{due_faithful}
+use Rattle.queue.proofs.Kept.{stands_kept}
 use Rattle.queue.proofs.Known.{apart_with_empty, known}
 use Rattle.queue.proofs.RunJudged.{StaysTold, is_sound, past_uploads, sign_in, steps_are}
-use Rattle.queue.proofs.SimulationRun.{run_has, run_step, steps_at}
+use Rattle.queue.proofs.SimulationRun.{answer_in_time, run_has, run_step, steps_at}
 use Rattle.queue.proofs.StepAnswers.{stands_answered}
+use Rattle.queue.proofs.Steps.{book_of-idle}
 
 -- a moment past the limit is refused
 pub late_run : (may_fail : Bool) (h : History) (moment : ℕ) → latest < moment → IsAnswer may_fail h (QueueRun moment) (Err Moment)
@@ -29,6 +33,47 @@ late_run may_fail h moment late = rw (lt-ltb latest moment late) refl
 pub free_run : (h : History) (moment : ℕ) → moment ≤ latest → is_refused h (QueueRun moment) ≡ false
 unfolding is_refused
 free_run h moment in_time = le-ltb latest moment in_time
+
+-- ---- a run at a moment at which nothing is due
+
+no_map : {X Y : Type 0} (f : X → Y) (xs : List X) → map f xs ≡ [] → xs ≡ []
+no_map f [] is = refl
+no_map f (x ∷ xs) is = cc
+
+-- where the keeper has no complete upload nothing is due
+nothing_due : (h : History) (moment : ℕ) (old : Book) (us : List UploadValue) → Stands old h → IsFaithful h (QueueRun moment ∷ []) → us ≡ []
+    → map sign_in us ≡ map sign_of (due (at_moment moment old)) → due_after h.opening h.steps moment ≡ []
+nothing_due h moment old us stands faithful none signs =
+    sym (due_faithful h (QueueRun moment ∷ []) faithful moment)
+    ∙ ap (λ (b : Book). due (at_moment moment b)) (sym stands)
+    ∙ no_map sign_of (due (at_moment moment old)) (sym signs ∙ ap (map sign_in) none)
+
+-- the run then adds no line
+no_lines : (h : History) (moment : ℕ) → due_after h.opening h.steps moment ≡ [] → new_lines h moment ≡ []
+unfolding new_lines acts_of
+no_lines h moment none =
+    let a = archive h in
+    ap (λ (cs : List Candidate). map report_line (drop (length a.judged) (fold (acted h.opening.config) a (map (λ c. Whole (whole_of (counting h.opening h.steps moment) c) moment) cs)).judged)) none
+    ∙ ap (map report_line) (ap (drop (length a.judged)) (sym (append-nil a.judged)) ∙ drop-append_seam a.judged [])
+
+-- and leaves the book
+idle_book : (h : History) (moment : ℕ) (reply : Reply) → due_after h.opening h.steps moment ≡ [] → book_of (followed h (QueueRun moment) (Ok reply)) ≡ book_of h
+unfolding arrivals_after acts_of
+idle_book h moment reply none =
+    book_of-idle h (QueueRun moment) (Ok reply) refl (ap (map (λ c. Whole (whole_of (counting h.opening h.steps moment) c) moment)) none)
+
+-- A run that is done where nothing is due: the book is the old one, and there is no line.
+pub idle_step : (may_fail : Bool) (h : History) (moment : ℕ) (old : Book) (us : List UploadValue) → Stands old h → IsFaithful h (QueueRun moment ∷ []) → moment ≤ latest
+    → us ≡ [] → map sign_in us ≡ map sign_of (due (at_moment moment old))
+    → (is_open : Type 0) (new : Book) (lines : List (List ℕ)) → new ≡ old → lines ≡ [] → IsStep may_fail h (QueueRun moment) (Ok (Lines lines)) is_open new
+idle_step may_fail h moment old us stands faithful in_time none signs is_open new lines same are =
+    let idle : due_after h.opening h.steps moment ≡ [] = nothing_due h moment old us stands faithful none signs in
+    record {
+      answered = ap (λ ls. Ok (Lines ls)) (are ∙ sym (no_lines h moment idle)) ∙ sym (answer_in_time h moment (le-ltb latest moment in_time));
+      kept = stands_kept is_open new (followed h (QueueRun moment) (Ok (Lines lines))) (same ∙ stands ∙ sym (idle_book h moment (Lines lines) idle));
+    }
+
+-- ---- a run that judges
 
 -- the steps judge these uploads on what the book shows
 judged_on : (book : Book) (config : ConfigValue) (shelves : ShelvesValue) (us them : List UploadValue) (steps : List Step)

@@ -173,7 +173,7 @@ module _ (config : ConfigValue) (moment : ℕ) (a : PlainArchive) (from to : ℕ
 
 -- ---- the step of a history
 
-answer_copied : (h : History) (from to source : List ℕ) (moment f t : ℕ) → nat_lt latest moment ≡ false → suite_named h.opening.config from ≡ Some f → suite_named h.opening.config to ≡ Some t
+pub answer_copied : (h : History) (from to source : List ℕ) (moment f t : ℕ) → nat_lt latest moment ≡ false → suite_named h.opening.config from ≡ Some f → suite_named h.opening.config to ≡ Some t
     → nat_eq f t ≡ false → list_any (is_shown_of f source) (entries (shown_in (archive h))) ≡ true
     → answer h (Copying from to source moment) ≡ Ok (Count (count_of_new t (archive h) (copied h.opening.config moment (archive h) f t source)))
 unfolding answer

@@ -41,7 +41,7 @@ use Rattle.queue.proofs.Steps.{book_of-followed}
 -- ---- the items
 
 -- a filter of images, by a test of what they are images of
-filter-map : {X Y : Type 0} (f : X → Y) (p : Y → Bool) (q : X → Bool) → ((x : X) → p (f x) ≡ q x) → (xs : List X) → filter p (map f xs) ≡ map f (filter q xs)
+pub filter-map : {X Y : Type 0} (f : X → Y) (p : Y → Bool) (q : X → Bool) → ((x : X) → p (f x) ≡ q x) → (xs : List X) → filter p (map f xs) ≡ map f (filter q xs)
 filter-map f p q same [] = refl
 filter-map f p q same (x ∷ xs) =
     ap (λ b. cond b (f x ∷ filter p (map f xs)) (filter p (map f xs))) (same x) ∙ kept (q x) (filter-map f p q same xs)

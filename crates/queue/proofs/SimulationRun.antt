@@ -175,7 +175,7 @@ pub made_of : (bodies : List (List ℕ)) (items : List (Admitted (List ℕ))) �
 made_of bodies items h e at file within =
     at_contained (λ (f : FileWith (List ℕ)). Contains bodies f.contents) e.1.files file (at_contained (λ (e : Admitted (List ℕ)). ItemHas (Contains bodies) e.1) items e h at) within
 
-answer_in_time : (h : History) (moment : ℕ) → nat_lt latest moment ≡ false → answer h (QueueRun moment) ≡ Ok (Lines (new_lines h moment))
+pub answer_in_time : (h : History) (moment : ℕ) → nat_lt latest moment ≡ false → answer h (QueueRun moment) ≡ Ok (Lines (new_lines h moment))
 unfolding answer
 answer_in_time h moment in_time = rw in_time refl
 

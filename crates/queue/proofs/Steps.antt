@@ -6,7 +6,7 @@ use Rattle.std.proofs.lemmas.Grind.{fold-append, flat_map-append}
 use Rattle.keep.specs.Book.{Book, at_moment, span, with_delivery}
 use Rattle.keep.specs.declared.arrival.Arrival.{Arrival}
 use Rattle.queue.specs.Before.{before_each, before_each-push}
-use Rattle.queue.specs.Histories.{Call, Delivery, QueueRun, Copying, Lookup, WaitingList, Cleaning, Removing, VerdictList, Reply, Step, History, arrived, arrivals_after, followed}
+use Rattle.queue.specs.Histories.{Call, Delivery, QueueRun, Copying, Lookup, WaitingList, Cleaning, Removing, Promoting, VerdictList, Reply, Step, History, arrived, arrivals_after, followed}
 use Rattle.queue.specs.Archives.{PlainArchive, acted, acts_of, all_acts, archive, archive_of, book_from, book_of}
 use Rattle.queue.specs.declared.fault.Fault.{Fault}
 
@@ -44,6 +44,16 @@ book_of-followed h call outcome =
     ap (λ now. book_from h.opening.config now (archive (followed h call outcome))) (arrived-push h.opening h.steps call outcome)
     ∙ ap (book_from h.opening.config (arrivals_after (span h.opening.config) (arrived h.opening h.steps) call outcome)) (archive-push h call outcome)
 
+-- one that does nothing to the plain archive, and behind which the same has arrived, leaves the book
+pub book_of-idle : (h : History) (call : Call) (outcome : Result Reply Fault)
+    → arrivals_after (span h.opening.config) (arrived h.opening h.steps) call outcome ≡ arrived h.opening h.steps → acts_of h.opening h.steps call outcome ≡ []
+    → book_of (followed h call outcome) ≡ book_of h
+unfolding book_of
+book_of-idle h call outcome same none =
+    book_of-followed h call outcome
+    ∙ ap (λ now. book_from h.opening.config now (fold (acted h.opening.config) (archive h) (acts_of h.opening h.steps call outcome))) same
+    ∙ ap (λ acts. book_from h.opening.config (arrived h.opening h.steps) (fold (acted h.opening.config) (archive h) acts)) none
+
 -- a call that is refused changes nothing
 pub book_of-refused : (h : History) (call : Call) (fault : Fault) → book_of (followed h call (Err fault)) ≡ book_of h
 unfolding book_of arrivals_after acts_of
@@ -54,6 +64,7 @@ book_of-refused h (Lookup path) fault = book_of-followed h (Lookup path) (Err fa
 book_of-refused h (WaitingList moment) fault = book_of-followed h (WaitingList moment) (Err fault)
 book_of-refused h (Cleaning moment) fault = book_of-followed h (Cleaning moment) (Err fault)
 book_of-refused h (Removing suite name moment) fault = book_of-followed h (Removing suite name moment) (Err fault)
+book_of-refused h (Promoting from to sources moment) fault = book_of-followed h (Promoting from to sources moment) (Err fault)
 book_of-refused h VerdictList fault = book_of-followed h VerdictList (Err fault)
 
 -- a delivery that is done adds its pair

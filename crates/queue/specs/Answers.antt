@@ -14,9 +14,9 @@ use Rattle.keep.specs.Keeping.{NoCollision, HasBodies}
 use Rattle.keep.specs.declared.arrival.Arrival.{Arrival}
 use Rattle.keep.specs.declared.change.Judgement.{Judgement}
 use Rattle.keep.specs.declared.change.Waiting.{Waiting}
-use Rattle.queue.specs.Archives.{PlainArchive, archive, acted, acts_of, pool_in, shown_in, shown_by_print, suite_named, is_shown_of, copied, Stands}
+use Rattle.queue.specs.Archives.{PlainArchive, archive, acted, acts_of, pool_in, shown_in, shown_by_print, suite_named, is_shown_of, copied, sources_in, Stands}
 use Rattle.queue.specs.Deliveries.{IsOfDisk, delivery_fault}
-use Rattle.queue.specs.Histories.{Call, Delivery, QueueRun, Copying, Lookup, WaitingList, Cleaning, Removing, VerdictList, Reply, Stored, Lines, Count, Found, History, arrived, counting, waiting_after, bodies_of, calls_of, followed}
+use Rattle.queue.specs.Histories.{Call, Delivery, QueueRun, Copying, Lookup, WaitingList, Cleaning, Removing, Promoting, VerdictList, Reply, Stored, Lines, Count, Found, Copies, History, arrived, counting, waiting_after, bodies_of, calls_of, followed}
 use Rattle.queue.specs.declared.fault.Fault.{Fault}
 use Rattle.queue.specs.declared.fault.Fault.TheVariants.{OutOfMemory, Keeper, Moment, UnknownSuite, SameSuite, NothingToCopy, NothingToRemove}
 
@@ -73,6 +73,34 @@ abbrev pub copy_answer : ConfigValue → PlainArchive → Option ℕ → Option 
 copy_answer config a (Some from) (Some to) source moment = copy_between config a from to source moment
 copy_answer config a _ _ source moment = Err UnknownSuite
 
+-- how many items of the second are new after a copy of a source package, where the first shows an item of it
+abbrev pub new_items : ConfigValue → ℕ → ℕ → ℕ → PlainArchive → List ℕ → Option ℕ
+new_items config moment from to a source =
+    if list_any (is_shown_of from source) (entries (shown_in a))
+    then Some (count_of_new to a (copied config moment a from to source)) else None
+
+-- what copies of source packages in a row answer, each made of what those before it leave
+abbrev pub copies_in : ConfigValue → ℕ → ℕ → ℕ → PlainArchive → List (List ℕ) → List (List ℕ × Option ℕ)
+copies_in config moment from to a [] = []
+copies_in config moment from to a (source ∷ sources) =
+    (source, new_items config moment from to a source)
+    ∷ copies_in config moment from to (copied config moment a from to source) sources
+
+-- a line on such a copy: how many items are new, and the name of the source package; or that it is refused
+abbrev pub line_on_copy : Option ℕ → List ℕ → List ℕ
+line_on_copy (Some items) source = decimal items ++ codes " " ++ source
+line_on_copy None source = codes "refused Q8 " ++ source
+
+abbrev pub copy_line : List ℕ × Option ℕ → List ℕ
+copy_line copy = line_on_copy copy.1 copy.0
+
+-- of suites that are there: they differ, or else what the copies of the source packages answer
+abbrev pub promotion_answer : ConfigValue → PlainArchive → Option ℕ → Option ℕ → Option (List (List ℕ)) → ℕ → Result Reply Fault
+promotion_answer config a (Some from) (Some to) sources moment =
+    if nat_eq from to then Err SameSuite
+    else Ok (Copies (copies_in config moment from to a (sources_in a from sources)))
+promotion_answer config a _ _ sources moment = Err UnknownSuite
+
 -- how many items of the package the suite shows
 unfoldable pub count_of_shown : ℕ → List ℕ → PlainArchive → ℕ
 count_of_shown suite name a = length (filter (is_removed suite name) (entries (shown_in a)))
@@ -96,6 +124,8 @@ answer h (WaitingList moment) = unless_late moment
 answer h (Cleaning moment) = unless_late moment
     (Ok (Count (length (ended (span h.opening.config) moment (arrived h.opening h.steps)))))
 answer h (Removing suite name moment) = unless_late moment (removal_answer (archive h) (suite_named h.opening.config suite) name)
+answer h (Promoting from to sources moment) = unless_late moment
+    (promotion_answer h.opening.config (archive h) (suite_named h.opening.config from) (suite_named h.opening.config to) sources moment)
 answer h VerdictList = Ok (Lines (map report_line (archive h).judged))
 
 -- one is missing, or they are the same
@@ -103,7 +133,8 @@ abbrev pub are_no_two : Option ℕ → Option ℕ → Bool
 are_no_two (Some from) (Some to) = nat_eq from to
 are_no_two _ _ = true
 
--- whether a copy is refused by neither its moment nor its suites: these are two of the configuration, and not the same
+-- whether a copy, or a promotion, is refused by neither its moment nor its suites: these are two of the configuration, and not the
+-- same
 unfoldable pub is_free_copy : ConfigValue → List ℕ → List ℕ → ℕ → Bool
 is_free_copy config from to moment =
     not (nat_lt latest moment) && not (are_no_two (suite_named config from) (suite_named config to))
@@ -121,6 +152,8 @@ is_refused h (Copying from to source moment) =
 is_refused h (WaitingList moment) = nat_lt latest moment
 is_refused h (Cleaning moment) = nat_lt latest moment
 is_refused h (Removing suite name moment) = nat_lt latest moment || not (is_some (suite_named h.opening.config suite))
+is_refused h (Promoting from to sources moment) =
+    nat_lt latest moment || are_no_two (suite_named h.opening.config from) (suite_named h.opening.config to)
 is_refused h call = false
 
 -- The outcome is the answer. In its place want of memory may stand, and a fault of the keeper where it may have one and

@@ -3,6 +3,7 @@ use Rattle.std.specs.Prelude.{◌≡◌, ℕ, nat_eq, Bool, true, false, ◌&&�
 use Rattle.std.specs.Option.{option_map_or, option_or}
 use Rattle.std.specs.List.{list_any, flat_map, fold, enumerate_from}
 use Rattle.std.specs.FinMap.{FinMap, entries, values, get}
+use Rattle.std.specs.Ordering.{match_ordering}
 use Rattle.records.specs.Values.{ChangesValue}
 use Rattle.rules.specs.Values.{ConfigValue}
 use Rattle.rules.specs.Judgement.{component}
@@ -11,6 +12,7 @@ use Rattle.rules.specs.declared.suite.Suite.{Suite}
 use Rattle.sums.specs.Prints.{print as print_of}
 use Rattle.sums.specs.declared.entries.Entry.{Entry}
 use Rattle.suites.specs.Items.{FileWith, ItemWith, Admitted, shelf_of, on_shelf, item_with, item_of}
+use Rattle.suites.specs.Keys.{text_order}
 use Rattle.suites.specs.Plan.{given, admitted_if, is_removed}
 use Rattle.suites.specs.Pool.{PoolWith, pool_of, files_with, pool_path}
 use Rattle.suites.specs.Shelves.{ShelvesWith, ShelvesValue, shown}
@@ -22,7 +24,7 @@ use Rattle.keep.specs.Book.{Book, Candidate, body_for, upload_of}
 use Rattle.keep.specs.declared.arrival.Arrival.{Arrival}
 use Rattle.keep.specs.declared.change.Judgement.{Judgement}
 use Rattle.queue.specs.Before.{before_each}
-use Rattle.queue.specs.Histories.{Call, QueueRun, Copying, Removing, Reply, Step, History, arrived, counting, due_after}
+use Rattle.queue.specs.Histories.{Call, QueueRun, Copying, Removing, Promoting, Reply, Step, History, arrived, counting, due_after}
 use Rattle.queue.specs.declared.fault.Fault.{Fault}
 
 -- ---- what the plain archive has
@@ -127,6 +129,30 @@ items_copied config a from to source = flat_map
 abbrev pub copied : ConfigValue → ℕ → PlainArchive → ℕ → ℕ → List ℕ → PlainArchive
 copied config moment a from to source = with_items moment (items_copied config a from to source) a
 
+-- ---- promotions
+
+-- the names with one more at its place by the order of the bytes, unless it is among them
+abbrev pub with_name : List (List ℕ) → List ℕ → List (List ℕ)
+with_name [] name = name ∷ []
+with_name (n ∷ names) name = match_ordering (text_order name n) (name ∷ n ∷ names) (n ∷ names) (n ∷ with_name names name)
+
+-- these names in the order of their bytes, each once
+unfoldable pub each_once : List (List ℕ) → List (List ℕ)
+each_once names = fold with_name [] names
+
+-- the source packages of which the suite shows an item, once for each item
+unfoldable pub sources_shown : PlainArchive → ℕ → List (List ℕ)
+sources_shown a from = map (λ e. e.1.source) (filter (λ e. nat_eq e.0.suite from) (entries (shown_in a)))
+
+-- the source packages of a promotion: those that are named, else all of which the suite shows an item
+abbrev pub sources_in : PlainArchive → ℕ → Option (List (List ℕ)) → List (List ℕ)
+sources_in a from (Some sources) = each_once sources
+sources_in a from None = each_once (sources_shown a from)
+
+-- what copies of source packages in a row leave, each made of what those before it leave
+abbrev pub copied_all : ConfigValue → ℕ → ℕ → ℕ → PlainArchive → List (List ℕ) → PlainArchive
+copied_all config moment from to a sources = fold (λ now source. copied config moment now from to source) a sources
+
 -- ---- removals
 
 -- all items of the package leave the suite, superseded ones too
@@ -140,18 +166,21 @@ pub data Act : Type 0 where
   Whole : (upload : WholeUpload) (moment : ℕ) → Act
   Copy : (from : ℕ) (to : ℕ) (source : List ℕ) (moment : ℕ) → Act
   Remove : (suite : ℕ) (name : List ℕ) (moment : ℕ) → Act
+  Promote : (from : ℕ) (to : ℕ) (sources : Option (List (List ℕ))) (moment : ℕ) → Act
 
 abbrev pub acted : ConfigValue → PlainArchive → Act → PlainArchive
 acted config a (Whole upload moment) = whole config moment a upload
 acted config a (Copy from to source moment) = copied config moment a from to source
 acted config a (Remove suite name moment) = removed moment a suite name
+acted config a (Promote from to sources moment) = copied_all config moment from to a (sources_in a from sources)
 
 -- a .changes with the body that is among the arrivals for each file that it lists
 unfoldable pub whole_of : List Arrival → Candidate → WholeUpload
 whole_of arrivals c = record { upload = upload_of arrivals c; bodies = map (body_for arrivals) c.changes.entries }
 
 -- What a call behind those before it does to the plain archive: a run that was done hands over each upload that is due at its
--- moment; a copy that was done copies, a removal that was done removes; no other call does anything, a cleaning neither.
+-- moment; a copy that was done copies, a removal that was done removes, a promotion that was done copies each of its source
+-- packages in turn; no other call does anything, a cleaning neither.
 unfoldable pub acts_of : Book → List Step → Call → Result Reply Fault → List Act
 acts_of opening before (QueueRun moment) (Ok reply) =
     map (λ c. Whole (whole_of (counting opening before moment) c) moment) (due_after opening before moment)
@@ -160,6 +189,9 @@ acts_of opening before (Copying from to source moment) (Ok reply) = flat_map
     (option_to_list (suite_named opening.config from))
 acts_of opening before (Removing suite name moment) (Ok reply) =
     map (λ s. Remove s name moment) (option_to_list (suite_named opening.config suite))
+acts_of opening before (Promoting from to sources moment) (Ok reply) = flat_map
+    (λ f. map (λ t. Promote f t sources moment) (option_to_list (suite_named opening.config to)))
+    (option_to_list (suite_named opening.config from))
 acts_of opening before call outcome = []
 
 unfoldable pub all_acts : Book → List Step → List Act

@@ -1,13 +1,15 @@
 -- What definitions see of commands and of what they answer.
-use Rattle.std.specs.Prelude.{ℕ, Bool, true, false, List, map, Option, Result, Ok, Err, string_bytes}
+use Rattle.std.specs.Prelude.{ℕ, Bool, true, false, List, map, Option, Result, Ok, Err, String, string_bytes}
 use Rattle.std.specs.Option.{option_map}
 use Rattle.std.specs.declared.vec.Vec.{Vec}
 use Rattle.std.specs.declared.alloc.Global.{Global}
-use Rattle.queue.specs.Histories.{Call, Delivery, QueueRun, Copying, Lookup, WaitingList, Cleaning, Removing, VerdictList, Reply, Stored, Lines, Count, Found}
+use Rattle.queue.specs.Histories.{Call, Delivery, QueueRun, Copying, Lookup, WaitingList, Cleaning, Removing, Promoting, VerdictList, Reply, Stored, Lines, Count, Found, Copies}
 use Rattle.queue.specs.declared.fault.Fault.{Fault}
 use Rattle.queue.specs.declared.command.Arrived.{Arrived}
 use Rattle.queue.specs.declared.command.Arrived.TheVariants.{New, Again}
+use Rattle.queue.specs.declared.command.Promotion.{Promotion}
 use Rattle.queue.specs.declared.command.Report.{Report}
+use Rattle.queue.specs.declared.command.SourceCopy.{SourceCopy}
 use Rattle.queue.specs.declared.command.Command.{Command}
 use Rattle.queue.specs.declared.command.Command.TheVariants as command
 use Rattle.queue.specs.declared.command.Outcome.{Outcome}
@@ -19,6 +21,17 @@ is_new Again = false
 
 abbrev pub lines_of : Report → List (List ℕ)
 lines_of report = map string_bytes report.lines.items
+
+-- the source packages that are named, if any are
+abbrev pub names_given : Option (Vec (String Global) Global) → Option (List (List ℕ))
+names_given sources = option_map (λ names. map string_bytes names.items) sources
+
+-- a source package of a promotion, and how many items are new
+abbrev pub copy_of : SourceCopy → List ℕ × Option ℕ
+copy_of copy = (string_bytes copy.source, copy.items)
+
+abbrev pub copies_of : Promotion → List (List ℕ × Option ℕ)
+copies_of promotion = map copy_of promotion.copies.items
 
 -- what a call answered, without where it lies in memory
 abbrev pub stored : Result Arrived Fault → Result Reply Fault
@@ -33,6 +46,10 @@ abbrev pub counted : Result ℕ Fault → Result Reply Fault
 counted (Ok items) = Ok (Count items)
 counted (Err fault) = Err fault
 
+abbrev pub promoted : Result Promotion Fault → Result Reply Fault
+promoted (Ok promotion) = Ok (Copies (copies_of promotion))
+promoted (Err fault) = Err fault
+
 abbrev pub found : Result (Option (Vec ℕ Global)) Fault → Result Reply Fault
 found (Ok file) = Ok (Found (option_map (λ body. body.items) file))
 found (Err fault) = Err fault
@@ -45,6 +62,7 @@ call_of (command.Fetch path) = Lookup (string_bytes path)
 call_of (command.Waiting moment) = WaitingList moment
 call_of (command.Clean moment) = Cleaning moment
 call_of (command.Remove suite name moment) = Removing (string_bytes suite) (string_bytes name) moment
+call_of (command.Promote from to sources moment) = Promoting (string_bytes from) (string_bytes to) (names_given sources) moment
 call_of command.Verdicts = VerdictList
 
 abbrev pub outcome_of : Outcome → Result Reply Fault
@@ -55,6 +73,7 @@ outcome_of (outcome.Fetch result) = found result
 outcome_of (outcome.Waiting result) = reported result
 outcome_of (outcome.Clean result) = counted result
 outcome_of (outcome.Remove result) = counted result
+outcome_of (outcome.Promote result) = promoted result
 outcome_of (outcome.Verdicts result) = reported result
 
 -- which call it is
@@ -66,6 +85,7 @@ pub data Kind : Type 0 where
   ListingWaiting : Kind
   CleaningUp : Kind
   RemovingPackage : Kind
+  PromotingSources : Kind
   ListingVerdicts : Kind
 
 abbrev pub kind_of_command : Command → Kind
@@ -76,6 +96,7 @@ kind_of_command (command.Fetch path) = Fetching
 kind_of_command (command.Waiting moment) = ListingWaiting
 kind_of_command (command.Clean moment) = CleaningUp
 kind_of_command (command.Remove suite name moment) = RemovingPackage
+kind_of_command (command.Promote from to sources moment) = PromotingSources
 kind_of_command command.Verdicts = ListingVerdicts
 
 abbrev pub kind_of_outcome : Outcome → Kind
@@ -86,4 +107,5 @@ kind_of_outcome (outcome.Fetch result) = Fetching
 kind_of_outcome (outcome.Waiting result) = ListingWaiting
 kind_of_outcome (outcome.Clean result) = CleaningUp
 kind_of_outcome (outcome.Remove result) = RemovingPackage
+kind_of_outcome (outcome.Promote result) = PromotingSources
 kind_of_outcome (outcome.Verdicts result) = ListingVerdicts

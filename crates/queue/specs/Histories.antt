@@ -6,7 +6,8 @@ use Rattle.keep.specs.declared.arrival.Arrival.{Arrival}
 use Rattle.queue.specs.Before.{before_each}
 use Rattle.queue.specs.declared.fault.Fault.{Fault}
 
--- a call of the archive, with its arguments; suites by their codenames
+-- A call of the archive, with its arguments; suites by their codenames. A promotion is of the source packages that are named, or
+-- else of all that the first suite shows.
 pub data Call : Type 0 where
   Delivery : (name : List ℕ) (body : List ℕ) (moment : ℕ) → Call
   QueueRun : (moment : ℕ) → Call
@@ -15,6 +16,7 @@ pub data Call : Type 0 where
   WaitingList : (moment : ℕ) → Call
   Cleaning : (moment : ℕ) → Call
   Removing : (suite : List ℕ) (name : List ℕ) (moment : ℕ) → Call
+  Promoting : (from : List ℕ) (to : List ℕ) (sources : Option (List (List ℕ))) (moment : ℕ) → Call
   VerdictList : Call
 
 -- what a call answers that is not refused
@@ -23,6 +25,7 @@ pub data Reply : Type 0 where
   Lines : (lines : List (List ℕ)) → Reply
   Count : (items : ℕ) → Reply
   Found : (file : Option (List ℕ)) → Reply
+  Copies : (copies : List (List ℕ × Option ℕ)) → Reply
 
 -- a call and its outcome. It is done where the outcome is no refusal.
 pub record Step : Type 0 where

@@ -6,6 +6,7 @@ pub mod Archives
 pub mod Copies
 pub mod Removals
 pub mod Answers
+pub mod Promotions
 pub mod Steps
 pub mod Receiving
 pub mod Commands

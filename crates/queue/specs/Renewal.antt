@@ -68,6 +68,10 @@ folder_of suite s = record { suite = suite; codename = s.codename; places = plac
 abbrev pub path_in : Folder → List ℕ → List ℕ
 path_in folder path = codes "dists/" ++ folder.codename ++ codes "/" ++ path
 
+-- the index of this path and this print
+abbrev pub index_with : List ℕ → Print → Index
+index_with path own = record { path = path; print = own }
+
 module _ (old : List ℕ → Option (List ℕ)) (shelves : ShelvesValue) (steps : List Step) (folder : Folder) where
   -- the text of an index: rendered where a step changes it, else as it was
   unfoldable pub text_after : Place → List ℕ

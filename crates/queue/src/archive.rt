@@ -1,19 +1,21 @@
 //! The archive over a keeper.
 
-ghost use Rattle.std.specs.Prelude.{◌≡◌, ◌⊎◌, ◌<◌, ◌≤◌, ⊤, true, Some, None, Err, IfOk, IfErr, OnErr};
-ghost use Rattle.queue.specs.Answers.{is_free_copy, is_free_removal};
-ghost use Rattle.queue.specs.Commands.{stored, reported, counted, found};
+ghost use Rattle.std.specs.Prelude.{◌≡◌, ◌⊎◌, ◌<◌, ◌≤◌, ⊤, true, Some, None, Err, IfOk, IfErr, OnErr, map};
+ghost use Rattle.queue.specs.Answers.{copy_line, is_free_copy, is_free_removal};
+ghost use Rattle.queue.specs.Commands.{stored, reported, counted, found, copies_of, lines_of, names_given, promoted};
 ghost use Rattle.queue.specs.Copies.{copy_fault};
-ghost use Rattle.queue.specs.Histories.{Delivery, QueueRun, Copying, Lookup, WaitingList, Cleaning, Removing, VerdictList};
+ghost use Rattle.queue.specs.Histories.{Delivery, QueueRun, Copying, Lookup, WaitingList, Cleaning, Removing, Promoting, VerdictList};
 ghost use Rattle.keep.specs.Book.{latest};
 ghost use Rattle.queue.specs.Deliveries.{delivery_fault, IsKeepers};
+ghost use Rattle.queue.specs.Promotions.{promotion_fault};
 ghost use Rattle.queue.specs.Removals.{removal_fault};
 ghost use Rattle.queue.specs.Steps.{Does, IsServed, IsUndone, Lasts, LeavesDelivery, LeavesStep, Reads};
 
-use crate::command::{Arrived, Report};
+use crate::command::{Arrived, Promotion, Report};
 use crate::copy::{copy_plan, only_step, two_suites};
 use crate::delivery::check_delivery;
 use crate::fault::Fault;
+use crate::promotion::{Copied, copied_steps, copy_lines, groups_of, sources_of};
 use crate::removal::{place_of, removal_plan};
 use crate::renewal::renewed_texts;
 use crate::report::{verdict_lines, waiting_lines};
@@ -93,6 +95,11 @@ impl<K: Keeper> Archive<K> {
             return Err(Fault::Moment);
         }
         let uploads = self.keeper.complete_uploads(alloc, moment)?;
+        if uploads.is_empty() {
+            return Ok(Report {
+                lines: Vec::new(alloc),
+            });
+        }
         let mut shelves = self.keeper.shelves(alloc)?;
         let steps = judged_steps(alloc, self.keeper.config(), &mut shelves, &uploads)?;
         let lines = report_lines(alloc, &steps)?;
@@ -103,6 +110,7 @@ impl<K: Keeper> Archive<K> {
             texts: Listed::from_vec(texts),
         };
         self.keeper.apply(alloc, &change)?;
+        self.keeper.hold(shelves);
         Ok(Report { lines })
     }
 
@@ -147,7 +155,67 @@ impl<K: Keeper> Archive<K> {
             texts: Listed::from_vec(texts),
         };
         self.keeper.apply(alloc, &change)?;
+        self.keeper.hold(shelves);
         Ok(items)
+    }
+
+    /// Copies in one change what several source packages have: for each of them what `copy` does, one after the other, at a
+    /// moment, in seconds since 1970-01-01 00:00:00 UTC. They are the given ones, or else all of which the suite `from` shows an
+    /// item, each once, in the order of the bytes of their names. It says for each how many items of `to` are new, or none where
+    /// `from` shows nothing of it; the others are copied all the same. It is refused, the lowest first, for a moment after 2099, a
+    /// codename that no suite has, and a copy from a suite to itself.
+    pub fn promote(
+        &mut self,
+        alloc: Global,
+        from: &str,
+        to: &str,
+        sources: &Option<Vec<String>>,
+        moment: u64,
+    ) -> Result<Promotion, Fault>
+        ensures lasts { Lasts K.Keeper self.old.keeper self.new.keeper }
+        // Behind a success the keeper is open.
+        ensures served { IsServed K.Keeper self.new.keeper (promoted result) }
+        ensures step { Does K.Keeper self.old.keeper (Promoting from.now to.now (names_given sources.now) moment) (promoted result) self.new.keeper }
+        // A refusal leaves the book as it was, whatever the history.
+        ensures err { OnErr result (IsUndone K.Keeper self.old.keeper self.new.keeper) }
+        // A crash leaves what it would have left before, or all that the call does.
+        ensures crash { LeavesStep K.Keeper self.old.keeper (Promoting from.now to.now (names_given sources.now) moment) self.new.keeper }
+        ensures lines { IfOk result (λ promotion. lines_of promotion.report ≡ map copy_line (copies_of promotion)) }
+        ensures done { IfOk result (λ _. promotion_fault (K.book self.old.keeper).config from.now to.now moment ≡ None) }
+        ensures late { latest < moment → result ≡ Err Fault.Moment }
+        // The fault by the moment and the configuration, or else one of the keeper's own.
+        ensures refused { IfErr result (λ e. (promotion_fault (K.book self.old.keeper).config from.now to.now moment ≡ Some e)
+            ⊎ IsKeepers K.may_fail (is_free_copy (K.book self.old.keeper).config from.now to.now moment ≡ true) e) }
+    {
+        if moment > LATEST {
+            return Err(Fault::Moment);
+        }
+        let (from, to) = two_suites(self.keeper.config(), from, to)?;
+        let mut shelves = self.keeper.shelves(alloc)?;
+        let sources = sources_of(alloc, &shelves, from, sources)?;
+        let groups = groups_of(alloc, &shelves, from)?;
+        let Copied { made, copies } = copied_steps(
+            alloc,
+            self.keeper.config(),
+            &mut shelves,
+            from,
+            to,
+            &sources,
+            &groups,
+        )?;
+        let lines = copy_lines(alloc, &copies)?;
+        let texts = renewed_texts(alloc, &mut self.keeper, &shelves, &made, moment)?;
+        let change = Change {
+            moment,
+            steps: Listed::from_vec(made),
+            texts: Listed::from_vec(texts),
+        };
+        self.keeper.apply(alloc, &change)?;
+        self.keeper.hold(shelves);
+        Ok(Promotion {
+            copies,
+            report: Report { lines },
+        })
     }
 
     /// Removes from a suite, by its codename, all items of a package's name, sources and packages alike, at a moment, in
@@ -190,6 +258,7 @@ impl<K: Keeper> Archive<K> {
             texts: Listed::from_vec(texts),
         };
         self.keeper.apply(alloc, &change)?;
+        self.keeper.hold(shelves);
         Ok(count)
     }
 

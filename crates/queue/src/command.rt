@@ -17,6 +17,23 @@ pub struct Report {
     pub lines: Vec<String>,
 }
 
+/// What the copy of one source package of a promotion answered.
+#[derive(Debug, Drop)]
+pub struct SourceCopy {
+    /// The name of the source package.
+    pub source: String,
+    /// How many items are new, or none where the suite that is copied from shows nothing of the source package.
+    pub items: Option<u64>,
+}
+
+/// What a promotion answered: a copy for each of its source packages, in the order of the bytes of their names.
+#[derive(Debug, Drop)]
+pub struct Promotion {
+    pub copies: Vec<SourceCopy>,
+    /// A line for each: `COUNT SOURCE`, or `refused Q8 SOURCE` where nothing is shown of it.
+    pub report: Report,
+}
+
 /// A call of the archive, with its arguments. Moments are in seconds since 1970-01-01 00:00:00 UTC.
 #[derive(Debug, Drop)]
 pub enum Command {
@@ -48,6 +65,13 @@ pub enum Command {
         name: String,
         moment: u64,
     },
+    Promote {
+        from: String,
+        to: String,
+        /// The source packages, or none for all of which the suite `from` shows an item.
+        sources: Option<Vec<String>>,
+        moment: u64,
+    },
     Verdicts,
 }
 
@@ -61,5 +85,6 @@ pub enum Outcome {
     Waiting(Result<Report, Fault>),
     Clean(Result<u64, Fault>),
     Remove(Result<u64, Fault>),
+    Promote(Result<Promotion, Fault>),
     Verdicts(Result<Report, Fault>),
 }

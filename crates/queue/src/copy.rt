@@ -59,7 +59,7 @@ fn is_item_of(suite: usize, source: &str, key: &ShelfKey, item: &Item) -> bool
     item.source.as_str() == source
 }
 
-/// Whether a suite shows an item of the source package.
+/// Whether a suite, by its position, shows an item of the source package.
 fn shows_source(shelves: &Shelves, suite: usize, source: &str) -> bool
     ensures { result ≡ shows_source shelves.now suite source.now }
 {

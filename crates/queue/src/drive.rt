@@ -38,6 +38,12 @@ impl<K: Keeper> Archive<K> {
                 name,
                 moment,
             } => Outcome::Remove(self.remove(alloc, suite, name, *moment)),
+            Command::Promote {
+                from,
+                to,
+                sources,
+                moment,
+            } => Outcome::Promote(self.promote(alloc, from, to, sources, *moment)),
             Command::Verdicts => Outcome::Verdicts(self.verdicts(alloc)),
         }
     }

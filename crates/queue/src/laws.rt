@@ -2,8 +2,10 @@
 
 ghost use Rattle.std.specs.Prelude.{◌≡◌, ◌⊎◌, ◌≤◌, ℕ, List, [], ◌∷◌, Option, Some, None, Result, Ok};
 ghost use Rattle.keep.specs.Book.{Book, HasItsFiles, latest};
-ghost use Rattle.queue.specs.Archives.{book_of, Stands};
-ghost use Rattle.queue.specs.Histories.{Call, Cleaning, Count, Delivery, History, Reply, Step, arrived, counting, followed, opened_with};
+ghost use Rattle.queue.specs.Archives.{archive, book_of, sources_in, Stands};
+ghost use Rattle.queue.specs.Copies.{AreSuites};
+ghost use Rattle.queue.specs.Histories.{Call, Cleaning, Copies, Count, Delivery, History, Promoting, Reply, Step, arrived, counting, followed, opened_with};
+ghost use Rattle.queue.specs.Promotions.{answered_copies, with_copies};
 ghost use Rattle.queue.specs.declared.fault.Fault.{Fault};
 ghost use Rattle.rules.specs.Values.{ConfigValue};
 ghost use Rattle.std.specs.FinMap.{values};
@@ -41,6 +43,16 @@ pub fn for_good()
     ensures nothing { (h : History) (moment : ℕ) → h.opening.config.keep_days ≡ None → moment ≤ latest → answer h (Cleaning moment) ≡ Ok (Count 0) }
     ensures same { (h : History) (moment : ℕ) (outcome : Result Reply Fault) → h.opening.config.keep_days ≡ None
         → book_of (followed h (Cleaning moment) outcome) ≡ book_of h }
+{}
+
+/// A promotion that is not refused leaves the book that a copy of each of its source packages in turn leaves, each with the same
+/// suites and the same moment, and answers what those answer: how many items are new, and of a copy that is refused none.
+pub fn a_promotion_is_its_copies()
+    ensures book { (h : History) (from to : List ℕ) (sources : Option (List (List ℕ))) (moment f t : ℕ) → moment ≤ latest → AreSuites h.opening.config from to f t
+        → book_of (followed h (Promoting from to sources moment) (answer h (Promoting from to sources moment)))
+        ≡ book_of (with_copies h from to moment (sources_in (archive h) f sources)) }
+    ensures answers { (h : History) (from to : List ℕ) (sources : Option (List (List ℕ))) (moment f t : ℕ) → moment ≤ latest → AreSuites h.opening.config from to f t
+        → answer h (Promoting from to sources moment) ≡ Ok (Copies (answered_copies h from to moment (sources_in (archive h) f sources))) }
 {}
 
 /// What is said of a crash in a call, and what is said of one in a delivery, which is stored piece by piece, are both said of a

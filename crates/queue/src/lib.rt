@@ -1,5 +1,5 @@
-//! The archive: deliveries, also from a reader, queue runs, copies, removals, cleanings, look-ups and lists of commands over any
-//! keeper.
+//! The archive: deliveries, also from a reader, queue runs, copies, promotions, removals, cleanings, look-ups and lists of commands
+//! over any keeper.
 #![tactic(auto)]
 
 mod archive;
@@ -10,6 +10,7 @@ mod drive;
 mod fault;
 mod laws;
 mod once;
+mod promotion;
 mod reading;
 mod receipt;
 mod removal;
@@ -19,11 +20,11 @@ mod run;
 mod storing;
 
 pub use archive::Archive;
-pub use command::{Arrived, Command, Outcome, Report};
+pub use command::{Arrived, Command, Outcome, Promotion, Report, SourceCopy};
 pub use fault::Fault;
 pub use laws::{
     a_book_opens_its_history, a_crash_is_of_a_call, a_history_goes_on_from_its_book,
-    a_stop_leaves_a_book, for_good, nothing_is_an_opening,
+    a_promotion_is_its_copies, a_stop_leaves_a_book, for_good, nothing_is_an_opening,
 };
 pub use once::drive_anew;
 pub use reading::{ReaderFailed, read_some};

@@ -1,14 +1,15 @@
 //! The index texts that a change makes other than before.
 
-ghost use Rattle.std.specs.Prelude.{◌≡◌, ◌≤◌, ◌<◌, ◌++◌, Bool, List, ℕ, IfOk, IfErr, OnOk, is_some, length, map, slice_get, Some, option_map, string_bytes, if◌then◌else◌};
+ghost use Rattle.std.specs.Prelude.{◌≡◌, ◌≤◌, ◌<◌, ◌++◌, Bool, List, ℕ, IfOk, IfErr, OnOk, is_some, length, map, slice_get, Some, [], option_map, unwrap_or, string_bytes, if◌then◌else◌};
 ghost use Rattle.std.specs.List.{flat_map, list_any};
 ghost use Rattle.keep.specs.Book.{amended, latest, shown_past, text_at};
 ghost use Rattle.keep.specs.Keeping.{AreRenewed, AreSteps, MayAnswer, Reads};
 ghost use Rattle.keep.specs.declared.change.Change.{Change};
 ghost use Rattle.rules.specs.declared.suite.Suite.{Suite as SuiteValue};
+ghost use Rattle.sums.specs.Prints.{print};
 ghost use Rattle.texts.specs.Positions.{release_at};
 ghost use Rattle.texts.specs.Release.{index_of};
-ghost use Rattle.queue.specs.Renewal.{changes_index, folder_of, index_after, is_kept, is_listed, path_in, place_at, place_path, place_text, places_in, print_kept, renewed_at, renewed_folder, renewed_from, renewed_index, renewed_suite, some_changes_index, text_after};
+ghost use Rattle.queue.specs.Renewal.{changes_index, folder_of, index_after, index_with, is_kept, is_listed, path_in, place_at, place_path, place_text, places_in, print_kept, renewed_at, renewed_folder, renewed_from, renewed_index, renewed_suite, some_changes_index, text_after};
 
 use keep::{IndexText, KeepFault, Keeper, Step, some_changes_suite};
 use para::{Listed, Text};
@@ -138,12 +139,11 @@ fn some_changes_index(steps: &[Step], suite: usize, place: &Place) -> bool
 }
 
 /// The print of a text that is kept, of an absent one that of no bytes.
-#[tactic(auto, unfolding(crate::specs::Renewal::print_kept))]
-fn print_kept(kept: &Option<Vec<u8>>) -> Print
-    ensures { result ≡ print_kept (option_map (λ v. v.items) kept.now) }
+fn print_or_none(kept: Option<Print>) -> Print
+    ensures { result ≡ unwrap_or kept (print []) }
 {
     match kept {
-        Some(text) => print_of(text),
+        Some(print) => print,
         None => print_of(&[]),
     }
 }
@@ -178,8 +178,27 @@ fn push_renewed(
     Ok(())
 }
 
+/// The index at a path of a suite whose text stays the one that is kept, at this whole path.
+fn index_kept<K: Keeper>(
+    alloc: Global,
+    keeper: &mut K,
+    path: String,
+    whole: String,
+) -> Result<Index, KeepFault>
+    ensures reads { Reads K.is_clean K.is_open K.faults K.book K.may_leave keeper.old keeper.new }
+    ensures served { K.is_clean keeper.new → OnOk result (K.is_open keeper.new) }
+    ensures index { K.is_clean keeper.new → IfOk result (λ index. index ≡ index_with (string_bytes path) (print_kept (text_at (K.book keeper.old) (string_bytes whole)))) }
+    ensures cause { IfErr result (MayAnswer K.may_fail) }
+{
+    let kept = keeper.text_print(alloc, whole.as_str())?;
+    Ok(Index {
+        path: Text::from_string(path),
+        print: print_or_none(kept),
+    })
+}
+
 /// The index of a suite's place after the steps, which leave the shelves; its text is appended where it is other than the
-/// kept one. Where no step changes the index the kept text is hashed.
+/// kept one. Where no step changes the index it is the kept one.
 #[tactic(auto, unfolding(crate::specs::Renewal::text_after, crate::specs::Renewal::renewed_index))]
 fn renew_index<K: Keeper>(
     alloc: Global,
@@ -200,13 +219,10 @@ fn renew_index<K: Keeper>(
     let architecture = place.architecture.as_str();
     let path = index_path(alloc, component, architecture)?;
     let whole = path_in(alloc, folder, path.as_str())?;
-    let kept = keeper.text(alloc, whole.as_str())?;
     if !some_changes_index(steps, folder.suite, place) {
-        return Ok(Index {
-            path: Text::from_string(path),
-            print: print_kept(&kept),
-        });
+        return index_kept(alloc, keeper, path, whole);
     }
+    let kept = keeper.text(alloc, whole.as_str())?;
     let text = listed_text(alloc, shelves, folder.suite, component, architecture)?;
     let print = print_of(&text);
     push_renewed(texts, &kept, whole, text)?;
@@ -325,7 +341,7 @@ fn renewed_suites<K: Keeper>(
 
 /// The index texts that steps make other than the kept ones, where the steps leave these shelves and are made at the
 /// moment, in seconds since 1970-01-01 00:00:00 UTC. Of a suite that a step touches the indices are rendered whose items
-/// a plan puts or drops, the others are read from the keeper, and Release gets the moment as its date; of other suites
+/// a plan puts or drops, of the others the keeper tells the prints, and Release gets the moment as its date; of other suites
 /// nothing is read.
 pub fn renewed_texts<K: Keeper>(
     alloc: Global,

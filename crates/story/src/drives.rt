@@ -1,8 +1,8 @@
 //! Lists of commands.
 
 use crate::delivery::{Delivery, delivery_of};
-use crate::outcomes::{arrived_text, found_text, number_text, report_text};
-use crate::steps::moment_of;
+use crate::outcomes::{arrived_text, found_text, number_text, promotion_text, report_text};
+use crate::steps::{moment_of, owned, sources_of};
 use keep::Keeper;
 use queue::{Archive, Command, Outcome};
 use rows::{Unread, number_of, text_of};
@@ -12,11 +12,6 @@ use std::alloc::Global;
 fn delivery(alloc: Global, words: &[Vec<u8>]) -> Result<Command, Unread> {
     let Delivery { name, body, moment } = delivery_of(alloc, words)?;
     Ok(Command::Deliver { name, body, moment })
-}
-
-/// A word that is a text, as a text of its own.
-fn owned(alloc: Global, word: &Vec<u8>) -> Result<String, Unread> {
-    Ok(String::from_str(alloc, text_of(word)?)?)
 }
 
 /// `copy FROM TO SOURCE MOMENT`.
@@ -29,6 +24,19 @@ fn copying(alloc: Global, words: &[Vec<u8>]) -> Result<Command, Unread> {
         from: owned(alloc, from)?,
         to: owned(alloc, to)?,
         source: owned(alloc, source)?,
+    })
+}
+
+/// `promote FROM TO MOMENT [SOURCE..]`.
+fn promoting(alloc: Global, words: &[Vec<u8>]) -> Result<Command, Unread> {
+    let [from, to, moment, sources @ ..] = words else {
+        return Err(Unread::BadWords);
+    };
+    Ok(Command::Promote {
+        moment: number_of(moment)?,
+        from: owned(alloc, from)?,
+        to: owned(alloc, to)?,
+        sources: sources_of(alloc, sources)?,
     })
 }
 
@@ -65,6 +73,7 @@ fn command_of(alloc: Global, words: &[Vec<u8>]) -> Result<Command, Unread> {
             moment: moment_of(words)?,
         }),
         "copy" => copying(alloc, words),
+        "promote" => promoting(alloc, words),
         "remove" => removing(alloc, words),
         "fetch" => look_up(alloc, words),
         "waiting" => Ok(Command::Waiting {
@@ -103,6 +112,7 @@ fn outcome_text(alloc: Global, outcome: Outcome) -> Result<Vec<u8>, Unread> {
         Outcome::Copy(done) | Outcome::Remove(done) | Outcome::Clean(done) => number_text(
             alloc, done,
         ),
+        Outcome::Promote(done) => promotion_text(alloc, done),
         Outcome::Fetch(done) => found_text(alloc, done),
     }
 }

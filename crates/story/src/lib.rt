@@ -1,4 +1,5 @@
-//! Stories of archives, as rows: deliveries, runs, copies, removals, cleanings, look-ups and requests, over any keeper.
+//! Stories of archives, as rows: deliveries, runs, copies, promotions, removals, cleanings, look-ups and requests, over any
+//! keeper.
 #![tactic(auto)]
 
 mod delivery;

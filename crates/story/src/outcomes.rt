@@ -1,6 +1,6 @@
 //! What calls of an archive answer, as texts.
 
-use queue::{Arrived, Fault, Report};
+use queue::{Arrived, Fault, Promotion, Report, SourceCopy};
 use rows::{Unread, said};
 use std::alloc::Global;
 use std::fmt::Display;
@@ -49,6 +49,35 @@ pub fn report_text(alloc: Global, done: Result<Report, Fault>) -> Result<Vec<u8>
 pub fn number_text(alloc: Global, done: Result<u64, Fault>) -> Result<Vec<u8>, Unread> {
     match done {
         Ok(items) => printed(alloc, &items),
+        Err(fault) => refused_text(alloc, fault),
+    }
+}
+
+/// `COUNT SOURCE`, or the fault of a source of which nothing is shown.
+fn copy_line(alloc: Global, copy: &SourceCopy) -> Result<String, Unread> {
+    let source = copy.source.as_str();
+    match copy.items {
+        Some(items) => Ok(format!(in alloc; "{items} {source}\n")?),
+        None => {
+            let fault = Fault::NothingToCopy;
+            Ok(format!(in alloc; "refused {fault} {source}\n")?)
+        }
+    }
+}
+
+/// A line for each source of a promotion.
+fn copy_lines(alloc: Global, promotion: &Promotion) -> Result<Vec<u8>, Unread> {
+    let mut text = Vec::new(alloc);
+    for copy in &promotion.copies {
+        text.extend_from_slice(copy_line(alloc, copy)?.as_bytes())?;
+    }
+    Ok(text)
+}
+
+/// The lines of a promotion, or the fault.
+pub fn promotion_text(alloc: Global, done: Result<Promotion, Fault>) -> Result<Vec<u8>, Unread> {
+    match done {
+        Ok(promotion) => copy_lines(alloc, &promotion),
         Err(fault) => refused_text(alloc, fault),
     }
 }

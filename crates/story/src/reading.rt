@@ -91,6 +91,7 @@ fn add_wanted(text: &mut String, wanted: &Wanted) -> Result<(), AllocError> {
         Wanted::Clean => text.push_str("clean"),
         Wanted::Verdicts => text.push_str("verdicts"),
         Wanted::Remove { suite, name } => write!(text, "remove {suite:?} {name:?}"),
+        Wanted::Promote { from, to } => write!(text, "promote {from:?} {to:?}"),
     }
 }
 

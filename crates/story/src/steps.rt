@@ -1,7 +1,9 @@
-//! Deliveries, runs, lists, look-ups, copies, removals and cleanings.
+//! Deliveries, runs, lists, look-ups, copies, promotions, removals and cleanings.
 
 use crate::delivery::delivery_of;
-use crate::outcomes::{arrived_text, found_text, number_text, refused_text, report_text};
+use crate::outcomes::{
+    arrived_text, found_text, number_text, promotion_text, refused_text, report_text,
+};
 use keep::Keeper;
 use queue::Archive;
 use rows::{Unread, number_of, said, text_of};
@@ -104,6 +106,42 @@ pub fn copy<K: Keeper>(
         alloc,
         archive.copy(alloc, from, to, source, number_of(moment)?),
     )
+}
+
+/// A word that is a text, as a text of its own.
+pub fn owned(alloc: Global, word: &Vec<u8>) -> Result<String, Unread> {
+    Ok(String::from_str(alloc, text_of(word)?)?)
+}
+
+/// Words that are texts, as texts of their own.
+fn all_owned(alloc: Global, words: &[Vec<u8>]) -> Result<Vec<String>, Unread> {
+    let mut texts = Vec::new(alloc);
+    for word in words {
+        texts.push(owned(alloc, word)?)?;
+    }
+    Ok(texts)
+}
+
+/// The sources of a promotion: those that are named, or else all that the suite shows.
+pub fn sources_of(alloc: Global, words: &[Vec<u8>]) -> Result<Option<Vec<String>>, Unread> {
+    match words {
+        [] => Ok(None),
+        sources => Ok(Some(all_owned(alloc, sources)?)),
+    }
+}
+
+/// `promote FROM TO MOMENT [SOURCE..]`: for each source how many items are new, or that it is refused; or the fault.
+pub fn promote<K: Keeper>(
+    alloc: Global,
+    archive: &mut Archive<K>,
+    words: &[Vec<u8>],
+) -> Result<Vec<u8>, Unread> {
+    let [from, to, moment, sources @ ..] = words else {
+        return Err(Unread::BadWords);
+    };
+    let (from, to) = (text_of(from)?, text_of(to)?);
+    let (moment, sources) = (number_of(moment)?, sources_of(alloc, sources)?);
+    promotion_text(alloc, archive.promote(alloc, from, to, &sources, moment))
 }
 
 /// `remove SUITE NAME MOMENT`: how many items of the package the suite showed, or the fault.

@@ -8,7 +8,9 @@ use crate::outcomes::printed;
 use crate::reading::{status, wanted};
 use crate::receptions::{receive, receive_fails};
 use crate::requests::{left, request};
-use crate::steps::{clean, copy, deliver, has, moment_of, remove, run, show, verdicts, waiting};
+use crate::steps::{
+    clean, copy, deliver, has, moment_of, promote, remove, run, show, verdicts, waiting,
+};
 use keep::{KeepFault, Keeper, LATEST};
 use queue::Archive;
 use rows::{Answers, Unread, said, text_of};
@@ -41,8 +43,8 @@ fn asked_by_reader<K: Keeper>(
     }
 }
 
-/// What an archive answers to a question: `deliver`, `run`, `waiting`, `verdicts`, `show`, `has`, `copy`, `remove`, `clean`, `drive`
-/// and those on requests and readers.
+/// What an archive answers to a question: `deliver`, `run`, `waiting`, `verdicts`, `show`, `has`, `copy`, `promote`, `remove`,
+/// `clean`, `drive` and those on requests and readers.
 pub fn asked<K: Keeper>(
     alloc: Global,
     archive: &mut Archive<K>,
@@ -57,6 +59,7 @@ pub fn asked<K: Keeper>(
         "show" => show(alloc, archive, words),
         "has" => has(alloc, archive, words),
         "copy" => copy(alloc, archive, words),
+        "promote" => promote(alloc, archive, words),
         "remove" => remove(alloc, archive, words),
         "clean" => clean(alloc, archive, words),
         "drive" => drive(alloc, archive, words),

@@ -5,12 +5,12 @@ use Rattle.std.specs.List.{flat_map}
 use Rattle.std.specs.Ordering.{is_lt}
 use Rattle.std.specs.declared.cmp.Ordering.{Ordering}
 use Rattle.std.specs.Cmp.{tied_itself}
-use Rattle.std.specs.FinMap.{entries, values, entries_sorted, is_sorted}
+use Rattle.std.specs.FinMap.{entries, values, entries_sorted, find, get, get-entries, is_sorted}
 use Rattle.std.specs.FinMap.Entries.{below_all}
 use Rattle.std.proofs.lemmas.Bool.Decides.{nat_tests}
 use Rattle.std.proofs.lemmas.List.{map-append, append-nil}
 use Rattle.std.proofs.lemmas.List.Elements.{All-contains, All-head, All-tail, All-filter, All-map, All-contains_itself, Contains-append_cases, filter-append, filter_passes}
-use Rattle.sums.proofs.Members.{all_from, contains_map, from_map}
+use Rattle.sums.proofs.Members.{all_from, contains_map, from_map, here, there}
 use Rattle.rules.specs.Values.{ConfigValue}
 use Rattle.rules.specs.Suites.{keeps_architecture, keeps_component}
 use Rattle.rules.specs.declared.suite.Suite.{Suite}
@@ -19,12 +19,12 @@ use Rattle.suites.specs.Admission.{MayJoin}
 use Rattle.suites.specs.Items.{standing, IsAtHome}
 use Rattle.suites.specs.Keys.{key_order}
 use Rattle.suites.specs.KeyLemmas.{key_order_total}
-use Rattle.suites.specs.Plan.{is_copied, copied}
+use Rattle.suites.specs.Plan.{is_copied, is_of_source, copied, kept_by, shelves_of}
 use Rattle.suites.specs.Pool.{files_of}
 use Rattle.suites.specs.Shelves.{ShelvesValue, AreSound}
 use Rattle.suites.specs.declared.item.Item.{Item}
 use Rattle.suites.specs.declared.key.ShelfKey.{ShelfKey}
-use Rattle.suites.proofs.EntryLemmas.{and_left, and_right, below-at, sorted-filter}
+use Rattle.suites.proofs.EntryLemmas.{and_left, and_right, below-at, found_at, sorted-filter}
 use Rattle.suites.proofs.FileMembers.{files_contain, item_of_file}
 
 -- one item more of those that pass
@@ -128,3 +128,44 @@ module _ (shelves : ShelvesValue) (from to : ℕ) (source : List ℕ) (target : 
       map-map : (es : List (ShelfKey × Item)) → map (λ a. standing to a.1) es ≡ map (standing to) (map (λ a. a.1) es)
       map-map [] = refl
       map-map (e ∷ es) = ap (λ rest. standing to e.1 ∷ rest) (map-map es)
+
+-- ---- the items from their shelves
+
+-- what stands on the shelf of an entry
+entry_there : (shelves : ShelvesValue) (e : ShelfKey × Item) → Contains (entries shelves) e → get shelves e.0 ≡ Some e.1
+entry_there shelves e at =
+    get-entries shelves e.0
+    ∙ All-contains (λ (d : ShelfKey × Item). find key_order d.0 (entries shelves) ≡ Some d.1) (entries shelves) e (found_at key_order_total (entries shelves) (entries_sorted shelves)) at
+
+module _ (shelves : ShelvesValue) (from : ℕ) (source : List ℕ) (target : Suite) where
+  abbrev kept_at : ShelfKey → List Item
+  kept_at key = kept_by target (get shelves key)
+
+  abbrev first : List (ShelfKey × Item) → List ShelfKey
+  first es = map (λ a. a.0) es
+
+  abbrev second : List (ShelfKey × Item) → List Item
+  second es = map (λ a. a.1) es
+
+  -- one entry more in front of those that pass
+  added : (e : ShelfKey × Item) (es : List (ShelfKey × Item)) (b : Bool) → cond b (e.1 ∷ []) [] ++ second es ≡ second (cond b (e ∷ es) es)
+  added e es true = refl
+  added e es false = refl
+
+  kept_first : (e : ShelfKey × Item) (xs ys : List (ShelfKey × Item)) (b k a : Bool) → kept_at e.0 ≡ cond (k && a) (e.1 ∷ []) [] → flat_map kept_at (first xs) ≡ second ys
+      → flat_map kept_at (first (cond b (e ∷ xs) xs)) ≡ second (cond ((b && k) && a) (e ∷ ys) ys)
+  kept_first e xs ys true k a there rest = (λ i. there i ++ rest i) ∙ added e ys (k && a)
+  kept_first e xs ys false k a there rest = rest
+
+  kept_of : (es : List (ShelfKey × Item)) → ((e : ShelfKey × Item) → Contains es e → get shelves e.0 ≡ Some e.1)
+      → flat_map kept_at (first (filter (is_of_source from source) es)) ≡ second (filter (is_copied from source target) es)
+  unfolding is_of_source is_copied
+  kept_of [] h = refl
+  kept_of (e ∷ es) h =
+      kept_first e (filter (is_of_source from source) es) (filter (is_copied from source target) es) (nat_eq e.0.suite from && bytes_eq e.1.source source)
+      (keeps_component target e.1.component) (keeps_architecture target e.1.architecture) (ap (kept_by target) (h e (here e es))) (kept_of es (λ d at. h d (there e d es at)))
+
+  -- they are those that a copy takes
+  pub kept-taken : flat_map kept_at (shelves_of shelves from source) ≡ map (λ a. a.1) (filter (is_copied from source target) (entries shelves))
+  unfolding shelves_of
+  kept-taken = kept_of (entries shelves) (entry_there shelves)

@@ -1,5 +1,5 @@
 -- What an upload, a copy and a removal change.
-use Rattle.std.specs.Prelude.{◌≡◌, ℕ, Bool, List, [], ◌∷◌, map, filter, bytes_eq, Option, option_to_list, ◌&&◌, nat_eq, slice_get, length}
+use Rattle.std.specs.Prelude.{◌≡◌, ℕ, Bool, cond, List, [], ◌∷◌, map, filter, bytes_eq, Option, Some, None, option_to_list, ◌&&◌, nat_eq, slice_get, length}
 use Rattle.std.specs.List.{flat_map, enumerate_from}
 use Rattle.std.specs.FinMap.{entries}
 use Rattle.rules.specs.Values.{ConfigValue}
@@ -53,6 +53,20 @@ unfoldable pub copied : ConfigValue → ShelvesValue → ℕ → ℕ → List �
 copied config shelves from to source = flat_map
     (λ target. map (λ a. standing to a.1) (filter (is_copied from source target) (entries shelves)))
     (option_to_list (slice_get config.suites to))
+
+-- whether the item is one of the source package that the suite shows
+unfoldable pub is_of_source : ℕ → List ℕ → ShelfKey × Item → Bool
+is_of_source from source a = nat_eq a.0.suite from && bytes_eq a.1.source source
+
+-- the shelves on which they stand, in order
+unfoldable pub shelves_of : ShelvesValue → ℕ → List ℕ → List ShelfKey
+shelves_of shelves from source = map (λ a. a.0) (filter (is_of_source from source) (entries shelves))
+
+-- what stands on a shelf, if the target keeps it
+abbrev pub kept_by : Suite → Option Item → List Item
+kept_by target None = []
+kept_by target (Some item) =
+    cond (keeps_component target item.component && keeps_architecture target item.architecture) (item ∷ []) []
 
 abbrev pub after_copy : ConfigValue → ShelvesValue → ℕ → ℕ → List ℕ → ShelvesValue
 after_copy config shelves from to source = shown_after version_of shelves (copied config shelves from to source)

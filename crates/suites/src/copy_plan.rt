@@ -1,9 +1,11 @@
 //! The plan of a copy.
 
-ghost use Rattle.std.specs.Prelude.{◌≡◌, ◌<◌, [], ◌∷◌, ◌++◌, IfOk, cond, filter, length, map};
-ghost use Rattle.std.specs.FinMap.{entries};
+ghost use Rattle.std.specs.Prelude.{◌≡◌, ◌<◌, ◌&&◌, [], ◌∷◌, ◌++◌, IfOk, cond, filter, length, map};
+ghost use Rattle.std.specs.FinMap.{entries, get};
+ghost use Rattle.std.specs.List.{flat_map};
+ghost use Rattle.rules.specs.Suites.{keeps_architecture, keeps_component};
 ghost use Rattle.rules.specs.declared.verdict.Verdict.TheVariants as verdict;
-ghost use Rattle.suites.specs.Plan.{IsStep, after_copy, is_copied as copies};
+ghost use Rattle.suites.specs.Plan.{IsStep, after_copy, is_copied as copies, kept_by, shelves_of};
 ghost use Rattle.suites.specs.Told.{AreTold};
 
 use crate::admission::plan_admission;
@@ -82,4 +84,76 @@ pub fn plan_copy(
     let target = &config.suites()[to];
     let items = copied_items(alloc, shelves, from, source, target)?;
     plan_admission(alloc, shelves, to, items)
+}
+
+/// Whether the target keeps an item, by its component and its architecture.
+fn is_kept(target: &Suite, item: &Item) -> bool
+    ensures { result ≡ (keeps_component target.now item.now.component && keeps_architecture target.now item.now.architecture) }
+{
+    let has_component = target.keeps_component(item.component.as_str());
+    let has_architecture = target.keeps_architecture(item.architecture.as_str());
+    has_component && has_architecture
+}
+
+/// Adds a copy of the item on a shelf, if the target keeps it.
+fn push_kept(
+    alloc: Global,
+    shelves: &Shelves,
+    target: &Suite,
+    key: &ShelfKey,
+    items: &mut Vec<Item>,
+) -> Result<(), AllocError>
+    ensures { IfOk result (λ _. items.new.items ≡ items.old.items ++ kept_by target.now (get shelves.now key.now)) }
+{
+    match shelves.get(key) {
+        Some(item) => {
+            let is_kept = is_kept(target, item);
+            push_item_if(alloc, items, is_kept, item)
+        }
+        None => Ok(()),
+    }
+}
+
+/// Copies of the items on these shelves that the target keeps.
+fn kept_items(
+    alloc: Global,
+    shelves: &Shelves,
+    target: &Suite,
+    keys: &[ShelfKey],
+) -> Result<Vec<Item>, AllocError>
+    ensures { IfOk result (λ items. items.items ≡ flat_map (λ key. kept_by target.now (get shelves.now key)) keys.now) }
+{
+    let mut items = Vec::new(alloc);
+    for key in keys {
+        push_kept(alloc, shelves, target, key, &mut items)?;
+    }
+    Ok(items)
+}
+
+/// What a copy changes of the shelves, as `plan_copy` says it, from the shelves on which the items of the source package stand
+/// in the suite `from`, in their order: no other shelf is looked at.
+pub fn plan_copy_of(
+    alloc: Global,
+    config: &Config,
+    shelves: &Shelves,
+    from: usize,
+    to: usize,
+    source: &str,
+    keys: &[ShelfKey],
+) -> Result<Plan, AllocError>
+    requires from { from < length config.now.suites }
+    requires to { to < length config.now.suites }
+    requires keys { keys.now ≡ shelves_of shelves.now from source.now }
+    ensures verdict { IfOk result (λ plan. plan.verdict ≡ verdict.Accepted) }
+    ensures step { IfOk result (IsStep shelves.now (after_copy config.now shelves.now from to source.now)) }
+    ensures told { AreTold config.now.suites shelves.now → AreTold config.now.suites (after_copy config.now shelves.now from to source.now) }
+{
+    // What stands on these shelves is of this suite and this source.
+    let _ = from;
+    let _ = source;
+    // For the prover alone: the shelves are sound.
+    shelves.agree();
+    let target = &config.suites()[to];
+    let kept = kept_items(alloc, shelves, target, keys)?;
+    plan_admission(alloc, shelves, to, kept)
 }

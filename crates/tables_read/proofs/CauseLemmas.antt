@@ -1,8 +1,8 @@
 -- Why a read fails.
-use Rattle.std.proofs.Common.{◌≡◌, pos, ◌⊎◌, ◌<◌, ◌≤◌, ℕ, List, [], ◌∷◌, length, get_or, map, slice_index_or, inl, inr, true, false, None, Some, Ok, sym, ap, subst, ◌∙◌, arith}
+use Rattle.std.proofs.Common.{◌≡◌, pos, ◌⊎◌, ◌<◌, ◌≤◌, ℕ, List, [], ◌∷◌, ◌++◌, length, map, slice_index_or, inl, inr, true, false, None, Some, Ok, refl, sym, ap, subst, ◌∙◌, arith}
 use Rattle.std.specs.Prelude.{Any}
 use Rattle.std.specs.List.{AllByRecursion}
-use Rattle.std.proofs.lemmas.List.{length-map}
+use Rattle.std.proofs.lemmas.List.{get_or_at, length-append, length-map}
 use Rattle.std.proofs.lemmas.List.Elements.{All-from_recursion, recursion_from_All}
 use Rattle.std.proofs.lemmas.List.Sorted.{All-permutation}
 use Rattle.sqlite.specs.declared.error.Error.{Error}
@@ -95,10 +95,10 @@ module _ {X : Type 0} (l : Layout X) (laid : IsLayout l) where
   lacks_number row e (inl memory) = inl memory
   lacks_number row e (inr none) = inr (empty_is_short row none)
 
-pub short_at : {X : Type 0} (l : Layout X) (rows : List Row) (i : ℕ) (row : Row) (e : Error) → i < length rows → row ≡ get_or rows i row → (e ≡ SqliteFailure OutOfMemory) ⊎ IsShort l row
-    → (e ≡ SqliteFailure OutOfMemory) ⊎ Any (IsShort l) rows
-short_at l rows i row e within at (inl memory) = inl memory
-short_at l rows i row e within at (inr short) = inr (i, row, within, sym at, short)
+-- a short row among others
+pub short_among : {X : Type 0} (l : Layout X) (front : List Row) (row : Row) (tail : List Row) → IsShort l row → Any (IsShort l) (front ++ row ∷ tail)
+short_among l front row tail short =
+    (length front, row, omega (arith, length-append front (row ∷ tail)), get_or_at front row tail row (length front) refl, short)
 
 answer_wide : (db : Trees) (tree : ℕ) (columns : List Term) (rows : List Row) → IsAnswer (rows_query tree [] columns) db [] rows → AllByRecursion (λ r. length r ≡ length columns) rows
 answer_wide db tree columns rows a =

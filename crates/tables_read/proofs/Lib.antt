@@ -8,5 +8,6 @@ pub mod PairLemmas
 pub mod QueryLemmas
 pub mod RowsLemmas
 pub mod StepLemmas
+pub mod StreamLemmas
 pub mod TableLemmas
 pub mod WholeLemmas

@@ -1,9 +1,8 @@
 -- Rows that are read one after another.
-use Rattle.std.proofs.Common.{◌≡◌, ◌<◌, ◌+◌, ◌^◌, ℕ, zero, suc, nat_lt, true, List, [], ◌∷◌, ◌++◌, take, length, get_or, Option, None, Some, IfSome, refl, sym, ap, ◌∙◌, subst, subst₂, arith}
+use Rattle.std.proofs.Common.{◌≡◌, ◌<◌, ◌^◌, ℕ, nat_lt, true, List, [], ◌∷◌, ◌++◌, None, Some, refl, sym, subst, arith}
 use Rattle.std.specs.List.{AllByRecursion, AllZip}
 use Rattle.std.proofs.lemmas.Bool.{and_parts}
 use Rattle.std.proofs.lemmas.Bool.Decides.{nat_tests}
-use Rattle.std.proofs.lemmas.List.{take_more}
 use Rattle.sqlite.specs.Order.{Row}
 use Rattle.sqlite_keyed.proofs.ListLemmas.{all_weaker}
 use Rattle.tables.specs.Rows.{Numbered, Rises}
@@ -18,38 +17,26 @@ module _ {A B : Type 0} (R : A → B → Type 0) where
   zip_push (a ∷ xs) [] x y h k = absurd h
   zip_push (a ∷ xs) (b ∷ ys) x y h k = (h.0, zip_push xs ys x y h.1 k)
 
-  zip_at : (P : B → Type 0) (xs : List A) (ys : List B) (i : ℕ) (d : A) → AllByRecursion P ys → AllZip R xs ys → i < length xs → (y : B) × R (get_or xs i d) y × P y
-  zip_at P [] ys i d all h n = absurd (omega arith)
-  zip_at P (a ∷ xs) [] i d all h n = absurd h
-  zip_at P (a ∷ xs) (b ∷ ys) zero d all h n = (b, h.0, all.0)
-  zip_at P (a ∷ xs) (b ∷ ys) (suc i) d all h n = zip_at P xs ys i d all.1 h.1 (omega arith)
-
 module _ {X : Type 0} (l : Layout X) where
   ids_push : (P : ℕ → Type 0) (all : Numbered X) (x : ℕ × X) → AllByRecursion P (ids all) → P x.0 → AllByRecursion P (ids (all ++ x ∷ []))
   ids_push P [] x h k = (k, tt)
   ids_push P (y ∷ all) x h k = (h.0, ids_push P all x h.1 k)
 
   -- one row more
-  pub read_more : (rows : List Row) (i : ℕ) (row : Row) (all : Numbered X) (x : ℕ × X) {now : Numbered X} → i < length rows → row ≡ get_or rows i row
-      → x.0 < 2 ^ 64 → Spells l.seen row x → now ≡ all ++ x ∷ [] → AreRead l (take i rows) all → AreRead l (take (i + 1) rows) now
-  read_more rows i row all x {now} within at small spells pushed so_far =
-      let more : take (i + 1) rows ≡ take i rows ++ row ∷ [] = take_more rows i row within ∙ ap (λ r. take i rows ++ r ∷ []) (sym at) in
-      subst₂ (AreRead l) (sym more) (sym pushed) (record {
-        spelled = zip_push (Spells l.seen) (take i rows) all row x so_far.spelled spells;
+  pub read_more : (rows : List Row) (row : Row) (all : Numbered X) (x : ℕ × X) {now : Numbered X} → x.0 < 2 ^ 64 → Spells l.seen row x → now ≡ all ++ x ∷ [] → AreRead l rows all
+      → AreRead l (rows ++ row ∷ []) now
+  read_more rows row all x {now} small spells pushed so_far =
+      subst (AreRead l (rows ++ row ∷ [])) (sym pushed) (record {
+        spelled = zip_push (Spells l.seen) rows all row x so_far.spelled spells;
         small = ids_push (λ n. n < 2 ^ 64) all x so_far.small small;
       })
 
-  pub read_some : (rows : List Row) (i : ℕ) (row : Row) (all : Numbered X) (o : Option (ℕ × X)) (x : ℕ × X) {now : Numbered X} → i < length rows → row ≡ get_or rows i row
-      → o ≡ Some x → IfSome o (λ y. (y.0 < 2 ^ 64) × Spells l.seen row y) → now ≡ all ++ x ∷ [] → AreRead l (take i rows) all → AreRead l (take (i + 1) rows) now
-  read_some rows i row all o x within at is some pushed so_far =
-      let h = subst (λ p. IfSome p (λ y. (y.0 < 2 ^ 64) × Spells l.seen row y)) is some in
-      read_more rows i row all x within at h.0 h.1 pushed so_far
-
   -- a row that is none
-  pub not_read_at : (real : X → Type 0) (rows : List Row) (i : ℕ) (row : Row) → i < length rows → row ≡ get_or rows i row → ((x : ℕ × X) → real x.1 → ¬ Spells l.seen row x) → IsNotRead l real rows
-  not_read_at real rows i row within at none xs all zip =
-      let found = zip_at (Spells l.seen) (λ x. real x.1) rows xs i row all zip within in
-      none found.0 found.2 (subst (λ r. Spells l.seen r found.0) (sym at) found.1)
+  pub not_read_among : (real : X → Type 0) (front : List Row) (row : Row) (tail : List Row) → ((x : ℕ × X) → real x.1 → ¬ Spells l.seen row x) → IsNotRead l real (front ++ row ∷ tail)
+  not_read_among real [] row tail none [] all zip = zip
+  not_read_among real [] row tail none (x ∷ xs) all zip = none x all.0 zip.0
+  not_read_among real (r ∷ front) row tail none [] all zip = zip
+  not_read_among real (r ∷ front) row tail none (x ∷ xs) all zip = not_read_among real front row tail none xs all.1 zip.1
 
 module _ {X : Type 0} where
   all_past : (n : ℕ) (xs : Numbered X) → rises_past (Some n) xs ≡ true → AllByRecursion (λ x. n < x.0) xs × Rises xs

@@ -33,7 +33,7 @@ module _ (a b : State) where
   told x y h f = record { idle = h.idle; is = λ clean is. f clean is (h.unchanged clean is) (h.is clean is); unchanged = h.unchanged; err = λ _ _. tt; cause = λ _ _. tt; survives = h.survives }
 
 module _ (a b c : State) where
-  fails_then : IsUnchanged a b → Fails b c → Fails a c
+  pub fails_then : IsUnchanged a b → Fails b c → Fails a c
   fails_then same (inl s) = inl (record { was_open = λ up. same.0.was_open; now_is = s.now_is ∙ same.0.now_is; committed_is = s.committed_is ∙ same.0.committed_is; mode = s.mode ∙ same.0.mode })
   fails_then same (inr r) = inr (record {
     was_open = λ up. same.0.was_open;

@@ -7,3 +7,4 @@ pub mod Order
 pub mod Pairs
 pub mod Reading
 pub mod RowKeys
+pub mod Streams

@@ -2,6 +2,7 @@
 #![tactic(auto)]
 
 mod all;
+mod answer;
 mod cells;
 pub mod laws;
 mod order;

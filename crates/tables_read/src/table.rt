@@ -1,59 +1,24 @@
 //! The rows of one table.
 
-ghost use Rattle.std.specs.Prelude.{◌≡◌, ◌≢◌, ◌<◌, ◌^◌, ◌↔◌, ◌⊎◌, ℕ, true, false, map, string_bytes};
-ghost use Rattle.std.specs.Prelude.{Any, IsTrue, IfErr, IfOk, IfSome, None, MatchOption};
-ghost use Rattle.sqlite.specs.declared.error.Error.TheVariants.{SqliteFailure};
-ghost use Rattle.sqlite.specs.declared.error.ErrorCode.TheVariants.{OutOfMemory};
+ghost use Rattle.std.specs.Prelude.{◌≡◌, ◌≢◌, ◌↔◌, true, false, map, string_bytes};
+ghost use Rattle.std.specs.Prelude.{IsTrue, IfOk, None, MatchOption};
 ghost use Rattle.sqlite.specs.declared.types.Value.TheVariants.{Text as SqlText};
 ghost use Rattle.sqlite.specs.Order.{column};
 ghost use Rattle.sqlite.specs.Held.{state};
 ghost use Rattle.sqlite.specs.State.{IsLive};
 ghost use Rattle.sqlite_sql.specs.Text.{joined};
 ghost use Rattle.tables.specs.Rows.{whole};
-ghost use Rattle.tables_read.specs.Reading.{Spells, Tells};
-ghost use Rattle.tables_read.specs.Layout.{AreRead, IsNotRead, HasAnswer, HasOrder, IsShort, IsTable, IsNoTable};
+ghost use Rattle.tables_read.specs.Reading.{Tells};
+ghost use Rattle.tables_read.specs.Layout.{AreRead, IsNotRead, HasAnswer, HasOrder, IsTable, IsNoTable};
 ghost use Rattle.tables_read.specs.Layout.{ids, first_cell};
 ghost use Rattle.tables_read.specs.Order.{rises_past};
 
-use crate::cells::Cell;
+use crate::answer::answer;
 use crate::order::{is_rising, listed};
 use crate::stored::Stored;
 use sqlite::types::ValueRef;
 use sqlite::{Alter, Connection, Error, Row};
 use std::alloc::{AllocError, Global};
-
-/// A row with its rowid, if both are of an archive.
-fn numbered<T: Stored>(row: &Row) -> Result<Option<(u64, T)>, Error>
-    ensures some { IfOk result (λ o. IfSome o (λ x.
-        (x.0 < 2 ^ 64) × Spells T.layout.seen row.now x)) }
-    ensures none { IfOk result (λ o. o ≡ None
-        → (x : ℕ × T) → T.is_real x.1 → ¬ Spells T.layout.seen row.now x) }
-    ensures cause { IfErr result (λ e. (e ≡ SqliteFailure OutOfMemory) ⊎ IsShort T.layout row.now) }
-{
-    let Some(id) = u64::from_cell(row, 0)? else {
-        return Ok(None);
-    };
-    match T::from_row(row)? {
-        Some(typed) => Ok(Some((id, typed))),
-        None => Ok(None),
-    }
-}
-
-/// The rows with their rowids, if all are of an archive.
-fn typed<T: Stored>(alloc: Global, rows: &[Row]) -> Result<Option<Vec<(u64, T)>>, Error>
-    ensures some { IfOk result (λ o. IfSome o (λ all. AreRead T.layout rows.now all.items)) }
-    ensures none { IfOk result (λ o. o ≡ None → IsNotRead T.layout T.is_real rows.now) }
-    ensures cause { IfErr result (λ e. (e ≡ SqliteFailure OutOfMemory) ⊎ Any (IsShort T.layout) rows.now) }
-{
-    let mut all = Vec::new(alloc);
-    for row in rows {
-        match numbered(row)? {
-            Some(one) => all.push(one)?,
-            None => return Ok(None),
-        }
-    }
-    Ok(Some(all))
-}
 
 /// Whether the first value of a row is this text.
 fn is_text(row: &Row, wanted: &str) -> bool
@@ -95,8 +60,7 @@ fn rows<S: Alter, T: Stored>(
         (λ all. HasAnswer T.layout (state S.Store conn.old) (state S.Store conn.new) (λ raw.
         AreRead T.layout raw all.items))) }
 {
-    let rows = conn.query_all(T::rows_text(), &[])?;
-    typed(alloc, &rows)
+    answer(alloc, conn, T::rows_text())
 }
 
 /// An open connection has a sound database. For the prover alone: the law is the contract.

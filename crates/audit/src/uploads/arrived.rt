@@ -2,8 +2,11 @@
 
 ghost use Rattle.std.specs.Prelude.{◌≡◌, None, Contains, IfOk, IfSome, map};
 ghost use Rattle.tables.specs.Rows.{rows_of};
-ghost use Rattle.audit.specs.Uploads.{is_listed_as, is_there_among, print_among, printed, with_print, with_print_in};
+ghost use Rattle.audit.specs.Uploads.{is_there_among, print_among, printed, with_print, with_print_in};
 
+use crate::keyed::Rows;
+use crate::uploads::lookups::There;
+use crate::uploads::signs::sign_of_entry;
 use std::alloc::{AllocError, Global};
 use sums::{Entry, Print};
 use tables::rows::{Arrival, Body};
@@ -28,18 +31,25 @@ fn print_of_body(bodies: &[(u64, Body)], id: u64) -> Option<Print>
     None
 }
 
+/// The print of the body of a number, looked up among all bodies.
+fn print_by_number(bodies: &Rows<'_, (u64, Body)>, id: u64) -> Option<Print>
+    ensures { result ≡ print_among bodies.now.all.now id }
+{
+    print_of_body(bodies.about(id), id)
+}
+
 /// The arrivals with the prints of their bodies, where each has one.
 pub fn arrived_among<'a>(
     alloc: Global,
     arrivals: &'a [(u64, Arrival)],
-    bodies: &[(u64, Body)],
+    bodies: &Rows<'_, (u64, Body)>,
 ) -> Result<Option<Vec<Arrived<'a>>>, AllocError>
-    ensures some { IfOk result (λ o. IfSome o (λ arrived. map with_print arrived.items ≡ map (with_print_in bodies.now) (rows_of arrivals.now))) }
-    ensures none { IfOk result (λ o. o ≡ None → Contains (map (λ a. print_among bodies.now a.body) (rows_of arrivals.now)) None) }
+    ensures some { IfOk result (λ o. IfSome o (λ arrived. map with_print arrived.items ≡ map (with_print_in bodies.now.all.now) (rows_of arrivals.now))) }
+    ensures none { IfOk result (λ o. o ≡ None → Contains (map (λ a. print_among bodies.now.all.now a.body) (rows_of arrivals.now)) None) }
 {
     let mut arrived = Vec::new(alloc);
     for (_, arrival) in arrivals {
-        let Some(print) = print_of_body(bodies, arrival.body) else {
+        let Some(print) = print_by_number(bodies, arrival.body) else {
             return Ok(None);
         };
         arrived.push(Arrived { arrival, print })?;
@@ -47,24 +57,10 @@ pub fn arrived_among<'a>(
     Ok(Some(arrived))
 }
 
-/// Whether the arrival has the listed name and print.
-fn is_listed(arrived: &Arrived<'_>, entry: &Entry) -> bool
-    ensures { result ≡ is_listed_as entry.now (printed arrived.now) }
-{
-    if arrived.print != entry.print {
-        return false;
-    }
-    arrived.arrival.name.as_str() == entry.name.as_str()
-}
-
 /// Whether a body of the listed name and print has arrived.
-pub fn is_there(arrived: &[Arrived<'_>], entry: &Entry) -> bool
-    ensures { result ≡ is_there_among (map printed arrived.now) entry.now }
+pub fn is_there(arrived: &There<'_>, entry: &Entry) -> bool
+    ensures { result ≡ is_there_among (map printed arrived.now.all.now) entry.now }
 {
-    for one in arrived {
-        if is_listed(one, entry) {
-            return true;
-        }
-    }
-    false
+    let sign = sign_of_entry(entry);
+    arrived.has(&sign)
 }

@@ -1,6 +1,6 @@
 //! The .changes that arrived and wait for a verdict.
 
-ghost use Rattle.std.specs.Prelude.{◌≡◌, ◌∷◌, [], IfOk, map};
+ghost use Rattle.std.specs.Prelude.{◌≡◌, IfOk, map};
 ghost use Rattle.std.specs.List.{filter_map};
 ghost use Rattle.std.specs.Result.{result_ok};
 ghost use Rattle.keep.specs.Book.{is_changes_name};
@@ -10,7 +10,8 @@ ghost use Rattle.audit.specs.Uploads.{awaited_view, changes_awaited, found_await
 use crate::bodies::bytes_of;
 use crate::pieces::Pieces;
 use crate::uploads::arrived::Arrived;
-use keep::Judgement;
+use crate::uploads::lookups::Verdicts;
+use crate::uploads::signs::sign_of_arrived;
 use records::{Changes, RecordFault};
 use std::alloc::{AllocError, Global};
 use sums::Print;
@@ -42,26 +43,12 @@ fn is_changes(name: &str) -> bool
     name.as_bytes().ends_with(b".changes")
 }
 
-/// Whether the judgement is that of what arrived.
-fn is_judgement_of(one: &Judgement, arrived: &Arrived<'_>) -> bool
-    ensures { result ≡ has_judgement (one.now ∷ []) (printed arrived.now) }
-{
-    if one.print != arrived.print {
-        return false;
-    }
-    one.name.as_str() == arrived.arrival.name.as_str()
-}
-
 /// Whether what arrived has a verdict.
-fn is_judged(judged: &[Judgement], arrived: &Arrived<'_>) -> bool
-    ensures { result ≡ has_judgement judged.now (printed arrived.now) }
+fn is_judged(judged: &Verdicts<'_>, arrived: &Arrived<'_>) -> bool
+    ensures { result ≡ has_judgement judged.now.all.now (printed arrived.now) }
 {
-    for one in judged {
-        if is_judgement_of(one, arrived) {
-            return true;
-        }
-    }
-    false
+    let sign = sign_of_arrived(arrived);
+    judged.has(&sign)
 }
 
 /// The record that waits for a verdict, where what arrived is one.
@@ -69,10 +56,10 @@ fn is_judged(judged: &[Judgement], arrived: &Arrived<'_>) -> bool
 fn awaited_changes(
     alloc: Global,
     pieces: &Pieces<'_>,
-    judged: &[Judgement],
+    judged: &Verdicts<'_>,
     arrived: &Arrived<'_>,
 ) -> Result<Option<Changes>, AllocError>
-    ensures { IfOk result (λ changes. changes ≡ changes_awaited pieces.now.all.now.pieces.items judged.now (printed arrived.now)) }
+    ensures { IfOk result (λ changes. changes ≡ changes_awaited pieces.now.all.now.pieces.items judged.now.all.now (printed arrived.now)) }
 {
     if !is_changes(arrived.arrival.name.as_str()) {
         return Ok(None);
@@ -88,11 +75,11 @@ fn awaited_changes(
 pub fn awaited_among<'a>(
     alloc: Global,
     pieces: &Pieces<'_>,
-    judged: &[Judgement],
+    judged: &Verdicts<'_>,
     arrived: &[Arrived<'a>],
 ) -> Result<Vec<Awaited<'a>>, AllocError>
     ensures { IfOk result (λ awaited. map awaited_view awaited.items
-        ≡ filter_map (found_awaited pieces.now.all.now.pieces.items judged.now) (map printed arrived.now)) }
+        ≡ filter_map (found_awaited pieces.now.all.now.pieces.items judged.now.all.now) (map printed arrived.now)) }
 {
     let mut awaited = Vec::new(alloc);
     for one in arrived {

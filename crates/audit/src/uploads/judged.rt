@@ -1,12 +1,15 @@
 //! The judged uploads, in the order of their places.
 
-ghost use Rattle.std.specs.Prelude.{◌≡◌, Some, None, All, Contains, MatchBool, IfOk, IfSome, find, map, nat_eq, option_copied};
+ghost use Rattle.std.specs.Prelude.{◌≡◌, Some, None, All, Contains, MatchBool, IfOk, IfSome, find, map, nat_eq};
 ghost use Rattle.std.specs.List.{range_with_len};
+ghost use Rattle.std.specs.Option.{option_and_then};
 ghost use Rattle.rules.specs.Verdicts.{number_of};
 ghost use Rattle.tables.specs.Rows.{rows_of};
-ghost use Rattle.kept.specs.Kept.{is_placed};
+ghost use Rattle.audit.specs.Places.{first_at, placed_view};
 ghost use Rattle.audit.specs.Uploads.{IsPlacedWell, judged_at, judgement_in, last_of, later as later_of, verdict_numbered as verdict_of_number};
 
+use crate::keyed::Rows;
+use crate::uploads::places::{Placed, by_place, upload_at};
 use keep::Judgement;
 use rules::Verdict;
 use std::alloc::{AllocError, Global};
@@ -89,28 +92,6 @@ fn verdict_numbered(number: u64) -> Option<Verdict>
     verdict_among(&VERDICTS, number)
 }
 
-/// Whether the upload has this place.
-fn is_at(upload: &Upload, place: u64) -> bool
-    ensures { result ≡ is_placed place upload.now }
-{
-    match upload.place {
-        Some(at) => at == place,
-        None => false,
-    }
-}
-
-/// The first upload with a place.
-fn upload_at(uploads: &[(u64, Upload)], place: u64) -> Option<&Upload>
-    ensures { option_copied result ≡ find (is_placed place) (rows_of uploads.now) }
-{
-    for (_, upload) in uploads {
-        if is_at(upload, place) {
-            return Some(upload);
-        }
-    }
-    None
-}
-
 /// The judgement that a row tells, where it has the number of a verdict.
 #[tactic(auto, unfolding(crate::specs::Uploads::judgement_in))]
 fn judgement_of(upload: &Upload) -> Result<Option<Judgement>, AllocError>
@@ -130,11 +111,10 @@ fn judgement_of(upload: &Upload) -> Result<Option<Judgement>, AllocError>
 }
 
 /// The judgement at a place, where there is one.
-#[tactic(auto, unfolding(crate::specs::Uploads::judged_at))]
-fn judgement_at(uploads: &[(u64, Upload)], place: u64) -> Result<Option<Judgement>, AllocError>
-    ensures { IfOk result (λ judgement. judgement ≡ judged_at uploads.now place) }
+fn judgement_at(placed: &Rows<'_, Placed<'_>>, place: u64) -> Result<Option<Judgement>, AllocError>
+    ensures { IfOk result (λ judgement. judgement ≡ option_and_then judgement_in (first_at (map placed_view placed.now.all.now) place)) }
 {
-    match upload_at(uploads, place) {
+    match upload_at(placed, place) {
         Some(upload) => judgement_of(upload),
         None => Ok(None),
     }
@@ -149,9 +129,11 @@ pub fn judged_until(
     ensures some { IfOk result (λ o. IfSome o (λ judged. map Some judged.items ≡ map (judged_at uploads.now) (range_with_len 1 last))) }
     ensures none { IfOk result (λ o. o ≡ None → Contains (map (judged_at uploads.now) (range_with_len 1 last)) None) }
 {
+    let placed = by_place(alloc, uploads)?;
+    let rows = Rows::new(&placed);
     let mut judged = Vec::new(alloc);
     for before in 0..last {
-        let Some(judgement) = judgement_at(uploads, before + 1)? else {
+        let Some(judgement) = judgement_at(&rows, before + 1)? else {
             return Ok(None);
         };
         judged.push(judgement)?;

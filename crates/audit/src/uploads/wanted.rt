@@ -6,15 +6,17 @@ ghost use Rattle.tables.specs.Rows.{rows_of};
 ghost use Rattle.tables.specs.Uploads.{is_judged as has_place};
 ghost use Rattle.audit.specs.Uploads.{awaited_view, printed, request_among, request_row, wanted_among, want_row, wants_among};
 
-use crate::uploads::arrived::{Arrived, is_there};
+use crate::keyed::Rows;
+use crate::uploads::arrived::is_there;
 use crate::uploads::awaited::Awaited;
+use crate::uploads::lookups::There;
 use sums::Entry;
 use tables::rows::{Upload, Want};
 
 /// Whether the row is that of the listed file, with whether it is there.
-fn is_wanted(want: &Want, arrived: &[Arrived<'_>], entry: &Entry) -> bool
-    ensures { MatchBool result (want_row want.now ≡ wanted_among (map printed arrived.now) entry.now)
-        (want_row want.now ≡ wanted_among (map printed arrived.now) entry.now → ⊥) }
+fn is_wanted(want: &Want, arrived: &There<'_>, entry: &Entry) -> bool
+    ensures { MatchBool result (want_row want.now ≡ wanted_among (map printed arrived.now.all.now) entry.now)
+        (want_row want.now ≡ wanted_among (map printed arrived.now.all.now) entry.now → ⊥) }
 {
     if want.print != entry.print {
         return false;
@@ -29,11 +31,11 @@ fn is_wanted(want: &Want, arrived: &[Arrived<'_>], entry: &Entry) -> bool
 fn are_wanted(
     wants: &[(u64, Want)],
     upload: u64,
-    arrived: &[Arrived<'_>],
+    arrived: &There<'_>,
     entries: &[Entry],
 ) -> bool
-    ensures { MatchBool result (wants_among wants.now upload ≡ map (wanted_among (map printed arrived.now)) entries.now)
-        (wants_among wants.now upload ≡ map (wanted_among (map printed arrived.now)) entries.now → ⊥) }
+    ensures { MatchBool result (wants_among wants.now upload ≡ map (wanted_among (map printed arrived.now.all.now)) entries.now)
+        (wants_among wants.now upload ≡ map (wanted_among (map printed arrived.now.all.now)) entries.now → ⊥) }
 {
     let mut next = 0;
     for (_, want) in wants {
@@ -50,15 +52,28 @@ fn are_wanted(
     next == entries.len()
 }
 
+/// Whether the rows of an upload, looked up among all, are those of the listed files, in their order.
+fn are_wanted_by(
+    wants: &Rows<'_, (u64, Want)>,
+    upload: u64,
+    arrived: &There<'_>,
+    entries: &[Entry],
+) -> bool
+    ensures { MatchBool result (wants_among wants.now.all.now upload ≡ map (wanted_among (map printed arrived.now.all.now)) entries.now)
+        (wants_among wants.now.all.now upload ≡ map (wanted_among (map printed arrived.now.all.now)) entries.now → ⊥) }
+{
+    are_wanted(wants.about(upload), upload, arrived, entries)
+}
+
 /// Whether the row and what it wants are those of the .changes.
 fn is_request(
     row: &(u64, Upload),
-    wants: &[(u64, Want)],
-    arrived: &[Arrived<'_>],
+    wants: &Rows<'_, (u64, Want)>,
+    arrived: &There<'_>,
     awaited: &Awaited<'_>,
 ) -> bool
-    ensures { MatchBool result (request_row wants.now row.now ≡ request_among (map printed arrived.now) (awaited_view awaited.now))
-        (request_row wants.now row.now ≡ request_among (map printed arrived.now) (awaited_view awaited.now) → ⊥) }
+    ensures { MatchBool result (request_row wants.now.all.now row.now ≡ request_among (map printed arrived.now.all.now) (awaited_view awaited.now))
+        (request_row wants.now.all.now row.now ≡ request_among (map printed arrived.now.all.now) (awaited_view awaited.now) → ⊥) }
 {
     if row.1.print != awaited.print {
         return false;
@@ -66,21 +81,21 @@ fn is_request(
     if row.1.name.as_str() != awaited.arrival.name.as_str() {
         return false;
     }
-    are_wanted(wants, row.0, arrived, awaited.changes.entries())
+    are_wanted_by(wants, row.0, arrived, awaited.changes.entries())
 }
 
 /// Whether the rows without a place are those of the .changes, in their order, with what they want.
 pub fn are_requests(
     uploads: &[(u64, Upload)],
-    wants: &[(u64, Want)],
-    arrived: &[Arrived<'_>],
+    wants: &Rows<'_, (u64, Want)>,
+    arrived: &There<'_>,
     awaited: &[Awaited<'_>],
 ) -> bool
     ensures { MatchBool result
-        (map (request_row wants.now) (filter (λ x. not (has_place x.1)) uploads.now)
-        ≡ map (request_among (map printed arrived.now)) (map awaited_view awaited.now))
-        (map (request_row wants.now) (filter (λ x. not (has_place x.1)) uploads.now)
-        ≡ map (request_among (map printed arrived.now)) (map awaited_view awaited.now) → ⊥) }
+        (map (request_row wants.now.all.now) (filter (λ x. not (has_place x.1)) uploads.now)
+        ≡ map (request_among (map printed arrived.now.all.now)) (map awaited_view awaited.now))
+        (map (request_row wants.now.all.now) (filter (λ x. not (has_place x.1)) uploads.now)
+        ≡ map (request_among (map printed arrived.now.all.now)) (map awaited_view awaited.now) → ⊥) }
 {
     let mut next = 0;
     for row in uploads {
@@ -111,14 +126,21 @@ fn is_owned(uploads: &[(u64, Upload)], upload: u64) -> bool
     false
 }
 
+/// Whether the upload of a number, looked up among all, is there and has no place.
+fn is_owned_by_number(uploads: &Rows<'_, (u64, Upload)>, upload: u64) -> bool
+    ensures { result ≡ list_any (λ x. nat_eq x.0 upload && not (has_place x.1)) uploads.now.all.now }
+{
+    is_owned(uploads.about(upload), upload)
+}
+
 /// Whether each entry is that of an upload without a place.
-pub fn are_owned(wants: &[(u64, Want)], uploads: &[(u64, Upload)]) -> bool
+pub fn are_owned(wants: &[(u64, Want)], uploads: &Rows<'_, (u64, Upload)>) -> bool
     ensures { MatchBool result
-        (All (λ w. IsTrue (list_any (λ x. nat_eq x.0 w.upload && not (has_place x.1)) uploads.now)) (rows_of wants.now))
-        (All (λ w. IsTrue (list_any (λ x. nat_eq x.0 w.upload && not (has_place x.1)) uploads.now)) (rows_of wants.now) → ⊥) }
+        (All (λ w. IsTrue (list_any (λ x. nat_eq x.0 w.upload && not (has_place x.1)) uploads.now.all.now)) (rows_of wants.now))
+        (All (λ w. IsTrue (list_any (λ x. nat_eq x.0 w.upload && not (has_place x.1)) uploads.now.all.now)) (rows_of wants.now) → ⊥) }
 {
     for (_, want) in wants {
-        if !is_owned(uploads, want.upload) {
+        if !is_owned_by_number(uploads, want.upload) {
             return false;
         }
     }

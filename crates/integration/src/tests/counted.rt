@@ -11,6 +11,7 @@ use std::io::{self, ErrorKind, Read};
 use std::process::Abort;
 use std::test::Fail;
 use suites::{Shelves, Upload};
+use sums::Print;
 
 /// A keeper that passes every call on.
 #[derive(Drop)]
@@ -71,6 +72,10 @@ impl<K: Keeper> Keeper for Counting<K> {
         self.inner.apply(alloc, change)
     }
 
+    fn hold(&mut self, shelves: Shelves) {
+        self.inner.hold(shelves);
+    }
+
     fn clean(&mut self, alloc: Global, moment: u64) -> Result<u64, KeepFault> {
         self.inner.clean(alloc, moment)
     }
@@ -81,6 +86,10 @@ impl<K: Keeper> Keeper for Counting<K> {
 
     fn text(&mut self, alloc: Global, path: &str) -> Result<Option<Vec<u8>>, KeepFault> {
         self.inner.text(alloc, path)
+    }
+
+    fn text_print(&mut self, alloc: Global, path: &str) -> Result<Option<Print>, KeepFault> {
+        self.inner.text_print(alloc, path)
     }
 
     fn waiting(&mut self, alloc: Global, moment: u64) -> Result<Vec<Waiting>, KeepFault> {

@@ -6,4 +6,4 @@ use Rattle.audit.proofs.files.have_prints.Given as goal
 
 -- the files so far have the pool's prints
 abbrev pub invariant-loop-file : goal.invariant-loop-file
-invariant-loop-file l = All (HasPrint (pool l.shelves) l.bodies) (take l.file-index l.files)
+invariant-loop-file l = All (HasPrint (pool l.shelves) l.bodies.all.now) (take l.file-index l.files)

@@ -14,7 +14,8 @@ returns-clause-some c keys =
     let found : (rows_of t.meta ≡ record { version = 3; configuration = c.in-Some.config.text } ∷ []) × (config_in c.in-Some.config.text ≡ Ok c.in-Some.config) = search rules in
     if_ok _ _ c.held_of.result
     (λ o h. if_some _ _ o
-    (λ held parts. ∣ (parts.1, subst (λ g. IsKept t g held.judged.items parts.1 held.dates.items) (sym parts.0) (whole t c.in-Some.config held.judged.items parts.1 held.dates.items keys found.0 found.1 arrived.0 arrived.1 parts.2)) ∣₁)
+    (λ held parts. subst (λ g. IsKept t g held.judged.items held.shelves held.dates.items) (sym parts.0)
+    (whole t c.in-Some.config held.judged.items held.shelves held.dates.items keys found.0 found.1 arrived.0 arrived.1 parts.1))
     h)
     (c.held_of.ensures.some keys arrived.0)
 

@@ -1,10 +1,10 @@
 use Rattle.std.proofs.Common.{◌≤◌, ℕ, List, Ok, Err, ap, subst, refl, false, option_map}
 use Rattle.desk.specs.Message.{message_of}
 use Rattle.desk.specs.Request.{body_length, want_of}
-use Rattle.desk.specs.Want.{cleaning, copying, delivery, fetching, queue_run, removing, verdict_list, waiting_list}
+use Rattle.desk.specs.Want.{cleaning, copying, delivery, fetching, promoting, queue_run, removing, verdict_list, waiting_list}
 use Rattle.desk.specs.declared.head.Wanted.{Wanted}
-use Rattle.queue.specs.Commands.{lines_of}
-use Rattle.queue.specs.Histories.{Lines, Count, Found}
+use Rattle.queue.specs.Commands.{copies_of, lines_of}
+use Rattle.queue.specs.Histories.{Copies, Lines, Count, Found}
 use Rattle.queue.specs.Receiving.{IsReceived}
 use Rattle.desk.proofs.ExchangeLemmas.{received_done, received_not, reply_missing, reply_told, without_body}
 use Rattle.desk.proofs.exchange.carry_out.Goals as goal
@@ -91,6 +91,16 @@ pub returns-in-Err-remove-clause-carried_out : goal.returns-in-Err-remove-clause
 returns-in-Err-remove-clause-carried_out g c =
     let step = rw (c.as_str-in-Remove.ensures.value, c.as_str-in-Remove-2.ensures.value) at c.in-Err-remove.ensures.step in
     rw c.in-Remove.is (without_body g.K.Keeper _ _ _ (removing _ _) c.args.moment _ refl (record { outcome = Err c.in-Err-remove.fault; done = step; message_is = c.fault_reply-in-Err-remove.ensures }))
+
+pub returns-in-Ok-promote-clause-carried_out : goal.returns-in-Ok-promote-clause-carried_out
+returns-in-Ok-promote-clause-carried_out g c =
+    let step = rw (c.as_str-in-Promote.ensures.value, c.as_str-in-Promote-2.ensures.value) at c.in-Ok-promote.ensures.step in
+    rw c.in-Promote.is (without_body g.K.Keeper _ _ _ (promoting _ _) c.args.moment _ refl (record { outcome = Ok (Copies (copies_of c.in-Ok-promote.promotion)); done = step; message_is = c.promotion_reply.ensures false }))
+
+pub returns-in-Err-promote-clause-carried_out : goal.returns-in-Err-promote-clause-carried_out
+returns-in-Err-promote-clause-carried_out g c =
+    let step = rw (c.as_str-in-Promote.ensures.value, c.as_str-in-Promote-2.ensures.value) at c.in-Err-promote.ensures.step in
+    rw c.in-Promote.is (without_body g.K.Keeper _ _ _ (promoting _ _) c.args.moment _ refl (record { outcome = Err c.in-Err-promote.fault; done = step; message_is = c.fault_reply-in-Err-promote.ensures }))
 
 pub returns-in-Ok-fetch-clause-lasts : goal.returns-in-Ok-fetch-clause-lasts
 returns-in-Ok-fetch-clause-lasts g c = c.in-Ok-fetch.ensures.reads.lasts

@@ -1,4 +1,4 @@
-use Rattle.desk.specs.Paths.{to_incoming, to_copy, to_dists, to_pool, to_remove, to_run, to_queue, to_clean, to_verdicts}
+use Rattle.desk.specs.Paths.{to_incoming, to_copy, to_dists, to_pool, to_promote, to_remove, to_run, to_queue, to_clean, to_verdicts}
 use Rattle.desk.proofs.RouteLemmas.{place_asks}
 use Rattle.desk.proofs.laws.paths_with_a_route.Goals as goal
 
@@ -28,3 +28,6 @@ returns-clause-pool c rest h = place_asks (to_pool rest) h
 
 pub returns-clause-remove : goal.returns-clause-remove
 returns-clause-remove c suite name h1 h2 = place_asks (to_remove suite name) (h1, h2)
+
+pub returns-clause-promote : goal.returns-clause-promote
+returns-clause-promote c from to h1 h2 = place_asks (to_promote from to) (h1, h2)

@@ -43,6 +43,13 @@ returns-in_err-insert-5-clause-err c =
     let a = rw (c.in_ok-insert-4.ensures.1, c.in_ok-insert-3.ensures.1, c.in_ok-insert-2.ensures.1, c.in_ok-insert.ensures.1, c.requires) at c.in_err-insert-5.ensures in
     rw (p.1, p.2) (memory_of (parse_route (codes "/queue/clean")) at.Clean (add_routes (take 8 route_texts) []) _ _ refl a)
 
+pub returns-in_err-insert-6-clause-err : goal.returns-in_err-insert-6-clause-err
+unfolding matchit_on_literals
+returns-in_err-insert-6-clause-err c =
+    let p = err_from_is_err_and c.from_residual-in_err-insert-6.result c.from_residual-in_err-insert-6.ensures.1 in
+    let a = rw (c.in_ok-insert-5.ensures.1, c.in_ok-insert-4.ensures.1, c.in_ok-insert-3.ensures.1, c.in_ok-insert-2.ensures.1, c.in_ok-insert.ensures.1, c.requires) at c.in_err-insert-6.ensures in
+    rw (p.1, p.2) (memory_of (parse_route (codes "/promote/{from}/{to}")) at.Promote (add_routes (take 9 route_texts) []) _ _ refl a)
+
 pub returns-clause-ok : goal.returns-clause-ok
 unfolding matchit_on_literals routes
-returns-clause-ok c = rw (c.in_ok-insert-5.ensures.1, c.in_ok-insert-4.ensures.1, c.in_ok-insert-3.ensures.1, c.in_ok-insert-2.ensures.1, c.in_ok-insert.ensures.1, c.requires) refl
+returns-clause-ok c = rw (c.in_ok-insert-6.ensures.1, c.in_ok-insert-5.ensures.1, c.in_ok-insert-4.ensures.1, c.in_ok-insert-3.ensures.1, c.in_ok-insert-2.ensures.1, c.in_ok-insert.ensures.1, c.requires) refl

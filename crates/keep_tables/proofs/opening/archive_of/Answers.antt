@@ -6,6 +6,7 @@ use Rattle.tables.proofs.ReadLemmas.{stands}
 use Rattle.tables.specs.Rows.{Holds}
 use Rattle.tables_read.specs.All.{AreConstrained, tables_with}
 use Rattle.tables_read.specs.Keys.{constrained}
+use Rattle.kept.specs.Shown.{shown_in}
 use Rattle.keep_tables.specs.Finishing.{unfinished_ids}
 use Rattle.audit.proofs.WholeLemmas.{if_some}
 use Rattle.keep_tables.proofs.OpenLemmas.{archive_here, no_archive, no_rows}
@@ -27,6 +28,17 @@ returns-clause-some g c clean =
     if_some _ _ c.in_ok-found_in.field-0
     (λ f some. (same, archive_here old.now t f.held.config f.held.judged.items f.held.dates.items held some.0, some.1 ∙ ap (λ u. unfinished_ids u.bodies) (sym (held_tables old.now t held))))
     (c.in_ok-found_in.ensures.some keys)
+
+pub returns-clause-shown : goal.returns-clause-shown
+returns-clause-shown g c clean =
+    let old = state g.S.Store c.args.conn.now in
+    let t = tables_with c.in-Some.all in
+    let same : IsUnchanged old (state g.S.Store c.read_all.new.conn) = c.in_ok-all.ensures.unchanged clean in
+    let held : Holds old.now t = search rules in
+    let keys : AreConstrained t = constrained old.now t (c.schema.ensures.live same.0.was_open).0 held in
+    if_some _ _ c.in_ok-found_in.field-0
+    (λ f shown. shown ∙ ap (shown_in f.held.config.suites) (sym (held_tables old.now t held)))
+    (c.in_ok-found_in.ensures.shown keys)
 
 pub returns-clause-none : goal.returns-clause-none
 returns-clause-none g c clean none =

@@ -5,6 +5,7 @@ use Rattle.kept.specs.Kept.{IsKept}
 use Rattle.keep_tables.specs.Finishing.{are_named, unfinished_ids}
 use Rattle.audit.specs.Whole.{KeepsSome}
 use Rattle.keep_tables.proofs.FinishLemmas.{constrained_whole, named_none, readable_whole}
+use Rattle.keep_tables.proofs.OpenLemmas.{found_shown}
 use Rattle.audit.proofs.WholeLemmas.{at_some}
 use Rattle.keep_tables.proofs.opening.found_in.Goals as goal
 
@@ -31,5 +32,16 @@ returns-clause-some c keys =
     let ids : c.in_ok-unfinished.unfinished.items ≡ unfinished_ids t.bodies = search rules in
     let none : are_named t (unfinished_ids t.bodies) ≡ false = sym (c.are_named.ensures ∙ ap (are_named t) (c.deref-2.ensures.value ∙ ids)) ∙ c.if-are_named.false in
     let is : whole ≡ finished t = c.finished_rows-whole.ensures in
-    let some = at_some _ _ c.in-Some.held c.in-Some.is (c.in_ok-held.ensures.some (constrained_whole t whole is keys none)) in
-    (subst (λ u. KeepsSome u c.in-Some.held.config c.in-Some.held.judged.items c.in-Some.held.dates.items) is some, ids)
+    let kept : IsKept whole c.in-Some.held.config c.in-Some.held.judged.items c.in-Some.held.shelves c.in-Some.held.dates.items =
+    at_some _ _ c.in-Some.held c.in-Some.is (c.in_ok-held.ensures.some (constrained_whole t whole is keys none)) in
+    (subst (λ u. KeepsSome u c.in-Some.held.config c.in-Some.held.judged.items c.in-Some.held.dates.items) is ∣ (c.in-Some.held.shelves, kept) ∣₁, ids)
+
+pub returns-clause-shown : goal.returns-clause-shown
+returns-clause-shown c keys =
+    let t = tables_with c.args.all in
+    let whole = tables_with c.finished_rows-whole.result in
+    let ids : c.in_ok-unfinished.unfinished.items ≡ unfinished_ids t.bodies = search rules in
+    let none : are_named t (unfinished_ids t.bodies) ≡ false = sym (c.are_named.ensures ∙ ap (are_named t) (c.deref-2.ensures.value ∙ ids)) ∙ c.if-are_named.false in
+    let is : whole ≡ finished t = c.finished_rows-whole.ensures in
+    found_shown t whole is c.in-Some.held.config c.in-Some.held.judged.items c.in-Some.held.shelves c.in-Some.held.dates.items
+    (at_some _ _ c.in-Some.held c.in-Some.is (c.in_ok-held.ensures.some (constrained_whole t whole is keys none)))

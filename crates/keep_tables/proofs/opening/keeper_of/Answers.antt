@@ -8,7 +8,7 @@ use Rattle.kept.specs.Transactions.{IsDone, MayCommit}
 use Rattle.keep_tables.specs.Opened.{IsFinished}
 use Rattle.keep_tables.proofs.FinishLemmas.{nil_if}
 use Rattle.keep_tables.proofs.KeeperLemmas.{book_over}
-use Rattle.keep_tables.proofs.OpenLemmas.{finished_book, finished_done, finished_same, keeps_finished, keeps_same, may_finish, same_book_finished, whole_finished, whole_same}
+use Rattle.keep_tables.proofs.OpenLemmas.{finished_book, finished_done, finished_same, keeps_finished, keeps_same, may_finish, same_book_finished, shown_same, shown_still, whole_finished, whole_same}
 use Rattle.keep_tables.proofs.opening.keeper_of.Goals as goal
 
 pub keeper_over-requires-clause-kept : goal.keeper_over-requires-clause-kept
@@ -24,6 +24,11 @@ keeper_over-requires-clause-whole g c clean up =
     let empty = eqb-true _ 0 (sym c.is_empty.ensures ∙ c.if-is_empty.true) in
     let none : found.unfinished.items ≡ [] = nil_if found.unfinished.items (omega (arith, empty, found.unfinished.ok.0)) in
     whole_same (state g.S.Store c.args.connection) found.held.config found.held.judged.items found.held.dates.items found.unfinished.items (c.requires.found clean) none
+
+pub keeper_over-requires-clause-shown : goal.keeper_over-requires-clause-shown
+keeper_over-requires-clause-shown g c clean up =
+    let found = c.args.found in
+    c.requires.shown clean ∙ sym (shown_same (state g.S.Store c.args.connection) found.held.config found.held.judged.items found.held.dates.items found.unfinished.items (c.requires.found clean))
 
 pub returns-then-is_empty-clause-opened : goal.returns-then-is_empty-clause-opened
 returns-then-is_empty-clause-opened g c clean =
@@ -56,6 +61,15 @@ keeper_over-requires-in-Ok-clause-whole g c clean up =
     let early : HasCleanDisk s = omega (arith, c.remove_all.ensures.crash.clean, clean) in
     let done : IsDone s new (without_all found.unfinished.items) = subst (λ ids. IsDone s new (without_all ids)) c.deref.ensures.value (c.in-Ok.ensures.done clean) in
     whole_finished s found.held.config found.held.judged.items found.held.dates.items found.unfinished.items (c.requires.found early) new.committed done.held
+
+pub keeper_over-requires-in-Ok-clause-shown : goal.keeper_over-requires-in-Ok-clause-shown
+keeper_over-requires-in-Ok-clause-shown g c clean up =
+    let s = state g.S.Store c.args.connection in
+    let new = state g.S.Store c.remove_all.new.conn in
+    let found = c.args.found in
+    let early : HasCleanDisk s = omega (arith, c.remove_all.ensures.crash.clean, clean) in
+    let done : IsDone s new (without_all found.unfinished.items) = subst (λ ids. IsDone s new (without_all ids)) c.deref.ensures.value (c.in-Ok.ensures.done clean) in
+    c.requires.shown early ∙ sym (shown_still s found.held.config found.held.judged.items found.held.dates.items found.unfinished.items (c.requires.found early) new.committed done.held)
 
 pub returns-in-Ok-clause-opened : goal.returns-in-Ok-clause-opened
 returns-in-Ok-clause-opened g c clean =

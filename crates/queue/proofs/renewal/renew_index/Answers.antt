@@ -1,17 +1,33 @@
-use Rattle.std.proofs.Common.{◌≡◌, sym, ap, ◌∙◌}
-use Rattle.std.specs.Option.{option_map}
+use Rattle.std.proofs.Common.{◌≡◌, ◌++◌, Result, Ok, Err, OnOk, append-nil, string_bytes, refl, sym, ap, ◌∙◌}
+use Rattle.std.proofs.lemmas.Result.{IfOk-weaker}
 use Rattle.keep.specs.Book.{text_at}
 use Rattle.texts.specs.Release.{index_path}
-use Rattle.queue.specs.Renewal.{path_in}
-use Rattle.queue.proofs.RenewedSteps.{kept_index}
+use Rattle.queue.specs.Renewal.{path_in, print_kept}
+use Rattle.queue.proofs.RenewedSteps.{kept_index, kept_texts}
 use Rattle.queue.proofs.renewal.renew_index.Goals as goal
+
+on_ok : {X E : Type 0} {P : Type 0} (r : Result X E) → P → OnOk r P
+on_ok (Ok x) p = p
+on_ok (Err e) p = tt
 
 pub returns-then-not-some_changes_index-clause-index : goal.returns-then-not-some_changes_index-clause-index
 returns-then-not-some_changes_index-clause-index g c clean =
-    kept_index (text_at (g.K.Keeper.book c.args.keeper.now)) c.args.shelves.now c.args.steps.now c.args.folder.now c.args.place.now
-    c.from_string.result c.as_str-2.result.now (option_map (λ v. v.items) c.in_ok-kept.kept) c.print_kept.result
-    (c.from_string.ensures ∙ c.in_ok-path.ensures ∙ ap (λ n. index_path n c.as_str-architecture.result.now) c.as_str-component.ensures ∙ ap (index_path c.args.place.now.component) c.as_str-architecture.ensures)
-    (c.as_str-2.ensures.value ∙ c.in_ok-whole.ensures ∙ ap (path_in c.args.folder.now) (c.as_str.ensures.value ∙ sym c.from_string.ensures))
-    (c.in_ok-kept.ensures.text clean)
-    c.print_kept.ensures
-    (sym c.some_changes_index.ensures ∙ c.if-not-some_changes_index.true)
+    let old = text_at (g.K.Keeper.book c.args.keeper.now) in
+    let path = string_bytes c.in_ok-path.path in
+    let whole = string_bytes c.in_ok-whole.whole in
+    IfOk-weaker c.index_kept.result _ _ (λ index is.
+    is ∙ kept_index old c.args.shelves.now c.args.steps.now c.args.folder.now c.args.place.now path whole (old whole) (print_kept (old whole))
+    (c.in_ok-path.ensures ∙ ap (λ n. index_path n c.as_str-architecture.result.now) c.as_str-component.ensures ∙ ap (index_path c.args.place.now.component) c.as_str-architecture.ensures)
+    (c.in_ok-whole.ensures ∙ ap (path_in c.args.folder.now) c.as_str.ensures.value)
+    refl
+    refl
+    (sym c.some_changes_index.ensures ∙ c.if-not-some_changes_index.true))
+    (c.index_kept.ensures.index clean)
+
+pub returns-then-not-some_changes_index-clause-texts : goal.returns-then-not-some_changes_index-clause-texts
+returns-then-not-some_changes_index-clause-texts g c clean =
+    let texts = c.args.texts.now.items in
+    on_ok c.index_kept.result
+    (sym (append-nil texts)
+    ∙ ap (λ more. texts ++ more) (sym (kept_texts (text_at (g.K.Keeper.book c.args.keeper.now)) c.args.shelves.now c.args.steps.now c.args.folder.now c.args.place.now
+    (sym c.some_changes_index.ensures ∙ c.if-not-some_changes_index.true))))

@@ -5,5 +5,5 @@ use Rattle.audit.proofs.uploads.arrived.arrived_among.Goals as goal
 
 pub returns-in_default-clause-none : goal.returns-in_default-clause-none
 returns-in_default-clause-none c e =
-    none_at_row (λ a. print_among c.args.bodies.now a.body) c.args.arrivals.now c.loop-arrival.arrival-index c.loop-arrival-item.result (omega arith) c.loop-arrival-item.is
-    (sym c.print_of_body.ensures ∙ c.in_default.is)
+    none_at_row (λ a. print_among c.args.bodies.now.all.now a.body) c.args.arrivals.now c.loop-arrival.arrival-index c.loop-arrival-item.result (omega arith) c.loop-arrival-item.is
+    (sym c.print_by_number.ensures ∙ c.in_default.is)

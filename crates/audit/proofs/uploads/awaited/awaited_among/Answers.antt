@@ -10,7 +10,7 @@ use Rattle.audit.proofs.uploads.awaited.awaited_among.Goals.{in-Some+in_ok-push,
 
 pub loop-one-preserved : goal.loop-one-preserved
 loop-one-preserved c =
-    let found = found_awaited c.args.pieces.now.all.now.pieces.items c.args.judged.now in
+    let found = found_awaited c.args.pieces.now.all.now.pieces.items c.args.judged.now.all.now in
     let one = c.one-item.result in
     let before = filter_map found (map printed (take c.loop-one.one-index c.args.arrived.now)) in
     let more = found_more found c.args.arrived.now c.loop-one.one-index one (omega arith) c.one-item.is in

@@ -7,9 +7,9 @@ use Rattle.audit.proofs.uploads.wanted.are_requests.Goals as goal
 
 pub returns : goal.returns
 returns c =
-    same_end (map (request_row c.args.wants.now) (filter (λ x. not (has_place x.1)) c.args.uploads.now) ≡ map (request_among (map printed c.args.arrived.now)) (map awaited_view c.args.awaited.now))
-    (λ l. map (request_among (map printed c.args.arrived.now)) (map awaited_view l))
-    (map (request_row c.args.wants.now) (filter (λ x. not (has_place x.1)) (drop c.loop-row.row-index c.args.uploads.now)))
+    same_end (map (request_row c.args.wants.now.all.now) (filter (λ x. not (has_place x.1)) c.args.uploads.now) ≡ map (request_among (map printed c.args.arrived.now.all.now)) (map awaited_view c.args.awaited.now))
+    (λ l. map (request_among (map printed c.args.arrived.now.all.now)) (map awaited_view l))
+    (map (request_row c.args.wants.now.all.now) (filter (λ x. not (has_place x.1)) (drop c.loop-row.row-index c.args.uploads.now)))
     c.args.awaited.now c.loop-row.next refl (λ y zs e. cc)
-    (ap (λ l. map (request_row c.args.wants.now) (filter (λ x. not (has_place x.1)) l)) (drop_all c.loop-row.row-index c.args.uploads.now (omega arith)))
+    (ap (λ l. map (request_row c.args.wants.now.all.now) (filter (λ x. not (has_place x.1)) l)) (drop_all c.loop-row.row-index c.args.uploads.now (omega arith)))
     c.loop-row.invariant.within c.loop-row.invariant.left

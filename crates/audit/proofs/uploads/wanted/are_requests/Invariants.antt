@@ -6,6 +6,6 @@ use Rattle.audit.proofs.uploads.wanted.are_requests.Given as goal
 abbrev pub invariant-loop-row : goal.invariant-loop-row
 invariant-loop-row l = record {
   within : l.next ≤ length l.awaited;
-  left : (map (request_row l.wants) (filter (λ x. not (has_place x.1)) l.uploads) ≡ map (request_among (map printed l.arrived)) (map awaited_view l.awaited))
-      ↔ (map (request_row l.wants) (filter (λ x. not (has_place x.1)) (drop l.row-index l.uploads)) ≡ map (request_among (map printed l.arrived)) (map awaited_view (drop l.next l.awaited)));
+  left : (map (request_row l.wants.all.now) (filter (λ x. not (has_place x.1)) l.uploads) ≡ map (request_among (map printed l.arrived.all.now)) (map awaited_view l.awaited))
+      ↔ (map (request_row l.wants.all.now) (filter (λ x. not (has_place x.1)) (drop l.row-index l.uploads)) ≡ map (request_among (map printed l.arrived.all.now)) (map awaited_view (drop l.next l.awaited)));
 }

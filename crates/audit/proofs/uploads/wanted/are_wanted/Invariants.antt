@@ -5,6 +5,6 @@ use Rattle.audit.proofs.uploads.wanted.are_wanted.Given as goal
 abbrev pub invariant-loop-want : goal.invariant-loop-want
 invariant-loop-want l = record {
   within : l.next ≤ length l.entries;
-  left : (wants_among l.wants l.upload ≡ map (wanted_among (map printed l.arrived)) l.entries)
-      ↔ (wants_among (drop l.want-index l.wants) l.upload ≡ map (wanted_among (map printed l.arrived)) (drop l.next l.entries));
+  left : (wants_among l.wants l.upload ≡ map (wanted_among (map printed l.arrived.all.now)) l.entries)
+      ↔ (wants_among (drop l.want-index l.wants) l.upload ≡ map (wanted_among (map printed l.arrived.all.now)) (drop l.next l.entries));
 }

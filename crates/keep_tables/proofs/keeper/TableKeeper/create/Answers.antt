@@ -9,6 +9,7 @@ use Rattle.kept.specs.Founding.{first_dates}
 use Rattle.kept.specs.Shown.{shown_in}
 use Rattle.kept.proofs.CallLemmas.{kept_here}
 use Rattle.kept.proofs.MakeLemmas.{founded_archive, founded_here, founded_whole}
+use Rattle.keep_tables.proofs.AtHandLemmas.{none_known}
 use Rattle.keep_tables.proofs.keeper.TableKeeper.create.Goals as goal
 
 pub invariant_of-result : goal.invariant_of-result
@@ -27,6 +28,8 @@ invariant_of-result g c =
           ∣ subst (λ j. KeepsArchive db config j (shown_in config.suites (tables_in db)) c.in-Ok.dates.items) (sym c.new.ensures.items)
           (subst (λ d. KeepsArchive db config [] (shown_in config.suites (tables_in db)) d) (sym dates) (kept_here db archive)) ∣₁;
       under_way = λ clean up. ∣ founded_whole db config c.args.moment c.text.ensures.read c.requires ((c.in-Ok-create.ensures.done clean).held free) ∣₁;
+      at_hand = λ clean up. ∣ tt ∣₁;
+      known = λ clean up. ∣ none_known _ _ _ c.new-2.result.items c.new-2.ensures.items ∣₁;
     }
     )
 

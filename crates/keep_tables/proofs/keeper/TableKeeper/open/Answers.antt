@@ -1,9 +1,10 @@
-use Rattle.std.proofs.Common.{rules, ◌≡◌, inr, arith}
+use Rattle.std.proofs.Common.{rules, ◌≡◌, inr, sym, ap, ◌∙◌, arith}
 use Rattle.sqlite.specs.State.{HasCleanDisk, IsUnchanged}
 use Rattle.sqlite.specs.Held.{state}
 use Rattle.sqlite.proofs.StateLemmas.{survives_then}
 use Rattle.tables.specs.Rows.{Stands, tables_in}
 use Rattle.kept.specs.Finished.{finished}
+use Rattle.kept.specs.Shown.{shown_in}
 use Rattle.kept.specs.Transactions.{MayCommit}
 use Rattle.keep_tables.specs.Finishing.{unfinished_ids}
 use Rattle.keep_tables.specs.Opened.{IsArchiveOf, IsNoArchive}
@@ -20,6 +21,15 @@ keeper_of-requires-clause-found g c clean =
     let found : IsUnchanged old mid × IsArchiveOf old.now f.held.config f.held.judged.items f.held.dates.items × (f.unfinished.items ≡ unfinished_ids (tables_in old.now).bodies) = search rules in
     let rests : old.now ≡ old.committed = search rules in
     found_after old mid found.0 f.held.config f.held.judged.items f.held.dates.items f.unfinished.items rests found.1 found.2
+
+pub keeper_of-requires-clause-shown : goal.keeper_of-requires-clause-shown
+keeper_of-requires-clause-shown g c clean =
+    let old = state g.S.Store c.args.connection in
+    let mid = state g.S.Store c.find_archive.new.conn in
+    let f = c.in-Ok-Some.found in
+    let found : IsUnchanged old mid × IsArchiveOf old.now f.held.config f.held.judged.items f.held.dates.items × (f.unfinished.items ≡ unfinished_ids (tables_in old.now).bodies) = search rules in
+    let shown : f.held.shelves ≡ shown_in f.held.config.suites (tables_in old.now) = search rules in
+    shown ∙ ap (λ db. shown_in f.held.config.suites (tables_in db)) (sym found.0.0.now_is)
 
 pub returns-in-Ok-Some-clause-opened : goal.returns-in-Ok-Some-clause-opened
 returns-in-Ok-Some-clause-opened g c =

@@ -1,3 +1,4 @@
+use Rattle.keep_tables.proofs.AtHandLemmas.{none_known}
 use Rattle.keep_tables.proofs.keeper.TableKeeper.over.Goals as goal
 
 pub invariant_of-result : goal.invariant_of-result
@@ -6,4 +7,6 @@ invariant_of-result g c = record {
   in_range = c.requires.in_range;
   kept = c.requires.kept;
   under_way = λ clean up. ∣ c.requires.whole clean up ∣₁;
+  at_hand = λ clean up. ∣ c.requires.shown clean up ∣₁;
+  known = λ clean up. ∣ none_known _ _ _ c.new.result.items c.new.ensures.items ∣₁;
 }

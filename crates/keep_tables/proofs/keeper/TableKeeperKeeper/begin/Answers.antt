@@ -11,6 +11,8 @@ use Rattle.kept.specs.Shown.{shown_in}
 use Rattle.kept.proofs.CallLemmas.{done_book, kept_here, turn_left}
 use Rattle.kept.specs.Coming.{Comes}
 use Rattle.bodies.specs.UnderWay.{IsUnderWay}
+use Rattle.keep_tables.specs.AtHand.{AreAtHand, AreKnown}
+use Rattle.keep_tables.proofs.AtHandLemmas.{still_at_hand, still_known}
 use Rattle.keep_tables.proofs.UnderWayLemmas.{begun_coming, came, just_begun, none_coming_of, stopped, undone_kept, undone_under}
 use Rattle.keep_tables.proofs.keeper.TableKeeperKeeper.begin.Goals as goal
 
@@ -34,6 +36,20 @@ invariant_of-self g c =
           let k = came (tables_in old.committed) c.args.self.now.begun under in
           let ends = (c.in-Ok.ensures.done clean _ _ _ _ k.count k.bytes was (subst (λ o. Comes (tables_in old.committed) o k.count k.bytes) (sym c.number_of.ensures) k.comes)).1 in
           ([], just_begun (tables_in new.committed) c.begun.result ends c.begun.ensures.empty.0 c.begun.ensures.empty.1 c.begun.ensures.printer)));
+      at_hand = λ clean up.
+          let early : HasCleanDisk old = omega (arith, c.clear.ensures.crash.clean, clean) in
+          let was_open = (c.in-Ok.ensures.open clean).0 in
+          ∥∥₁_elim (c.args.self.now.kept early was_open) (hlevel props) (λ was. ∥∥₁_elim (c.args.self.now.under_way early was_open) (hlevel props) (λ under.
+          let k = came (tables_in old.committed) c.args.self.now.begun under in
+          ∥∥₁_map (c.args.self.now.at_hand early was_open) (still_at_hand old.committed new.committed c.args.self.now.spare
+          (c.in-Ok.ensures.done clean _ _ _ _ k.count k.bytes was (subst (λ o. Comes (tables_in old.committed) o k.count k.bytes) (sym c.number_of.ensures) k.comes)).0.kept)));
+      known = λ clean up.
+          let early : HasCleanDisk old = omega (arith, c.clear.ensures.crash.clean, clean) in
+          let was_open = (c.in-Ok.ensures.open clean).0 in
+          ∥∥₁_elim (c.args.self.now.kept early was_open) (hlevel props) (λ was. ∥∥₁_elim (c.args.self.now.under_way early was_open) (hlevel props) (λ under.
+          let k = came (tables_in old.committed) c.args.self.now.begun under in
+          ∥∥₁_map (c.args.self.now.known early was_open) (still_known old.committed new.committed c.args.self.now.dates.items c.args.self.now.prints.items
+          (c.in-Ok.ensures.done clean _ _ _ _ k.count k.bytes was (subst (λ o. Comes (tables_in old.committed) o k.count k.bytes) (sym c.number_of.ensures) k.comes)).0.kept)));
     }
     )
 
@@ -52,6 +68,13 @@ invariant_of-self-in-Err g c =
           let early : HasCleanDisk old = omega (arith, c.clear.ensures.crash.clean, clean) in
           ∥∥₁_map (undone_under old new c.args.self.now.begun (c.in-Err.ensures.undone clean) (c.args.self.now.under_way early) up)
           (λ under. stopped (tables_in new.committed) c.args.self.now.begun c.stop.new.begun c.stop.ensures under);
+      at_hand = λ clean up.
+          let early : HasCleanDisk old = omega (arith, c.clear.ensures.crash.clean, clean) in
+          undone_kept (λ db. ∥ AreAtHand c.args.self.now.config db c.args.self.now.spare ∥₁) old new (c.in-Err.ensures.undone clean) (c.args.self.now.at_hand early) up;
+      known = λ clean up.
+          let early : HasCleanDisk old = omega (arith, c.clear.ensures.crash.clean, clean) in
+          undone_kept (λ db. ∥ AreKnown c.args.self.now.config (shown_in c.args.self.now.config.suites (tables_in db)) c.args.self.now.dates.items c.args.self.now.prints.items ∥₁)
+          old new (c.in-Err.ensures.undone clean) (c.args.self.now.known early) up;
     }
     )
 

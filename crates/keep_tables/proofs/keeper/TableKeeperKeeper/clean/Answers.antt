@@ -9,6 +9,8 @@ use Rattle.kept.specs.Kept.{book_in}
 use Rattle.kept.specs.KeeperLemmas.{book_set, left_set}
 use Rattle.kept.specs.Shown.{shown_in}
 use Rattle.kept.proofs.CallLemmas.{done_book, kept_here, turn_left}
+use Rattle.keep_tables.specs.AtHand.{AreAtHand, AreKnown}
+use Rattle.keep_tables.proofs.AtHandLemmas.{still_at_hand, still_known}
 use Rattle.keep_tables.proofs.UnderWayLemmas.{undone_kept, undone_under}
 use Rattle.keep_tables.proofs.keeper.TableKeeperKeeper.clean.Goals as goal
 
@@ -27,6 +29,18 @@ invariant_of-self g c =
           let early : HasCleanDisk old = omega (arith, c.clean_up.ensures.crash.clean, clean) in
           let was_open = (c.in-Ok.ensures.open clean).0 in
           ∥∥₁_map (c.args.self.now.kept early was_open) (λ was. (c.in-Ok.ensures.done clean _ _ _ _ was c.span_of-seconds.ensures).1);
+      at_hand = λ clean up.
+          let early : HasCleanDisk old = omega (arith, c.clean_up.ensures.crash.clean, clean) in
+          let was_open = (c.in-Ok.ensures.open clean).0 in
+          ∥∥₁_elim (c.args.self.now.kept early was_open) (hlevel props) (λ was.
+          ∥∥₁_map (c.args.self.now.at_hand early was_open) (still_at_hand old.committed new.committed c.args.self.now.spare
+          (c.in-Ok.ensures.done clean _ _ _ _ was c.span_of-seconds.ensures).0.kept));
+      known = λ clean up.
+          let early : HasCleanDisk old = omega (arith, c.clean_up.ensures.crash.clean, clean) in
+          let was_open = (c.in-Ok.ensures.open clean).0 in
+          ∥∥₁_elim (c.args.self.now.kept early was_open) (hlevel props) (λ was.
+          ∥∥₁_map (c.args.self.now.known early was_open) (still_known old.committed new.committed c.args.self.now.dates.items c.args.self.now.prints.items
+          (c.in-Ok.ensures.done clean _ _ _ _ was c.span_of-seconds.ensures).0.kept));
     }
     )
 
@@ -44,6 +58,13 @@ invariant_of-self-in-Err-1 g c =
       under_way = λ clean up.
           let early : HasCleanDisk old = omega (arith, c.clean_up.ensures.crash.clean, clean) in
           undone_under old new c.args.self.now.begun (c.in-Err.ensures.undone clean) (c.args.self.now.under_way early) up;
+      at_hand = λ clean up.
+          let early : HasCleanDisk old = omega (arith, c.clean_up.ensures.crash.clean, clean) in
+          undone_kept (λ db. ∥ AreAtHand c.args.self.now.config db c.args.self.now.spare ∥₁) old new (c.in-Err.ensures.undone clean) (c.args.self.now.at_hand early) up;
+      known = λ clean up.
+          let early : HasCleanDisk old = omega (arith, c.clean_up.ensures.crash.clean, clean) in
+          undone_kept (λ db. ∥ AreKnown c.args.self.now.config (shown_in c.args.self.now.config.suites (tables_in db)) c.args.self.now.dates.items c.args.self.now.prints.items ∥₁)
+          old new (c.in-Err.ensures.undone clean) (c.args.self.now.known early) up;
     }
     )
 

@@ -10,6 +10,8 @@ use Rattle.kept.specs.KeeperLemmas.{book_set, left_set}
 use Rattle.kept.specs.Shown.{shown_in}
 use Rattle.kept.proofs.CallLemmas.{done_book, kept_here, turn_left}
 use Rattle.bodies.specs.UnderWay.{IsUnderWay, coming_in}
+use Rattle.keep_tables.specs.AtHand.{AreAtHand, AreKnown}
+use Rattle.keep_tables.proofs.AtHandLemmas.{still_at_hand, still_known}
 use Rattle.keep_tables.proofs.UnderWayLemmas.{ends, not_finished, undone_kept, undone_under}
 use Rattle.keep_tables.proofs.keeper.TableKeeperKeeper.finish.Goals as goal
 
@@ -20,6 +22,8 @@ invariant_of-self g c = record {
   kept = c.args.self.now.kept;
   under_way = λ clean up. subst (λ b. ∥ IsUnderWay (tables_in (state g.S.Store c.args.self.now.conn).committed) b ∥₁)
       (sym c.take.ensures.value ∙ c.in_default.is ∙ sym c.take.ensures.after) (c.args.self.now.under_way clean up);
+  at_hand = c.args.self.now.at_hand;
+  known = c.args.self.now.known;
 }
 
 pub returns-in_default-clause-lasts : goal.returns-in_default-clause-lasts
@@ -63,6 +67,22 @@ invariant_of-self-in-Ok-1 g c =
           let k = ends old.committed was c.args.self.now.begun c.in-Some.begun is under c.args.name.now asked.body asked.begun asked in
           subst (IsUnderWay (tables_in new.committed)) (sym c.take.ensures.after)
           (c.in-Ok.ensures.done clean _ _ _ _ asked.body was k.begun.comes (c.finish-print.ensures asked.body (k.begun.printer k.coming) k.short) k.deliverable).1));
+      at_hand = λ clean up.
+          let early : HasCleanDisk old = omega (arith, c.finish_delivery.ensures.crash.clean, clean) in
+          let was_open = (c.in-Ok.ensures.open clean).0 in
+          ∥∥₁_elim (c.args.self.now.kept early was_open) (hlevel props) (λ was. ∥∥₁_elim (c.args.self.now.under_way early was_open) (hlevel props) (λ under.
+          let asked = c.requires.whole early was_open in
+          let k = ends old.committed was c.args.self.now.begun c.in-Some.begun is under c.args.name.now asked.body asked.begun asked in
+          ∥∥₁_map (c.args.self.now.at_hand early was_open) (still_at_hand old.committed new.committed c.args.self.now.spare
+          (c.in-Ok.ensures.done clean _ _ _ _ asked.body was k.begun.comes (c.finish-print.ensures asked.body (k.begun.printer k.coming) k.short) k.deliverable).0.kept)));
+      known = λ clean up.
+          let early : HasCleanDisk old = omega (arith, c.finish_delivery.ensures.crash.clean, clean) in
+          let was_open = (c.in-Ok.ensures.open clean).0 in
+          ∥∥₁_elim (c.args.self.now.kept early was_open) (hlevel props) (λ was. ∥∥₁_elim (c.args.self.now.under_way early was_open) (hlevel props) (λ under.
+          let asked = c.requires.whole early was_open in
+          let k = ends old.committed was c.args.self.now.begun c.in-Some.begun is under c.args.name.now asked.body asked.begun asked in
+          ∥∥₁_map (c.args.self.now.known early was_open) (still_known old.committed new.committed c.args.self.now.dates.items c.args.self.now.prints.items
+          (c.in-Ok.ensures.done clean _ _ _ _ asked.body was k.begun.comes (c.finish-print.ensures asked.body (k.begun.printer k.coming) k.short) k.deliverable).0.kept)));
     }
     )
 
@@ -82,6 +102,13 @@ invariant_of-self-in-Err g c =
           let early : HasCleanDisk old = omega (arith, c.finish_delivery.ensures.crash.clean, clean) in
           ∥∥₁_map (undone_under old new c.args.self.now.begun (c.in-Err.ensures.undone clean) (c.args.self.now.under_way early) up)
           (λ under. not_finished (tables_in new.committed) c.in-Some.begun c.new.result (subst (IsUnderWay (tables_in new.committed)) is under));
+      at_hand = λ clean up.
+          let early : HasCleanDisk old = omega (arith, c.finish_delivery.ensures.crash.clean, clean) in
+          undone_kept (λ db. ∥ AreAtHand c.args.self.now.config db c.args.self.now.spare ∥₁) old new (c.in-Err.ensures.undone clean) (c.args.self.now.at_hand early) up;
+      known = λ clean up.
+          let early : HasCleanDisk old = omega (arith, c.finish_delivery.ensures.crash.clean, clean) in
+          undone_kept (λ db. ∥ AreKnown c.args.self.now.config (shown_in c.args.self.now.config.suites (tables_in db)) c.args.self.now.dates.items c.args.self.now.prints.items ∥₁)
+          old new (c.in-Err.ensures.undone clean) (c.args.self.now.known early) up;
     }
     )
 

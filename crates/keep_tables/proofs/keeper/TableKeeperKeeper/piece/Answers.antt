@@ -11,6 +11,8 @@ use Rattle.kept.specs.KeeperLemmas.{book_set, left_set}
 use Rattle.kept.specs.Shown.{shown_in}
 use Rattle.kept.proofs.CallLemmas.{done_book, kept_here, turn_left}
 use Rattle.bodies.specs.UnderWay.{IsUnderWay, coming_in}
+use Rattle.keep_tables.specs.AtHand.{AreAtHand, AreKnown}
+use Rattle.keep_tables.proofs.AtHandLemmas.{still_at_hand, still_known}
 use Rattle.keep_tables.proofs.UnderWayLemmas.{coming_set, not_finished, piece_coming, takes, undone_kept, undone_under}
 use Rattle.keep_tables.proofs.keeper.TableKeeperKeeper.piece.Goals as goal
 
@@ -21,6 +23,8 @@ invariant_of-self g c = record {
   kept = c.args.self.now.kept;
   under_way = λ clean up. subst (λ b. ∥ IsUnderWay (tables_in (state g.S.Store c.args.self.now.conn).committed) b ∥₁)
       (sym c.take.ensures.value ∙ c.in_default.is ∙ sym c.take.ensures.after) (c.args.self.now.under_way clean up);
+  at_hand = c.args.self.now.at_hand;
+  known = c.args.self.now.known;
 }
 
 pub returns-in_default-clause-stays : goal.returns-in_default-clause-stays
@@ -66,6 +70,20 @@ invariant_of-self-in-Ok g c =
               printer = λ _. c.update.ensures k.bytes (k.begun.printer k.coming);
             },
           )));
+      at_hand = λ clean up.
+          let early : HasCleanDisk old = omega (arith, c.take_piece.ensures.crash.clean, clean) in
+          let was_open = (c.in-Ok.ensures.open clean).0 in
+          ∥∥₁_elim (c.args.self.now.kept early was_open) (hlevel props) (λ was. ∥∥₁_elim (c.args.self.now.under_way early was_open) (hlevel props) (λ under.
+          let k = takes old.committed was c.args.self.now.begun c.in-Some.begun is under c.args.bytes.now (c.requires.begun early was_open) in
+          ∥∥₁_map (c.args.self.now.at_hand early was_open) (still_at_hand old.committed new.committed c.args.self.now.spare
+          (c.in-Ok.ensures.done clean _ _ _ _ k.bytes was k.begun.comes k.whole k.some k.small).0.kept)));
+      known = λ clean up.
+          let early : HasCleanDisk old = omega (arith, c.take_piece.ensures.crash.clean, clean) in
+          let was_open = (c.in-Ok.ensures.open clean).0 in
+          ∥∥₁_elim (c.args.self.now.kept early was_open) (hlevel props) (λ was. ∥∥₁_elim (c.args.self.now.under_way early was_open) (hlevel props) (λ under.
+          let k = takes old.committed was c.args.self.now.begun c.in-Some.begun is under c.args.bytes.now (c.requires.begun early was_open) in
+          ∥∥₁_map (c.args.self.now.known early was_open) (still_known old.committed new.committed c.args.self.now.dates.items c.args.self.now.prints.items
+          (c.in-Ok.ensures.done clean _ _ _ _ k.bytes was k.begun.comes k.whole k.some k.small).0.kept)));
     }
     )
 
@@ -85,6 +103,13 @@ invariant_of-self-in-Err g c =
           let early : HasCleanDisk old = omega (arith, c.take_piece.ensures.crash.clean, clean) in
           ∥∥₁_map (undone_under old new c.args.self.now.begun (c.in-Err.ensures.undone clean) (c.args.self.now.under_way early) up)
           (λ under. not_finished (tables_in new.committed) c.in-Some.begun c.in-Some.begun.printer (subst (IsUnderWay (tables_in new.committed)) is under));
+      at_hand = λ clean up.
+          let early : HasCleanDisk old = omega (arith, c.take_piece.ensures.crash.clean, clean) in
+          undone_kept (λ db. ∥ AreAtHand c.args.self.now.config db c.args.self.now.spare ∥₁) old new (c.in-Err.ensures.undone clean) (c.args.self.now.at_hand early) up;
+      known = λ clean up.
+          let early : HasCleanDisk old = omega (arith, c.take_piece.ensures.crash.clean, clean) in
+          undone_kept (λ db. ∥ AreKnown c.args.self.now.config (shown_in c.args.self.now.config.suites (tables_in db)) c.args.self.now.dates.items c.args.self.now.prints.items ∥₁)
+          old new (c.in-Err.ensures.undone clean) (c.args.self.now.known early) up;
     }
     )
 

@@ -6,6 +6,8 @@ use Rattle.kept.specs.Kept.{book_in}
 use Rattle.tables.specs.Rows.{tables_in}
 use Rattle.bodies.specs.UnderWay.{IsUnderWay}
 use Rattle.kept.proofs.KeeperReads.{left_before, same_after, still, still_kept, was_archive, was_kept}
+use Rattle.kept.specs.Shown.{shown_in}
+use Rattle.keep_tables.specs.AtHand.{AreAtHand, AreKnown}
 use Rattle.keep_tables.proofs.keeper.TableKeeperKeeper.text.Goals as goal
 
 pub invariant_of-self : goal.invariant_of-self
@@ -16,6 +18,12 @@ invariant_of-self g c = record {
   under_way =
       still (state g.S.Store c.args.self.now.conn) (state g.S.Store c.read_text.new.conn) c.read_text.ensures.read c.args.self.now.kept
       (λ db. ∥ IsUnderWay (tables_in db) c.args.self.now.begun ∥₁) c.args.self.now.under_way;
+  at_hand =
+      still (state g.S.Store c.args.self.now.conn) (state g.S.Store c.read_text.new.conn) c.read_text.ensures.read c.args.self.now.kept
+      (λ db. ∥ AreAtHand c.args.self.now.config db c.args.self.now.spare ∥₁) c.args.self.now.at_hand;
+  known =
+      still (state g.S.Store c.args.self.now.conn) (state g.S.Store c.read_text.new.conn) c.read_text.ensures.read c.args.self.now.kept
+      (λ db. ∥ AreKnown c.args.self.now.config (shown_in c.args.self.now.config.suites (tables_in db)) c.args.self.now.dates.items c.args.self.now.prints.items ∥₁) c.args.self.now.known;
 }
 
 pub returns-in-Ok-clause-served : goal.returns-in-Ok-clause-served

@@ -129,11 +129,29 @@ returns-in_err-apply-clause-step g c h kept faithful clean =
     (free_copy h (g.K.Keeper.book c.args.self.now.keeper) c.config.result.now c.args.from.now c.args.to.now c.args.source.now c.args.moment c.in_ok-from.from c.in_ok-from.to
     _ kept c.config.ensures c.if-moment-gt-LATEST.false c.in_ok-from.ensures.suites))
 
+-- the shelves show what the change leaves
+pub hold-requires : goal.hold-requires
+hold-requires g c clean up =
+    let reads = c.in_ok-texts.ensures.reads in
+    let clean_now = c.in_ok-apply.ensures.lasts.clean clean in
+    let up_now = c.in_ok-apply.ensures.lasts.was_open clean up in
+    let clean_then = reads.lasts.clean clean_now in
+    let up_then = reads.lasts.was_open clean_now up_now in
+    copy_past (g.K.Keeper.book c.args.self.now.keeper) (g.K.Keeper.book c.renewed_texts.new.keeper) c.in_ok-shelves.shelves c.only_step.new.shelves c.in_ok-plan.plan c.in_ok-steps.steps
+    (reads.same clean_now up_now ∙ c.in_ok-shelves.ensures.reads.same clean_then up_then) (c.in_ok-shelves.ensures.shelves clean_then) c.in_ok-steps.ensures.steps c.in_ok-steps.ensures.shelves
+    ∙ sym (c.in_ok-apply.ensures.shown clean)
+
+pub returns-clause-served : goal.returns-clause-served
+returns-clause-served g c clean = c.hold.ensures.served clean (c.in_ok-apply.ensures.served (c.hold.ensures.reads.lasts.clean clean))
+
 pub returns-clause-step : goal.returns-clause-step
 returns-clause-step g c h kept faithful clean =
     let reads = c.in_ok-texts.ensures.reads in
-    let clean_now = c.in_ok-apply.ensures.lasts.clean clean in
-    let up_now = c.in_ok-apply.ensures.lasts.was_open clean (c.in_ok-apply.ensures.served clean) in
+    let held = c.hold.ensures.reads in
+    let clean_made = held.lasts.clean clean in
+    let up_made = c.in_ok-apply.ensures.served clean_made in
+    let clean_now = c.in_ok-apply.ensures.lasts.clean clean_made in
+    let up_now = c.in_ok-apply.ensures.lasts.was_open clean_made up_made in
     let clean_then = reads.lasts.clean clean_now in
     let up_then = reads.lasts.was_open clean_now up_now in
     done_copy g.K.Keeper.may_fail h c.args.from.now c.args.to.now c.args.source.now c.args.moment c.in_ok-from.from c.in_ok-from.to
@@ -142,12 +160,12 @@ returns-clause-step g c h kept faithful clean =
     (reads.same clean_now up_now ∙ c.in_ok-shelves.ensures.reads.same clean_then up_then) (c.in_ok-shelves.ensures.shelves clean_then) c.in_ok-steps.ensures.steps
     (subst (λ config. AreSuites config c.args.from.now c.args.to.now c.in_ok-from.from c.in_ok-from.to) c.config.ensures c.in_ok-from.ensures.suites)
     (c.config-2.ensures ∙ sym reads.lasts.config) c.in_ok-plan.ensures.plan
-    _ (g.K.Keeper.book c.apply.new.self) _ (c.in_ok-apply.ensures.ok clean) (ap length c.as_slice.ensures)
+    _ (g.K.Keeper.book c.hold.new.self) _ (λ bodies apart has each. held.same clean (c.hold.ensures.served clean up_made) ∙ c.in_ok-apply.ensures.ok clean_made bodies apart has each) (ap length c.as_slice.ensures)
 
 pub returns-clause-done : goal.returns-clause-done
 returns-clause-done g c clean =
     no_fault (g.K.Keeper.book c.args.self.now.keeper) c.config.result.now c.in_ok-shelves.shelves c.args.from.now c.args.to.now c.args.source.now c.args.moment c.in_ok-from.from c.in_ok-from.to
-    c.if-moment-gt-LATEST.false c.config.ensures (c.in_ok-shelves.ensures.shelves (c.in_ok-texts.ensures.reads.lasts.clean (c.in_ok-apply.ensures.lasts.clean clean))) c.in_ok-from.ensures.suites c.in_ok-plan.ensures.plan.shows
+    c.if-moment-gt-LATEST.false c.config.ensures (c.in_ok-shelves.ensures.shelves (c.in_ok-texts.ensures.reads.lasts.clean (c.in_ok-apply.ensures.lasts.clean (c.hold.ensures.reads.lasts.clean clean)))) c.in_ok-from.ensures.suites c.in_ok-plan.ensures.plan.shows
 
 pub returns-in_err-shelves-clause-refused : goal.returns-in_err-shelves-clause-refused
 returns-in_err-shelves-clause-refused g c clean =
@@ -216,9 +234,10 @@ returns-in_err-apply-clause-crash g c h kept faithful clean left may =
 pub returns-clause-crash : goal.returns-clause-crash
 returns-clause-crash g c h kept faithful clean left may =
     let reads = c.in_ok-texts.ensures.reads in
-    let clean_now = c.in_ok-apply.ensures.lasts.clean clean in
+    let clean_made = c.hold.ensures.reads.lasts.clean clean in
+    let clean_now = c.in_ok-apply.ensures.lasts.clean clean_made in
     let clean_then = reads.lasts.clean clean_now in
-    elim (c.in_ok-apply.ensures.crash clean left may) [
+    elim (c.in_ok-apply.ensures.crash clean_made left (c.hold.ensures.reads.crash clean left may)) [
       | inl before ↦ inl (c.in_ok-shelves.ensures.reads.crash clean_then left (reads.crash clean_now left before))
       | inr made ↦
           let up_then = reads.lasts.was_open clean_now made.0 in

@@ -1,7 +1,7 @@
 use Rattle.std.proofs.Common.{ap, sym, subst, ◌∙◌}
 use Rattle.std.specs.Prelude.{string_bytes}
-use Rattle.queue.specs.Commands.{call_of, counted, found, reported, stored}
-use Rattle.queue.specs.Histories.{Call, Copying, Delivery, Lookup, Removing}
+use Rattle.queue.specs.Commands.{call_of, counted, found, names_given, promoted, reported, stored}
+use Rattle.queue.specs.Histories.{Call, Copying, Delivery, Lookup, Promoting, Removing}
 use Rattle.queue.specs.Steps.{Does}
 use Rattle.queue.proofs.archive.Archive.make.Goals as goal
 
@@ -50,6 +50,13 @@ returns-in-Remove-clause-step g c =
     (ap (λ suite. Removing suite c.deref-in-Remove-2.result.now c.in-Remove.moment) c.deref-in-Remove.ensures
     ∙ ap (λ name. Removing (string_bytes c.in-Remove.suite) name c.in-Remove.moment) c.deref-in-Remove-2.ensures ∙ ap call_of (sym c.in-Remove.is))
     c.remove.ensures.step
+
+pub returns-in-Promote-clause-step : goal.returns-in-Promote-clause-step
+returns-in-Promote-clause-step g c =
+    subst (λ (call : Call). Does g.K.Keeper c.args.self.now.keeper call (promoted c.promote.result) c.promote.new.self.keeper)
+    (ap (λ from. Promoting from c.deref-in-Promote-2.result.now (names_given c.in-Promote.sources) c.in-Promote.moment) c.deref-in-Promote.ensures
+    ∙ ap (λ to. Promoting (string_bytes c.in-Promote.from) to (names_given c.in-Promote.sources) c.in-Promote.moment) c.deref-in-Promote-2.ensures ∙ ap call_of (sym c.in-Promote.is))
+    c.promote.ensures.step
 
 pub returns-in-Verdicts-clause-step : goal.returns-in-Verdicts-clause-step
 returns-in-Verdicts-clause-step g c =

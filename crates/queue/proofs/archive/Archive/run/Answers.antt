@@ -1,5 +1,6 @@
-use Rattle.std.proofs.Common.{◌≤◌, inl, inr, sym, ap, ◌∙◌}
-use Rattle.std.specs.Prelude.{map}
+use Rattle.std.proofs.Common.{◌≡◌, ◌≤◌, ℕ, ◌==◌, true, List, [], ◌∷◌, length, vec_len, inl, inr, refl, sym, ap, ◌∙◌, arith}
+use Rattle.std.specs.Prelude.{map, string_bytes}
+use Rattle.std.proofs.lemmas.Bool.Decides.{nat_tests}
 use Rattle.std.proofs.lemmas.Result.{err_from_is_err_and}
 use Rattle.keep.specs.Book.{Book, judgements, latest}
 use Rattle.queue.specs.Answers.{report_line}
@@ -8,7 +9,7 @@ use Rattle.queue.specs.declared.fault.Fault.TheVariants.{Moment}
 use Rattle.queue.proofs.Kept.{same_by, same_past, untouched}
 use Rattle.queue.proofs.ReadLemmas.{reads_more}
 use Rattle.queue.proofs.StepAnswers.{keeper_step, keepers_own, memory_own, memory_step, refused_step}
-use Rattle.queue.proofs.RunAnswers.{free_run, late_run, ran_left, ran_step, renewed_change, run_past, run_steps, sound_run}
+use Rattle.queue.proofs.RunAnswers.{free_run, idle_step, late_run, ran_left, ran_step, renewed_change, run_past, run_steps, sound_run}
 use Rattle.queue.proofs.archive.Archive.run.Goals as goal
 
 pub returns-then-moment-gt-LATEST-clause-step : goal.returns-then-moment-gt-LATEST-clause-step
@@ -21,6 +22,23 @@ returns-in_err-uploads-clause-step g c h kept faithful clean =
     rw p.1 (keeper_step g.K.Keeper.may_fail h (QueueRun c.args.moment) c.in_err-uploads.field-0.0 p.0 _ _ _ _ p.2 kept
     (same_by c.in_err-uploads.ensures.reads.lasts clean c.in_err-uploads.ensures.reads.same) c.in_err-uploads.ensures.cause
     (free_run h c.args.moment c.if-moment-gt-LATEST.false))
+
+-- no item, as the test says
+no_items : {X : Type 0} (n : ℕ) (xs : List X) → n ≡ length xs → (n == 0) ≡ true → xs ≡ []
+no_items n [] l e = refl
+no_items n (x ∷ xs) l e = absurd (grind (arith, nat_tests))
+
+pub returns-then-is_empty-clause-step : goal.returns-then-is_empty-clause-step
+returns-then-is_empty-clause-step g c h kept faithful clean =
+    let up = c.in_ok-uploads.ensures.served clean in
+    idle_step g.K.Keeper.may_fail h c.args.moment (g.K.Keeper.book c.args.self.now.keeper) c.in_ok-uploads.uploads.items
+    (kept.stands (c.in_ok-uploads.ensures.reads.lasts.was_open clean up)) faithful
+    c.if-moment-gt-LATEST.false
+    (no_items (vec_len c.in_ok-uploads.uploads) c.in_ok-uploads.uploads.items c.in_ok-uploads.uploads.ok.0 (sym c.is_empty.ensures ∙ c.if-is_empty.true))
+    (c.in_ok-uploads.ensures.signs clean)
+    _ (g.K.Keeper.book c.complete_uploads.new.self) _
+    (c.in_ok-uploads.ensures.reads.same clean up)
+    (ap (map string_bytes) c.new.ensures.items)
 
 pub returns-in_err-shelves-clause-step : goal.returns-in_err-shelves-clause-step
 returns-in_err-shelves-clause-step g c h kept faithful clean =
@@ -95,11 +113,31 @@ returns-in_err-apply-clause-step g c h kept faithful clean =
     (same_past read (same_by c.in_err-apply.ensures.lasts clean c.in_err-apply.ensures.err)) c.in_err-apply.ensures.cause
     (free_run h c.args.moment c.if-moment-gt-LATEST.false))
 
+-- the shelves show what the change leaves
+pub hold-requires : goal.hold-requires
+hold-requires g c clean up =
+    let reads = c.in_ok-texts.ensures.reads in
+    let clean_now = c.in_ok-apply.ensures.lasts.clean clean in
+    let up_now = c.in_ok-apply.ensures.lasts.was_open clean up in
+    let clean_then = reads.lasts.clean clean_now in
+    let up_then = reads.lasts.was_open clean_now up_now in
+    let now = g.K.Keeper.book c.renewed_texts.new.keeper in
+    let same = reads.same clean_now up_now ∙ c.in_ok-shelves.ensures.reads.same clean_then up_then in
+    run_past now c.config.result.now c.in_ok-shelves.shelves c.judged_steps.new.shelves c.deref.result.now c.in_ok-steps.steps.items c.from_vec.result
+    (c.in_ok-shelves.ensures.shelves clean_then ∙ sym (ap (λ (b : Book). b.shown) same)) c.from_vec.ensures c.in_ok-steps.ensures.steps c.in_ok-steps.ensures.shelves
+    ∙ sym (c.in_ok-apply.ensures.shown clean)
+
+pub returns-clause-served : goal.returns-clause-served
+returns-clause-served g c clean = c.hold.ensures.served clean (c.in_ok-apply.ensures.served (c.hold.ensures.reads.lasts.clean clean))
+
 pub returns-clause-step : goal.returns-clause-step
 returns-clause-step g c h kept faithful clean =
     let reads = c.in_ok-texts.ensures.reads in
-    let clean_now = c.in_ok-apply.ensures.lasts.clean clean in
-    let up_now = c.in_ok-apply.ensures.lasts.was_open clean (c.in_ok-apply.ensures.served clean) in
+    let held = c.hold.ensures.reads in
+    let clean_made = held.lasts.clean clean in
+    let up_made = c.in_ok-apply.ensures.served clean_made in
+    let clean_now = c.in_ok-apply.ensures.lasts.clean clean_made in
+    let up_now = c.in_ok-apply.ensures.lasts.was_open clean_made up_made in
     let clean_then = reads.lasts.clean clean_now in
     let up_then = reads.lasts.was_open clean_now up_now in
     let clean_first = c.in_ok-shelves.ensures.reads.lasts.clean clean_then in
@@ -118,8 +156,8 @@ returns-clause-step g c h kept faithful clean =
     (c.in_ok-uploads.ensures.uploads clean_first)
     c.in_ok-steps.ensures.sound
     c.in_ok-steps.ensures.steps
-    _ (g.K.Keeper.book c.apply.new.self) _
-    (c.in_ok-apply.ensures.ok clean)
+    _ (g.K.Keeper.book c.hold.new.self) _
+    (λ bodies apart has each. held.same clean (c.hold.ensures.served clean up_made) ∙ c.in_ok-apply.ensures.ok clean_made bodies apart has each)
     (c.in_ok-lines.ensures ∙ ap (λ steps. map report_line (judgements steps)) c.deref-2.ensures.value)
 
 pub returns-then-moment-gt-LATEST-clause-refused : goal.returns-then-moment-gt-LATEST-clause-refused
@@ -174,6 +212,9 @@ returns-then-moment-gt-LATEST-clause-crash g c h kept faithful clean left may = 
 pub returns-in_err-uploads-clause-crash : goal.returns-in_err-uploads-clause-crash
 returns-in_err-uploads-clause-crash g c h kept faithful clean left may = inl (c.in_err-uploads.ensures.reads.crash clean left may)
 
+pub returns-then-is_empty-clause-crash : goal.returns-then-is_empty-clause-crash
+returns-then-is_empty-clause-crash g c h kept faithful clean left may = inl (c.in_ok-uploads.ensures.reads.crash clean left may)
+
 pub returns-in_err-shelves-clause-crash : goal.returns-in_err-shelves-clause-crash
 returns-in_err-shelves-clause-crash g c h kept faithful clean left may =
     inl (c.in_ok-uploads.ensures.reads.crash (c.in_err-shelves.ensures.reads.lasts.clean clean) left (c.in_err-shelves.ensures.reads.crash clean left may))
@@ -223,10 +264,11 @@ returns-in_err-apply-clause-crash g c h kept faithful clean left may =
 pub returns-clause-crash : goal.returns-clause-crash
 returns-clause-crash g c h kept faithful clean left may =
     let reads = c.in_ok-texts.ensures.reads in
-    let clean_now = c.in_ok-apply.ensures.lasts.clean clean in
+    let clean_made = c.hold.ensures.reads.lasts.clean clean in
+    let clean_now = c.in_ok-apply.ensures.lasts.clean clean_made in
     let clean_then = reads.lasts.clean clean_now in
     let clean_first = c.in_ok-shelves.ensures.reads.lasts.clean clean_then in
-    elim (c.in_ok-apply.ensures.crash clean left may) [
+    elim (c.in_ok-apply.ensures.crash clean_made left (c.hold.ensures.reads.crash clean left may)) [
       | inl before ↦ inl (c.in_ok-uploads.ensures.reads.crash clean_first left (c.in_ok-shelves.ensures.reads.crash clean_then left (reads.crash clean_now left before)))
       | inr made ↦
           let up_then = reads.lasts.was_open clean_now made.0 in

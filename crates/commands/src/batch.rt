@@ -1,0 +1,379 @@
+//! Lists of commands, made over one opening of an archive.
+
+ghost use Rattle.std.specs.Prelude.{◌≡◌, ◌+◌, nat_le};
+
+use crate::answers::{print_arrived, print_report};
+use crate::database::{InFile, close, is_of_database, open_archive};
+use crate::doing::{body_of, file_name, read_of};
+use crate::fault::Stop;
+use command_line::{Entry, read_list};
+use keep::Keeper;
+use queue::{Archive, Command, Fault, Outcome, Promotion, Report};
+use std::alloc::{AllocError, Global};
+use std::fs::File;
+use std::io::{self, Read, Write};
+use std::rt::Files;
+
+/// The most bytes that the bodies of a group have.
+const MOST_BYTES: u64 = 16_777_216;
+
+/// The database whose archive is open, and the moment of all commands, in seconds since 1970-01-01 00:00:00 UTC.
+#[derive(Clone, Copy)]
+struct Opening<'o> {
+    db: &'o str,
+    at: u64,
+}
+
+/// Commands that are made by one call, and their lines of the list.
+#[derive(Drop)]
+struct Group<'l> {
+    entries: Vec<Entry<'l>>,
+    commands: Vec<Command>,
+    /// How many bytes the bodies have.
+    bytes: u64,
+}
+
+/// Whether a body of so many bytes may come to bodies of so many.
+fn has_room(held: u64, more: u64) -> bool
+    ensures { result ≡ nat_le (held + more) MOST_BYTES }
+{
+    held as u128 + more as u128 <= MOST_BYTES as u128
+}
+
+/// How many bytes the body of a command has.
+fn size_of(command: &Command) -> u64 {
+    match command {
+        Command::Deliver { body, .. } => body.len() as u64,
+        _ => 0,
+    }
+}
+
+/// Whether a line is answered by lines, of which there may be many.
+fn has_lines(entry: &Entry<'_>) -> bool {
+    matches!(
+        entry,
+        Entry::Run | Entry::Promote { .. } | Entry::Waiting | Entry::Verdicts
+    )
+}
+
+impl<'l> Group<'l> {
+    /// A group without commands.
+    fn new(alloc: Global) -> Group<'l> {
+        Group {
+            entries: Vec::new(alloc),
+            commands: Vec::new(alloc),
+            bytes: 0,
+        }
+    }
+
+    /// Adds a command, and its line of the list.
+    fn push(&mut self, entry: Entry<'l>, command: Command) -> Result<(), AllocError> {
+        self.bytes = self.bytes.saturating_add(size_of(&command));
+        self.entries.push(entry)?;
+        self.commands.push(command)?;
+        Ok(())
+    }
+
+    /// Takes all commands away.
+    fn clear(&mut self) {
+        self.entries.clear();
+        self.commands.clear();
+        self.bytes = 0;
+    }
+}
+
+/// The bytes of a list: those of a file, or of standard input where the path is `-`.
+fn list_at(rt: &HostRuntime, path: &str) -> io::Result<Vec<u8>> {
+    let mut text = Vec::new(rt.alloc());
+    if path == "-" {
+        rt.stdin().read_to_end(&mut text)?;
+    } else {
+        File::open(rt, path)?.read_to_end(&mut text)?;
+    }
+    Ok(text)
+}
+
+/// The bytes of a file to deliver, or nothing where it can't be read, as those of the database itself.
+fn readable<R: Files + AllocGlobal>(
+    rt: &R,
+    db: &str,
+    path: &str,
+) -> Result<Option<Vec<u8>>, Fault> {
+    if is_of_database(rt, db, path)? {
+        return Ok(None);
+    }
+    match body_of(rt, path) {
+        Ok(body) => Ok(Some(body)),
+        Err(Stop::Refused(fault)) => Err(fault),
+        Err(_) => Ok(None),
+    }
+}
+
+/// The delivery of a file, or nothing where it can't be read, which has a line on `err`.
+fn delivery<'a, R: Files + AllocGlobal, E: Write>(
+    rt: &R,
+    opening: Opening<'_>,
+    path: &str,
+    err: &mut E,
+) -> Result<Option<Command>, Stop<'a>> {
+    let Some(body) = readable(rt, opening.db, path)? else {
+        let stop = Stop::Unreadable(path);
+        writeln!(err, "{stop}")?;
+        return Ok(None);
+    };
+    Ok(Some(Command::Deliver {
+        name: String::from_str(rt.alloc(), file_name(path))?,
+        body,
+        moment: opening.at,
+    }))
+}
+
+/// The copy of a source's packages from a suite to another at a moment.
+fn copying(
+    alloc: Global,
+    at: u64,
+    from: &str,
+    to: &str,
+    source: &str,
+) -> Result<Command, AllocError> {
+    Ok(Command::Copy {
+        from: String::from_str(alloc, from)?,
+        to: String::from_str(alloc, to)?,
+        source: String::from_str(alloc, source)?,
+        moment: at,
+    })
+}
+
+/// The promotion of all that a suite shows to another at a moment.
+fn promoting(alloc: Global, at: u64, from: &str, to: &str) -> Result<Command, AllocError> {
+    Ok(Command::Promote {
+        from: String::from_str(alloc, from)?,
+        to: String::from_str(alloc, to)?,
+        sources: None,
+        moment: at,
+    })
+}
+
+/// The removal of a package's name from a suite at a moment.
+fn removing(alloc: Global, at: u64, suite: &str, name: &str) -> Result<Command, AllocError> {
+    Ok(Command::Remove {
+        suite: String::from_str(alloc, suite)?,
+        name: String::from_str(alloc, name)?,
+        moment: at,
+    })
+}
+
+/// The command that a line asks for, or nothing where its file can't be read, which has a line on `err`.
+fn command_of<'a, R: Files + AllocGlobal, E: Write>(
+    rt: &R,
+    opening: Opening<'_>,
+    entry: &Entry<'_>,
+    err: &mut E,
+) -> Result<Option<Command>, Stop<'a>> {
+    let (alloc, at) = (rt.alloc(), opening.at);
+    let command = match entry {
+        Entry::Put { path } => return delivery(rt, opening, path, err),
+        Entry::Run => Command::Run { moment: at },
+        Entry::Copy { from, to, source } => copying(alloc, at, from, to, source)?,
+        Entry::Promote { from, to } => promoting(alloc, at, from, to)?,
+        Entry::Remove { suite, name } => removing(alloc, at, suite, name)?,
+        Entry::Clean => Command::Clean { moment: at },
+        Entry::Waiting => Command::Waiting { moment: at },
+        Entry::Verdicts => Command::Verdicts,
+    };
+    Ok(Some(command))
+}
+
+/// The name that a line delivers its file under.
+fn name_of<'l>(entry: &Entry<'l>) -> &'l str {
+    match entry {
+        Entry::Put { path } => file_name(path),
+        _ => "",
+    }
+}
+
+/// Prints `refused FAULT` and the words of a line behind its first, and says that it was not done. Want of memory and a
+/// fault of the keeper end the program instead.
+fn print_refused<'a, W: Write>(
+    fault: Fault,
+    entry: &Entry<'_>,
+    out: &mut W,
+) -> Result<bool, Stop<'a>> {
+    if matches!(fault, Fault::OutOfMemory | Fault::Keeper(_)) {
+        return Err(Stop::Refused(fault));
+    }
+    match entry {
+        Entry::Copy { from, to, source } => writeln!(out, "refused {fault} {from} {to} {source}")?,
+        Entry::Promote { from, to } => writeln!(out, "refused {fault} {from} {to}")?,
+        Entry::Remove { suite, name } => writeln!(out, "refused {fault} {suite} {name}")?,
+        _ => writeln!(out, "refused {fault}")?,
+    }
+    Ok(false)
+}
+
+/// Prints the lines that a command answers, and says whether it was done.
+fn print_lines<'a, W: Write>(
+    done: &Result<Report, Fault>,
+    entry: &Entry<'_>,
+    out: &mut W,
+) -> Result<bool, Stop<'a>> {
+    match done {
+        Ok(report) => {
+            print_report(report, out)?;
+            Ok(true)
+        }
+        Err(fault) => print_refused(*fault, entry, out),
+    }
+}
+
+/// Prints `COUNT SOURCE` for each source of a promotion, and says whether it was done.
+fn print_promotion<'a, W: Write>(
+    done: &Result<Promotion, Fault>,
+    entry: &Entry<'_>,
+    out: &mut W,
+) -> Result<bool, Stop<'a>> {
+    match done {
+        Ok(promotion) => {
+            print_report(&promotion.report, out)?;
+            Ok(true)
+        }
+        Err(fault) => print_refused(*fault, entry, out),
+    }
+}
+
+/// Prints `copied COUNT SOURCE`, `removed COUNT PACKAGE` or `cleaned COUNT`, and says whether the command was done.
+fn print_count<'a, W: Write>(
+    done: &Result<u64, Fault>,
+    entry: &Entry<'_>,
+    out: &mut W,
+) -> Result<bool, Stop<'a>> {
+    match done {
+        Ok(count) => {
+            match entry {
+                Entry::Copy { source, .. } => writeln!(out, "copied {count} {source}")?,
+                Entry::Remove { name, .. } => writeln!(out, "removed {count} {name}")?,
+                _ => writeln!(out, "cleaned {count}")?,
+            }
+            Ok(true)
+        }
+        Err(fault) => print_refused(*fault, entry, out),
+    }
+}
+
+/// Prints what the command of a line answered, and says whether it was done.
+fn print_outcome<'a, W: Write>(
+    outcome: &Outcome,
+    entry: &Entry<'_>,
+    out: &mut W,
+) -> Result<bool, Stop<'a>> {
+    match outcome {
+        Outcome::Deliver(done) => print_arrived(*done, name_of(entry), out),
+        Outcome::Run(done) | Outcome::Waiting(done) | Outcome::Verdicts(done) => {
+            print_lines(done, entry, out)
+        }
+        Outcome::Copy(done) | Outcome::Remove(done) | Outcome::Clean(done) => {
+            print_count(done, entry, out)
+        }
+        Outcome::Promote(done) => print_promotion(done, entry, out),
+        // No line asks for a file.
+        Outcome::Fetch(_) => Ok(true),
+    }
+}
+
+/// Prints what each command answered, up to one that ends the program, and says whether all were done.
+fn print_outcomes<'a, W: Write>(
+    outcomes: &[Outcome],
+    entries: &[Entry<'_>],
+    out: &mut W,
+) -> Result<bool, Stop<'a>> {
+    let mut all = true;
+    for (outcome, entry) in outcomes.iter().zip(entries) {
+        if !print_outcome(outcome, entry, out)? {
+            all = false;
+        }
+    }
+    Ok(all)
+}
+
+/// Makes the commands of a group by one call, prints what each answered, has that written out, and leaves the group without
+/// commands. It says whether all were done.
+fn make_group<'a, K: Keeper, W: Write>(
+    alloc: Global,
+    archive: &mut Archive<K>,
+    group: &mut Group<'_>,
+    out: &mut W,
+) -> Result<bool, Stop<'a>> {
+    let outcomes = archive.drive(alloc, &group.commands)?;
+    let printed = print_outcomes(&outcomes, &group.entries, out);
+    group.clear();
+    out.flush()?;
+    printed
+}
+
+/// Adds the command of a line to a group, which is made before where its bodies leave no room, and behind where the
+/// command is answered by lines: so a group has at most one report. It says whether all that it made was done, and the
+/// file of the line could be read.
+fn take_line<'a, 'l, R: Files + AllocGlobal, K: Keeper, W: Write, E: Write>(
+    rt: &R,
+    archive: &mut Archive<K>,
+    opening: Opening<'_>,
+    entry: &Entry<'l>,
+    group: &mut Group<'l>,
+    out: &mut W,
+    err: &mut E,
+) -> Result<bool, Stop<'a>> {
+    let Some(command) = command_of(rt, opening, entry, err)? else {
+        return Ok(false);
+    };
+    let mut all = true;
+    if !has_room(group.bytes, size_of(&command)) {
+        all = make_group(rt.alloc(), archive, group, out)?;
+    }
+    group.push(*entry, command)?;
+    if has_lines(entry) {
+        let done = make_group(rt.alloc(), archive, group, out)?;
+        all = all && done;
+    }
+    Ok(all)
+}
+
+/// Makes the commands of lines in groups, and says whether all were done and each file could be read. It goes on behind a
+/// refusal, and behind a file that can't be read, which has a line on `err`.
+fn make_lines<'a, R: Files + AllocGlobal, K: Keeper, W: Write, E: Write>(
+    rt: &R,
+    archive: &mut Archive<K>,
+    opening: Opening<'_>,
+    entries: &[Entry<'_>],
+    out: &mut W,
+    err: &mut E,
+) -> Result<bool, Stop<'a>> {
+    let mut all = true;
+    let mut group = Group::new(rt.alloc());
+    for entry in entries {
+        if !take_line(rt, archive, opening, entry, &mut group, out, err)? {
+            all = false;
+        }
+    }
+    let last = make_group(rt.alloc(), archive, &mut group, out)?;
+    Ok(all && last)
+}
+
+/// Reads a list of commands, and makes them all at a moment, in seconds since 1970-01-01 00:00:00 UTC, over one opening of
+/// the archive of a database file. It prints what each answers, in the order of the list, and says whether all were done.
+/// The whole list is read before the database is opened: one with a bad line ends the program before anything is done.
+pub fn batch_file<'a, K: Keeper + Drop, F: InFile<K>, W: Write, E: Write>(
+    rt: &HostRuntime,
+    db: &str,
+    at: u64,
+    list: &'a str,
+    out: &mut W,
+    err: &mut E,
+) -> Result<bool, Stop<'a>> {
+    let text = read_of(list_at(rt, list), list)?;
+    let entries = read_list(rt.alloc(), &text)?;
+    let mut archive = open_archive::<K, F>(rt, db)?;
+    let opening = Opening { db, at };
+    let done = make_lines(rt, &mut archive, opening, &entries, out, err);
+    close::<K, F>(archive);
+    done
+}

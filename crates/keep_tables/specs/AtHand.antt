@@ -1,0 +1,34 @@
+-- What is held of the rows between calls.
+use Rattle.std.specs.Prelude.{◌≡◌, ◌⊎◌, ℕ, Bool, List, Option, Some, IfSome, Contains, bytes_eq}
+use Rattle.std.specs.List.{list_any}
+use Rattle.std.specs.Option.{option_map}
+use Rattle.sqlite.specs.Effect.{Database}
+use Rattle.sums.specs.Prints.{print as print_of}
+use Rattle.sums.specs.declared.print.Print.{Print}
+use Rattle.rules.specs.Values.{ConfigValue}
+use Rattle.suites.specs.Shelves.{ShelvesValue}
+use Rattle.texts.specs.Indices.{index_text}
+use Rattle.keep.specs.declared.change.IndexText.{IndexText}
+use Rattle.tables.specs.Rows.{tables_in}
+use Rattle.kept.specs.Shown.{shown_in}
+use Rattle.keep_tables.specs.declared.known.TextPrint.{TextPrint}
+
+-- Where shelves are at hand, they are what the rows show.
+abbrev pub AreAtHand : ConfigValue → Database → Option ShelvesValue → Type 0
+AreAtHand config db spare = IfSome spare (λ shelves. shelves ≡ shown_in config.suites (tables_in db))
+
+-- The prints that are known are those of the index texts at their paths, of what is shown and these dates.
+abbrev pub AreKnown : ConfigValue → ShelvesValue → List ℕ → List TextPrint → Type 0
+AreKnown config shown dates prints = (p : TextPrint) → Contains prints p → option_map print_of (index_text config shown dates p.path) ≡ Some p.print
+
+-- of this path
+abbrev pub is_print_of : List ℕ → TextPrint → Bool
+is_print_of path p = bytes_eq p.path path
+
+-- the path is that of one of these texts
+abbrev pub is_renewed : List IndexText → List ℕ → Bool
+is_renewed texts path = list_any (λ t. bytes_eq t.path path) texts
+
+-- At most the print at this path is noted, where there is one.
+abbrev pub NotesAtMost : List TextPrint → List ℕ → Option Print → List TextPrint → Type 0
+NotesAtMost old path print new = (p : TextPrint) → Contains new p → Contains old p ⊎ ((p.path ≡ path) × (print ≡ Some p.print))

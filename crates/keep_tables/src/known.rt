@@ -1,0 +1,86 @@
+//! The prints of index texts that are known.
+
+ghost use Rattle.std.specs.Prelude.{◌≡◌, filter, find, not, option_copied};
+ghost use Rattle.std.specs.Option.{option_map};
+ghost use Rattle.keep_tables.specs.AtHand.{NotesAtMost, is_print_of, is_renewed};
+
+use keep::IndexText;
+use para::Text;
+use std::alloc::Global;
+use sums::Print;
+
+/// The print of the index text at a path.
+#[derive(Drop)]
+pub struct TextPrint {
+    pub path: Text,
+    pub print: Print,
+}
+
+/// What is known of the text at a path.
+fn known_at<'a>(prints: &'a [TextPrint], path: &str) -> Option<&'a TextPrint>
+    ensures { option_copied result ≡ find (is_print_of path.now) prints.now }
+{
+    for known in prints {
+        if known.path.as_str() == path {
+            return Some(known);
+        }
+    }
+    None
+}
+
+/// The print of the text at a path, where it is known.
+pub(crate) fn known_print(prints: &[TextPrint], path: &str) -> Option<Print>
+    ensures { result ≡ option_map (λ p. p.print) (find (is_print_of path.now) prints.now) }
+{
+    match known_at(prints, path) {
+        Some(known) => Some(known.print),
+        None => None,
+    }
+}
+
+/// Notes the print of the text at a path, where there is one that is not known yet, and memory for it.
+pub(crate) fn note_print(
+    alloc: Global,
+    prints: &mut Vec<TextPrint>,
+    path: &str,
+    print: Option<Print>,
+)
+    ensures { NotesAtMost prints.old.items path.now print prints.new.items }
+{
+    if known_print(prints, path).is_some() {
+        return;
+    }
+    let Some(print) = print else {
+        return;
+    };
+    let Ok(path) = Text::new(alloc, path) else {
+        return;
+    };
+    let _ = prints.push(TextPrint { path, print });
+}
+
+/// Whether the path is that of one of these texts.
+fn is_renewed(texts: &[IndexText], path: &str) -> bool
+    ensures { result ≡ is_renewed texts.now path.now }
+{
+    for text in texts {
+        if text.path.as_str() == path {
+            return true;
+        }
+    }
+    false
+}
+
+/// Whether what is known is of none of these texts.
+fn stays(texts: &[IndexText], known: &TextPrint) -> bool
+    ensures { result ≡ not (is_renewed texts.now known.now.path) }
+{
+    !is_renewed(texts, known.path.as_str())
+}
+
+/// Forgets the prints of texts that are renewed.
+pub(crate) fn forget_prints(prints: &mut Vec<TextPrint>, texts: &[IndexText])
+    ensures { prints.new.items ≡ filter (λ p. not (is_renewed texts.now p.path)) prints.old.items }
+{
+    prints.retain(|known| stays(texts, known));
+}

@@ -1,8 +1,0 @@
-use Rattle.std.proofs.lemmas.Result.{err_from_is_err_and}
-use Rattle.tables_read.proofs.CauseLemmas.{lacks_number}
-use Rattle.tables_read.proofs.table.numbered.Goals as goal
-
-pub returns-in_err-id-clause-cause : goal.returns-in_err-id-clause-cause
-returns-in_err-id-clause-cause g c =
-    let p = err_from_is_err_and c.from_residual.result c.from_residual.ensures.1 in
-    rw (p.1, p.2) (lacks_number g.T.Stored.layout g.met.T.Stored.laid c.args.row.now c.in_err-id.field-0.0 c.in_err-id.ensures.cause)
