@@ -13,7 +13,7 @@ use keep::{KeepFault, Keeper};
 use queue::{Archive, Fault};
 use std::alloc::Global;
 use std::cell::Cell;
-use std::io::{self, BufWriter, Read, Write};
+use std::io::{self, BufReader, BufWriter, Read, Write};
 use std::net::{Shutdown, TcpListener, TcpStream};
 use std::rt::Files;
 use std::slice;
@@ -190,7 +190,19 @@ fn answer_client<R: Clock + AllocGlobal, K: Keeper, E: Write>(
     Ok(end)
 }
 
-/// Answers the request of a client. The reply goes through a buffer, where there is memory for one.
+/// What a client sends, of which nothing has come.
+fn from_client<'f, 'c, R>(
+    client: &'f Client<'c, R>,
+    line: &'f mut FirstLine,
+) -> FromClient<'f, 'c, R> {
+    FromClient {
+        client,
+        line,
+        has_begun: false,
+    }
+}
+
+/// Answers the request of a client. The request and the reply go through a buffer each, where there is memory for it.
 fn answered<R: Clock + AllocGlobal, K: Keeper>(
     archive: &mut Archive<K>,
     client: &Client<'_, R>,
@@ -201,12 +213,23 @@ fn answered<R: Clock + AllocGlobal, K: Keeper>(
     ensures served { HasServed K.Keeper archive.old.keeper archive.new.keeper }
 {
     let alloc = client.rt.alloc();
-    let reader = FromClient {
-        client,
-        line,
-        has_begun: false,
-    };
     let writer = ToClient { client, sent };
+    if let Ok(buffered) = BufReader::new(alloc, from_client(client, &mut *line)) {
+        return replied(alloc, archive, buffered, writer, moment);
+    }
+    replied(alloc, archive, from_client(client, line), writer, moment)
+}
+
+/// Answers the request of this reader. The reply goes through a buffer, where there is memory for one.
+fn replied<K: Keeper, R: Read, W: Write + Copy>(
+    alloc: Global,
+    archive: &mut Archive<K>,
+    reader: R,
+    writer: W,
+    moment: u64,
+) -> Result<Served, DeskFault>
+    ensures served { HasServed K.Keeper archive.old.keeper archive.new.keeper }
+{
     match BufWriter::new(alloc, writer) {
         Ok(buffered) => {
             let mut one = connection(reader, buffered, moment);
