@@ -5,7 +5,7 @@ use crate::doing::{body_of, file_name, opened};
 use crate::fault::Stop;
 use keep::Keeper;
 use queue::{Archive, Arrived, Fault, Promotion, Report};
-use std::alloc::Global;
+use std::alloc::{AllocError, Global};
 use std::io::{self, Write};
 use std::rt::Files;
 
@@ -124,7 +124,11 @@ pub fn copy<'a, K: Keeper, W: Write>(
 fn owned<'a>(alloc: Global, names: &[&'a str]) -> Result<Vec<String>, Stop<'a>> {
     let mut texts = Vec::new(alloc);
     for name in names {
-        texts.push(String::from_str(alloc, name)?)?;
+        let text = String::from_str(alloc, name)?;
+        match texts.push(text) {
+            Ok(()) => {}
+            Err(failed) => return Err(AllocError::from(failed).into()),
+        }
     }
     Ok(texts)
 }

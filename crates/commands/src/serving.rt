@@ -221,7 +221,7 @@ fn answered<R: Clock + AllocGlobal, K: Keeper>(
 }
 
 /// Answers the request of this reader. The reply goes through a buffer, where there is memory for one.
-fn replied<K: Keeper, R: Read, W: Write + Copy>(
+fn replied<K: Keeper, R: Read + Drop, W: Write + Copy>(
     alloc: Global,
     archive: &mut Archive<K>,
     reader: R,
