@@ -2,3 +2,4 @@ pub mod Known
 pub mod UnderWay
 pub mod Unused
 pub mod Counting
+pub mod AtOnce

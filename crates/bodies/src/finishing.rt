@@ -92,7 +92,7 @@ fn receive<S: Alter>(
 
 /// Takes the body that came as one that has arrived, inside a transaction. One whose print is that of another body is refused.
 /// Answers whether the arrival is new.
-fn finish_inside<S: Alter>(
+pub(crate) fn finish_inside<S: Alter>(
     alloc: Global,
     tx: &mut Transaction<'_, S>,
     finished: &Finished<'_>,

@@ -3,6 +3,7 @@
 #![tactic(auto)]
 
 mod arriving;
+mod at_once;
 mod cleaning;
 mod coming;
 mod finishing;
@@ -13,6 +14,7 @@ mod removing;
 mod sweeping;
 mod whole;
 
+pub use at_once::{OnePiece, take_one_piece};
 pub use cleaning::{clean, counts};
 pub use coming::{Begun, store_piece};
 pub use finishing::{Finished, finish_body};
