@@ -1,14 +1,14 @@
 -- What the two queries on a table answer, whatever it holds.
-use Rattle.std.proofs.Common.{◌≡◌, ◌<◌, ◌^◌, ℕ, pos, negsuc, eqb, Bool, true, false, cond, List, [], ◌∷◌, ◌++◌, map, flat_map, fold, filter, length, append-nil, append_assoc, refl, sym, ap, ap₂, ◌∙◌, subst, arith, IsPermutation}
+use Rattle.std.proofs.Common.{◌≡◌, ℕ, eqb, false, cond, List, [], ◌∷◌, ◌++◌, map, flat_map, fold, length, append-nil, append_assoc, refl, sym, ap, ◌∙◌, subst, arith, IsPermutation}
 use Rattle.std.specs.List.{AllByRecursion}
 use Rattle.std.proofs.lemmas.List.Elements.{All-from_recursion, recursion_from_All}
 use Rattle.std.proofs.lemmas.List.Sorted.{All-permutation, IsPermutation-sym}
 use Rattle.sqlite.specs.declared.types.Value.{Value}
-use Rattle.sqlite.specs.declared.types.Value.TheVariants.{Null, Int, Text}
-use Rattle.sqlite.specs.Order.{Row, column}
+use Rattle.sqlite.specs.declared.types.Value.TheVariants.{Null, Text}
+use Rattle.sqlite.specs.Order.{Row}
 use Rattle.sqlite.specs.Tree.{Trees, rowid}
 use Rattle.sqlite.specs.Collation.TheVariants.{Binary}
-use Rattle.sqlite.specs.Query.{Query, inner, end, IsAnswer}
+use Rattle.sqlite.specs.Query.{inner, end, IsAnswer}
 use Rattle.sqlite.specs.Term.{Term, lit, col}
 use Rattle.sqlite_sql.specs.Term.{eval, eval_all, Env}
 use Rattle.sqlite_sql.specs.Query.{matches, output, Output}
@@ -21,8 +21,8 @@ use Rattle.sqlite_sql.proofs.QueryLemmas.{output_cmp_total}
 use Rattle.sqlite_keyed.proofs.SortLemmas.{sorted_unique}
 use Rattle.std.proofs.Common.{ne_eqb}
 use Rattle.sqlite_sql.specs.Text.{joined}
-use Rattle.sqlite_keyed.proofs.ListLemmas.{map-map, all_map, all_unmap}
-use Rattle.tables.specs.Rows.{whole, Numbered, HasRows, Rises, stored}
+use Rattle.sqlite_keyed.proofs.ListLemmas.{map-map, all_unmap}
+use Rattle.tables.specs.Rows.{whole}
 use Rattle.tables.proofs.SelectLemmas.{rows_query}
 use Rattle.tables_read.specs.Reading.{order_query}
 

@@ -1,5 +1,5 @@
 -- Numbers with commas between spell one list of numbers alone.
-use Rattle.std.proofs.Common.{◌≡◌, ◌≢◌, ◌<◌, ◌+◌, ◌%◌, ◌/◌, ◌^◌, ℕ, List, [], ◌∷◌, ◌++◌, map, flat_map, length, length-append, refl, sym, ap, ap₂, ◌∙◌, arith, unwrap_or}
+use Rattle.std.proofs.Common.{◌≡◌, ◌≢◌, ◌<◌, ◌+◌, ◌%◌, ◌^◌, ℕ, List, [], ◌∷◌, ◌++◌, map, flat_map, length, length-append, refl, sym, ap, ap₂, ◌∙◌, arith, unwrap_or}
 use Rattle.std.specs.Fmt.{decimal}
 use Rattle.std.proofs.lemmas.Fmt.{decimal_by_steps, decimal_nonempty, decimal_injective}
 use Rattle.sqlite_sql.specs.Text.{joined, text_in}

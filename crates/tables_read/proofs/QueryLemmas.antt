@@ -8,7 +8,6 @@ use Rattle.sqlite.proofs.Callers.{never_commits}
 use Rattle.sqlite.proofs.StateLemmas.{survives_weaker}
 use Rattle.tables.proofs.ReadLemmas.{fails_to_query, unchanged_if_plain, plain_in}
 use Rattle.tables.specs.Rows.{IsForeign}
-use Rattle.tables.specs.Schema.{archive_schema}
 use Rattle.tables.specs.Causes.{IsCaused}
 use Rattle.tables_read.specs.Reading.{Means, Tells}
 use Rattle.tables_read.proofs.CauseLemmas.{IsSure, query_caused}

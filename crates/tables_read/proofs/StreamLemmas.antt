@@ -80,18 +80,18 @@ module _ {S X : Type 0} (g : Ghosts S) (l : Layout X) (real : X → Type 0) (old
 
       -- its next row is read, or is none of an archive
       pub stepped : (b : Bool) → (b ≡ true → Adds l row before after) → (b ≡ false → (x : ℕ × X) → real x.1 → ¬ Spells l.seen row x) → Steps g l real old new before after (Ok (Some b))
-      stepped true yes no = record {
+      stepped true added other = record {
         idle = idle;
         same = same;
         took = λ clean sql given has read.
-            let more = yes refl in
+            let more = added refl in
             record { row = row; has = gives clean sql given has; is = read_more l given row before more.one more.small more.spells more.is read };
         survives = survives;
       }
-      stepped false yes no = record {
+      stepped false added other = record {
         idle = idle;
         same = same;
-        took = λ clean sql given has read. record { row = row; has = gives clean sql given has; is = no refl };
+        took = λ clean sql given has read. record { row = row; has = gives clean sql given has; is = other refl };
         survives = survives;
       }
 
@@ -112,11 +112,11 @@ module _ (sql : List ℕ) (old mid : State) (rows : List Row) (same : IsUnchange
   source_earlier db = subst (λ (d : Database). IsSourceOf (reads_listing d.schema sql) d db) same.0.now_is
 
   begins_earlier : Begins sql [] mid rows → Begins sql [] old rows
-  unfolding Begins
+  unfolding Begins statement_earlier
   begins_earlier h = (h.0, statement_earlier h.0 h.1, h.2, h.3, source_earlier h.3 h.4, h.5)
 
   shown_earlier : (new : State) → IsPlain (understood mid.now.schema sql) → Shown sql [] mid new rows → Shown sql [] old new rows
-  unfolding Shown
+  unfolding Shown statement_earlier
   shown_earlier new plain h =
       let none = (subst IsPlain h.1.is plain).0 in
       let full = timed [] h.0.formats h.1.now in
@@ -229,6 +229,10 @@ module _ {S X : Type 0} (g : Ghosts S) (l : Layout X) (sql : List ℕ) (asks : A
     -- what the whole answer says
     abbrev Says : State → Option V → Type 0
     Says new o = MatchOption o (HasAnswer l (state g first) new (IsNotRead l real)) (λ all. HasAnswer l (state g first) new (λ raw. AreRead l raw (items all)))
+
+    -- the connection is left as the rows held it
+    pub left : (r : Result (Option V) Error) (now : Held S) {last : State} → Tells (state g first) (state g now) r (Says (state g now)) → last ≡ state g now → Tells (state g first) last r (Says last)
+    left r now told same = subst (λ (s : State). Tells (state g first) s r (Says s)) (sym same) told
 
     -- there are too many
     pub unread : (now : Held S) (all : Numbered X) → Tells (state g first) (state g now) (Ok all) (IsRead g l sql now) → Tells (state g first) (state g now) (Err (SqliteFailure OutOfMemory)) (Says (state g now))
