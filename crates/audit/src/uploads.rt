@@ -20,7 +20,7 @@ use arrived::arrived_among;
 use awaited::awaited_among;
 use judged::{are_placed, judged_until, last_place};
 use keep::Judgement;
-use lookups::{Verdicts, There};
+use lookups::{There, Verdicts};
 use std::alloc::{AllocError, Global};
 use tables_read::AllRows;
 use wanted::{are_owned, are_requests};

@@ -28,12 +28,7 @@ fn is_wanted(want: &Want, arrived: &There<'_>, entry: &Entry) -> bool
 }
 
 /// Whether the rows of an upload are those of the listed files, in their order.
-fn are_wanted(
-    wants: &[(u64, Want)],
-    upload: u64,
-    arrived: &There<'_>,
-    entries: &[Entry],
-) -> bool
+fn are_wanted(wants: &[(u64, Want)], upload: u64, arrived: &There<'_>, entries: &[Entry]) -> bool
     ensures { MatchBool result (wants_among wants.now upload ≡ map (wanted_among (map printed arrived.now.all.now)) entries.now)
         (wants_among wants.now upload ≡ map (wanted_among (map printed arrived.now.all.now)) entries.now → ⊥) }
 {

@@ -1,4 +1,4 @@
-use Rattle.std.proofs.Common.{rules, ◌≡◌, false, [], ◌∷◌, Ok, sym, subst}
+use Rattle.std.proofs.Common.{rules, ◌≡◌, [], ◌∷◌, Ok, sym, subst}
 use Rattle.tables.specs.Rows.{rows_of}
 use Rattle.tables_read.specs.All.{tables_with}
 use Rattle.rules.specs.Configuration.{config_in}

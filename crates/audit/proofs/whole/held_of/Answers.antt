@@ -1,4 +1,4 @@
-use Rattle.std.proofs.Common.{rules, ◌≡◌, ◌≤◌, All, true, false, true≢false, length, map, sym, subst, refl, ◌∙◌}
+use Rattle.std.proofs.Common.{rules, ◌≡◌, ◌≤◌, All, true, true≢false, length, map, sym, subst, refl, ◌∙◌}
 use Rattle.tables.specs.Rows.{rows_of}
 use Rattle.tables_read.specs.All.{tables_with}
 use Rattle.audit.specs.Whole.{ShownFits}

@@ -1,4 +1,4 @@
-use Rattle.std.proofs.Common.{IsTrue}
+use Rattle.std.proofs.Common.{◌≡◌, true, true≢false, sym, ◌∙◌}
 use Rattle.suites.specs.Shelves.{AreSound}
 use Rattle.tables_read.specs.All.{tables_with}
 use Rattle.kept.specs.Kept.{AreFiles, AreItems, AreReadable}
@@ -13,21 +13,21 @@ returns-then-not-branch-clause-none c keys same readable shown fits =
     let t = tables_with c.args.all.now in
     let here : AreItems t c.args.config.now.suites c.in-Some.shelves × AreSound c.in-Some.shelves × AreReadable t = at_some _ _ c.in-Some.shelves c.in-Some.is c.in_ok-shelves.ensures.some keys in
     not_told t c.args.config.now c.in-Some.shelves shown c.args.dates.now here fits
-    (λ told. let yes : IsTrue c.in_ok-are_told.field-0 = c.in_ok-are_told.ensures.1 told in cc)
+    (λ told. let yes : c.in_ok-are_told.field-0 ≡ true = c.in_ok-are_told.ensures.1 told in absurd (true≢false (sym yes ∙ c.if-not-branch.true)))
 
 pub returns-then-not-branch-2-clause-none : goal.returns-then-not-branch-2-clause-none
 returns-then-not-branch-2-clause-none c keys same readable shown fits =
     let t = tables_with c.args.all.now in
     let here : AreItems t c.args.config.now.suites c.in-Some.shelves × AreSound c.in-Some.shelves × AreReadable t = at_some _ _ c.in-Some.shelves c.in-Some.is c.in_ok-shelves.ensures.some keys in
     no_files t c.args.config.now c.in-Some.shelves shown c.args.dates.now here fits
-    (λ files. let yes : IsTrue c.in_ok-are_files_of.field-0 = (c.in_ok-are_files_of.ensures.fit keys).1 files in cc)
+    (λ files. let yes : c.in_ok-are_files_of.field-0 ≡ true = (c.in_ok-are_files_of.ensures.fit keys).1 files in absurd (true≢false (sym yes ∙ c.if-not-branch-2.true)))
 
 pub returns-then-not-branch-3-clause-none : goal.returns-then-not-branch-3-clause-none
 returns-then-not-branch-3-clause-none c keys same readable shown fits =
     let t = tables_with c.args.all.now in
     let here : AreItems t c.args.config.now.suites c.in-Some.shelves × AreSound c.in-Some.shelves × AreReadable t = at_some _ _ c.in-Some.shelves c.in-Some.is c.in_ok-shelves.ensures.some keys in
     no_texts t c.args.config.now c.in-Some.shelves shown c.args.dates.now here fits
-    (λ texts. let yes : IsTrue c.in_ok-are_texts_of.field-0 = c.in_ok-are_texts_of.ensures.1 texts in cc)
+    (λ texts. let yes : c.in_ok-are_texts_of.field-0 ≡ true = c.in_ok-are_texts_of.ensures.1 texts in absurd (true≢false (sym yes ∙ c.if-not-branch-3.true)))
 
 pub returns-clause-some : goal.returns-clause-some
 returns-clause-some c keys =
