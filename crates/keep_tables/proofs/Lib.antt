@@ -7,3 +7,4 @@ pub mod AtHandLemmas
 pub mod MomentLemmas
 pub mod FoundArrivals
 pub mod MomentReads
+pub mod AtOnceLemmas

@@ -15,7 +15,7 @@ ghost use Rattle.kept.specs.Archives.{KeepsArchive, Turns, book_of};
 ghost use Rattle.kept.specs.Coming.{Comes, HasComing};
 ghost use Rattle.kept.specs.Transactions.{IsUndone};
 
-use bodies::{Finished, finish_body, remove_all, store_piece};
+use bodies::{Finished, OnePiece, finish_body, remove_all, store_piece, take_one_piece};
 use sqlite::{Alter, Connection, Error, ErrorCode};
 use std::alloc::Global;
 use tables::serving::serve;
@@ -130,4 +130,40 @@ pub(crate) fn finish_delivery<S: Alter>(
         return Err(Error::SqliteFailure(ErrorCode::TooBig));
     }
     finish_body(alloc, conn, finished)
+}
+
+/// Takes a file whose body is one piece as one that has arrived, where no other body is coming, and says whether that is new at the
+/// moment.
+pub(crate) fn deliver_at_once<S: Alter>(
+    alloc: Global,
+    conn: &mut Connection<S>,
+    file: &OnePiece<'_>,
+) -> Result<bool, Error>
+    requires idle { conn.old.in_transaction ≡ false }
+    requires in_time { file.now.moment ≤ latest }
+    requires one_piece { (0 < length file.now.bytes.now) × (length file.now.bytes.now ≤ 65536) }
+    requires printed { file.now.print ≡ print_of file.now.bytes.now }
+    ensures idle { conn.new.in_transaction ≡ false }
+    ensures open { HasCleanDisk (state S.Store conn.new) → OnOk result (IsTrue (state S.Store conn.old).is_open × IsTrue (state S.Store conn.new).is_open) }
+    ensures done { HasCleanDisk (state S.Store conn.new) → (config : ConfigValue) (judged : List Judgement) (shown : ShelvesValue) (dates : List ℕ)
+        → KeepsArchive (state S.Store conn.old).committed config judged shown dates → HasComing (tables_in (state S.Store conn.old).committed) []
+        → IsDeliverable file.now.name.now file.now.bytes.now
+        → OnOk result (Turns (state S.Store conn.old).committed (state S.Store conn.new).committed config judged shown dates judged shown dates
+        (λ b. with_delivery b (record { name = file.now.name.now; body = file.now.bytes.now; moment = file.now.moment }))
+        × HasComing (tables_in (state S.Store conn.new).committed) []) }
+    ensures new { HasCleanDisk (state S.Store conn.new) → (config : ConfigValue) (judged : List Judgement) (shown : ShelvesValue) (dates : List ℕ)
+        → KeepsArchive (state S.Store conn.old).committed config judged shown dates → HasComing (tables_in (state S.Store conn.old).committed) []
+        → IsDeliverable file.now.name.now file.now.bytes.now → file.now.span ≡ span config
+        → IfOk result (λ new. new ≡ not (has_arrival (at_moment file.now.moment (book_of (state S.Store conn.old).committed config judged shown dates)).arrivals (record { name = file.now.name.now; body = file.now.bytes.now; moment = file.now.moment }))) }
+    ensures undone { HasCleanDisk (state S.Store conn.new) → OnErr result (IsUndone (state S.Store conn.old) (state S.Store conn.new)) }
+    ensures crash { Survives (state S.Store conn.old) (state S.Store conn.new) (λ trees. (db : Database) × (trees ≡ db.trees) × IsTrue (state S.Store conn.old).is_open
+        × ((config : ConfigValue) (judged : List Judgement) (shown : ShelvesValue) (dates : List ℕ)
+        → KeepsArchive (state S.Store conn.old).committed config judged shown dates → HasComing (tables_in (state S.Store conn.old).committed) []
+        → IsDeliverable file.now.name.now file.now.bytes.now
+        → Turns (state S.Store conn.old).committed db config judged shown dates judged shown dates
+        (λ b. with_delivery b (record { name = file.now.name.now; body = file.now.bytes.now; moment = file.now.moment })))) }
+{
+    // For the prover alone: outside a transaction the connection has what is committed.
+    let _idle = conn.is_autocommit();
+    take_one_piece(alloc, conn, file)
 }
