@@ -14,6 +14,11 @@ use Rattle.tables.proofs.BookLemmas.{held_tables}
 use Rattle.bodies.specs.AtOnce.{HadCome, is_new_at_once, with_delivery_at_once, with_one_piece}
 use Rattle.bodies.specs.Counting.{arrival_counts}
 use Rattle.kept.specs.Archives.{KeepsArchive, Turns, book_of}
+use Rattle.std.specs.Option.{option_and_then}
+use Rattle.kept.specs.Finished.{finished}
+use Rattle.kept.proofs.ComingLemmas.{no_number}
+use Rattle.bodies.specs.UnderWay.{IsUnderWay}
+use Rattle.bodies.specs.declared.coming.Begun.{Begun}
 use Rattle.kept.specs.Coming.{Comes, HasComing, IsNoOther, coming_number, ended_number, with_ended, with_finished}
 use Rattle.kept.proofs.TakingLemmas.{delivery_ends, delivery_new, delivery_turns, piece_comes, piece_turns}
 use Rattle.keep_tables.proofs.FoundArrivals.{apart_once_ended, counts_if_some}
@@ -22,6 +27,12 @@ use Rattle.keep_tables.proofs.FoundArrivals.{apart_once_ended, counts_if_some}
 none_comes : (t : Tables) → HasComing t [] → Comes t None 0 []
 unfolding coming_number
 none_comes t coming = record { coming = coming; number = refl; count = refl }
+
+-- where what is under way has no row, no body is coming
+pub none_under : (t : Tables) (begun : Option Begun) → option_and_then (λ (b : Begun). b.body) begun ≡ None → IsUnderWay t begun → HasComing t []
+none_under t None is coming = coming
+none_under t (Some b) is begun =
+    subst (HasComing t) (no_number begun.0 (finished t) (sym begun.1.comes.number ∙ is)) begun.1.comes.coming
 
 -- `old` is the connection, to whose database no body is coming, and these bytes are one piece.
 module _ (old : State) (settled : IsTrue old.is_open → old.now ≡ old.committed) (up : IsTrue old.is_open)

@@ -8,3 +8,4 @@ pub mod MomentLemmas
 pub mod FoundArrivals
 pub mod MomentReads
 pub mod AtOnceLemmas
+pub mod KeeperWords

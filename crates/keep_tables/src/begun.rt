@@ -1,11 +1,12 @@
 //! The body that was begun last.
 
-ghost use Rattle.std.specs.Prelude.{◌≡◌, [], Some, None, true, false, if◌then◌else◌, option_map};
+ghost use Rattle.std.specs.Prelude.{◌≡◌, ◌<◌, ◌≤◌, [], Some, None, true, false, if◌then◌else◌, length, option_map};
 ghost use Rattle.std.specs.Option.{option_and_then, option_map_or};
 ghost use Rattle.sums.specs.Prints.{Holds};
 ghost use Rattle.bodies.specs.declared.coming.Begun.{Begun};
 
 use bodies::Begun;
+use keep::PIECE_SIZE;
 use sums::Printer;
 
 /// A body without a byte.
@@ -57,4 +58,14 @@ pub(crate) fn forget_if(begun: &mut Option<Begun>, went: bool)
     if went {
         *begun = None;
     }
+}
+
+/// Whether a body is one piece, and nothing is begun that has a row.
+pub(crate) fn is_one_piece(begun: &Option<Begun>, body: &[u8]) -> bool
+    ensures { result ≡ true → (option_and_then (λ b. b.body) begun.now ≡ None) × (0 < length body.now) × (length body.now ≤ 65536) }
+{
+    if body.is_empty() || body.len() > PIECE_SIZE {
+        return false;
+    }
+    number_of(begun).is_none()
 }

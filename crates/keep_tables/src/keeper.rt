@@ -10,24 +10,24 @@ ghost use Rattle.kept.specs.Coming.{HasComing};
 ghost use Rattle.kept.specs.Shown.{shown_in};
 ghost use Rattle.keep_tables.specs.AtHand.{AreAtHand, AreKnown};
 
-use crate::begun::{begun, forget_if, is_coming, number_of, stop};
-use crate::calls::{clear, finish_delivery, forget_body, take_piece};
+use crate::begun::{begun, forget_if, is_coming, is_one_piece, number_of, stop};
+use crate::calls::{clear, deliver_at_once, finish_delivery, forget_body, take_piece};
 use crate::changes::make_change;
 use crate::cleanings::clean_up;
 use crate::current::span_of;
 use crate::known::{TextPrint, forget_prints, known_print, note_print};
 use crate::reads::{read_due, read_file, read_nothing, read_print, read_text, read_waiting, show};
-use bodies::{Begun, Finished};
+use bodies::{Begun, Finished, OnePiece};
 use keep::{
-    Change, Judgement, KeepFault, Keeper, LATEST, Waiting, append_judgements, copied_judgements,
-    dates_after, room_for_judgements,
+    Change, Judgement, KeepFault, Keeper, LATEST, PIECE_SIZE, Waiting, append_judgements,
+    copied_judgements, dates_after, room_for_judgements,
 };
 use keep_rows::{create, fault_of, is_without_tables, some_take_files};
 use rules::Config;
 use sqlite::{Alter, Connection};
 use std::alloc::Global;
 use suites::{Shelves, Upload};
-use sums::{Print, Printer};
+use sums::{Print, Printer, print_of};
 
 /// A keeper over the tables of a database, which its connection is to. The configuration, the judgements and the dates are
 /// held beside the tables, and between calls what the suites show and the prints of index texts; all else is read from them.
@@ -273,6 +273,44 @@ impl<S: Alter + Drop> Keeper for TableKeeper<S> {
                 Err(fault_of(error))
             }
         }
+    }
+
+    /// A body of one piece arrives in one transaction, where no row of another is left.
+    #[tactic(auto, unfolding(kept::specs::Kept::book_in))]
+    fn arrive(
+        &mut self,
+        alloc: Global,
+        name: &str,
+        body: &[u8],
+        moment: u64,
+    ) -> Result<bool, KeepFault> {
+        if is_one_piece(&self.begun, body) {
+            let file = OnePiece {
+                name,
+                bytes: body,
+                print: print_of(body),
+                span: span_of(&self.config),
+                moment,
+            };
+            return match deliver_at_once(alloc, &mut self.conn, &file) {
+                Ok(new) => {
+                    self.begun = None;
+                    Ok(new)
+                }
+                Err(error) => {
+                    stop(&mut self.begun);
+                    Err(fault_of(error))
+                }
+            };
+        }
+        self.begin(alloc)?;
+        let mut rest = body;
+        while !rest.is_empty() {
+            let (piece, more) = rest.split_at(rest.len().min(PIECE_SIZE));
+            self.piece(alloc, piece)?;
+            rest = more;
+        }
+        self.finish(alloc, name, moment)
     }
 
     #[tactic(auto, unfolding(kept::specs::Kept::book_in))]
