@@ -8,7 +8,7 @@ ghost use Rattle.keep.specs.Keeping.{Lasts, Stays};
 ghost use Rattle.queue.specs.Receiving.{Gave, HasArrived, HasRead, IsLeft, MayBeKept, MayTake};
 
 use crate::fault::Fault;
-use crate::reading::fill;
+use crate::reading::{collect, fill};
 use keep::{Keeper, PIECE_SIZE};
 use std::alloc::Global;
 use std::io::Read;
@@ -68,8 +68,31 @@ pub fn store_pieces<K: Keeper, R: Read>(
     Ok(())
 }
 
+/// Reads a body of this size whole, and stores it under a file name.
+fn store_whole<K: Keeper, R: Read>(
+    alloc: Global,
+    keeper: &mut K,
+    name: &str,
+    whole: usize,
+    reader: &mut R,
+    moment: u64,
+) -> Result<bool, Fault>
+    requires in_time { moment ≤ latest }
+    requires may_be_kept { MayBeKept name.now whole }
+    ensures lasts { Lasts K.is_clean K.is_open K.faults K.book keeper.old keeper.new }
+    ensures served { K.is_clean keeper.new → OnOk result (K.is_open keeper.new) }
+    ensures stored { IfOk result (HasArrived (R.remaining reader.old) (R.remaining reader.new) whole (K.is_clean keeper.new) (K.book keeper.old) (K.book keeper.new) name.now moment) }
+    ensures refused { IfErr result (HasRead K.may_fail (R.remaining reader.old) (R.remaining reader.new) whole) }
+    ensures same { K.is_clean keeper.new → K.is_open keeper.new → OnErr result (K.book keeper.new ≡ K.book keeper.old) }
+    ensures crash { K.is_clean keeper.new → (left : Option Book) → K.may_leave keeper.new left → K.may_leave keeper.old left
+        ⊎ (K.is_open keeper.old × ((left ≡ Some (K.book keeper.old)) ⊎ IsLeft (R.remaining reader.old) (R.remaining reader.new) whole (K.book keeper.old) left name.now moment)) }
+{
+    let body = collect(alloc, reader, whole)?;
+    Ok(keeper.arrive(alloc, name, body.as_slice(), moment)?)
+}
+
 /// Reads a body of this size and stores it under a file name, each piece before the next is read.
-pub fn store<K: Keeper, R: Read>(
+fn store_in_pieces<K: Keeper, R: Read>(
     alloc: Global,
     keeper: &mut K,
     name: &str,
@@ -93,4 +116,30 @@ pub fn store<K: Keeper, R: Read>(
     keeper.begin(alloc)?;
     store_pieces(alloc, keeper, reader, whole, buffer.as_mut_slice())?;
     Ok(keeper.finish(alloc, name, moment)?)
+}
+
+/// Reads a body of this size and stores it under a file name: at once where it has one piece, or else each piece before the
+/// next is read.
+pub fn store<K: Keeper, R: Read>(
+    alloc: Global,
+    keeper: &mut K,
+    name: &str,
+    whole: usize,
+    reader: &mut R,
+    moment: u64,
+) -> Result<bool, Fault>
+    requires in_time { moment ≤ latest }
+    requires may_be_kept { MayBeKept name.now whole }
+    ensures lasts { Lasts K.is_clean K.is_open K.faults K.book keeper.old keeper.new }
+    ensures served { K.is_clean keeper.new → OnOk result (K.is_open keeper.new) }
+    ensures stored { IfOk result (HasArrived (R.remaining reader.old) (R.remaining reader.new) whole (K.is_clean keeper.new) (K.book keeper.old) (K.book keeper.new) name.now moment) }
+    ensures refused { IfErr result (HasRead K.may_fail (R.remaining reader.old) (R.remaining reader.new) whole) }
+    ensures same { K.is_clean keeper.new → K.is_open keeper.new → OnErr result (K.book keeper.new ≡ K.book keeper.old) }
+    ensures crash { K.is_clean keeper.new → (left : Option Book) → K.may_leave keeper.new left → K.may_leave keeper.old left
+        ⊎ (K.is_open keeper.old × ((left ≡ Some (K.book keeper.old)) ⊎ IsLeft (R.remaining reader.old) (R.remaining reader.new) whole (K.book keeper.old) left name.now moment)) }
+{
+    if whole <= PIECE_SIZE {
+        return store_whole(alloc, keeper, name, whole, reader, moment);
+    }
+    store_in_pieces(alloc, keeper, name, whole, reader, moment)
 }
