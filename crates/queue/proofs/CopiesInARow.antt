@@ -1,12 +1,11 @@
 -- A promotion leaves and answers what a copy of each of its source packages in turn leaves and answers.
-use Rattle.std.proofs.Common.{◌≡◌, ◌≤◌, ◌+◌, ℕ, Bool, true, false, cond, not, ◌&&◌, ◌||◌, List, [], ◌∷◌, ◌++◌, map, filter, flat_map, fold, Option, Some, None, option_to_list, slice_get, nat_eq, nat_lt, Result, Ok, Err, refl, sym, ap, ◌∙◌, append-nil, if◌then◌else◌}
+use Rattle.std.proofs.Common.{◌≡◌, ◌≤◌, ◌+◌, ℕ, Bool, true, false, cond, ◌&&◌, List, [], ◌∷◌, ◌++◌, map, filter, flat_map, fold, Option, Some, None, option_to_list, slice_get, nat_eq, nat_lt, Result, Ok, Err, refl, sym, ap, ◌∙◌, append-nil, if◌then◌else◌}
 use Rattle.std.specs.FinMap.{entries}
 use Rattle.std.specs.List.{enumerate_from, list_any}
 use Rattle.std.proofs.lemmas.Bool.{le-ltb}
 use Rattle.std.proofs.lemmas.Slice.Eq.{bytes_eq-Decides}
 use Rattle.sums.proofs.Booleans.{neither}
-use Rattle.keep.specs.Book.{latest, span}
-use Rattle.keep.specs.declared.arrival.Arrival.{Arrival}
+use Rattle.keep.specs.Book.{latest}
 use Rattle.rules.specs.Values.{ConfigValue}
 use Rattle.rules.specs.declared.suite.Suite.{Suite}
 use Rattle.suites.specs.Items.{on_shelf}

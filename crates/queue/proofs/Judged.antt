@@ -1,8 +1,8 @@
 -- An upload has a verdict exactly where it was complete at a run that was done.
 use Rattle.std.proofs.Common.{◌≡◌, ℕ, Bool, true, false, cond, not, ◌&&◌, ◌||◌, ◌==◌, List, [], ◌∷◌, ◌++◌, map, filter, fold, Option, Some, None, Result, Ok, Err, refl, sym, ap, subst, ◌∙◌}
-use Rattle.std.specs.Prelude.{Contains, ⊤, IfSome, option_to_list, bytes_eq}
+use Rattle.std.specs.Prelude.{Contains, IfSome, option_to_list, bytes_eq}
 use Rattle.std.specs.Ordering.{is_gt}
-use Rattle.std.specs.List.{AllByRecursion, list_any, flat_map, filter_map}
+use Rattle.std.specs.List.{AllByRecursion, list_any, flat_map}
 use Rattle.std.specs.Option.{option_map}
 use Rattle.std.specs.Result.{result_ok}
 use Rattle.std.specs.Bool.{Decides}
@@ -17,13 +17,12 @@ use Rattle.sums.specs.declared.print.Print.{Print}
 use Rattle.keep.specs.Book.{Book, Candidate, at_moment, candidate_of, candidates, due, in_order, is_changes_name, is_complete, is_judged, judging_order, put_in_order, unjudged, upload_of}
 use Rattle.keep.specs.Keeping.{NoCollision}
 use Rattle.keep.specs.declared.arrival.Arrival.{Arrival}
-use Rattle.keep.specs.declared.change.Judgement.{Judgement}
 use Rattle.queue.specs.Before.{before_each, before_each-push}
 use Rattle.queue.specs.Histories.{Call, Delivery, QueueRun, Copying, Lookup, WaitingList, Cleaning, Removing, Promoting, VerdictList, Reply, Step, History, arrived, bodies_of_call, completes, counting, due_after, has_come, waiting_after, was_judged}
-use Rattle.queue.specs.Archives.{PlainArchive, Act, Whole, Copy, Remove, Promote, acted, acts_of, all_acts, archive, archive_of, book_from, book_of, copied, copied_all, removed, sources_in, suite_named, whole, whole_of, with_admitted}
+use Rattle.queue.specs.Archives.{PlainArchive, Whole, Copy, Remove, Promote, acted, acts_of, all_acts, archive, archive_of, book_from, book_of, copied, copied_all, removed, sources_in, suite_named, whole, whole_of, with_admitted}
 use Rattle.queue.specs.Answers.{IsFaithful}
 use Rattle.queue.specs.declared.fault.Fault.{Fault}
-use Rattle.queue.proofs.Lists.{all_always, all_filter, all_filter_map, all_front, all_weaker, by_steps, filter_agree_on, list_any-map}
+use Rattle.queue.proofs.Lists.{all_filter_map, all_front, all_weaker, by_steps, filter_agree_on}
 use Rattle.queue.proofs.Known.{ArrivalsHave, StepsHave, Knows, arrived_have, counting_have, counting_known, faithful_knows, with_empty, has_empty}
 use Rattle.queue.proofs.Steps.{step_of, archive-push}
 

@@ -1,14 +1,14 @@
 -- The bodies that a history knows: those of its arrivals, of all that its plain archive was given, and of its pool.
-use Rattle.std.proofs.Common.{◌≡◌, ℕ, zero, suc, ◌<◌, Bool, true, false, cond, List, [], ◌∷◌, ◌++◌, map, filter, fold, length, Option, Some, None, Result, Ok, Err, Ordering, refl, sym, ap, subst, ◌∙◌, arith}
-use Rattle.std.specs.Prelude.{Contains, ⊤, IfSome, zip, option_to_list, slice_get, bytes_eq}
+use Rattle.std.proofs.Common.{◌≡◌, ℕ, Bool, true, false, cond, List, [], ◌∷◌, ◌++◌, map, fold, length, Option, Some, None, Result, Ok, Err, Ordering, refl, sym, ap, subst, ◌∙◌, arith}
+use Rattle.std.specs.Prelude.{Contains, ⊤, IfSome, zip, option_to_list, slice_get}
 use Rattle.std.specs.declared.cmp.Ordering.TheVariants.{Less, Equal, Greater}
 use Rattle.std.specs.Cmp.{IsTotalOrder}
-use Rattle.std.specs.List.{AllByRecursion, flat_map, filter_map}
+use Rattle.std.specs.List.{AllByRecursion}
 use Rattle.std.specs.Result.{result_ok}
 use Rattle.std.specs.FinMap.Entries.{by_order}
 use Rattle.std.specs.Ordering.{eq_by_cmp}
 use Rattle.suites.specs.Keys.{key_order, text_order}
-use Rattle.std.specs.FinMap.{FinMap, empty, entries, values, get, insert, from_entries, find, put, entries-insert, get-from_entries, len-entries, len-empty}
+use Rattle.std.specs.FinMap.{empty, entries, values, get, from_entries, find, put, entries-insert, get-from_entries, len-entries, len-empty}
 use Rattle.records.specs.Records.{dsc_in, sidecar_in}
 use Rattle.records.specs.Values.{DscValue, SidecarValue}
 use Rattle.rules.specs.Values.{ConfigValue}
@@ -18,11 +18,11 @@ use Rattle.rules.specs.declared.verdict.Verdict.{Verdict}
 use Rattle.rules.specs.declared.verdict.Verdict.TheVariants as verdict
 use Rattle.sums.specs.Prints.{print as print_of}
 use Rattle.sums.specs.declared.entries.Entry.{Entry}
-use Rattle.suites.specs.Held.{held, held_behind}
-use Rattle.suites.specs.Items.{FileWith, ItemWith, Admitted, on_shelf}
+use Rattle.suites.specs.Held.{held_behind}
+use Rattle.suites.specs.Items.{FileWith, Admitted, on_shelf}
 use Rattle.suites.specs.KeyLemmas.{key_order_total, text_order_total}
 use Rattle.suites.specs.Plan.{given, admitted_if}
-use Rattle.suites.specs.Pool.{files_with, pool_of}
+use Rattle.suites.specs.Pool.{files_with}
 use Rattle.suites.specs.Shelves.{shown}
 use Rattle.suites.specs.Upload.{UploadValue, Part, items_of, source_item, binary_item, dsc_parts, sidecar_parts, package_file}
 use Rattle.suites.specs.declared.item.Item.{Item}
@@ -31,11 +31,11 @@ use Rattle.keep.specs.Book.{Book, Candidate, at_latest, body_for, counts, curren
 use Rattle.keep.specs.Keeping.{HasBodies, NoCollision}
 use Rattle.keep.specs.declared.arrival.Arrival.{Arrival}
 use Rattle.queue.specs.Histories.{Call, Delivery, QueueRun, Copying, Lookup, WaitingList, Cleaning, Removing, Promoting, VerdictList, Reply, Step, History, arrived, arrivals_after, bodies_of, bodies_of_call, calls_of, counting, due_after}
-use Rattle.queue.specs.Archives.{PlainArchive, Act, Whole, Copy, Remove, Promote, WholeUpload, BodyItem, acted, acts_of, archive, archive_of, all_acts, book_from, book_of, contents_of, copied, copied_all, items_copied, items_given, listed_body, pool_in, removed, shown_in, sources_in, suite_named, version_with, whole, whole_of, with_bodies, with_admitted}
-use Rattle.queue.specs.Answers.{IsFaithful, IsOpening}
+use Rattle.queue.specs.Archives.{PlainArchive, Act, Whole, Copy, Remove, Promote, WholeUpload, BodyItem, acted, acts_of, archive, archive_of, all_acts, book_from, book_of, contents_of, copied, copied_all, items_copied, items_given, listed_body, pool_in, removed, shown_in, sources_in, suite_named, whole, whole_of, with_bodies, with_admitted}
+use Rattle.queue.specs.Answers.{IsFaithful}
 use Rattle.queue.specs.declared.fault.Fault.{Fault}
-use Rattle.queue.proofs.Lists.{all_append, all_front, all_back, all_weaker, all_map, all_unmap, all_filter, all_filter_map, all_flat_map, all_from_flat_map, all_contained, all_from_contained, all_always, at_contained, at_some, by_steps, contains_cases, contains_later, find_have, map_have, or_have, unwrap_or_has}
-use Rattle.queue.proofs.Steps.{step_of, arrived-push, archive-push}
+use Rattle.queue.proofs.Lists.{all_append, all_front, all_back, all_weaker, all_map, all_unmap, all_filter, all_filter_map, all_flat_map, all_from_flat_map, all_from_contained, all_always, at_contained, at_some, by_steps, contains_cases, contains_later, find_have, map_have, or_have, unwrap_or_has}
+use Rattle.queue.proofs.Steps.{arrived-push, archive-push}
 
 -- the contents of each file
 abbrev pub FilesHave : (List ℕ → Type 0) → List (FileWith (List ℕ)) → Type 0

@@ -1,7 +1,7 @@
 -- Lists: what holds of each element, by recursion; filters; a rule over steps.
 use Rattle.std.proofs.Common.{◌≡◌, ℕ, zero, suc, ◌<◌, Bool, true, false, cond, ◌||◌, List, [], ◌∷◌, ◌++◌, map, filter, Option, Some, None, get_or, length, refl, sym, ap, subst, ◌∙◌, arith, append_assoc, append-nil}
 use Rattle.std.specs.Prelude.{Contains, IfSome}
-use Rattle.std.specs.List.{AllByRecursion, All, list_any, flat_map, filter_map, cons_option, find}
+use Rattle.std.specs.List.{AllByRecursion, list_any, flat_map, filter_map, cons_option, find}
 use Rattle.std.specs.Option.{option_map, option_or, unwrap_or}
 use Rattle.std.proofs.lemmas.List.Elements.{recursion_from_All, All-from_recursion}
 

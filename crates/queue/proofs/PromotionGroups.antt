@@ -1,5 +1,5 @@
 -- The shelves of a suite in groups, and that a copy to another suite changes none of them.
-use Rattle.std.proofs.Common.{◌≡◌, ◌≢◌, ◌==◌, ℕ, Bool, true, false, cond, not, ◌&&◌, ◌||◌, List, [], ◌∷◌, ◌++◌, map, filter, flat_map, length, Option, Some, None, option_and_then, option_to_list, slice_get, nat_eq, bytes_eq, refl, sym, ap, ◌∙◌, append-nil, arith, String, Global, true≢false}
+use Rattle.std.proofs.Common.{◌≡◌, ◌≢◌, ◌==◌, ℕ, Bool, true, false, cond, not, ◌&&◌, ◌||◌, List, [], ◌∷◌, ◌++◌, map, filter, length, Option, Some, None, option_and_then, option_to_list, slice_get, nat_eq, bytes_eq, refl, sym, ap, ◌∙◌, append-nil, arith, String, Global, true≢false}
 use Rattle.std.specs.Prelude.{Contains, T}
 use Rattle.std.specs.BTreeMap.{BTreeMap, UpdatesBy, get_by_text}
 use Rattle.std.specs.Cmp.Lexicographic.{slice_cmp}

@@ -1,7 +1,6 @@
 -- The source packages of a promotion in their order, and the steps of their copies.
-use Rattle.std.proofs.Common.{◌≡◌, ℕ, Bool, true, false, cond, List, [], ◌∷◌, ◌++◌, map, filter, take, length, fold, Option, Some, None, nat_eq, refl, sym, ap, subst, ◌∙◌, append-nil, if◌then◌else◌, String, Global}
-use Rattle.std.specs.Prelude.{⊤}
-use Rattle.std.specs.List.{filter_map, cons_option}
+use Rattle.std.proofs.Common.{◌≡◌, ℕ, Bool, true, false, cond, List, [], ◌∷◌, ◌++◌, map, filter, Option, nat_eq, refl, sym, ap, subst, ◌∙◌, append-nil, String, Global}
+use Rattle.std.specs.List.{cons_option}
 use Rattle.std.specs.BTreeSet.{insert_key}
 use Rattle.std.specs.Ordering.{match_ordering}
 use Rattle.std.specs.String.{string_cmp, string_bytes}
@@ -11,7 +10,7 @@ use Rattle.std.proofs.lemmas.Grind.{fold-append}
 use Rattle.std.proofs.lemmas.List.{map-append}
 use Rattle.std.proofs.lemmas.List.Elements.{filter-append}
 use Rattle.rules.specs.Values.{ConfigValue}
-use Rattle.suites.specs.Plan.{IsStep, after_copy, applied}
+use Rattle.suites.specs.Plan.{after_copy}
 use Rattle.suites.specs.Shelves.{ShelvesValue}
 use Rattle.suites.specs.declared.item.Item.{Item}
 use Rattle.suites.specs.declared.key.ShelfKey.{ShelfKey}

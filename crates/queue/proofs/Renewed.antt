@@ -1,7 +1,7 @@
 -- The texts that the program finds are those that steps change.
-use Rattle.std.proofs.Common.{◌≡◌, ◌≢◌, ◌⊎◌, inl, inr, ℕ, zero, suc, ◌+◌, Bool, true, false, if◌then◌else◌, List, [], ◌∷◌, ◌++◌, length, drop, take, map, codes, Option, Some, None, Ok, is_some, unwrap_or, bytes_eq, refl, sym, ap, subst, ◌∙◌, arith}
-use Rattle.std.specs.List.{enumerate_from, flat_map, zip}
-use Rattle.std.specs.Prelude.{All, AllPairs, Contains, ⊤}
+use Rattle.std.proofs.Common.{◌≡◌, ◌≢◌, ◌⊎◌, inl, inr, ℕ, zero, suc, ◌+◌, Bool, true, false, if◌then◌else◌, List, [], ◌∷◌, ◌++◌, length, drop, take, map, codes, Option, Some, None, Ok, is_some, unwrap_or, bytes_eq, refl, sym, ap, subst, ◌∙◌}
+use Rattle.std.specs.List.{flat_map, zip}
+use Rattle.std.specs.Prelude.{AllPairs, Contains, ⊤}
 use Rattle.std.proofs.lemmas.List.Elements.{Contains-append_cases, Contains-append_left, Contains-append_right}
 use Rattle.std.proofs.lemmas.List.Kept.{AllPairs-cons}
 use Rattle.std.proofs.lemmas.Slice.Eq.{bytes_eq-Decides}
@@ -15,10 +15,10 @@ use Rattle.keep.proofs.Dates.{dated, dates_past-dated}
 use Rattle.rules.specs.Configuration.{config_in}
 use Rattle.rules.specs.declared.suite.Suite.{Suite}
 use Rattle.suites.specs.Shelves.{ShelvesValue}
-use Rattle.sums.proofs.Members.{all_at, all_from, contains_map, from_map, here, there, which, no_member, pairs_head, pairs_tail}
+use Rattle.sums.proofs.Members.{all_at, all_from, contains_map, from_map, here, there, which, no_member, pairs_head}
 use Rattle.texts.specs.Indices.{PathText, index_text, suite_texts, text_at, texts_from}
 use Rattle.texts.specs.Release.{index_of, indices_of, release_text}
-use Rattle.texts.proofs.Found.{found_front, none_front, text_at-found, text_at-nil, text_at-other}
+use Rattle.texts.proofs.Found.{found_front, none_front, text_at-found, text_at-other}
 use Rattle.queue.specs.Renewal.{folder_of, index_after, is_kept, path_in, place_path, place_text, places_in, renewed_at, renewed_folder, renewed_from, renewed_index, renewed_suite, some_changes_index, text_after}
 use Rattle.queue.specs.declared.renewal.Folder.{Folder}
 use Rattle.queue.specs.declared.renewal.Place.{Place}

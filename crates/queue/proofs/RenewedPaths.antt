@@ -1,8 +1,8 @@
 -- The paths of a configuration's texts differ.
-use Rattle.std.proofs.Common.{◌≡◌, ◌≢◌, ◌⊎◌, inl, inr, ℕ, Bool, true, false, cond, not, ◌&&◌, ◌||◌, List, [], ◌∷◌, ◌++◌, drop, get_or, map, codes, Option, Some, None, Ok, bytes_eq, refl, sym, ap, subst, ◌∙◌, append_assoc, arith}
-use Rattle.std.specs.List.{flat_map, list_all, list_any}
+use Rattle.std.proofs.Common.{◌≡◌, ◌≢◌, ℕ, Bool, true, false, cond, not, ◌&&◌, List, [], ◌∷◌, ◌++◌, drop, get_or, map, codes, Option, Some, None, Ok, bytes_eq, refl, sym, ap, subst, ◌∙◌, append_assoc, arith}
+use Rattle.std.specs.List.{list_all, list_any}
 use Rattle.std.specs.Option.{option_map, option_map_or}
-use Rattle.std.specs.Prelude.{All, AllPairs, Contains, ⊤, length, nat_le, option_to_list, unwrap_or}
+use Rattle.std.specs.Prelude.{AllPairs, Contains, ⊤, length, nat_le, option_to_list, unwrap_or}
 use Rattle.para.specs.Bytes.{is_nil}
 use Rattle.std.proofs.lemmas.List.Kept.{AllPairs-cons}
 use Rattle.std.proofs.lemmas.Slice.Eq.{bytes_eq-Decides}
@@ -11,8 +11,8 @@ use Rattle.para.specs.Field.{FieldValue}
 use Rattle.std.specs.Char.{is_ascii_alphanumeric, is_ascii_lowercase}
 use Rattle.records.specs.Names.{begins_with, is_architecture_byte, is_architecture_name, is_plain_byte, is_plain_name}
 use Rattle.records.specs.Records.{are_different, is_among}
-use Rattle.rules.specs.Configuration.{claims_again, config_fault, config_in, have_bad_value, ClaimApart}
-use Rattle.rules.specs.Paragraphs.{are_names, first_line, has_bad_value, has_good_lines, has_good_names, has_keep_days, is_days_line, is_filled_line, is_listed_architecture, is_plain_line, are_plain_words, lacks_field, names_claimed, passes, suite_of, words}
+use Rattle.rules.specs.Configuration.{config_fault, config_in, have_bad_value, ClaimApart}
+use Rattle.rules.specs.Paragraphs.{are_names, first_line, has_bad_value, has_good_lines, has_good_names, has_keep_days, is_days_line, is_filled_line, is_listed_architecture, is_plain_line, are_plain_words, lacks_field, passes, suite_of, words}
 use Rattle.rules.specs.Suites.{claims, distributions}
 use Rattle.rules.specs.Values.{ConfigValue}
 use Rattle.rules.specs.declared.fault.ConfigFault.{ConfigFault}
@@ -21,7 +21,7 @@ use Rattle.rules.specs.declared.suite.Suite.{Suite}
 use Rattle.rules.proofs.Apart.{claim_apart}
 use Rattle.rules.proofs.Configs.{is_config}
 use Rattle.sums.proofs.Booleans.{both, denied, neither, passed}
-use Rattle.sums.proofs.Members.{all_from, all_true, any_false, any_true, from_map, here, there, which, no_member}
+use Rattle.sums.proofs.Members.{all_from, all_true, any_false, any_true, from_map, here}
 use Rattle.texts.specs.Release.{index_path, is_source}
 use Rattle.queue.specs.Renewal.{place_at, place_path, places_in}
 use Rattle.queue.specs.declared.renewal.Place.{Place}

@@ -1,6 +1,6 @@
 -- A plan leaves the text of each index that lists nothing that it puts or drops.
-use Rattle.std.proofs.Common.{◌≡◌, ◌≢◌, ◌⊎◌, inl, inr, ℕ, Bool, true, false, cond, not, ◌&&◌, ◌||◌, if◌then◌else◌, List, [], ◌∷◌, map, Option, Some, None, is_some, nat_eq, bytes_eq, codes, refl, sym, ap, subst, ◌∙◌}
-use Rattle.std.specs.Prelude.{All, Contains, T, filter}
+use Rattle.std.proofs.Common.{◌≡◌, ◌≢◌, ℕ, Bool, true, false, cond, if◌then◌else◌, List, [], ◌∷◌, Option, Some, None, is_some, nat_eq, refl, sym, ap, ◌∙◌}
+use Rattle.std.specs.Prelude.{T, filter}
 use Rattle.std.specs.Cmp.{IsTotalOrder}
 use Rattle.std.specs.FinMap.{FinMap, IsAntisymmetric, entries, entries_sorted, find, from_entries, get, get-entries, get-from_entries, is_sorted, same_map}
 use Rattle.std.specs.FinMap.Entries.{below_all}
@@ -11,12 +11,12 @@ use Rattle.keep.specs.Book.{shown_past, touches}
 use Rattle.keep.specs.Keeping.{AreSteps}
 use Rattle.keep.specs.Scan.{some_touches}
 use Rattle.keep.specs.declared.change.Step.{Step}
-use Rattle.sums.proofs.Booleans.{both, neither}
+use Rattle.sums.proofs.Booleans.{neither}
 use Rattle.sums.proofs.Members.{all_at, any_false, any_none}
 use Rattle.suites.proofs.EntryLemmas.{and_left, and_right, sorted-filter, tied_behind}
 use Rattle.suites.proofs.MapChanges.{get-with_all, get-without, or_else}
 use Rattle.suites.proofs.MapLemmas.{entries-view}
-use Rattle.suites.specs.Change.{IsChange, with_all, without}
+use Rattle.suites.specs.Change.{IsChange, without}
 use Rattle.suites.specs.KeyLemmas.{key_order_total, key_order-IsAntisymmetric}
 use Rattle.suites.specs.Plan.{IsStep, applied}
 use Rattle.suites.specs.Shelves.{ShelvesValue}
@@ -24,7 +24,7 @@ use Rattle.suites.specs.declared.item.Item.{Item}
 use Rattle.suites.specs.declared.key.ShelfKey.{ShelfKey}
 use Rattle.suites.specs.declared.plan.Plan.{Plan}
 use Rattle.texts.specs.Release.{is_source, listed_text}
-use Rattle.texts.specs.Stanzas.{is_binary, is_in_packages, is_in_sources, package_stanza, packages_text, source_stanza, sources_text}
+use Rattle.texts.specs.Stanzas.{is_in_packages, is_in_sources, package_stanza, packages_text, source_stanza, sources_text}
 use Rattle.queue.specs.Renewal.{changes_index, is_listed, place_text, some_changes_index}
 use Rattle.queue.specs.declared.renewal.Place.{Place}
 use Rattle.queue.proofs.ContentsMaps.{find-Contains, tied_keys}

@@ -1,5 +1,5 @@
 -- The steps of the functions that find the texts that are other than the kept ones.
-use Rattle.std.proofs.Common.{◌≡◌, ℕ, ◌+◌, ◌<◌, Bool, true, false, if◌then◌else◌, List, [], ◌∷◌, ◌++◌, length, drop, take, get_or, slice_get, map, codes, Option, Some, None, is_some, unwrap_or, refl, sym, ap, ◌∙◌, append_assoc, append-nil, arith}
+use Rattle.std.proofs.Common.{◌≡◌, ℕ, ◌+◌, ◌<◌, Bool, true, false, if◌then◌else◌, List, [], ◌∷◌, ◌++◌, length, drop, take, get_or, slice_get, map, Option, Some, None, unwrap_or, refl, sym, ap, ◌∙◌, append_assoc, append-nil, arith}
 use Rattle.std.specs.List.{flat_map}
 use Rattle.std.specs.Option.{option_map, option_map_or}
 use Rattle.std.proofs.lemmas.List.{drop_more, map-append, take_more}
@@ -16,7 +16,7 @@ use Rattle.sums.specs.Prints.{print}
 use Rattle.sums.specs.declared.print.Print.{Print}
 use Rattle.suites.specs.Shelves.{ShelvesValue}
 use Rattle.texts.specs.declared.index.Index.{Index}
-use Rattle.queue.specs.Renewal.{folder_of, index_after, path_in, place_path, place_text, print_kept, renewed_at, renewed_folder, renewed_from, renewed_index, renewed_suite, some_changes_index, text_after}
+use Rattle.queue.specs.Renewal.{folder_of, index_after, path_in, place_path, place_text, print_kept, renewed_folder, renewed_from, renewed_index, renewed_suite, some_changes_index, text_after}
 use Rattle.queue.specs.declared.renewal.Folder.{Folder}
 use Rattle.queue.specs.declared.renewal.Place.{Place}
 

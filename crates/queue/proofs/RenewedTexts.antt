@@ -1,29 +1,25 @@
 -- The texts of a book after steps: those that are read or rendered are those of the definition, and they cover each path at
 -- which the texts differ.
-use Rattle.std.proofs.Common.{◌≡◌, ◌≢◌, ◌⊎◌, inl, inr, ℕ, ◌+◌, Bool, true, false, if◌then◌else◌, List, [], ◌∷◌, ◌++◌, length, drop, map, codes, Option, Some, None, is_some, unwrap_or, bytes_eq, refl, sym, ap, subst, ◌∙◌, arith}
-use Rattle.std.specs.List.{flat_map, zip}
-use Rattle.std.specs.Prelude.{All, AllPairs, Contains}
+use Rattle.std.proofs.Common.{◌≡◌, ◌≢◌, ◌⊎◌, inl, inr, ℕ, ◌+◌, Bool, true, false, if◌then◌else◌, List, [], ◌∷◌, ◌++◌, map, codes, Option, Some, is_some, refl, sym, ap, ◌∙◌}
+use Rattle.std.specs.List.{flat_map}
+use Rattle.std.specs.Prelude.{AllPairs, Contains}
 use Rattle.std.proofs.lemmas.List.{map-append}
-use Rattle.std.proofs.lemmas.List.Elements.{Contains-append_cases, Contains-append_left, Contains-append_right}
-use Rattle.std.proofs.lemmas.List.Kept.{AllPairs-cons}
+use Rattle.std.proofs.lemmas.List.Elements.{Contains-append_cases}
 use Rattle.std.proofs.lemmas.Slice.Eq.{bytes_eq-Decides}
 use Rattle.keep.specs.Scan.{some_touches}
 use Rattle.keep.specs.declared.change.IndexText.{IndexText}
 use Rattle.keep.specs.declared.change.Step.{Step}
-use Rattle.keep.proofs.Dates.{dated}
 use Rattle.rules.specs.declared.suite.Suite.{Suite}
 use Rattle.suites.specs.Shelves.{ShelvesValue}
-use Rattle.sums.proofs.Members.{all_at, all_from, contains_map, from_map, here, there, which, no_member, pairs_head, pairs_tail}
-use Rattle.texts.specs.Indices.{PathText, folder_texts, suite_path, suite_texts, text_at, texts_from}
-use Rattle.texts.specs.Release.{index_of, index_path, indices_of, listed_entry, listed_texts, release_text}
+use Rattle.sums.proofs.Members.{all_at, here, there, which, no_member, pairs_head, pairs_tail}
+use Rattle.texts.specs.Indices.{PathText, folder_texts, suite_path, suite_texts}
+use Rattle.texts.specs.Release.{index_of, indices_of, listed_entry, listed_texts, release_text}
 use Rattle.texts.specs.declared.index.Index.{Index}
-use Rattle.texts.proofs.Found.{found_front, none_front, text_at-found, text_at-other}
-use Rattle.queue.specs.Renewal.{folder_of, index_after, is_kept, path_in, place_at, place_path, place_text, places_in, renewed_at, renewed_folder, renewed_from, renewed_index, renewed_suite, some_changes_index, text_after}
+use Rattle.queue.specs.Renewal.{folder_of, index_after, is_kept, path_in, place_at, place_path, place_text, places_in, renewed_at, renewed_folder, renewed_from, renewed_index, renewed_suite, some_changes_index}
 use Rattle.queue.specs.declared.renewal.Folder.{Folder}
 use Rattle.queue.specs.declared.renewal.Place.{Place}
-use Rattle.queue.proofs.RenewedLists.{PathsDiffer, in_flat, into_flat, not_equal, pairs_append, pairs_flat, pairs_map, pairs_none, pairs_one, same_map_over}
+use Rattle.queue.proofs.RenewedLists.{in_flat, pairs_append, pairs_flat, pairs_none, pairs_one}
 use Rattle.queue.proofs.RenewedPaths.{AreNamed, NoSlash, folders, index_or_release, places_apart}
-use Rattle.queue.proofs.RenewedShelves.{untouched_index}
 
 pub map_twice : {A B C : Type 0} (f : B → C) (g : A → B) (xs : List A) → map f (map g xs) ≡ map (λ x. f (g x)) xs
 map_twice f g [] = refl

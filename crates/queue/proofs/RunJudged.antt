@@ -1,16 +1,14 @@
 -- What the steps of judged uploads are: sound, signed as the uploads, and the way to the shelves after them.
-use Rattle.std.proofs.Common.{◌≡◌, ℕ, suc, List, [], ◌∷◌, ◌++◌, map, take, length, Option, Some, None, refl, sym, ap, subst, ◌∙◌}
-use Rattle.std.specs.Prelude.{⊤}
-use Rattle.std.specs.List.{fold, filter_map, cons_option}
+use Rattle.std.proofs.Common.{◌≡◌, ℕ, suc, List, [], ◌∷◌, ◌++◌, map, take, length, Some, refl, sym, ap, subst, ◌∙◌}
+use Rattle.std.specs.List.{cons_option}
 use Rattle.rules.specs.Values.{ConfigValue}
-use Rattle.suites.specs.Plan.{IsStep, after_upload, applied}
+use Rattle.suites.specs.Plan.{after_upload}
 use Rattle.suites.specs.Shelves.{ShelvesValue}
 use Rattle.suites.specs.Told.{AreTold}
 use Rattle.suites.specs.Upload.{UploadValue}
 use Rattle.sums.specs.declared.print.Print.{Print}
 use Rattle.keep.specs.Book.{Book, Candidate, amended, at_moment, due, judgements, shown_past}
 use Rattle.keep.specs.Keeping.{AreRenewed, AreSteps, IsSound, sign_of, sign_on}
-use Rattle.keep.specs.declared.change.Change.{Change}
 use Rattle.keep.specs.declared.change.IndexText.{IndexText}
 use Rattle.keep.specs.declared.change.Judgement.{Judgement}
 use Rattle.keep.specs.declared.change.Step.{Step}

@@ -1,5 +1,5 @@
 -- A promotion by prints on what the book shows, and in the plain archive: the same.
-use Rattle.std.proofs.Common.{◌≡◌, ℕ, Bool, true, false, List, [], ◌∷◌, ◌++◌, map, filter, length, fold, Option, Some, None, nat_eq, nat_lt, Ok, refl, sym, ap, ◌∙◌, subst, append-nil, if◌then◌else◌}
+use Rattle.std.proofs.Common.{◌≡◌, ℕ, Bool, false, List, [], ◌∷◌, ◌++◌, map, filter, fold, Option, Some, None, nat_eq, nat_lt, Ok, refl, sym, ap, ◌∙◌, subst, append-nil, if◌then◌else◌}
 use Rattle.std.specs.Prelude.{Contains}
 use Rattle.std.specs.FinMap.{entries, values}
 use Rattle.std.specs.List.{cons_option, list_any}
@@ -46,7 +46,7 @@ sources-printed a from =
     ap (λ (es : List (ShelfKey × Item)). map (λ (e : ShelfKey × Item). e.1.source) (filter (λ (e : ShelfKey × Item). nat_eq e.0.suite from) es)) (entries-shown_by_print a)
     ∙ ap (map (λ (e : ShelfKey × Item). e.1.source))
     (filter-map printed (λ (e : ShelfKey × Item). nat_eq e.0.suite from) (λ (e : ShelfKey × BodyItem). nat_eq e.0.suite from) (λ e. refl) (entries (shown_in a)))
-    ∙ map-map printed (λ (e : ShelfKey × Item). e.1.source) (filter (λ (e : ShelfKey × BodyItem). nat_eq e.0.suite from) (entries (shown_in a)))
+    ∙ map-map (λ (e : ShelfKey × Item). e.1.source) printed (filter (λ (e : ShelfKey × BodyItem). nat_eq e.0.suite from) (entries (shown_in a)))
 
 -- those of a promotion
 pub promoted_sources : (a : PlainArchive) (from : ℕ) (sources : Option (List (List ℕ))) → sources_from (shown_by_print a) from sources ≡ sources_in a from sources

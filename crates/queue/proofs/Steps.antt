@@ -1,5 +1,5 @@
 -- What one more call makes of the book of a history.
-use Rattle.std.specs.Prelude.{◌≡◌, ℕ, List, [], ◌∷◌, ◌++◌, Result, Ok, Err, refl}
+use Rattle.std.specs.Prelude.{◌≡◌, ℕ, List, [], ◌∷◌, ◌++◌, Result, Ok, Err}
 use Rattle.std.specs.List.{flat_map, fold}
 use Rattle.std.proofs.Common.{append-nil, ap, ◌∙◌}
 use Rattle.std.proofs.lemmas.Grind.{fold-append, flat_map-append}
@@ -7,7 +7,7 @@ use Rattle.keep.specs.Book.{Book, at_moment, span, with_delivery}
 use Rattle.keep.specs.declared.arrival.Arrival.{Arrival}
 use Rattle.queue.specs.Before.{before_each, before_each-push}
 use Rattle.queue.specs.Histories.{Call, Delivery, QueueRun, Copying, Lookup, WaitingList, Cleaning, Removing, Promoting, VerdictList, Reply, Step, History, arrived, arrivals_after, followed}
-use Rattle.queue.specs.Archives.{PlainArchive, acted, acts_of, all_acts, archive, archive_of, book_from, book_of}
+use Rattle.queue.specs.Archives.{acted, acts_of, all_acts, archive, archive_of, book_from, book_of}
 use Rattle.queue.specs.declared.fault.Fault.{Fault}
 
 -- a call and its outcome as a step

@@ -1,17 +1,16 @@
 -- The plain archive, to which each upload is handed whole and once.
-use Rattle.std.specs.Prelude.{◌≡◌, ℕ, nat_eq, Bool, true, false, ◌&&◌, ◌||◌, not, if◌then◌else◌, List, [], ◌∷◌, ◌++◌, map, filter, find, zip, length, bytes_eq, Option, Some, None, option_map, option_to_list, unwrap_or, Result, Ok, Err, position, slice_get}
+use Rattle.std.specs.Prelude.{◌≡◌, ℕ, nat_eq, Bool, false, ◌&&◌, ◌||◌, not, if◌then◌else◌, List, [], ◌∷◌, ◌++◌, map, filter, find, zip, bytes_eq, Option, Some, None, option_map, option_to_list, unwrap_or, Result, Ok, position, slice_get}
 use Rattle.std.specs.Option.{option_map_or, option_or}
 use Rattle.std.specs.List.{list_any, flat_map, fold, enumerate_from}
-use Rattle.std.specs.FinMap.{FinMap, entries, values, get}
+use Rattle.std.specs.FinMap.{entries, values, get}
 use Rattle.std.specs.Ordering.{match_ordering}
-use Rattle.records.specs.Values.{ChangesValue}
 use Rattle.rules.specs.Values.{ConfigValue}
 use Rattle.rules.specs.Judgement.{component}
 use Rattle.rules.specs.Suites.{keeps_architecture, keeps_component}
 use Rattle.rules.specs.declared.suite.Suite.{Suite}
 use Rattle.sums.specs.Prints.{print as print_of}
 use Rattle.sums.specs.declared.entries.Entry.{Entry}
-use Rattle.suites.specs.Items.{FileWith, ItemWith, Admitted, shelf_of, on_shelf, item_with, item_of}
+use Rattle.suites.specs.Items.{ItemWith, Admitted, on_shelf, item_with, item_of}
 use Rattle.suites.specs.Keys.{text_order}
 use Rattle.suites.specs.Plan.{given, admitted_if, is_removed}
 use Rattle.suites.specs.Pool.{PoolWith, pool_of, files_with, pool_path}

@@ -1,5 +1,5 @@
 -- The steps of a run: each upload is judged on what those before it leave.
-use Rattle.std.specs.Prelude.{◌≡◌, List, [], ◌∷◌, Option, Some, ⊤}
+use Rattle.std.specs.Prelude.{◌≡◌, List, [], ◌∷◌, Some, ⊤}
 use Rattle.std.specs.List.{fold}
 use Rattle.rules.specs.Values.{ConfigValue}
 use Rattle.suites.specs.Plan.{IsStep, after_upload}

@@ -1,5 +1,5 @@
 -- Which promotions are refused, the steps of one that is not, and the copies in a row that it stands for.
-use Rattle.std.specs.Prelude.{◌≡◌, ⊤, ℕ, nat_eq, nat_lt, if◌then◌else◌, List, [], ◌∷◌, map, filter, length, Option, Some, None, Result, Ok, Err}
+use Rattle.std.specs.Prelude.{◌≡◌, ⊤, ℕ, nat_eq, nat_lt, if◌then◌else◌, List, [], ◌∷◌, map, filter, length, Option, Some, None, Result, Ok}
 use Rattle.std.specs.FinMap.{entries}
 use Rattle.std.specs.List.{fold}
 use Rattle.std.specs.declared.alloc.Global.{Global}
@@ -13,7 +13,7 @@ use Rattle.suites.specs.declared.key.ShelfKey.{ShelfKey}
 use Rattle.queue.specs.Answers.{answer}
 use Rattle.queue.specs.Archives.{each_once, suite_named}
 use Rattle.queue.specs.Copies.{shows_source, suites_fault}
-use Rattle.queue.specs.Histories.{Call, Copying, Count, History, Reply, followed}
+use Rattle.queue.specs.Histories.{Copying, Count, History, Reply, followed}
 use Rattle.queue.specs.declared.fault.Fault.{Fault}
 use Rattle.queue.specs.declared.fault.Fault.TheVariants.{Moment}
 

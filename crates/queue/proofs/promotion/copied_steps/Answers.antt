@@ -2,7 +2,6 @@ use Rattle.std.proofs.Common.{◌≡◌, ◌==◌, not, ℕ, take, ◌+◌, List
 use Rattle.std.specs.String.{string_bytes}
 use Rattle.std.proofs.lemmas.Grind.{fold-append}
 use Rattle.std.proofs.lemmas.List.{map-append, take_more}
-use Rattle.keep.specs.declared.change.Step.{Step}
 use Rattle.suites.specs.Plan.{after_copy, shelves_of}
 use Rattle.suites.specs.Shelves.{ShelvesValue}
 use Rattle.suites.specs.Told.{AreTold}
@@ -54,7 +53,7 @@ loop-source-preserved c =
     let text : string_bytes c.in_ok-from_str.field-0 ≡ s = c.in_ok-from_str.ensures.ok ∙ named in
     let copy : SourceCopy = record { source = c.in_ok-from_str.field-0; items = c.items_of-items.result } in
     record {
-      copied = subst (λ names. AreCopied config from to before names c.push-2.new.self.items) (sym more)
+      copied = subst (λ names. AreCopied config from to before names c.push-in-loop-source.new.self.items) (sym more)
           (subst (AreCopied config from to before (ss ++ s ∷ [])) (sym c.in_ok-push-2.ensures.items)
           (copied-push config from to before ss steps s step c.loop-source.invariant.copied is_step));
       copies = ap (map copy_of) c.in_ok-push.ensures.items
@@ -62,7 +61,7 @@ loop-source-preserved c =
           ∙ (λ k. c.loop-source.invariant.copies k ++ (text k, items k) ∷ [])
           ∙ sym (copies-push config from to before ss steps s step c.loop-source.invariant.copied)
           ∙ ap (copies_on config from to before (ss ++ s ∷ [])) (sym c.in_ok-push-2.ensures.items)
-          ∙ ap (λ names. copies_on config from to before names c.push-2.new.self.items) (sym more);
+          ∙ ap (λ names. copies_on config from to before names c.push-in-loop-source.new.self.items) (sym more);
       shelves = c.in_ok-step.ensures.shelves ∙ after;
       same = λ q. ap (λ (m : ShelvesValue). shelves_of m from q) c.in_ok-step.ensures.shelves
           ∙ group_stays config c.loop-source.shelves from to c.as_str-name.result.now q c.requires.other

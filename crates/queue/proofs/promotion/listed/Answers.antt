@@ -2,7 +2,7 @@ use Rattle.std.proofs.Common.{[], ◌∷◌, ◌++◌, sym, ap, ◌∙◌, appen
 use Rattle.queue.proofs.promotion.listed.Goals as goal
 
 pub loop-name-init : goal.loop-name-init
-loop-name-init c = c.into_iter-name-iterator.ensures.into_iter_gives.0
+loop-name-init c = ap (λ list. list ++ c.into_iter-name-iterator.result) c.new-list.ensures.items ∙ c.into_iter-name-iterator.ensures.into_iter_gives.0
 
 pub loop-name-preserved : goal.loop-name-preserved
 loop-name-preserved c =

@@ -1,4 +1,4 @@
-use Rattle.std.proofs.Common.{◌≡◌, ◌++◌, Result, Ok, Err, OnOk, append-nil, string_bytes, refl, sym, ap, ◌∙◌}
+use Rattle.std.proofs.Common.{◌++◌, Result, Ok, Err, OnOk, append-nil, string_bytes, refl, sym, ap, ◌∙◌}
 use Rattle.std.proofs.lemmas.Result.{IfOk-weaker}
 use Rattle.keep.specs.Book.{text_at}
 use Rattle.texts.specs.Release.{index_path}

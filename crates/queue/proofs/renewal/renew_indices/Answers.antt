@@ -1,4 +1,4 @@
-use Rattle.std.proofs.Common.{◌≡◌, ◌+◌, ◌++◌, ◌<◌, List, [], ◌∷◌, length, get_or, map, take, sym, ap, ◌∙◌, arith}
+use Rattle.std.proofs.Common.{◌≡◌, ◌++◌, ◌<◌, List, length, get_or, ap, ◌∙◌, arith}
 use Rattle.keep.specs.Book.{Book, text_at}
 use Rattle.queue.specs.Renewal.{index_after, renewed_index}
 use Rattle.queue.specs.declared.renewal.Place.{Place}

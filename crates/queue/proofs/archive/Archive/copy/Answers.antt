@@ -131,15 +131,17 @@ returns-in_err-apply-clause-step g c h kept faithful clean =
 
 -- the shelves show what the change leaves
 pub hold-requires : goal.hold-requires
-hold-requires g c clean up =
-    let reads = c.in_ok-texts.ensures.reads in
-    let clean_now = c.in_ok-apply.ensures.lasts.clean clean in
-    let up_now = c.in_ok-apply.ensures.lasts.was_open clean up in
-    let clean_then = reads.lasts.clean clean_now in
-    let up_then = reads.lasts.was_open clean_now up_now in
-    copy_past (g.K.Keeper.book c.args.self.now.keeper) (g.K.Keeper.book c.renewed_texts.new.keeper) c.in_ok-shelves.shelves c.only_step.new.shelves c.in_ok-plan.plan c.in_ok-steps.steps
-    (reads.same clean_now up_now ∙ c.in_ok-shelves.ensures.reads.same clean_then up_then) (c.in_ok-shelves.ensures.shelves clean_then) c.in_ok-steps.ensures.steps c.in_ok-steps.ensures.shelves
-    ∙ sym (c.in_ok-apply.ensures.shown clean)
+hold-requires g c = record {
+  shown = λ clean up.
+      let reads = c.in_ok-texts.ensures.reads in
+      let clean_now = c.in_ok-apply.ensures.lasts.clean clean in
+      let up_now = c.in_ok-apply.ensures.lasts.was_open clean up in
+      let clean_then = reads.lasts.clean clean_now in
+      let up_then = reads.lasts.was_open clean_now up_now in
+      copy_past (g.K.Keeper.book c.args.self.now.keeper) (g.K.Keeper.book c.renewed_texts.new.keeper) c.in_ok-shelves.shelves c.only_step.new.shelves c.in_ok-plan.plan c.in_ok-steps.steps
+      (reads.same clean_now up_now ∙ c.in_ok-shelves.ensures.reads.same clean_then up_then) (c.in_ok-shelves.ensures.shelves clean_then) c.in_ok-steps.ensures.steps c.in_ok-steps.ensures.shelves
+      ∙ sym (c.in_ok-apply.ensures.shown clean);
+}
 
 pub returns-clause-served : goal.returns-clause-served
 returns-clause-served g c clean = c.hold.ensures.served clean (c.in_ok-apply.ensures.served (c.hold.ensures.reads.lasts.clean clean))

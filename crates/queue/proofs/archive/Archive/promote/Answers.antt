@@ -1,4 +1,4 @@
-use Rattle.std.proofs.Common.{◌≡◌, ◌<◌, true, map, length, Some, inl, inr, sym, ap, subst, ◌∙◌}
+use Rattle.std.proofs.Common.{◌≡◌, ◌<◌, true, map, length, inl, inr, sym, ap, subst, ◌∙◌}
 use Rattle.std.specs.String.{string_bytes}
 use Rattle.std.proofs.lemmas.Result.{err_from_is_err_and}
 use Rattle.rules.specs.Values.{ConfigValue}
@@ -11,6 +11,7 @@ use Rattle.queue.proofs.CopyAnswers.{may_copy, named_place}
 use Rattle.queue.proofs.PromotionAnswers.{done_promotion, free_promotion, late_promotion, left_promotion, named_in_promotion, named_promotion, no_promotion_fault, promotion_past, promotion_steps, refused_promotion, sound_promotion}
 use Rattle.queue.proofs.RunAnswers.{renewed_change}
 use Rattle.queue.proofs.Kept.{same_by, same_past, untouched}
+use Rattle.queue.proofs.ReadLemmas.{reads_more}
 use Rattle.queue.proofs.StepAnswers.{keeper_step, keepers_own, memory_own, memory_step}
 use Rattle.queue.proofs.archive.Archive.promote.Goals as goal
 
@@ -143,13 +144,13 @@ apply-requires-clause-sound g c clean up =
     let is_shown = c.in_ok-shelves.ensures.shelves clean_then in
     let names = map string_bytes c.deref.result.now in
     sound_promotion c.args.moment old now c.config-2.result.now c.in_ok-shelves.shelves c.in_ok-from.from c.in_ok-from.to
-    names c.in_ok-made.made.items c.from_vec.result c.from_vec-2.result
+    names c.in_ok-made.field-0.made.items c.from_vec.result c.from_vec-2.result
     (reads.same clean up ∙ same) (c.config-2.ensures ∙ sym reads.lasts.config) is_shown c.from_vec.ensures c.in_ok-made.ensures.steps c.in_ok-made.ensures.told
     (renewed_change c.args.moment then now c.copied_steps.new.shelves c.deref-3.result.now c.from_vec.result c.in_ok-texts.texts.items c.from_vec-2.result
     (reads.same clean up) (c.from_vec.ensures ∙ sym c.deref-3.ensures.value) c.from_vec-2.ensures
     (c.in_ok-texts.ensures.renewed clean)
-    (promotion_steps old then c.config-2.result.now c.in_ok-shelves.shelves c.in_ok-from.from c.in_ok-from.to names c.in_ok-made.made.items c.deref-3.result.now same is_shown c.deref-3.ensures.value c.in_ok-made.ensures.steps)
-    (promotion_past old then c.config-2.result.now c.in_ok-shelves.shelves c.copied_steps.new.shelves c.in_ok-from.from c.in_ok-from.to names c.in_ok-made.made.items c.deref-3.result.now same is_shown c.deref-3.ensures.value c.in_ok-made.ensures.steps c.in_ok-made.ensures.shelves))
+    (promotion_steps old then c.config-2.result.now c.in_ok-shelves.shelves c.in_ok-from.from c.in_ok-from.to names c.in_ok-made.field-0.made.items c.deref-3.result.now same is_shown c.deref-3.ensures.value c.in_ok-made.ensures.steps)
+    (promotion_past old then c.config-2.result.now c.in_ok-shelves.shelves c.copied_steps.new.shelves c.in_ok-from.from c.in_ok-from.to names c.in_ok-made.field-0.made.items c.deref-3.result.now same is_shown c.deref-3.ensures.value c.in_ok-made.ensures.steps c.in_ok-made.ensures.shelves))
 
 pub returns-in_err-apply-clause-step : goal.returns-in_err-apply-clause-step
 returns-in_err-apply-clause-step g c h kept faithful clean =
@@ -171,16 +172,18 @@ returns-in_err-apply-clause-refused g c =
 
 -- the shelves show what the change leaves
 pub hold-requires : goal.hold-requires
-hold-requires g c clean up =
-    let reads = c.in_ok-texts.ensures.reads in
-    let clean_now = c.in_ok-apply.ensures.lasts.clean clean in
-    let up_now = c.in_ok-apply.ensures.lasts.was_open clean up in
-    let clean_then = reads.lasts.clean clean_now in
-    let up_then = reads.lasts.was_open clean_now up_now in
-    promotion_past (g.K.Keeper.book c.args.self.now.keeper) (g.K.Keeper.book c.renewed_texts.new.keeper) c.config-2.result.now c.in_ok-shelves.shelves c.copied_steps.new.shelves c.in_ok-from.from c.in_ok-from.to
-    (map string_bytes c.deref.result.now) c.in_ok-made.made.items c.from_vec.result
-    (reads.same clean_now up_now ∙ c.in_ok-shelves.ensures.reads.same clean_then up_then) (c.in_ok-shelves.ensures.shelves clean_then) c.from_vec.ensures c.in_ok-made.ensures.steps c.in_ok-made.ensures.shelves
-    ∙ sym (c.in_ok-apply.ensures.shown clean)
+hold-requires g c = record {
+  shown = λ clean up.
+      let reads = c.in_ok-texts.ensures.reads in
+      let clean_now = c.in_ok-apply.ensures.lasts.clean clean in
+      let up_now = c.in_ok-apply.ensures.lasts.was_open clean up in
+      let clean_then = reads.lasts.clean clean_now in
+      let up_then = reads.lasts.was_open clean_now up_now in
+      promotion_past (g.K.Keeper.book c.args.self.now.keeper) (g.K.Keeper.book c.renewed_texts.new.keeper) c.config-2.result.now c.in_ok-shelves.shelves c.copied_steps.new.shelves c.in_ok-from.from c.in_ok-from.to
+      (map string_bytes c.deref.result.now) c.in_ok-made.field-0.made.items c.from_vec.result
+      (reads.same clean_now up_now ∙ c.in_ok-shelves.ensures.reads.same clean_then up_then) (c.in_ok-shelves.ensures.shelves clean_then) c.from_vec.ensures c.in_ok-made.ensures.steps c.in_ok-made.ensures.shelves
+      ∙ sym (c.in_ok-apply.ensures.shown clean);
+}
 
 pub returns-clause-served : goal.returns-clause-served
 returns-clause-served g c clean = c.hold.ensures.served clean (c.in_ok-apply.ensures.served (c.hold.ensures.reads.lasts.clean clean))
@@ -196,14 +199,14 @@ returns-clause-step g c h kept faithful clean =
     let clean_then = reads.lasts.clean clean_now in
     let up_then = reads.lasts.was_open clean_now up_now in
     done_promotion g.K.Keeper.may_fail h c.args.from.now c.args.to.now (names_given c.args.sources.now) c.args.moment c.in_ok-from.from c.in_ok-from.to
-    (g.K.Keeper.book c.args.self.now.keeper) (g.K.Keeper.book c.renewed_texts.new.keeper) c.config-2.result.now c.in_ok-shelves.shelves (map string_bytes c.deref.result.now) c.in_ok-made.made.items c.from_vec.result c.from_vec-2.result
+    (g.K.Keeper.book c.args.self.now.keeper) (g.K.Keeper.book c.renewed_texts.new.keeper) c.config-2.result.now c.in_ok-shelves.shelves (map string_bytes c.deref.result.now) c.in_ok-made.field-0.made.items c.from_vec.result c.from_vec-2.result
     (kept.stands (c.in_ok-shelves.ensures.reads.lasts.was_open clean_then up_then)) faithful c.if-moment-gt-LATEST.false
     (reads.same clean_now up_now ∙ c.in_ok-shelves.ensures.reads.same clean_then up_then) (c.in_ok-shelves.ensures.shelves clean_then) c.from_vec.ensures
     (subst (λ config. AreSuites config c.args.from.now c.args.to.now c.in_ok-from.from c.in_ok-from.to) c.config.ensures c.in_ok-from.ensures.suites)
     (c.config-2.ensures ∙ sym reads.lasts.config)
     (ap (map string_bytes) c.deref.ensures.value ∙ c.in_ok-sources.ensures)
     c.in_ok-made.ensures.sound c.in_ok-made.ensures.steps
-    _ (g.K.Keeper.book c.hold.new.self) (map copy_of c.in_ok-made.copies.items) (λ bodies apart has each. held.same clean (c.hold.ensures.served clean up_made) ∙ c.in_ok-apply.ensures.ok clean_made bodies apart has each) c.in_ok-made.ensures.copies
+    _ (g.K.Keeper.book c.hold.new.self) (map copy_of c.in_ok-made.field-0.copies.items) (λ bodies apart has each. held.same clean (c.hold.ensures.served clean up_made) ∙ c.in_ok-apply.ensures.ok clean_made bodies apart has each) c.in_ok-made.ensures.copies
 
 pub returns-clause-lines : goal.returns-clause-lines
 returns-clause-lines g c = c.in_ok-lines.ensures ∙ ap (λ copies. map copy_line (map copy_of copies)) c.deref-2.ensures.value
@@ -212,6 +215,19 @@ pub returns-clause-done : goal.returns-clause-done
 returns-clause-done g c =
     no_promotion_fault (g.K.Keeper.book c.args.self.now.keeper) c.config.result.now c.args.from.now c.args.to.now c.args.moment c.in_ok-from.from c.in_ok-from.to
     c.if-moment-gt-LATEST.false c.config.ensures c.in_ok-from.ensures.suites
+
+pub returns-in_err-texts-clause-err : goal.returns-in_err-texts-clause-err
+returns-in_err-texts-clause-err g c =
+    let p = err_from_is_err_and c.from_residual-in_err-texts.result c.from_residual-in_err-texts.ensures.1 in
+    let reads = reads_more c.in_ok-shelves.ensures.reads c.in_err-texts.ensures.reads in
+    rw p.1 reads.same
+
+pub returns-in_err-apply-clause-err : goal.returns-in_err-apply-clause-err
+returns-in_err-apply-clause-err g c =
+    let p = err_from_is_err_and c.from_residual-in_err-apply.result c.from_residual-in_err-apply.ensures.1 in
+    let reads = reads_more c.in_ok-shelves.ensures.reads c.in_ok-texts.ensures.reads in
+    let lasts = c.in_err-apply.ensures.lasts in
+    rw p.1 (λ clean up. c.in_err-apply.ensures.err clean up ∙ reads.same (lasts.clean clean) (lasts.was_open clean up))
 
 pub returns-then-moment-gt-LATEST-clause-crash : goal.returns-then-moment-gt-LATEST-clause-crash
 returns-then-moment-gt-LATEST-clause-crash g c h kept faithful clean left may = inl may
@@ -249,7 +265,7 @@ returns-in_err-apply-clause-crash g c h kept faithful clean left may =
       | inr made ↦
           let up_then = reads.lasts.was_open clean_now made.0 in
           inr (left_promotion g.K.Keeper.may_fail h c.args.from.now c.args.to.now (names_given c.args.sources.now) c.args.moment c.in_ok-from.from c.in_ok-from.to
-          (g.K.Keeper.book c.args.self.now.keeper) (g.K.Keeper.book c.renewed_texts.new.keeper) c.config-2.result.now c.in_ok-shelves.shelves (map string_bytes c.deref.result.now) c.in_ok-made.made.items c.from_vec.result c.from_vec-2.result
+          (g.K.Keeper.book c.args.self.now.keeper) (g.K.Keeper.book c.renewed_texts.new.keeper) c.config-2.result.now c.in_ok-shelves.shelves (map string_bytes c.deref.result.now) c.in_ok-made.field-0.made.items c.from_vec.result c.from_vec-2.result
           (kept.stands (c.in_ok-shelves.ensures.reads.lasts.was_open clean_then up_then)) faithful c.if-moment-gt-LATEST.false
           (reads.same clean_now made.0 ∙ c.in_ok-shelves.ensures.reads.same clean_then up_then) (c.in_ok-shelves.ensures.shelves clean_then) c.from_vec.ensures
           (subst (λ config. AreSuites config c.args.from.now c.args.to.now c.in_ok-from.from c.in_ok-from.to) c.config.ensures c.in_ok-from.ensures.suites)
@@ -270,7 +286,7 @@ returns-clause-crash g c h kept faithful clean left may =
       | inr made ↦
           let up_then = reads.lasts.was_open clean_now made.0 in
           inr (left_promotion g.K.Keeper.may_fail h c.args.from.now c.args.to.now (names_given c.args.sources.now) c.args.moment c.in_ok-from.from c.in_ok-from.to
-          (g.K.Keeper.book c.args.self.now.keeper) (g.K.Keeper.book c.renewed_texts.new.keeper) c.config-2.result.now c.in_ok-shelves.shelves (map string_bytes c.deref.result.now) c.in_ok-made.made.items c.from_vec.result c.from_vec-2.result
+          (g.K.Keeper.book c.args.self.now.keeper) (g.K.Keeper.book c.renewed_texts.new.keeper) c.config-2.result.now c.in_ok-shelves.shelves (map string_bytes c.deref.result.now) c.in_ok-made.field-0.made.items c.from_vec.result c.from_vec-2.result
           (kept.stands (c.in_ok-shelves.ensures.reads.lasts.was_open clean_then up_then)) faithful c.if-moment-gt-LATEST.false
           (reads.same clean_now made.0 ∙ c.in_ok-shelves.ensures.reads.same clean_then up_then) (c.in_ok-shelves.ensures.shelves clean_then) c.from_vec.ensures
           (subst (λ config. AreSuites config c.args.from.now c.args.to.now c.in_ok-from.from c.in_ok-from.to) c.config.ensures c.in_ok-from.ensures.suites)
