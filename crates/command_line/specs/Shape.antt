@@ -100,7 +100,8 @@ new_archive = record (new_app (codes "archive")) {
 -- with the commands that change an archive
 abbrev pub with_changes : App → App
 with_changes app =
-    with_subcommand (with_subcommand (with_subcommand (with_subcommand (with_subcommand (with_subcommand (with_subcommand app init_app.top) put_app.top)
+    with_subcommand (with_subcommand (with_subcommand (with_subcommand (with_subcommand (with_subcommand (with_subcommand (with_subcommand app init_app.top)
+    put_app.top)
     (timed_app (codes "run")).top)
     copy_app.top)
     promote_app.top)

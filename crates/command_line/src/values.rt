@@ -109,10 +109,7 @@ pub fn paths<'a>(alloc: Global, found: &ArgMatches<'a>) -> Result<Vec<&'a str>, 
 }
 
 /// The sources of a command, in their order, if any are named.
-pub fn sources<'a>(
-    alloc: Global,
-    found: &ArgMatches<'a>,
-) -> Result<Option<Vec<&'a str>>, LineFault>
+pub fn sources<'a>(alloc: Global, found: &ArgMatches<'a>) -> Result<Option<Vec<&'a str>>, LineFault>
     ensures { IfOk result (AreWords (codes "SOURCE") (rows_of (found_of found.now))) }
 {
     Ok(texts(alloc, found, "SOURCE")?)
