@@ -121,23 +121,19 @@ pub fn copy<'a, K: Keeper, W: Write>(
 }
 
 /// Names as texts of their own.
-fn owned<'a>(alloc: Global, names: &[&'a str]) -> Result<Vec<String>, Stop<'a>> {
+fn owned(alloc: Global, names: &[&str]) -> Result<Vec<String>, AllocError> {
     let mut texts = Vec::new(alloc);
     for name in names {
-        let text = String::from_str(alloc, name)?;
-        match texts.push(text) {
-            Ok(()) => {}
-            Err(failed) => return Err(AllocError::from(failed).into()),
-        }
+        texts.push(String::from_str(alloc, name)?)?;
     }
     Ok(texts)
 }
 
 /// The sources that are named, if any are, as texts of their own.
-fn owned_sources<'a>(
+fn owned_sources(
     alloc: Global,
-    sources: &Option<Vec<&'a str>>,
-) -> Result<Option<Vec<String>>, Stop<'a>> {
+    sources: &Option<Vec<&str>>,
+) -> Result<Option<Vec<String>>, AllocError> {
     match sources {
         Some(names) => Ok(Some(owned(alloc, names)?)),
         None => Ok(None),
