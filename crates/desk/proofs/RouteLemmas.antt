@@ -1,24 +1,23 @@
 -- Lemmas on the routes.
-use Rattle.std.proofs.Common.{◌≡◌, ◌≢◌, ◌⊎◌, ℕ, ◌<◌, ◌≤◌, ◌+◌, ◌-◌, ◌==◌, ◌&&◌, cond, leb, ltb, true, false, List, [], ◌∷◌, ◌++◌, length, take, drop, get_or, Some, None, Option, Result, Ok, Err, codes, inl, inr, refl, sym, ap, subst, arith, ◌∙◌, append-nil, append_assoc, length-append}
+use Rattle.std.proofs.Common.{◌≡◌, ℕ, ◌<◌, ◌+◌, true, false, List, [], ◌∷◌, ◌++◌, length, Some, None, Option, Result, Ok, Err, codes, inl, inr, refl, sym, ap, arith, ◌∙◌}
 use Rattle.std.proofs.lemmas.Option.{same_Some, none-some}
-use Rattle.std.specs.List.{list_all, list_any}
-use Rattle.std.specs.Str.{IsUtf8}
+use Rattle.std.specs.List.{list_all}
 use Rattle.matchit.proofs.OnLiterals.{matchit_on_literals}
-use Rattle.matchit.specs.Params.{AllText, named, walk, part_of}
+use Rattle.matchit.specs.Params.{walk, part_of}
 use Rattle.desk.proofs.WalkLemmas.{IsAt, walk_last, walk_cut, cut_on}
 use Rattle.matchit.specs.Route.{parse_route}
-use Rattle.matchit.specs.Seek.{first, or_else, seek, param_step}
+use Rattle.matchit.specs.Seek.{first, seek}
 use Rattle.desk.specs.declared.routes.Route.{Route}
 use Rattle.desk.specs.declared.routes.Route.TheVariants as at
 use Rattle.desk.specs.Want.{◌>>=◌, Want, asked_at, beside, command_at, found_route, parameters, routes, wanted_at}
 use Rattle.desk.specs.declared.head.Refusal.{Refusal}
 use Rattle.desk.specs.declared.head.Refusal.TheVariants.{NotFound}
-use Rattle.desk.specs.Paths.{Place, to_incoming, to_run, to_copy, to_queue, to_clean, to_verdicts, to_dists, to_pool, to_remove, to_promote, print_path, IsPlace, IsPart, IsRest, is_byte, is_slash, route_of, wanted_of}
+use Rattle.desk.specs.Paths.{Place, to_incoming, to_run, to_copy, to_queue, to_clean, to_verdicts, to_dists, to_pool, to_remove, to_promote, print_path, IsPlace, IsPart, IsRest, is_byte, route_of, wanted_of}
 use Rattle.desk.proofs.FieldLemmas.{both}
-use Rattle.desk.proofs.SeekLemmas.{led, led_first, led_found, first_or, or_found, or_first, or_second, skip, enter, part_first, end_found, rest_first, last_first, last_found, cut_first, cut_found, slash_any}
+use Rattle.desk.proofs.SeekLemmas.{led, led_first, led_found, first_or, or_found, skip, enter, part_first, end_found, rest_first, last_first, last_found, cut_found, slash_any}
 use Rattle.matchit.specs.Rows.{RowsOf}
 use Rattle.matchit.specs.Route.{Scan}
-use Rattle.matchit.specs.Router.{RouteOf, Refused, InsertsRead, nearest, route_from}
+use Rattle.matchit.specs.Router.{RouteOf, InsertsRead, nearest, route_from}
 use Rattle.matchit.specs.declared.error.InsertError.{InsertError}
 use Rattle.matchit.specs.declared.error.InsertError.TheVariants.{Conflict, InvalidParam, InvalidParamSegment, InvalidCatchAll, OutOfMemory}
 

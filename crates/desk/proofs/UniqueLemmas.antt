@@ -1,16 +1,15 @@
 -- A byte list has one request.
-use Rattle.std.proofs.Common.{◌≡◌, ◌⊎◌, ℕ, zero, suc, ◌+◌, ◌<◌, ◌≤◌, true, false, List, [], ◌∷◌, ◌++◌, Bool, ltb, Result, Ok, Err, length, take, drop, refl, sym, ap, subst, ◌∙◌, inl, inr, arith, append-nil, append_assoc, length-append, take-append-drop}
+use Rattle.std.proofs.Common.{◌≡◌, ℕ, ◌+◌, ◌<◌, ◌≤◌, true, false, List, [], ◌∷◌, ◌++◌, Bool, ltb, Result, Ok, Err, length, take, drop, refl, sym, ap, subst, ◌∙◌, inl, inr, arith, append-nil, append_assoc, length-append, take-append-drop}
 use Rattle.std.proofs.lemmas.Bool.{cases_lt}
 use Rattle.std.proofs.lemmas.Bool.Decides.{nat_tests}
 use Rattle.std.proofs.Math.Seq.{take-append_seam, drop-append_seam}
 use Rattle.std.proofs.lemmas.List.{take-append-le, take_all}
 use Rattle.httparse.proofs.GrammarLemmas.{request_unique}
-use Rattle.httparse.specs.Grammar.{RequestHead}
 use Rattle.desk.specs.declared.head.Refusal.{Refusal}
 use Rattle.desk.specs.declared.head.Refusal.TheVariants.{BadRequest, HeadTooLarge}
 use Rattle.desk.specs.Transfer.{IsBeginning, ends_head, NotEarlier}
 use Rattle.desk.specs.Want.{Want, wanted}
-use Rattle.desk.specs.Request.{Asked, nothing, refused, asks, HeadAsks, IsHead, IsFirstHead, HasNoEnd, IsRequest, IsPartOfUsed, IsCutHead, IsLongHead, IsRefusedHead, IsCutBody, IsWhole, body_length}
+use Rattle.desk.specs.Request.{Asked, nothing, refused, asks, HeadAsks, IsFirstHead, HasNoEnd, IsRequest, IsPartOfUsed, body_length}
 
 -- a head asks for one thing
 pub head_asks_one : (text : List ℕ) (a b : Result Want Refusal) → HeadAsks text a → HeadAsks text b → a ≡ b

@@ -1,10 +1,10 @@
 -- What the parameters of a route take of its path.
-use Rattle.std.proofs.Common.{◌≡◌, ◌≢◌, ℕ, zero, suc, ◌+◌, ◌-◌, ◌<◌, ◌≤◌, ◌==◌, ◌&&◌, Bool, true, false, cond, leb, ltb, min, List, [], ◌∷◌, ◌++◌, length, take, drop, get_or, codes, refl, sym, ap, ◌∙◌, arith, append-nil, append_assoc, length-append, length-drop}
+use Rattle.std.proofs.Common.{◌≡◌, ℕ, ◌+◌, ◌-◌, ◌≤◌, ◌==◌, ◌&&◌, Bool, true, false, cond, leb, ltb, List, [], ◌∷◌, ◌++◌, length, take, drop, get_or, refl, sym, ap, ◌∙◌, arith, length-append, length-drop}
 use Rattle.std.proofs.lemmas.Bool.Decides.{nat_tests}
 use Rattle.std.proofs.lemmas.List.{take_rest, get_or-drop, drop-drop}
 use Rattle.std.proofs.Math.Seq.{drop-append_seam, take-append_seam, get_or-append_seam}
 use Rattle.std.specs.List.{list_all}
-use Rattle.matchit.specs.Params.{walk, wild_from, wild_stop, part_of, next_at, after_token}
+use Rattle.matchit.specs.Params.{walk, wild_from, wild_stop, part_of, after_token}
 use Rattle.matchit.specs.Seek.{segment, has_slash}
 use Rattle.desk.specs.Paths.{is_byte}
 use Rattle.desk.proofs.FieldLemmas.{both}

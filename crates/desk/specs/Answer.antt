@@ -1,5 +1,5 @@
 -- The reply to what is refused before the archive hears of it.
-use Rattle.std.specs.Prelude.{ℕ, List, Option, None, false}
+use Rattle.std.specs.Prelude.{ℕ, List, None, false}
 use Rattle.desk.specs.declared.head.Refusal.{Refusal}
 use Rattle.desk.specs.Refusals.{allowed, refusal_status}
 use Rattle.desk.specs.Reply.{Message, phrase, line}

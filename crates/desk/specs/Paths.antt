@@ -1,5 +1,5 @@
 -- The paths that have a route (RFC 3986, section 3.3): each form is a tree, a printer from the tree to its bytes, and a fact that says which trees are valid.
-use Rattle.std.specs.Prelude.{◌≡◌, ℕ, ◌<◌, ◌==◌, nat_lt, Bool, true, false, List, [], ◌∷◌, ◌++◌, length, codes, Result, Ok, Err}
+use Rattle.std.specs.Prelude.{◌≡◌, ℕ, ◌<◌, ◌==◌, nat_lt, Bool, true, false, List, ◌∷◌, ◌++◌, length, codes, Result, Ok}
 use Rattle.std.specs.List.{list_any, list_all}
 use Rattle.desk.specs.declared.routes.Route.{Route}
 use Rattle.desk.specs.declared.routes.Route.TheVariants as at

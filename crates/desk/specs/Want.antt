@@ -1,10 +1,10 @@
 -- What the head of a request asks for (RFC 9112; RFC 9110 for the fields and the statuses).
-use Rattle.std.specs.Prelude.{◌≡◌, ℕ, ◌≤◌, ◌==◌, ◌&&◌, ◌||◌, ◌<◌, not, nat_lt, nat_le, Bool, true, false, if◌then◌else◌, List, [], ◌∷◌, ◌++◌, map, filter, drop, length, codes, Option, Some, None, option_map, unwrap_or, Result, Ok, Err, nat_eq, slice_index}
+use Rattle.std.specs.Prelude.{ℕ, ◌==◌, ◌&&◌, ◌||◌, not, nat_le, Bool, true, false, if◌then◌else◌, List, [], ◌∷◌, map, filter, drop, length, codes, Option, Some, None, unwrap_or, Result, Ok, Err, slice_index}
 use Rattle.std.specs.List.{list_any, list_all}
 use Rattle.std.specs.Char.{is_ascii_digit}
 use Rattle.std.specs.Str.{bytes_eq, is_utf8, str_eq_ignore_ascii_case}
 use Rattle.std.specs.Str.Parse.{digits_value}
-use Rattle.httparse.specs.Grammar.{RequestHead, Field}
+use Rattle.httparse.specs.Grammar.{RequestHead}
 use Rattle.httparse.specs.Spans.{name_and_value}
 use Rattle.matchit.specs.Rows.{RowsOf}
 use Rattle.matchit.specs.Order.{placed}
@@ -14,11 +14,10 @@ use Rattle.matchit.specs.Seek.{first}
 use Rattle.matchit.specs.Params.{walk, named}
 use Rattle.matchit.specs.declared.error.InsertError.{InsertError}
 use Rattle.percent_encoding.specs.Percent.{percent_decode}
-use Rattle.http.specs.declared.method.Method.{Method}
 use Rattle.desk.specs.declared.routes.Route.{Route}
 use Rattle.desk.specs.declared.routes.Route.TheVariants as at
 use Rattle.desk.specs.declared.head.Refusal.{Refusal}
-use Rattle.desk.specs.declared.head.Refusal.TheVariants.{BadRequest, NotFound, MethodNotAllowed, LengthRequired, PayloadTooLarge, NotImplemented, OutOfMemory}
+use Rattle.desk.specs.declared.head.Refusal.TheVariants.{BadRequest, NotFound, MethodNotAllowed, LengthRequired, PayloadTooLarge, NotImplemented}
 
 -- what a request wants of the archive, without a delivery's body
 pub data Want : Type 0 where

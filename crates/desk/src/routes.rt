@@ -28,7 +28,8 @@ impl Route {
     {
         match self {
             Route::Deliver => Method::PUT,
-            Route::Run | Route::Copy | Route::Remove | Route::Clean | Route::Promote => Method::POST,
+            Route::Run | Route::Copy | Route::Remove | Route::Clean | Route::Promote =>
+                Method::POST,
             Route::Waiting | Route::Verdicts | Route::Dists | Route::Pool => Method::GET,
         }
     }

@@ -3,7 +3,6 @@ use Rattle.std.proofs.lemmas.List.{drop_more, drop-set-lt, take_more, take_more_
 use Rattle.std.proofs.lemmas.Grind.{drop_more_same}
 use Rattle.queue.proofs.ReadLemmas.{lasts_more}
 use Rattle.desk.specs.Connections.{AreServed, Visit, visit, visits}
-use Rattle.desk.specs.declared.connection.Connection.{Connection}
 use Rattle.desk.proofs.ConnectionLemmas.{served_joined, served_one, visits-snoc}
 use Rattle.desk.proofs.connection.attend.Goals as goal
 

@@ -1,4 +1,4 @@
-use Rattle.std.proofs.Common.{rules, ◌∙◌, sym}
+use Rattle.std.proofs.Common.{◌∙◌, sym}
 use Rattle.desk.proofs.FieldLemmas.{named_at}
 use Rattle.desk.proofs.head.has_field.Goals as goal
 

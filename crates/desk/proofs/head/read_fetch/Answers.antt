@@ -1,4 +1,4 @@
-use Rattle.std.proofs.Common.{◌≡◌, ◌<◌, rules, arith, get_or, length}
+use Rattle.std.proofs.Common.{arith}
 use Rattle.std.proofs.lemmas.Str.{IsCharBoundary-after_ascii}
 use Rattle.desk.proofs.FieldLemmas.{first_slash, path_some}
 use Rattle.desk.proofs.head.read_fetch.Goals as goal

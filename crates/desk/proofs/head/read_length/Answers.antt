@@ -1,8 +1,8 @@
-use Rattle.std.proofs.Common.{rules, arith, ◌∙◌, sym, ap, ◌≡◌, ◌≤◌, ◌<◌, ◌-◌, ◌+◌, ◌*◌, true, length, get_or, take}
+use Rattle.std.proofs.Common.{arith, ◌∙◌, sym, ap, ◌≡◌, ◌+◌, ◌*◌, true, take}
 use Rattle.std.specs.List.{list_all}
 use Rattle.std.specs.Str.Parse.{digits_value}
 use Rattle.std.specs.Char.{is_ascii_digit}
-use Rattle.desk.proofs.FieldLemmas.{digits_so_far, next_digit, digit_byte}
+use Rattle.desk.proofs.FieldLemmas.{digits_so_far, next_digit}
 use Rattle.desk.proofs.head.read_length.Goals as goal
 
 pub overflow_mul-length : goal.overflow_mul-length

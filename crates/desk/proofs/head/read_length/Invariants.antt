@@ -1,5 +1,5 @@
 -- The number of the digits so far.
-use Rattle.std.proofs.Common.{◌≡◌, ◌<◌, ◌^◌, take}
+use Rattle.std.proofs.Common.{◌≡◌, take}
 use Rattle.std.specs.Str.Parse.{digits_value}
 use Rattle.desk.proofs.head.read_length.Given as goal
 

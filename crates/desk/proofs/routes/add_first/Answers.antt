@@ -1,5 +1,5 @@
 -- The rows after each route, by computing them: no route conflicts with another, so only memory can be short.
-use Rattle.std.proofs.Common.{rules, [], take, codes, refl}
+use Rattle.std.proofs.Common.{[], take, codes, refl}
 use Rattle.std.proofs.lemmas.Result.{err_from_is_err_and}
 use Rattle.matchit.proofs.OnLiterals.{matchit_on_literals}
 use Rattle.matchit.specs.Route.{parse_route}
