@@ -86,7 +86,7 @@ noted_known config shown dates old new path print notes is known p at = elim (no
 ]
 
 no_two : (b : Bool) → b ≡ true → not b ≡ true → ⊥
-no_two b yes no = true≢false (sym no ∙ ap not yes)
+no_two b is is_not = true≢false (sym is_not ∙ ap not is)
 
 -- what a change renews is forgotten, and the other texts stay
 known_amended : (book : Book) (change : Change) (prints : List TextPrint) → AreRenewed book (amended book change) change.texts → AreKnown book.config book.shown book.dates prints

@@ -29,7 +29,7 @@ invariant_of-result g c =
           (subst (λ d. KeepsArchive db config [] (shown_in config.suites (tables_in db)) d) (sym dates) (kept_here db archive)) ∣₁;
       under_way = λ clean up. ∣ founded_whole db config c.args.moment c.text.ensures.read c.requires ((c.in-Ok-create.ensures.done clean).held free) ∣₁;
       at_hand = λ clean up. ∣ tt ∣₁;
-      known = λ clean up. ∣ none_known _ _ _ c.new-2.result.items c.new-2.ensures.items ∣₁;
+      known = λ clean up. ∣ none_known _ _ _ c.new-in-Ok-create.result.items c.new-in-Ok-create.ensures.items ∣₁;
     }
     )
 

@@ -1,4 +1,4 @@
-use Rattle.std.proofs.Common.{◌≡◌, inl, inr, refl, sym, ap, subst, ◌∙◌, arith, Some, None}
+use Rattle.std.proofs.Common.{inl, inr, refl, sym, ap, subst, ◌∙◌, arith}
 use Rattle.std.proofs.Math.Logic.{∥∥₁_elim, ∥∥₁_map}
 use Rattle.std.proofs.Props.{props}
 use Rattle.sqlite.specs.Held.{state}
@@ -11,7 +11,6 @@ use Rattle.kept.specs.Shown.{shown_in}
 use Rattle.kept.proofs.TakingLemmas.{nothing_came}
 use Rattle.kept.proofs.CallLemmas.{done_book, kept_here, turn_left}
 use Rattle.kept.specs.Coming.{Comes}
-use Rattle.bodies.specs.UnderWay.{IsUnderWay}
 use Rattle.keep_tables.specs.AtHand.{AreAtHand, AreKnown}
 use Rattle.keep_tables.proofs.AtHandLemmas.{still_at_hand, still_known}
 use Rattle.keep_tables.proofs.UnderWayLemmas.{came, coming_not_none, none_coming_of, not_coming, stopped, undone_kept, undone_under}

@@ -21,8 +21,8 @@ use Rattle.kept.proofs.CallLemmas.{amends_turns, done_book, kept_here, shown_her
 use Rattle.keep_tables.proofs.keeper.TableKeeperKeeper.apply.Goals as goal
 
 -- behind the room that is made the judgements are the same
-pub invariant_of-self : goal.invariant_of-self
-invariant_of-self g c = record {
+pub invariant_of-self-in-Break-branch-2 : goal.invariant_of-self-in-Break-branch-2
+invariant_of-self-in-Break-branch-2 g c = record {
   idle = c.args.self.now.idle;
   in_range = c.args.self.now.in_range;
   kept = rw c.room_for_judgements.ensures.same c.args.self.now.kept;

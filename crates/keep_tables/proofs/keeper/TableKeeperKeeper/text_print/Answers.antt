@@ -15,9 +15,9 @@ use Rattle.keep_tables.specs.declared.known.TextPrint.{TextPrint}
 use Rattle.keep_tables.proofs.AtHandLemmas.{known_is, noted_known}
 use Rattle.keep_tables.proofs.keeper.TableKeeperKeeper.text_print.Goals as goal
 
-pub invariant_of-self-in-Ok : goal.invariant_of-self-in-Ok
+pub invariant_of-self : goal.invariant_of-self
 unfolding book_in
-invariant_of-self-in-Ok g c =
+invariant_of-self g c =
     let k = c.args.self.now in
     let old = state g.S.Store k.conn in
     let new = state g.S.Store c.read_print.new.conn in
@@ -38,8 +38,8 @@ invariant_of-self-in-Ok g c =
           (noted_known k.config shown k.dates.items k.prints.items c.note_print.new.prints.items path c.in-Ok.print c.note_print.ensures is known)));
     }
 
-pub invariant_of-self-in-Err : goal.invariant_of-self-in-Err
-invariant_of-self-in-Err g c =
+pub invariant_of-self-in-Err-1 : goal.invariant_of-self-in-Err-1
+invariant_of-self-in-Err-1 g c =
     let k = c.args.self.now in
     let old = state g.S.Store k.conn in
     let new = state g.S.Store c.read_print.new.conn in
