@@ -190,18 +190,6 @@ fn answer_client<R: Clock + AllocGlobal, K: Keeper, E: Write>(
     Ok(end)
 }
 
-/// What a client sends, of which nothing has come.
-fn from_client<'f, 'c, R>(
-    client: &'f Client<'c, R>,
-    line: &'f mut FirstLine,
-) -> FromClient<'f, 'c, R> {
-    FromClient {
-        client,
-        line,
-        has_begun: false,
-    }
-}
-
 /// Answers the request of a client. The request and the reply go through a buffer each, where there is memory for it.
 fn answered<R: Clock + AllocGlobal, K: Keeper>(
     archive: &mut Archive<K>,
@@ -212,24 +200,29 @@ fn answered<R: Clock + AllocGlobal, K: Keeper>(
 ) -> Result<Served, DeskFault>
     ensures served { HasServed K.Keeper archive.old.keeper archive.new.keeper }
 {
-    let alloc = client.rt.alloc();
-    let writer = ToClient { client, sent };
-    if let Ok(buffered) = BufReader::new(alloc, from_client(client, &mut *line)) {
-        return replied(alloc, archive, buffered, writer, moment);
+    let mut reader = FromClient {
+        client,
+        line,
+        has_begun: false,
+    };
+    if let Ok(mut buffered) = BufReader::new(client.rt.alloc(), &mut reader) {
+        return replied(archive, client, moment, &mut buffered, sent);
     }
-    replied(alloc, archive, from_client(client, line), writer, moment)
+    replied(archive, client, moment, &mut reader, sent)
 }
 
 /// Answers the request of this reader. The reply goes through a buffer, where there is memory for one.
-fn replied<K: Keeper, R: Read + Drop, W: Write + Copy>(
-    alloc: Global,
+fn replied<R: Clock + AllocGlobal, K: Keeper, I: Read>(
     archive: &mut Archive<K>,
-    reader: R,
-    writer: W,
+    client: &Client<'_, R>,
     moment: u64,
+    reader: &mut I,
+    sent: &Cell<u64>,
 ) -> Result<Served, DeskFault>
     ensures served { HasServed K.Keeper archive.old.keeper archive.new.keeper }
 {
+    let alloc = client.rt.alloc();
+    let writer = ToClient { client, sent };
     match BufWriter::new(alloc, writer) {
         Ok(buffered) => {
             let mut one = connection(reader, buffered, moment);
