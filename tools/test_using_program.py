@@ -96,7 +96,7 @@ class Commands(Case):
             told = self.shell(f"archive {word} --help")
             usage = re.search(r"^Usage: archive \w+(.*)$", told, re.M)[1].replace("[OPTIONS]", "")
             wanted = " ".join(words).replace("[--moments MOMENTS] [--log] ", "")
-            self.assertEqual(re.sub(r"[<>]", "", usage).replace("...", "..").split(), wanted.split())
+            self.assertEqual(re.sub(r"[<>]", "", usage).replace("...", "..").replace("]..", "..]").split(), wanted.split())
             for option in re.findall(r"--\w+", " ".join(words)):
                 self.assertIn(option, told)
 
