@@ -2,13 +2,12 @@
 use Rattle.std.proofs.Common.{◌≡◌, ℕ, ◌||◌, Bool, true, false, List, [], Option, Some, None, Ok, Err, is_none, unwrap_or, length, ltb, refl, sym, ap, ◌∙◌}
 use Rattle.std.specs.Option.{option_map}
 use Rattle.para.specs.Field.{FieldValue}
-use Rattle.sums.specs.Lists.{lists_in, lines_of, entries_of, refused_or, fault, field_named, sha1_name, sha256_name, files_name, is_absent, has_first}
-use Rattle.sums.specs.Views.{AreLists, lines_in, fault_of_lines}
+use Rattle.sums.specs.Lists.{Lines, lists_in, lines_of, entries_of, refused_or, fault, field_named, sha1_name, sha256_name, files_name, is_absent, has_first}
+use Rattle.sums.specs.Views.{AreEntries, fault_of_lines}
 use Rattle.sums.specs.declared.fault.ListFault.{ListFault}
 use Rattle.sums.specs.declared.fault.ListFault.TheVariants.{ListAbsent, TextOnFirstLine}
 use Rattle.sums.specs.declared.entries.Entry.{Entry}
 use Rattle.sums.specs.declared.entries.ListKind.{ListKind}
-use Rattle.sums.specs.declared.join.Lists.{Lists}
 
 first : (a b c : Bool) → a ≡ true → (a || b || c) ≡ true
 first a b c h = rw h refl
@@ -76,16 +75,17 @@ lines_are p sha1 sha256 files h = (λ i. record { sha1 = more (h.sha1_is i); sha
 
 -- ---- from the lines
 
-pub refused : (kind : ListKind) (p : List FieldValue) (lists : Lists) (e : ListFault) → AreLists kind p lists → fault_of_lines lists.kind (lines_in lists) ≡ Some e → lists_in kind p ≡ Err e
-unfolding lists_in
-refused kind p lists e a h =
-    let same : fault_of_lines lists.kind (lines_in lists) ≡ fault_of_lines kind (lines_of p) = (λ i. fault_of_lines (a.same_kind i) (a.lines i)) in
-    ap (λ o. refused_or o (entries_of kind (lines_of p))) (a.rest ∙ (sym same ∙ h))
+-- the lines of the lists that a paragraph has
+pub same_lines : (p : List FieldValue) {found : Lines} {a b c : List (List ℕ)} → found ≡ lines_of p → a ≡ found.sha1 → b ≡ found.sha256 → c ≡ found.files
+    → record { sha1 = a; sha256 = b; files = c } ≡ lines_of p
+same_lines p h x y z = (λ i. record { sha1 = x i; sha256 = y i; files = z i }) ∙ h
 
-pub read : (kind : ListKind) (p : List FieldValue) (lists : Lists) (es : List Entry) → AreLists kind p lists → fault_of_lines lists.kind (lines_in lists) ≡ None → es ≡ entries_of lists.kind (lines_in lists)
-    → lists_in kind p ≡ Ok es
+pub refused : (kind : ListKind) (p : List FieldValue) (lines : Lines) (e : ListFault) → fault kind p ≡ fault_of_lines kind (lines_of p) → lines ≡ lines_of p → fault_of_lines kind lines ≡ Some e → lists_in kind p ≡ Err e
 unfolding lists_in
-read kind p lists es a h e =
-    let same : fault_of_lines lists.kind (lines_in lists) ≡ fault_of_lines kind (lines_of p) = (λ i. fault_of_lines (a.same_kind i) (a.lines i)) in
-    let entries : es ≡ entries_of kind (lines_of p) = e ∙ (λ i. entries_of (a.same_kind i) (a.lines i)) in
-    ap (λ o. refused_or o (entries_of kind (lines_of p))) (a.rest ∙ (sym same ∙ h)) ∙ ap Ok (sym entries)
+refused kind p lines e rest same h = ap (λ o. refused_or o (entries_of kind (lines_of p))) (rest ∙ (sym (ap (fault_of_lines kind) same) ∙ h))
+
+pub read : (kind : ListKind) (p : List FieldValue) (lines : Lines) (es : List Entry) → fault kind p ≡ fault_of_lines kind (lines_of p) → lines ≡ lines_of p → AreEntries kind lines es → lists_in kind p ≡ Ok es
+unfolding lists_in
+read kind p lines es rest same h =
+    let entries : es ≡ entries_of kind (lines_of p) = h.entries_are ∙ ap (entries_of kind) same in
+    ap (λ o. refused_or o (entries_of kind (lines_of p))) (rest ∙ (sym (ap (fault_of_lines kind) same) ∙ h.faultless)) ∙ ap Ok (sym entries)

@@ -8,13 +8,15 @@ use Rattle.std.specs.Ordering.{nat_cmp}
 use Rattle.std.specs.Str.{bytes_eq}
 use Rattle.sums.specs.Lines.{LineForm, has_bad_words, has_bad_digest, has_bad_size, has_bad_name}
 use Rattle.para.specs.Field.{FieldValue}
-use Rattle.sums.specs.Lists.{Lines, NameAndSize, name_and_size, sha1_form, sha256_form, files_form, has_twice, any_twice, lines_of, applies_to_lines, faults, fault}
+use Rattle.sums.specs.Lists.{Lines, NameAndSize, name_and_size, sha1_form, sha256_form, files_form, has_twice, any_twice, lines_of, applies_to_lines, faults, fault, entries_of}
 use Rattle.sums.specs.declared.fault.ListFault.{ListFault}
 use Rattle.sums.specs.declared.lines.Form.{Form}
 use Rattle.sums.specs.declared.lines.Check.{Check}
 use Rattle.sums.specs.declared.lines.Check.TheVariants.{Words, Digest, Size, Name}
 use Rattle.sums.specs.declared.entries.ListKind.{ListKind}
+use Rattle.sums.specs.declared.entries.Entry.{Entry}
 use Rattle.sums.specs.declared.lists.FileLists.{FileLists}
+use Rattle.sums.specs.declared.lists.FoundLists.{FoundLists}
 use Rattle.sums.specs.declared.names.FileList.{FileList}
 use Rattle.sums.specs.declared.names.SizedName.{SizedName}
 use denote.Ref.{Bor}
@@ -24,7 +26,10 @@ abbrev pub line_form : Form → LineForm
 line_form f = record { words = f.words; digest = f.digest }
 
 abbrev pub lines_in : Lists → Lines
-lines_in l = record { sha1 = map (λ line. line.now) l.sha1.now; sha256 = map (λ line. line.now) l.sha256.now; files = map (λ line. line.now) l.files.now }
+lines_in l = record { sha1 = l.sha1.now; sha256 = l.sha256.now; files = l.files.now }
+
+abbrev pub lines_found : FoundLists → Lines
+lines_found l = record { sha1 = map (λ line. line.now) l.sha1.now; sha256 = map (λ line. line.now) l.sha256.now; files = map (λ line. line.now) l.files.now }
 
 abbrev pub in_names : SizedName → NameAndSize
 in_names s = record { name = s.name.now; size = s.size.now }
@@ -74,7 +79,11 @@ pub record AreFileLists (kind : ListKind) (lines : Lines) (lists : FileLists) : 
   pub once : any_twice kind lines ≡ false
 
 -- the three lists of a paragraph, each there with nothing behind its colon
-pub record AreLists (kind : ListKind) (paragraph : List FieldValue) (lists : Lists) : Type 0 where
-  pub same_kind : lists.kind ≡ kind
-  pub lines : lines_in lists ≡ lines_of paragraph
+pub record AreLists (kind : ListKind) (paragraph : List FieldValue) (lists : FoundLists) : Type 0 where
+  pub lines : lines_found lists ≡ lines_of paragraph
   pub rest : fault kind paragraph ≡ fault_of_lines kind (lines_of paragraph)
+
+-- the entries of lists without a fault from the words of their lines on
+pub record AreEntries (kind : ListKind) (lines : Lines) (entries : List Entry) : Type 0 where
+  pub faultless : fault_of_lines kind lines ≡ None
+  pub entries_are : entries ≡ entries_of kind lines

@@ -1,6 +1,6 @@
 //! The join of the three lists.
 
-ghost use Rattle.std.specs.Prelude.{◌≡◌, ◌<◌, [], None, true, IfOk, IfErr, map, unwrap_or, Contains};
+ghost use Rattle.std.specs.Prelude.{◌≡◌, ◌<◌, [], None, true, IfOk, IfErr, unwrap_or, Contains};
 ghost use Rattle.std.specs.List.{find};
 ghost use Rattle.std.specs.Option.{option_map};
 ghost use Rattle.std.specs.Str.{bytes_eq};
@@ -11,7 +11,7 @@ ghost use Rattle.sums.specs.Views.{line_form, lines_in, fault_of_lines};
 
 use crate::entries::{Entry, ListKind};
 use crate::fault::ListFault;
-use crate::lines::{Form, word};
+use crate::lines::{Form, Line, word};
 use crate::print::Print;
 use hex::FromHex;
 use para::Text;
@@ -40,9 +40,9 @@ const CHANGES_FORM: Form = Form {
 /// The lines of the three lists.
 #[derive(Clone, Copy)]
 pub struct Lists<'a> {
-    pub sha1: &'a [&'a str],
-    pub sha256: &'a [&'a str],
-    pub files: &'a [&'a str],
+    pub sha1: &'a [Line<'a>],
+    pub sha256: &'a [Line<'a>],
+    pub files: &'a [Line<'a>],
     pub kind: ListKind,
 }
 
@@ -73,9 +73,9 @@ fn size(word: &str) -> u64
 }
 
 /// The first line whose name this is.
-fn line_named<'a>(form: Form, lines: &[&'a str], name: &str) -> Option<&'a str>
+fn line_named<'l, 'a>(form: Form, lines: &'l [Line<'a>], name: &str) -> Option<&'l Line<'a>>
     requires { 0 < form.words }
-    ensures { option_map (λ line. line.now) result ≡ find (λ line. bytes_eq (name_word (line_form form) line) name.now) (map (λ line. line.now) lines.now) }
+    ensures { option_map (λ line. line.now) result ≡ find (λ line. bytes_eq (name_word (line_form form) line) name.now) lines.now }
 {
     for line in lines {
         if word(line, form.words - 1) == name {
@@ -86,16 +86,18 @@ fn line_named<'a>(form: Form, lines: &[&'a str], name: &str) -> Option<&'a str>
 }
 
 /// The digest in the first line of that name.
-fn digest_named<const N: usize>(form: Form, lines: &[&str], name: &str) -> [u8; N]
+fn digest_named<const N: usize>(form: Form, lines: &[Line<'_>], name: &str) -> [u8; N]
     requires words { 0 < form.words }
-    requires there { is_digest N (digest_word (unwrap_or (find (λ line. bytes_eq (name_word (line_form form) line) name.now) (map (λ line. line.now) lines.now)) [])) ≡ true }
-    ensures { result ≡ digest_named (line_form form) (map (λ line. line.now) lines.now) name.now }
+    requires there { is_digest N (digest_word (unwrap_or (find (λ line. bytes_eq (name_word (line_form form) line) name.now) lines.now) [])) ≡ true }
+    ensures { result ≡ digest_named (line_form form) lines.now name.now }
 {
-    let line = line_named(form, lines, name).unwrap_or("");
-    digest(word(line, 0))
+    match line_named(form, lines, name) {
+        Some(line) => digest(word(line, 0)),
+        None => digest(""),
+    }
 }
 
-fn section<'a>(kind: ListKind, line: &'a str) -> &'a str
+fn section<'a>(kind: ListKind, line: &Line<'a>) -> &'a str
     ensures { result.now ≡ section_word kind line.now }
 {
     match kind {
@@ -104,7 +106,7 @@ fn section<'a>(kind: ListKind, line: &'a str) -> &'a str
     }
 }
 
-fn priority<'a>(kind: ListKind, line: &'a str) -> &'a str
+fn priority<'a>(kind: ListKind, line: &Line<'a>) -> &'a str
     ensures { result.now ≡ priority_word kind line.now }
 {
     match kind {
@@ -114,7 +116,7 @@ fn priority<'a>(kind: ListKind, line: &'a str) -> &'a str
 }
 
 /// The join of a line of `Files` with the lines of its name.
-fn joined_entry(alloc: Global, lists: Lists<'_>, line: &str) -> Result<Entry, ListFault>
+fn joined_entry(alloc: Global, lists: Lists<'_>, line: &Line<'_>) -> Result<Entry, ListFault>
     requires faultless { fault_of_lines lists.kind (lines_in lists) ≡ None }
     requires listed { Contains (lines_in lists).files line.now }
     ensures joined { IfOk result (λ entry. entry ≡ entry_of_line lists.entry.kind (lines_in lists.entry) line.now) }

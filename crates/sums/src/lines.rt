@@ -1,11 +1,14 @@
 //! A line of a list: its words, and what each has to be.
 
-ghost use Rattle.std.specs.Prelude.{◌≡◌, ◌==◌, ◌<◌, ◌&&◌, nat_lt, nat_le, slice_index, true, length, map};
+ghost use Rattle.std.specs.Prelude.{◌≡◌, ◌==◌, ◌<◌, ◌&&◌, nat_lt, nat_le, slice_index, true, length, map, IfOk};
 ghost use Rattle.std.specs.Char.{is_ascii_digit};
 ghost use Rattle.std.specs.List.{list_any, list_all};
 ghost use Rattle.sums.specs.Lines.{word, words, has_words, is_lower_hex, is_digest, is_size, is_name_character, is_file_name, is_tab, most_size};
 ghost use Rattle.sums.specs.Views.{line_form, fails};
 ghost use Rattle.std.specs.Str.Parse.{digits_value};
+
+use std::alloc::{AllocError, Global};
+use std::marker::Model;
 
 const MOST_SIZE: u32 = 4194304;
 
@@ -29,32 +32,74 @@ pub enum Check {
     Name,
 }
 
+/// A line of a list, split at each space. Contracts see its bytes.
+#[derive(Drop)]
+pub struct Line<'a> {
+    text: &'a str,
+    words: Vec<&'a str>,
+}
+
+impl<'a> Model for Line<'a> {
+    ghost use Rattle.std.specs.Prelude.{◌≡◌, ℕ, List, map};
+    ghost use Rattle.sums.specs.Lines as split;
+
+    ghost Value = { List ℕ };
+
+    ghost view = { λ l. l.text.now };
+
+    ghost invariant = { λ l. map (λ w. w.now) l.words.items ≡ split.words l.text.now };
+}
+
+impl<'a> Line<'a> {
+    /// Splits a line.
+    fn new(alloc: Global, text: &'a str) -> Result<Line<'a>, AllocError>
+        ensures { IfOk result (λ line. line ≡ text.now) }
+    {
+        let words = text.split(' ').collect(alloc)?;
+        Ok(Line { text, words })
+    }
+}
+
+/// The lines of a list, each split.
+pub fn split_lines<'a>(alloc: Global, texts: &[&'a str]) -> Result<Vec<Line<'a>>, AllocError>
+    ensures { IfOk result (λ lines. lines.items ≡ map (λ text. text.now) texts.now) }
+{
+    let mut lines = Vec::with_capacity(alloc, texts.len())?;
+    for text in texts {
+        lines.push(Line::new(alloc, text)?)?;
+    }
+    Ok(lines)
+}
+
 /// A word of a line, or nothing where it has fewer.
-pub fn word(line: &str, index: usize) -> &str
+pub fn word<'a>(line: &Line<'a>, index: usize) -> &'a str
     ensures { result.now ≡ word line.now index }
 {
-    line.split(' ').nth(index).unwrap_or("")
+    match line.words.get(index) {
+        Some(word) => *word,
+        None => "",
+    }
 }
 
-fn count_words(line: &str) -> usize
+fn count_words(line: &Line<'_>) -> usize
     ensures { result ≡ length (words line.now) }
 {
-    line.split(' ').count()
+    line.words.len()
 }
 
-fn has_empty_word(line: &str) -> bool
+fn has_empty_word(line: &Line<'_>) -> bool
     ensures { result ≡ list_any (λ w. length w == 0) (words line.now) }
 {
-    line.split(' ').any(|w| w.is_empty())
+    line.words.iter().any(|w| w.is_empty())
 }
 
-fn has_tab(line: &str) -> bool
+fn has_tab(line: &Line<'_>) -> bool
     ensures { result ≡ list_any is_tab line.now }
 {
-    line.bytes().any(|c| c == b'\t')
+    line.text.bytes().any(|c| c == b'\t')
 }
 
-fn has_words(form: Form, line: &str) -> bool
+fn has_words(form: Form, line: &Line<'_>) -> bool
     ensures { result ≡ has_words (line_form form) line.now }
 {
     let count = count_words(line);
@@ -150,7 +195,7 @@ fn are_name_characters(bytes: &[u8]) -> bool
 }
 
 /// Whether a line fails a check.
-fn fails(check: Check, form: Form, line: &str) -> bool
+fn fails(check: Check, form: Form, line: &Line<'_>) -> bool
     requires { 0 < form.words }
     ensures { result ≡ fails check (line_form form) line.now }
 {
@@ -163,9 +208,9 @@ fn fails(check: Check, form: Form, line: &str) -> bool
 }
 
 /// Whether some of these lines fails a check.
-pub fn some_fails(check: Check, form: Form, lines: &[&str]) -> bool
+pub fn some_fails(check: Check, form: Form, lines: &[Line<'_>]) -> bool
     requires { 0 < form.words }
-    ensures { result ≡ list_any (fails check (line_form form)) (map (λ line. line.now) lines.now) }
+    ensures { result ≡ list_any (fails check (line_form form)) lines.now }
 {
     lines.iter().any(|line| fails(check, form, line))
 }

@@ -1,14 +1,14 @@
 //! The three lists of files of a record, `Checksums-Sha1`, `Checksums-Sha256` and `Files`.
 
-ghost use Rattle.std.specs.Prelude.{◌≡◌, ◌==◌, ◌⊎◌, ◌||◌, nat_lt, Ok, Err, Some, None, IfOk, IfErr, MatchResult, length, map};
+ghost use Rattle.std.specs.Prelude.{◌≡◌, ◌==◌, ◌⊎◌, ◌||◌, nat_lt, Ok, Err, Some, None, IfOk, IfErr, MatchResult, length};
 ghost use Rattle.sums.specs.Lists.{Lines, ListedIn, lists_in, some_line, any_disagree};
 ghost use Rattle.sums.specs.declared.entries.ListKind.{ListKind};
-ghost use Rattle.sums.specs.Views.{AreFileLists, AreLists, lines_in, fails, fault_of_lines, fault_of_names};
+ghost use Rattle.sums.specs.Views.{AreFileLists, AreEntries, AreLists, lines_in, fails, fault_of_lines, fault_of_names};
 
 use crate::entries::{Entry, ListKind};
 use crate::fault::ListFault;
 use crate::join::{Lists, SHA1_FORM, SHA256_FORM, entries, files_form};
-use crate::lines::{Check, some_fails};
+use crate::lines::{Check, Line, some_fails, split_lines};
 use crate::names::{FileList, disagree, file_list};
 use para::{Field, Paragraph};
 use std::alloc::Global;
@@ -89,8 +89,8 @@ fn some_disagree(lists: &FileLists<'_>) -> bool
 }
 
 /// Whether there is no file, or there are too many.
-fn is_bad_count(files: &[&str]) -> bool
-    ensures { result ≡ (length (map (λ line. line.now) files.now) == 0 || nat_lt 256 (length (map (λ line. line.now) files.now))) }
+fn is_bad_count(files: &[Line<'_>]) -> bool
+    ensures { result ≡ (length files.now == 0 || nat_lt 256 (length files.now)) }
 {
     files.is_empty() || files.len() > MOST_FILES
 }
@@ -116,8 +116,19 @@ fn has_text(sha1: &Field<'_>, sha256: &Field<'_>, files: &Field<'_>) -> bool
     !sha1.first.is_empty() || !sha256.first.is_empty() || !files.first.is_empty()
 }
 
+/// The lines of the three lists as they stand in the paragraph.
+#[derive(Clone, Copy)]
+struct FoundLists<'p> {
+    sha1: &'p [&'p str],
+    sha256: &'p [&'p str],
+    files: &'p [&'p str],
+}
+
 /// The lines of the three lists.
-fn find_lists<'p>(paragraph: &'p Paragraph<'p>, kind: ListKind) -> Result<Lists<'p>, ListFault>
+fn find_lists<'p>(
+    paragraph: &'p Paragraph<'p>,
+    kind: ListKind,
+) -> Result<FoundLists<'p>, ListFault>
     ensures { MatchResult result (λ lists. AreLists kind paragraph.now lists) (λ e. lists_in kind paragraph.now ≡ Err e) }
 {
     let Some(sha1) = paragraph.get("Checksums-Sha1") else {
@@ -132,12 +143,19 @@ fn find_lists<'p>(paragraph: &'p Paragraph<'p>, kind: ListKind) -> Result<Lists<
     if has_text(sha1, sha256, files) {
         return Err(ListFault::TextOnFirstLine);
     }
-    Ok(Lists {
+    Ok(FoundLists {
         sha1: sha1.more.as_slice(),
         sha256: sha256.more.as_slice(),
         files: files.more.as_slice(),
-        kind,
     })
+}
+
+/// The entries of the lists, if nothing is wrong with them from the words of their lines on.
+fn read_lines(alloc: Global, lists: Lists<'_>) -> Result<Vec<Entry>, ListFault>
+    ensures { MatchResult result (λ entries. AreEntries lists.entry.kind (lines_in lists.entry) entries.items) (λ e. (e ≡ ListFault.OutOfMemory) ⊎ (fault_of_lines lists.entry.kind (lines_in lists.entry) ≡ Some e)) }
+{
+    check_lines(alloc, lists)?;
+    entries(alloc, lists)
 }
 
 /// The entries of the three lists of a record (Debian Policy 5.6.21, 5.6.24), in the order of `Files`.
@@ -155,7 +173,17 @@ pub fn read_lists(
     ensures listed { IfOk result (λ entries. ListedIn paragraph.now kind entries.items) }
     ensures refused { IfErr result (λ e. (e ≡ ListFault.OutOfMemory) ⊎ (lists_in kind paragraph.now ≡ Err e)) }
 {
-    let lists = find_lists(paragraph, kind)?;
-    check_lines(alloc, lists)?;
-    entries(alloc, lists)
+    let found = find_lists(paragraph, kind)?;
+    let sha1 = split_lines(alloc, found.sha1)?;
+    let sha256 = split_lines(alloc, found.sha256)?;
+    let files = split_lines(alloc, found.files)?;
+    read_lines(
+        alloc,
+        Lists {
+            sha1: sha1.as_slice(),
+            sha256: sha256.as_slice(),
+            files: files.as_slice(),
+            kind,
+        },
+    )
 }

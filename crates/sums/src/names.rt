@@ -5,7 +5,7 @@ ghost use Rattle.std.specs.List.{list_any};
 ghost use Rattle.sums.specs.Lists.{NameAndSize, name_and_size, has_twice, disagree};
 ghost use Rattle.sums.specs.Views.{AreSizes, IsFileList, line_form, in_names, size_in, is_size_of};
 
-use crate::lines::{Form, word};
+use crate::lines::{Form, Line, word};
 use std::alloc::{AllocError, Global};
 use std::collections::BTreeMap;
 
@@ -29,7 +29,7 @@ struct SizedName<'a> {
     size: &'a str,
 }
 
-fn sized_name<'a>(form: Form, line: &'a str) -> SizedName<'a>
+fn sized_name<'a>(form: Form, line: &Line<'a>) -> SizedName<'a>
     requires { 0 < form.words }
     ensures { in_names result ≡ name_and_size (line_form form) line.now }
 {
@@ -43,10 +43,10 @@ fn sized_name<'a>(form: Form, line: &'a str) -> SizedName<'a>
 fn sized_lines<'a>(
     alloc: Global,
     form: Form,
-    lines: &[&'a str],
+    lines: &[Line<'a>],
 ) -> Result<Vec<SizedName<'a>>, AllocError>
     requires { 0 < form.words }
-    ensures { IfOk result (λ files. map in_names files.items ≡ map (name_and_size (line_form form)) (map (λ line. line.now) lines.now)) }
+    ensures { IfOk result (λ files. map in_names files.items ≡ map (name_and_size (line_form form)) lines.now) }
 {
     lines
         .iter()
@@ -74,11 +74,11 @@ fn sizes_by_name<'a>(
 pub fn file_list<'a>(
     alloc: Global,
     form: Form,
-    lines: &[&'a str],
+    lines: &[Line<'a>],
 ) -> Result<Option<FileList<'a>>, AllocError>
     requires { 0 < form.words }
-    ensures { IfOk result (λ found. MatchOption found (has_twice (map (name_and_size (line_form form)) (map (λ line. line.now) lines.now)) ≡ true)
-        (λ list. IsFileList list (map (name_and_size (line_form form)) (map (λ line. line.now) lines.now)))) }
+    ensures { IfOk result (λ found. MatchOption found (has_twice (map (name_and_size (line_form form)) lines.now) ≡ true)
+        (λ list. IsFileList list (map (name_and_size (line_form form)) lines.now))) }
 {
     let files = sized_lines(alloc, form, lines)?;
     match sizes_by_name(alloc, &files)? {

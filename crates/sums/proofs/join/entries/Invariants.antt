@@ -4,4 +4,4 @@ use Rattle.sums.specs.Views.{lines_in}
 use Rattle.sums.proofs.join.entries.Given as goal
 
 abbrev pub invariant-loop-line : goal.invariant-loop-line
-invariant-loop-line l = l.entries.items ≡ map (λ line. entry_of_line l.lists.kind (lines_in l.lists) line.now) (take l.line-index l.lists.files.now)
+invariant-loop-line l = l.entries.items ≡ map (entry_of_line l.lists.kind (lines_in l.lists)) (take l.line-index l.lists.files.now)

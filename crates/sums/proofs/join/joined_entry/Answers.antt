@@ -1,4 +1,4 @@
-use Rattle.std.proofs.Common.{◌≡◌, ◌∙◌, [], true, ap, sym, subst, unwrap_or, arith, map}
+use Rattle.std.proofs.Common.{◌≡◌, ◌∙◌, [], true, ap, sym, subst, unwrap_or, arith}
 use Rattle.std.specs.List.{find}
 use Rattle.std.specs.Str.{bytes_eq}
 use Rattle.sums.specs.Lines.{is_digest, is_size, digest_word, word, name_word}
@@ -23,7 +23,7 @@ digest_named-requires c =
     let fine = faultless c.args.lists.kind (lines_in c.args.lists) c.requires.faultless in
     let form = files_form c.args.lists.kind in
     let name : c.word-name.result.now ≡ name_word form c.args.line.now = c.word-name.ensures ∙ ap (λ f. name_word f c.args.line.now) c.files_form.ensures in
-    let others = map (λ line. line.now) c.args.lists.sha1.now in (
+    let others = c.args.lists.sha1.now in (
       omega arith,
       (
         omega arith,
@@ -37,7 +37,7 @@ digest_named-requires-2 c =
     let fine = faultless c.args.lists.kind (lines_in c.args.lists) c.requires.faultless in
     let form = files_form c.args.lists.kind in
     let name : c.word-name.result.now ≡ name_word form c.args.line.now = c.word-name.ensures ∙ ap (λ f. name_word f c.args.line.now) c.files_form.ensures in
-    let others = map (λ line. line.now) c.args.lists.sha256.now in (
+    let others = c.args.lists.sha256.now in (
       omega arith,
       (
         omega arith,

@@ -1,11 +1,8 @@
-use Rattle.std.proofs.Common.{◌∙◌, sym, rules}
+use Rattle.std.proofs.Common.{rules}
 use Rattle.std.proofs.lemmas.Iterator.{YieldsList-from_slice}
 use Rattle.std.proofs.lemmas.Iterator.Search.{any_from_yields_List}
 use Rattle.sums.specs.Views.{line_form, fails}
-use Rattle.sums.proofs.Words.{list_any-map}
 use Rattle.sums.proofs.lines.some_fails.Goals as goal
 
 pub returns : goal.returns
-returns c =
-    any_from_yields_List (λ line. fails c.args.check (line_form c.args.form) line.now) _ _ _ c.any.ensures.ran (YieldsList-from_slice c.args.lines.now c.iter.ensures.rest) (λ x b q k. search rules)
-    ∙ sym (list_any-map (λ line. line.now) (fails c.args.check (line_form c.args.form)) c.args.lines.now)
+returns c = any_from_yields_List (fails c.args.check (line_form c.args.form)) _ _ _ c.any.ensures.ran (YieldsList-from_slice c.args.lines.now c.iter.ensures.rest) (λ x b q k. search rules)

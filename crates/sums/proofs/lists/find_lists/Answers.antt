@@ -27,7 +27,6 @@ returns c =
     let two = c.as_slice-2.ensures.value in
     let last = c.as_slice-3.ensures.value in
     record {
-      same_kind = λ i. c.args.kind;
       lines = (λ i. record { sha1 = map (λ line. line.now) (one i); sha256 = map (λ line. line.now) (two i); files = map (λ line. line.now) (last i) }) ∙ sym (lines_are c.args.paragraph.now sha1 sha256 files three);
       rest = rest c.args.kind c.args.paragraph.now sha1 sha256 files three (sym c.has_text.ensures ∙ c.if-has_text.false);
     }
