@@ -76,11 +76,16 @@ impl Ord for ShelfKey {
 
     #[tactic(auto, unfolding(crate::specs::Keys::key_order))]
     fn cmp(&self, other: &ShelfKey) -> Ordering {
-        self.suite
+        let order = self
+            .suite
             .cmp(&other.suite)
             .then(self.kind.number().cmp(&other.kind.number()))
-            .then(self.package.as_str().cmp(other.package.as_str()))
-            .then(self.architecture.as_str().cmp(other.architecture.as_str()))
+            .then(self.package.as_str().cmp(other.package.as_str()));
+        // Most packages differ, and then no architecture is looked at.
+        match order {
+            Ordering::Equal => self.architecture.as_str().cmp(other.architecture.as_str()),
+            unlike => unlike,
+        }
     }
 }
 

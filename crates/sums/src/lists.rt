@@ -125,10 +125,7 @@ struct FoundLists<'p> {
 }
 
 /// The lines of the three lists.
-fn find_lists<'p>(
-    paragraph: &'p Paragraph<'p>,
-    kind: ListKind,
-) -> Result<FoundLists<'p>, ListFault>
+fn find_lists<'p>(paragraph: &'p Paragraph<'p>, kind: ListKind) -> Result<FoundLists<'p>, ListFault>
     ensures { MatchResult result (λ lists. AreLists kind paragraph.now lists) (λ e. lists_in kind paragraph.now ≡ Err e) }
 {
     let Some(sha1) = paragraph.get("Checksums-Sha1") else {

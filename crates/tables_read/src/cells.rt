@@ -11,7 +11,7 @@ ghost use Rattle.tables.specs.Rows.{whole, flag};
 ghost use Rattle.tables_read.specs.Reading.{Agree};
 
 use para::{Listed, Text};
-use sqlite::types::FromSql;
+use sqlite::types::{FromSql, ValueRef};
 use sqlite::{Error, Row};
 
 /// A value of one column.
@@ -122,24 +122,10 @@ impl<const N: usize> Cell for [u8; N] {
     ghost is_real = { λ d. length d ≡ N };
 
     fn from_cell(row: &Row, at: usize) -> Result<Option<[u8; N]>, Error> {
-        match readable::<Vec<u8>>(row, at)? {
-            Some(bytes) => Ok(array(&bytes)),
-            None => Ok(None),
+        match row.get_ref(at)? {
+            ValueRef::Blob(bytes) => Ok(array(bytes)),
+            _ => Ok(None),
         }
-    }
-}
-
-/// These bytes as an array, if there are any and they are as many.
-fn maybe_array<const N: usize>(bytes: Option<Vec<u8>>) -> Option<Option<[u8; N]>>
-    ensures some { IfSome result (λ all. or_null Blob all ≡ or_null (λ v. Blob v.items) bytes) }
-    ensures none { result ≡ None → IfSome bytes (λ v. length v.items ≢ N) × (bytes ≢ None) }
-{
-    match bytes {
-        Some(bytes) => match array(&bytes) {
-            Some(all) => Some(Some(all)),
-            None => None,
-        },
-        None => Some(None),
     }
 }
 
@@ -150,9 +136,13 @@ impl<const N: usize> Cell for Option<[u8; N]> {
     ghost is_real = { λ o. IfSome o (λ d. length d ≡ N) };
 
     fn from_cell(row: &Row, at: usize) -> Result<Option<Option<[u8; N]>>, Error> {
-        match readable::<Option<Vec<u8>>>(row, at)? {
-            Some(bytes) => Ok(maybe_array(bytes)),
-            None => Ok(None),
+        match row.get_ref(at)? {
+            ValueRef::Null => Ok(Some(None)),
+            ValueRef::Blob(bytes) => match array(bytes) {
+                Some(all) => Ok(Some(Some(all))),
+                None => Ok(None),
+            },
+            _ => Ok(None),
         }
     }
 }
