@@ -42,4 +42,5 @@ pub mod CopyLemmas
 pub mod AcceptedRows
 pub mod AcceptedParts
 pub mod ToldLemmas
+pub mod PutLemmas
 pub mod RemovalLemmas

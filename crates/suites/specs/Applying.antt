@@ -41,12 +41,18 @@ abbrev pub printed_as : Print → Option SharedFile → Option SharedFile
 printed_as print None = None
 printed_as print (Some file) = Some (record { print = print; references = file.references })
 
--- the same where the path is this one
+-- the same where the path is this one: by a reference, and by a file of an item
 abbrev pub with_reference : List ℕ → Option SharedFile → Reference → Option SharedFile
 with_reference path shared r = cond (bytes_eq r.path path) (one_more r.print shared) shared
 
 abbrev pub without_reference : List ℕ → Option SharedFile → Reference → Option SharedFile
 without_reference path shared r = cond (bytes_eq r.path path) (one_less shared) shared
+
+abbrev pub with_file : List ℕ → Option SharedFile → PoolFile → Option SharedFile
+with_file path shared file = cond (bytes_eq file.path path) (one_more file.print shared) shared
+
+abbrev pub without_file : List ℕ → Option SharedFile → PoolFile → Option SharedFile
+without_file path shared file = cond (bytes_eq file.path path) (one_less shared) shared
 
 abbrev pub with_print : List ℕ → Option SharedFile → PoolFile → Option SharedFile
 with_print path shared file = cond (bytes_eq file.path path) (printed_as file.print shared) shared

@@ -17,7 +17,6 @@ mod upload;
 mod upload_plan;
 mod verdict;
 
-pub use admission::plan_admission;
 pub use copy_plan::{plan_copy, plan_copy_of};
 pub use item::{Item, PoolFile};
 pub use key::{Kind, ShelfKey};

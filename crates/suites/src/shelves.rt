@@ -1,13 +1,15 @@
 //! What all suites show, and the pool of its files.
 
-ghost use Rattle.std.specs.Prelude.{◌≡◌, ℕ, ◌<◌, T, List, OnOk, OnErr, IfOk, IfSome, None, true, option_copied, map, fold, cond, All};
+ghost use Rattle.std.specs.Prelude.{◌≡◌, ℕ, ◌<◌, T, List, [], ◌∷◌, OnOk, OnErr, IfOk, IfSome, None, true, bytes_eq, option_copied, map, fold, cond, All};
 ghost use Rattle.std.specs.BTreeMap.{IsOrdered, get_by_text};
 ghost use Rattle.std.specs.FinMap.{empty, get, insert, remove, contains_key, entries, values, from_entries, is_sorted};
 ghost use Rattle.std.specs.List.{list_any};
 ghost use Rattle.std.specs.Ordering.{eq_by_cmp};
-ghost use Rattle.suites.specs.Applying.{AreArrivals, leaving, with_reference, without_reference, with_print};
+ghost use Rattle.suites.specs.Admission.{MayJoin};
+ghost use Rattle.suites.specs.Applying.{AreArrivals, leaving, one_more, one_less, with_reference, without_reference, with_file, without_file, with_print};
 ghost use Rattle.suites.specs.Change.{without, with_all};
 ghost use Rattle.suites.specs.Counts.{count_at, Counts};
+ghost use Rattle.suites.specs.Items.{IsAtHome};
 ghost use Rattle.suites.specs.Keys.{key_order};
 ghost use Rattle.suites.specs.Plan.{IsStep, applied};
 ghost use Rattle.suites.specs.Pool.{files_of};
@@ -209,45 +211,46 @@ fn drop_items(items: &mut BTreeMap<ShelfKey, Item>, plan: &Plan)
     }
 }
 
-/// Counts one more reference. More of them than a `u64` counts are too many for memory.
+/// Counts one more reference to the file at a path. More of them than a `u64` counts are too many for memory.
 fn add_reference(
     alloc: Global,
     files: &mut BTreeMap<String, SharedFile>,
-    reference: &Reference,
+    path: &str,
+    print: Print,
 ) -> Result<(), AllocError>
-    ensures ok { OnOk result ((path : List ℕ) → get_by_text files.new path ≡ with_reference path (get_by_text files.old path) reference.now) }
-    ensures err { OnErr result ((path : List ℕ) → get_by_text files.new path ≡ get_by_text files.old path) }
+    ensures ok { OnOk result ((q : List ℕ) → get_by_text files.new q ≡ cond (bytes_eq path.now q) (one_more print (get_by_text files.old q)) (get_by_text files.old q)) }
+    ensures err { OnErr result ((q : List ℕ) → get_by_text files.new q ≡ get_by_text files.old q) }
 {
-    if let Some(file) = files.get_mut(reference.path.as_str()) {
+    if let Some(file) = files.get_mut(path) {
         let Some(more) = file.references.checked_add(1) else {
             return Err(AllocError);
         };
         file.references = more;
         return Ok(());
     }
-    let path = String::from_str(alloc, reference.path.as_str())?;
+    let path = String::from_str(alloc, path)?;
     files.insert(
         path,
         SharedFile {
-            print: reference.print,
+            print,
             references: 1,
         },
     )?;
     Ok(())
 }
 
-/// Counts one reference less. The file goes with the last one.
-fn drop_reference(files: &mut BTreeMap<String, SharedFile>, reference: &Reference)
-    ensures { (path : List ℕ) → get_by_text files.new path ≡ without_reference path (get_by_text files.old path) reference.now }
+/// Counts one reference less to the file at a path. The file goes with the last one.
+fn drop_reference(files: &mut BTreeMap<String, SharedFile>, path: &str)
+    ensures { (q : List ℕ) → get_by_text files.new q ≡ cond (bytes_eq path.now q) (one_less (get_by_text files.old q)) (get_by_text files.old q) }
 {
-    let Some(file) = files.get_mut(reference.path.as_str()) else {
+    let Some(file) = files.get_mut(path) else {
         return;
     };
     if file.references > 1 {
         file.references -= 1;
         return;
     }
-    files.remove(reference.path.as_str());
+    files.remove(path);
 }
 
 /// Counts the references of dropped items no more.
@@ -255,7 +258,7 @@ fn drop_references(files: &mut BTreeMap<String, SharedFile>, dropped: &[Referenc
     ensures { (path : List ℕ) → get_by_text files.new path ≡ fold (without_reference path) (get_by_text files.old path) dropped.now }
 {
     for reference in dropped {
-        drop_reference(files, reference);
+        drop_reference(files, reference.path.as_str());
     }
 }
 
@@ -270,8 +273,36 @@ fn add_references(
     ensures err { OnErr result ((path : List ℕ) → get_by_text files.new path ≡ get_by_text files.old path) }
 {
     for (index, reference) in put.iter().enumerate() {
-        if add_reference(alloc, files, reference).is_err() {
+        if add_reference(alloc, files, reference.path.as_str(), reference.print).is_err() {
             drop_references(files, &put[..index]);
+            return Err(AllocError);
+        }
+    }
+    Ok(())
+}
+
+/// Counts the files of an item no more.
+fn drop_files(files: &mut BTreeMap<String, SharedFile>, dropped: &[PoolFile])
+    ensures { (path : List ℕ) → get_by_text files.new path ≡ fold (without_file path) (get_by_text files.old path) dropped.now }
+{
+    for file in dropped {
+        drop_reference(files, file.path.as_str());
+    }
+}
+
+/// Counts the files of an item.
+fn add_files(
+    alloc: Global,
+    files: &mut BTreeMap<String, SharedFile>,
+    put: &[PoolFile],
+) -> Result<(), AllocError>
+    requires { (path : List ℕ) → IfSome (get_by_text files.old path) (λ file. 0 < file.references) }
+    ensures ok { OnOk result ((path : List ℕ) → get_by_text files.new path ≡ fold (with_file path) (get_by_text files.old path) put.now) }
+    ensures err { OnErr result ((path : List ℕ) → get_by_text files.new path ≡ get_by_text files.old path) }
+{
+    for (index, file) in put.iter().enumerate() {
+        if add_reference(alloc, files, file.path.as_str(), file.print).is_err() {
+            drop_files(files, &put[..index]);
             return Err(AllocError);
         }
     }
@@ -373,6 +404,25 @@ impl Shelves {
         match self.get(key) {
             Some(shown) => !shown.version.order(&item.version).is_lt(),
             None => false,
+        }
+    }
+
+    /// Puts an item on its shelf, which is empty, where its files may join the pool. Where memory runs out the shelves show
+    /// what they showed.
+    pub fn put(&mut self, alloc: Global, key: ShelfKey, item: Item) -> Result<(), AllocError>
+        requires home { IsAtHome (key, item) }
+        requires free { get self.old key ≡ None }
+        requires joins { MayJoin self.old ((key, item) ∷ []) }
+        ensures ok { OnOk result (self.new ≡ insert self.old key item) }
+        ensures err { OnErr result (self.new ≡ self.old) }
+    {
+        add_files(alloc, &mut self.files, item.files.as_slice())?;
+        match self.items.insert(key, item) {
+            Ok(_) => Ok(()),
+            Err(refused) => {
+                drop_files(&mut self.files, refused.value.1.files.as_slice());
+                Err(AllocError)
+            }
         }
     }
 
