@@ -14,3 +14,4 @@ pub mod ListedRead
 pub mod Refusals
 pub mod SizesByName
 pub mod DigestLengths
+pub mod Splitting

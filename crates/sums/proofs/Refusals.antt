@@ -75,10 +75,9 @@ lines_are p sha1 sha256 files h = (λ i. record { sha1 = more (h.sha1_is i); sha
 
 -- ---- from the lines
 
--- the lines of the lists that a paragraph has
-pub same_lines : (p : List FieldValue) {found : Lines} {a b c : List (List ℕ)} → found ≡ lines_of p → a ≡ found.sha1 → b ≡ found.sha256 → c ≡ found.files
-    → record { sha1 = a; sha256 = b; files = c } ≡ lines_of p
-same_lines p h x y z = (λ i. record { sha1 = x i; sha256 = y i; files = z i }) ∙ h
+-- the lines of three lists that are lent
+pub same_lines : (found : Lines) {lines : Lines} {a b c : List (List ℕ)} → lines ≡ found → a ≡ lines.sha1 → b ≡ lines.sha256 → c ≡ lines.files → record { sha1 = a; sha256 = b; files = c } ≡ found
+same_lines found h x y z = (λ i. record { sha1 = x i; sha256 = y i; files = z i }) ∙ h
 
 pub refused : (kind : ListKind) (p : List FieldValue) (lines : Lines) (e : ListFault) → fault kind p ≡ fault_of_lines kind (lines_of p) → lines ≡ lines_of p → fault_of_lines kind lines ≡ Some e → lists_in kind p ≡ Err e
 unfolding lists_in

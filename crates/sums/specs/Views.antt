@@ -1,8 +1,8 @@
 -- What the private types of this crate stand for, and the faults that single functions look for.
-use Rattle.std.specs.Prelude.{◌≡◌, ℕ, Bool, false, if◌then◌else◌, List, [], ◌∷◌, map, drop, Option, Some, None}
+use Rattle.std.specs.Prelude.{◌≡◌, ◌||◌, ℕ, Bool, false, if◌then◌else◌, List, [], ◌∷◌, map, drop, Option, Some, None}
 use Rattle.std.specs.BTreeMap.{BTreeMap, get_by}
 use Rattle.std.specs.Cmp.Lexicographic.{slice_cmp}
-use Rattle.std.specs.List.{find}
+use Rattle.std.specs.List.{find, list_any}
 use Rattle.std.specs.Option.{option_map}
 use Rattle.std.specs.Ordering.{nat_cmp}
 use Rattle.std.specs.Str.{bytes_eq}
@@ -11,12 +11,13 @@ use Rattle.para.specs.Field.{FieldValue}
 use Rattle.sums.specs.Lists.{Lines, NameAndSize, name_and_size, sha1_form, sha256_form, files_form, has_twice, any_twice, lines_of, applies_to_lines, faults, fault, entries_of}
 use Rattle.sums.specs.declared.fault.ListFault.{ListFault}
 use Rattle.sums.specs.declared.lines.Form.{Form}
-use Rattle.sums.specs.declared.lines.Check.{Check}
-use Rattle.sums.specs.declared.lines.Check.TheVariants.{Words, Digest, Size, Name}
+use Rattle.sums.specs.declared.lines.Failed.{Failed}
+use Rattle.sums.specs.declared.fault.ListFault.TheVariants.{BadWords, BadDigest, BadSize, BadName}
 use Rattle.sums.specs.declared.entries.ListKind.{ListKind}
 use Rattle.sums.specs.declared.entries.Entry.{Entry}
 use Rattle.sums.specs.declared.lists.FileLists.{FileLists}
 use Rattle.sums.specs.declared.lists.FoundLists.{FoundLists}
+use Rattle.sums.specs.declared.lists.SplitLists.{SplitLists}
 use Rattle.sums.specs.declared.names.FileList.{FileList}
 use Rattle.sums.specs.declared.names.SizedName.{SizedName}
 use denote.Ref.{Bor}
@@ -31,15 +32,41 @@ lines_in l = record { sha1 = l.sha1.now; sha256 = l.sha256.now; files = l.files.
 abbrev pub lines_found : FoundLists → Lines
 lines_found l = record { sha1 = map (λ line. line.now) l.sha1.now; sha256 = map (λ line. line.now) l.sha256.now; files = map (λ line. line.now) l.files.now }
 
+abbrev pub lines_split : SplitLists → Lines
+lines_split l = record { sha1 = l.sha1.items; sha256 = l.sha256.items; files = l.files.items }
+
 abbrev pub in_names : SizedName → NameAndSize
 in_names s = record { name = s.name.now; size = s.size.now }
 
--- a line fails a check
-abbrev pub fails : Check → LineForm → List ℕ → Bool
-fails Words = has_bad_words
-fails Digest = has_bad_digest
-fails Size = has_bad_size
-fails Name = has_bad_name
+-- the checks that failed before, or that a line fails
+abbrev pub with_line : Failed → LineForm → List ℕ → Failed
+with_line f form line = record {
+  words = f.words || has_bad_words form line;
+  digest = f.digest || has_bad_digest form line;
+  size = f.size || has_bad_size form line;
+  name = f.name || has_bad_name form line;
+}
+
+-- the checks that failed before, or that some of the lines fail
+abbrev pub with_lines : Failed → LineForm → List (List ℕ) → Failed
+with_lines f form lines = record {
+  words = f.words || list_any (has_bad_words form) lines;
+  digest = f.digest || list_any (has_bad_digest form) lines;
+  size = f.size || list_any (has_bad_size form) lines;
+  name = f.name || list_any (has_bad_name form) lines;
+}
+
+abbrev pub any_failed : Failed → Bool
+any_failed f = f.words || f.digest || f.size || f.name
+
+-- the fault of the first check that failed
+abbrev pub fault_of_failed : Failed → Option ListFault
+fault_of_failed f = if f.words then Some BadWords else if f.digest then Some BadDigest else if f.size then Some BadSize else if f.name then Some BadName else None
+
+-- texts are split: the checks that failed are known, and where none did, all lines are kept
+pub record IsSplit (before : Failed) (form : LineForm) (texts : List (List ℕ)) (after : Failed) (lines : List (List ℕ)) : Type 0 where
+  pub failed : after ≡ with_lines before form texts
+  pub kept : any_failed after ≡ false → lines ≡ texts
 
 -- the lowest fault from the words of the lines on
 abbrev pub fault_of_lines : ListKind → Lines → Option ListFault
@@ -82,6 +109,11 @@ pub record AreFileLists (kind : ListKind) (lines : Lines) (lists : FileLists) : 
 pub record AreLists (kind : ListKind) (paragraph : List FieldValue) (lists : FoundLists) : Type 0 where
   pub lines : lines_found lists ≡ lines_of paragraph
   pub rest : fault kind paragraph ≡ fault_of_lines kind (lines_of paragraph)
+
+-- the lines of lists, each split, of which none is wrong by itself
+pub record AreSplit (kind : ListKind) (found : Lines) (lines : Lines) : Type 0 where
+  pub same : lines ≡ found
+  pub rest : fault_of_lines kind found ≡ fault_of_names kind found
 
 -- the entries of lists without a fault from the words of their lines on
 pub record AreEntries (kind : ListKind) (lines : Lines) (entries : List Entry) : Type 0 where

@@ -4,7 +4,7 @@ ghost use Rattle.std.specs.Prelude.{◌≡◌, ◌==◌, ◌<◌, ◌&&◌, nat_
 ghost use Rattle.std.specs.Char.{is_ascii_digit};
 ghost use Rattle.std.specs.List.{list_any, list_all};
 ghost use Rattle.sums.specs.Lines.{word, words, has_words, is_lower_hex, is_digest, is_size, is_name_character, is_file_name, is_tab, most_size};
-ghost use Rattle.sums.specs.Views.{line_form, fails};
+ghost use Rattle.sums.specs.Views.{IsSplit, line_form, with_line, any_failed};
 ghost use Rattle.std.specs.Str.Parse.{digits_value};
 
 use std::alloc::{AllocError, Global};
@@ -23,14 +23,21 @@ pub struct Form {
     pub digest: usize,
 }
 
-/// What is asked of a line.
+/// Which checks some of the lines so far fail.
 #[derive(Clone, Copy)]
-pub enum Check {
-    Words,
-    Digest,
-    Size,
-    Name,
+pub struct Failed {
+    pub words: bool,
+    pub digest: bool,
+    pub size: bool,
+    pub name: bool,
 }
+
+pub const NONE_FAILED: Failed = Failed {
+    words: false,
+    digest: false,
+    size: false,
+    name: false,
+};
 
 /// A line of a list, split at each space. Contracts see its bytes.
 #[derive(Drop)]
@@ -58,17 +65,6 @@ impl<'a> Line<'a> {
         let words = text.split(' ').collect(alloc)?;
         Ok(Line { text, words })
     }
-}
-
-/// The lines of a list, each split.
-pub fn split_lines<'a>(alloc: Global, texts: &[&'a str]) -> Result<Vec<Line<'a>>, AllocError>
-    ensures { IfOk result (λ lines. lines.items ≡ map (λ text. text.now) texts.now) }
-{
-    let mut lines = Vec::with_capacity(alloc, texts.len())?;
-    for text in texts {
-        lines.push(Line::new(alloc, text)?)?;
-    }
-    Ok(lines)
 }
 
 /// A word of a line, or nothing where it has fewer.
@@ -194,23 +190,55 @@ fn are_name_characters(bytes: &[u8]) -> bool
     bytes.iter().all(|c| is_name_character(*c))
 }
 
-/// Whether a line fails a check.
-fn fails(check: Check, form: Form, line: &Line<'_>) -> bool
+/// The checks that failed before, or that a line fails.
+fn with_line(failed: Failed, form: Form, line: &Line<'_>) -> Failed
     requires { 0 < form.words }
-    ensures { result ≡ fails check (line_form form) line.now }
+    ensures { result ≡ with_line failed (line_form form) line.now }
 {
-    match check {
-        Check::Words => !has_words(form, line),
-        Check::Digest => !is_digest(form.digest, word(line, 0)),
-        Check::Size => !is_size(word(line, 1)),
-        Check::Name => !is_file_name(word(line, form.words - 1)),
+    let words = has_words(form, line);
+    let digest = is_digest(form.digest, word(line, 0));
+    let size = is_size(word(line, 1));
+    let name = is_file_name(word(line, form.words - 1));
+    Failed {
+        words: failed.words || !words,
+        digest: failed.digest || !digest,
+        size: failed.size || !size,
+        name: failed.name || !name,
     }
 }
 
-/// Whether some of these lines fails a check.
-pub fn some_fails(check: Check, form: Form, lines: &[Line<'_>]) -> bool
-    requires { 0 < form.words }
-    ensures { result ≡ list_any (fails check (line_form form)) lines.now }
+fn any_failed(failed: Failed) -> bool
+    ensures { result ≡ any_failed failed }
 {
-    lines.iter().any(|line| fails(check, form, line))
+    failed.words || failed.digest || failed.size || failed.name
+}
+
+/// The lines of a list, and the checks that failed before, or that some of them fail.
+#[derive(Drop)]
+pub struct SplitList<'a> {
+    pub lines: Vec<Line<'a>>,
+    pub failed: Failed,
+}
+
+/// Splits the lines of a list, and tries them. Lines are kept while no check has failed, so that those of a list that is
+/// refused take little memory.
+pub fn split_list<'a>(
+    alloc: Global,
+    form: Form,
+    texts: &[&'a str],
+    before: Failed,
+) -> Result<SplitList<'a>, AllocError>
+    requires { 0 < form.words }
+    ensures { IfOk result (λ list. IsSplit before (line_form form) (map (λ text. text.now) texts.now) list.failed list.lines.items) }
+{
+    let mut failed = before;
+    let mut lines = Vec::new(alloc);
+    for text in texts {
+        let line = Line::new(alloc, text)?;
+        failed = with_line(failed, form, &line);
+        if !any_failed(failed) {
+            lines.push(line)?;
+        }
+    }
+    Ok(SplitList { lines, failed })
 }

@@ -1,46 +1,37 @@
 //! The three lists of files of a record, `Checksums-Sha1`, `Checksums-Sha256` and `Files`.
 
 ghost use Rattle.std.specs.Prelude.{◌≡◌, ◌==◌, ◌⊎◌, ◌||◌, nat_lt, Ok, Err, Some, None, IfOk, IfErr, MatchResult, length};
-ghost use Rattle.sums.specs.Lists.{Lines, ListedIn, lists_in, some_line, any_disagree};
+ghost use Rattle.sums.specs.Lists.{Lines, ListedIn, lists_in, any_disagree};
 ghost use Rattle.sums.specs.declared.entries.ListKind.{ListKind};
-ghost use Rattle.sums.specs.Views.{AreFileLists, AreEntries, AreLists, lines_in, fails, fault_of_lines, fault_of_names};
+ghost use Rattle.sums.specs.Views.{AreFileLists, AreEntries, AreLists, AreSplit, lines_in, lines_found, lines_split, fault_of_failed, fault_of_lines, fault_of_names};
 
 use crate::entries::{Entry, ListKind};
 use crate::fault::ListFault;
 use crate::join::{Lists, SHA1_FORM, SHA256_FORM, entries, files_form};
-use crate::lines::{Check, Line, some_fails, split_lines};
+use crate::lines::{Failed, Line, NONE_FAILED, split_list};
 use crate::names::{FileList, disagree, file_list};
 use para::{Field, Paragraph};
 use std::alloc::Global;
 
 const MOST_FILES: usize = 256;
 
-/// Whether some line of some list fails a check.
-fn some_line_fails(lists: Lists<'_>, check: Check) -> bool
-    ensures { result ≡ some_line (fails check) lists.entry.kind (lines_in lists.entry) }
+/// The fault of the first check that failed.
+fn check_failed(failed: Failed) -> Result<(), ListFault>
+    ensures { MatchResult result (λ _. fault_of_failed failed ≡ None) (λ e. fault_of_failed failed ≡ Some e) }
 {
-    some_fails(check, SHA1_FORM, lists.sha1)
-        || some_fails(check, SHA256_FORM, lists.sha256)
-        || some_fails(check, files_form(lists.kind), lists.files)
-}
-
-/// What is wrong with the lists from the words of their lines on.
-fn check_lines(alloc: Global, lists: Lists<'_>) -> Result<(), ListFault>
-    ensures { MatchResult result (λ _. fault_of_lines lists.entry.kind (lines_in lists.entry) ≡ None) (λ e. (e ≡ ListFault.OutOfMemory) ⊎ (fault_of_lines lists.entry.kind (lines_in lists.entry) ≡ Some e)) }
-{
-    if some_line_fails(lists, Check::Words) {
+    if failed.words {
         return Err(ListFault::BadWords);
     }
-    if some_line_fails(lists, Check::Digest) {
+    if failed.digest {
         return Err(ListFault::BadDigest);
     }
-    if some_line_fails(lists, Check::Size) {
+    if failed.size {
         return Err(ListFault::BadSize);
     }
-    if some_line_fails(lists, Check::Name) {
+    if failed.name {
         return Err(ListFault::BadName);
     }
-    check_names(alloc, lists)
+    Ok(())
 }
 
 /// The files of the three lists.
@@ -147,11 +138,49 @@ fn find_lists<'p>(paragraph: &'p Paragraph<'p>, kind: ListKind) -> Result<FoundL
     })
 }
 
-/// The entries of the lists, if nothing is wrong with them from the words of their lines on.
+/// The lines of the three lists, each split.
+struct SplitLists<'a> {
+    sha1: Vec<Line<'a>>,
+    sha256: Vec<Line<'a>>,
+    files: Vec<Line<'a>>,
+}
+
+// Written out, so that a caller does not prove again how each part is dropped.
+impl<'a> Drop for SplitLists<'a> {
+    fn drop(self) {
+        let SplitLists {
+            sha1: _,
+            sha256: _,
+            files: _,
+        } = self;
+    }
+}
+
+/// Splits the lines of the three lists, of which none is wrong by itself.
+fn split_lists<'a>(
+    alloc: Global,
+    found: FoundLists<'a>,
+    kind: ListKind,
+) -> Result<SplitLists<'a>, ListFault>
+    ensures { MatchResult result (λ lists. AreSplit kind (lines_found found.entry) (lines_split lists)) (λ e. (e ≡ ListFault.OutOfMemory) ⊎ (fault_of_lines kind (lines_found found.entry) ≡ Some e)) }
+{
+    let sha1 = split_list(alloc, SHA1_FORM, found.sha1, NONE_FAILED)?;
+    let sha256 = split_list(alloc, SHA256_FORM, found.sha256, sha1.failed)?;
+    let files = split_list(alloc, files_form(kind), found.files, sha256.failed)?;
+    check_failed(files.failed)?;
+    Ok(SplitLists {
+        sha1: sha1.lines,
+        sha256: sha256.lines,
+        files: files.lines,
+    })
+}
+
+/// The entries of lists of whose lines none is wrong by itself.
 fn read_lines(alloc: Global, lists: Lists<'_>) -> Result<Vec<Entry>, ListFault>
+    requires { fault_of_lines lists.kind (lines_in lists) ≡ fault_of_names lists.kind (lines_in lists) }
     ensures { MatchResult result (λ entries. AreEntries lists.entry.kind (lines_in lists.entry) entries.items) (λ e. (e ≡ ListFault.OutOfMemory) ⊎ (fault_of_lines lists.entry.kind (lines_in lists.entry) ≡ Some e)) }
 {
-    check_lines(alloc, lists)?;
+    check_names(alloc, lists)?;
     entries(alloc, lists)
 }
 
@@ -171,15 +200,13 @@ pub fn read_lists(
     ensures refused { IfErr result (λ e. (e ≡ ListFault.OutOfMemory) ⊎ (lists_in kind paragraph.now ≡ Err e)) }
 {
     let found = find_lists(paragraph, kind)?;
-    let sha1 = split_lines(alloc, found.sha1)?;
-    let sha256 = split_lines(alloc, found.sha256)?;
-    let files = split_lines(alloc, found.files)?;
+    let split = split_lists(alloc, found, kind)?;
     read_lines(
         alloc,
         Lists {
-            sha1: sha1.as_slice(),
-            sha256: sha256.as_slice(),
-            files: files.as_slice(),
+            sha1: split.sha1.as_slice(),
+            sha256: split.sha256.as_slice(),
+            files: split.files.as_slice(),
             kind,
         },
     )
