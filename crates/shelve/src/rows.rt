@@ -1,7 +1,6 @@
 //! What a row of an item shows, with the rows of its files.
 
-ghost use Rattle.std.specs.Prelude.{◌≡◌, ◌⊎◌, false, is_some, map, None, IfOk, IfErr, OnOk};
-ghost use Rattle.std.specs.FinMap.{get};
+ghost use Rattle.std.specs.Prelude.{◌≡◌, ◌⊎◌, map, IfOk, IfErr, OnOk, OnErr};
 ghost use Rattle.std.specs.List.{list_any};
 ghost use Rattle.std.specs.Str.{IsUtf8};
 ghost use Rattle.suites.specs.Items.{standing};
@@ -14,7 +13,7 @@ use para::{Listed, Text};
 use rules::Suite;
 use sqlite::{Error, ErrorCode};
 use std::alloc::{AllocError, Global};
-use suites::{Item, Kind, PoolFile, Shelves, plan_admission};
+use suites::{Item, Kind, PoolFile, Shelves};
 use tables::rows::{Item as ItemRow, Ref};
 use vers::{Version, VersionFault};
 
@@ -63,15 +62,15 @@ fn version_in(alloc: Global, text: &str) -> Result<Version, Error>
     }
 }
 
-/// The text that bytes are. Bytes that are none, which cannot be in an archive, are refused.
-fn text_in(alloc: Global, bytes: &[u8]) -> Result<Text, Error>
-    ensures ok { IfOk result (λ text. (text ≡ bytes.now) × IsUtf8 bytes.now) }
-    ensures refused { IfErr result (λ e. (e ≡ Error.SqliteFailure ErrorCode.OutOfMemory) ⊎ (¬ IsUtf8 bytes.now)) }
+/// The text that bytes are, which it takes without a copy. Bytes that are none, which cannot be in an archive, are refused.
+fn text_in(bytes: Listed<u8>) -> Result<Text, Error>
+    ensures ok { IfOk result (λ text. (text ≡ bytes) × IsUtf8 bytes) }
+    ensures refused { OnErr result (¬ IsUtf8 bytes) }
 {
-    let Ok(text) = str::from_utf8(bytes) else {
-        return Err(Error::SqliteFailure(ErrorCode::DatabaseCorrupt));
-    };
-    Ok(Text::new(alloc, text)?)
+    match String::from_utf8(bytes.into_vec()) {
+        Ok(text) => Ok(Text::from_string(text)),
+        Err(_) => Err(Error::SqliteFailure(ErrorCode::DatabaseCorrupt)),
+    }
 }
 
 /// The files of rows.
@@ -95,7 +94,7 @@ fn item_with(alloc: Global, kind: Kind, row: ItemRow, refs: Vec<Ref>) -> Result<
     ensures refused { IfErr result (λ e. (e ≡ Error.SqliteFailure ErrorCode.OutOfMemory) ⊎ (¬ IsReadable row)) }
 {
     let version = version_in(alloc, row.version.as_str())?;
-    let paragraph = text_in(alloc, row.paragraph.as_slice())?;
+    let paragraph = text_in(row.paragraph)?;
     let files = files_in(alloc, refs)?;
     Ok(Item {
         kind,
@@ -166,42 +165,22 @@ fn some_may_not_join(shelves: &Shelves, files: &[PoolFile]) -> bool
     false
 }
 
-/// Admits one item to a suite where its shelf is empty and its files may join the pool.
-fn admit(alloc: Global, shelves: &mut Shelves, suite: usize, item: Item) -> Result<(), AllocError>
-    requires free { get shelves.old (standing suite item).0 ≡ None }
-    requires fits { list_any (may_not_join_pool (pool shelves.old) item.files) item.files ≡ false }
-    ensures { OnOk result (IsPut shelves.old shelves.new (standing suite item)) }
-{
-    // For the prover alone: the shelves are sound.
-    shelves.agree();
-    let mut items = Vec::new(alloc);
-    items.push(item)?;
-    let plan = plan_admission(alloc, shelves, suite, items)?;
-    shelves.apply(alloc, &plan)?;
-    Ok(())
-}
-
-/// Whether something stands on the shelf of an item in a suite.
-fn is_shelf_taken(shelves: &Shelves, suite: usize, item: &Item) -> Result<bool, AllocError>
-    ensures { IfOk result (λ taken. taken ≡ is_some (get shelves.now (standing suite item.now).0)) }
-{
-    let key = item.shelf(suite)?;
-    Ok(shelves.get(&key).is_some())
-}
-
 /// Puts an item on its shelf in a suite. A shelf that is taken, and a file with another print than what stands at its path,
 /// which cannot be in an archive, are refused.
 fn put_item(alloc: Global, shelves: &mut Shelves, suite: usize, item: Item) -> Result<(), Error>
     ensures ok { OnOk result (IsPut shelves.old shelves.new (standing suite item)) }
     ensures refused { IfErr result (λ e. (e ≡ Error.SqliteFailure ErrorCode.OutOfMemory) ⊎ (¬ MayBePut shelves.old (standing suite item))) }
 {
-    if is_shelf_taken(shelves, suite, &item)? {
+    let key = item.shelf(suite)?;
+    if shelves.get(&key).is_some() {
         return Err(Error::SqliteFailure(ErrorCode::DatabaseCorrupt));
     }
     if some_may_not_join(shelves, item.files.as_slice()) {
         return Err(Error::SqliteFailure(ErrorCode::DatabaseCorrupt));
     }
-    Ok(admit(alloc, shelves, suite, item)?)
+    // For the prover alone: the shelves are sound.
+    shelves.agree();
+    Ok(shelves.put(alloc, key, item)?)
 }
 
 /// Puts on its shelf what a row shows. A row of no suite or of no kind, which cannot be in an archive, is refused.
