@@ -3,3 +3,4 @@ pub mod RemovedLemmas
 pub mod UnusedLemmas
 pub mod CleanLemmas
 pub mod ArrivedLemmas
+pub mod AtOnceLemmas

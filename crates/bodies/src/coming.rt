@@ -38,7 +38,7 @@ fn add_first<S: Alter>(tx: &mut Transaction<'_, S>, number: u64, bytes: &[u8]) -
 }
 
 /// Adds the next piece of a body, under this number; with the first one comes its row. Answers the number of the body.
-pub(crate) fn add_piece<S: Alter>(
+fn add_piece<S: Alter>(
     tx: &mut Transaction<'_, S>,
     body: Option<u64>,
     number: u64,

@@ -4,20 +4,17 @@ ghost use Rattle.std.specs.Prelude.{◌≡◌, ◌<◌, false, not, option_map, 
 ghost use Rattle.sqlite.specs.State.{HasCleanDisk, KeepsCommit, Survives};
 ghost use Rattle.sqlite.specs.Held.{state};
 ghost use Rattle.tables.specs.Rows.{Tables, Holds, Changes};
-ghost use Rattle.tables.specs.Wants.{with_here};
 ghost use Rattle.bodies.specs.Counting.{arrival_counts};
 ghost use Rattle.kept.specs.Coming.{IsNoOther, ended_number, with_ended, with_finished, with_received};
-ghost use Rattle.kept.specs.Making.{with_arrived};
 ghost use Rattle.kept.specs.Transactions.{IsDone, IsUndone, MayCommit};
 
-use crate::arriving::{store_arrival, store_request};
+use crate::arriving::{Arriving, receive};
 use crate::listing::{entries_of, record_inside};
 use crate::other::refuse_other;
 use crate::whole::store_whole;
 use sqlite::{Alter, Connection, Error, Transaction};
 use std::alloc::Global;
 use sums::{Entry, Print};
-use tables::wants::mark_here;
 
 /// A file of which the whole body came: its name, the number of its body, none where it has no byte, and of how many pieces that
 /// is, its print, for how many seconds what arrives counts, none where it does so for good, and the moment.
@@ -31,39 +28,9 @@ pub struct Finished<'a> {
     pub moment: u64,
 }
 
-/// Makes the body of a file whole, and stores the arrival and that it is here for those that want it. Answers whether the arrival
-/// is new at the moment.
-fn store_file<S: Alter>(
-    alloc: Global,
-    tx: &mut Transaction<'_, S>,
-    finished: &Finished<'_>,
-) -> Result<bool, Error>
-    ensures same_reference { tx.new.conn.ghost_name ≡ tx.old.conn.ghost_name }
-    ensures ok { HasCleanDisk (state S.Store tx.new.conn.now) → IsTrue (state S.Store tx.old.conn.now).in_transaction
-        → IfOk result (λ new. Changes (state S.Store tx.old.conn.now) (state S.Store tx.new.conn.now)
-        (λ t. with_here finished.now.name.now finished.now.print
-        (with_arrived finished.now.name.now (ended_number finished.now.body finished.now.print t) finished.now.moment (with_ended finished.now.body finished.now.print t)))
-        × ((t : Tables) → Holds (state S.Store tx.old.conn.now).now t
-        → new ≡ not (arrival_counts finished.now.span finished.now.moment finished.now.name.now (ended_number finished.now.body finished.now.print t) (with_ended finished.now.body finished.now.print t)))) }
-    ensures err { HasCleanDisk (state S.Store tx.new.conn.now) → IsTrue (state S.Store tx.old.conn.now).in_transaction
-        → OnErr result (KeepsCommit (state S.Store tx.old.conn.now) (state S.Store tx.new.conn.now)) }
-    ensures survives { Survives (state S.Store tx.old.conn.now) (state S.Store tx.new.conn.now) (λ _. ⊥) }
-{
-    let body = store_whole(alloc, tx, finished.body, &finished.print)?;
-    let new = store_arrival(
-        alloc,
-        tx,
-        finished.name,
-        body,
-        finished.span,
-        finished.moment,
-    )?;
-    mark_here(tx, finished.name, &finished.print)?;
-    Ok(new)
-}
-
-/// The same, and stores what the file lists. Answers whether the arrival is new.
-fn receive<S: Alter>(
+/// Makes the body of a file whole, and stores the arrival and what the file lists. Answers whether the arrival is new at the
+/// moment.
+fn end_body<S: Alter>(
     alloc: Global,
     tx: &mut Transaction<'_, S>,
     finished: &Finished<'_>,
@@ -80,19 +47,19 @@ fn receive<S: Alter>(
         → OnErr result (KeepsCommit (state S.Store tx.old.conn.now) (state S.Store tx.new.conn.now)) }
     ensures survives { Survives (state S.Store tx.old.conn.now) (state S.Store tx.new.conn.now) (λ _. ⊥) }
 {
-    let new = store_file(alloc, tx, finished)?;
-    match listed {
-        None => Ok(new),
-        Some(entries) => {
-            store_request(alloc, tx, finished.name, &finished.print, entries)?;
-            Ok(new)
-        }
-    }
+    let body = store_whole(alloc, tx, finished.body, &finished.print)?;
+    let file = Arriving {
+        name: finished.name,
+        print: finished.print,
+        span: finished.span,
+        moment: finished.moment,
+    };
+    receive(alloc, tx, &file, body, listed)
 }
 
 /// Takes the body that came as one that has arrived, inside a transaction. One whose print is that of another body is refused.
 /// Answers whether the arrival is new.
-pub(crate) fn finish_inside<S: Alter>(
+fn finish_inside<S: Alter>(
     alloc: Global,
     tx: &mut Transaction<'_, S>,
     finished: &Finished<'_>,
@@ -109,7 +76,7 @@ pub(crate) fn finish_inside<S: Alter>(
 {
     refuse_other(alloc, tx, finished.body, finished.pieces, &finished.print)?;
     let found = record_inside(alloc, tx, finished.name, finished.body)?;
-    receive(alloc, tx, finished, entries_of(&found))
+    end_body(alloc, tx, finished, entries_of(&found))
 }
 
 /// Takes the body that came as one that has arrived, in one transaction. Answers whether the arrival is new.

@@ -35,6 +35,17 @@ fn changes_of(alloc: Global, body: &[u8]) -> Result<Changes, Error>
     }
 }
 
+/// The record that a file of these bytes is, where its name is that of a .changes.
+pub(crate) fn record_of(alloc: Global, name: &str, bytes: &[u8]) -> Result<Option<Changes>, Error>
+    ensures { IfOk result (λ found. option_map (λ c. c.entries) found ≡ listed_in name.now bytes.now) }
+{
+    if !is_changes(name) {
+        return Ok(None);
+    }
+    let changes = changes_of(alloc, bytes)?;
+    Ok(Some(changes))
+}
+
 /// The bytes of the body of this number, none where there is no number.
 fn bytes_inside<S: Alter>(
     alloc: Global,
@@ -76,8 +87,7 @@ pub(crate) fn record_inside<S: Alter>(
         return Ok(None);
     }
     let bytes = bytes_inside(alloc, tx, body)?;
-    let changes = changes_of(alloc, bytes.as_slice())?;
-    Ok(Some(changes))
+    record_of(alloc, name, bytes.as_slice())
 }
 
 /// The entries of a record.

@@ -1,10 +1,11 @@
 //! Two bodies of one print: the one that came and the one that is stored are compared piece by piece.
 
-ghost use Rattle.std.specs.Prelude.{◌≡◌, ◌<◌, true, false, None, option_map, IsTrue, IfOk, OnOk, OnErr};
+ghost use Rattle.std.specs.Prelude.{◌≡◌, ◌<◌, true, false, None, Some, option_map, IsTrue, IfOk, OnOk, OnErr};
 ghost use Rattle.sqlite.specs.State.{HasCleanDisk, IsUnchanged, KeepsCommit, Survives};
 ghost use Rattle.sqlite.specs.Held.{state};
 ghost use Rattle.tables.specs.Inside.{GoesOn};
 ghost use Rattle.tables.specs.Rows.{Tables, Holds};
+ghost use Rattle.bodies.specs.AtOnce.{IsOnePiece};
 ghost use Rattle.kept.specs.Coming.{HasSamePieces, IsNoOther, IsSameAs, bytes_at};
 
 use crate::reading::differ;
@@ -145,6 +146,63 @@ pub(crate) fn refuse_other<S: Alter>(
         return Ok(());
     };
     let same = is_same(alloc, tx, body, pieces, stored)?;
+    if !same {
+        return Err(Error::SqliteFailure(ErrorCode::DatabaseCorrupt));
+    }
+    Ok(())
+}
+
+/// Whether a piece is there with these bytes.
+fn is_piece_of(piece: &Option<Piece>, bytes: &[u8]) -> bool
+    ensures { result ≡ true → option_map (λ p. p.bytes) piece.now ≡ Some bytes.now }
+{
+    match piece {
+        Some(piece) => !differ(piece.bytes.as_slice(), bytes),
+        None => false,
+    }
+}
+
+/// Whether a body is one piece, of these bytes.
+fn is_one_piece<S: Alter>(
+    alloc: Global,
+    tx: &mut Transaction<'_, S>,
+    body: u64,
+    bytes: &[u8],
+) -> Result<bool, Error>
+    ensures same_reference { tx.new.conn.ghost_name ≡ tx.old.conn.ghost_name }
+    ensures ok { HasCleanDisk (state S.Store tx.new.conn.now) → (t : Tables) → Holds (state S.Store tx.old.conn.now).now t
+        → IfOk result (λ one. (one ≡ true → IsOnePiece t body bytes.now) × IsUnchanged (state S.Store tx.old.conn.now) (state S.Store tx.new.conn.now)) }
+    ensures goes_on { HasCleanDisk (state S.Store tx.new.conn.now) → IsTrue (state S.Store tx.old.conn.now).in_transaction
+        → OnOk result (GoesOn (state S.Store tx.old.conn.now) (state S.Store tx.new.conn.now)) }
+    ensures kept { HasCleanDisk (state S.Store tx.new.conn.now) → IsTrue (state S.Store tx.old.conn.now).in_transaction
+        → OnErr result (KeepsCommit (state S.Store tx.old.conn.now) (state S.Store tx.new.conn.now)) }
+    ensures survives { Survives (state S.Store tx.old.conn.now) (state S.Store tx.new.conn.now) (λ _. ⊥) }
+{
+    let first = piece_inside(alloc, tx, body, 1)?;
+    let last = piece_inside(alloc, tx, body, 2)?;
+    if last.is_some() {
+        return Ok(false);
+    }
+    Ok(is_piece_of(&first, bytes))
+}
+
+/// Refuses these bytes where the body of their print that is stored, under this number, is another one.
+pub(crate) fn refuse_other_bytes<S: Alter>(
+    alloc: Global,
+    tx: &mut Transaction<'_, S>,
+    stored: u64,
+    bytes: &[u8],
+) -> Result<(), Error>
+    ensures same_reference { tx.new.conn.ghost_name ≡ tx.old.conn.ghost_name }
+    ensures ok { HasCleanDisk (state S.Store tx.new.conn.now) → (t : Tables) → Holds (state S.Store tx.old.conn.now).now t
+        → OnOk result (IsOnePiece t stored bytes.now × IsUnchanged (state S.Store tx.old.conn.now) (state S.Store tx.new.conn.now)) }
+    ensures goes_on { HasCleanDisk (state S.Store tx.new.conn.now) → IsTrue (state S.Store tx.old.conn.now).in_transaction
+        → OnOk result (GoesOn (state S.Store tx.old.conn.now) (state S.Store tx.new.conn.now)) }
+    ensures kept { HasCleanDisk (state S.Store tx.new.conn.now) → IsTrue (state S.Store tx.old.conn.now).in_transaction
+        → OnErr result (KeepsCommit (state S.Store tx.old.conn.now) (state S.Store tx.new.conn.now)) }
+    ensures survives { Survives (state S.Store tx.old.conn.now) (state S.Store tx.new.conn.now) (λ _. ⊥) }
+{
+    let same = is_one_piece(alloc, tx, stored, bytes)?;
     if !same {
         return Err(Error::SqliteFailure(ErrorCode::DatabaseCorrupt));
     }
