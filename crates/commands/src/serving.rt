@@ -7,7 +7,7 @@ use crate::client::{Client, FirstLine, FromClient, Patience, ToClient};
 use crate::fault::Stop;
 use crate::log::{Ended, write_line};
 use crate::moments::Moments;
-use desk::{Connection, DeskFault, Served, attend};
+use desk::{Connection, Desk, DeskFault, Served, attend};
 use http::StatusCode;
 use keep::{KeepFault, Keeper};
 use queue::{Archive, Fault};
@@ -96,12 +96,13 @@ pub fn serve_at<'a, R: Clock + Files + AllocGlobal, K: Keeper, E: Write>(
 ) -> Result<(), Stop<'a>>
     ensures served { HasServed K.Keeper archive.old.keeper archive.new.keeper }
 {
+    let desk = Desk::new(rt.alloc())?;
     for served in 0..count {
         match listener.accept() {
             // What comes of the connection is its client's alone.
             Ok((stream, _)) => {
                 let moment = moments.next(rt);
-                if leaves_shut(rt, archive, &stream, moment, patience, log) {
+                if leaves_shut(rt, &desk, archive, &stream, moment, patience, log) {
                     return Err(Stop::Shut(count - served - 1));
                 }
             }
@@ -116,6 +117,7 @@ pub fn serve_at<'a, R: Clock + Files + AllocGlobal, K: Keeper, E: Write>(
 /// Answers one connection, and says whether the keeper is shut behind it.
 fn leaves_shut<R: Clock + AllocGlobal, K: Keeper, E: Write>(
     rt: &R,
+    desk: &Desk,
     archive: &mut Archive<K>,
     stream: &TcpStream,
     moment: u64,
@@ -124,7 +126,7 @@ fn leaves_shut<R: Clock + AllocGlobal, K: Keeper, E: Write>(
 ) -> bool
     ensures served { HasServed K.Keeper archive.old.keeper archive.new.keeper }
 {
-    let end = answer_client(rt, archive, stream, moment, patience, log);
+    let end = answer_client(rt, desk, archive, stream, moment, patience, log);
     if !is_insufficient_storage(&end) {
         return false;
     }
@@ -157,6 +159,7 @@ fn is_shut<K: Keeper>(alloc: Global, archive: &mut Archive<K>) -> bool
 /// Answers one connection, lets its client read the reply, and writes its line.
 fn answer_client<R: Clock + AllocGlobal, K: Keeper, E: Write>(
     rt: &R,
+    desk: &Desk,
     archive: &mut Archive<K>,
     stream: &TcpStream,
     moment: u64,
@@ -173,7 +176,7 @@ fn answer_client<R: Clock + AllocGlobal, K: Keeper, E: Write>(
         is_lost: Cell::new(false),
     };
     let (mut line, sent) = (FirstLine::new(rt.alloc()), Cell::new(0));
-    let end = answered(archive, &client, moment, &mut line, &sent);
+    let end = answered(desk, archive, &client, moment, &mut line, &sent);
     if let Ok(Served::Status(_)) = end {
         let _ = part(&client);
     }
@@ -192,6 +195,7 @@ fn answer_client<R: Clock + AllocGlobal, K: Keeper, E: Write>(
 
 /// Answers the request of a client. The request and the reply go through a buffer each, where there is memory for it.
 fn answered<R: Clock + AllocGlobal, K: Keeper>(
+    desk: &Desk,
     archive: &mut Archive<K>,
     client: &Client<'_, R>,
     moment: u64,
@@ -206,13 +210,14 @@ fn answered<R: Clock + AllocGlobal, K: Keeper>(
         has_begun: false,
     };
     if let Ok(mut buffered) = BufReader::new(client.rt.alloc(), &mut reader) {
-        return replied(archive, client, moment, &mut buffered, sent);
+        return replied(desk, archive, client, moment, &mut buffered, sent);
     }
-    replied(archive, client, moment, &mut reader, sent)
+    replied(desk, archive, client, moment, &mut reader, sent)
 }
 
 /// Answers the request of this reader. The reply goes through a buffer, where there is memory for one.
 fn replied<R: Clock + AllocGlobal, K: Keeper, I: Read>(
+    desk: &Desk,
     archive: &mut Archive<K>,
     client: &Client<'_, R>,
     moment: u64,
@@ -226,11 +231,11 @@ fn replied<R: Clock + AllocGlobal, K: Keeper, I: Read>(
     match BufWriter::new(alloc, writer) {
         Ok(buffered) => {
             let mut one = connection(reader, buffered, moment);
-            attended(alloc, archive, slice::from_mut(&mut one))
+            attended(alloc, desk, archive, slice::from_mut(&mut one))
         }
         Err(_) => {
             let mut one = connection(reader, writer, moment);
-            attended(alloc, archive, slice::from_mut(&mut one))
+            attended(alloc, desk, archive, slice::from_mut(&mut one))
         }
     }
 }
@@ -248,12 +253,13 @@ fn connection<R, W>(reader: R, writer: W, moment: u64) -> Connection<R, W> {
 /// Answers connections, and says how the first of them ended.
 fn attended<K: Keeper, R: Read, W: Write>(
     alloc: Global,
+    desk: &Desk,
     archive: &mut Archive<K>,
     connections: &mut [Connection<R, W>],
 ) -> Result<Served, DeskFault>
     ensures served { HasServed K.Keeper archive.old.keeper archive.new.keeper }
 {
-    attend(alloc, archive, connections);
+    attend(alloc, desk, archive, connections);
     match connections.first() {
         Some(Connection { end: Some(end), .. }) => *end,
         _ => Ok(Served::Nothing),

@@ -3,7 +3,8 @@ ghost use Rattle.std.specs.Prelude.{◌≡◌};
 ghost use Rattle.desk.specs.Connections.{AreServed, IsServed, visit, visits};
 ghost use Rattle.queue.specs.Steps.{Lasts};
 
-use crate::exchange::{DeskFault, Served, answer};
+use crate::exchange::{DeskFault, Served};
+use crate::routes::Desk;
 use keep::Keeper;
 use queue::Archive;
 use std::alloc::Global;
@@ -21,13 +22,13 @@ pub struct Connection<R, W> {
 
 impl<R: Read, W: Write> Connection<R, W> {
     /// Answers the connection.
-    pub fn serve<K: Keeper>(&mut self, alloc: Global, archive: &mut Archive<K>)
+    pub fn serve<K: Keeper>(&mut self, alloc: Global, desk: &Desk, archive: &mut Archive<K>)
         ensures lasts { Lasts K.Keeper archive.old.keeper archive.new.keeper }
         ensures moment { self.new.moment ≡ self.old.moment }
         ensures served { IsServed K.Keeper (visit R.remaining W.contents self.old self.new)
             archive.old.keeper archive.new.keeper }
     {
-        self.end = Some(answer(
+        self.end = Some(desk.answer(
             alloc,
             archive,
             &mut self.reader,
@@ -40,6 +41,7 @@ impl<R: Read, W: Write> Connection<R, W> {
 /// Answers connections, one after the other.
 pub fn attend<K: Keeper, R: Read, W: Write>(
     alloc: Global,
+    desk: &Desk,
     archive: &mut Archive<K>,
     connections: &mut [Connection<R, W>],
 )
@@ -48,6 +50,6 @@ pub fn attend<K: Keeper, R: Read, W: Write>(
         (visits R.remaining W.contents connections.old connections.new) }
 {
     for connection in connections.iter_mut() {
-        connection.serve(alloc, archive);
+        connection.serve(alloc, desk, archive);
     }
 }

@@ -3,7 +3,7 @@ ghost use Rattle.std.specs.Prelude.{◌≡◌, ◌≤◌, Bool, Some, None, IfOk
 ghost use Rattle.std.specs.Option.{option_map};
 ghost use Rattle.desk.specs.Answer.{text_message};
 ghost use Rattle.desk.specs.Calls.{done_message, fault_message, reception_message};
-ghost use Rattle.desk.specs.Exchange.{IsAnswered, IsCarriedOut, IsHandled};
+ghost use Rattle.desk.specs.Exchange.{Course, HasWritten, IsAnswered, IsCarriedOut, IsHandled, reply_of};
 ghost use Rattle.desk.specs.Incoming.{ReadsBeginning, ReadsUpTo};
 ghost use Rattle.desk.specs.Message.{message_of};
 ghost use Rattle.desk.specs.Reply.{line};
@@ -18,6 +18,7 @@ use crate::fault_text::{FaultText, record_text};
 use crate::head::{Refusal, Wanted};
 use crate::reply::{Body, Reply, write_reply};
 use crate::request::{Request, read_request};
+use crate::routes::Desk;
 use http::StatusCode;
 use keep::Keeper;
 use queue::{Archive, Arrived, Fault, Promotion, ReaderFailed, Report};
@@ -74,10 +75,33 @@ impl fmt::Display for DeskFault {
 
 impl Error for DeskFault {}
 
-/// Answers one connection at a moment, in seconds since 1970-01-01 00:00:00 UTC: reads the part of its bytes that the request
-/// uses, calls the archive if that is what they ask for, and writes the reply. A delivery's body goes to the archive as it
-/// comes. Memory of its own is taken before the archive is called, so that what was carried out is never answered with a
-/// want of memory.
+impl Desk {
+    /// Answers one connection at a moment, in seconds since 1970-01-01 00:00:00 UTC: reads the part of its bytes that the
+    /// request uses, calls the archive if that is what they ask for, and writes the reply. A delivery's body goes to the
+    /// archive as it comes. Memory of its own is taken before the archive is called, so that what was carried out is never
+    /// answered with a want of memory.
+    pub fn answer<K: Keeper, R: Read, W: Write>(
+        &self,
+        alloc: Global,
+        archive: &mut Archive<K>,
+        reader: &mut R,
+        writer: &mut W,
+        moment: u64,
+    ) -> Result<Served, DeskFault>
+        ensures lasts { Lasts K.Keeper archive.old.keeper archive.new.keeper }
+        ensures answered { IsAnswered K.Keeper (R.remaining reader.old) (R.remaining reader.new)
+            archive.old.keeper archive.new.keeper (W.contents writer.old) (W.contents writer.new) moment result }
+    {
+        match reply_to(alloc, self, archive, reader, moment) {
+            Err(_) => Err(DeskFault::ReaderFailed),
+            Ok(None) => Ok(Served::Nothing),
+            Ok(Some(reply)) => send(writer, &reply),
+        }
+    }
+}
+
+/// Answers one connection as [`Desk::answer`] does, by a desk of its own. Where there is no memory for one, the reply is 507
+/// and nothing was read.
 pub fn answer<K: Keeper, R: Read, W: Write>(
     alloc: Global,
     archive: &mut Archive<K>,
@@ -89,19 +113,27 @@ pub fn answer<K: Keeper, R: Read, W: Write>(
     ensures answered { IsAnswered K.Keeper (R.remaining reader.old) (R.remaining reader.new)
         archive.old.keeper archive.new.keeper (W.contents writer.old) (W.contents writer.new) moment result }
 {
-    match reply_to(alloc, archive, reader, moment) {
-        Err(_) => Err(DeskFault::ReaderFailed),
-        Ok(None) => Ok(Served::Nothing),
-        Ok(Some(reply)) => match write_reply(writer, &reply) {
-            Ok(()) => Ok(Served::Status(reply.status)),
-            Err(_) => Err(DeskFault::WriterFailed),
-        },
+    match Desk::new(alloc) {
+        Ok(desk) => desk.answer(alloc, archive, reader, writer, moment),
+        Err(_) => send(writer, &Reply::to_refusal(Refusal::OutOfMemory)),
+    }
+}
+
+/// Writes a reply, and says how that ended.
+fn send<W: Write>(writer: &mut W, reply: &Reply) -> Result<Served, DeskFault>
+    ensures { (course : Course) → reply_of course ≡ Some (message_of reply.now)
+        → HasWritten (W.contents writer.old) (W.contents writer.new) course result }
+{
+    match write_reply(writer, reply) {
+        Ok(()) => Ok(Served::Status(reply.status)),
+        Err(_) => Err(DeskFault::WriterFailed),
     }
 }
 
 /// Reads one request, carries it out, and has the reply.
 fn reply_to<K: Keeper, R: Read>(
     alloc: Global,
+    desk: &Desk,
     archive: &mut Archive<K>,
     reader: &mut R,
     moment: u64,
@@ -111,7 +143,7 @@ fn reply_to<K: Keeper, R: Read>(
         archive.old.keeper archive.new.keeper moment (option_map message_of reply)) }
     ensures err { OnErr result (ReadsBeginning (R.remaining reader.old) (R.remaining reader.new) × IsAsBefore K.Keeper archive.old.keeper archive.new.keeper) }
 {
-    match read_request(alloc, reader) {
+    match read_request(alloc, desk, reader) {
         Err(fault) => Err(fault),
         Ok(Request::Nothing) => Ok(None),
         Ok(Request::Refused(refusal)) => Ok(Some(Reply::to_refusal(refusal))),

@@ -10,11 +10,11 @@ ghost use Rattle.desk.specs.Want.{asked_at, content_length, decoded, fetched_at,
 ghost use Rattle.desk.specs.Refusals.{allowed, refusal_status};
 ghost use Rattle.desk.specs.Request.{Gives, HeadAsks, IsHead, found_want, want_of};
 
-use crate::routes::{Route, router};
+use crate::routes::{Desk, Route};
 use http::{Method, StatusCode};
 use httparse::Status;
 use httparse::spans::{EMPTY_HEADER_SPAN, HeaderSpan, RequestSpans, Span, parse_request};
-use matchit::{InsertError, Params};
+use matchit::Params;
 use percent_encoding::percent_decode;
 use std::alloc::{AllocError, Global};
 
@@ -83,17 +83,6 @@ impl From<AllocError> for Refusal {
     }
 }
 
-impl From<InsertError> for Refusal {
-    ghost use Rattle.std.specs.Prelude.{◌≡◌};
-    ghost use Rattle.desk.specs.declared.head.Refusal.TheVariants.{OutOfMemory};
-
-    ghost from_gives = { λ _ refusal. refusal ≡ OutOfMemory };
-
-    fn from(_: InsertError) -> Refusal {
-        Refusal::OutOfMemory
-    }
-}
-
 /// What a head asks for.
 #[derive(Debug, Drop)]
 pub enum Wanted {
@@ -128,7 +117,7 @@ pub enum Wanted {
 
 /// Reads a whole head: its target is checked, then its Transfer-Encoding, its route, the parameters of that, its method
 /// and its Content-Length, and the first of these that fails is why it is refused.
-pub fn read_wanted(alloc: Global, head: &[u8]) -> Result<Wanted, Refusal>
+pub fn read_wanted(alloc: Global, desk: &Desk, head: &[u8]) -> Result<Wanted, Refusal>
     ensures { Gives want_of result (HeadAsks head.now) }
 {
     let mut headers = [EMPTY_HEADER_SPAN; MAX_FIELDS];
@@ -138,7 +127,7 @@ pub fn read_wanted(alloc: Global, head: &[u8]) -> Result<Wanted, Refusal>
     if has_field(head, fields, b"transfer-encoding") {
         return Err(Refusal::NotImplemented);
     }
-    let (route, wanted) = find_wanted(alloc, target)?;
+    let (route, wanted) = find_wanted(alloc, desk, target)?;
     check_method(spans.method.of(head), route.method())?;
     with_length(wanted, content_length(head, fields)?)
 }
@@ -251,12 +240,11 @@ fn is_digits(text: &[u8]) -> bool
 }
 
 /// What a path asks for: its route, and the command of that.
-fn find_wanted(alloc: Global, target: &str) -> Result<(Route, Wanted), Refusal>
+fn find_wanted(alloc: Global, desk: &Desk, target: &str) -> Result<(Route, Wanted), Refusal>
     requires { is_path target.now ≡ true }
     ensures { Gives found_want result (λ r. r ≡ asked_at target.now) }
 {
-    let router = router(alloc)?;
-    let Ok(found) = router.at(target) else {
+    let Ok(found) = desk.router().at(target) else {
         return Err(Refusal::NotFound);
     };
     let route = *found.value;

@@ -13,3 +13,4 @@ pub mod transfer;
 
 pub use connection::{Connection, attend};
 pub use exchange::{DeskFault, Served, answer};
+pub use routes::Desk;

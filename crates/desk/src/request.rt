@@ -3,6 +3,7 @@ ghost use Rattle.std.specs.Prelude.{IfOk, OnErr};
 ghost use Rattle.desk.specs.Incoming.{IsIncoming, ReadsBeginning};
 
 use crate::head::{Refusal, Wanted, read_wanted};
+use crate::routes::Desk;
 use crate::transfer::{HeadEnd, read_head};
 use arrayvec::ArrayVec;
 use queue::ReaderFailed;
@@ -22,7 +23,11 @@ pub enum Request {
 
 /// Reads the head of one request as far as its empty line, and nothing behind it. Where the reader fails or memory is
 /// short, no more was read than a beginning of what the request uses.
-pub fn read_request<R: Read>(alloc: Global, reader: &mut R) -> Result<Request, ReaderFailed>
+pub fn read_request<R: Read>(
+    alloc: Global,
+    desk: &Desk,
+    reader: &mut R,
+) -> Result<Request, ReaderFailed>
     ensures ok { IfOk result (IsIncoming (R.remaining reader.old) (R.remaining reader.new)) }
     ensures err { OnErr result (ReadsBeginning (R.remaining reader.old) (R.remaining reader.new)) }
 {
@@ -31,7 +36,7 @@ pub fn read_request<R: Read>(alloc: Global, reader: &mut R) -> Result<Request, R
         HeadEnd::Input if head.is_empty() => Ok(Request::Nothing),
         HeadEnd::Input => Ok(Request::Refused(Refusal::BadRequest)),
         HeadEnd::Limit => Ok(Request::Refused(Refusal::HeadTooLarge)),
-        HeadEnd::EmptyLine => match read_wanted(alloc, head.as_slice()) {
+        HeadEnd::EmptyLine => match read_wanted(alloc, desk, head.as_slice()) {
             Ok(wanted) => Ok(Request::Asks(wanted)),
             Err(refusal) => Ok(Request::Refused(refusal)),
         },

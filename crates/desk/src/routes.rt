@@ -1,10 +1,10 @@
-//! Which command a path asks for.
+//! Which command a path asks for, and the desk that knows it.
 ghost use Rattle.std.specs.Prelude.{◌≡◌, [], take, IfOk, IfErr, OnOk};
 ghost use Rattle.desk.specs.Want.{add_routes, method_of, route_texts, routes};
 
 use http::Method;
 use matchit::{InsertError, Router};
-use std::alloc::Global;
+use std::alloc::{AllocError, Global};
 
 /// The commands that have a route.
 #[derive(Clone, Copy, Debug, PartialEq, Eq)]
@@ -63,8 +63,8 @@ fn add_others(router: &mut Router<Route>) -> Result<(), InsertError>
     Ok(())
 }
 
-/// The routes of the desk.
-pub fn router(alloc: Global) -> Result<Router<Route>, InsertError>
+/// A router of all routes.
+fn router(alloc: Global) -> Result<Router<Route>, InsertError>
     ensures ok { IfOk result (λ router. router ≡ routes) }
     ensures err { IfErr result (λ e. e ≡ InsertError.OutOfMemory) }
 {
@@ -72,4 +72,28 @@ pub fn router(alloc: Global) -> Result<Router<Route>, InsertError>
     add_first(&mut router)?;
     add_others(&mut router)?;
     Ok(router)
+}
+
+/// What answers requests: the router of all routes, which is made once and serves any number of connections.
+#[derive(Drop)]
+pub struct Desk {
+    router: Router<Route>,
+    ghost all: { router ≡ routes },
+}
+
+impl Desk {
+    /// A desk with all routes.
+    pub fn new(alloc: Global) -> Result<Desk, AllocError> {
+        match router(alloc) {
+            Ok(router) => Ok(Desk { router }),
+            Err(_) => Err(AllocError),
+        }
+    }
+
+    /// The router of all routes.
+    pub fn router(&self) -> &Router<Route>
+        ensures { result.now ≡ routes }
+    {
+        &self.router
+    }
 }

@@ -1,6 +1,7 @@
 //! What is read of a connection: what a request asks, or why it is refused.
 
 use crate::readers::Pieces;
+use desk::Desk;
 use desk::head::{Refusal, Wanted, read_wanted};
 use desk::request::{Request, read_request};
 use queue::ReaderFailed;
@@ -43,7 +44,7 @@ fn status_at(alloc: Global, bytes: &[u8], most: usize) -> Result<String, AllocEr
         most,
         fails: false,
     };
-    let read = read_request(alloc, &mut reader);
+    let read = read_request(alloc, &Desk::new(alloc)?, &mut reader);
     status_text(alloc, &read, reader.bytes.len())
 }
 
@@ -121,6 +122,7 @@ pub fn wanted(alloc: Global, words: &[Vec<u8>]) -> Result<Vec<u8>, Unread> {
         return Err(Unread::BadWords);
     };
     let mut text = String::new(alloc);
-    add_read(&mut text, read_wanted(alloc, head))?;
+    let desk = Desk::new(alloc)?;
+    add_read(&mut text, read_wanted(alloc, &desk, head))?;
     Ok(text.into_bytes())
 }

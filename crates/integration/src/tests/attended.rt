@@ -1,7 +1,7 @@
 //! Connections that are answered one after the other.
 
 use super::checks::{config_of, same};
-use desk::{Connection, attend};
+use desk::{Connection, Desk, attend};
 use keep::{Keeper, PlainKeeper};
 use queue::Archive;
 use std::alloc::{AllocError, Global};
@@ -112,7 +112,8 @@ fn expect_rows<K: Keeper>(
     rows: &[Row],
 ) -> Result<(), Fail> {
     let mut connections = connections_of(alloc, rows)?;
-    attend(alloc, archive, connections.as_mut_slice());
+    let desk = Desk::new(alloc)?;
+    attend(alloc, &desk, archive, connections.as_mut_slice());
     for (connection, row) in connections.iter().zip(rows) {
         expect_reply(rt, connection.writer.as_slice(), row.1);
     }

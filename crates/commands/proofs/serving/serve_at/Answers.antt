@@ -5,6 +5,9 @@ use Rattle.commands.proofs.serving.serve_at.Goals.{in-Ok+else-leaves_shut, in-Er
 pub loop-served-init : goal.loop-served-init
 loop-served-init g c = record { served = no_turn g.K.Keeper c.args.archive.now.keeper }
 
+pub returns-in_err-desk : goal.returns-in_err-desk
+returns-in_err-desk g c = record { served = no_turn g.K.Keeper c.args.archive.now.keeper }
+
 pub returns-then-leaves_shut : goal.returns-then-leaves_shut
 returns-then-leaves_shut g c = record {
   served = two_turns g.K.Keeper c.args.archive.now.keeper c.loop-served.archive.keeper c.leaves_shut.new.archive.keeper c.loop-served.invariant.served c.leaves_shut.ensures.served;
