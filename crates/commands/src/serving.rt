@@ -35,6 +35,10 @@ const MOST_DRAINED: u32 = 4_194_304;
 /// How many bytes the allocator is to keep between two replies: what the largest takes.
 const ROOM: usize = 16_777_216;
 
+/// The most bytes of a request that are read ahead. The buffer for them is filled with zeros, one by one, for each client, and a
+/// larger one costs more than the calls that it spares: this one takes a head, and most bodies that follow one at once.
+const MOST_AHEAD: usize = 2_048;
+
 /// Has the allocator keep the memory of a reply for the next. The C library's gives back what lies free at the end of its
 /// memory, if that is more than twice the largest piece that was ever given back to it; taken anew for each reply it costs
 /// more than the reply.
@@ -209,7 +213,7 @@ fn answered<R: Clock + AllocGlobal, K: Keeper>(
         line,
         has_begun: false,
     };
-    if let Ok(mut buffered) = BufReader::new(client.rt.alloc(), &mut reader) {
+    if let Ok(mut buffered) = BufReader::with_capacity(client.rt.alloc(), MOST_AHEAD, &mut reader) {
         return replied(desk, archive, client, moment, &mut buffered, sent);
     }
     replied(desk, archive, client, moment, &mut reader, sent)
