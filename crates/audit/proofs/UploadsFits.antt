@@ -12,7 +12,7 @@ use Rattle.tables.specs.declared.rows.Want.{Want}
 use Rattle.tables.specs.Uploads.{is_judged as has_place}
 use Rattle.tables_read.specs.All.{AreConstrained}
 use Rattle.audit.specs.Parts.{BodiesFit, UploadsFit}
-use Rattle.audit.specs.Uploads.{AreBesides, IsPlacedWell, awaited_view, found_awaited, judged_at, last_of, print_among, printed, request_among, request_row, with_print, with_print_in}
+use Rattle.audit.specs.Uploads.{AreAsked, AreBesides, IsPlacedWell, awaited_view, found_awaited, judged_at, last_of, print_among, printed, request_among, request_row, with_print, with_print_in}
 use Rattle.audit.specs.declared.uploads.arrived.Arrived.{Arrived}
 use Rattle.audit.specs.declared.uploads.awaited.Awaited.{Awaited}
 use Rattle.audit.proofs.UploadsJudged.{is_judged_list, none_misses, places_fit}
@@ -20,17 +20,11 @@ use Rattle.audit.proofs.UploadsWaiting.{printed_are, waiting_from, waiting_to}
 
 -- ---- the rows as they are lent
 
--- The rows that wait are what these ask for.
-abbrev pub AreAsked : Numbered Upload → Numbered Want → List Arrived → List Awaited → Type 0
-AreAsked uploads wants arrived awaited = map (request_row wants) (filter (λ x. not (has_place x.1)) uploads) ≡ map (request_among (map printed arrived)) (map awaited_view awaited)
-
-pub asked_at : (r : Bool) (u v : Numbered Upload) (w x : Numbered Want) (a b : List Arrived) (p q : List Awaited) → u ≡ v → w ≡ x → a ≡ b → p ≡ q
-    → MatchBool r (AreAsked u w a p) (AreAsked u w a p → ⊥) → MatchBool r (AreAsked v x b q) (AreAsked v x b q → ⊥)
-asked_at r u v w x a b p q e f g h m =
-    subst (λ (z : List Awaited). MatchBool r (AreAsked v x b z) (AreAsked v x b z → ⊥)) h
-    (subst (λ (z : List Arrived). MatchBool r (AreAsked v x z p) (AreAsked v x z p → ⊥)) g
-    (subst (λ (z : Numbered Want). MatchBool r (AreAsked v z a p) (AreAsked v z a p → ⊥)) f
-    (subst (λ (z : Numbered Upload). MatchBool r (AreAsked z w a p) (AreAsked z w a p → ⊥)) e m)))
+pub asked_at : (r : Bool) (u : Numbered Upload) (w : Numbered Want) (a b : List Arrived) (p q : List Awaited) → a ≡ b → p ≡ q
+    → MatchBool r (AreAsked u w a p) (AreAsked u w a p → ⊥) → MatchBool r (AreAsked u w b q) (AreAsked u w b q → ⊥)
+asked_at r u w a b p q g h m =
+    subst (λ (z : List Awaited). MatchBool r (AreAsked u w b z) (AreAsked u w b z → ⊥)) h
+    (subst (λ (z : List Arrived). MatchBool r (AreAsked u w z p) (AreAsked u w z p → ⊥)) g m)
 
 -- each entry is that of an upload without a place
 abbrev pub AllOwned : Numbered Upload → Numbered Want → Type 0

@@ -1,9 +1,9 @@
 -- Lists of rows that are gone over one by one.
-use Rattle.std.proofs.Common.{◌≡◌, ◌↔◌, ℕ, zero, suc, ◌+◌, ◌<◌, ◌≤◌, Bool, true, false, cond, nat_eq, Option, Some, None, option_map, slice_get, List, [], ◌∷◌, ◌++◌, map, find, drop, take, length, get_or, All, Contains, refl, sym, ap, ap₂, subst, ◌∙◌, arith, MatchBool, true≢false}
+use Rattle.std.proofs.Common.{◌≡◌, ◌↔◌, ℕ, zero, suc, ◌+◌, ◌<◌, ◌≤◌, Bool, true, false, cond, nat_eq, Option, Some, None, option_map, slice_get, List, [], ◌∷◌, ◌++◌, map, filter, find, drop, take, length, get_or, All, Contains, refl, sym, ap, ap₂, subst, ◌∙◌, arith, MatchBool, true≢false}
 use Rattle.std.specs.List.{AllByRecursion, range_with_len}
 use Rattle.std.proofs.lemmas.Bool.Decides.{Decides-eqb}
-use Rattle.std.proofs.lemmas.List.{drop_all, drop_more, length-drop, map-append, take_more}
-use Rattle.std.proofs.lemmas.List.Elements.{All-cons, All-head, All-tail, All-contains, All-from_recursion}
+use Rattle.std.proofs.lemmas.List.{drop_all, drop_more, length-append, length-drop, map-append, take-append-drop, take_more}
+use Rattle.std.proofs.lemmas.List.Elements.{All-cons, All-head, All-tail, All-contains, All-from_recursion, filter-append}
 use Rattle.std.proofs.lemmas.List.FromFn.{get_or-map-range_with_len, length-map-range_with_len}
 use Rattle.tables.specs.Rows.{Numbered, rows_of}
 
@@ -26,6 +26,16 @@ module _ {X : Type 0} (xs : Numbered X) (i : ℕ) (x : ℕ × X) (within : i < l
 
   pub all_fails : (P : X → Type 0) → (P x.1 → ⊥) → All P (rows_of xs) ↔ All P (rows_of (drop i xs)) → All P (rows_of xs) → ⊥
   all_fails P fails h all = fails (All-head P x.1 (rows_of (drop (i + 1) xs)) (subst (All P) rows_left (h.0 all)))
+
+-- one that passes a test is left by it
+pub passes_stays : {X : Type 0} (q : X → Bool) (xs : List X) (i : ℕ) (x : X) → i < length xs → x ≡ get_or xs i x → q x ≡ true → filter q xs ≡ [] → ⊥
+passes_stays q xs i x within is passes none =
+    let parts : filter q xs ≡ filter q (take i xs) ++ x ∷ filter q (drop (i + 1) xs) =
+    ap (filter q) (sym (take-append-drop i xs) ∙ ap (λ l. take i xs ++ l) (drop_more xs i x within ∙ ap (λ y. y ∷ drop (i + 1) xs) (sym is)))
+    ∙ filter-append q (take i xs) (x ∷ drop (i + 1) xs)
+    ∙ ap (λ b. filter q (take i xs) ++ cond b (x ∷ filter q (drop (i + 1) xs)) (filter q (drop (i + 1) xs))) passes in
+    let long : length (filter q (take i xs)) + suc (length (filter q (drop (i + 1) xs))) ≡ 0 = sym (length-append (filter q (take i xs)) (x ∷ filter q (drop (i + 1) xs))) ∙ ap length (sym parts ∙ none) in
+    absurd (omega (arith, long))
 
 -- Two lists gone over side by side, once one of them is at its end.
 pub same_end : {Y Z : Type 0} (E : Type 0) (G : List Y → List Z) (left : List Z) (ys : List Y) (next : ℕ)

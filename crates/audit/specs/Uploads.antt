@@ -135,6 +135,10 @@ request_row wants x = ((x.1.name, x.1.print), wants_among wants x.0)
 abbrev pub request_among : List Printed → Waiting → Request
 request_among arrived w = ((w.0.0.name, w.0.1), map (wanted_among arrived) w.1.entries)
 
+-- The rows without a place are those of the .changes that wait, in their order, with what they want.
+abbrev pub AreAsked : Numbered Upload → Numbered Want → List Arrived → List Awaited → Type 0
+AreAsked uploads wants arrived awaited = map (request_row wants) (filter (λ x. not (has_place x.1)) uploads) ≡ map (request_among (map printed arrived)) (map awaited_view awaited)
+
 -- Beside these judged ones, the uploads are the .changes that wait for a verdict, with the entries that each lists.
 pub record AreBesides (t : Tables) (judged : List Judgement) : Type 0 where
   pub waiting : map (request_in t) (filter (λ x. not (has_place x.1)) t.uploads)

@@ -1,15 +1,16 @@
 //! What has arrived: whether each arrival is one that may be kept.
 
-ghost use Rattle.std.specs.Prelude.{◌≡◌, ◌↔◌, All, true, Ok, IsTrue, IfOk};
+ghost use Rattle.std.specs.Prelude.{◌≡◌, ◌↔◌, ◌≤◌, All, true, Ok, IsTrue, IfOk, length};
 ghost use Rattle.keep.specs.Book.{is_changes_name};
 ghost use Rattle.keep.specs.Keeping.{IsDeliverable};
 ghost use Rattle.records.specs.Records.{changes_in};
 ghost use Rattle.records.specs.Values.{ChangesValue};
 ghost use Rattle.tables_read.specs.All.{tables_with};
+ghost use Rattle.kept.specs.Kept.{bytes_of};
 ghost use Rattle.audit.specs.Arrivals.{IsArrivalFit};
 ghost use Rattle.audit.specs.Parts.{ArrivalsFit};
 
-use crate::bodies::bytes_of;
+use crate::bodies::{bytes_of, size_of};
 use crate::pieces::Pieces;
 use keep::LATEST;
 use records::{Changes, RecordFault};
@@ -40,28 +41,47 @@ fn is_record(alloc: Global, text: &[u8]) -> Result<bool, AllocError>
     }
 }
 
-/// Whether the body is a record where the name is that of a .changes.
-fn is_record_if_named(alloc: Global, name: &str, body: &[u8]) -> Result<bool, AllocError>
-    ensures { IfOk result (λ is. IsTrue is
-        ↔ (is_changes_name name.now ≡ true → (c : ChangesValue) × changes_in body.now ≡ Ok c)) }
+/// Whether a body has no more bytes than an arrival may have.
+fn is_small(pieces: &Pieces<'_>, id: u64) -> bool
+    ensures { IsTrue result ↔ (length (bytes_of (tables_with pieces.now.all.now) id) ≤ 4194304) }
 {
+    size_of(pieces, id) <= MOST_BYTES
+}
+
+/// Whether a body is the record of an upload, where the name is that of a .changes.
+fn is_record_if_named(
+    alloc: Global,
+    pieces: &Pieces<'_>,
+    name: &str,
+    id: u64,
+) -> Result<bool, AllocError>
+    ensures { IfOk result (λ is. IsTrue is
+        ↔ (is_changes_name name.now ≡ true → (c : ChangesValue) × changes_in (bytes_of (tables_with pieces.now.all.now) id) ≡ Ok c)) }
+{
+    // The bytes of no other body are wanted in one.
     if !is_changes_name(name) {
         return Ok(true);
     }
-    is_record(alloc, body)
+    let body = bytes_of(alloc, pieces, id)?;
+    is_record(alloc, &body)
 }
 
-/// Whether a delivery of this name and body may be kept.
-fn is_deliverable(alloc: Global, name: &str, body: &[u8]) -> Result<bool, AllocError>
-    ensures { IfOk result (λ may. IsTrue may ↔ IsDeliverable name.now body.now) }
+/// Whether a body that arrives under this name may be kept.
+fn is_deliverable(
+    alloc: Global,
+    pieces: &Pieces<'_>,
+    name: &str,
+    id: u64,
+) -> Result<bool, AllocError>
+    ensures { IfOk result (λ may. IsTrue may ↔ IsDeliverable name.now (bytes_of (tables_with pieces.now.all.now) id)) }
 {
     if !is_file_name(name) {
         return Ok(false);
     }
-    if body.len() > MOST_BYTES {
+    if !is_small(pieces, id) {
         return Ok(false);
     }
-    is_record_if_named(alloc, name, body)
+    is_record_if_named(alloc, pieces, name, id)
 }
 
 /// Whether the arrival is one that may be kept.
@@ -75,8 +95,7 @@ fn is_arrival_deliverable(
     if arrival.moment > LATEST {
         return Ok(false);
     }
-    let body = bytes_of(alloc, pieces, arrival.body)?;
-    is_deliverable(alloc, arrival.name.as_str(), &body)
+    is_deliverable(alloc, pieces, arrival.name.as_str(), arrival.body)
 }
 
 /// Whether each of these arrivals is one that may be kept.

@@ -1,31 +1,50 @@
 //! The bodies of an archive and their pieces.
 
-ghost use Rattle.std.specs.Prelude.{◌≡◌, ◌↔◌, ◌+◌, All, Some, filter, map, nat_eq, take, IsTrue, IfOk};
-ghost use Rattle.std.specs.List.{flat_map, list_any};
+ghost use Rattle.std.specs.Prelude.{◌≡◌, ◌↔◌, ◌≤◌, All, filter, length, map, min, nat_eq, IsTrue, IfOk};
+ghost use Rattle.std.specs.List.{list_any};
 ghost use Rattle.std.specs.List.Sorted.{IsNonDecreasing};
-ghost use Rattle.sums.specs.Prints.{print};
 ghost use Rattle.tables.specs.Pieces.{is_of};
 ghost use Rattle.tables.specs.Rows.{rows_of};
 ghost use Rattle.tables_read.specs.All.{tables_with};
-ghost use Rattle.kept.specs.Kept.{bytes_of, piece_at, piece_count, piece_size, pieces_for};
-ghost use Rattle.audit.specs.Bodies.{AreUsed, IsBodyFit};
+ghost use Rattle.kept.specs.Kept.{bytes_of};
+ghost use Rattle.audit.specs.Bodies.{ArePieces, AreUsed, IsBodyFit, IsNext, bytes_in};
 ghost use Rattle.audit.specs.Parts.{BodiesFit};
 
 use crate::pieces::Pieces;
 use std::alloc::{AllocError, Global};
-use sums::print_of;
+use sums::{Print, Printer};
 use tables::rows::{Arrival, Body, File, Piece};
 use tables_read::AllRows;
 
 /// The most bytes that a piece has.
-const PIECE_SIZE: usize = 65536;
+const PIECE_SIZE: u64 = 65536;
+
+/// How many bytes the pieces of a body have, or the most that can be counted.
+fn count_of_bytes(pieces: &[(u64, Piece)], id: u64) -> usize
+    ensures { result ≡ min (length (bytes_in (filter (is_of id) (rows_of pieces.now)))) 18_446_744_073_709_551_615 }
+{
+    let mut count = 0usize;
+    for row in pieces {
+        if row.1.body == id {
+            count = count.saturating_add(row.1.bytes.as_slice().len());
+        }
+    }
+    count
+}
+
+/// How many bytes a body has, or the most that can be counted.
+#[tactic(auto, unfolding(kept::specs::Kept::bytes_of))]
+pub fn size_of(pieces: &Pieces<'_>, id: u64) -> usize
+    ensures { result ≡ min (length (bytes_of (tables_with pieces.now.all.now) id)) 18_446_744_073_709_551_615 }
+{
+    count_of_bytes(pieces.about(id), id)
+}
 
 /// The bytes of the pieces of a body, one after another.
 fn joined(alloc: Global, pieces: &[(u64, Piece)], id: u64) -> Result<Vec<u8>, AllocError>
-    ensures { IfOk result (λ bytes. bytes.items
-        ≡ flat_map (λ p. p.bytes) (filter (is_of id) (rows_of pieces.now))) }
+    ensures { IfOk result (λ bytes. bytes.items ≡ bytes_in (filter (is_of id) (rows_of pieces.now))) }
 {
-    let mut bytes = Vec::new(alloc);
+    let mut bytes = Vec::with_capacity(alloc, count_of_bytes(pieces, id))?;
     for row in pieces {
         if row.1.body == id {
             bytes.extend_from_slice(row.1.bytes.as_slice())?;
@@ -42,79 +61,39 @@ pub fn bytes_of(alloc: Global, pieces: &Pieces<'_>, id: u64) -> Result<Vec<u8>, 
     joined(alloc, pieces.about(id), id)
 }
 
-/// The first bytes, as many as a piece may have.
-fn front(bytes: &[u8]) -> &[u8]
-    ensures { result.now ≡ take piece_size bytes.now }
+/// Whether the piece is the next one of a body of `whole` bytes, behind the first `size` of them.
+fn is_next(piece: &Piece, size: u64, whole: u64) -> bool
+    requires { size ≤ whole }
+    ensures { IsTrue result ↔ IsNext size whole piece.now }
 {
-    if bytes.len() > PIECE_SIZE {
-        &bytes[..PIECE_SIZE]
-    } else {
-        bytes
-    }
-}
-
-/// The piece of these bytes at a place, from 0, or nothing past their end.
-fn piece_at(bytes: &[u8], place: usize) -> &[u8]
-    ensures { result.now ≡ piece_at bytes.now place }
-{
-    if place > bytes.len() / PIECE_SIZE {
-        return &[];
-    }
-    let start = PIECE_SIZE * place;
-    front(&bytes[start..])
-}
-
-/// How many pieces a body of these bytes has.
-fn count_of_pieces(bytes: &[u8]) -> usize
-    ensures { result ≡ piece_count bytes.now }
-{
-    bytes.len().div_ceil(PIECE_SIZE)
-}
-
-/// Whether two pieces have the same bytes.
-fn are_same(bytes: &[u8], other: &[u8]) -> bool
-    ensures { IsTrue result ↔ (bytes.now ≡ other.now) }
-{
-    bytes == other
-}
-
-/// Whether the piece is that of a body of these bytes at a place, from 0.
-fn is_piece_at(piece: &Piece, bytes: &[u8], place: usize) -> bool
-    ensures { IsTrue result ↔ ((piece.now.number ≡ place + 1) × (piece.now.bytes ≡ piece_at bytes.now place)) }
-{
-    if piece.number == 0 {
+    if size == whole {
         return false;
     }
-    if piece.number - 1 != place as u64 {
+    if piece.number != size / PIECE_SIZE + 1 {
         return false;
     }
-    are_same(piece.bytes.as_slice(), piece_at(bytes, place))
+    let left = whole - size;
+    piece.bytes.as_slice().len() as u64 == left.min(PIECE_SIZE)
 }
 
-/// Whether the pieces of a body are those of these bytes.
-fn are_pieces_of(pieces: &[(u64, Piece)], id: u64, bytes: &[u8]) -> bool
-    ensures { IsTrue result ↔ (filter (is_of id) (rows_of pieces.now) ≡ pieces_for id bytes.now) }
+/// Whether the pieces of a body among these rows are those of its bytes, and this is the print of these bytes. They are
+/// read one by one and never joined.
+fn are_pieces_of(pieces: &[(u64, Piece)], id: u64, print: &Print) -> bool
+    ensures { IsTrue result ↔ ArePieces id print.now (filter (is_of id) (rows_of pieces.now)) }
 {
-    let mut place = 0;
+    let mut printer = Printer::new();
+    let mut size = 0;
     for row in pieces {
         if row.1.body == id {
-            if !is_piece_at(&row.1, bytes, place) {
+            if !is_next(&row.1, size, print.size) {
                 return false;
             }
-            place += 1;
+            let bytes = row.1.bytes.as_slice();
+            size += bytes.len() as u64;
+            printer.update(bytes);
         }
     }
-    place == count_of_pieces(bytes)
-}
-
-/// Whether the print is there and that of these bytes.
-fn is_print_of(stored: &Body, bytes: &[u8]) -> bool
-    ensures { IsTrue result ↔ (stored.now.print ≡ Some (print bytes.now)) }
-{
-    match stored.print {
-        Some(print) => print == print_of(bytes),
-        None => false,
-    }
+    *print == printer.finish()
 }
 
 /// The numbers of the bodies of the arrivals.
@@ -175,11 +154,10 @@ fn is_body_whole(
     if !is_among(used, row.0) {
         return Ok(false);
     }
-    let bytes = bytes_of(alloc, pieces, row.0)?;
-    if !are_pieces_of(pieces.about(row.0), row.0, &bytes) {
+    let Some(print) = &row.1.print else {
         return Ok(false);
-    }
-    Ok(is_print_of(&row.1, &bytes))
+    };
+    Ok(are_pieces_of(pieces.about(row.0), row.0, print))
 }
 
 /// Whether each of these bodies is whole, in pieces, with the print of its bytes, and has arrived under some name or is that of a file.

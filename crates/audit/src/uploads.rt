@@ -12,18 +12,37 @@ ghost use Rattle.std.specs.Prelude.{◌≡◌, None, IfOk, IfSome, List, MatchBo
 ghost use Rattle.keep.specs.declared.change.Judgement.{Judgement as JudgementValue};
 ghost use Rattle.tables_read.specs.All.{AreConstrained, tables_with};
 ghost use Rattle.audit.specs.Parts.{BodiesFit, UploadsFit};
-ghost use Rattle.audit.specs.Uploads.{AreBesides};
+ghost use Rattle.audit.specs.Uploads.{AreAsked, AreBesides};
 
 use crate::keyed::Rows;
 use crate::pieces::Pieces;
-use arrived::arrived_among;
-use awaited::awaited_among;
+use arrived::{Arrived, arrived_among};
+use awaited::{Awaited, awaited_among};
 use judged::{are_placed, judged_until, last_place};
 use keep::Judgement;
 use lookups::{There, Verdicts};
 use std::alloc::{AllocError, Global};
 use tables_read::AllRows;
-use wanted::{are_owned, are_requests};
+use wanted::{are_owned, are_requests, have_places};
+
+/// Whether the rows without a place are those of the .changes that wait, in their order, with what they want.
+fn are_asked(
+    alloc: Global,
+    all: &AllRows,
+    arrived: &[Arrived<'_>],
+    awaited: &[Awaited<'_>],
+) -> Result<bool, AllocError>
+    ensures { IfOk result (λ fit. MatchBool fit (AreAsked all.now.uploads.items all.now.wants.items arrived.now awaited.now)
+        (AreAsked all.now.uploads.items all.now.wants.items arrived.now awaited.now → ⊥)) }
+{
+    // Where none waits, nothing is looked up among what arrived.
+    if awaited.is_empty() {
+        return Ok(have_places(&all.uploads));
+    }
+    let there = There::new(alloc, arrived)?;
+    let wants = Rows::new(&all.wants);
+    Ok(are_requests(&all.uploads, &wants, &there, awaited))
+}
 
 /// Whether, beside these judged ones, the rows are those of the .changes that wait for a verdict, with what they want.
 fn are_besides(alloc: Global, all: &AllRows, judged: &[Judgement]) -> Result<bool, AllocError>
@@ -38,9 +57,7 @@ fn are_besides(alloc: Global, all: &AllRows, judged: &[Judgement]) -> Result<boo
     let pieces = Pieces::new(all);
     let verdicts = Verdicts::new(alloc, judged)?;
     let awaited = awaited_among(alloc, &pieces, &verdicts, &arrived)?;
-    let there = There::new(alloc, &arrived)?;
-    let wants = Rows::new(&all.wants);
-    if !are_requests(&all.uploads, &wants, &there, &awaited) {
+    if !are_asked(alloc, all, &arrived, &awaited)? {
         return Ok(false);
     }
     let uploads = Rows::new(&all.uploads);

@@ -2,7 +2,7 @@
 
 ghost use Rattle.std.specs.Prelude.{◌≡◌, IfOk, map};
 ghost use Rattle.kept.specs.Reads.{sign_order};
-ghost use Rattle.audit.specs.Signs.{AreInOrder, SignValue, arrived_sign, entry_sign, has_sign, judgement_sign, sign_of};
+ghost use Rattle.audit.specs.Signs.{AreInOrder, SignValue, arrived_sign, entry_sign, has_sign, judgement_sign, print_order, sign_of};
 
 use crate::uploads::arrived::Arrived;
 use keep::Judgement;
@@ -47,17 +47,27 @@ pub fn sign_of_entry(entry: &Entry) -> Sign<'_>
     }
 }
 
-/// The order: by the bytes of the names, then by SHA-256, SHA-1, MD5 and size.
+/// The order of prints: by SHA-256, SHA-1, MD5 and size.
+fn compare_prints(a: &Print, b: &Print) -> Ordering
+    ensures { result ≡ print_order a.now b.now }
+{
+    a.sha256
+        .cmp(&b.sha256)
+        .then(a.sha1.cmp(&b.sha1))
+        .then(a.md5.cmp(&b.md5))
+        .then(a.size.cmp(&b.size))
+}
+
+/// The order: by the bytes of the names, then by the prints.
 #[tactic(auto, unfolding(kept::specs::Reads::sign_order))]
 fn compare(a: &Sign<'_>, b: &Sign<'_>) -> Ordering
     ensures { result ≡ sign_order (sign_of a.now) (sign_of b.now) }
 {
-    a.name
-        .cmp(b.name)
-        .then(a.print.sha256.cmp(&b.print.sha256))
-        .then(a.print.sha1.cmp(&b.print.sha1))
-        .then(a.print.md5.cmp(&b.print.md5))
-        .then(a.print.size.cmp(&b.print.size))
+    // Most names differ, and then no digest is looked at.
+    match a.name.cmp(b.name) {
+        Ordering::Equal => compare_prints(&a.print, &b.print),
+        unlike => unlike,
+    }
 }
 
 /// Whether one of these signs, which stand in order, is this.

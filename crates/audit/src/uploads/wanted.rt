@@ -1,6 +1,6 @@
 //! What the uploads that wait for a verdict want.
 
-ghost use Rattle.std.specs.Prelude.{◌≡◌, ◌&&◌, All, IsTrue, MatchBool, filter, map, nat_eq, not};
+ghost use Rattle.std.specs.Prelude.{◌≡◌, ◌&&◌, [], All, IsTrue, MatchBool, filter, map, nat_eq, not};
 ghost use Rattle.std.specs.List.{list_any};
 ghost use Rattle.tables.specs.Rows.{rows_of};
 ghost use Rattle.tables.specs.Uploads.{is_judged as has_place};
@@ -77,6 +77,19 @@ fn is_request(
         return false;
     }
     are_wanted_by(wants, row.0, arrived, awaited.changes.entries())
+}
+
+/// Whether each upload has a place.
+pub fn have_places(uploads: &[(u64, Upload)]) -> bool
+    ensures { MatchBool result (filter (λ x. not (has_place x.1)) uploads.now ≡ [])
+        (filter (λ x. not (has_place x.1)) uploads.now ≡ [] → ⊥) }
+{
+    for row in uploads {
+        if row.1.place.is_none() {
+            return false;
+        }
+    }
+    true
 }
 
 /// Whether the rows without a place are those of the .changes, in their order, with what they want.

@@ -1,8 +1,10 @@
-use Rattle.std.proofs.Common.{◌≡◌, List, ℕ, Some, sym, ap, ◌∙◌}
+use Rattle.std.proofs.Common.{◌≡◌, Some, IsTrue, sym, ap, subst, ◌∙◌}
+use Rattle.std.specs.Prelude.{◌↔◌}
 use Rattle.std.proofs.lemmas.Bool.{false≢true}
-use Rattle.sums.specs.Prints.{print}
+use Rattle.std.proofs.lemmas.Option.{same_Some}
 use Rattle.tables_read.specs.All.{tables_with}
-use Rattle.kept.specs.Kept.{bytes_of, pieces_for}
+use Rattle.kept.specs.Kept.{bytes_of}
+use Rattle.audit.specs.Bodies.{ArePieces}
 use Rattle.audit.proofs.BodiesLemmas.{used_same}
 use Rattle.audit.proofs.bodies.is_body_whole.Goals as goal
 
@@ -14,16 +16,19 @@ returns-then-not-is_among c = (
 )
 
 pub returns : goal.returns
+unfolding bytes_of
 returns c =
     let id = c.args.row.now.0 in
-    let all = c.args.pieces.now.all.now in
-    let bytes : c.deref.result.now ≡ bytes_of (tables_with all) id = c.deref.ensures.value ∙ c.in_ok-bytes.ensures in
-    let printed : c.deref-2.result.now ≡ bytes_of (tables_with all) id = c.deref-2.ensures.value ∙ c.in_ok-bytes.ensures in
-    let same = ap (λ (l : List ℕ). Some (print l)) printed in (
-      λ e. record {
-        whole = c.is_print_of.ensures.0 e ∙ same;
-        pieces = sym c.about.ensures ∙ c.are_pieces_of.ensures.0 c.if-not-are_pieces_of.false ∙ ap (pieces_for id) bytes;
-        used = sym (used_same (tables_with all) c.args.used.now id c.requires) ∙ sym c.is_among.ensures ∙ c.if-not-is_among.false;
-      },
-      λ fit. c.is_print_of.ensures.1 (fit.whole ∙ sym same),
+    let t = tables_with c.args.pieces.now.all.now in
+    let print = c.in-Some.print in
+    let are = subst (λ ps. IsTrue c.are_pieces_of.result ↔ ArePieces id print ps) c.about.ensures c.are_pieces_of.ensures in
+    let stored : c.args.row.now.1.print ≡ Some print = c.in-Some.is in (
+      λ e.
+          let all = are.0 e in
+          record {
+            whole = stored ∙ ap Some all.printed;
+            pieces = all.pieces;
+            used = sym (used_same t c.args.used.now id c.requires) ∙ sym c.is_among.ensures ∙ c.if-not-is_among.false;
+          },
+      λ fit. are.1 (record { printed = same_Some print _ (sym stored ∙ fit.whole); pieces = fit.pieces }),
     )

@@ -6,9 +6,9 @@ use Rattle.tables.specs.Rows.{Numbered, rows_of}
 use Rattle.tables.specs.declared.rows.Piece.{Piece}
 use Rattle.tables_read.specs.All.{tables_with}
 use Rattle.tables_read.specs.declared.all.AllRows.{AllRows}
-use Rattle.audit.specs.Uploads.{found_awaited, printed, with_print, with_print_in}
+use Rattle.audit.specs.Uploads.{AreAsked, found_awaited, printed, with_print, with_print_in}
 use Rattle.audit.specs.declared.uploads.arrived.Arrived.{Arrived}
-use Rattle.audit.proofs.UploadsFits.{AreAsked, asked_at, besides_other, besides_owned, owned_at, prints_at, some_of, unprinted_at}
+use Rattle.audit.proofs.UploadsFits.{asked_at, besides_other, besides_owned, owned_at, prints_at, some_of, unprinted_at}
 use Rattle.audit.proofs.UploadsWaiting.{none_unprinted}
 use Rattle.audit.proofs.uploads.are_besides.Goals as goal
 
@@ -18,8 +18,8 @@ returns-in_default c keys fit b =
     (unprinted_at c.deref-2.result.now c.args.all.now.arrivals.items c.new-bodies.result.all.now c.args.all.now.bodies.items c.deref-2.ensures.value (c.new-bodies.ensures ∙ c.deref.ensures.value)
     (c.in_ok-arrived.ensures.none c.in_default.is))
 
-pub returns-then-not-are_requests : goal.returns-then-not-are_requests
-returns-then-not-are_requests c keys fit b =
+pub returns-then-not-branch : goal.returns-then-not-branch
+returns-then-not-branch c keys fit b =
     let all = c.args.all.now in
     let arrived = c.in-Some.arrived.items in
     let awaited = c.in_ok-awaited.awaited.items in
@@ -30,8 +30,7 @@ returns-then-not-are_requests c keys fit b =
     ∙ ap (λ (js : List Judgement). filter_map (found_awaited c.new-pieces.result.all.now.pieces.items js) (map printed c.deref-3.result.now)) c.in_ok-verdicts.ensures
     ∙ ap₂ (λ (ps : Numbered Piece) (xs : List Arrived). filter_map (found_awaited ps c.args.judged.now) (map printed xs)) (ap (λ (a : AllRows). a.pieces.items) c.new-pieces.ensures) c.deref-3.ensures.value)
     (when_false (AreAsked all.uploads.items all.wants.items arrived awaited) (AreAsked all.uploads.items all.wants.items arrived awaited → ⊥) (grind arith)
-    (asked_at c.are_requests.result c.deref-6.result.now all.uploads.items c.new-wants.result.all.now all.wants.items c.in_ok-there.there.all.now arrived c.deref-7.result.now awaited
-    c.deref-6.ensures.value (c.new-wants.ensures ∙ c.deref-5.ensures.value) (c.in_ok-there.ensures ∙ c.deref-4.ensures.value) c.deref-7.ensures.value c.are_requests.ensures))
+    (asked_at c.in_ok-are_asked.field-0 all.uploads.items all.wants.items c.deref-4.result.now arrived c.deref-5.result.now awaited c.deref-4.ensures.value c.deref-5.ensures.value c.in_ok-are_asked.ensures))
     b
 
 pub returns : goal.returns
@@ -47,6 +46,5 @@ returns c keys fit =
     ∙ ap₂ (λ (ps : Numbered Piece) (xs : List Arrived). filter_map (found_awaited ps c.args.judged.now) (map printed xs)) (ap (λ (a : AllRows). a.pieces.items) c.new-pieces.ensures) c.deref-3.ensures.value)
     c.are_owned.result
     (when_true (AreAsked all.uploads.items all.wants.items arrived awaited) (AreAsked all.uploads.items all.wants.items arrived awaited → ⊥) (grind arith)
-    (asked_at c.are_requests.result c.deref-6.result.now all.uploads.items c.new-wants.result.all.now all.wants.items c.in_ok-there.there.all.now arrived c.deref-7.result.now awaited
-    c.deref-6.ensures.value (c.new-wants.ensures ∙ c.deref-5.ensures.value) (c.in_ok-there.ensures ∙ c.deref-4.ensures.value) c.deref-7.ensures.value c.are_requests.ensures))
-    (owned_at c.are_owned.result c.new-uploads.result.all.now all.uploads.items c.deref-9.result.now all.wants.items (c.new-uploads.ensures ∙ c.deref-8.ensures.value) c.deref-9.ensures.value c.are_owned.ensures)
+    (asked_at c.in_ok-are_asked.field-0 all.uploads.items all.wants.items c.deref-4.result.now arrived c.deref-5.result.now awaited c.deref-4.ensures.value c.deref-5.ensures.value c.in_ok-are_asked.ensures))
+    (owned_at c.are_owned.result c.new-uploads.result.all.now all.uploads.items c.deref-7.result.now all.wants.items (c.new-uploads.ensures ∙ c.deref-6.ensures.value) c.deref-7.ensures.value c.are_owned.ensures)
