@@ -1,5 +1,10 @@
--- A file whose body is one piece: what its transaction makes of an archive, by the database between its piece and its end.
-use Rattle.std.proofs.Common.{◌≡◌, ℕ, ◌<◌, ◌≤◌, Bool, not, List, [], length, Option, Some, None, IsTrue, refl, sym, ap, subst, ◌∙◌}
+-- A file whose body is one piece: what its transaction makes of an archive.
+use Rattle.std.proofs.Common.{◌≡◌, ℕ, ◌<◌, ◌≤◌, nat_le, Bool, true, not, ◌&&◌, List, [], length, is_none, Option, Some, None, IsTrue, inl, inr, refl, sym, ap, subst, ◌∙◌, arith}
+use Rattle.std.specs.Option.{option_and_then}
+use Rattle.std.proofs.lemmas.Bool.{and_parts, cases_lt, leb-true}
+use Rattle.std.proofs.lemmas.List.{take_all}
+use Rattle.std.proofs.lemmas.List.Elements.{All-contains}
+use Rattle.std.proofs.lemmas.Option.{same_Some}
 use Rattle.sqlite.specs.Effect.{Database}
 use Rattle.sqlite.specs.State.{State}
 use Rattle.rules.specs.Values.{ConfigValue}
@@ -9,24 +14,39 @@ use Rattle.suites.specs.Shelves.{ShelvesValue}
 use Rattle.keep.specs.Book.{Book, at_moment, has_arrival, latest, span, with_delivery}
 use Rattle.keep.specs.Keeping.{IsDeliverable}
 use Rattle.keep.specs.declared.change.Judgement.{Judgement}
-use Rattle.tables.specs.Rows.{Tables, Holds, next_in, tables_in}
-use Rattle.tables.proofs.BookLemmas.{held_tables}
-use Rattle.bodies.specs.AtOnce.{HadCome, is_new_at_once, with_delivery_at_once, with_one_piece}
+use Rattle.tables.specs.Bodies.{body_with}
+use Rattle.tables.specs.Rows.{Tables, Holds, tables_in}
+use Rattle.tables.specs.declared.rows.Body.{Body}
+use Rattle.tables.proofs.BookLemmas.{held_tables, is_archive}
+use Rattle.bodies.specs.AtOnce.{HasNoOtherPiece, IsOnePiece, is_new_at_once, with_delivery_at_once}
 use Rattle.bodies.specs.Counting.{arrival_counts}
-use Rattle.kept.specs.Archives.{KeepsArchive, Turns, book_of}
-use Rattle.std.specs.Option.{option_and_then}
-use Rattle.kept.specs.Finished.{finished}
-use Rattle.kept.proofs.ComingLemmas.{no_number}
 use Rattle.bodies.specs.UnderWay.{IsUnderWay}
 use Rattle.bodies.specs.declared.coming.Begun.{Begun}
-use Rattle.kept.specs.Coming.{Comes, HasComing, IsNoOther, coming_number, ended_number, with_ended, with_finished}
-use Rattle.kept.proofs.TakingLemmas.{delivery_ends, delivery_new, delivery_turns, piece_comes, piece_turns}
-use Rattle.keep_tables.proofs.FoundArrivals.{apart_once_ended, counts_if_some}
+use Rattle.kept.specs.Archives.{KeepsArchive, Turns, book_of}
+use Rattle.kept.specs.Coming.{HasComing, with_coming}
+use Rattle.kept.specs.Finished.{finished}
+use Rattle.kept.specs.Kept.{IsKept, book_in, bytes_of, piece_count, pieces_for, pieces_of}
+use Rattle.kept.specs.Making.{number_with, with_bytes, with_delivered}
+use Rattle.kept.specs.Taking.{HasNoOther, listed_in}
+use Rattle.kept.proofs.BodyLemmas.{HasBody, body_found}
+use Rattle.kept.proofs.ComingLemmas.{no_number, none_coming}
+use Rattle.kept.proofs.DeliveredLemmas.{KeepsDelivery, delivered_archive, numbered}
+use Rattle.kept.proofs.FinishedLemmas.{kept_finished}
+use Rattle.kept.proofs.SamePieces.{at_place, behind_place}
+use Rattle.keep_tables.specs.AtOnce.{arrives_at_once}
+use Rattle.keep_tables.proofs.FoundArrivals.{AreApart, bytes_keep, counts_if_some}
 
--- of none nothing came
-none_comes : (t : Tables) → HasComing t [] → Comes t None 0 []
-unfolding coming_number
-none_comes t coming = record { coming = coming; number = refl; count = refl }
+-- what is known of a body that arrives at once
+none_if : (o : Option ℕ) → is_none o ≡ true → o ≡ None
+none_if None is = refl
+none_if (Some n) is = cc
+
+pub at_once_tells : (begun : Option Begun) (body : List ℕ) → arrives_at_once begun body ≡ true → (option_and_then (λ (b : Begun). b.body) begun ≡ None) × (0 < length body) × (length body ≤ 65536)
+at_once_tells begun body is =
+    let free = is_none (option_and_then (λ (b : Begun). b.body) begun) in
+    let some = and_parts (nat_le 1 (length body)) (nat_le (length body) 65536 && free) is in
+    let small = and_parts (nat_le (length body) 65536) free some.1 in
+    (none_if (option_and_then (λ (b : Begun). b.body) begun) small.1, leb-true 1 (length body) some.0, leb-true (length body) 65536 small.0)
 
 -- where what is under way has no row, no body is coming
 pub none_under : (t : Tables) (begun : Option Begun) → option_and_then (λ (b : Begun). b.body) begun ≡ None → IsUnderWay t begun → HasComing t []
@@ -34,73 +54,90 @@ none_under t None is coming = coming
 none_under t (Some b) is begun =
     subst (HasComing t) (no_number begun.0 (finished t) (sym begun.1.comes.number ∙ is)) begun.1.comes.coming
 
--- `old` is the connection, to whose database no body is coming, and these bytes are one piece.
+-- and then the rows are the finished ones
+rows_finished : (t : Tables) → HasComing t [] → finished t ≡ t
+unfolding with_coming
+rows_finished t coming = sym coming.rows
+
+-- the bytes of a body that lies in its pieces and is one piece
+only_piece : (t : Tables) (id : ℕ) (bytes others : List ℕ) → pieces_of t id ≡ pieces_for id others → IsOnePiece t id bytes → others ≡ bytes
+only_piece t id bytes others has one =
+    let some : 0 < piece_count others = elim (cases_lt 0 (piece_count others)) [
+      | inl some ↦ some
+      | inr nil ↦ absurd (not_both (sym (behind_place t id others has 0 nil) ∙ one.first))
+    ] in
+    let few : piece_count others ≤ 1 = elim (cases_lt 1 (piece_count others)) [
+      | inl more ↦ absurd (not_both (sym one.last ∙ at_place t id others has 1 more))
+      | inr few ↦ few
+    ] in
+    sym (take_all 65536 others (omega (arith, few))) ∙ same_Some _ _ (sym (at_place t id others has 0 some) ∙ one.first)
+  where
+    not_both : {X : Type 0} {x : X} → None ≡ Some x → ⊥
+    not_both e = cc
+
+-- `old` is the connection, to whose database no body is coming; where a body of this print is stored it is one piece, of these bytes.
 module _ (old : State) (settled : IsTrue old.is_open → old.now ≡ old.committed) (up : IsTrue old.is_open)
     (config : ConfigValue) (judged : List Judgement) (shown : ShelvesValue) (dates : List ℕ) (keeps : KeepsArchive old.committed config judged shown dates)
-    (coming : HasComing (tables_in old.committed) []) (bytes : List ℕ) (some : 0 < length bytes) (small : length bytes ≤ 65536)
-    (print : Print) (printed : print ≡ print_of bytes) (had : (t : Tables) → Holds old.now t → HadCome t bytes print) where
+    (coming : HasComing (tables_in old.committed) []) (bytes : List ℕ) (print : Print) (printed : print ≡ print_of bytes)
+    (fits : (t : Tables) → Holds old.now t → HasNoOtherPiece print bytes t) where
   abbrev was : Tables
   was = tables_in old.committed
-
-  abbrev id : ℕ
-  id = next_in was.bodies
 
   held_now : Holds old.now was
   held_now = subst (λ db. Holds db was) (sym (settled up)) keeps.held
 
-  its : HadCome was bytes print
-  its = had was held_now
+  whole : finished was ≡ was
+  whole = rows_finished was coming
 
-  abbrev came : Tables
-  came = with_one_piece bytes was
+  kept_now : IsKept was config judged shown dates
+  kept_now = subst (λ t. IsKept t config judged shown dates) whole keeps.kept
 
-  -- the connection between the two, as if what it had then were committed
-  abbrev between : State
-  between = record old { now = its.between; committed = its.between }
-
-  same_was : (t : Tables) → Holds old.now t → was ≡ t
-  same_was t held = ap tables_in (sym (settled up)) ∙ held_tables old.now t held
-
-  same_came : (t : Tables) → Holds its.between t → came ≡ t
-  same_came t held = sym (held_tables its.between came its.holds) ∙ held_tables its.between t held
-
-  has_come : (t : Tables) → Holds old.now t → Holds its.between (with_one_piece bytes t)
-  has_come t held = subst (λ u. Holds its.between (with_one_piece bytes u)) (same_was t held) its.holds
-
-  keeps_between : Turns old.committed its.between config judged shown dates judged shown dates (λ b. b)
-  keeps_between = piece_turns old settled up config judged shown dates keeps None 0 [] (none_comes was coming) bytes refl some small its.between has_come
-
-  comes : Comes (tables_in its.between) (Some id) 1 bytes
-  comes =
-      piece_comes old settled up config judged shown dates keeps None 0 [] (none_comes was coming) bytes refl some small its.between has_come id
-      (λ t held. ap (λ u. next_in u.bodies) (same_was t held))
-
-  no_other : (t : Tables) → Holds its.between t → IsNoOther (Some id) 1 print t
-  no_other t held = subst (IsNoOther (Some id) 1 print) (same_came t held) its.no_other
+  no_other : HasNoOther (print_of bytes) bytes was
+  no_other found there =
+      let row : HasBody was.bodies found (print_of bytes) = body_found (print_of bytes) was.bodies found there in
+      let its : pieces_of was found ≡ pieces_for found (bytes_of was found) =
+      subst (λ n. pieces_of was n ≡ pieces_for n (bytes_of was n)) row.number
+      (All-contains (λ (x : ℕ × Body). pieces_of was x.0 ≡ pieces_for x.0 (bytes_of was x.0)) was.bodies row.body kept_now.bodies.pieces row.within) in
+      only_piece was found bytes (bytes_of was found) its (fits was held_now found (ap (λ p. body_with p was.bodies) printed ∙ there))
 
   module _ (name : List ℕ) (moment : ℕ) (in_time : moment ≤ latest) (deliverable : IsDeliverable name bytes) where
     abbrev delivers : Book → Book
     delivers b = with_delivery b (record { name = name; body = bytes; moment = moment })
 
+    abbrev delivered : Tables
+    delivered = with_delivered name (print_of bytes) bytes moment (listed_in name bytes) was
+
+    keeps_delivery : KeepsDelivery was delivered config judged shown dates name bytes moment
+    keeps_delivery = delivered_archive was config judged shown dates name bytes moment (listed_in name bytes) (numbered old.committed was keeps.held) kept_now in_time deliverable no_other refl
+
     module _ (db : Database) (done : (t : Tables) → Holds old.now t → Holds db (with_delivery_at_once name bytes print moment t)) where
-      is_finished : (t : Tables) → Holds its.between t → Holds db (with_finished name (Some id) print moment t)
-      is_finished t held = subst (λ u. Holds db (with_finished name (Some id) print moment u)) (same_came t held) (done was held_now)
+      rows_are : tables_in db ≡ delivered
+      rows_are = held_tables db (with_delivery_at_once name bytes print moment was) (done was held_now) ∙ ap (λ p. with_delivery_at_once name bytes p moment was) printed
+
+      all_finished : finished (tables_in db) ≡ delivered
+      all_finished = ap finished rows_are ∙ kept_finished delivered keeps_delivery.kept.bodies
 
       pub at_once_turns : Turns old.committed db config judged shown dates judged shown dates (λ b. with_delivery b (record { name = name; body = bytes; moment = moment }))
-      at_once_turns =
-          let turn = delivery_turns between (λ _. refl) up config judged shown dates keeps_between.kept (Some id) 1 bytes comes name print moment printed in_time deliverable no_other db is_finished in
-          record { kept = turn.kept; book = turn.book ∙ ap delivers keeps_between.book }
+      at_once_turns = record {
+        kept = record {
+          held = is_archive db (with_delivery_at_once name bytes print moment was) (done was held_now);
+          kept = subst (λ t. IsKept t config judged shown dates) (sym all_finished) keeps_delivery.kept;
+        };
+        book = ap (book_in config judged shown dates) all_finished ∙ keeps_delivery.book ∙ ap (λ t. delivers (book_in config judged shown dates t)) (sym whole);
+      }
 
       pub at_once_ends : HasComing (tables_in db) []
-      at_once_ends = delivery_ends between (λ _. refl) up config judged shown dates keeps_between.kept (Some id) 1 bytes comes name print moment printed in_time deliverable no_other db is_finished
+      at_once_ends = none_coming (tables_in db) (all_finished ∙ sym rows_are)
 
     -- whether the arrival is new at the moment
     pub at_once_new : (new : Bool) → (seconds : Option ℕ) → seconds ≡ span config → ((t : Tables) → Holds old.now t → new ≡ is_new_at_once name bytes print seconds moment t)
         → new ≡ not (has_arrival (at_moment moment (book_of old.committed config judged shown dates)).arrivals (record { name = name; body = bytes; moment = moment }))
+    unfolding at_moment book_in
     at_once_new new seconds same answer =
-        delivery_new between (λ _. refl) up config judged shown dates keeps_between.kept (Some id) 1 bytes comes name print moment printed in_time deliverable no_other new
-        (λ t held.
-        subst (λ (u : Tables). new ≡ not (arrival_counts seconds moment name (ended_number (Some id) print u) (with_ended (Some id) print u))) (same_came t held) (answer was held_now)
-        ∙ ap (λ s. not (arrival_counts s moment name (ended_number (Some id) print t) (with_ended (Some id) print t))) same
-        ∙ ap not (counts_if_some (with_ended (Some id) print t) (apart_once_ended between (λ _. refl) up keeps_between.kept (Some id) print t held) (span config) moment name (ended_number (Some id) print t)))
-        ∙ ap (λ (b : Book). not (has_arrival (at_moment moment b).arrivals (record { name = name; body = bytes; moment = moment }))) keeps_between.book
+        let stored = with_bytes (print_of bytes) bytes was in
+        let apart : AreApart stored.arrivals = subst AreApart (sym (bytes_keep (print_of bytes) bytes was)) kept_now.arrivals.apart in
+        answer was held_now
+        ∙ (λ i. not (arrival_counts (same i) moment name (number_with (printed i) (with_bytes (printed i) bytes was)) (with_bytes (printed i) bytes was)))
+        ∙ ap not (counts_if_some stored apart (span config) moment name (number_with (print_of bytes) stored))
+        ∙ ap not (keeps_delivery.known (span config) moment)
+        ∙ ap (λ (t : Tables). not (has_arrival (at_moment moment (book_in config judged shown dates t)).arrivals (record { name = name; body = bytes; moment = moment }))) (sym whole)

@@ -78,17 +78,21 @@ module _ (t : Tables) (apart : AllPairs (λ a b. is_arrival a.name a.body b ≡ 
 
 -- ---- the arrivals beside a body that has come
 
-ended_keeps : (body : Option ℕ) (print : Print) (t : Tables) → (with_ended body print t).arrivals ≡ t.arrivals
-unfolding with_ended with_whole with_bytes
-ended_keeps (Some id) print t =
-    elim (is_some (body_with print t.bodies)) as (λ b. arrivals_of (if b then without_whole id t else with_print id print t) ≡ t.arrivals) [ true ↦ refl | false ↦ refl ]
-ended_keeps None print t =
-    elim (is_some (body_with print t.bodies)) as (λ b. arrivals_of (if b then t else with_pieces (pieces_for (next_in t.bodies) []) (with_body (record { print = Some print }) t)) ≡ t.arrivals) [
+pub bytes_keep : (print : Print) (bytes : List ℕ) (t : Tables) → (with_bytes print bytes t).arrivals ≡ t.arrivals
+unfolding with_bytes
+bytes_keep print bytes t =
+    elim (is_some (body_with print t.bodies)) as (λ b. arrivals_of (if b then t else with_pieces (pieces_for (next_in t.bodies) bytes) (with_body (record { print = Some print }) t)) ≡ t.arrivals) [
       | true ↦ refl
-      | false ↦ ap arrivals_of (only_pieces (pieces_for (next_in t.bodies) []) (with_body (record { print = Some print }) t))
+      | false ↦ ap arrivals_of (only_pieces (pieces_for (next_in t.bodies) bytes) (with_body (record { print = Some print }) t))
     ]
 
-abbrev AreApart : Numbered Arrival → Type 0
+ended_keeps : (body : Option ℕ) (print : Print) (t : Tables) → (with_ended body print t).arrivals ≡ t.arrivals
+unfolding with_ended with_whole
+ended_keeps (Some id) print t =
+    elim (is_some (body_with print t.bodies)) as (λ b. arrivals_of (if b then without_whole id t else with_print id print t) ≡ t.arrivals) [ true ↦ refl | false ↦ refl ]
+ended_keeps None print t = bytes_keep print [] t
+
+abbrev pub AreApart : Numbered Arrival → Type 0
 AreApart arrivals = AllPairs (λ a b. is_arrival a.name a.body b ≡ false) (rows_of arrivals)
 
 -- the pairs of an archive are apart, also beside a body that has come

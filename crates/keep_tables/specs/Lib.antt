@@ -3,3 +3,4 @@ pub mod Finishing
 pub mod Opened
 pub mod Moments
 pub mod AtHand
+pub mod AtOnce

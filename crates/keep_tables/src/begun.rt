@@ -1,9 +1,10 @@
 //! The body that was begun last.
 
-ghost use Rattle.std.specs.Prelude.{◌≡◌, ◌<◌, ◌≤◌, [], Some, None, true, false, if◌then◌else◌, length, option_map};
+ghost use Rattle.std.specs.Prelude.{◌≡◌, [], Some, None, true, false, if◌then◌else◌, option_map};
 ghost use Rattle.std.specs.Option.{option_and_then, option_map_or};
 ghost use Rattle.sums.specs.Prints.{Holds};
 ghost use Rattle.bodies.specs.declared.coming.Begun.{Begun};
+ghost use Rattle.keep_tables.specs.AtOnce.{arrives_at_once};
 
 use bodies::Begun;
 use keep::PIECE_SIZE;
@@ -62,7 +63,7 @@ pub(crate) fn forget_if(begun: &mut Option<Begun>, went: bool)
 
 /// Whether a body is one piece, and nothing is begun that has a row.
 pub(crate) fn is_one_piece(begun: &Option<Begun>, body: &[u8]) -> bool
-    ensures { result ≡ true → (option_and_then (λ b. b.body) begun.now ≡ None) × (0 < length body.now) × (length body.now ≤ 65536) }
+    ensures { result ≡ arrives_at_once begun.now body.now }
 {
     if body.is_empty() || body.len() > PIECE_SIZE {
         return false;

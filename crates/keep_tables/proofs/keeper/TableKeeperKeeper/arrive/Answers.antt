@@ -1,4 +1,4 @@
-use Rattle.std.proofs.Common.{◌≡◌, ◌++◌, ◌∙◌, ◌<◌, ℕ, List, [], Some, length, take, min, not, ap, sym, refl, subst, arith, inl, inr}
+use Rattle.std.proofs.Common.{◌≡◌, ◌++◌, ◌∙◌, ◌<◌, ℕ, List, [], Some, length, take, not, ap, sym, refl, subst, arith, inl, inr}
 use Rattle.std.proofs.Math.Logic.{∥∥₁_elim, ∥∥₁_map}
 use Rattle.std.proofs.Props.{props}
 use Rattle.sqlite.specs.Held.{state}
@@ -10,7 +10,7 @@ use Rattle.kept.specs.Shown.{shown_in}
 use Rattle.kept.proofs.CallLemmas.{done_book, kept_here, turn_left}
 use Rattle.keep_tables.specs.AtHand.{AreAtHand, AreKnown}
 use Rattle.keep_tables.proofs.AtHandLemmas.{still_at_hand, still_known}
-use Rattle.keep_tables.proofs.AtOnceLemmas.{none_under}
+use Rattle.keep_tables.proofs.AtOnceLemmas.{at_once_tells, none_under}
 use Rattle.keep_tables.proofs.UnderWayLemmas.{stopped, undone_kept, undone_under}
 use Rattle.std.specs.Option.{option_map}
 use Rattle.std.proofs.lemmas.Result.{IfOk-weaker, on_err_weaker, on_ok_weaker}
@@ -126,11 +126,16 @@ returns-clause-crash g c clean left might =
 
 -- ---- one piece
 
+pub deliver_at_once-requires-clause-one_piece : goal.deliver_at_once-requires-clause-one_piece
+deliver_at_once-requires-clause-one_piece g c =
+    let tells = at_once_tells c.args.self.now.begun c.args.body.now (sym c.is_one_piece.ensures ∙ c.if-is_one_piece.true) in
+    (tells.1, tells.2)
+
 pub invariant_of-self : goal.invariant_of-self
 invariant_of-self g c =
     let old = state g.S.Store c.args.self.now.conn in
     let new = state g.S.Store c.deliver_at_once.new.conn in
-    let free = (c.is_one_piece.ensures c.if-is_one_piece.true).0 in (
+    let free = (at_once_tells c.args.self.now.begun c.args.body.now (sym c.is_one_piece.ensures ∙ c.if-is_one_piece.true)).0 in (
     record {
       idle = c.deliver_at_once.ensures.idle;
       in_range = c.args.self.now.in_range;
@@ -187,7 +192,7 @@ invariant_of-self-in-Err g c =
 pub returns-in-Ok-clause-new : goal.returns-in-Ok-clause-new
 returns-in-Ok-clause-new g c clean bodies apart has here =
     let old = state g.S.Store c.args.self.now.conn in
-    let free = (c.is_one_piece.ensures c.if-is_one_piece.true).0 in
+    let free = (at_once_tells c.args.self.now.begun c.args.body.now (sym c.is_one_piece.ensures ∙ c.if-is_one_piece.true)).0 in
     let early : HasCleanDisk old = omega (arith, c.deliver_at_once.ensures.crash.clean, clean) in
     let was_open = (c.in-Ok.ensures.open clean).0 in
     ∥∥₁_elim (c.args.self.now.kept early was_open) (hlevel props) (λ was. ∥∥₁_elim (c.args.self.now.under_way early was_open) (hlevel props) (λ under.
@@ -197,7 +202,7 @@ pub returns-in-Ok-clause-ok : goal.returns-in-Ok-clause-ok
 returns-in-Ok-clause-ok g c clean bodies apart has here =
     let old = state g.S.Store c.args.self.now.conn in
     let new = state g.S.Store c.deliver_at_once.new.conn in
-    let free = (c.is_one_piece.ensures c.if-is_one_piece.true).0 in
+    let free = (at_once_tells c.args.self.now.begun c.args.body.now (sym c.is_one_piece.ensures ∙ c.if-is_one_piece.true)).0 in
     let early : HasCleanDisk old = omega (arith, c.deliver_at_once.ensures.crash.clean, clean) in
     let was_open = (c.in-Ok.ensures.open clean).0 in
     ∥∥₁_elim (c.args.self.now.kept early was_open) (book_set _ _) (λ was. ∥∥₁_elim (c.args.self.now.under_way early was_open) (book_set _ _) (λ under.
@@ -207,7 +212,7 @@ returns-in-Ok-clause-ok g c clean bodies apart has here =
 pub returns-in-Ok-clause-crash : goal.returns-in-Ok-clause-crash
 returns-in-Ok-clause-crash g c clean left might =
     let old = state g.S.Store c.args.self.now.conn in
-    let free = (c.is_one_piece.ensures c.if-is_one_piece.true).0 in
+    let free = (at_once_tells c.args.self.now.begun c.args.body.now (sym c.is_one_piece.ensures ∙ c.if-is_one_piece.true)).0 in
     let early : HasCleanDisk old = omega (arith, c.deliver_at_once.ensures.crash.clean, clean) in
     elim (c.deliver_at_once.ensures.crash.crash clean might.0 might.1) [
       | inl before ↦ inl (might.0, before, might.2)
@@ -222,7 +227,7 @@ returns-in-Ok-clause-crash g c clean left might =
 pub returns-in-Err-clause-crash : goal.returns-in-Err-clause-crash
 returns-in-Err-clause-crash g c clean left might =
     let old = state g.S.Store c.args.self.now.conn in
-    let free = (c.is_one_piece.ensures c.if-is_one_piece.true).0 in
+    let free = (at_once_tells c.args.self.now.begun c.args.body.now (sym c.is_one_piece.ensures ∙ c.if-is_one_piece.true)).0 in
     let early : HasCleanDisk old = omega (arith, c.deliver_at_once.ensures.crash.clean, clean) in
     elim (c.deliver_at_once.ensures.crash.crash clean might.0 might.1) [
       | inl before ↦ inl (might.0, before, might.2)
