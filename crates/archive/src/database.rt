@@ -6,7 +6,7 @@ use command_line::CommandLine;
 use commands::{InFile, act};
 use keep::{KeepFault, LATEST};
 use keep_rows::fault_of;
-use keep_tables::TableKeeper;
+use keep_tables::{InOrder, TableKeeper};
 use rules::Config;
 use sqlite::{Alter, Connection, Error, ErrorCode, FileFrom, FileStore, Wary};
 use sqlite_disk::Disk;
@@ -100,7 +100,7 @@ fn kept<K, C: Drop>(keeper: Result<K, (C, KeepFault)>) -> Result<K, KeepFault> {
 }
 
 /// A keeper of the archive that a database keeps.
-fn opened_over<S: Alter + Drop>(
+fn opened_over<S: InOrder + Drop>(
     alloc: Global,
     connection: Result<Connection<S>, KeepFault>,
 ) -> Result<TableKeeper<S>, KeepFault> {
@@ -127,7 +127,7 @@ fn made_over<S: Alter + Drop>(
 
 /// Does a line over keepers on stores of this type, and answers the exit status. Where the store is not named, the prover has little to
 /// compare.
-fn act_over<S: Alter + Drop, F: InFile<TableKeeper<S>>, W: Write, E: Write>(
+fn act_over<S: InOrder + Drop, F: InFile<TableKeeper<S>>, W: Write, E: Write>(
     rt: &HostRuntime,
     line: &CommandLine<'_>,
     out: &mut W,

@@ -22,3 +22,4 @@ mod wanting;
 
 pub use keeper::TableKeeper;
 pub use meaning::a_keeper_is_its_tables;
+pub use tables_read::InOrder;

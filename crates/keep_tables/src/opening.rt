@@ -27,7 +27,7 @@ use keep::KeepFault;
 use keep_rows::{fault_of, is_archive_schema};
 use sqlite::{Alter, Connection, Error};
 use std::alloc::{AllocError, Global};
-use tables_read::{AllRows, read_all};
+use tables_read::{AllRows, InOrder, read_all};
 
 /// An archive that was found: what a keeper holds of it, and the numbers of the bodies that are not whole.
 #[derive(Drop)]
@@ -55,7 +55,8 @@ fn found_in(alloc: Global, all: AllRows) -> Result<Option<Found>, AllocError>
 }
 
 /// The same of the rows of a database that has the tables of an archive.
-fn archive_of<S: Alter>(alloc: Global, conn: &mut Connection<S>) -> Result<Option<Found>, Error>
+fn archive_of<S: InOrder>(alloc: Global, conn: &mut Connection<S>) -> Result<Option<Found>, Error>
+    requires idle { conn.old.in_transaction ≡ false }
     requires archive { (state S.Store conn.old).now.schema ≡ archive_schema }
     ensures idle { conn.old.in_transaction ≡ false → conn.new.in_transaction ≡ false }
     ensures some { HasCleanDisk (state S.Store conn.new) → IfOk result (λ o. IfSome o (λ found. IsUnchanged (state S.Store conn.old) (state S.Store conn.new)
@@ -77,7 +78,8 @@ fn archive_of<S: Alter>(alloc: Global, conn: &mut Connection<S>) -> Result<Optio
 }
 
 /// The same of a database.
-fn find_archive<S: Alter>(alloc: Global, conn: &mut Connection<S>) -> Result<Option<Found>, Error>
+fn find_archive<S: InOrder>(alloc: Global, conn: &mut Connection<S>) -> Result<Option<Found>, Error>
+    requires idle { conn.old.in_transaction ≡ false }
     ensures idle { conn.old.in_transaction ≡ false → conn.new.in_transaction ≡ false }
     ensures some { HasCleanDisk (state S.Store conn.new) → IfOk result (λ o. IfSome o (λ found. IsUnchanged (state S.Store conn.old) (state S.Store conn.new)
         × IsArchiveOf (state S.Store conn.old).now found.held.config found.held.judged.items found.held.dates.items
@@ -145,7 +147,7 @@ fn keeper_of<S: Alter + Drop>(
     }
 }
 
-impl<S: Alter + Drop> TableKeeper<S> {
+impl<S: InOrder + Drop> TableKeeper<S> {
     /// The keeper over the tables of a database that keeps an archive, without the bodies that are not whole: an opening
     /// takes these away, with their pieces. A fault gives the connection back, and what was committed is as before. The
     /// fault is `KeepFault::Tables` only where a transaction is begun or the database keeps no archive; another comes only

@@ -6,5 +6,6 @@ mod reopened;
 mod stop;
 
 pub use created::drive_created;
+pub use keep_tables::InOrder;
 pub use reopened::drive_opened;
 pub use stop::a_stop_goes_on;

@@ -13,15 +13,15 @@ ghost use Rattle.queue.specs.Commands.{call_of, kind_of_command, kind_of_outcome
 ghost use Rattle.queue.specs.Histories.{bodies_of, opened_with};
 
 use keep::KeepFault;
-use keep_tables::TableKeeper;
+use keep_tables::{InOrder, TableKeeper};
 use queue::{Archive, Command, Outcome};
-use sqlite::{Alter, Connection};
+use sqlite::Connection;
 use std::alloc::{AllocError, Global};
 
 /// Opens the archive that a database keeps, and makes commands in order behind the book that it has. It gives the archive and the
 /// outcome of each command, or in the place of the outcomes an `Err` where memory is wanting for them, and then no command was
 /// made. A fault is that of `TableKeeper::open`: it gives the connection back, and what was committed is as before.
-pub fn drive_opened<S: Alter + Drop>(
+pub fn drive_opened<S: InOrder + Drop>(
     alloc: Global,
     connection: Connection<S>,
     commands: &[Command],

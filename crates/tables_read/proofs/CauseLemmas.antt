@@ -1,5 +1,5 @@
 -- Why a read fails.
-use Rattle.std.proofs.Common.{◌≡◌, pos, ◌⊎◌, ◌<◌, ◌≤◌, ℕ, List, [], ◌∷◌, ◌++◌, length, map, slice_index_or, inl, inr, true, false, None, Some, Ok, refl, sym, ap, subst, ◌∙◌, arith}
+use Rattle.std.proofs.Common.{◌≡◌, pos, ◌⊎◌, ◌<◌, ◌≤◌, ℕ, List, [], ◌∷◌, ◌++◌, length, map, inl, inr, true, false, Ok, refl, sym, ap, subst, ◌∙◌, arith}
 use Rattle.std.specs.Prelude.{Any}
 use Rattle.std.specs.List.{AllByRecursion}
 use Rattle.std.proofs.lemmas.List.{get_or_at, length-append, length-map}
@@ -14,18 +14,15 @@ use Rattle.sqlite.specs.Given.{IsPlain}
 use Rattle.sqlite.specs.Listing.{understood, reads_listing, IsSourceOf}
 use Rattle.sqlite.specs.Order.{Row, column}
 use Rattle.sqlite.specs.Program.{QueryOverflows, overlay}
-use Rattle.sqlite.specs.Query.{Query, IsAnswer, inner, end}
+use Rattle.sqlite.specs.Query.{Query, IsAnswer}
 use Rattle.sqlite.specs.State.{State, FailsToQuery, Shown}
 use Rattle.sqlite.specs.Command.{Command}
 use Rattle.sqlite.specs.Command.TheVariants.{Select}
-use Rattle.sqlite.specs.Collation.TheVariants.{Binary}
-use Rattle.sqlite.specs.Term.{Term, col}
+use Rattle.sqlite.specs.Term.{Term}
 use Rattle.sqlite.specs.Tree.{Trees}
 use Rattle.sqlite.proofs.Callers.{command_of, reads_as}
 use Rattle.sqlite_keyed.proofs.ListLemmas.{all_map, all_of}
-use Rattle.sqlite_sql.specs.Group.{value_over}
-use Rattle.sqlite_sql.specs.declared.aggregate.AggregateOp.TheVariants.{Concat}
-use Rattle.sqlite_sql.specs.Query.{Output, matches, output}
+use Rattle.sqlite_sql.specs.Query.{Output, output}
 use Rattle.sqlite_sql.specs.Term.{Env, eval_all}
 use Rattle.sqlite_typing.specs.Types.{accepts_program}
 use Rattle.tables.specs.Causes.{IsCaused}
@@ -33,7 +30,7 @@ use Rattle.tables.specs.Schema.{archive_schema}
 use Rattle.tables.proofs.CauseLemmas.{IsAlone, not_run}
 use Rattle.tables.proofs.SelectLemmas.{rows_query}
 use Rattle.tables_read.specs.Layout.{IsLayout, IsShort, Layout}
-use Rattle.tables_read.specs.Reading.{AsksForRows, Means, order_query}
+use Rattle.tables_read.specs.Reading.{AsksForRows, Means}
 
 -- no sum of it is too large
 abbrev pub IsSure : Query → Type 0
@@ -45,20 +42,6 @@ none_of xs any = any.4
 pub rows_sure : (tree : ℕ) (columns : List Term) → IsSure (rows_query tree [] columns)
 rows_sure tree columns db (inl bad) = bad
 rows_sure tree columns db (inr bad) = none_of _ bad
-
-only_one : {X : Type 0} (P : X → Type 0) (x : X) → Any P (x ∷ []) → P x
-only_one P x any =
-    let first : any.0 ≡ 0 = omega (arith, any.2) in
-    subst P (sym (subst (λ k. slice_index_or (x ∷ []) k any.1 ≡ any.1) first any.3)) any.4
-
-texts_join : (group : List Env) → value_over group (record { op = Concat; distinct = false; collation = Binary; argument = col 1 0 }) ≡ None → ⊥
-texts_join group none = absurd (let e : Some _ ≡ None = none in cc)
-
-pub order_sure : (tree : ℕ) → IsSure (order_query tree)
-order_sure tree db (inl bad) = absurd bad
-order_sure tree db (inr (inl none)) = texts_join (matches db [] (inner tree end) ([] ∷ [])) (only_one _ _ none)
-order_sure tree db (inr (inr (inl bad))) = none_of _ bad
-order_sure tree db (inr (inr (inr bad))) = bad
 
 module _ (query : Query) (tree : ℕ) (sql : List ℕ) (asks : Means query tree sql) (sure : IsSure query) (old new : State) (schema : old.now.schema ≡ archive_schema) (e : Error) where
   refused : (db : Database) → db.schema ≡ archive_schema → RefusesQuery old.step_limit db (record { lets = []; body = query }) [] e → IsCaused old new e

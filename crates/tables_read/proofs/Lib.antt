@@ -1,8 +1,6 @@
 pub mod AnswerLemmas
 pub mod CauseLemmas
 pub mod DecideLemmas
-pub mod JoinedLemmas
-pub mod ListedLemmas
 pub mod Meaning
 pub mod PairLemmas
 pub mod QueryLemmas

@@ -1,13 +1,9 @@
 -- Rows that are read one after another.
-use Rattle.std.proofs.Common.{◌≡◌, ◌<◌, ◌^◌, ℕ, nat_lt, true, List, [], ◌∷◌, ◌++◌, None, Some, refl, sym, subst, arith}
+use Rattle.std.proofs.Common.{◌≡◌, ◌<◌, ◌^◌, ℕ, List, [], ◌∷◌, ◌++◌, sym, subst}
 use Rattle.std.specs.List.{AllByRecursion, AllZip}
-use Rattle.std.proofs.lemmas.Bool.{and_parts}
-use Rattle.std.proofs.lemmas.Bool.Decides.{nat_tests}
 use Rattle.sqlite.specs.Order.{Row}
-use Rattle.sqlite_keyed.proofs.ListLemmas.{all_weaker}
-use Rattle.tables.specs.Rows.{Numbered, Rises}
+use Rattle.tables.specs.Rows.{Numbered}
 use Rattle.tables_read.specs.Layout.{Layout, AreRead, IsNotRead, ids}
-use Rattle.tables_read.specs.Order.{rises_past}
 use Rattle.tables_read.specs.Reading.{Spells}
 
 module _ {A B : Type 0} (R : A → B → Type 0) where
@@ -37,24 +33,3 @@ module _ {X : Type 0} (l : Layout X) where
   not_read_among real [] row tail none (x ∷ xs) all zip = none x all.0 zip.0
   not_read_among real (r ∷ front) row tail none [] all zip = zip
   not_read_among real (r ∷ front) row tail none (x ∷ xs) all zip = not_read_among real front row tail none xs all.1 zip.1
-
-module _ {X : Type 0} where
-  all_past : (n : ℕ) (xs : Numbered X) → rises_past (Some n) xs ≡ true → AllByRecursion (λ x. n < x.0) xs × Rises xs
-  all_past n [] h = (tt, tt)
-  all_past n (x ∷ xs) h =
-      let p : (nat_lt n x.0 ≡ true) × (rises_past (Some x.0) xs ≡ true) = and_parts _ _ h in
-      let here : n < x.0 = grind (arith, nat_tests) in
-      let more = all_past x.0 xs p.1 in
-      ((here, all_weaker (λ y. x.0 < y.0) (λ y. n < y.0) (λ y k. omega arith) xs more.0), more)
-
-  past_all : (n : ℕ) (xs : Numbered X) → AllByRecursion (λ x. n < x.0) xs → Rises xs → rises_past (Some n) xs ≡ true
-  past_all n [] all up = refl
-  past_all n (x ∷ xs) all up = let more = past_all x.0 xs up.0 up.1 in let here = all.0 in grind (arith, nat_tests)
-
-  pub rises_if : (xs : Numbered X) → rises_past None xs ≡ true → Rises xs
-  rises_if [] h = tt
-  rises_if (x ∷ xs) h = all_past x.0 xs h
-
-  pub test_if_rises : (xs : Numbered X) → Rises xs → rises_past None xs ≡ true
-  test_if_rises [] up = refl
-  test_if_rises (x ∷ xs) up = past_all x.0 xs up.0 up.1

@@ -1,7 +1,8 @@
--- The rows of a table, as its two queries tell them.
-use Rattle.std.proofs.Common.{◌≡◌, ◌<◌, ◌^◌, ℕ, true, List, [], ◌∷◌, map, refl, sym, ap, ap₂, ◌∙◌, subst}
+-- The rows of a table, as the query for them tells them.
+use Rattle.std.proofs.Common.{◌≡◌, ◌<◌, ◌^◌, ℕ, pos, true, List, [], ◌∷◌, map, refl, sym, ap, ap₂, ◌∙◌, subst, arith, Less}
+use Rattle.std.proofs.lemmas.Int.{ints}
 use Rattle.std.specs.List.{AllByRecursion, AllZip}
-use Rattle.sqlite.specs.declared.types.Value.TheVariants.{Null, Int, Text}
+use Rattle.sqlite.specs.declared.types.Value.TheVariants.{Null, Int}
 use Rattle.sqlite.specs.Order.{Row, column}
 use Rattle.sqlite.specs.Program.{overlay}
 use Rattle.sqlite.specs.Tree.{rowid, IsAscending}
@@ -9,15 +10,17 @@ use Rattle.sqlite.specs.State.{State, Shown}
 use Rattle.sqlite.proofs.Callers.{reads_as}
 use Rattle.sqlite_schema.specs.Rules.{Keeps}
 use Rattle.sqlite_schema.specs.declared.schema.Constraint.TheVariants.{Datatype}
-use Rattle.sqlite_sql.specs.Text.{joined}
+use Rattle.sqlite_trees.specs.Tree.{IsTable as IsRising}
+use Rattle.sqlite_value.specs.Order.{value_cmp}
+use Rattle.sqlite_value.proofs.OrderLemmas.{value_cmp-Int}
+use Rattle.sqlite_keyed.proofs.KeyedLemmas.{lt_from_Less}
 use Rattle.sqlite_keyed.proofs.ListLemmas.{map-map, filter_all, all_of, ascending-map, ascending_from_map}
 use Rattle.tables.specs.Rows.{whole, Numbered, HasRows, Rises, stored}
 use Rattle.tables.specs.Schema.{archive_schema}
 use Rattle.tables.proofs.SelectLemmas.{reads_rows}
-use Rattle.tables_read.specs.Reading.{AsksForRows, AsksForOrder, Spells}
-use Rattle.tables_read.specs.Layout.{Layout, IsLayout, HasTypes, AreRead, AreSmall, first_cell, ids, show}
-use Rattle.tables_read.proofs.JoinedLemmas.{joined_same}
-use Rattle.tables_read.proofs.AnswerLemmas.{each_shown, order_answer}
+use Rattle.tables_read.specs.Reading.{AsksForRows, Spells}
+use Rattle.tables_read.specs.Layout.{Layout, IsLayout, HasTypes, AreRead, AreSmall, ids, show}
+use Rattle.tables_read.proofs.AnswerLemmas.{each_shown}
 
 numbered : (tree : List Row) (ns : List ℕ) → map rowid tree ≡ map whole ns → (zs : Numbered Row) × (tree ≡ map (stored (λ r. r)) zs) × (ids zs ≡ ns)
 numbered [] [] e = ([], refl, refl)
@@ -31,8 +34,30 @@ numbered ((v ∷ vs) ∷ rs) (n ∷ ns) e =
     let more = numbered rs ns there in
     ((n, vs) ∷ more.0, ap₂ ◌∷◌ (ap (λ w. w ∷ vs) here) more.1, ap (λ l. n ∷ l) more.2)
 
-rises_as : {X Y : Type 0} (xs : Numbered X) (ys : Numbered Y) → ids xs ≡ ids ys → Rises xs → Rises ys
-rises_as xs ys same up = ascending_from_map (λ m n. m < n) (λ y. y.0) ys (subst (IsAscending (λ m n. m < n)) same (ascending-map (λ m n. m < n) (λ x. x.0) xs up))
+above : (m n : ℕ) → value_cmp (whole m) (whole n) ≡ Less → m < n
+above m n h = let k = lt_from_Less (pos m) (pos n) (sym (value_cmp-Int (pos m) (pos n)) ∙ h) in omega (arith, ints, k)
+
+above_all : (m : ℕ) (r : Row) (tree : List Row) (ns : List ℕ) → rowid r ≡ whole m → map rowid tree ≡ map whole ns
+    → AllByRecursion (λ s. value_cmp (rowid r) (rowid s) ≡ Less) tree → AllByRecursion (λ n. m < n) ns
+above_all m r [] [] is e all = tt
+above_all m r [] (n ∷ ns) is e all = absurd (cc)
+above_all m r (s ∷ tree) [] is e all = absurd (cc)
+above_all m r (s ∷ tree) (n ∷ ns) is e all =
+    let h : rowid s ∷ map rowid tree ≡ whole n ∷ map whole ns = e in
+    let here : rowid s ≡ whole n = cc in
+    let there : map rowid tree ≡ map whole ns = cc in
+    (above m n (sym (ap₂ value_cmp is here) ∙ all.0), above_all m r tree ns is there all.1)
+
+-- the numbers of a table rise
+numbers_rise : (tree : List Row) (ns : List ℕ) → IsRising tree → map rowid tree ≡ map whole ns → IsAscending (λ m n. m < n) ns
+numbers_rise [] [] up e = tt
+numbers_rise [] (n ∷ ns) up e = absurd (cc)
+numbers_rise (r ∷ tree) [] up e = absurd (cc)
+numbers_rise (r ∷ tree) (n ∷ ns) up e =
+    let h : rowid r ∷ map rowid tree ≡ whole n ∷ map whole ns = e in
+    let here : rowid r ≡ whole n = cc in
+    let there : map rowid tree ≡ map whole ns = cc in
+    (above_all n r tree ns here there up.0, numbers_rise tree ns up.1 there)
 
 -- the rowid is a number of code
 abbrev HasNumber : Row → Type 0
@@ -65,17 +90,6 @@ module _ {X : Type 0} (l : Layout X) (laid : IsLayout l) where
   ids_in (r ∷ rs) [] zip = absurd zip
   ids_in (r ∷ rs) (x ∷ xs) zip = ap₂ ◌∷◌ (sym (laid.number r) ∙ zip.0.0) (ids_in rs xs zip.1)
 
-  same_ids : (rows : List Row) (xs ys : Numbered X) → AllZip (Spells l.seen) rows xs → AllZip (Spells l.seen) rows ys → ids xs ≡ ids ys
-  same_ids [] [] [] p q = refl
-  same_ids [] [] (y ∷ ys) p q = absurd q
-  same_ids [] (x ∷ xs) ys p q = absurd p
-  same_ids (r ∷ rs) [] ys p q = absurd p
-  same_ids (r ∷ rs) (x ∷ xs) [] p q = absurd q
-  same_ids (r ∷ rs) (x ∷ xs) (y ∷ ys) p q =
-      let h : whole x.0 ≡ whole y.0 = sym p.0.0 ∙ q.0.0 in
-      let same : x.0 ≡ y.0 = cc in
-      ap₂ ◌∷◌ same (same_ids rs xs ys p.1 q.1)
-
   have_numbers : (rows : List Row) (xs : Numbered X) → AllZip (Spells l.seen) rows xs → AreSmall (ids xs) → AllByRecursion HasNumber rows
   have_numbers [] xs zip small = tt
   have_numbers (r ∷ rs) [] zip small = absurd zip
@@ -107,31 +121,14 @@ module _ {X : Type 0} (l : Layout X) (laid : IsLayout l) where
         let are = shown_if (ids xs) (ascending-map (λ m n. m < n) (λ x. x.0) xs has.rise) (ids_in (old.now.trees l.tree) xs zip) in
         subst (λ rs. AllZip (Spells l.seen) rs xs) (sym are) zip
 
-    -- so others that it spells rise too
-    pub rises_if : (xs ys : Numbered X) → HasRows l.cells xs (map l.full (old.now.trees l.tree)) → AllZip (Spells l.seen) rows ys → Rises ys
-    rises_if xs ys has zip = rises_as xs ys (same_ids rows xs ys (raw_spells xs has) zip) has.rise
-
-    module _ (order_sql : List ℕ) (asks_order : AsksForOrder l.tree order_sql) (new : State) (found : List Row) (same : mid.now ≡ old.now) (told : Shown order_sql [] mid new found) where
-      order_told : (ns : List ℕ) → map rowid (old.now.trees l.tree) ≡ map whole ns → found ≡ (Text (joined (map whole ns)) ∷ []) ∷ []
-      order_told ns are =
-          let read = reads_as order_sql [] mid new archive_schema (ap (λ d. d.schema) same ∙ schema) _ asks_order.is asks_order.plain asks_order.unlisted found told in
-          order_answer (overlay mid.now.trees []) l.tree ns (ap (map rowid) (asks_order.real mid.now.trees) ∙ ap (λ d. map rowid (d.trees l.tree)) same ∙ are) found (read.answer Null)
-
-      -- and the text of their numbers is what the query for the order answers
-      pub tells_order : (xs ys : Numbered X) → HasRows l.cells xs (map l.full (old.now.trees l.tree)) → AllZip (Spells l.seen) rows ys
-          → first_cell found ≡ Text (joined (map whole (ids ys)))
-      tells_order xs ys has zip =
-          ap first_cell (order_told (ids xs) (ids_in (old.now.trees l.tree) xs (spells_back (old.now.trees l.tree) xs has.are)))
-          ∙ ap (λ ns. Text (joined (map whole ns))) (same_ids rows xs ys (raw_spells xs has) zip)
-
-      -- Rows that the answer spells, that rise and whose numbers stand so in the table are those of the table.
-      pub is_table : Keeps Datatype archive_schema old.now.trees → (xs : Numbered X) → AreRead l rows xs → Rises xs
-          → first_cell found ≡ Text (joined (map whole (ids xs))) → HasRows l.cells xs (map l.full (old.now.trees l.tree))
-      is_table typed xs read up text =
-          let tree = old.now.trees l.tree in
-          let got = collect tree (numbers_if (have_numbers rows xs read.spelled read.small)) in
-          let e : Text (joined (map whole got.0)) ≡ Text (joined (map whole (ids xs))) = sym (ap first_cell (order_told got.0 got.1)) ∙ text in
-          let t : joined (map whole got.0) ≡ joined (map whole (ids xs)) = cc in
-          let are : map rowid tree ≡ map whole (ids xs) = got.1 ∙ ap (map whole) (joined_same got.0 (ids xs) got.2 read.small t) in
-          let shown_are = shown_if (ids xs) (ascending-map (λ m n. m < n) (λ x. x.0) xs up) are in
-          record { are = spelled tree xs (laid.typed old.now.trees typed) (subst (λ rs. AllZip (Spells l.seen) rs xs) shown_are read.spelled); rise = up }
+    -- Where the rows of the table rise, those that the answer spells are those of the table.
+    pub is_table : Keeps Datatype archive_schema old.now.trees → IsRising (old.now.trees l.tree) → (xs : Numbered X) → AreRead l rows xs → HasRows l.cells xs (map l.full (old.now.trees l.tree))
+    is_table typed up xs read =
+        let tree = old.now.trees l.tree in
+        let got = collect tree (numbers_if (have_numbers rows xs read.spelled read.small)) in
+        let shown_are = shown_if got.0 (numbers_rise tree got.0 up got.1) got.1 in
+        let zip = subst (λ rs. AllZip (Spells l.seen) rs xs) shown_are read.spelled in
+        record {
+          are = spelled tree xs (laid.typed old.now.trees typed) zip;
+          rise = ascending_from_map (λ m n. m < n) (λ x. x.0) xs (numbers_rise tree (ids xs) up (ids_in tree xs zip));
+        }

@@ -74,6 +74,7 @@ types db t (r ∷ rs) h = ((and_parts _ _ h.0).0, types db t rs h.1)
 
 pub meta_laid : IsLayout meta_layout
 meta_laid = record {
+  placed = (0, _, refl, refl);
   number = λ r. refl;
   typed = λ db h. types db schema.meta (db 0) h.0;
   fits = λ x r t s. fits_as None schema.meta.columns r _ t refl (λ e. cc) s;
@@ -82,6 +83,7 @@ meta_laid = record {
 
 pub body_laid : IsLayout body_layout
 body_laid = record {
+  placed = (1, _, refl, refl);
   number = λ r. refl;
   typed = λ db h. types db schema.bodies (db 1) h.1.0;
   fits = λ x r t s. let null = no_id schema.bodies.columns r t in λ i. s.0 i ∷ null i ∷ s.1.0 i ∷ s.1.1.0 i ∷ s.1.1.1.0 i ∷ s.1.1.1.1.0 i ∷ [];
@@ -90,6 +92,7 @@ body_laid = record {
 
 pub piece_laid : IsLayout piece_layout
 piece_laid = record {
+  placed = (2, _, refl, refl);
   number = λ r. refl;
   typed = λ db h. types db schema.pieces (db 3) h.1.1.0;
   fits = λ x r t s. fits_as None schema.pieces.columns r _ t refl (λ e. cc) s;
@@ -98,6 +101,7 @@ piece_laid = record {
 
 pub arrival_laid : IsLayout arrival_layout
 arrival_laid = record {
+  placed = (3, _, refl, refl);
   number = λ r. refl;
   typed = λ db h. types db schema.arrivals (db 5) h.1.1.1.0;
   fits = λ x r t s. fits_as (Some 0) schema.arrivals.columns r _ t refl (λ e. cc) (s.0, (no_id schema.arrivals.columns r t, s.1));
@@ -106,6 +110,7 @@ arrival_laid = record {
 
 pub upload_laid : IsLayout upload_layout
 upload_laid = record {
+  placed = (4, _, refl, refl);
   number = λ r. refl;
   typed = λ db h. types db schema.uploads (db 7) h.1.1.1.1.0;
   fits = λ x r t s. let null = no_id schema.uploads.columns r t in λ i. s.0 i ∷ null i ∷ s.1.0 i ∷ s.1.1.0 i ∷ s.1.1.1.0 i ∷ s.1.1.1.1.0 i ∷ s.1.1.1.1.1.0 i ∷ s.1.1.1.1.1.1.0 i ∷ s.1.1.1.1.1.1.1.0 i ∷ [];
@@ -114,6 +119,7 @@ upload_laid = record {
 
 pub want_laid : IsLayout want_layout
 want_laid = record {
+  placed = (5, _, refl, refl);
   number = λ r. refl;
   typed = λ db h. types db schema.wants (db 10) h.1.1.1.1.1.0;
   fits = λ x r t s. fits_as None schema.wants.columns r _ t refl (λ e. cc) s;
@@ -122,6 +128,7 @@ want_laid = record {
 
 pub item_laid : IsLayout item_layout
 item_laid = record {
+  placed = (6, _, refl, refl);
   number = λ r. refl;
   typed = λ db h. types db schema.items (db 13) h.1.1.1.1.1.1.0;
   fits = λ x r t s. fits_as (Some 0) schema.items.columns r _ t refl (λ e. cc) (s.0, (no_id schema.items.columns r t, s.1));
@@ -130,6 +137,7 @@ item_laid = record {
 
 pub ref_laid : IsLayout ref_layout
 ref_laid = record {
+  placed = (7, _, refl, refl);
   number = λ r. refl;
   typed = λ db h. types db schema.refs (db 15) h.1.1.1.1.1.1.1.0;
   fits = λ x r t s. fits_as None schema.refs.columns r _ t refl (λ e. cc) s;
@@ -138,6 +146,7 @@ ref_laid = record {
 
 pub file_laid : IsLayout file_layout
 file_laid = record {
+  placed = (8, _, refl, refl);
   number = λ r. refl;
   typed = λ db h. types db schema.files (db 17) h.1.1.1.1.1.1.1.1.0;
   fits = λ x r t s. fits_as None schema.files.columns r _ t refl (λ e. cc) s;
@@ -146,6 +155,7 @@ file_laid = record {
 
 pub text_laid : IsLayout text_layout
 text_laid = record {
+  placed = (9, _, refl, refl);
   number = λ r. refl;
   typed = λ db h. types db schema.texts (db 20) h.1.1.1.1.1.1.1.1.1.0;
   fits = λ x r t s. fits_as None schema.texts.columns r _ t refl (λ e. cc) s;
@@ -154,6 +164,7 @@ text_laid = record {
 
 pub date_laid : IsLayout date_layout
 date_laid = record {
+  placed = (10, _, refl, refl);
   number = λ r. refl;
   typed = λ db h. types db schema.dates (db 22) h.1.1.1.1.1.1.1.1.1.1.0;
   fits = λ x r t s. fits_as None schema.dates.columns r _ t refl (λ e. cc) s;

@@ -1,5 +1,5 @@
 -- How a table stores its rows, and how a query shows them.
-use Rattle.std.specs.Prelude.{◌≡◌, ◌<◌, ◌^◌, ℕ, true, List, [], ◌∷◌, drop, length, map, slice_index_or}
+use Rattle.std.specs.Prelude.{◌≡◌, ◌<◌, ◌^◌, ℕ, true, List, [], ◌∷◌, drop, length, map, slice_get, Some}
 use Rattle.std.specs.List.{AllByRecursion, AllZip}
 use Rattle.sqlite.specs.Order.{Row, column}
 use Rattle.sqlite.specs.Table.{Table}
@@ -10,10 +10,9 @@ use Rattle.sqlite_schema.specs.declared.schema.Constraint.TheVariants.{Datatype}
 use Rattle.sqlite_sql.specs.Term.{eval_all}
 use Rattle.sqlite.specs.Effect.{Database}
 use Rattle.sqlite.specs.State.{State, Shown}
-use Rattle.sqlite.specs.declared.types.Value.{Value}
 use Rattle.tables.specs.Rows.{Numbered, HasRows, stored}
 use Rattle.tables.specs.Schema.{archive_schema}
-use Rattle.tables_read.specs.Reading.{Spells, AsksForRows, AsksForOrder}
+use Rattle.tables_read.specs.Reading.{Spells, AsksForRows}
 
 -- the tree of a table, its definition, the columns that are asked for, a stored row with NULL in each column that it lacks,
 -- the row of a value, and what the columns behind the rowid show of it
@@ -33,8 +32,9 @@ show l r = eval_all l.columns ([] ∷ r ∷ [])
 abbrev pub HasTypes : {X : Type 0} → Layout X → Row → Type 0
 HasTypes l r = are_typed l.table.key 0 l.table.columns (drop 1 r) ≡ true
 
--- A stored row of the right types is that of a value exactly where the columns show it.
+-- The schema has a table in the tree. A stored row of the right types is that of a value exactly where the columns show it.
 pub record IsLayout {X : Type 0} (l : Layout X) : Type 0 where
+  pub placed : (at : ℕ) × (t : Table) × (slice_get archive_schema.tables at ≡ Some t) × (t.tree ≡ l.tree)
   pub number : (r : Row) → column (show l r) 0 ≡ rowid r
   pub typed : (db : Trees) → Keeps Datatype archive_schema db → AllByRecursion (HasTypes l) (db l.tree)
   pub fits : (x : ℕ × X) (r : Row) → HasTypes l r → Spells l.seen (show l r) x → l.full r ≡ stored l.cells x
@@ -68,18 +68,6 @@ pub record HasAnswer {X : Type 0} (l : Layout X) (old new : State) (P : List Row
 -- no rows that code can hold are what the answer spells
 abbrev pub IsNotRead : {X : Type 0} → Layout X → (X → Type 0) → List Row → Type 0
 IsNotRead {X} l real rows = (xs : Numbered X) → AllByRecursion (λ x. real x.1) xs → ¬ AllZip (Spells l.seen) rows xs
-
--- the first value of the first row
-abbrev pub first_cell : List Row → Value
-first_cell rows = column (slice_index_or rows 0 []) 0
-
--- what the query for the order answered
-pub record HasOrder (tree : ℕ) (old new : State) (P : Value → Type 0) : Type 0 where
-  pub rows : List Row
-  pub sql : List ℕ
-  pub asks : AsksForOrder tree sql
-  pub shown : Shown sql [] old new rows
-  pub is : P (first_cell rows)
 
 -- the rows of a table are these
 abbrev pub IsTable : {X : Type 0} → Layout X → Database → Numbered X → Type 0

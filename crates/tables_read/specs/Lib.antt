@@ -1,10 +1,11 @@
 pub mod All
+pub mod InOrder
 pub mod Keys
 pub mod Laid
 pub mod Layout
 pub mod Layouts
-pub mod Order
 pub mod Pairs
 pub mod Reading
 pub mod RowKeys
+pub mod Stores
 pub mod Streams

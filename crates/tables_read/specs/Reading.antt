@@ -1,20 +1,15 @@
 -- What reading leaves, and what it says.
-use Rattle.std.specs.Prelude.{◌≡◌, ◌+◌, ℕ, pos, negsuc, true, false, List, [], ◌∷◌, None, Result, IfOk, IfErr, OnOk, OnErr, ⊤}
+use Rattle.std.specs.Prelude.{◌≡◌, ◌+◌, ℕ, true, false, List, [], ◌∷◌, Result, IfOk, IfErr, OnOk, OnErr, ⊤}
 use Rattle.sqlite.specs.declared.error.Error.{Error}
-use Rattle.sqlite.specs.declared.types.Value.TheVariants.{Int, Text}
 use Rattle.sqlite.specs.Listing.{understood, reads_listing}
 use Rattle.sqlite.specs.Order.{Row, column}
 use Rattle.sqlite.specs.Program.{overlay}
 use Rattle.sqlite.specs.Tree.{Trees}
 use Rattle.sqlite.specs.Command.TheVariants.{Select}
-use Rattle.sqlite.specs.Collation.TheVariants.{Binary}
-use Rattle.sqlite.specs.Query.{Query, inner, folded, end}
-use Rattle.sqlite.specs.Term.{Term, lit, col}
+use Rattle.sqlite.specs.Query.{Query}
+use Rattle.sqlite.specs.Term.{Term}
 use Rattle.sqlite.specs.State.{State, HasCleanDisk, IsUnchanged, Survives}
 use Rattle.sqlite.proofs.Callers.{command_of, IsPlain}
-use Rattle.sqlite_sql.specs.Term.{op2}
-use Rattle.sqlite_sql.specs.declared.aggregate.AggregateOp.TheVariants.{Concat}
-use Rattle.sqlite_sql.specs.declared.ops.BinaryOp.TheVariants.{Coalesce}
 use Rattle.sqlite_typing.specs.Types.{accepts_program}
 use Rattle.tables.specs.Causes.{IsCaused}
 use Rattle.tables.specs.Rows.{Fails, IsForeign, whole}
@@ -50,23 +45,6 @@ pub record Means (query : Query) (tree : ℕ) (sql : List ℕ) : Type 0 where
 -- the text asks for these columns of the rows of a table, by their rowids
 abbrev pub AsksForRows : ℕ → List Term → List ℕ → Type 0
 AsksForRows tree columns = Means (rows_query tree [] columns) tree
-
--- the rowids with commas between, in the order in which the rows are stored
-abbrev pub order_query : ℕ → Query
-order_query tree = record {
-  from = folded (inner tree end) [] (record { op = Concat; distinct = false; collation = Binary; argument = col 1 0 } ∷ []) end;
-  filter = [];
-  group = None;
-  project = op2 Coalesce (col 1 0) (lit (Text [])) ∷ [];
-  distinct = false;
-  collations = [];
-  order = [];
-  limit = lit (Int (negsuc 0));
-  offset = lit (Int (pos 0));
-}
-
-abbrev pub AsksForOrder : ℕ → List ℕ → Type 0
-AsksForOrder tree = Means (order_query tree) tree
 
 -- a row of an answer is that of this number, with these values behind it
 abbrev pub Spells : {X : Type 0} → (X → Row) → Row → ℕ × X → Type 0

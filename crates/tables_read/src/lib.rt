@@ -4,11 +4,12 @@
 mod all;
 mod answer;
 mod cells;
+mod in_order;
 pub mod laws;
-mod order;
 mod read;
 mod stored;
 mod table;
 
 pub use all::AllRows;
+pub use in_order::InOrder;
 pub use read::read_all;

@@ -14,9 +14,10 @@ ghost use Rattle.tables_read.specs.Reading.{Tells};
 ghost use Rattle.tables.specs.Real.{AreReal};
 
 use crate::all::AllRows;
+use crate::in_order::InOrder;
 use crate::stored::Stored;
 use crate::table::table;
-use sqlite::{Alter, Connection, Error};
+use sqlite::{Connection, Error};
 use std::alloc::Global;
 use tables::rows::{Arrival, Body, Date, File, IndexText, Item, Meta, Piece, Ref, Upload, Want};
 
@@ -28,7 +29,8 @@ trait Read: Sized + Drop {
     // no rows that code can hold are
     ghost are_not: { Database → Type 0 };
 
-    fn read<S: Alter>(alloc: Global, conn: &mut Connection<S>) -> Result<Option<Self>, Error>
+    fn read<S: InOrder>(alloc: Global, conn: &mut Connection<S>) -> Result<Option<Self>, Error>
+        requires idle { conn.old.in_transaction ≡ false }
         ensures { Tells (state S.Store conn.old) (state S.Store conn.new) result (λ o. MatchOption o (are_not (state S.Store conn.old).now) (are (state S.Store conn.old).now)) };
 }
 
@@ -37,7 +39,7 @@ impl<T: Stored> Read for Vec<(u64, T)> {
 
     ghost are_not = { IsNoTable T.layout T.is_real };
 
-    fn read<S: Alter>(
+    fn read<S: InOrder>(
         alloc: Global,
         conn: &mut Connection<S>,
     ) -> Result<Option<Vec<(u64, T)>>, Error> {
@@ -50,7 +52,7 @@ impl<A: Read, B: Read> Read for (A, B) {
 
     ghost are_not = { λ db. A.are_not db ⊎ B.are_not db };
 
-    fn read<S: Alter>(alloc: Global, conn: &mut Connection<S>) -> Result<Option<(A, B)>, Error> {
+    fn read<S: InOrder>(alloc: Global, conn: &mut Connection<S>) -> Result<Option<(A, B)>, Error> {
         let Some(first) = A::read(alloc, conn)? else {
             return Ok(None);
         };
@@ -95,7 +97,11 @@ fn all_of(rows: (Arrived, (Judged, Shown))) -> AllRows
 }
 
 /// All rows of the tables, where they are rows of an archive: typed, and with no number below zero.
-pub fn read_all<S: Alter>(alloc: Global, conn: &mut Connection<S>) -> Result<Option<AllRows>, Error>
+pub fn read_all<S: InOrder>(
+    alloc: Global,
+    conn: &mut Connection<S>,
+) -> Result<Option<AllRows>, Error>
+    requires idle { conn.old.in_transaction ≡ false }
     requires archive { (state S.Store conn.old).now.schema ≡ archive_schema }
     ensures idle { conn.old.in_transaction ≡ false → conn.new.in_transaction ≡ false }
     ensures some { HasCleanDisk (state S.Store conn.new) → IfOk result (λ o. IfSome o (λ all. Holds (state S.Store conn.old).now (tables_with all))) }

@@ -4,7 +4,7 @@ ghost use Rattle.std.specs.Prelude.{◌≡◌, ◌≢◌, ◌⊎◌, None, IfErr
 ghost use Rattle.sqlite.specs.declared.error.Error.TheVariants.{SqliteFailure};
 ghost use Rattle.sqlite.specs.declared.error.ErrorCode.TheVariants.{OutOfMemory};
 ghost use Rattle.tables_read.specs.Layout.{Layout, IsLayout, IsShort};
-ghost use Rattle.tables_read.specs.Reading.{AsksForRows, AsksForOrder, Agree};
+ghost use Rattle.tables_read.specs.Reading.{AsksForRows, Agree};
 ghost use Rattle.tables.specs.Real.{IsRealBody, IsRealArrival, IsRealUpload, IsRealWant, IsRealItem, IsRealRef, IsRealFile, IsRealText, IsRealDate};
 ghost use Rattle.tables_read.specs.Layouts.{body_seen, seen_in};
 ghost use Rattle.tables_read.specs.Layouts.{meta_layout, body_layout, piece_layout, arrival_layout, upload_layout, want_layout, item_layout, ref_layout, file_layout, text_layout, date_layout};
@@ -27,10 +27,6 @@ pub(crate) trait Stored: Sized + Drop {
     fn rows_text() -> &'static str
         ensures { AsksForRows layout.tree layout.columns result.now };
 
-    /// The text that asks for the rowids in the order in which they are stored, with commas between.
-    fn order_text() -> &'static str
-        ensures { AsksForOrder layout.tree result.now };
-
     /// The row whose columns stand behind the rowid, if they are of its types.
     fn from_row(row: &Row) -> Result<Option<Self>, Error>
         ensures some { IfOk result (λ o. IfSome o (λ x. Agree row.now 1 (layout.seen x))) }
@@ -50,8 +46,6 @@ type MaybePrinted = (
 );
 
 const META: &str = "SELECT rowid, version, configuration FROM meta ORDER BY rowid";
-
-const META_ORDER: &str = "SELECT coalesce((SELECT group_concat(rowid) FROM meta), '')";
 
 /// The row of these values.
 fn meta(cells: (u64, (Listed<u8>, ()))) -> Meta
@@ -76,10 +70,6 @@ impl Stored for Meta {
         META
     }
 
-    fn order_text() -> &'static str {
-        META_ORDER
-    }
-
     fn from_row(row: &Row) -> Result<Option<Meta>, Error> {
         match <(u64, (Listed<u8>, ()))>::from_cells(row, 1)? {
             Some(cells) => Ok(Some(meta(cells))),
@@ -89,8 +79,6 @@ impl Stored for Meta {
 }
 
 const BODIES: &str = "SELECT rowid, size, md5, sha1, sha256 FROM bodies ORDER BY rowid";
-
-const BODIES_ORDER: &str = "SELECT coalesce((SELECT group_concat(rowid) FROM bodies), '')";
 
 /// The row of these values, which are all there or all absent, if it is one.
 fn body(cells: MaybePrinted) -> Option<Body>
@@ -122,10 +110,6 @@ impl Stored for Body {
         BODIES
     }
 
-    fn order_text() -> &'static str {
-        BODIES_ORDER
-    }
-
     fn from_row(row: &Row) -> Result<Option<Body>, Error> {
         match <MaybePrinted>::from_cells(row, 1)? {
             Some(cells) => Ok(body(cells)),
@@ -135,8 +119,6 @@ impl Stored for Body {
 }
 
 const PIECES: &str = "SELECT rowid, body, number, bytes FROM pieces ORDER BY rowid";
-
-const PIECES_ORDER: &str = "SELECT coalesce((SELECT group_concat(rowid) FROM pieces), '')";
 
 /// The row of these values.
 fn piece(cells: (u64, (u64, (Listed<u8>, ())))) -> Piece
@@ -163,10 +145,6 @@ impl Stored for Piece {
         PIECES
     }
 
-    fn order_text() -> &'static str {
-        PIECES_ORDER
-    }
-
     fn from_row(row: &Row) -> Result<Option<Piece>, Error> {
         match <(u64, (u64, (Listed<u8>, ())))>::from_cells(row, 1)? {
             Some(cells) => Ok(Some(piece(cells))),
@@ -176,8 +154,6 @@ impl Stored for Piece {
 }
 
 const ARRIVALS: &str = "SELECT rowid, name, body, moment FROM arrivals ORDER BY rowid";
-
-const ARRIVALS_ORDER: &str = "SELECT coalesce((SELECT group_concat(rowid) FROM arrivals), '')";
 
 /// The row of these values.
 fn arrival(cells: (Text, (u64, (u64, ())))) -> Arrival
@@ -200,10 +176,6 @@ impl Stored for Arrival {
         ARRIVALS
     }
 
-    fn order_text() -> &'static str {
-        ARRIVALS_ORDER
-    }
-
     fn from_row(row: &Row) -> Result<Option<Arrival>, Error> {
         match <(Text, (u64, (u64, ())))>::from_cells(row, 1)? {
             Some(cells) => Ok(Some(arrival(cells))),
@@ -214,8 +186,6 @@ impl Stored for Arrival {
 
 const UPLOADS: &str =
     "SELECT rowid, name, size, md5, sha1, sha256, place, verdict FROM uploads ORDER BY rowid";
-
-const UPLOADS_ORDER: &str = "SELECT coalesce((SELECT group_concat(rowid) FROM uploads), '')";
 
 /// The row of these values.
 fn upload(cells: (Text, Printed<(Option<u64>, (Option<u64>, ()))>)) -> Upload
@@ -253,10 +223,6 @@ impl Stored for Upload {
         UPLOADS
     }
 
-    fn order_text() -> &'static str {
-        UPLOADS_ORDER
-    }
-
     fn from_row(row: &Row) -> Result<Option<Upload>, Error> {
         match <(Text, Printed<(Option<u64>, (Option<u64>, ()))>)>::from_cells(row, 1)? {
             Some(cells) => Ok(Some(upload(cells))),
@@ -267,8 +233,6 @@ impl Stored for Upload {
 
 const WANTS: &str =
     "SELECT rowid, upload, name, size, md5, sha1, sha256, here FROM wants ORDER BY rowid";
-
-const WANTS_ORDER: &str = "SELECT coalesce((SELECT group_concat(rowid) FROM wants), '')";
 
 /// The row of these values.
 fn want(cells: (u64, (Text, Printed<(bool, ())>))) -> Want
@@ -306,10 +270,6 @@ impl Stored for Want {
         WANTS
     }
 
-    fn order_text() -> &'static str {
-        WANTS_ORDER
-    }
-
     fn from_row(row: &Row) -> Result<Option<Want>, Error> {
         match <(u64, (Text, Printed<(bool, ())>))>::from_cells(row, 1)? {
             Some(cells) => Ok(Some(want(cells))),
@@ -320,8 +280,6 @@ impl Stored for Want {
 
 const ITEMS: &str =
     "SELECT rowid, suite, kind, package, architecture, version, component, source, paragraph FROM items ORDER BY rowid";
-
-const ITEMS_ORDER: &str = "SELECT coalesce((SELECT group_concat(rowid) FROM items), '')";
 
 /// The columns of an item from its version on.
 type Shown = (Text, (Text, (Text, (Listed<u8>, ()))));
@@ -361,10 +319,6 @@ impl Stored for Item {
         ITEMS
     }
 
-    fn order_text() -> &'static str {
-        ITEMS_ORDER
-    }
-
     fn from_row(row: &Row) -> Result<Option<Item>, Error> {
         match <(Text, (u64, (Text, (Text, Shown))))>::from_cells(row, 1)? {
             Some(cells) => Ok(Some(item(cells))),
@@ -375,8 +329,6 @@ impl Stored for Item {
 
 const REFS: &str =
     "SELECT rowid, item, number, path, size, md5, sha1, sha256 FROM refs ORDER BY rowid";
-
-const REFS_ORDER: &str = "SELECT coalesce((SELECT group_concat(rowid) FROM refs), '')";
 
 /// The row of these values.
 fn refers(cells: (u64, (u64, (Text, Printed<()>)))) -> Ref
@@ -414,10 +366,6 @@ impl Stored for Ref {
         REFS
     }
 
-    fn order_text() -> &'static str {
-        REFS_ORDER
-    }
-
     fn from_row(row: &Row) -> Result<Option<Ref>, Error> {
         match <(u64, (u64, (Text, Printed<()>)))>::from_cells(row, 1)? {
             Some(cells) => Ok(Some(refers(cells))),
@@ -427,8 +375,6 @@ impl Stored for Ref {
 }
 
 const FILES: &str = "SELECT rowid, path, body FROM files ORDER BY rowid";
-
-const FILES_ORDER: &str = "SELECT coalesce((SELECT group_concat(rowid) FROM files), '')";
 
 /// The row of these values.
 fn file(cells: (Text, (u64, ()))) -> File
@@ -450,10 +396,6 @@ impl Stored for File {
         FILES
     }
 
-    fn order_text() -> &'static str {
-        FILES_ORDER
-    }
-
     fn from_row(row: &Row) -> Result<Option<File>, Error> {
         match <(Text, (u64, ()))>::from_cells(row, 1)? {
             Some(cells) => Ok(Some(file(cells))),
@@ -463,8 +405,6 @@ impl Stored for File {
 }
 
 const TEXTS: &str = "SELECT rowid, path, body FROM texts ORDER BY rowid";
-
-const TEXTS_ORDER: &str = "SELECT coalesce((SELECT group_concat(rowid) FROM texts), '')";
 
 /// The row of these values.
 fn text(cells: (Text, (Listed<u8>, ()))) -> IndexText
@@ -486,10 +426,6 @@ impl Stored for IndexText {
         TEXTS
     }
 
-    fn order_text() -> &'static str {
-        TEXTS_ORDER
-    }
-
     fn from_row(row: &Row) -> Result<Option<IndexText>, Error> {
         match <(Text, (Listed<u8>, ()))>::from_cells(row, 1)? {
             Some(cells) => Ok(Some(text(cells))),
@@ -499,8 +435,6 @@ impl Stored for IndexText {
 }
 
 const DATES: &str = "SELECT rowid, suite, moment FROM dates ORDER BY rowid";
-
-const DATES_ORDER: &str = "SELECT coalesce((SELECT group_concat(rowid) FROM dates), '')";
 
 /// The row of these values.
 fn date(cells: (Text, (u64, ()))) -> Date
@@ -520,10 +454,6 @@ impl Stored for Date {
 
     fn rows_text() -> &'static str {
         DATES
-    }
-
-    fn order_text() -> &'static str {
-        DATES_ORDER
     }
 
     fn from_row(row: &Row) -> Result<Option<Date>, Error> {

@@ -3,9 +3,9 @@
 ghost use Rattle.std.specs.Prelude.{◌≤◌};
 
 use keep::{KeepFault, LATEST, PlainKeeper};
-use keep_tables::TableKeeper;
+use keep_tables::{InOrder, TableKeeper};
 use rules::Config;
-use sqlite::{Alter, Connection, MemStore};
+use sqlite::{Connection, MemStore};
 use std::alloc::{AllocError, Global};
 use story::{Makes, Story};
 
@@ -32,7 +32,7 @@ impl Makes<PlainKeeper> for Lists {
 }
 
 /// A store of a database in memory. Only what opens it names its type, since each function that does takes the prover long.
-pub trait InMemory: Alter {
+pub trait InMemory: InOrder {
     /// A connection to a new database.
     fn connect(alloc: Global) -> Result<Connection<Self>, AllocError>;
 }

@@ -1,9 +1,9 @@
 //! Archives from their first call on: in memory, in a database, and one that is opened again.
 
 use super::checks::{BOX, config_of, same};
-use once::{drive_created, drive_opened};
+use once::{InOrder, drive_created, drive_opened};
 use queue::{Arrived, Command, Outcome, drive_anew};
-use sqlite::{Alter, Connection};
+use sqlite::Connection;
 use std::alloc::{AllocError, Global};
 use std::process::Abort;
 use std::test::Fail;
@@ -41,7 +41,7 @@ fn expect_anew(rt: &impl Abort, alloc: Global, commands: &[Command]) -> Result<(
 }
 
 /// Makes the commands over the archive that a database keeps, where the file has arrived.
-fn expect_opened<S: Alter + Drop>(
+fn expect_opened<S: InOrder + Drop>(
     rt: &impl Abort,
     alloc: Global,
     connection: Connection<S>,
@@ -55,7 +55,7 @@ fn expect_opened<S: Alter + Drop>(
 }
 
 /// Makes the commands over an archive in a database without tables, and then once more over what that keeps.
-fn expect_created<S: Alter + Drop>(
+fn expect_created<S: InOrder + Drop>(
     rt: &impl Abort,
     alloc: Global,
     connection: Connection<S>,

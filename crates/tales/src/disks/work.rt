@@ -3,7 +3,7 @@
 use crate::disks::task::Task;
 use keep::KeepFault;
 use keep_rows::fault_of;
-use keep_tables::TableKeeper;
+use keep_tables::{InOrder, TableKeeper};
 use queue::Archive;
 use rows::{Unread, said};
 use rules::Config;
@@ -115,7 +115,7 @@ fn both(alloc: Global, within: Answer, behind: Answer) -> Answer {
 }
 
 /// Opens the archive in a transaction, and again behind its end.
-fn opened_twice<S: Alter + Drop>(
+fn opened_twice<S: InOrder + Drop>(
     alloc: Global,
     connection: Connection<S>,
 ) -> (Connection<S>, Answer) {
@@ -144,7 +144,7 @@ impl Work<'_> {
     }
 
     /// Does it, and gives the connection back.
-    pub fn perform<S: Alter + Drop>(
+    pub fn perform<S: InOrder + Drop>(
         self,
         alloc: Global,
         connection: Connection<S>,

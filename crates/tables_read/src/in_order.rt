@@ -1,0 +1,22 @@
+//! Stores that keep what was committed in order.
+
+ghost use Rattle.std.specs.Prelude.{IsTrue};
+ghost use Rattle.tables_read.specs.InOrder.{IsInOrder};
+ghost use Rattle.tables_read.specs.Stores.{file_in_order, memory_in_order};
+
+use sqlite::{Alter, FileStore, MemStore};
+use sqlite_disk::Disk;
+
+/// A store that keeps what was committed in order, as SQLite's file format asks (fileformat2.html, section 1.6): while it is open, the
+/// rows of each table rise by their rowids. Then a reader of all rows need not ask in which order they are stored.
+pub trait InOrder: Alter {
+    ghost in_order: { (s : Self) → IsTrue (Self.Store.view s).is_open → IsInOrder (Self.Store.view s) };
+}
+
+impl<D: Disk> InOrder for FileStore<D> {
+    ghost in_order = { file_in_order };
+}
+
+impl InOrder for MemStore {
+    ghost in_order = { λ s _. memory_in_order s };
+}
