@@ -36,6 +36,14 @@ allowed-lines (b ∷ bs) h = by_kind (is_newline b) (slice_split is_newline bs) 
     by_kind true parts k = (refl, k)
     by_kind false parts k = onto parts k
 
+-- no line of a text without a refused byte has one
+pub clean-lines : (text : List ℕ) → list_any is_refused text ≡ false → AreAllowed (lines text)
+clean-lines text h = allowed-lines text (each text h)
+  where
+    each : (bs : List ℕ) → list_any is_refused bs ≡ false → AllByRecursion (λ b. is_refused b ≡ false) bs
+    each [] k = tt
+    each (b ∷ bs) k = let r = or_false (is_refused b) (list_any is_refused bs) k in (r.0, each bs r.1)
+
 lines-allowed : (text : List ℕ) → AreAllowed (lines text) → AllByRecursion (λ b. is_refused b ≡ false) text
 lines-allowed [] h = tt
 lines-allowed (b ∷ bs) h = by_kind (is_newline b) refl (slice_split is_newline bs) h (lines-allowed bs)

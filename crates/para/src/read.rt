@@ -12,6 +12,7 @@ ghost use Rattle.para.specs.ReaderState.{IsRefused};
 
 use crate::fault::ParaFault;
 use crate::field::Paragraph;
+use crate::line::has_refused_byte;
 use crate::reader::Reader;
 use std::alloc::Global;
 use std::str;
@@ -30,13 +31,14 @@ fn split_line(text: &str) -> (&str, Option<&str>)
 fn read_lines<'a>(alloc: Global, text: &'a str) -> Result<Vec<Paragraph<'a>>, ParaFault>
     ensures { MatchResult result (λ found. reading start 0 (lines text.now) ≡ Ok found.items) (λ fault. IsRefused fault (reading start 0 (lines text.now))) }
 {
+    let is_clean = !has_refused_byte(text);
     let mut reader = Reader::new(alloc);
     let mut rest = Some(text);
     let mut number = 0;
     while let Some(here) = rest {
         let (line, behind) = split_line(here);
         number += 1;
-        reader.line(number, line)?;
+        reader.line(number, line, is_clean)?;
         rest = behind;
     }
     Ok(reader.finish()?)

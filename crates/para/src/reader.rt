@@ -57,15 +57,16 @@ impl<'a> Reader<'a> {
         }
     }
 
-    /// Takes the next line.
-    pub fn line(&mut self, number: usize, line: &'a str) -> Result<(), ParaFault>
+    /// Takes the next line. Where the text is clean, it has no refused byte, and none is looked for.
+    pub fn line(&mut self, number: usize, line: &'a str, is_clean: bool) -> Result<(), ParaFault>
+        requires clean { is_clean ≡ true → list_any is_refused line.now ≡ false }
         requires started { IsStarted (state self.old) }
         requires names { HasNames self.old }
         ensures judged { IsJudged result (line_fault (names_of (state self.old)) number line.now) }
         ensures ok { OnOk result (state self.new ≡ after_line (state self.old) line.now) }
         ensures names { OnOk result (HasNames self.new) }
     {
-        if has_refused_byte(line) {
+        if !is_clean && has_refused_byte(line) {
             return Err(ParaFault::RefusedByte(number));
         }
         match line.as_bytes() {
