@@ -1,4 +1,6 @@
 //! A line of a list: its words, and what each has to be.
+//!
+//! A test of bytes looks at all of them and does not branch, so that many are tested at once.
 
 ghost use Rattle.std.specs.Prelude.{◌≡◌, ◌==◌, ◌<◌, ◌&&◌, nat_lt, nat_le, slice_index, true, length, map, IfOk};
 ghost use Rattle.std.specs.Char.{is_ascii_digit};
@@ -92,7 +94,11 @@ fn has_empty_word(line: &Line<'_>) -> bool
 fn has_tab(line: &Line<'_>) -> bool
     ensures { result ≡ list_any is_tab line.now }
 {
-    line.text.bytes().any(|c| c == b'\t')
+    let mut found = false;
+    for c in line.text.as_bytes() {
+        found |= *c == b'\t';
+    }
+    found
 }
 
 fn has_words(form: Form, line: &Line<'_>) -> bool
@@ -107,7 +113,7 @@ fn has_words(form: Form, line: &Line<'_>) -> bool
 fn is_lower_hex(c: u8) -> bool
     ensures { result ≡ is_lower_hex c }
 {
-    c.is_ascii_digit() || (b'a'..=b'f').contains(&c)
+    c.is_ascii_digit() | (b'a'..=b'f').contains(&c)
 }
 
 /// Whether a word is a digest of so many bytes.
@@ -122,13 +128,21 @@ fn is_digest(bytes: usize, word: &str) -> bool
 fn is_lower_hex_text(word: &str) -> bool
     ensures { result ≡ list_all is_lower_hex word.now }
 {
-    word.bytes().all(is_lower_hex)
+    let mut all = true;
+    for c in word.as_bytes() {
+        all &= is_lower_hex(*c);
+    }
+    all
 }
 
 fn is_digits(word: &str) -> bool
     ensures { result ≡ list_all is_ascii_digit word.now }
 {
-    word.bytes().all(|c| c.is_ascii_digit())
+    let mut all = true;
+    for c in word.as_bytes() {
+        all &= c.is_ascii_digit();
+    }
+    all
 }
 
 /// Whether the size of a file is at most the largest.
@@ -166,7 +180,7 @@ fn is_size(word: &str) -> bool
 fn is_name_character(c: u8) -> bool
     ensures { result ≡ is_name_character c }
 {
-    c.is_ascii_alphanumeric() || c == b'.' || c == b'+' || c == b'~' || c == b'_' || c == b'-'
+    c.is_ascii_alphanumeric() | (c == b'.') | (c == b'+') | (c == b'~') | (c == b'_') | (c == b'-')
 }
 
 /// Whether a word is the name of a file: 1 to 200 letters, digits and `. + ~ _ -`, the first a letter or digit (own rule of
@@ -187,7 +201,11 @@ pub fn is_file_name(word: &str) -> bool
 fn are_name_characters(bytes: &[u8]) -> bool
     ensures { result ≡ list_all is_name_character bytes.now }
 {
-    bytes.iter().all(|c| is_name_character(*c))
+    let mut all = true;
+    for c in bytes {
+        all &= is_name_character(*c);
+    }
+    all
 }
 
 /// The checks that failed before, or that a line fails.
