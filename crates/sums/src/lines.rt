@@ -60,11 +60,12 @@ impl<'a> Model for Line<'a> {
 }
 
 impl<'a> Line<'a> {
-    /// Splits a line.
-    fn new(alloc: Global, text: &'a str) -> Result<Line<'a>, AllocError>
+    /// Splits a line, with room for so many words at once.
+    fn new(alloc: Global, room: usize, text: &'a str) -> Result<Line<'a>, AllocError>
         ensures { IfOk result (λ line. line ≡ text.now) }
     {
-        let words = text.split(' ').collect(alloc)?;
+        let mut words = Vec::with_capacity(alloc, room)?;
+        words.extend(text.split(' '))?;
         Ok(Line { text, words })
     }
 }
@@ -252,7 +253,7 @@ pub fn split_list<'a>(
     let mut failed = before;
     let mut lines = Vec::new(alloc);
     for text in texts {
-        let line = Line::new(alloc, text)?;
+        let line = Line::new(alloc, form.words, text)?;
         failed = with_line(failed, form, &line);
         if !any_failed(failed) {
             lines.push(line)?;
