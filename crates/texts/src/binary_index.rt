@@ -9,7 +9,8 @@ ghost use Rattle.texts.specs.Stanzas.{is_named, file_fields, package_fields, pac
 
 use crate::position::{architecture_name, component_name};
 use crate::stanza::{
-    Digest, has_name, paragraph_in, push_digest_field, push_if, push_line_field, push_number_field,
+    Digest, USUAL_STANZA, has_name, paragraph_in, push_digest_field, push_if, push_line_field,
+    push_number_field,
 };
 use para::Field;
 use rules::Config;
@@ -82,7 +83,7 @@ fn push_files(alloc: Global, files: &[PoolFile], out: &mut Vec<u8>) -> Result<()
 fn package_stanza(alloc: Global, item: &Item) -> Result<Vec<u8>, AllocError>
     ensures { IfOk result (λ stanza. stanza.items ≡ package_stanza item.now) }
 {
-    let mut stanza = Vec::new(alloc);
+    let mut stanza = Vec::with_capacity(alloc, USUAL_STANZA)?;
     push_paragraph(alloc, item.paragraph.as_str(), &mut stanza)?;
     push_files(alloc, item.files.as_slice(), &mut stanza)?;
     stanza.push(b'\n')?;

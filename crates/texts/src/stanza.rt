@@ -14,6 +14,9 @@ use sums::Print;
 /// The most bytes of a paragraph that an item carries: those of a .dsc.
 const LIMIT: usize = 1_048_576;
 
+/// For how many bytes a stanza gets room at once. It grows where it has more.
+pub const USUAL_STANZA: usize = 1024;
+
 /// The paragraph that a text spells, or nothing where it spells none.
 #[tactic(auto, unfolding(crate::specs::Stanzas::fields_of_text))]
 pub fn paragraph_in<'a>(alloc: Global, text: &'a str) -> Result<Option<Paragraph<'a>>, AllocError>
