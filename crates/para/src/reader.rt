@@ -1,16 +1,18 @@
 //! Lines, one by one, into paragraphs.
 
-ghost use Rattle.std.specs.Prelude.{◌≡◌, IfOk, OnOk, true, false};
+ghost use Rattle.std.specs.Prelude.{◌≡◌, ◌++◌, [], ◌∷◌, IfOk, OnOk, None, true, false, map, not};
 ghost use Rattle.std.specs.List.{list_any};
 ghost use Rattle.para.specs.Bytes.{is_refused, is_empty, begins_with_blank};
-ghost use Rattle.para.specs.Field.{field_value};
+ghost use Rattle.para.specs.Field.{field_value, field_values};
 ghost use Rattle.para.specs.Fault.{line_fault, IsJudged};
+ghost use Rattle.para.specs.ReaderState.{AreLowered};
 ghost use Rattle.para.specs.Reading.{trimmed, start, names_of, finished, IsStarted, after_field, after_paragraph, after_line};
 
 use crate::blanks::{trim_end_blanks, trim_start_blanks, without_blank};
 use crate::fault::ParaFault;
 use crate::field::{Field, Paragraph};
 use crate::line::{has_content, has_refused_byte, is_name, lower_name, split_name};
+use crate::named::find_named;
 use std::alloc::{AllocError, Global};
 use std::collections::BTreeSet;
 use std::mem;
@@ -25,8 +27,25 @@ pub struct Reader<'a> {
     fields: Vec<Field<'a>>,
     /// The field that did not, with the blanks behind its last line.
     current: Option<Field<'a>>,
-    /// The names of them all, in lower case.
+    /// Whether there are so many of these that their names are looked up in order.
+    has_many: bool,
+    /// The names of them all, in lower case, where there are many.
     names: BTreeSet<String>,
+}
+
+/// Of fewer fields than these each is compared with a new name. The names of more are looked up in order, so that a
+/// text of many fields is read as quickly.
+const FEW: usize = 16;
+
+/// The names of fields, in lower case.
+fn lower_names(alloc: Global, fields: &[Field<'_>]) -> Result<BTreeSet<String>, AllocError>
+    ensures { IfOk result (λ names. AreLowered names (map (λ f. f.name) (field_values fields.now))) }
+{
+    let mut names = BTreeSet::new(alloc);
+    for field in fields {
+        names.insert(lower_name(alloc, field.name)?)?;
+    }
+    Ok(names)
 }
 
 /// Drops the blanks behind the last line of a value.
@@ -42,7 +61,7 @@ fn trim_last_line(field: &mut Field<'_>)
 }
 
 impl<'a> Reader<'a> {
-    ghost use Rattle.para.specs.ReaderState.{state, HasNames};
+    ghost use Rattle.para.specs.ReaderState.{state, HasNames, is_taken};
 
     pub fn new(alloc: Global) -> Reader<'a>
         ensures start { state result ≡ start }
@@ -53,6 +72,7 @@ impl<'a> Reader<'a> {
             paragraphs: Vec::new(alloc),
             fields: Vec::new(alloc),
             current: None,
+            has_many: false,
             names: BTreeSet::new(alloc),
         }
     }
@@ -102,7 +122,7 @@ impl<'a> Reader<'a> {
             return Err(ParaFault::NoColon(number));
         };
         self.end_field()?;
-        let is_new = self.names.insert(lower_name(self.alloc, name)?)?;
+        let is_new = self.take_name(name)?;
         if !is_new {
             return Err(ParaFault::FieldTwice(number));
         }
@@ -112,6 +132,24 @@ impl<'a> Reader<'a> {
             more: Vec::new(self.alloc),
         });
         Ok(())
+    }
+
+    /// Says whether the name is new among the fields that ended, and keeps it where there are many.
+    fn take_name(&mut self, name: &str) -> Result<bool, AllocError>
+        requires ended { (state self.old).current ≡ None }
+        requires names { HasNames self.old }
+        ensures same { state self.new ≡ state self.old }
+        ensures new { IfOk result (λ new. new ≡ not (is_taken (names_of (state self.old)) name.now)) }
+        ensures names { IfOk result (λ new. new ≡ true → self.new.has_many ≡ true → AreLowered self.new.names (names_of (state self.old) ++ name.now ∷ [])) }
+    {
+        if !self.has_many {
+            if self.fields.len() < FEW {
+                return Ok(find_named(&self.fields, name).is_none());
+            }
+            self.names = lower_names(self.alloc, &self.fields)?;
+            self.has_many = true;
+        }
+        Ok(self.names.insert(lower_name(self.alloc, name)?)?)
     }
 
     fn continue_field(&mut self, number: usize, line: &'a str) -> Result<(), ParaFault>
@@ -137,7 +175,7 @@ impl<'a> Reader<'a> {
 
     fn end_field(&mut self) -> Result<(), AllocError>
         ensures ok { OnOk result (state self.new ≡ after_field (state self.old)) }
-        ensures names { self.new.names ≡ self.old.names }
+        ensures names { (self.new.names ≡ self.old.names) × (self.new.has_many ≡ self.old.has_many) }
     {
         if let Some(mut field) = self.current.take() {
             trim_last_line(&mut field);
@@ -152,6 +190,7 @@ impl<'a> Reader<'a> {
     {
         self.end_field()?;
         self.names.clear();
+        self.has_many = false;
         if !self.fields.is_empty() {
             let fields = mem::replace(&mut self.fields, Vec::new(self.alloc));
             self.paragraphs.push(Paragraph { fields })?;
