@@ -10,8 +10,7 @@ ghost use Rattle.texts.specs.Stanzas.{is_named, is_placed, line_field, as_packag
 
 use crate::position::component_name;
 use crate::stanza::{
-    Digest, USUAL_STANZA, has_name, paragraph_in, push_field, push_if, push_line_field,
-    push_list_line,
+    Digest, has_name, paragraph_in, push_field, push_if, push_line_field, push_list_line,
 };
 use para::Field;
 use rules::Config;
@@ -157,7 +156,7 @@ fn push_lists(alloc: Global, files: &[PoolFile], out: &mut Vec<u8>) -> Result<()
 fn source_stanza(alloc: Global, item: &Item) -> Result<Vec<u8>, AllocError>
     ensures { IfOk result (λ stanza. stanza.items ≡ source_stanza item.now) }
 {
-    let mut stanza = Vec::with_capacity(alloc, USUAL_STANZA)?;
+    let mut stanza = Vec::new(alloc);
     push_paragraph(alloc, item.paragraph.as_str(), &mut stanza)?;
     push_directory(
         alloc,
