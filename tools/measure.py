@@ -71,24 +71,31 @@ def numbers(word):
     return [int(part) for part in word.split(",") if part]
 
 
+@contextlib.contextmanager
 def started(words, folder, out):
-    """Starts a command line by a shell that ends, so that it is a child of this script then. Answers its number.
+    """A command line that is started by a shell that ends, so that it is a child of this script then: its number. It begins
+    its work with the `with`, so that it does not end before the shell.
 
     The most memory that Linux tells of a process is no less than what its parent had at its start, and a shell has little."""
     process = ctypes.CDLL(None)
+    held, let_go = os.pipe()
     process.prctl(PR_SET_CHILD_SUBREAPER, 1, 0, 0, 0)
-    shell = ["sh", "-c", '"$@" 2>&1 & echo $! >&2', "sh", *words]
-    told = subprocess.run(shell, cwd=folder, stdin=subprocess.DEVNULL, stdout=out, stderr=subprocess.PIPE, check=True).stderr
+    shell = ["sh", "-c", 'exec 3<&0; { read -r _ <&3; exec "$@" 3<&-; } 2>&1 & echo $! >&2', "sh", *words]
+    told = subprocess.run(shell, cwd=folder, stdin=held, stdout=out, stderr=subprocess.PIPE, check=True).stderr
     process.prctl(PR_SET_CHILD_SUBREAPER, 0, 0, 0, 0)
-    return int(told)
+    os.close(held)
+    os.write(let_go, b"\n")
+    os.close(let_go)
+    yield int(told)
 
 
 def line(words, folder=None, status=0):
     """Runs a command line to its end. Answers what it took, and what it printed on both outputs."""
     with tempfile.TemporaryFile() as out:
-        start = time.perf_counter()
-        _, ended, used = os.wait4(started(words, folder, out), 0)
-        elapsed = time.perf_counter() - start
+        with started(words, folder, out) as number:
+            start = time.perf_counter()
+            _, ended, used = os.wait4(number, 0)
+            elapsed = time.perf_counter() - start
         out.seek(0)
         printed = out.read()
     if os.waitstatus_to_exitcode(ended) != status:
