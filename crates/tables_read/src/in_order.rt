@@ -7,7 +7,7 @@ ghost use Rattle.tables_read.specs.Stores.{file_in_order, memory_in_order};
 use sqlite::{Alter, FileStore, MemStore};
 use sqlite_disk::Disk;
 
-/// A store that keeps what was committed in order, as SQLite's file format asks (fileformat2.html, section 1.6): while it is open, the
+/// A store that keeps what was committed in order, as the format of database files asks of its b-trees: while it is open, the
 /// rows of each table rise by their rowids. Then a reader of all rows need not ask in which order they are stored.
 pub trait InOrder: Alter {
     ghost in_order: { (s : Self) → IsTrue (Self.Store.view s).is_open → IsInOrder (Self.Store.view s) };
