@@ -1,5 +1,5 @@
 -- The upload of a .changes all of whose files have arrived.
-use Rattle.std.proofs.Common.{◌≡◌, ℕ, Bool, true, false, ◌||◌, ◌&&◌, cond, if◌then◌else◌, List, [], ◌∷◌, length, map, get_or, find, zip, refl, ap, sym, ◌∙◌, subst, unwrap_or, All, bytes_eq, Some, Ok}
+use Rattle.std.proofs.Common.{◌≡◌, ℕ, Bool, true, false, ◌||◌, ◌&&◌, cond, if◌then◌else◌, List, [], ◌∷◌, map, get_or, find, zip, refl, ap, sym, ◌∙◌, subst, unwrap_or, All, bytes_eq, Some, Ok}
 use Rattle.std.proofs.lemmas.List.{length-map}
 use Rattle.std.proofs.lemmas.List.Elements.{All-map}
 use Rattle.std.proofs.lemmas.List.Sums.{AllPass-from_list_all}

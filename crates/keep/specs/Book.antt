@@ -1,5 +1,5 @@
 -- What a keeper keeps, as contracts see it: the book.
-use Rattle.std.specs.Prelude.{◌≡◌, ℕ, ◌+◌, ◌*◌, Bool, true, ◌&&◌, ◌||◌, not, nat_eq, nat_lt, if◌then◌else◌, List, [], ◌∷◌, ◌++◌, map, filter, find, length, codes, bytes_eq, Option, Some, None, option_map, option_and_then, unwrap_or}
+use Rattle.std.specs.Prelude.{◌≡◌, ℕ, ◌+◌, ◌*◌, Bool, true, false, ◌&&◌, ◌||◌, not, nat_eq, nat_lt, if◌then◌else◌, List, [], ◌∷◌, ◌++◌, map, filter, find, length, codes, bytes_eq, Option, Some, None, option_map, option_and_then, unwrap_or}
 use Rattle.std.specs.Ordering.{ordering_then, nat_cmp, is_gt}
 use Rattle.std.specs.declared.cmp.Ordering.{Ordering}
 use Rattle.std.specs.List.{list_any, list_all, ends_with, filter_map, fold, enumerate_from}
@@ -174,6 +174,11 @@ waiting_list book = map (λ c. record { name = c.name; missing = length (missing
 -- the index text at a path
 abbrev pub text_at : Book → List ℕ → Option (List ℕ)
 text_at book path = index_text book.config book.shown book.dates path
+
+-- the text is the one that is there
+unfoldable pub is_kept : Option (List ℕ) → List ℕ → Bool
+is_kept None text = false
+is_kept (Some kept) text = bytes_eq kept text
 
 -- ---- changes
 

@@ -1,9 +1,12 @@
 //! What a change makes of what is kept.
 
+ghost use Rattle.std.specs.Prelude.{◌≡◌};
+ghost use Rattle.sums.specs.Prints.{print as print_of};
+
 use para::{Listed, Text};
 use rules::Verdict;
 use suites::Plan;
-use sums::Print;
+use sums::{Print, print_of};
 
 /// A judged upload: the name and the print of its .changes, and its verdict.
 #[derive(Drop)]
@@ -21,11 +24,29 @@ pub struct Step {
     pub plan: Plan,
 }
 
-/// An index text that a change writes: its path without a leading slash, and the whole text.
+/// An index text that a change writes: its path without a leading slash, the whole text, and the text's print.
 #[derive(Drop)]
 pub struct IndexText {
     pub path: Text,
     pub text: Listed<u8>,
+    pub print: Print,
+    ghost printed: { print ≡ print_of text },
+}
+
+impl IndexText {
+    ghost use Rattle.std.specs.Prelude.{string_bytes};
+
+    /// The text at a path without a leading slash.
+    pub fn new(path: String, text: Vec<u8>) -> IndexText
+        ensures { (result.path ≡ string_bytes path) × (result.text ≡ text.items) }
+    {
+        let print = print_of(&text);
+        IndexText {
+            path: Text::from_string(path),
+            text: Listed::from_vec(text),
+            print,
+        }
+    }
 }
 
 /// A change, made whole or not at all: its steps in order. The moment, in seconds since 1970-01-01 00:00:00 UTC, becomes

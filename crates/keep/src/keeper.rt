@@ -2,12 +2,13 @@
 
 ghost use Rattle.std.specs.Prelude.{◌≡◌, ◌≤◌, ◌++◌, ◌⊎◌, [], ℕ, Bool, List, Option, Some, None, IfOk, IfErr, OnOk, OnErr, length, map, not};
 ghost use Rattle.std.specs.Option.{option_map};
-ghost use Rattle.keep.specs.Book.{Book, amended, at_moment, due, ended, has_arrival, latest, shown_past, span, text_at, upload_of, waiting_list, with_delivery};
+ghost use Rattle.keep.specs.Book.{Book, amended, at_moment, due, ended, has_arrival, is_kept, latest, shown_past, span, text_at, upload_of, waiting_list, with_delivery};
 ghost use Rattle.keep.specs.Keeping.{Apart, ApartWith, HasEachBody, IsDeliverable, IsSound, IsWholeFor, Lasts, Leaves, MayAnswer, Reads, Stays, TakesPiece, sign_of};
 ghost use Rattle.sums.specs.Prints.{print as print_of};
 
-use crate::change::{Change, Judgement, Waiting};
+use crate::change::{Change, IndexText, Judgement, Waiting};
 use crate::fault::KeepFault;
+use crate::printing::is_kept;
 use rules::Config;
 use std::alloc::Global;
 use suites::{Shelves, Upload};
@@ -203,6 +204,18 @@ pub trait Keeper {
         ensures served { is_clean self.new → OnOk result (is_open self.new) }
         ensures print { is_clean self.new → IfOk result (λ found. found ≡ option_map print_of (text_at (book self.old) path.now)) }
         ensures cause { IfErr result (MayAnswer may_fail) };
+
+    /// Whether the index text at the path of this one is this text. A keeper that knows of another print there need not look
+    /// at the text.
+    fn keeps_text(&mut self, alloc: Global, text: &IndexText) -> Result<bool, KeepFault>
+        ensures reads { Reads is_clean is_open faults book may_leave self.old self.new }
+        ensures served { is_clean self.new → OnOk result (is_open self.new) }
+        ensures kept { is_clean self.new → IfOk result (λ kept. kept ≡ is_kept (text_at (book self.old) text.now.path) text.now.text) }
+        ensures cause { IfErr result (MayAnswer may_fail) }
+    {
+        let kept = self.text(alloc, text.path.as_str())?;
+        Ok(is_kept(&kept, text.text.as_slice()))
+    }
 
     /// The uploads without a verdict, in the order of `complete_uploads`, each with the number of its entries that have
     /// not arrived. Of the arrivals, those are looked at that count at the moment.

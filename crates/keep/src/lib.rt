@@ -17,7 +17,7 @@ pub use change::{Change, IndexText, Judgement, Step, Waiting};
 pub use fault::KeepFault;
 pub use keeper::{Keeper, LATEST, PIECE_SIZE};
 pub use plain::PlainKeeper;
-pub use printing::print_of_text;
+pub use printing::{is_kept, print_of_text};
 pub use steps::{
     append_judgements, copied_judgements, dates_after, room_for_judgements, some_changes_suite,
 };

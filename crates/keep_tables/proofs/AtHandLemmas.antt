@@ -1,17 +1,19 @@
 -- What is held between calls, as they leave it.
-use Rattle.std.proofs.Common.{◌≡◌, ◌++◌, ℕ, Bool, true, false, true≢false, cond, not, if◌then◌else◌, List, [], ◌∷◌, filter, find, Option, None, Some, IfSome, Result, Ok, Err, is_ok, bytes_eq, Contains, inl, inr, refl, sym, ap, subst, ◌∙◌}
+use Rattle.std.proofs.Common.{◌≡◌, ◌≢◌, ◌++◌, ℕ, Bool, true, false, true≢false, cond, not, if◌then◌else◌, List, [], ◌∷◌, filter, find, Option, None, Some, IfSome, Result, Ok, Err, is_ok, bytes_eq, Contains, inl, inr, refl, sym, ap, subst, ◌∙◌}
 use Rattle.std.specs.Option.{option_map}
 use Rattle.std.proofs.lemmas.List.Elements.{Contains-append_cases}
+use Rattle.std.proofs.lemmas.Option.{same_Some}
 use Rattle.std.proofs.lemmas.Slice.Eq.{bytes_eq-Decides}
 use Rattle.sqlite.specs.Effect.{Database}
-use Rattle.sums.proofs.Members.{any_true, from_map, here, no_member, there, which}
-use Rattle.sums.specs.Prints.{print as print_of}
+use Rattle.sums.proofs.Members.{all_at, any_true, from_map, here, no_member, there, which}
+use Rattle.sums.specs.Prints.{print as print_of, same_print}
 use Rattle.sums.specs.declared.print.Print.{Print}
 use Rattle.rules.specs.Values.{ConfigValue}
 use Rattle.suites.proofs.ListMembers.{from_filter}
 use Rattle.suites.specs.Shelves.{ShelvesValue}
 use Rattle.texts.specs.Indices.{index_text}
-use Rattle.keep.specs.Book.{Book, amended, dates_past, shown_past}
+use Rattle.keep.proofs.Prints.{same_print-Decides}
+use Rattle.keep.specs.Book.{Book, amended, dates_past, is_kept, shown_past, text_at}
 use Rattle.keep.specs.Keeping.{AreRenewed}
 use Rattle.keep.specs.declared.change.Change.{Change}
 use Rattle.keep.specs.declared.change.IndexText.{IndexText}
@@ -21,7 +23,7 @@ use Rattle.kept.specs.Archives.{KeepsArchive, book_of}
 use Rattle.kept.specs.Kept.{book_in}
 use Rattle.kept.specs.Shown.{shown_in}
 use Rattle.kept.proofs.CallLemmas.{shown_here}
-use Rattle.keep_tables.specs.AtHand.{AreAtHand, AreKnown, NotesAtMost, is_print_of, is_renewed}
+use Rattle.keep_tables.specs.AtHand.{AreAtHand, AreKnown, AreRenewedAtMost, IsOf, NotesAtMost, is_of_another, is_print_of, is_renewed}
 use Rattle.keep_tables.specs.declared.known.TextPrint.{TextPrint}
 
 -- ---- shelves
@@ -88,21 +90,61 @@ noted_known config shown dates old new path print notes is known p at = elim (no
 no_two : (b : Bool) → b ≡ true → not b ≡ true → ⊥
 no_two b is is_not = true≢false (sym is_not ∙ ap not is)
 
--- what a change renews is forgotten, and the other texts stay
-known_amended : (book : Book) (change : Change) (prints : List TextPrint) → AreRenewed book (amended book change) change.texts → AreKnown book.config book.shown book.dates prints
-    → AreKnown book.config (shown_past book.shown change.steps) (dates_past change.moment book.dates change.steps) (filter (λ p. not (is_renewed change.texts p.path)) prints)
+-- a print that is known of another text says that this one is not there
+pub other_kept : (kept : Option (List ℕ)) (known : Option Print) (text : IndexText) → is_of_another known text ≡ true → IfSome known (λ p. option_map print_of kept ≡ Some p)
+    → is_kept kept text.text ≡ false
+unfolding is_kept
+other_kept kept None text other here = absurd (true≢false (sym other))
+other_kept None (Some p) text other here = refl
+other_kept (Some body) (Some p) text other here = by_case (bytes_eq body text.text) refl
+  where
+    by_case : (b : Bool) → bytes_eq body text.text ≡ b → bytes_eq body text.text ≡ false
+    by_case false is = is
+    by_case true is =
+        let same : print_of body ≡ text.print = ap print_of ((bytes_eq-Decides body text.text).0 is) ∙ sym text.printed in
+        absurd (no_two (same_print p text.print) ((same_print-Decides p text.print).1 (same_Some p (print_of body) (sym here) ∙ same)) other)
+
+-- ---- what a change renews
+
+not_true : (b : Bool) → not b ≡ true → b ≡ false
+not_true true e = absurd (true≢false (sym e))
+not_true false e = refl
+
+-- what is forgotten first
+pub forgotten : (old new : List TextPrint) (texts : List IndexText) → new ≡ filter (λ p. not (is_renewed texts p.path)) old → AreRenewedAtMost old texts new
+forgotten old new texts is p at =
+    let was = from_filter (λ (q : TextPrint). not (is_renewed texts q.path)) p old (subst (λ (ps : List TextPrint). Contains ps p) is at) in
+    inl (was.0, not_true (is_renewed texts p.path) was.1)
+
+-- one more of the texts is noted
+pub noted_more : (old now new : List TextPrint) (texts : List IndexText) (text : IndexText) → Contains texts text → NotesAtMost now text.path (Some text.print) new
+    → AreRenewedAtMost old texts now → AreRenewedAtMost old texts new
+noted_more old now new texts text member notes before p at = elim (notes p at) [
+  | inl there ↦ before p there
+  | inr own ↦ inr (text, member, record { path = own.0; print = same_Some p.print text.print (sym own.1) })
+]
+
+-- the prints of what a change renews are known, and the other texts stay
+known_amended : (book : Book) (change : Change) (old new : List TextPrint) → AreRenewed book (amended book change) change.texts → AreRenewedAtMost old change.texts new
+    → AreKnown book.config book.shown book.dates old → AreKnown book.config (shown_past book.shown change.steps) (dates_past change.moment book.dates change.steps) new
 unfolding amended
-known_amended book change prints renewed known p at =
-    let was = from_filter (λ (q : TextPrint). not (is_renewed change.texts q.path)) p prints at in
-    elim (renewed.rest p.path) [
-      | inl named ↦
-          let text = from_map (λ (t : IndexText). t.path) p.path change.texts named in
-          absurd (no_two (is_renewed change.texts p.path) (any_true (λ (t : IndexText). bytes_eq t.path p.path) change.texts text.0 text.1 ((bytes_eq-Decides text.0.path p.path).1 text.2)) was.1)
-      | inr same ↦ ap (option_map print_of) (sym same) ∙ known p was.0
+known_amended book change old new renewed notes known p at =
+    let now = index_text book.config (shown_past book.shown change.steps) (dates_past change.moment book.dates change.steps) in
+    elim (notes p at) [
+      | inl was ↦ elim (renewed.rest p.path) [
+        | inl named ↦
+            let text = from_map (λ (t : IndexText). t.path) p.path change.texts named in
+            absurd (true≢false (sym (any_true (λ (t : IndexText). bytes_eq t.path p.path) change.texts text.0 text.1 ((bytes_eq-Decides text.0.path p.path).1 text.2)) ∙ was.1))
+        | inr same ↦ ap (option_map print_of) (sym same) ∙ known p was.0
+      ]
+      | inr own ↦
+          let text : IndexText = own.0 in
+          let there : now text.path ≡ Some text.text = (all_at (λ (t : IndexText). (text_at (amended book change) t.path ≡ Some t.text) × (text_at book t.path ≢ Some t.text)) change.texts text renewed.named own.1).0 in
+          ap (λ path. option_map print_of (now path)) own.2.path ∙ ap (option_map print_of) there ∙ ap Some (sym text.printed ∙ sym own.2.print)
     ]
 
-pub known_past : (db : Database) (config : ConfigValue) (judged : List Judgement) (shown : ShelvesValue) (dates : List ℕ) (change : Change) (prints : List TextPrint)
-    → AreRenewed (book_of db config judged shown dates) (amended (book_of db config judged shown dates) change) change.texts → AreKnown config shown dates prints
-    → AreKnown config (shown_past shown change.steps) (dates_past change.moment dates change.steps) (filter (λ p. not (is_renewed change.texts p.path)) prints)
+pub known_past : (db : Database) (config : ConfigValue) (judged : List Judgement) (shown : ShelvesValue) (dates : List ℕ) (change : Change) (old new : List TextPrint)
+    → AreRenewed (book_of db config judged shown dates) (amended (book_of db config judged shown dates) change) change.texts → AreRenewedAtMost old change.texts new
+    → AreKnown config shown dates old → AreKnown config (shown_past shown change.steps) (dates_past change.moment dates change.steps) new
 unfolding book_in
-known_past db config judged shown dates change prints renewed known = known_amended (book_of db config judged shown dates) change prints renewed known
+known_past db config judged shown dates change old new renewed notes known = known_amended (book_of db config judged shown dates) change old new renewed notes known

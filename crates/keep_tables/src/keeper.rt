@@ -15,11 +15,13 @@ use crate::calls::{clear, deliver_at_once, finish_delivery, forget_body, take_pi
 use crate::changes::make_change;
 use crate::cleanings::clean_up;
 use crate::current::span_of;
-use crate::known::{TextPrint, forget_prints, known_print, note_print};
-use crate::reads::{read_due, read_file, read_nothing, read_print, read_text, read_waiting, show};
+use crate::known::{TextPrint, known_print, note_print, renew_prints};
+use crate::reads::{
+    read_due, read_file, read_kept, read_nothing, read_print, read_text, read_waiting, show,
+};
 use bodies::{Begun, Finished, OnePiece};
 use keep::{
-    Change, Judgement, KeepFault, Keeper, LATEST, PIECE_SIZE, Waiting, append_judgements,
+    Change, IndexText, Judgement, KeepFault, Keeper, LATEST, PIECE_SIZE, Waiting, append_judgements,
     copied_judgements, dates_after, room_for_judgements,
 };
 use keep_rows::{create, fault_of, is_without_tables, some_take_files};
@@ -347,7 +349,7 @@ impl<S: Alter + Drop> Keeper for TableKeeper<S> {
                 append_judgements(&mut self.judged, judged);
                 self.dates = dates;
                 self.spare = None;
-                forget_prints(&mut self.prints, change.texts.as_slice());
+                renew_prints(alloc, &mut self.prints, change.texts.as_slice());
                 forget_if(&mut self.begun, some_take_files(steps));
                 Ok(())
             }
@@ -396,6 +398,15 @@ impl<S: Alter + Drop> Keeper for TableKeeper<S> {
                 note_print(alloc, &mut self.prints, path, print);
                 Ok(print)
             }
+            Err(error) => Err(fault_of(error)),
+        }
+    }
+
+    #[tactic(auto, unfolding(kept::specs::Kept::book_in))]
+    fn keeps_text(&mut self, alloc: Global, text: &IndexText) -> Result<bool, KeepFault> {
+        let known = known_print(&self.prints, text.path.as_str());
+        match read_kept(alloc, &mut self.conn, known, text) {
+            Ok(kept) => Ok(kept),
             Err(error) => Err(fault_of(error)),
         }
     }

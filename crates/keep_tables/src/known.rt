@@ -2,7 +2,7 @@
 
 ghost use Rattle.std.specs.Prelude.{◌≡◌, filter, find, not, option_copied};
 ghost use Rattle.std.specs.Option.{option_map};
-ghost use Rattle.keep_tables.specs.AtHand.{NotesAtMost, is_print_of, is_renewed};
+ghost use Rattle.keep_tables.specs.AtHand.{AreRenewedAtMost, NotesAtMost, is_of_another, is_print_of, is_renewed};
 
 use keep::IndexText;
 use para::Text;
@@ -35,6 +35,16 @@ pub(crate) fn known_print(prints: &[TextPrint], path: &str) -> Option<Print>
     match known_at(prints, path) {
         Some(known) => Some(known.print),
         None => None,
+    }
+}
+
+/// Whether what is known is the print of another text.
+pub(crate) fn is_of_another(known: Option<Print>, text: &IndexText) -> bool
+    ensures { result ≡ is_of_another known text.now }
+{
+    match known {
+        Some(print) => print != text.print,
+        None => false,
     }
 }
 
@@ -79,8 +89,18 @@ fn stays(texts: &[IndexText], known: &TextPrint) -> bool
 }
 
 /// Forgets the prints of texts that are renewed.
-pub(crate) fn forget_prints(prints: &mut Vec<TextPrint>, texts: &[IndexText])
+fn forget_prints(prints: &mut Vec<TextPrint>, texts: &[IndexText])
     ensures { prints.new.items ≡ filter (λ p. not (is_renewed texts.now p.path)) prints.old.items }
 {
     prints.retain(|known| stays(texts, known));
+}
+
+/// Puts the prints of texts in the place of those that are known at their paths, as far as there is memory.
+pub(crate) fn renew_prints(alloc: Global, prints: &mut Vec<TextPrint>, texts: &[IndexText])
+    ensures { AreRenewedAtMost prints.old.items texts.now prints.new.items }
+{
+    forget_prints(prints, texts);
+    for text in texts {
+        note_print(alloc, prints, text.path.as_str(), Some(text.print));
+    }
 }

@@ -4,7 +4,7 @@ ghost use Rattle.std.specs.Prelude.{◌≡◌, ℕ, List, Some, map, false, IsTr
 ghost use Rattle.std.specs.Option.{option_map};
 ghost use Rattle.sqlite.specs.Held.{state};
 ghost use Rattle.sqlite.specs.State.{HasCleanDisk};
-ghost use Rattle.keep.specs.Book.{at_moment, due, span, text_at, upload_of, waiting_list};
+ghost use Rattle.keep.specs.Book.{at_moment, due, is_kept, span, text_at, upload_of, waiting_list};
 ghost use Rattle.keep.specs.Keeping.{sign_of};
 ghost use Rattle.keep.specs.declared.change.Judgement.{Judgement};
 ghost use Rattle.rules.specs.Values.{ConfigValue};
@@ -14,10 +14,11 @@ ghost use Rattle.tables.specs.Rows.{IsArchive};
 ghost use Rattle.kept.specs.Archives.{IsRead, KeepsArchive, book_of};
 
 use crate::due::due_uploads;
+use crate::known::is_of_another;
 use crate::showing::read_shelves;
 use crate::waiting::waiting_uploads;
 use bodies::file_body;
-use keep::{Waiting, print_of_text};
+use keep::{IndexText, Waiting, is_kept, print_of_text};
 use rules::Config;
 use sqlite::{Alter, Connection, Error};
 use std::alloc::Global;
@@ -203,4 +204,30 @@ pub fn read_print<S: Alter>(
             Ok(print_of_text(&text))
         }
     }
+}
+
+/// Whether the text of the index at the path of a text is this one. Where the print that is known there is that of another,
+/// the database is asked alone whether it serves still; else the text is read.
+pub fn read_kept<S: Alter>(
+    alloc: Global,
+    conn: &mut Connection<S>,
+    known: Option<Print>,
+    text: &IndexText,
+) -> Result<bool, Error>
+    requires idle { conn.old.in_transaction ≡ false }
+    ensures idle { conn.new.in_transaction ≡ false }
+    ensures read { IsRead (state S.Store conn.old) (state S.Store conn.new) }
+    ensures open { HasCleanDisk (state S.Store conn.new) → (IsTrue (state S.Store conn.old).is_open → ∥ IsArchive (state S.Store conn.old).committed ∥₁)
+        → OnOk result (IsTrue (state S.Store conn.new).is_open) }
+    ensures kept { HasCleanDisk (state S.Store conn.new) → (config : ConfigValue) (judged : List Judgement) (shown : ShelvesValue) (dates : List ℕ)
+        → KeepsArchive (state S.Store conn.old).committed config judged shown dates
+        → IfSome known (λ p. option_map print_of (text_at (book_of (state S.Store conn.old).committed config judged shown dates) text.now.path) ≡ Some p)
+        → IfOk result (λ kept. kept ≡ is_kept (text_at (book_of (state S.Store conn.old).committed config judged shown dates) text.now.path) text.now.text) }
+{
+    if is_of_another(known, text) {
+        read_nothing(alloc, conn)?;
+        return Ok(false);
+    }
+    let kept = read_text(alloc, conn, text.path.as_str())?;
+    Ok(is_kept(&kept, text.text.as_slice()))
 }

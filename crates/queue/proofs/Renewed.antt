@@ -5,7 +5,7 @@ use Rattle.std.specs.Prelude.{AllPairs, Contains, ⊤}
 use Rattle.std.proofs.lemmas.List.Elements.{Contains-append_cases, Contains-append_left, Contains-append_right}
 use Rattle.std.proofs.lemmas.List.Kept.{AllPairs-cons}
 use Rattle.std.proofs.lemmas.Slice.Eq.{bytes_eq-Decides}
-use Rattle.keep.specs.Book.{Book, amended, dates_past, shown_past, text_at as book_text}
+use Rattle.keep.specs.Book.{Book, amended, dates_past, is_kept, shown_past, text_at as book_text}
 use Rattle.keep.specs.Keeping.{AreRenewed, AreSteps}
 use Rattle.keep.specs.Scan.{some_touches}
 use Rattle.keep.specs.declared.change.Change.{Change}
@@ -19,7 +19,7 @@ use Rattle.sums.proofs.Members.{all_at, all_from, contains_map, from_map, here, 
 use Rattle.texts.specs.Indices.{PathText, index_text, suite_texts, text_at, texts_from}
 use Rattle.texts.specs.Release.{index_of, indices_of, release_text}
 use Rattle.texts.proofs.Found.{found_front, none_front, text_at-found, text_at-other}
-use Rattle.queue.specs.Renewal.{folder_of, index_after, is_kept, path_in, place_path, place_text, places_in, renewed_at, renewed_folder, renewed_from, renewed_index, renewed_suite, some_changes_index, text_after}
+use Rattle.queue.specs.Renewal.{folder_of, index_after, path_in, place_path, place_text, places_in, renewed_at, renewed_folder, renewed_from, renewed_index, renewed_suite, some_changes_index, text_after}
 use Rattle.queue.specs.declared.renewal.Folder.{Folder}
 use Rattle.queue.specs.declared.renewal.Place.{Place}
 use Rattle.queue.proofs.RenewedLists.{PathsDiffer, found_of_apart, into_flat, none_of_others, pairs_across, pairs_append, pairs_map, pairs_none, same_map_over}

@@ -6,6 +6,7 @@ use Rattle.std.specs.Prelude.{AllPairs, Contains}
 use Rattle.std.proofs.lemmas.List.{map-append}
 use Rattle.std.proofs.lemmas.List.Elements.{Contains-append_cases}
 use Rattle.std.proofs.lemmas.Slice.Eq.{bytes_eq-Decides}
+use Rattle.keep.specs.Book.{is_kept}
 use Rattle.keep.specs.Scan.{some_touches}
 use Rattle.keep.specs.declared.change.IndexText.{IndexText}
 use Rattle.keep.specs.declared.change.Step.{Step}
@@ -15,7 +16,7 @@ use Rattle.sums.proofs.Members.{all_at, here, there, which, no_member, pairs_hea
 use Rattle.texts.specs.Indices.{PathText, folder_texts, suite_path, suite_texts}
 use Rattle.texts.specs.Release.{index_of, indices_of, listed_entry, listed_texts, release_text}
 use Rattle.texts.specs.declared.index.Index.{Index}
-use Rattle.queue.specs.Renewal.{folder_of, index_after, is_kept, path_in, place_at, place_path, place_text, places_in, renewed_at, renewed_folder, renewed_from, renewed_index, renewed_suite, some_changes_index}
+use Rattle.queue.specs.Renewal.{folder_of, index_after, path_in, place_at, place_path, place_text, places_in, renewed_at, renewed_folder, renewed_from, renewed_index, renewed_suite, some_changes_index, text_to_keep}
 use Rattle.queue.specs.declared.renewal.Folder.{Folder}
 use Rattle.queue.specs.declared.renewal.Place.{Place}
 use Rattle.queue.proofs.RenewedLists.{in_flat, pairs_append, pairs_flat, pairs_none, pairs_one}
@@ -77,9 +78,9 @@ renewed_one : (kept : Option (List ℕ)) (path text : List ℕ) (t : IndexText) 
 unfolding renewed_at
 renewed_one kept path text t h = by_case (is_kept kept text) refl h
   where
-    by_case : (b : Bool) → is_kept kept text ≡ b → Contains (if b then [] else record { path = path; text = text } ∷ []) t → (t.path ≡ path) × (t.text ≡ text) × (is_kept kept text ≡ false)
+    by_case : (b : Bool) → is_kept kept text ≡ b → Contains (if b then [] else text_to_keep path text ∷ []) t → (t.path ≡ path) × (t.text ≡ text) × (is_kept kept text ≡ false)
     by_case true e at = no_member t at
-    by_case false e at = elim (which (record { path = path; text = text }) t [] at) [
+    by_case false e at = elim (which (text_to_keep path text) t [] at) [
       | inl is ↦ (ap (λ (u : IndexText). u.path) (sym is), ap (λ (u : IndexText). u.text) (sym is), e)
       | inr none ↦ no_member t none
     ]
@@ -92,17 +93,17 @@ pub one_covers : (kept : Option (List ℕ)) (path text was : List ℕ) → kept 
 unfolding renewed_at
 one_covers kept path text was h = by_case (is_kept kept text) refl
   where
-    by_case : (b : Bool) → is_kept kept text ≡ b → Listed (if b then [] else record { path = path; text = text } ∷ []) path ⊎ (was ≡ text)
+    by_case : (b : Bool) → is_kept kept text ≡ b → Listed (if b then [] else text_to_keep path text ∷ []) path ⊎ (was ≡ text)
     by_case true e = inr (same_kept kept was text h e)
-    by_case false e = inl (record { path = path; text = text }, here (record { path = path; text = text }) [], refl)
+    by_case false e = inl (text_to_keep path text, here (text_to_keep path text) [], refl)
 
 one_apart : (kept : Option (List ℕ)) (path text : List ℕ) → AllPairs TextsDiffer (renewed_at kept path text)
 unfolding renewed_at
 one_apart kept path text = by_case (is_kept kept text)
   where
-    by_case : (b : Bool) → AllPairs TextsDiffer (if b then [] else record { path = path; text = text } ∷ [])
+    by_case : (b : Bool) → AllPairs TextsDiffer (if b then [] else text_to_keep path text ∷ [])
     by_case true = pairs_none TextsDiffer
-    by_case false = pairs_one TextsDiffer (record { path = path; text = text })
+    by_case false = pairs_one TextsDiffer (text_to_keep path text)
 
 pub named_rest : (s : Suite) (rest : List Suite) → AreNamed (s ∷ rest) → AreNamed rest
 named_rest s rest named = record { each = λ t at. named.each t (there s t rest at); apart = pairs_tail (λ (x y : Suite). x.codename ≢ y.codename) s rest named.apart }

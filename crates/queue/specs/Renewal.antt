@@ -1,7 +1,9 @@
 -- The index texts that steps change.
-use Rattle.std.specs.Prelude.{ℕ, ◌+◌, Bool, false, ◌||◌, if◌then◌else◌, List, [], ◌∷◌, ◌++◌, map, codes, bytes_eq, Option, Some, None, is_some, unwrap_or}
+use Rattle.std.specs.Prelude.{ℕ, ◌+◌, Bool, false, ◌||◌, if◌then◌else◌, List, [], ◌∷◌, ◌++◌, map, codes, Option, Some, None, is_some, unwrap_or}
+use Rattle.std.proofs.Common.{refl}
 use Rattle.std.specs.List.{flat_map, list_any}
 use Rattle.rules.specs.declared.suite.Suite.{Suite}
+use Rattle.keep.specs.Book.{is_kept}
 use Rattle.keep.specs.Scan.{some_touches}
 use Rattle.keep.specs.declared.change.IndexText.{IndexText}
 use Rattle.keep.specs.declared.change.Step.{Step}
@@ -34,18 +36,17 @@ some_changes_index suite place steps = list_any (λ step. changes_index suite pl
 
 -- ---- the texts that are then other than before, which are these by their paths
 
--- the text is the one that is there
-unfoldable pub is_kept : Option (List ℕ) → List ℕ → Bool
-is_kept None text = false
-is_kept (Some kept) text = bytes_eq kept text
-
 -- the print of the text that is there, of none that of no bytes
 unfoldable pub print_kept : Option (List ℕ) → Print
 print_kept kept = print (unwrap_or kept [])
 
+-- the text at a path, with its print
+abbrev pub text_to_keep : List ℕ → List ℕ → IndexText
+text_to_keep path text = record { path = path; text = text; print = print text; printed = refl }
+
 -- a text where another is there
 unfoldable pub renewed_at : Option (List ℕ) → List ℕ → List ℕ → List IndexText
-renewed_at kept path text = if is_kept kept text then [] else record { path = path; text = text } ∷ []
+renewed_at kept path text = if is_kept kept text then [] else text_to_keep path text ∷ []
 
 abbrev pub place_at : List ℕ → List ℕ → Place
 place_at component architecture = record { component = component; architecture = architecture }

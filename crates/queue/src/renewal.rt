@@ -9,7 +9,7 @@ ghost use Rattle.rules.specs.declared.suite.Suite.{Suite as SuiteValue};
 ghost use Rattle.sums.specs.Prints.{print};
 ghost use Rattle.texts.specs.Positions.{release_at};
 ghost use Rattle.texts.specs.Release.{index_of};
-ghost use Rattle.queue.specs.Renewal.{changes_index, folder_of, index_after, index_with, is_kept, is_listed, path_in, place_at, place_path, place_text, places_in, print_kept, renewed_at, renewed_folder, renewed_from, renewed_index, renewed_suite, some_changes_index, text_after};
+ghost use Rattle.queue.specs.Renewal.{changes_index, folder_of, index_after, index_with, is_listed, path_in, place_at, place_path, place_text, places_in, print_kept, renewed_at, renewed_folder, renewed_from, renewed_index, renewed_suite, some_changes_index, text_after};
 
 use keep::{IndexText, KeepFault, Keeper, Step, some_changes_suite};
 use para::{Listed, Text};
@@ -148,32 +148,21 @@ fn print_or_none(kept: Option<Print>) -> Print
     }
 }
 
-/// Whether the text is the one that is kept.
-#[tactic(auto, unfolding(crate::specs::Renewal::is_kept))]
-fn is_kept(kept: &Option<Vec<u8>>, text: &[u8]) -> bool
-    ensures { result ≡ is_kept (option_map (λ v. v.items) kept.now) text.now }
-{
-    match kept {
-        Some(kept) => kept.as_slice() == text,
-        None => false,
-    }
-}
-
-/// Appends the text at a path where another is kept there.
+/// Appends the text at its path where another is kept there.
 #[tactic(auto, unfolding(crate::specs::Renewal::renewed_at))]
-fn push_renewed(
+fn push_renewed<K: Keeper>(
+    alloc: Global,
+    keeper: &mut K,
+    text: IndexText,
     texts: &mut Vec<IndexText>,
-    kept: &Option<Vec<u8>>,
-    path: String,
-    text: Vec<u8>,
-) -> Result<(), AllocError>
-    ensures { OnOk result (texts.new.items ≡ texts.old.items ++ renewed_at (option_map (λ v. v.items) kept.now) (string_bytes path) text.items) }
+) -> Result<(), KeepFault>
+    ensures reads { Reads K.is_clean K.is_open K.faults K.book K.may_leave keeper.old keeper.new }
+    ensures served { K.is_clean keeper.new → OnOk result (K.is_open keeper.new) }
+    ensures texts { K.is_clean keeper.new → OnOk result (texts.new.items ≡ texts.old.items ++ renewed_at (text_at (K.book keeper.old) text.path) text.path text.text) }
+    ensures cause { IfErr result (MayAnswer K.may_fail) }
 {
-    if !is_kept(kept, &text) {
-        texts.push(IndexText {
-            path: Text::from_string(path),
-            text: Listed::from_vec(text),
-        })?;
+    if !keeper.keeps_text(alloc, &text)? {
+        texts.push(text)?;
     }
     Ok(())
 }
@@ -222,10 +211,10 @@ fn renew_index<K: Keeper>(
     if !some_changes_index(steps, folder.suite, place) {
         return index_kept(alloc, keeper, path, whole);
     }
-    let kept = keeper.text(alloc, whole.as_str())?;
     let text = listed_text(alloc, shelves, folder.suite, component, architecture)?;
-    let print = print_of(&text);
-    push_renewed(texts, &kept, whole, text)?;
+    let text = IndexText::new(whole, text);
+    let print = text.print;
+    push_renewed(alloc, keeper, text, texts)?;
     Ok(Index {
         path: Text::from_string(path),
         print,
@@ -276,8 +265,7 @@ fn renew_folder<K: Keeper>(
     ensures cause { IfErr result (MayAnswer K.may_fail) }
 {
     let path = path_in(alloc, folder, "Release")?;
-    let kept = keeper.text(alloc, path.as_str())?;
-    if kept.is_none() {
+    if keeper.text(alloc, path.as_str())?.is_none() {
         return Ok(());
     }
     let indices = renew_indices(alloc, keeper, shelves, steps, folder, texts)?;
@@ -290,8 +278,7 @@ fn renew_folder<K: Keeper>(
         &indices,
         &mut text,
     )?;
-    push_renewed(texts, &kept, path, text)?;
-    Ok(())
+    push_renewed(alloc, keeper, IndexText::new(path, text), texts)
 }
 
 /// The same of the suite at a position.

@@ -1,4 +1,4 @@
-use Rattle.std.proofs.Common.{◌≡◌, List, map, filter, ap, ◌∙◌}
+use Rattle.std.proofs.Common.{List, map, filter, ap, ◌∙◌}
 use Rattle.suites.specs.Upload.{UploadValue}
 use Rattle.keep.specs.Book.{at_moment, due, is_complete, span, unjudged, upload_of}
 use Rattle.keep.specs.Plain.{plain_book}

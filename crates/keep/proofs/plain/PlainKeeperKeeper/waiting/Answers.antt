@@ -1,4 +1,4 @@
-use Rattle.std.proofs.Common.{◌≡◌, List, map, ap, ◌∙◌}
+use Rattle.std.proofs.Common.{List, map, ap, ◌∙◌}
 use Rattle.keep.specs.Book.{at_moment, span, unjudged, waiting_list}
 use Rattle.keep.specs.Plain.{plain_book}
 use Rattle.keep.specs.Scan.{counted, unjudged_in, waiting_of}

@@ -1,4 +1,4 @@
-use Rattle.std.proofs.Common.{◌≡◌, ℕ, List, ◌++◌, filter, length, not, inl, inr, refl, sym, ap, subst, ◌∙◌, arith}
+use Rattle.std.proofs.Common.{◌≡◌, ℕ, List, ◌++◌, length, inl, inr, refl, sym, ap, subst, ◌∙◌, arith}
 use Rattle.std.specs.List.{list_any}
 use Rattle.std.proofs.Math.Logic.{∥∥₁_elim, ∥∥₁_map}
 use Rattle.sqlite.specs.Held.{state}
@@ -13,8 +13,7 @@ use Rattle.kept.specs.KeeperLemmas.{book_set, left_set, shelves_set}
 use Rattle.kept.specs.Making.{takes_file}
 use Rattle.kept.specs.Shown.{shown_in}
 use Rattle.std.proofs.Props.{props}
-use Rattle.keep_tables.specs.AtHand.{AreAtHand, AreKnown, is_renewed}
-use Rattle.keep_tables.specs.declared.known.TextPrint.{TextPrint}
+use Rattle.keep_tables.specs.AtHand.{AreAtHand, AreKnown, AreRenewedAtMost}
 use Rattle.keep_tables.proofs.AtHandLemmas.{known_past}
 use Rattle.keep_tables.proofs.UnderWayLemmas.{changed_under, undone_kept, undone_under}
 use Rattle.kept.proofs.CallLemmas.{amends_turns, done_book, kept_here, shown_here, turn_left}
@@ -72,13 +71,13 @@ invariant_of-self-in-Ok g c =
       known = λ clean up.
           let early : HasCleanDisk old = omega (arith, c.make_change.ensures.crash.clean, clean) in
           let was_open = (c.in-Ok.ensures.open clean).0 in
-          let prints : c.forget_prints.new.prints.items ≡ filter (λ p. not (is_renewed c.args.change.now.texts p.path)) c.args.self.now.prints.items =
-          c.forget_prints.ensures ∙ ap (λ texts. filter (λ (p : TextPrint). not (is_renewed texts p.path)) c.args.self.now.prints.items) c.as_slice.ensures in
+          let notes : AreRenewedAtMost c.args.self.now.prints.items c.args.change.now.texts c.renew_prints.new.prints.items =
+          subst (λ texts. AreRenewedAtMost c.args.self.now.prints.items texts c.renew_prints.new.prints.items) c.as_slice.ensures c.renew_prints.ensures in
           ∥∥₁_elim (c.args.self.now.kept early was_open) (hlevel props) (λ was. ∥∥₁_map (c.args.self.now.known early was_open) (λ known.
           let shown = shown_here new.committed (c.in-Ok.ensures.done clean _ _ _ was count (c.requires.sound early was_open)).kept in
-          subst (λ (x : ShelvesValue × List ℕ × List TextPrint). AreKnown config x.0 x.1 x.2) (λ i. (sym shown i, sym dates i, sym prints i))
-          (known_past old.committed config c.args.self.now.judged.items (shown_in config.suites (tables_in old.committed)) c.args.self.now.dates.items c.args.change.now c.args.self.now.prints.items
-          (c.requires.sound early was_open).texts known)));
+          subst (λ (x : ShelvesValue × List ℕ). AreKnown config x.0 x.1 c.renew_prints.new.prints.items) (λ i. (sym shown i, sym dates i))
+          (known_past old.committed config c.args.self.now.judged.items (shown_in config.suites (tables_in old.committed)) c.args.self.now.dates.items c.args.change.now
+          c.args.self.now.prints.items c.renew_prints.new.prints.items (c.requires.sound early was_open).texts notes known)));
     }
     )
 
