@@ -23,10 +23,8 @@ use Rattle.suites.specs.Admission.{MayJoin}
 use Rattle.suites.specs.Items.{IsAtHome, standing}
 use Rattle.suites.specs.Keys.{key_order, kind_number}
 use Rattle.suites.specs.KeyLemmas.{key_order_total, key_order-IsAntisymmetric}
-use Rattle.suites.specs.Plan.{IsStep, applied}
-use Rattle.suites.specs.declared.plan.Plan.{Plan}
 use Rattle.suites.specs.Pool.{AreAgreed, files_of, pair_of}
-use Rattle.suites.specs.Shelves.{AreSound, ShelvesValue, is_at_least, pool, shown_after, version_of, with_admitted}
+use Rattle.suites.specs.Shelves.{AreSound, ShelvesValue, pool}
 use Rattle.suites.specs.declared.item.Item as shelf
 use Rattle.suites.specs.declared.item.PoolFile.{PoolFile}
 use Rattle.suites.specs.declared.key.Kind.{Kind}
@@ -36,7 +34,6 @@ use Rattle.suites.proofs.EntryLemmas.{same_keys}
 use Rattle.suites.proofs.FileMembers.{entry_shown}
 use Rattle.suites.proofs.PoolLookups.{get-pool_of}
 use Rattle.suites.proofs.Prints.{same_print-equal}
-use Rattle.suites.proofs.ShownLemmas.{shown_after-none, shown_after-push}
 use Rattle.tables.specs.Items.{is_item}
 use Rattle.tables.specs.Rows.{Numbered, Tables}
 use Rattle.tables.specs.declared.rows.Item.{Item}
@@ -311,12 +308,6 @@ module _ (suites : List Suite) (t : Tables) where
 
 -- ---- an item that comes to an empty shelf
 
-pub after_one : (m : ShelvesValue) (e : ShelfKey × shelf.Item) → get m e.0 ≡ None → shown_after version_of m (e ∷ []) ≡ insert m e.0 e.1
-after_one m e free =
-    shown_after-push version_of m [] e
-    ∙ ap (λ (n : ShelvesValue). with_admitted version_of n e) (shown_after-none version_of m)
-    ∙ ap (λ o. if option_map_or (λ (x : shelf.Item). is_at_least (version_of x) (version_of e.1)) o false then m else insert m e.0 e.1) free
-
 module _ (shelves : ShelvesValue) (sound : AreSound shelves) (files : List PoolFile) (clear : list_any (may_not_join (pool shelves) files) files ≡ false) where
   -- what is known of each of the files
   joins : (f : PoolFile) → Contains files f → (is_taken (pool shelves) f ≡ false) × (list_any (clash f) files ≡ false)
@@ -374,14 +365,6 @@ pub may_join : (shelves : ShelvesValue) (suite : ℕ) (item : shelf.Item) → Ar
 may_join shelves suite item sound clear = record {
   apart = λ i j d lt within. absurd (omega (arith, lt, within));
   agreed = all_agree shelves sound item.files clear;
-}
-
--- the plan that admits one item to an empty shelf puts it there
-pub put_there : (old now : ShelvesValue) (suite : ℕ) (item : shelf.Item) (plan : Plan) → get old (standing suite item).0 ≡ None
-    → IsStep old (shown_after version_of old (map (standing suite) (item ∷ []))) plan → now ≡ applied old plan → IsPut old now (standing suite item)
-put_there old now suite item plan free step made = record {
-  free = free;
-  made = made ∙ sym step.items.made ∙ after_one old (standing suite item) free;
 }
 
 -- a row of a suite and of a kind puts its item on its shelf

@@ -1,6 +1,7 @@
 -- The texts of a book after steps: those that are read or rendered are those of the definition, and they cover each path at
 -- which the texts differ.
-use Rattle.std.proofs.Common.{◌≡◌, ◌≢◌, ◌⊎◌, inl, inr, ℕ, ◌+◌, Bool, true, false, if◌then◌else◌, List, [], ◌∷◌, ◌++◌, map, codes, Option, Some, is_some, refl, sym, ap, ◌∙◌}
+use Rattle.std.proofs.Common.{◌≡◌, ◌≢◌, ◌⊎◌, inl, inr, ℕ, ◌+◌, Bool, true, false, if◌then◌else◌, List, [], ◌∷◌, ◌++◌, map, codes, Option, Some, is_some, refl, sym, ap, subst, ◌∙◌}
+use Rattle.std.proofs.Props.{props}
 use Rattle.std.specs.List.{flat_map}
 use Rattle.std.specs.Prelude.{AllPairs, Contains}
 use Rattle.std.proofs.lemmas.List.{map-append}
@@ -12,6 +13,8 @@ use Rattle.keep.specs.declared.change.IndexText.{IndexText}
 use Rattle.keep.specs.declared.change.Step.{Step}
 use Rattle.rules.specs.declared.suite.Suite.{Suite}
 use Rattle.suites.specs.Shelves.{ShelvesValue}
+use Rattle.sums.specs.Prints.{print}
+use Rattle.sums.specs.declared.print.Print.{Print}
 use Rattle.sums.proofs.Members.{all_at, here, there, which, no_member, pairs_head, pairs_tail}
 use Rattle.texts.specs.Indices.{PathText, folder_texts, suite_path, suite_texts}
 use Rattle.texts.specs.Release.{index_of, indices_of, listed_entry, listed_texts, release_text}
@@ -73,6 +76,22 @@ Listed texts path = (t : IndexText) × Contains texts t × (t.path ≡ path)
 
 abbrev pub TextsDiffer : IndexText → IndexText → Type 0
 TextsDiffer t u = t.path ≢ u.path
+
+-- A text is told by its path and its bytes: its print is that of the bytes.
+pub is_to_keep : (t : IndexText) → t ≡ text_to_keep t.path t.text
+is_to_keep t =
+    let with_print : (own : Print) → own ≡ print t.text → IndexText = λ own is. record { path = t.path; text = t.text; print = own; printed = is } in
+    subst (λ (own : Print). (is : own ≡ print t.text) → with_print own is ≡ text_to_keep t.path t.text) (sym t.printed)
+    (λ is.
+    let one : IsProp (print t.text ≡ print t.text) = hlevel props in
+    ap (with_print (print t.text)) (one is refl)) t.printed
+
+-- a text that is pushed where another is kept
+pub pushed_other : (old new : List IndexText) (kept : Option (List ℕ)) (t : IndexText) → new ≡ old ++ t ∷ [] → is_kept kept t.text ≡ false → new ≡ old ++ renewed_at kept t.path t.text
+unfolding renewed_at
+pushed_other old new kept t is other =
+    is ∙ ap (λ (u : IndexText). old ++ u ∷ []) (is_to_keep t)
+    ∙ ap (λ b. old ++ (if b then [] else text_to_keep t.path t.text ∷ [])) (sym other)
 
 renewed_one : (kept : Option (List ℕ)) (path text : List ℕ) (t : IndexText) → Contains (renewed_at kept path text) t → (t.path ≡ path) × (t.text ≡ text) × (is_kept kept text ≡ false)
 unfolding renewed_at

@@ -1,5 +1,5 @@
 -- The index texts that steps change.
-use Rattle.std.specs.Prelude.{ℕ, ◌+◌, Bool, false, ◌||◌, if◌then◌else◌, List, [], ◌∷◌, ◌++◌, map, codes, Option, Some, None, is_some, unwrap_or}
+use Rattle.std.specs.Prelude.{ℕ, ◌+◌, Bool, ◌||◌, if◌then◌else◌, List, [], ◌∷◌, ◌++◌, map, codes, Option, is_some, unwrap_or}
 use Rattle.std.proofs.Common.{refl}
 use Rattle.std.specs.List.{flat_map, list_any}
 use Rattle.rules.specs.declared.suite.Suite.{Suite}

@@ -3,7 +3,7 @@
 use super::checks::{BOX, config_of, same};
 use super::uploads::{File, HELLO, MOMENT, TIE, TIE_AGAIN};
 use desk::{DeskFault, answer};
-use keep::{Change, Judgement, KeepFault, Keeper, PlainKeeper, Waiting};
+use keep::{Change, IndexText, Judgement, KeepFault, Keeper, PlainKeeper, Waiting};
 use queue::{Archive, Arrived, Fault, Report};
 use rules::Config;
 use std::alloc::{AllocError, Global};
@@ -90,6 +90,10 @@ impl<K: Keeper> Keeper for Counting<K> {
 
     fn text_print(&mut self, alloc: Global, path: &str) -> Result<Option<Print>, KeepFault> {
         self.inner.text_print(alloc, path)
+    }
+
+    fn keeps_text(&mut self, alloc: Global, text: &IndexText) -> Result<bool, KeepFault> {
+        self.inner.keeps_text(alloc, text)
     }
 
     fn waiting(&mut self, alloc: Global, moment: u64) -> Result<Vec<Waiting>, KeepFault> {
