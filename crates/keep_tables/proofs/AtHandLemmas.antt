@@ -23,7 +23,7 @@ use Rattle.kept.specs.Archives.{KeepsArchive, book_of}
 use Rattle.kept.specs.Kept.{book_in}
 use Rattle.kept.specs.Shown.{shown_in}
 use Rattle.kept.proofs.CallLemmas.{shown_here}
-use Rattle.keep_tables.specs.AtHand.{AreAtHand, AreKnown, AreRenewedAtMost, IsOf, NotesAtMost, is_of_another, is_print_of, is_renewed}
+use Rattle.keep_tables.specs.AtHand.{AreAtHand, AreKnown, AreRenewedAtMost, NotesAtMost, is_of_another, is_print_of, is_renewed}
 use Rattle.keep_tables.specs.declared.known.TextPrint.{TextPrint}
 
 -- ---- shelves

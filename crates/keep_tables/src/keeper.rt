@@ -21,8 +21,8 @@ use crate::reads::{
 };
 use bodies::{Begun, Finished, OnePiece};
 use keep::{
-    Change, IndexText, Judgement, KeepFault, Keeper, LATEST, PIECE_SIZE, Waiting, append_judgements,
-    copied_judgements, dates_after, room_for_judgements,
+    Change, IndexText, Judgement, KeepFault, Keeper, LATEST, PIECE_SIZE, Waiting,
+    append_judgements, copied_judgements, dates_after, room_for_judgements,
 };
 use keep_rows::{create, fault_of, is_without_tables, some_take_files};
 use rules::Config;

@@ -1,4 +1,4 @@
-use Rattle.std.proofs.Common.{◌≡◌, find, IfSome, Some, refl, sym, ap, subst, ◌∙◌}
+use Rattle.std.proofs.Common.{◌≡◌, find, IfSome, Some, refl, sym, subst, ◌∙◌}
 use Rattle.std.proofs.Math.Logic.{∥∥₁_elim}
 use Rattle.std.proofs.Props.{props}
 use Rattle.std.specs.Option.{option_map}
@@ -42,7 +42,7 @@ returns-in-Ok-clause-kept g c clean =
     let shown = shown_in k.config.suites (tables_in old.committed) in
     let path = c.args.text.now.path in
     let read = c.read_kept.ensures.read in
-    let found = c.known_print-known.ensures ∙ (λ i. option_map (λ (p : TextPrint). p.print) (find (is_print_of (c.as_str.ensures.value i)) (c.deref.ensures.value i))) in
+    let found = c.known_print-known.ensures ∙ (λ i. option_map (λ (p : TextPrint). p.print) (find (is_print_of (c.as_str.ensures i)) (c.deref.ensures.value i))) in
     let up = returns-in-Ok-clause-served g c clean in
     ∥∥₁_elim (was_kept old (state g.S.Store c.read_kept.new.conn) read k.kept clean up) (hlevel props) (λ was. ∥∥₁_elim (k.known (read.clean clean) (read.was_open clean up)) (hlevel props) (λ known.
     c.in-Ok.ensures.kept clean _ _ _ _ was
