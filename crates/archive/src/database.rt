@@ -8,10 +8,12 @@ use keep::{KeepFault, LATEST};
 use keep_rows::fault_of;
 use keep_tables::{InOrder, TableKeeper};
 use rules::Config;
-use sqlite::{Alter, Connection, Error, ErrorCode, FileFrom, FileStore, Wary};
+use sqlite::{Alter, Connection, FileFrom, FileStore, Options, Wary};
 use sqlite_disk::Disk;
+use sqlite_std_file::OpenError;
 use std::alloc::Global;
-use std::io::Write;
+use std::hash::{BuildHasher, RandomState};
+use std::io::{ErrorKind, Write};
 use std::thread;
 use std::time::Duration;
 
@@ -47,21 +49,45 @@ const TRIES: u32 = 100;
 /// How many milliseconds are waited behind each try: 10 seconds in all.
 const BETWEEN_TRIES: u64 = 100;
 
-/// The connection to a database, none while another process holds it, or why there is none.
-fn connected<C, L: Drop>(connection: Result<C, (Error, L)>) -> Result<Option<C>, KeepFault> {
-    match connection {
-        Ok(connection) => Ok(Some(connection)),
-        Err((Error::SqliteFailure(ErrorCode::DatabaseBusy), _)) => Ok(None),
-        Err((error, _)) => Err(fault_of(error)),
-    }
+/// How many pages of 4,096 bytes the log beside the database file takes before it is copied into that, and how many a transaction writes
+/// before they go to the log: 64 MiB.
+const LOG_PAGES: usize = 16_384;
+
+/// How a database file is read and written, with a random number for its log.
+fn options(rt: &HostRuntime) -> Result<Options, KeepFault> {
+    let Ok(random) = RandomState::new(rt) else {
+        return Err(KeepFault::Disk);
+    };
+    Ok(Options {
+        spill_pages: LOG_PAGES,
+        checkpoint_frames: LOG_PAGES,
+        ..Options::new(random.hash_one(&0u8))
+    })
 }
 
-/// The connection to the database of a file, none while another process holds it, or why there is none.
+/// The connection to the database of a file, none while another process holds it, or why there is none. What SQLite takes for another
+/// name than that of a file is refused.
 fn connect_once(
     rt: &HostRuntime,
     path: &str,
 ) -> Result<Option<Connection<FileStore<FileFrom<Wary>>>>, KeepFault> {
-    connected(Connection::open_from(rt, path, false, Wary))
+    if path == ":memory:" || path.starts_with("file:") {
+        return Err(KeepFault::Disk);
+    }
+    let options = options(rt)?;
+    let files = match sqlite_std_file::open(rt, path, Wary) {
+        Ok(files) => files,
+        Err(OpenError::Busy) => return Ok(None),
+        Err(OpenError::OutOfMemory) => return Err(KeepFault::OutOfMemory),
+        Err(OpenError::Io(error)) if error.kind() == ErrorKind::OutOfMemory => {
+            return Err(KeepFault::OutOfMemory);
+        }
+        Err(_) => return Err(KeepFault::Disk),
+    };
+    match Connection::open_files(rt.alloc(), files, options) {
+        Ok(connection) => Ok(Some(connection)),
+        Err((error, _)) => Err(fault_of(error)),
+    }
 }
 
 /// The connection to the database of a file. One that another process holds is waited for, up to 10 seconds.
