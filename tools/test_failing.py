@@ -94,7 +94,7 @@ class FullDisk(Lines):
     """What came of a file that did not fit stays until the next body begins, for which there may be no room either."""
 
     def test_what_is_answered_over_a_full_disk(self):
-        with mounted(12_000_000) as folder:
+        with mounted(20_000_000) as folder:
             if not folder:
                 self.skipTest("no file system can be mounted here")
             db = self.made()
@@ -105,7 +105,7 @@ class FullDisk(Lines):
         with Serving(db, 16) as serving:
             self.assertEqual(serving.answer(small(0)), NEW)
             with open(f"{folder}/filler", "wb") as it:
-                it.write(b"." * 10_500_000)
+                it.write(b"." * 18_500_000)
             there = {0} | {number for number in (1, 2) if self.fits(serving, number)}
             os.unlink(f"{folder}/filler")
             for number in range(4):
