@@ -41,6 +41,14 @@ impl IndexText {
         ensures { (result.path ≡ string_bytes path) × (result.text ≡ text.items) }
     {
         let print = print_of(&text);
+        IndexText::with_print(path, text, print)
+    }
+
+    /// The same, where the text's print is known.
+    pub fn with_print(path: String, text: Vec<u8>, print: Print) -> IndexText
+        requires { print ≡ print_of text.items }
+        ensures { (result.path ≡ string_bytes path) × (result.text ≡ text.items) }
+    {
         IndexText {
             path: Text::from_string(path),
             text: Listed::from_vec(text),
