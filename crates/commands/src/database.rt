@@ -6,7 +6,7 @@ use crate::fault::Stop;
 use keep::{KeepFault, Keeper, LATEST};
 use queue::{Archive, Fault};
 use rules::Config;
-use std::alloc::AllocError;
+use std::alloc::{AllocError, Global};
 use std::os::unix::fs::MetadataExt;
 use std::rt::Files;
 use std::{fs, io};
@@ -86,9 +86,12 @@ pub fn is_of_database<R: Files + AllocGlobal>(
 }
 
 /// The archive over a keeper, or why there is none.
-fn archive_over<'a, K: Keeper>(keeper: Result<K, KeepFault>) -> Result<Archive<K>, Stop<'a>> {
+fn archive_over<'a, K: Keeper>(
+    alloc: Global,
+    keeper: Result<K, KeepFault>,
+) -> Result<Archive<K>, Stop<'a>> {
     match keeper {
-        Ok(keeper) => Ok(Archive::new(keeper)),
+        Ok(keeper) => Ok(Archive::new(alloc, keeper)),
         Err(fault) => Err(Stop::NoArchive(fault)),
     }
 }
@@ -101,7 +104,7 @@ pub fn open_archive<'a, K: Keeper + Drop, F: InFile<K>>(
     if would_make(rt, path) || is_blank(rt, path)? {
         return Err(Stop::NoArchive(KeepFault::Tables));
     }
-    archive_over(F::opened(rt, path))
+    archive_over(rt.alloc(), F::opened(rt, path))
 }
 
 /// Makes an archive of the configuration in a database file, at a moment, in seconds since 1970-01-01 00:00:00 UTC. The
@@ -115,7 +118,7 @@ pub fn create_archive<'a, K: Keeper + Drop, F: InFile<K>>(
     if moment > LATEST {
         return Err(Stop::Refused(Fault::Moment));
     }
-    archive_over(F::made(rt, path, config, moment))
+    archive_over(rt.alloc(), F::made(rt, path, config, moment))
 }
 
 /// Closes the archive of a database file. The log beside the file is copied into the file, so that this alone is the

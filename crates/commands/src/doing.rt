@@ -67,7 +67,7 @@ pub fn body_of<'a, R: Files + AllocGlobal>(rt: &R, path: &'a str) -> Result<Vec<
 /// An archive of its own, with the configuration that `try` has.
 fn box_archive(alloc: Global) -> Result<Archive<PlainKeeper>, Fault> {
     match Config::read(alloc, BOX) {
-        Ok(config) => Ok(Archive::new(PlainKeeper::new(alloc, config, 0)?)),
+        Ok(config) => Ok(Archive::new(alloc, PlainKeeper::new(alloc, config, 0)?)),
         // The text is a configuration, so that nothing but want of memory is left.
         Err(_) => Err(Fault::OutOfMemory),
     }

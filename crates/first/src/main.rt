@@ -41,7 +41,7 @@ impl From<Fault> for Stop {
 /// A new archive, made at 0.
 fn box_archive(alloc: Global) -> Result<Archive<PlainKeeper>, Fault> {
     match Config::read(alloc, BOX) {
-        Ok(config) => Ok(Archive::new(PlainKeeper::new(alloc, config, 0)?)),
+        Ok(config) => Ok(Archive::new(alloc, PlainKeeper::new(alloc, config, 0)?)),
         Err(_) => Err(Fault::OutOfMemory),
     }
 }

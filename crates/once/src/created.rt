@@ -46,7 +46,7 @@ pub fn drive_created<S: Alter + Drop>(
 {
     match TableKeeper::create(alloc, connection, config, moment) {
         Ok(keeper) => {
-            let mut archive = Archive::new(keeper);
+            let mut archive = Archive::new(alloc, keeper);
             let outcomes = archive.drive(alloc, commands);
             Ok((archive, outcomes))
         }

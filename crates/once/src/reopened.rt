@@ -42,7 +42,7 @@ pub fn drive_opened<S: InOrder + Drop>(
 {
     match TableKeeper::open(alloc, connection) {
         Ok(keeper) => {
-            let mut archive = Archive::new(keeper);
+            let mut archive = Archive::new(alloc, keeper);
             let outcomes = archive.drive(alloc, commands);
             Ok((archive, outcomes))
         }

@@ -39,6 +39,7 @@ pub mod RenewedPaths
 pub mod RenewedTexts
 pub mod ReadLemmas
 pub mod RenewedSteps
+pub mod PrintedLemmas
 pub mod Renewed
 pub mod Reopening
 pub mod ReaderLemmas

@@ -12,3 +12,4 @@ pub mod Receiving
 pub mod Commands
 pub mod Judging
 pub mod Renewal
+pub mod Printed

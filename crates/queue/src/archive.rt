@@ -15,6 +15,7 @@ use crate::command::{Arrived, Promotion, Report};
 use crate::copy::{copy_plan, only_step, two_suites};
 use crate::delivery::check_delivery;
 use crate::fault::Fault;
+use crate::printed::PrintedText;
 use crate::promotion::{Copied, copied_steps, copy_lines, groups_of, sources_of};
 use crate::removal::{place_of, removal_plan};
 use crate::renewal::renewed_texts;
@@ -28,21 +29,26 @@ use std::alloc::Global;
 #[derive(Drop)]
 pub struct Archive<K: Keeper> {
     pub keeper: K,
+    /// The index texts that were printed last, from which the prints of the next ones go on.
+    printed: Vec<PrintedText>,
 }
 
 impl<K: Keeper> Archive<K> {
     /// The archive that a keeper keeps.
-    pub fn new(keeper: K) -> Self
+    pub fn new(alloc: Global, keeper: K) -> Self
         ensures { result.keeper ≡ keeper }
     {
-        Archive { keeper }
+        Archive {
+            keeper,
+            printed: Vec::new(alloc),
+        }
     }
 
     /// The keeper of the archive.
     pub fn into_keeper(self) -> K
         ensures { result ≡ self.keeper }
     {
-        let Archive { keeper } = self;
+        let Archive { keeper, printed: _ } = self;
         keeper
     }
 
@@ -103,7 +109,14 @@ impl<K: Keeper> Archive<K> {
         let mut shelves = self.keeper.shelves(alloc)?;
         let steps = judged_steps(alloc, self.keeper.config(), &mut shelves, &uploads)?;
         let lines = report_lines(alloc, &steps)?;
-        let texts = renewed_texts(alloc, &mut self.keeper, &shelves, &steps, moment)?;
+        let texts = renewed_texts(
+            alloc,
+            &mut self.keeper,
+            &mut self.printed,
+            &shelves,
+            &steps,
+            moment,
+        )?;
         let change = Change {
             moment,
             steps: Listed::from_vec(steps),
@@ -148,7 +161,14 @@ impl<K: Keeper> Archive<K> {
         let plan = copy_plan(alloc, self.keeper.config(), &shelves, from, to, source)?;
         let items = plan.put.as_slice().len() as u64;
         let steps = only_step(alloc, &mut shelves, plan)?;
-        let texts = renewed_texts(alloc, &mut self.keeper, &shelves, steps.as_slice(), moment)?;
+        let texts = renewed_texts(
+            alloc,
+            &mut self.keeper,
+            &mut self.printed,
+            &shelves,
+            steps.as_slice(),
+            moment,
+        )?;
         let change = Change {
             moment,
             steps,
@@ -204,7 +224,14 @@ impl<K: Keeper> Archive<K> {
             &groups,
         )?;
         let lines = copy_lines(alloc, &copies)?;
-        let texts = renewed_texts(alloc, &mut self.keeper, &shelves, &made, moment)?;
+        let texts = renewed_texts(
+            alloc,
+            &mut self.keeper,
+            &mut self.printed,
+            &shelves,
+            &made,
+            moment,
+        )?;
         let change = Change {
             moment,
             steps: Listed::from_vec(made),
@@ -251,7 +278,14 @@ impl<K: Keeper> Archive<K> {
         let plan = removal_plan(alloc, self.keeper.config(), &shelves, place, name)?;
         let count = plan.dropped.as_slice().len() as u64;
         let steps = only_step(alloc, &mut shelves, plan)?;
-        let texts = renewed_texts(alloc, &mut self.keeper, &shelves, steps.as_slice(), moment)?;
+        let texts = renewed_texts(
+            alloc,
+            &mut self.keeper,
+            &mut self.printed,
+            &shelves,
+            steps.as_slice(),
+            moment,
+        )?;
         let change = Change {
             moment,
             steps,

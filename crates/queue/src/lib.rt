@@ -10,6 +10,7 @@ mod drive;
 mod fault;
 mod laws;
 mod once;
+mod printed;
 mod promotion;
 mod reading;
 mod receipt;

@@ -32,7 +32,7 @@ pub fn drive_anew(
     let Ok(keeper) = PlainKeeper::new(alloc, config, moment) else {
         return Err(AllocError);
     };
-    let mut archive = Archive::new(keeper);
+    let mut archive = Archive::new(alloc, keeper);
     let outcomes = archive.drive(alloc, commands)?;
     Ok((outcomes, archive))
 }

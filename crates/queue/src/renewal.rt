@@ -11,6 +11,7 @@ ghost use Rattle.texts.specs.Positions.{release_at};
 ghost use Rattle.texts.specs.Release.{index_of};
 ghost use Rattle.queue.specs.Renewal.{changes_index, folder_of, index_after, index_with, is_listed, path_in, place_at, place_path, place_text, places_in, print_kept, renewed_at, renewed_folder, renewed_from, renewed_index, renewed_suite, some_changes_index, text_after};
 
+use crate::printed::{PrintedText, print_next};
 use keep::{IndexText, KeepFault, Keeper, Step, some_changes_suite};
 use para::{Listed, Text};
 use rules::Suite;
@@ -192,6 +193,7 @@ fn index_kept<K: Keeper>(
 fn renew_index<K: Keeper>(
     alloc: Global,
     keeper: &mut K,
+    printed: &mut Vec<PrintedText>,
     shelves: &Shelves,
     steps: &[Step],
     folder: &Folder,
@@ -212,8 +214,8 @@ fn renew_index<K: Keeper>(
         return index_kept(alloc, keeper, path, whole);
     }
     let text = listed_text(alloc, shelves, folder.suite, component, architecture)?;
-    let text = IndexText::new(whole, text);
-    let print = text.print;
+    let print = print_next(alloc, printed, whole.as_str(), &text)?;
+    let text = IndexText::with_print(whole, text, print);
     push_renewed(alloc, keeper, text, texts)?;
     Ok(Index {
         path: Text::from_string(path),
@@ -226,6 +228,7 @@ fn renew_index<K: Keeper>(
 fn renew_indices<K: Keeper>(
     alloc: Global,
     keeper: &mut K,
+    printed: &mut Vec<PrintedText>,
     shelves: &Shelves,
     steps: &[Step],
     folder: &Folder,
@@ -239,7 +242,9 @@ fn renew_indices<K: Keeper>(
 {
     let mut indices = Vec::new(alloc);
     for place in folder.places.as_slice() {
-        let index = renew_index(alloc, keeper, shelves, steps, folder, place, texts)?;
+        let index = renew_index(
+            alloc, keeper, printed, shelves, steps, folder, place, texts,
+        )?;
         indices.push(index)?;
     }
     Ok(indices)
@@ -251,6 +256,7 @@ fn renew_indices<K: Keeper>(
 fn renew_folder<K: Keeper>(
     alloc: Global,
     keeper: &mut K,
+    printed: &mut Vec<PrintedText>,
     shelves: &Shelves,
     steps: &[Step],
     moment: u64,
@@ -268,7 +274,7 @@ fn renew_folder<K: Keeper>(
     if keeper.text(alloc, path.as_str())?.is_none() {
         return Ok(());
     }
-    let indices = renew_indices(alloc, keeper, shelves, steps, folder, texts)?;
+    let indices = renew_indices(alloc, keeper, printed, shelves, steps, folder, texts)?;
     let mut text = Vec::new(alloc);
     release(
         alloc,
@@ -285,6 +291,7 @@ fn renew_folder<K: Keeper>(
 fn renew_suite<K: Keeper>(
     alloc: Global,
     keeper: &mut K,
+    printed: &mut Vec<PrintedText>,
     shelves: &Shelves,
     steps: &[Step],
     moment: u64,
@@ -300,13 +307,16 @@ fn renew_suite<K: Keeper>(
     ensures cause { IfErr result (MayAnswer K.may_fail) }
 {
     let folder = folder_of(alloc, suite, &keeper.config().suites()[suite])?;
-    renew_folder(alloc, keeper, shelves, steps, moment, &folder, texts)
+    renew_folder(
+        alloc, keeper, printed, shelves, steps, moment, &folder, texts,
+    )
 }
 
 /// The texts of the suites that a step touches, where they are other than the kept ones.
 fn renewed_suites<K: Keeper>(
     alloc: Global,
     keeper: &mut K,
+    printed: &mut Vec<PrintedText>,
     shelves: &Shelves,
     steps: &[Step],
     moment: u64,
@@ -320,7 +330,9 @@ fn renewed_suites<K: Keeper>(
     let mut texts = Vec::new(alloc);
     for suite in 0..keeper.config().suites().len() {
         if some_changes_suite(steps, suite) {
-            renew_suite(alloc, keeper, shelves, steps, moment, suite, &mut texts)?;
+            renew_suite(
+                alloc, keeper, printed, shelves, steps, moment, suite, &mut texts,
+            )?;
         }
     }
     Ok(texts)
@@ -329,10 +341,11 @@ fn renewed_suites<K: Keeper>(
 /// The index texts that steps make other than the kept ones, where the steps leave these shelves and are made at the
 /// moment, in seconds since 1970-01-01 00:00:00 UTC. Of a suite that a step touches the indices are rendered whose items
 /// a plan puts or drops, of the others the keeper tells the prints, and Release gets the moment as its date; of other suites
-/// nothing is read.
+/// nothing is read. The print of an index goes on from what was printed before it at its path.
 pub fn renewed_texts<K: Keeper>(
     alloc: Global,
     keeper: &mut K,
+    printed: &mut Vec<PrintedText>,
     shelves: &Shelves,
     steps: &[Step],
     moment: u64,
@@ -347,5 +360,5 @@ pub fn renewed_texts<K: Keeper>(
 {
     // A configuration that was read has no two indices at one path.
     let _ = keeper.config().text();
-    renewed_suites(alloc, keeper, shelves, steps, moment)
+    renewed_suites(alloc, keeper, printed, shelves, steps, moment)
 }

@@ -109,7 +109,7 @@ fn fresh<K: Keeper, M: Makes<K>>(alloc: Global, config: &[u8]) -> Result<Archive
         return Err(Unread::BadWords);
     };
     match M::made(alloc, config, 0) {
-        Ok(keeper) => Ok(Archive::new(keeper)),
+        Ok(keeper) => Ok(Archive::new(alloc, keeper)),
         Err(_) => Err(Unread::OutOfMemory),
     }
 }

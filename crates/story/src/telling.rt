@@ -76,7 +76,7 @@ fn keep<K: Keeper + Drop>(
 ) -> Result<Vec<u8>, Unread> {
     match keeper {
         Ok(keeper) => {
-            *archive = Some(Archive::new(keeper));
+            *archive = Some(Archive::new(alloc, keeper));
             said(alloc, done)
         }
         Err(fault) => {

@@ -79,7 +79,7 @@ const ROWS: [Row; 13] = [
 /// An archive in memory, made at 0.
 fn archive_of(alloc: Global, config: &[u8]) -> Result<Archive<PlainKeeper>, Fail> {
     let config = config_of(alloc, config)?;
-    Ok(Archive::new(PlainKeeper::new(alloc, config, 0)?))
+    Ok(Archive::new(alloc, PlainKeeper::new(alloc, config, 0)?))
 }
 
 /// Connections that bring the requests of rows.

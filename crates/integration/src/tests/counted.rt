@@ -110,11 +110,12 @@ impl<K: Keeper> Keeper for Counting<K> {
 /// An archive in memory with one suite, box, whose texts are counted.
 fn counted(alloc: Global) -> Result<Archive<Counting<PlainKeeper>>, Fail> {
     let inner = PlainKeeper::new(alloc, config_of(alloc, BOX)?, 0)?;
-    Ok(Archive::new(Counting {
+    let counting = Counting {
         inner,
         texts: 0,
         pieces: 0,
-    }))
+    };
+    Ok(Archive::new(alloc, counting))
 }
 
 /// Checks the lines of a report.

@@ -28,7 +28,7 @@ const SHUT: [Row; 3] = [
 /// An archive over a disk that works or fails. Its keeper takes deliveries, and finds no memory for all else.
 fn archive_on(alloc: Global, fails: bool) -> Result<Archive<DiskKeeper>, Fail> {
     let config = config_of(alloc, BOX)?;
-    Ok(Archive::new(DiskKeeper::new(alloc, config, 0, fails)?))
+    Ok(Archive::new(alloc, DiskKeeper::new(alloc, config, 0, fails)?))
 }
 
 /// Checks the answers to deliveries of three bytes, and that a run behind each finds no memory.

@@ -41,7 +41,7 @@ fn with_archive<S: Alter + Drop>(
 ) -> (Connection<S>, Answer) {
     match keeper {
         Ok(keeper) => {
-            let mut archive = Archive::new(keeper);
+            let mut archive = Archive::new(alloc, keeper);
             let answer = match task.perform(alloc, &mut archive) {
                 Ok(pieces) => Ok(Ok(pieces)),
                 Err(unread) => Err(unread),
