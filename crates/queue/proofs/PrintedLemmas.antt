@@ -1,5 +1,5 @@
 -- Parts of a text, each with a printer of all up to its end.
-use Rattle.std.proofs.Common.{◌≡◌, ◌++◌, ◌-◌, ◌+◌, ◌<◌, ◌≤◌, ◌∙◌, arith, ℕ, zero, suc, List, [], ◌∷◌, Option, Some, None, length, take, drop, get_or, slice_get, ap, sym, refl, subst, subst₂, append_assoc, append-nil, take-append-drop}
+use Rattle.std.proofs.Common.{◌≡◌, ◌++◌, ◌-◌, ◌+◌, ◌<◌, ◌≤◌, ◌∙◌, arith, ℕ, zero, suc, List, [], ◌∷◌, Some, None, length, take, drop, get_or, slice_get, ap, sym, refl, subst, subst₂, append_assoc, append-nil, take-append-drop}
 use Rattle.std.proofs.lemmas.Grind.{flat_map-append}
 use Rattle.std.proofs.lemmas.List.{take_all}
 use Rattle.std.proofs.lemmas.Option.{same_Some, slice_get-get_or}

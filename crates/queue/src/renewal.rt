@@ -242,9 +242,7 @@ fn renew_indices<K: Keeper>(
 {
     let mut indices = Vec::new(alloc);
     for place in folder.places.as_slice() {
-        let index = renew_index(
-            alloc, keeper, printed, shelves, steps, folder, place, texts,
-        )?;
+        let index = renew_index(alloc, keeper, printed, shelves, steps, folder, place, texts)?;
         indices.push(index)?;
     }
     Ok(indices)
