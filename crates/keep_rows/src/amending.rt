@@ -4,9 +4,10 @@ ghost use Rattle.std.specs.Prelude.{◌≡◌, false, IsTrue, OnOk, OnErr};
 ghost use Rattle.sqlite.specs.State.{HasCleanDisk, KeepsCommit, IsUnchanged, Survives};
 ghost use Rattle.sqlite.specs.Held.{state};
 ghost use Rattle.tables.specs.Rows.{Tables, Holds, Changes};
-ghost use Rattle.kept.specs.Making.{with_change, with_new_dates, with_new_texts, with_written};
+ghost use Rattle.kept.specs.Making.{with_new_dates, with_new_texts, with_written};
 ghost use Rattle.kept.specs.Amending.{HasAllBodies, Makes};
 ghost use Rattle.kept.specs.Transactions.{IsDone, IsUndone, MayCommit};
+ghost use Rattle.keep_rows.specs.Swept.{with_made};
 
 mod judging;
 mod pooling;
@@ -78,17 +79,18 @@ fn write_inside<S: Alter>(
     renew(tx, config, change)
 }
 
-/// Makes a change after so many judgements, inside a transaction. Where it takes a file away, bodies that nothing uses then go.
+/// Makes a change after so many judgements, inside a transaction. Where it sweeps, bodies that nothing uses then go.
 fn amend_inside<S: Alter>(
     alloc: Global,
     tx: &mut Transaction<'_, S>,
     config: &Config,
     judged: u64,
+    sweeps: bool,
     change: &Change,
 ) -> Result<(), Error>
     ensures same_reference { tx.new.conn.ghost_name ≡ tx.old.conn.ghost_name }
     ensures ok { HasCleanDisk (state S.Store tx.new.conn.now) → IsTrue (state S.Store tx.old.conn.now).in_transaction
-        → OnOk result (Changes (state S.Store tx.old.conn.now) (state S.Store tx.new.conn.now) (with_change config.now judged change.now)) }
+        → OnOk result (Changes (state S.Store tx.old.conn.now) (state S.Store tx.new.conn.now) (with_made sweeps config.now judged change.now)) }
     ensures err { HasCleanDisk (state S.Store tx.new.conn.now) → IsTrue (state S.Store tx.old.conn.now).in_transaction
         → OnErr result (KeepsCommit (state S.Store tx.old.conn.now) (state S.Store tx.new.conn.now)) }
     ensures survives { Survives (state S.Store tx.old.conn.now) (state S.Store tx.new.conn.now) (λ _. ⊥) }
@@ -96,31 +98,31 @@ fn amend_inside<S: Alter>(
         → OnOk result ((t : Tables) → Holds (state S.Store tx.old.conn.now).now t → HasAllBodies t change.now.steps) }
 {
     write_inside(alloc, tx, config, judged, change)?;
-    let takes = some_take_files(change.steps.as_slice());
-    if takes {
+    if sweeps {
         return sweep(alloc, tx);
     }
     Ok(())
 }
 
 /// Makes a change after so many judgements, whole or not at all, also over a crash. It is refused where a file that it adds
-/// to the pool has no body.
+/// to the pool has no body. Where it sweeps, bodies that nothing uses then go.
 pub fn amend<S: Alter>(
     alloc: Global,
     conn: &mut Connection<S>,
     config: &Config,
     judged: u64,
+    sweeps: bool,
     change: &Change,
 ) -> Result<(), Error>
     requires idle { conn.old.in_transaction ≡ false }
     ensures idle { conn.new.in_transaction ≡ false }
-    ensures done { HasCleanDisk (state S.Store conn.new) → OnOk result (IsDone (state S.Store conn.old) (state S.Store conn.new) (with_change config.now judged change.now)) }
+    ensures done { HasCleanDisk (state S.Store conn.new) → OnOk result (IsDone (state S.Store conn.old) (state S.Store conn.new) (with_made sweeps config.now judged change.now)) }
     ensures bodies { HasCleanDisk (state S.Store conn.new) → OnOk result ((t : Tables) → Holds (state S.Store conn.old).now t → HasAllBodies t change.now.steps) }
     ensures undone { HasCleanDisk (state S.Store conn.new) → OnErr result (IsUndone (state S.Store conn.old) (state S.Store conn.new)) }
-    ensures crash { Survives (state S.Store conn.old) (state S.Store conn.new) (λ trees. MayCommit (state S.Store conn.old) (with_change config.now judged change.now) trees
+    ensures crash { Survives (state S.Store conn.old) (state S.Store conn.new) (λ trees. MayCommit (state S.Store conn.old) (with_made sweeps config.now judged change.now) trees
         × ((t : Tables) → Holds (state S.Store conn.old).now t → HasAllBodies t change.now.steps)) }
 {
     let mut tx = conn.transaction();
-    amend_inside(alloc, &mut tx, config, judged, change)?;
+    amend_inside(alloc, &mut tx, config, judged, sweeps, change)?;
     tx.commit()
 }

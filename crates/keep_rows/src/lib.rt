@@ -1,5 +1,5 @@
-//! The transactions on an archive's rows: a new archive and a change, each all or nothing; and whether a database has the tables
-//! of an archive.
+//! The transactions on an archive's rows: a new archive and a change, each all or nothing; whether a change may leave
+//! bodies that nothing uses; and whether a database has the tables of an archive.
 #![tactic(auto)]
 
 mod amending;
@@ -7,8 +7,10 @@ mod creating;
 mod fault;
 mod founding;
 mod open;
+mod sparing;
 
 pub use amending::{amend, some_take_files};
 pub use creating::{create, is_without_tables};
 pub use fault::fault_of;
 pub use open::is_archive_schema;
+pub use sparing::needs_sweep;

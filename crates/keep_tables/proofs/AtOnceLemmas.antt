@@ -37,7 +37,7 @@ use Rattle.keep_tables.specs.AtOnce.{arrives_at_once}
 use Rattle.keep_tables.proofs.FoundArrivals.{AreApart, bytes_keep, counts_if_some}
 
 -- what is known of a body that arrives at once
-none_if : (o : Option ℕ) → is_none o ≡ true → o ≡ None
+pub none_if : (o : Option ℕ) → is_none o ≡ true → o ≡ None
 none_if None is = refl
 none_if (Some n) is = cc
 

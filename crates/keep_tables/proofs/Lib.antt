@@ -9,3 +9,4 @@ pub mod FoundArrivals
 pub mod MomentReads
 pub mod AtOnceLemmas
 pub mod KeeperWords
+pub mod SweptChanges

@@ -9,7 +9,7 @@ ghost use Rattle.keep.specs.Book.{latest};
 ghost use Rattle.keep.specs.Keeping.{IsSound};
 ghost use Rattle.keep.specs.declared.change.Judgement.{Judgement};
 ghost use Rattle.suites.specs.Shelves.{ShelvesValue};
-ghost use Rattle.tables.specs.Rows.{tables_in};
+ghost use Rattle.tables.specs.Rows.{IsArchive, tables_in};
 ghost use Rattle.kept.specs.Archives.{Amends, KeepsArchive, book_of};
 ghost use Rattle.kept.specs.Changing.{is_within, puts_within};
 ghost use Rattle.kept.specs.Coming.{Comes, HasComing};
@@ -17,7 +17,7 @@ ghost use Rattle.kept.specs.Making.{takes_file};
 ghost use Rattle.kept.specs.Transactions.{IsUndone};
 
 use keep::{Change, Step};
-use keep_rows::amend;
+use keep_rows::{amend, needs_sweep};
 use rules::Config;
 use sqlite::{Alter, Connection, Error, ErrorCode};
 use std::alloc::Global;
@@ -63,17 +63,21 @@ fn stands_inside(steps: &[Step], suites: usize) -> bool
     true
 }
 
-/// Makes a change after so many judgements, whole or not at all, also over a crash. It is refused where it would put an item
-/// into no suite of the configuration, or a file into the pool that has no body.
+/// Makes a change after so many judgements, whole or not at all, also over a crash. `whole` says that no body is coming: then
+/// bodies that nothing uses are looked for only where there may be some. It is refused where it would put an item into no suite
+/// of the configuration, or a file into the pool that has no body.
 pub(crate) fn make_change<S: Alter>(
     alloc: Global,
     conn: &mut Connection<S>,
     config: &Config,
     judged: usize,
+    whole: bool,
     change: &Change,
 ) -> Result<(), Error>
     requires idle { conn.old.in_transaction ≡ false }
     requires in_time { change.now.moment ≤ latest }
+    requires archive { HasCleanDisk (state S.Store conn.old) → IsTrue (state S.Store conn.old).is_open → ∥ IsArchive (state S.Store conn.old).committed ∥₁ }
+    requires whole { whole ≡ true → HasCleanDisk (state S.Store conn.old) → IsTrue (state S.Store conn.old).is_open → ∥ HasComing (tables_in (state S.Store conn.old).committed) [] ∥₁ }
     ensures idle { conn.new.in_transaction ≡ false }
     ensures open { HasCleanDisk (state S.Store conn.new) → OnOk result (IsTrue (state S.Store conn.old).is_open × IsTrue (state S.Store conn.new).is_open) }
     ensures done { HasCleanDisk (state S.Store conn.new) → (before : List Judgement) (shown : ShelvesValue) (dates : List ℕ)
@@ -95,11 +99,13 @@ pub(crate) fn make_change<S: Alter>(
         → IsSound (book_of (state S.Store conn.old).committed config.now before shown dates) change.now
         → Amends (state S.Store conn.old).committed db config.now before shown dates change.now)) }
 {
-    // For the prover alone: outside a transaction the connection has what is committed.
-    let _idle = conn.is_autocommit();
-    let inside = stands_inside(change.steps.as_slice(), config.suites().len());
+    let steps = change.steps.as_slice();
+    let inside = stands_inside(steps, config.suites().len());
     if !inside {
         return Err(Error::SqliteFailure(ErrorCode::DatabaseCorrupt));
     }
-    amend(alloc, conn, config, judged as u64, change)
+    let sweeps = needs_sweep(alloc, conn, whole, steps)?;
+    // For the prover alone: outside a transaction the connection has what is committed.
+    let _idle = conn.is_autocommit();
+    amend(alloc, conn, config, judged as u64, sweeps, change)
 }

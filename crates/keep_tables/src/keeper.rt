@@ -338,11 +338,13 @@ impl<S: Alter + Drop> Keeper for TableKeeper<S> {
         let steps = change.steps.as_slice();
         let dates = dates_after(alloc, &self.dates, steps, change.moment)?;
         let judged = room_for_judgements(alloc, &mut self.judged, steps)?;
+        let whole = number_of(&self.begun).is_none();
         match make_change(
             alloc,
             &mut self.conn,
             &self.config,
             self.judged.len(),
+            whole,
             change,
         ) {
             Ok(()) => {

@@ -4,9 +4,9 @@ use Rattle.sqlite.specs.Held.{state}
 use Rattle.tables.specs.Rows.{Tables, Holds}
 use Rattle.tables.proofs.TransactionLemmas.{keeps_if_changed, on_err, on_ok}
 use Rattle.kept.specs.Amending.{HasAllBodies}
-use Rattle.kept.specs.Making.{with_change}
 use Rattle.kept.specs.Transactions.{IsDone, IsUndone, MayCommit}
 use Rattle.kept.proofs.AmendLemmas.{begun_inside, commit_undone, crash_from, done_from, held_from, undone_by, undone_from, undone_from_if_err}
+use Rattle.keep_rows.specs.Swept.{with_made}
 use Rattle.keep_rows.proofs.amending.amend.Goals as goal
 
 pub returns-in_err-amend_inside-clause-undone : goal.returns-in_err-amend_inside-clause-undone
@@ -33,8 +33,8 @@ returns-clause-done g c clean =
     let late : HasCleanDisk (state g.S.Store last) = subst (λ h. HasCleanDisk (state g.S.Store h)) (sym same) clean in
     let early : HasCleanDisk (state g.S.Store mid) = omega (arith, c.commit.ensures.survives.clean, late) in
     let made = c.in_ok-amend_inside.ensures.ok early (begun_inside g.S.Store old begun mid last is) in
-    subst (λ h. OnOk c.commit.result (IsDone (state g.S.Store old) (state g.S.Store h) (with_change c.args.config.now c.args.judged c.args.change.now))) same
-    (on_ok c.commit.result (c.commit.ensures.ok late) (λ done. done_from g.S.Store old begun mid last is (with_change c.args.config.now c.args.judged c.args.change.now) made done.1))
+    subst (λ h. OnOk c.commit.result (IsDone (state g.S.Store old) (state g.S.Store h) (with_made c.args.sweeps c.args.config.now c.args.judged c.args.change.now))) same
+    (on_ok c.commit.result (c.commit.ensures.ok late) (λ done. done_from g.S.Store old begun mid last is (with_made c.args.sweeps c.args.config.now c.args.judged c.args.change.now) made done.1))
 
 pub returns-clause-bodies : goal.returns-clause-bodies
 returns-clause-bodies g c clean =
@@ -72,8 +72,8 @@ returns-clause-crash g c =
     let last = c.commit.new.self.0 in
     let is = c.transaction-tx.ensures.begun in
     let same : last ≡ c.conn-2-1.given.0 = search rules in
-    subst (λ h. Survives (state g.S.Store old) (state g.S.Store h) (λ trees. MayCommit (state g.S.Store old) (with_change c.args.config.now c.args.judged c.args.change.now) trees
+    subst (λ h. Survives (state g.S.Store old) (state g.S.Store h) (λ trees. MayCommit (state g.S.Store old) (with_made c.args.sweeps c.args.config.now c.args.judged c.args.change.now) trees
     × ((t : Tables) → Holds (state g.S.Store old).now t → HasAllBodies t c.args.change.now.steps))) same
-    (crash_from g.S.Store old begun mid last is (with_change c.args.config.now c.args.judged c.args.change.now) (λ t. HasAllBodies t c.args.change.now.steps)
+    (crash_from g.S.Store old begun mid last is (with_made c.args.sweeps c.args.config.now c.args.judged c.args.change.now) (λ t. HasAllBodies t c.args.change.now.steps)
     (λ early. c.in_ok-amend_inside.ensures.ok early (begun_inside g.S.Store old begun mid last is))
     (λ early. c.in_ok-amend_inside.ensures.bodies early (begun_inside g.S.Store old begun mid last is)) c.amend_inside.ensures.survives c.commit.ensures.survives)

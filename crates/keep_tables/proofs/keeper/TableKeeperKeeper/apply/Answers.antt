@@ -1,4 +1,4 @@
-use Rattle.std.proofs.Common.{◌≡◌, ℕ, List, ◌++◌, length, inl, inr, refl, sym, ap, subst, ◌∙◌, arith}
+use Rattle.std.proofs.Common.{◌≡◌, ℕ, List, ◌++◌, length, not, inl, inr, refl, sym, ap, subst, ◌∙◌, arith}
 use Rattle.std.specs.List.{list_any}
 use Rattle.std.proofs.Math.Logic.{∥∥₁_elim, ∥∥₁_map}
 use Rattle.sqlite.specs.Held.{state}
@@ -15,6 +15,7 @@ use Rattle.kept.specs.Shown.{shown_in}
 use Rattle.std.proofs.Props.{props}
 use Rattle.keep_tables.specs.AtHand.{AreAtHand, AreKnown, AreRenewedAtMost}
 use Rattle.keep_tables.proofs.AtHandLemmas.{known_past}
+use Rattle.keep_tables.proofs.AtOnceLemmas.{none_if, none_under}
 use Rattle.keep_tables.proofs.UnderWayLemmas.{changed_under, undone_kept, undone_under}
 use Rattle.kept.proofs.CallLemmas.{amends_turns, done_book, kept_here, shown_here, turn_left}
 use Rattle.keep_tables.proofs.keeper.TableKeeperKeeper.apply.Goals as goal
@@ -36,6 +37,14 @@ returns-in_err-judged-clause-err g c =
     let db = (state g.S.Store k.conn).committed in
     λ clean up. on_err c.from_residual-in_err-judged.result
     (ap (λ j. book_of db k.config j (shown_in k.config.suites (tables_in db)) k.dates.items) c.in_err-judged.ensures.same)
+
+pub make_change-requires-clause-archive : goal.make_change-requires-clause-archive
+make_change-requires-clause-archive g c clean up = ∥∥₁_map (c.args.self.now.kept clean up) (λ was. was.held)
+
+pub make_change-requires-clause-whole : goal.make_change-requires-clause-whole
+make_change-requires-clause-whole g c none clean up =
+    ∥∥₁_map (c.args.self.now.under_way clean up)
+    (none_under (tables_in (state g.S.Store c.args.self.now.conn).committed) c.args.self.now.begun (sym c.number_of.ensures ∙ none_if c.number_of.result (ap not c.is_none-whole.ensures ∙ ap (λ b. not (not b)) none)))
 
 pub invariant_of-self-in-Ok : goal.invariant_of-self-in-Ok
 invariant_of-self-in-Ok g c =
