@@ -14,7 +14,6 @@ from clients import Serving, put_of, status_of
 from test_database import Lines
 from test_served import get
 
-SUITES = ("box", "lab")
 INDICES = ("main/binary-amd64/Packages", "main/source/Sources")
 DIGESTS = {"MD5Sum": "md5", "SHA1": "sha1", "SHA256": "sha256"}
 
