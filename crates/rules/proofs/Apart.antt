@@ -21,15 +21,15 @@ neither : (a b : Bool) → (a || b) ≡ false → (a ≡ false) × (b ≡ false)
 neither true b h = cc
 neither false b h = (refl, h)
 
-or_left : (a b : Bool) → a ≡ true → (a || b) ≡ true
+pub or_left : (a b : Bool) → a ≡ true → (a || b) ≡ true
 or_left a b h = ap (λ t. t || b) h
 
-or_right : (a b : Bool) → b ≡ true → (a || b) ≡ true
+pub or_right : (a b : Bool) → b ≡ true → (a || b) ≡ true
 or_right true b h = refl
 or_right false b h = h
 
 -- of names none of which is claimed, none is claimed
-none_shared : (claimed names : List (List ℕ)) (name : List ℕ) → list_any (is_among claimed) names ≡ false → is_among names name ≡ true → is_among claimed name ≡ false
+pub none_shared : (claimed names : List (List ℕ)) (name : List ℕ) → list_any (is_among claimed) names ≡ false → is_among names name ≡ true → is_among claimed name ≡ false
 none_shared claimed [] name h k = cc
 none_shared claimed (n ∷ ns) name h k =
     let none = neither _ _ h in
@@ -64,7 +64,7 @@ all_apart claimed (s ∷ rest) h =
     (λ name a. list_any-append (bytes_eq name) claimed (distributions s) ∙ or_right _ _ a))
     (all_apart (claimed ++ distributions s) rest none.1)
 
-names_of_suites : (ps : List Fields) → map names_claimed ps ≡ map distributions (map suite_of ps)
+pub names_of_suites : (ps : List Fields) → map names_claimed ps ≡ map distributions (map suite_of ps)
 unfolding names_claimed
 names_of_suites [] = refl
 names_of_suites (p ∷ ps) = ap (λ rest. distributions (suite_of p) ∷ rest) (names_of_suites ps)

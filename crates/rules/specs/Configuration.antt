@@ -1,5 +1,5 @@
 -- Which configuration a text is, one paragraph a suite, and the first fault of a text that is none.
-use Rattle.std.specs.Prelude.{◌≡◌, ◌≢◌, ◌≤◌, ℕ, ◌++◌, nat_lt, Bool, true, false, ◌||◌, List, [], ◌∷◌, length, drop, get_or, codes, map, Option, Some, None, Result, Ok, Err}
+use Rattle.std.specs.Prelude.{◌≡◌, ◌≢◌, ◌≤◌, ◌<◌, ℕ, ◌++◌, nat_lt, Bool, true, false, ◌||◌, List, [], ◌∷◌, length, drop, get_or, slice_get, codes, map, Option, Some, None, IsSomeAnd, Result, Ok, Err}
 use Rattle.std.specs.List.{find, list_any, AllPairs}
 use Rattle.para.specs.Fields.{Fields, paragraphs_in}
 use Rattle.para.specs.Grammar.{Spells}
@@ -72,3 +72,16 @@ pub record IsConfig (text : List ℕ) (config : ConfigValue) : Type 0 where
 -- No two suites claim one distribution name.
 abbrev pub ClaimApart : List Suite → Type 0
 ClaimApart suites = AllPairs (λ s t. (name : List ℕ) → claims name s ≡ true → claims name t ≡ true → ⊥) suites
+
+-- The suite at this place claims the name.
+abbrev pub ClaimsAt : List Suite → ℕ → List ℕ → Type 0
+ClaimsAt suites place name = IsSomeAnd (slice_get suites place) (λ s. claims name s ≡ true)
+
+-- Two suites claim one distribution name: that at one place, and that at a later one.
+pub record ClaimOneName (suites : List Suite) : Type 0 where
+  pub name : List ℕ
+  pub first : ℕ
+  pub later : ℕ
+  pub apart : first < later
+  pub first_claims : ClaimsAt suites first name
+  pub later_claims : ClaimsAt suites later name

@@ -1,11 +1,12 @@
 //! Laws of configurations.
 
-ghost use Rattle.std.specs.Prelude.{◌≡◌, ◌≢◌, ◌≤◌, ◌↔◌, ℕ, List, [], length, Ok, Err, Some};
+ghost use Rattle.std.specs.Prelude.{◌≡◌, ◌≢◌, ◌≤◌, ◌↔◌, ℕ, true, List, [], length, map, Ok, Err, Some};
 ghost use Rattle.para.specs.Fault.{many_fault};
-ghost use Rattle.para.specs.Fields.{Fields};
+ghost use Rattle.para.specs.Fields.{Fields, paragraphs_in};
 ghost use Rattle.para.specs.Grammar.{Spells};
 ghost use Rattle.para.specs.declared.fault.ParaFault.{ParaFault};
-ghost use Rattle.rules.specs.Configuration.{config_in, config_fault, config_limit, IsConfig, ClaimApart};
+ghost use Rattle.rules.specs.Configuration.{config_in, config_fault, applies, config_limit, IsConfig, ClaimApart, ClaimOneName};
+ghost use Rattle.rules.specs.Paragraphs.{suite_of};
 ghost use Rattle.rules.specs.Values.{ConfigValue};
 ghost use Rattle.rules.specs.declared.fault.ConfigFault.{ConfigFault};
 
@@ -26,6 +27,13 @@ pub fn faults_are_lowest()
 /// No two suites of a configuration claim one distribution name. Nothing is done: the law is the contract.
 pub fn suites_claim_apart()
     ensures { (text : List ℕ) (config : ConfigValue) → config_in text ≡ Ok config → ClaimApart config.suites }
+{}
+
+/// Two suites claim one distribution name exactly where the fault of a name that is claimed twice (F4) applies to the
+/// paragraphs. So a text that is refused with it spells such paragraphs. Nothing is done: the law is the contract.
+pub fn a_name_claimed_twice_is_told()
+    ensures paragraphs { (ps : List Fields) → (applies ps ConfigFault.ClaimedTwice ≡ true) ↔ ClaimOneName (map suite_of ps) }
+    ensures text { (text : List ℕ) → config_in text ≡ Err ConfigFault.ClaimedTwice → (ps : List Fields) × (paragraphs_in text config_limit ≡ Ok ps) × ClaimOneName (map suite_of ps) }
 {}
 
 /// A text is at most one configuration. Nothing is done: the law is the contract.

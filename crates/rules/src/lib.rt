@@ -18,7 +18,10 @@ pub use config::Config;
 pub use days::Days;
 pub use fault::ConfigFault;
 pub use judgement::{Place, judge};
-pub use laws::{configurations_are_read, faults_are_lowest, one_configuration, suites_claim_apart};
+pub use laws::{
+    a_name_claimed_twice_is_told, configurations_are_read, faults_are_lowest, one_configuration,
+    suites_claim_apart,
+};
 pub use suite::{Suite, component_of_section};
 pub use uploader::{Rule, SourcePattern};
 pub use verdict::Verdict;
