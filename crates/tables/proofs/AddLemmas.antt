@@ -1,5 +1,5 @@
 -- What a row that is put into a table makes of its typed rows.
-use Rattle.std.proofs.Common.{◌≡◌, ℕ, pos, [], ◌∷◌, map, sym, ap, subst, ◌∙◌}
+use Rattle.std.proofs.Common.{◌≡◌, pos, ◌∷◌, ap, ◌∙◌}
 use Rattle.sqlite.specs.Table.{Table}
 use Rattle.sqlite.specs.Order.{Row}
 use Rattle.sqlite.specs.declared.types.Value.TheVariants.{Null}
@@ -8,12 +8,11 @@ use Rattle.sqlite.specs.Tree.{put_row, rowid}
 use Rattle.sqlite.specs.Edit.{with_rowid, id_in}
 use Rattle.sqlite.specs.Rowids.TheVariants.{Chosen}
 use Rattle.sqlite.specs.State.{State}
-use Rattle.tables.specs.Schema.{archive_schema}
-use Rattle.tables.specs.Rows.{Numbered, HasRows, stored, added, next_in}
+use Rattle.tables.specs.Rows.{Numbered, HasRows, added, next_in}
 use Rattle.tables.proofs.RowLemmas.{put_added, rises_added, next_is}
 use Rattle.tables.proofs.InsertLemmas.{PutsRow}
 
-module _ {X : Type 0} (cells : X → Row) (into : Table) (given : Row) (x : X) (cast : cast_row into given ≡ Null ∷ cells x) (old new : State) (put : PutsRow archive_schema into given old new)
+module _ {X : Type 0} (cells : X → Row) (into : Table) (given : Row) (x : X) (cast : cast_row into given ≡ Null ∷ cells x) (old new : State) (put : PutsRow into given old new)
     (xs : Numbered X) (was : HasRows cells xs (old.now.trees into.tree)) where
   pub adds_row : HasRows cells (added xs x) (new.now.trees into.tree)
   adds_row = record {

@@ -1,5 +1,5 @@
 -- What the statements on arrivals do.
-use Rattle.std.proofs.Common.{◌≡◌, ℕ, pos, [], ◌∷◌, Ok, Err, Result, OnOk, refl, true, List, map, filter, find, drop, Option, sym, ap, ◌∙◌}
+use Rattle.std.proofs.Common.{lit≤, ◌≡◌, ℕ, pos, [], ◌∷◌, Ok, Err, Result, OnOk, refl, true, List, map, filter, find, drop, Option, sym, ap, ◌∙◌}
 use Rattle.sqlite.specs.Table.{Table}
 use Rattle.sqlite.specs.Order.{Row, column}
 use Rattle.sqlite.specs.Term.{col}
@@ -17,7 +17,7 @@ use Rattle.tables.proofs.InsertLemmas.{puts}
 use Rattle.tables.proofs.AddLemmas.{adds_row, adds_id}
 use Rattle.tables.proofs.ShownLemmas.{Shows, shown, reads_shown, first_shown}
 use Rattle.std.specs.Prelude.{nat_eq}
-use Rattle.tables.specs.Schema.{archive_schema, arrivals}
+use Rattle.tables.specs.Schema.{arrivals}
 use Rattle.tables.specs.Rows.{whole, Tables, Holds, Changes, with_arrival, arrival_cells, arrival_of, nat_of, row_of, rows_of, stored, next_in}
 use Rattle.tables.specs.Arrivals.{is_arrival, with_moment, without_arrival}
 use Rattle.tables.specs.declared.rows.Arrival.{Arrival}
@@ -37,7 +37,7 @@ pub inserts_arrival : (old new : State) (name : List ℕ) (body : ℕ) (moment :
     → Changes old new (with_arrival (record { name = name; body = body; moment = moment })) × ((t : Tables) → Holds old.now t → new.last_rowid ≡ pos (next_in t.arrivals))
 inserts_arrival old new name body moment count h =
     let put = λ (t : Tables) (was : Holds old.now t).
-    puts archive_schema INSERT_ARRIVAL.now 3 insert_arrival_terms 5 insert_arrival_is insert_arrival_plain _ _ _ _ _ _ 5 refl (λ _. refl)
+    puts INSERT_ARRIVAL.now 3 insert_arrival_terms 5 insert_arrival_is insert_arrival_plain _ _ _ _ _ _ 5 (λ _. refl) (lit≤ tt)
     old new (Text name ∷ whole body ∷ whole moment ∷ []) (Null ∷ (Null ∷ (Text name ∷ whole body ∷ whole moment ∷ []))) count refl was.schema h.0 in (
       record {
         held = λ t was. record {
@@ -50,7 +50,7 @@ inserts_arrival old new name body moment count h =
     )
 
 arrival_shows : (name : List ℕ) (body : ℕ) → Shows arrival_cells 5 arrival_is arrival_columns (Text name ∷ whole body ∷ []) (λ x. is_arrival name body x.1) (shown arrival_cells) SELECT_ARRIVAL.now
-arrival_shows name body = record { names = _; is = select_arrival_is.0; plain = select_arrival_plain; unlisted = select_arrival_is.1; tests = λ x. then_term (text_test x.1.name name) (last_term (whole_test x.1.body body)); shows = λ _. refl; real = λ _. refl }
+arrival_shows name body = record { names = _; is = (λ o. (select_arrival_is o).0); plain = select_arrival_plain; unlisted = (λ o. (select_arrival_is o).1); tests = λ x. then_term (text_test x.1.name name) (last_term (whole_test x.1.body body)); shows = λ _. refl; real = λ _. refl }
 
 pub arrival_answer : (old new : State) (t : Tables) (name : List ℕ) (body : ℕ) (found : Option (ℕ × Arrival)) → Holds old.now t → IsReadFirst (row_of arrival_of) SELECT_ARRIVAL.now (Text name ∷ whole body ∷ []) old new found
     → (found ≡ find (λ x. is_arrival name body x.1) t.arrivals) × IsUnchanged old new
@@ -58,7 +58,7 @@ arrival_answer old new t name body found was h =
     first_shown arrival_cells 5 arrival_is arrival_columns (Text name ∷ whole body ∷ []) SELECT_ARRIVAL.now old new t.arrivals was.schema was.rows.arrivals (λ x. is_arrival name body x.1) arrival_of (λ _. refl) (arrival_shows name body) found h
 
 arrivals_show : Shows arrival_cells 5 [] arrival_columns [] (λ _. true) (shown arrival_cells) SELECT_ARRIVALS.now
-arrivals_show = record { names = _; is = select_arrivals_is.0; plain = select_arrivals_plain; unlisted = select_arrivals_is.1; tests = λ _. refl; shows = λ _. refl; real = λ _. refl }
+arrivals_show = record { names = _; is = (λ o. (select_arrivals_is o).0); plain = select_arrivals_plain; unlisted = (λ o. (select_arrivals_is o).1); tests = λ _. refl; shows = λ _. refl; real = λ _. refl }
 
 pub arrivals_answer : (old new : State) (t : Tables) (all : List (ℕ × Arrival)) → Holds old.now t → IsRead (row_of arrival_of) SELECT_ARRIVALS.now [] old new all
     → (all ≡ t.arrivals) × IsUnchanged old new
@@ -72,7 +72,7 @@ arrived_bodies_answer old new t all was h =
     let show = λ (x : ℕ × Arrival). whole x.1.body ∷ [] in
     let rows =
     reads_rows arrival_cells 5 [] (col 1 3 ∷ []) [] (λ _. true) show (λ _. refl) (λ _. refl)
-    SELECT_BODIES.now _ (λ _. refl) old new h.rows t.arrivals select_bodies_is.0 select_bodies_plain select_bodies_is.1 was.schema was.rows.arrivals h.shown in (
+    SELECT_BODIES.now _ (λ _. refl) old new h.rows t.arrivals (λ o. (select_bodies_is o).0) select_bodies_plain (λ o. (select_bodies_is o).1) was.schema was.rows.arrivals h.shown in (
       h.are ∙ ap (map (λ row. nat_of (column row 0))) rows ∙ map-map (λ row. nat_of (column row 0)) show (filter (λ _. true) t.arrivals)
           ∙ ap (map (λ (x : ℕ × Arrival). x.1.body)) (unfiltered t.arrivals refl) ∙ sym (map-map (λ (a : Arrival). a.body) (λ (x : ℕ × Arrival). x.1) t.arrivals),
       h.same,
@@ -89,7 +89,7 @@ pub changes_moment : (old new : State) (id moment : ℕ) (r : Result ℕ Error) 
 changes_moment old new id moment (Ok count) h = record {
   held = λ t was.
       let params = whole id ∷ whole moment ∷ [] in
-      let did = updates UPDATE_MOMENT.now 3 _ update_moment_plain arrivals_table refl update_moment_is old new params count was.schema h.0 in
+      let did = updates UPDATE_MOMENT.now 3 _ update_moment_plain arrivals_table (λ _. refl) (lit≤ tt) update_moment_is old new params count was.schema h.0 in
       let now = updates_rows arrival_cells 5 arrival_id_is update_moment_columns params (λ x. nat_eq x.0 id) (updated moment)
       (λ x. last_term (whole_test x.0 id)) (λ _. refl) (λ _. refl) (λ _. refl)
       old new t.arrivals was.rows.arrivals did.0 did.1 (λ x. record x { moment = moment }) arrivals_table (updated_cast moment) did.2 in
@@ -102,7 +102,7 @@ pub removes_arrival : (old new : State) (id : ℕ) (r : Result ℕ Error) → Ex
 removes_arrival old new id (Ok count) h = record {
   held = λ t was.
       let params = whole id ∷ [] in
-      let did = deletes DELETE_ARRIVAL.now 3 _ delete_arrival_plain arrivals_table refl delete_arrival_is old new params count was.schema h.0 in
+      let did = deletes DELETE_ARRIVAL.now 3 _ delete_arrival_plain arrivals_table (λ _. refl) (lit≤ tt) delete_arrival_is old new params count was.schema h.0 in
       let now = deletes_rows arrival_cells 5 arrival_id_is delete_arrival_columns params (λ x. nat_eq x.0 id) (λ x. whole x.0 ∷ [])
       (λ x. last_term (whole_test x.0 id)) (λ _. refl) (λ _. refl) (λ _. refl)
       old new t.arrivals was.rows.arrivals did.0 did.1 did.2 in

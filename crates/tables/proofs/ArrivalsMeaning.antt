@@ -12,7 +12,7 @@ use Rattle.sqlite_sql.specs.Term.{op2}
 use Rattle.sqlite_sql.specs.declared.ops.BinaryOp.TheVariants.{Compare}
 use Rattle.sqlite_sql.specs.declared.ops.CompareOp.TheVariants.{Eq}
 use Rattle.tables.specs.declared.arrivals.TheConstants.{INSERT_ARRIVAL, SELECT_ARRIVAL, SELECT_ARRIVALS, SELECT_BODIES, UPDATE_MOMENT, DELETE_ARRIVAL}
-use Rattle.tables.specs.Schema.{archive_schema}
+use Rattle.tables.specs.Others.{Others, with_others}
 use Rattle.tables.proofs.SelectLemmas.{rows_query}
 use Rattle.tables.proofs.UpdateLemmas.{edit_query}
 
@@ -34,50 +34,50 @@ update_moment_columns = col 1 0 ∷ col 1 0 ∷ lit Null ∷ col 1 2 ∷ col 1 3
 abbrev pub insert_arrival_terms : List Term
 insert_arrival_terms = lit Null ∷ lit Null ∷ col 0 0 ∷ col 0 1 ∷ col 0 2 ∷ []
 
-pub insert_arrival_is : command_of (understood archive_schema INSERT_ARRIVAL.now) ≡ Insert 3 (Values insert_arrival_terms 5)
+pub insert_arrival_is : (o : Others) → command_of (understood (with_others o) INSERT_ARRIVAL.now) ≡ Insert 3 (Values insert_arrival_terms 5)
 unfolding understood everything
-insert_arrival_is = refl
+insert_arrival_is o = refl
 
-pub insert_arrival_plain : IsPlain (understood archive_schema INSERT_ARRIVAL.now)
+pub insert_arrival_plain : (o : Others) → IsPlain (understood (with_others o) INSERT_ARRIVAL.now)
 unfolding understood everything
-insert_arrival_plain = (refl, refl)
+insert_arrival_plain o = (refl, refl)
 
-pub select_arrival_is : (command_of (understood archive_schema SELECT_ARRIVAL.now) ≡ Select (record { lets = []; body = rows_query 5 arrival_is arrival_columns }) (codes "id" ∷ codes "id" ∷ codes "name" ∷ codes "body" ∷ codes "moment" ∷ [])) × (reads_listing archive_schema SELECT_ARRIVAL.now ≡ false)
+pub select_arrival_is : (o : Others) → (command_of (understood (with_others o) SELECT_ARRIVAL.now) ≡ Select (record { lets = []; body = rows_query 5 arrival_is arrival_columns }) (codes "id" ∷ codes "id" ∷ codes "name" ∷ codes "body" ∷ codes "moment" ∷ [])) × (reads_listing (with_others o) SELECT_ARRIVAL.now ≡ false)
 unfolding understood everything
-select_arrival_is = (refl, refl)
+select_arrival_is o = (refl, refl)
 
-pub select_arrival_plain : IsPlain (understood archive_schema SELECT_ARRIVAL.now)
+pub select_arrival_plain : (o : Others) → IsPlain (understood (with_others o) SELECT_ARRIVAL.now)
 unfolding understood everything
-select_arrival_plain = (refl, refl)
+select_arrival_plain o = (refl, refl)
 
-pub select_arrivals_is : (command_of (understood archive_schema SELECT_ARRIVALS.now) ≡ Select (record { lets = []; body = rows_query 5 [] arrival_columns }) (codes "id" ∷ codes "id" ∷ codes "name" ∷ codes "body" ∷ codes "moment" ∷ [])) × (reads_listing archive_schema SELECT_ARRIVALS.now ≡ false)
+pub select_arrivals_is : (o : Others) → (command_of (understood (with_others o) SELECT_ARRIVALS.now) ≡ Select (record { lets = []; body = rows_query 5 [] arrival_columns }) (codes "id" ∷ codes "id" ∷ codes "name" ∷ codes "body" ∷ codes "moment" ∷ [])) × (reads_listing (with_others o) SELECT_ARRIVALS.now ≡ false)
 unfolding understood everything
-select_arrivals_is = (refl, refl)
+select_arrivals_is o = (refl, refl)
 
-pub select_arrivals_plain : IsPlain (understood archive_schema SELECT_ARRIVALS.now)
+pub select_arrivals_plain : (o : Others) → IsPlain (understood (with_others o) SELECT_ARRIVALS.now)
 unfolding understood everything
-select_arrivals_plain = (refl, refl)
+select_arrivals_plain o = (refl, refl)
 
-pub select_bodies_is : (command_of (understood archive_schema SELECT_BODIES.now) ≡ Select (record { lets = []; body = rows_query 5 [] (col 1 3 ∷ []) }) (codes "body" ∷ [])) × (reads_listing archive_schema SELECT_BODIES.now ≡ false)
+pub select_bodies_is : (o : Others) → (command_of (understood (with_others o) SELECT_BODIES.now) ≡ Select (record { lets = []; body = rows_query 5 [] (col 1 3 ∷ []) }) (codes "body" ∷ [])) × (reads_listing (with_others o) SELECT_BODIES.now ≡ false)
 unfolding understood everything
-select_bodies_is = (refl, refl)
+select_bodies_is o = (refl, refl)
 
-pub select_bodies_plain : IsPlain (understood archive_schema SELECT_BODIES.now)
+pub select_bodies_plain : (o : Others) → IsPlain (understood (with_others o) SELECT_BODIES.now)
 unfolding understood everything
-select_bodies_plain = (refl, refl)
+select_bodies_plain o = (refl, refl)
 
-pub update_moment_is : command_of (understood archive_schema UPDATE_MOMENT.now) ≡ Update 3 (record { lets = []; body = edit_query 5 arrival_id_is update_moment_columns })
+pub update_moment_is : (o : Others) → command_of (understood (with_others o) UPDATE_MOMENT.now) ≡ Update 3 (record { lets = []; body = edit_query 5 arrival_id_is update_moment_columns })
 unfolding understood everything
-update_moment_is = refl
+update_moment_is o = refl
 
-pub update_moment_plain : IsPlain (understood archive_schema UPDATE_MOMENT.now)
+pub update_moment_plain : (o : Others) → IsPlain (understood (with_others o) UPDATE_MOMENT.now)
 unfolding understood everything
-update_moment_plain = (refl, refl)
+update_moment_plain o = (refl, refl)
 
-pub delete_arrival_is : command_of (understood archive_schema DELETE_ARRIVAL.now) ≡ Delete 3 (record { lets = []; body = edit_query 5 arrival_id_is delete_arrival_columns })
+pub delete_arrival_is : (o : Others) → command_of (understood (with_others o) DELETE_ARRIVAL.now) ≡ Delete 3 (record { lets = []; body = edit_query 5 arrival_id_is delete_arrival_columns })
 unfolding understood everything
-delete_arrival_is = refl
+delete_arrival_is o = refl
 
-pub delete_arrival_plain : IsPlain (understood archive_schema DELETE_ARRIVAL.now)
+pub delete_arrival_plain : (o : Others) → IsPlain (understood (with_others o) DELETE_ARRIVAL.now)
 unfolding understood everything
-delete_arrival_plain = (refl, refl)
+delete_arrival_plain o = (refl, refl)

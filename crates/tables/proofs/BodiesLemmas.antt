@@ -1,5 +1,5 @@
 -- What the statements on bodies do.
-use Rattle.std.proofs.Common.{◌≡◌, ℕ, drop, pos, [], ◌∷◌, Ok, Err, Result, OnOk, nat_eq, refl, true, false, List, map, filter, find, slice_get, Option, Some, None, ap, ◌∙◌, option_map, ◌&&◌}
+use Rattle.std.proofs.Common.{lit≤, ◌≡◌, ℕ, drop, pos, [], ◌∷◌, Ok, Err, Result, OnOk, nat_eq, refl, true, false, List, map, filter, find, slice_get, Option, Some, None, ap, ◌∙◌, option_map, ◌&&◌}
 use Rattle.sqlite.specs.Table.{Table}
 use Rattle.sqlite.specs.Order.{Row, column}
 use Rattle.sqlite.specs.Term.{col}
@@ -16,7 +16,7 @@ use Rattle.sqlite_sql.specs.declared.ops.CompareOp.TheVariants.{Eq}
 use Rattle.sqlite_sql.specs.declared.ops.BinaryOp.TheVariants.{Compare}
 use Rattle.sqlite.specs.Collation.TheVariants.{Binary}
 use Rattle.sums.specs.declared.print.Print.{Print}
-use Rattle.tables.specs.Schema.{archive_schema, bodies}
+use Rattle.tables.specs.Schema.{bodies}
 use Rattle.tables.specs.Rows.{whole, print_cells, Numbered, Tables, Holds, Changes, with_body, body_cells, body_of, full_body, nat_of, next_in, row_of, stored}
 use Rattle.tables.specs.Bodies.{has_print, body_with, with_print, without_body}
 use Rattle.tables.specs.Reading.{IsRead, IsReadFirst}
@@ -50,7 +50,7 @@ pub inserts_body : (old new : State) (p : Print) (count : ℕ) → ExecutesInsid
     → Changes old new (with_body (whole_body p)) × ((t : Tables) → Holds old.now t → new.last_rowid ≡ pos (next_in t.bodies))
 inserts_body old new p count h =
     let put = λ (t : Tables) (was : Holds old.now t).
-    puts archive_schema INSERT_BODY.now 1 insert_body_terms 6 insert_body_is insert_body_plain _ _ _ _ _ _ 1 refl (λ _. refl)
+    puts INSERT_BODY.now 1 insert_body_terms 6 insert_body_is insert_body_plain _ _ _ _ _ _ 1 (λ _. refl) (lit≤ tt)
     old new (print_cells p) (Null ∷ (Null ∷ print_cells p)) count refl was.schema h.0 in
     let raws = λ (t : Tables) (was : Holds old.now t). raw_rows storing t.bodies (old.now.trees 1) was.rows.bodies in (
       record {
@@ -78,7 +78,7 @@ pub inserts_begun : (old new : State) (count : ℕ) → ExecutesInside 0 INSERT_
     → Changes old new (with_body begun_body) × ((t : Tables) → Holds old.now t → new.last_rowid ≡ pos (next_in t.bodies))
 inserts_begun old new count h =
     let put = λ (t : Tables) (was : Holds old.now t).
-    puts archive_schema INSERT_BEGUN.now 1 insert_begun_terms 6 insert_begun_is insert_begun_plain _ _ _ _ _ _ 1 refl (λ _. refl)
+    puts INSERT_BEGUN.now 1 insert_begun_terms 6 insert_begun_is insert_begun_plain _ _ _ _ _ _ 1 (λ _. refl) (lit≤ tt)
     old new [] (Null ∷ (Null ∷ Null ∷ Null ∷ Null ∷ Null ∷ [])) count refl was.schema h.0 in
     let raws = λ (t : Tables) (was : Holds old.now t). raw_rows storing t.bodies (old.now.trees 1) was.rows.bodies in (
       record {
@@ -111,7 +111,7 @@ pub changes_print : (old new : State) (id : ℕ) (p : Print) (r : Result ℕ Err
 changes_print old new id p (Ok count) h = record {
   held = λ t was.
       let params = whole id ∷ print_cells p in
-      let did = updates UPDATE_PRINT.now 1 _ update_print_plain bodies_table refl update_print_is old new params count was.schema h.0 in
+      let did = updates UPDATE_PRINT.now 1 _ update_print_plain bodies_table (λ _. refl) (lit≤ tt) update_print_is old new params count was.schema h.0 in
       let r = raw_rows storing t.bodies (old.now.trees 1) was.rows.bodies in
       let now = updates_rows (raw_cells storing) 1 body_id_is update_print_columns params (λ x. nat_eq x.0 id) (λ x. updated p (value_in storing x))
       (λ x. last_term (whole_test x.0 id)) (λ x. ap (λ row. eval_all update_print_columns (params ∷ row ∷ [])) (full_as storing x)) (λ _. refl) (λ _. refl)
@@ -141,7 +141,7 @@ body_answer old new t p found was h =
     let show = λ (x : ℕ × Body). whole x.0 ∷ [] in
     let rows =
     reads_full storing 1 print_terms (col 1 0 ∷ []) (print_cells p) (λ x. has_print p x.1) show (record { tests = λ _. refl; shows = λ _. refl }) (λ x. nullable_test p x.1.print) (λ _. refl)
-    SELECT_BODY.now _ (λ _. refl) old new h.read.rows t.bodies select_body_is.0 select_body_plain select_body_is.1 was.schema was.rows.bodies h.read.shown in (
+    SELECT_BODY.now _ (λ _. refl) old new h.read.rows t.bodies (λ o. (select_body_is o).0) select_body_plain (λ o. (select_body_is o).1) was.schema was.rows.bodies h.read.shown in (
       h.is ∙ ap (λ all. slice_get all 0) (h.read.are ∙ ap (map (λ row. nat_of (column row 0))) rows ∙ map-map (λ row. nat_of (column row 0)) show some)
           ∙ number_of_first some ∙ ap (option_map (λ x. x.0)) (slice_get-filter (λ x. has_print p x.1) t.bodies),
       h.read.same,
@@ -151,7 +151,7 @@ body_back : (x : ℕ × Body) → row_of body_of (shown body_cells x) ≡ x
 body_back x = elim x.1.print as (λ p. row_of body_of (shown body_cells (x.0, record { print = p })) ≡ (x.0, record { print = p })) [ None ↦ refl | Some p ↦ refl ]
 
 numbered_show : (id : ℕ) → Shows body_cells 1 body_id_is body_columns (whole id ∷ []) (λ x. nat_eq x.0 id) (shown body_cells) SELECT_NUMBERED.now
-numbered_show id = record { names = _; is = select_numbered_is.0; plain = select_numbered_plain; unlisted = select_numbered_is.1; tests = λ x. last_term (whole_test x.0 id); shows = λ _. refl; real = λ _. refl }
+numbered_show id = record { names = _; is = (λ o. (select_numbered_is o).0); plain = select_numbered_plain; unlisted = (λ o. (select_numbered_is o).1); tests = λ x. last_term (whole_test x.0 id); shows = λ _. refl; real = λ _. refl }
 
 pub numbered_answer : (old new : State) (t : Tables) (id : ℕ) (found : Option (ℕ × Body)) → Holds old.now t → IsReadFirst (row_of body_of) SELECT_NUMBERED.now (whole id ∷ []) old new found
     → (found ≡ find (λ x. nat_eq x.0 id) t.bodies) × IsUnchanged old new
@@ -165,7 +165,7 @@ numbers_answer old new t all was h =
     let show = λ (x : ℕ × Body). whole x.0 ∷ [] in
     let rows =
     reads_full storing 1 [] (col 1 0 ∷ []) [] (λ _. true) show (record { tests = λ _. refl; shows = λ _. refl }) (λ _. refl) (λ _. refl)
-    SELECT_NUMBERS.now _ (λ _. refl) old new h.rows t.bodies select_numbers_is.0 select_numbers_plain select_numbers_is.1 was.schema was.rows.bodies h.shown in (
+    SELECT_NUMBERS.now _ (λ _. refl) old new h.rows t.bodies (λ o. (select_numbers_is o).0) select_numbers_plain (λ o. (select_numbers_is o).1) was.schema was.rows.bodies h.shown in (
       h.are ∙ ap (map (λ row. nat_of (column row 0))) rows ∙ map-map (λ row. nat_of (column row 0)) show (filter (λ _. true) t.bodies)
           ∙ ap (map (λ (x : ℕ × Body). x.0)) (unfiltered t.bodies refl),
       h.same,
@@ -175,7 +175,7 @@ pub removes_body : (old new : State) (id : ℕ) (r : Result ℕ Error) → Execu
 removes_body old new id (Ok count) h = record {
   held = λ t was.
       let params = whole id ∷ [] in
-      let did = deletes DELETE_BODY.now 1 _ delete_body_plain bodies_table refl delete_body_is old new params count was.schema h.0 in
+      let did = deletes DELETE_BODY.now 1 _ delete_body_plain bodies_table (λ _. refl) (lit≤ tt) delete_body_is old new params count was.schema h.0 in
       let now = deletes_full storing 1 body_id_is delete_body_columns params (λ x. nat_eq x.0 id) (λ x. whole x.0 ∷ []) (record { tests = λ _. refl; shows = λ _. refl })
       (λ x. last_term (whole_test x.0 id)) (λ _. refl) (λ _. refl) (λ _. refl)
       old new t.bodies was.rows.bodies did.0 did.1 did.2 in

@@ -6,17 +6,9 @@ use Rattle.sqlite.specs.Effect.{Database}
 use Rattle.sqlite_keyed.proofs.ListLemmas.{map_back, map-map}
 use Rattle.sqlite.specs.Values.{or_null}
 use Rattle.tables.specs.Rows.{whole, some_nat, Numbered, HasRows, Tables, Holds, IsArchive, full_body, full_upload, stored, row_of, tables_in, meta_cells, meta_of, body_cells, body_of, piece_cells, piece_of, arrival_cells, arrival_of, upload_cells, upload_of, want_cells, want_of, item_cells, item_of, ref_cells, ref_of, file_cells, file_of, text_cells, text_of, date_cells, date_of}
-use Rattle.tables.specs.declared.rows.Meta.{Meta}
 use Rattle.tables.specs.declared.rows.Body.{Body}
-use Rattle.tables.specs.declared.rows.Piece.{Piece}
-use Rattle.tables.specs.declared.rows.Arrival.{Arrival}
 use Rattle.tables.specs.declared.rows.Upload.{Upload}
 use Rattle.tables.specs.declared.rows.Want.{Want}
-use Rattle.tables.specs.declared.rows.Item.{Item}
-use Rattle.tables.specs.declared.rows.Ref.{Ref}
-use Rattle.tables.specs.declared.rows.File.{File}
-use Rattle.tables.specs.declared.rows.IndexText.{IndexText}
-use Rattle.tables.specs.declared.rows.Date.{Date}
 
 body_back : (b : Body) → body_of (stored body_cells (0, b)) ≡ b
 body_back b = elim b.print as (λ p. body_of (stored body_cells (0, record { print = p })) ≡ record { print = p }) [ None ↦ refl | Some p ↦ refl ]

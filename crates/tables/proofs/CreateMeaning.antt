@@ -1,5 +1,5 @@
 -- What the CREATE texts mean, each under the schema of the tables before it.
-use Rattle.std.proofs.Common.{◌≡◌, refl}
+use Rattle.std.proofs.Common.{refl}
 use Rattle.sqlite_tied.specs.Compute.{everything}
 use Rattle.sqlite.specs.Listing.{understood}
 use Rattle.tables.specs.Schema.{meta, bodies, pieces, arrivals, uploads, wants, items, refs, files, texts, dates}

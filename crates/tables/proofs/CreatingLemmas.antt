@@ -6,6 +6,8 @@ use Rattle.sqlite.specs.declared.error.Error.{Error}
 use Rattle.sqlite.specs.State.{State, HasCleanDisk, KeepsCommit, ExecutesInside, Survives}
 use Rattle.tables.specs.Schema.{no_schema, meta, bodies, pieces, arrivals, uploads, wants, items, refs, files, texts, dates}
 use Rattle.tables.specs.Rows.{full_body, full_upload}
+use Rattle.tables.specs.Others.{IsArchiveSchema}
+use Rattle.tables.proofs.OtherLemmas.{alone}
 use Rattle.tables.specs.Causes.{IsCaused}
 use Rattle.tables.specs.Creating.{IsEmpty, Creates, schema_up_to, text_at}
 use Rattle.tables.proofs.CreateLemmas.{Makes, creates}
@@ -67,7 +69,7 @@ all_built old new b = record {
       let all = b.made none in
       let e = all.empty in
       record {
-        schema = all.schema_is;
+        schema = subst IsArchiveSchema (sym all.schema_is) alone;
         rows = record {
           meta = record { are = e.0; rise = tt };
           bodies = record { are = ap (map full_body) e.1.0; rise = tt };
@@ -82,6 +84,7 @@ all_built old new b = record {
           dates = record { are = e.1.1.1.1.1.1.1.1.1.1.0; rise = tt };
         };
       };
+  made = λ none. (b.made none).schema_is;
   kept = b.kept;
   mode = b.mode;
 }

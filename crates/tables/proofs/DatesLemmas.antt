@@ -1,12 +1,12 @@
 -- What the statements on dates do.
-use Rattle.std.proofs.Common.{◌≡◌, ℕ, pos, [], ◌∷◌, Ok, Err, Result, OnOk, refl, false, List, drop, ◌∙◌}
+use Rattle.std.proofs.Common.{lit≤, ◌≡◌, ℕ, pos, [], ◌∷◌, Ok, Err, Result, OnOk, refl, false, List, drop, ◌∙◌}
 use Rattle.sqlite.specs.Table.{Table}
 use Rattle.sqlite.specs.Order.{Row}
 use Rattle.sqlite.specs.declared.types.Value.TheVariants.{Null, Text}
 use Rattle.sqlite.specs.Cast.{cast_row}
 use Rattle.sqlite.specs.declared.error.Error.{Error}
 use Rattle.sqlite.specs.State.{State, ExecutesInside}
-use Rattle.tables.specs.Schema.{archive_schema, dates}
+use Rattle.tables.specs.Schema.{dates}
 use Rattle.tables.specs.Rows.{whole, Changes, with_date, date_cells, stored}
 use Rattle.tables.specs.Dates.{has_suite, with_new_date}
 use Rattle.tables.specs.declared.rows.Date.{Date}
@@ -22,7 +22,7 @@ use Rattle.std.proofs.lemmas.Map.Text.{is_eq-slice_cmp}
 use Rattle.sqlite_sql.specs.declared.ops.CompareOp.TheVariants.{Eq}
 
 abbrev dates_table : Table
-dates_table = record dates { tree = 22 }
+dates_table = record dates { tree = 21 }
 
 abbrev pub date_params : Date → Row
 date_params x = Text x.suite ∷ whole x.moment ∷ []
@@ -33,7 +33,7 @@ date_cast x = rw (cast_null, cast_int (pos x.moment))
 pub changes_insert_date : (old new : State) (x : Date) (r : Result ℕ Error) → ExecutesInside 0 INSERT_DATE.now (date_params x) old new r → OnOk r (Changes old new (with_date x))
 changes_insert_date old new x (Ok count) h = record {
   held = λ t was.
-      let put = puts archive_schema INSERT_DATE.now 10 insert_date_terms 3 insert_date_is insert_date_plain _ _ _ _ _ _ 22 refl (λ _. refl)
+      let put = puts INSERT_DATE.now 10 insert_date_terms 3 insert_date_is insert_date_plain _ _ _ _ _ _ 21 (λ _. refl) (lit≤ tt)
       old new (date_params x) (Null ∷ date_params x) count refl was.schema h.0 in
       record { schema = put.schema_is; rows = with_dates old.now.trees new.now.trees t was.rows _ (adds_row date_cells dates_table _ x (date_cast x) old new put t.dates was.rows.dates) put.others };
   shown = h.1;
@@ -52,8 +52,8 @@ pub changes_update_date : (old new : State) (suite : List ℕ) (moment : ℕ) (r
 changes_update_date old new suite moment (Ok count) h = record {
   held = λ t was.
       let params = Text suite ∷ whole moment ∷ [] in
-      let did = updates UPDATE_DATE.now 10 _ update_date_plain dates_table refl update_date_is old new params count was.schema h.0 in
-      let now = updates_rows date_cells 22 suite_is update_date_columns params (λ x. has_suite suite x.1) (updated moment)
+      let did = updates UPDATE_DATE.now 10 _ update_date_plain dates_table (λ _. refl) (lit≤ tt) update_date_is old new params count was.schema h.0 in
+      let now = updates_rows date_cells 21 suite_is update_date_columns params (λ x. has_suite suite x.1) (updated moment)
       (λ x. last_term (at_texts false Eq x.1.suite suite ∙ is_eq-slice_cmp x.1.suite suite)) (λ _. refl) (λ _. refl) (λ _. refl)
       old new t.dates was.rows.dates did.0 did.1 (λ x. record x { moment = moment }) dates_table (updated_cast moment) did.2 in
       record { schema = did.2.schema_is; rows = with_dates old.now.trees new.now.trees t was.rows _ now did.2.others };

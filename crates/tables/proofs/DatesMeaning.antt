@@ -12,19 +12,19 @@ use Rattle.sqlite_sql.specs.Term.{op2}
 use Rattle.sqlite_sql.specs.declared.ops.BinaryOp.TheVariants.{Compare}
 use Rattle.sqlite_sql.specs.declared.ops.CompareOp.TheVariants.{Eq}
 use Rattle.tables.specs.declared.dates.TheConstants.{INSERT_DATE, UPDATE_DATE}
-use Rattle.tables.specs.Schema.{archive_schema}
+use Rattle.tables.specs.Others.{Others, with_others}
 use Rattle.tables.proofs.UpdateLemmas.{edit_query}
 
 abbrev pub insert_date_terms : List Term
 insert_date_terms = lit Null ∷ col 0 0 ∷ col 0 1 ∷ []
 
-pub insert_date_is : command_of (understood archive_schema INSERT_DATE.now) ≡ Insert 10 (Values insert_date_terms 3)
+pub insert_date_is : (o : Others) → command_of (understood (with_others o) INSERT_DATE.now) ≡ Insert 10 (Values insert_date_terms 3)
 unfolding understood everything
-insert_date_is = refl
+insert_date_is o = refl
 
-pub insert_date_plain : IsPlain (understood archive_schema INSERT_DATE.now)
+pub insert_date_plain : (o : Others) → IsPlain (understood (with_others o) INSERT_DATE.now)
 unfolding understood everything
-insert_date_plain = (refl, refl)
+insert_date_plain o = (refl, refl)
 
 abbrev pub suite_is : List Term
 suite_is = op2 (Compare Eq Binary) (col 1 1) (col 0 0) ∷ []
@@ -32,10 +32,10 @@ suite_is = op2 (Compare Eq Binary) (col 1 1) (col 0 0) ∷ []
 abbrev pub update_date_columns : List Term
 update_date_columns = col 1 0 ∷ col 1 0 ∷ col 1 1 ∷ col 0 1 ∷ []
 
-pub update_date_is : command_of (understood archive_schema UPDATE_DATE.now) ≡ Update 10 (record { lets = []; body = edit_query 22 suite_is update_date_columns })
+pub update_date_is : (o : Others) → command_of (understood (with_others o) UPDATE_DATE.now) ≡ Update 10 (record { lets = []; body = edit_query 21 suite_is update_date_columns })
 unfolding understood everything
-update_date_is = refl
+update_date_is o = refl
 
-pub update_date_plain : IsPlain (understood archive_schema UPDATE_DATE.now)
+pub update_date_plain : (o : Others) → IsPlain (understood (with_others o) UPDATE_DATE.now)
 unfolding understood everything
-update_date_plain = (refl, refl)
+update_date_plain o = (refl, refl)

@@ -1,5 +1,5 @@
 -- What `=` makes of two values, as a test of specs.
-use Rattle.std.proofs.Common.{◌≡◌, ℕ, pos, false, List, int_eq, refl, sym, ap, ◌∙◌, arith}
+use Rattle.std.proofs.Common.{◌≡◌, ℕ, pos, false, List, int_eq, ◌∙◌, arith}
 use Rattle.std.specs.Prelude.{nat_eq, bytes_eq}
 use Rattle.std.proofs.lemmas.Int.{ints}
 use Rattle.std.proofs.lemmas.Bool.Decides.{nat_tests}

@@ -1,5 +1,5 @@
 -- What the statements on files do.
-use Rattle.std.proofs.Common.{◌≡◌, ℕ, pos, [], ◌∷◌, Ok, Err, Result, OnOk, refl, true, List, map, filter, find, Option, sym, ap, ◌∙◌}
+use Rattle.std.proofs.Common.{lit≤, ◌≡◌, ℕ, pos, [], ◌∷◌, Ok, Err, Result, OnOk, refl, true, List, map, filter, find, Option, sym, ap, ◌∙◌}
 use Rattle.sqlite.specs.Table.{Table}
 use Rattle.sqlite.specs.Order.{column}
 use Rattle.sqlite.specs.Term.{col}
@@ -17,7 +17,7 @@ use Rattle.tables.proofs.AddLemmas.{adds_row}
 use Rattle.tables.proofs.ShownLemmas.{Shows, reads_stored}
 use Rattle.sqlite_keyed.proofs.ListLemmas.{map-map, slice_get-filter}
 use Rattle.std.specs.Prelude.{slice_get}
-use Rattle.tables.specs.Schema.{archive_schema, files}
+use Rattle.tables.specs.Schema.{files}
 use Rattle.tables.specs.Rows.{whole, Tables, Holds, Changes, with_file, file_cells, file_of, nat_of, stored, rows_of}
 use Rattle.tables.specs.Files.{is_file_at, without_file}
 use Rattle.tables.specs.declared.rows.File.{File}
@@ -37,7 +37,7 @@ pub inserts_file : (old new : State) (path : List ℕ) (body : ℕ) (r : Result 
     → OnOk r (Changes old new (with_file (record { path = path; body = body })))
 inserts_file old new path body (Ok count) h = record {
   held = λ t was.
-      let put = puts archive_schema INSERT_FILE.now 8 insert_file_terms 3 insert_file_is insert_file_plain _ _ _ _ _ _ 17 refl (λ _. refl)
+      let put = puts INSERT_FILE.now 8 insert_file_terms 3 insert_file_is insert_file_plain _ _ _ _ _ _ 17 (λ _. refl) (lit≤ tt)
       old new (Text path ∷ whole body ∷ []) (Null ∷ Text path ∷ whole body ∷ []) count refl was.schema h.0 in
       record { schema = put.schema_is; rows = with_files old.now.trees new.now.trees t was.rows _ (adds_row file_cells files_table _ (record { path = path; body = body }) (file_cast path body) old new put t.files was.rows.files) put.others };
   shown = h.1;
@@ -45,7 +45,7 @@ inserts_file old new path body (Ok count) h = record {
 inserts_file old new path body (Err e) h = tt
 
 file_shows : (path : List ℕ) → Shows file_cells 17 file_path_is file_columns (Text path ∷ []) (λ x. is_file_at path x.1) (stored file_cells) SELECT_FILE.now
-file_shows path = record { names = _; is = select_file_is.0; plain = select_file_plain; unlisted = select_file_is.1; tests = λ x. last_term (text_test x.1.path path); shows = λ _. refl; real = λ _. refl }
+file_shows path = record { names = _; is = (λ o. (select_file_is o).0); plain = select_file_plain; unlisted = (λ o. (select_file_is o).1); tests = λ x. last_term (text_test x.1.path path); shows = λ _. refl; real = λ _. refl }
 
 pub file_answer : (old new : State) (t : Tables) (path : List ℕ) (found : Option File) → Holds old.now t → IsReadFirst file_of SELECT_FILE.now (Text path ∷ []) old new found
     → (found ≡ find (is_file_at path) (rows_of t.files)) × IsUnchanged old new
@@ -59,7 +59,7 @@ filed_bodies_answer old new t all was h =
     let show = λ (x : ℕ × File). whole x.1.body ∷ [] in
     let rows =
     reads_rows file_cells 17 [] (col 1 2 ∷ []) [] (λ _. true) show (λ _. refl) (λ _. refl)
-    SELECT_BODIES.now _ (λ _. refl) old new h.rows t.files select_bodies_is.0 select_bodies_plain select_bodies_is.1 was.schema was.rows.files h.shown in (
+    SELECT_BODIES.now _ (λ _. refl) old new h.rows t.files (λ o. (select_bodies_is o).0) select_bodies_plain (λ o. (select_bodies_is o).1) was.schema was.rows.files h.shown in (
       h.are ∙ ap (map (λ row. nat_of (column row 0))) rows ∙ map-map (λ row. nat_of (column row 0)) show (filter (λ _. true) t.files)
           ∙ ap (map (λ (x : ℕ × File). x.1.body)) (unfiltered t.files refl) ∙ sym (map-map (λ (f : File). f.body) (λ (x : ℕ × File). x.1) t.files),
       h.same,
@@ -69,7 +69,7 @@ pub removes_file : (old new : State) (path : List ℕ) (r : Result ℕ Error) �
 removes_file old new path (Ok count) h = record {
   held = λ t was.
       let params = Text path ∷ [] in
-      let did = deletes DELETE_FILE.now 8 _ delete_file_plain files_table refl delete_file_is old new params count was.schema h.0 in
+      let did = deletes DELETE_FILE.now 8 _ delete_file_plain files_table (λ _. refl) (lit≤ tt) delete_file_is old new params count was.schema h.0 in
       let now = deletes_rows file_cells 17 file_path_is delete_file_columns params (λ x. is_file_at path x.1) (λ x. whole x.0 ∷ [])
       (λ x. last_term (text_test x.1.path path)) (λ _. refl) (λ _. refl) (λ _. refl)
       old new t.files was.rows.files did.0 did.1 did.2 in

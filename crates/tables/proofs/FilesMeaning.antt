@@ -12,7 +12,7 @@ use Rattle.sqlite_sql.specs.Term.{op2}
 use Rattle.sqlite_sql.specs.declared.ops.BinaryOp.TheVariants.{Compare}
 use Rattle.sqlite_sql.specs.declared.ops.CompareOp.TheVariants.{Eq}
 use Rattle.tables.specs.declared.files.TheConstants.{INSERT_FILE, SELECT_FILE, SELECT_BODIES, DELETE_FILE}
-use Rattle.tables.specs.Schema.{archive_schema}
+use Rattle.tables.specs.Others.{Others, with_others}
 use Rattle.tables.proofs.SelectLemmas.{rows_query}
 use Rattle.tables.proofs.UpdateLemmas.{edit_query}
 
@@ -28,34 +28,34 @@ delete_file_columns = col 1 0 ∷ []
 abbrev pub insert_file_terms : List Term
 insert_file_terms = lit Null ∷ col 0 0 ∷ col 0 1 ∷ []
 
-pub insert_file_is : command_of (understood archive_schema INSERT_FILE.now) ≡ Insert 8 (Values insert_file_terms 3)
+pub insert_file_is : (o : Others) → command_of (understood (with_others o) INSERT_FILE.now) ≡ Insert 8 (Values insert_file_terms 3)
 unfolding understood everything
-insert_file_is = refl
+insert_file_is o = refl
 
-pub insert_file_plain : IsPlain (understood archive_schema INSERT_FILE.now)
+pub insert_file_plain : (o : Others) → IsPlain (understood (with_others o) INSERT_FILE.now)
 unfolding understood everything
-insert_file_plain = (refl, refl)
+insert_file_plain o = (refl, refl)
 
-pub select_file_is : (command_of (understood archive_schema SELECT_FILE.now) ≡ Select (record { lets = []; body = rows_query 17 file_path_is file_columns }) (codes "rowid" ∷ codes "path" ∷ codes "body" ∷ [])) × (reads_listing archive_schema SELECT_FILE.now ≡ false)
+pub select_file_is : (o : Others) → (command_of (understood (with_others o) SELECT_FILE.now) ≡ Select (record { lets = []; body = rows_query 17 file_path_is file_columns }) (codes "rowid" ∷ codes "path" ∷ codes "body" ∷ [])) × (reads_listing (with_others o) SELECT_FILE.now ≡ false)
 unfolding understood everything
-select_file_is = (refl, refl)
+select_file_is o = (refl, refl)
 
-pub select_file_plain : IsPlain (understood archive_schema SELECT_FILE.now)
+pub select_file_plain : (o : Others) → IsPlain (understood (with_others o) SELECT_FILE.now)
 unfolding understood everything
-select_file_plain = (refl, refl)
+select_file_plain o = (refl, refl)
 
-pub select_bodies_is : (command_of (understood archive_schema SELECT_BODIES.now) ≡ Select (record { lets = []; body = rows_query 17 [] (col 1 2 ∷ []) }) (codes "body" ∷ [])) × (reads_listing archive_schema SELECT_BODIES.now ≡ false)
+pub select_bodies_is : (o : Others) → (command_of (understood (with_others o) SELECT_BODIES.now) ≡ Select (record { lets = []; body = rows_query 17 [] (col 1 2 ∷ []) }) (codes "body" ∷ [])) × (reads_listing (with_others o) SELECT_BODIES.now ≡ false)
 unfolding understood everything
-select_bodies_is = (refl, refl)
+select_bodies_is o = (refl, refl)
 
-pub select_bodies_plain : IsPlain (understood archive_schema SELECT_BODIES.now)
+pub select_bodies_plain : (o : Others) → IsPlain (understood (with_others o) SELECT_BODIES.now)
 unfolding understood everything
-select_bodies_plain = (refl, refl)
+select_bodies_plain o = (refl, refl)
 
-pub delete_file_is : command_of (understood archive_schema DELETE_FILE.now) ≡ Delete 8 (record { lets = []; body = edit_query 17 file_path_is delete_file_columns })
+pub delete_file_is : (o : Others) → command_of (understood (with_others o) DELETE_FILE.now) ≡ Delete 8 (record { lets = []; body = edit_query 17 file_path_is delete_file_columns })
 unfolding understood everything
-delete_file_is = refl
+delete_file_is o = refl
 
-pub delete_file_plain : IsPlain (understood archive_schema DELETE_FILE.now)
+pub delete_file_plain : (o : Others) → IsPlain (understood (with_others o) DELETE_FILE.now)
 unfolding understood everything
-delete_file_plain = (refl, refl)
+delete_file_plain o = (refl, refl)

@@ -15,7 +15,7 @@ use Rattle.sqlite.specs.Tree.{Trees, rowid}
 use Rattle.sqlite.proofs.Callers.{command_of, IsPlain}
 use Rattle.sqlite_sql.specs.Term.{eval_all, holds}
 use Rattle.sqlite_keyed.proofs.ListLemmas.{map-map, map_same, map_back, filter-map, slice_get-filter, ascending-map, ascending_from_map}
-use Rattle.tables.specs.Schema.{archive_schema}
+use Rattle.tables.specs.Others.{IsArchiveSchema, Others, with_others}
 use Rattle.tables.specs.Rows.{whole, row_of, Numbered, Rises, HasRows, stored, added, next_from, next_in, changed, without}
 use Rattle.tables.specs.Reading.{IsRead, IsReadFirst}
 use Rattle.tables.proofs.SelectLemmas.{reads_rows, rows_query}
@@ -161,8 +161,8 @@ module _ {X : Type 0} (s : Storing X) where
     raw_shows x = c.shows (stored raw_cells x) ∙ ap (λ r. eval_all project (params ∷ r ∷ [])) (full_as x) ∙ shows (value_in x)
 
     pub reads_full : (sql : List ℕ) (names : List (List ℕ)) (real : (db : Trees) → overlay db [] tree ≡ db tree) (old new : State) (rows : List Row) (xs : Numbered X)
-        → command_of (understood archive_schema sql) ≡ Select (record { lets = []; body = rows_query tree where_ project }) names → IsPlain (understood archive_schema sql)
-        → reads_listing archive_schema sql ≡ false → old.now.schema ≡ archive_schema → HasRows s.cells xs (map s.full (old.now.trees tree)) → Shown sql params old new rows → rows ≡ map show (filter p xs)
+        → ((o : Others) → command_of (understood (with_others o) sql) ≡ Select (record { lets = []; body = rows_query tree where_ project }) names) → ((o : Others) → IsPlain (understood (with_others o) sql))
+        → ((o : Others) → reads_listing (with_others o) sql ≡ false) → IsArchiveSchema old.now.schema → HasRows s.cells xs (map s.full (old.now.trees tree)) → Shown sql params old new rows → rows ≡ map show (filter p xs)
     reads_full sql names real old new rows xs is plain unlisted schema has h =
         let raws = raw_rows xs (old.now.trees tree) has in
         reads_rows raw_cells tree where_ project params (λ x. p (value_in x)) (λ x. show (value_in x)) raw_tests raw_shows sql names real old new rows raws.of is plain unlisted schema raws.has h
@@ -175,7 +175,7 @@ module _ {X : Type 0} (s : Storing X) where
         full_rows_as _ _ (new.now.trees tree) (left_of xs raws.of p raws.values)
         (deletes_rows raw_cells tree where_ project params (λ x. p (value_in x)) (λ x. show (value_in x)) raw_tests raw_shows (λ x. names (value_in x)) real old new raws.of raws.has found answer edits)
 
-  module _ (tree : ℕ) (where_ project : List Term) (params : Row) (sql : List ℕ) (old new : State) (rows : Numbered X) (schema : old.now.schema ≡ archive_schema)
+  module _ (tree : ℕ) (where_ project : List Term) (params : Row) (sql : List ℕ) (old new : State) (rows : Numbered X) (schema : IsArchiveSchema old.now.schema)
       (has : HasRows s.cells rows (map s.full (old.now.trees tree))) (p : ℕ × X → Bool) (read : Row → X) (back : (x : ℕ × X) → row_of read (shown s.cells x) ≡ x)
       (q : Shows s.cells tree where_ project params p (shown s.cells) sql) (c : ReadsColumns where_ project params) where
     pub reads_values : (all : List (ℕ × X)) → IsRead (row_of read) sql params old new all → (all ≡ filter p rows) × IsUnchanged old new

@@ -25,6 +25,22 @@ kept : {X : Type 0} (cells : X → Row) (rows : Numbered X) {old new : List Row}
 kept cells rows h same = record { are = same ∙ h.are; rise = h.rise }
 
 module _ (old new : Trees) (t : Tables) (was : HoldsRows old t) where
+  -- each table has the rows that it had
+  pub with_all : AllByRecursion (λ t. new t.tree ≡ old t.tree) archive_schema.tables → HoldsRows new t
+  with_all same = record {
+    meta = kept meta_cells t.meta was.meta same.0;
+    bodies = kept body_cells t.bodies was.bodies (ap (map full_body) same.1.0);
+    pieces = kept piece_cells t.pieces was.pieces same.1.1.0;
+    arrivals = kept arrival_cells t.arrivals was.arrivals same.1.1.1.0;
+    uploads = kept upload_cells t.uploads was.uploads (ap (map full_upload) same.1.1.1.1.0);
+    wants = kept want_cells t.wants was.wants same.1.1.1.1.1.0;
+    items = kept item_cells t.items was.items same.1.1.1.1.1.1.0;
+    refs = kept ref_cells t.refs was.refs same.1.1.1.1.1.1.1.0;
+    files = kept file_cells t.files was.files same.1.1.1.1.1.1.1.1.0;
+    texts = kept text_cells t.texts was.texts same.1.1.1.1.1.1.1.1.1.0;
+    dates = kept date_cells t.dates was.dates same.1.1.1.1.1.1.1.1.1.1.0;
+  }
+
   pub with_meta : (rows : Numbered Meta) → HasRows meta_cells rows (new 0) → KeepsOthers 0 old new → HoldsRows new (record t { meta = rows })
   with_meta rows now others = record {
     meta = now;
@@ -160,7 +176,7 @@ module _ (old new : Trees) (t : Tables) (was : HoldsRows old t) where
     dates = kept date_cells t.dates was.dates (others.1.1.1.1.1.1.1.1.1.1.0 (omega arith));
   }
 
-  pub with_texts : (rows : Numbered IndexText) → HasRows text_cells rows (new 20) → KeepsOthers 20 old new → HoldsRows new (record t { texts = rows })
+  pub with_texts : (rows : Numbered IndexText) → HasRows text_cells rows (new 19) → KeepsOthers 19 old new → HoldsRows new (record t { texts = rows })
   with_texts rows now others = record {
     meta = kept meta_cells t.meta was.meta (others.0 (omega arith));
     bodies = kept body_cells t.bodies was.bodies (ap (map full_body) (others.1.0 (omega arith)));
@@ -175,7 +191,7 @@ module _ (old new : Trees) (t : Tables) (was : HoldsRows old t) where
     dates = kept date_cells t.dates was.dates (others.1.1.1.1.1.1.1.1.1.1.0 (omega arith));
   }
 
-  pub with_dates : (rows : Numbered Date) → HasRows date_cells rows (new 22) → KeepsOthers 22 old new → HoldsRows new (record t { dates = rows })
+  pub with_dates : (rows : Numbered Date) → HasRows date_cells rows (new 21) → KeepsOthers 21 old new → HoldsRows new (record t { dates = rows })
   with_dates rows now others = record {
     meta = kept meta_cells t.meta was.meta (others.0 (omega arith));
     bodies = kept body_cells t.bodies was.bodies (ap (map full_body) (others.1.0 (omega arith)));

@@ -1,5 +1,5 @@
 -- What the statements on items do.
-use Rattle.std.proofs.Common.{◌≡◌, ℕ, pos, [], ◌∷◌, Ok, Err, Result, OnOk, refl, true, false, List, find, Bool, Option, ◌∙◌}
+use Rattle.std.proofs.Common.{lit≤, ◌≡◌, ℕ, pos, [], ◌∷◌, Ok, Err, Result, OnOk, refl, true, false, List, find, Bool, Option, ◌∙◌}
 use Rattle.sqlite.specs.Table.{Table}
 use Rattle.sqlite.specs.Order.{Row}
 use Rattle.sqlite.specs.declared.types.Value.TheVariants.{Null, Text, Blob}
@@ -15,7 +15,7 @@ use Rattle.tables.proofs.InsertLemmas.{puts}
 use Rattle.tables.proofs.AddLemmas.{adds_row, adds_id}
 use Rattle.tables.proofs.ShownLemmas.{Shows, shown, reads_shown, first_shown}
 use Rattle.std.specs.Prelude.{nat_eq, bytes_eq, ◌&&◌}
-use Rattle.tables.specs.Schema.{archive_schema, items}
+use Rattle.tables.specs.Schema.{items}
 use Rattle.tables.specs.Rows.{whole, Tables, Holds, Changes, with_item, item_cells, item_of, row_of, next_in}
 use Rattle.tables.specs.Items.{is_item, without_item}
 use Rattle.tables.specs.declared.rows.Item.{Item}
@@ -40,7 +40,7 @@ pub inserts_item : (old new : State) (x : Item) (count : ℕ) → ExecutesInside
     → Changes old new (with_item x) × ((t : Tables) → Holds old.now t → new.last_rowid ≡ pos (next_in t.items))
 inserts_item old new x count h =
     let put = λ (t : Tables) (was : Holds old.now t).
-    puts archive_schema INSERT_ITEM.now 6 insert_item_terms 10 insert_item_is insert_item_plain _ _ _ _ _ _ 13 refl (λ _. refl)
+    puts INSERT_ITEM.now 6 insert_item_terms 10 insert_item_is insert_item_plain _ _ _ _ _ _ 13 (λ _. refl) (lit≤ tt)
     old new (item_params x) (Null ∷ Null ∷ item_params x) count refl was.schema h.0 in (
       record {
         held = λ t was. record {
@@ -53,7 +53,7 @@ inserts_item old new x count h =
     )
 
 items_show : Shows item_cells 13 [] item_columns [] (λ _. true) (shown item_cells) SELECT_ITEMS.now
-items_show = record { names = _; is = select_items_is.0; plain = select_items_plain; unlisted = select_items_is.1; tests = λ _. refl; shows = λ _. refl; real = λ _. refl }
+items_show = record { names = _; is = (λ o. (select_items_is o).0); plain = select_items_plain; unlisted = (λ o. (select_items_is o).1); tests = λ _. refl; shows = λ _. refl; real = λ _. refl }
 
 pub items_answer : (old new : State) (t : Tables) (all : List (ℕ × Item)) → Holds old.now t → IsRead (row_of item_of) SELECT_ITEMS.now [] old new all
     → (all ≡ t.items) × IsUnchanged old new
@@ -70,9 +70,9 @@ nested false k n a = refl
 item_shows : (suite : List ℕ) (kind : ℕ) (name : List ℕ) (architecture : List ℕ) → Shows item_cells 13 item_is item_columns (key_params suite kind name architecture) (λ x. is_item suite kind name architecture x.1) (shown item_cells) SELECT_ITEM.now
 item_shows suite kind name architecture = record {
   names = _;
-  is = select_item_is.0;
+  is = (λ o. (select_item_is o).0);
   plain = select_item_plain;
-  unlisted = select_item_is.1;
+  unlisted = (λ o. (select_item_is o).1);
   tests = λ x.
       then_term (text_test x.1.suite suite) (then_term (whole_test x.1.kind kind) (then_term (text_test x.1.«package» name) (last_term (text_test x.1.architecture architecture))))
       ∙ nested (bytes_eq x.1.suite suite) (nat_eq x.1.kind kind) (bytes_eq x.1.«package» name) (bytes_eq x.1.architecture architecture);
@@ -89,7 +89,7 @@ pub removes_item : (old new : State) (id : ℕ) (r : Result ℕ Error) → Execu
 removes_item old new id (Ok count) h = record {
   held = λ t was.
       let params = whole id ∷ [] in
-      let did = deletes DELETE_ITEM.now 6 _ delete_item_plain items_table refl delete_item_is old new params count was.schema h.0 in
+      let did = deletes DELETE_ITEM.now 6 _ delete_item_plain items_table (λ _. refl) (lit≤ tt) delete_item_is old new params count was.schema h.0 in
       let now = deletes_rows item_cells 13 item_id_is delete_item_columns params (λ x. nat_eq x.0 id) (λ x. whole x.0 ∷ [])
       (λ x. last_term (whole_test x.0 id)) (λ _. refl) (λ _. refl) (λ _. refl)
       old new t.items was.rows.items did.0 did.1 did.2 in

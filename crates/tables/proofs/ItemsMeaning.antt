@@ -12,7 +12,7 @@ use Rattle.sqlite_sql.specs.Term.{op2}
 use Rattle.sqlite_sql.specs.declared.ops.BinaryOp.TheVariants.{Compare}
 use Rattle.sqlite_sql.specs.declared.ops.CompareOp.TheVariants.{Eq}
 use Rattle.tables.specs.declared.items.TheConstants.{INSERT_ITEM, SELECT_ITEMS, SELECT_ITEM, DELETE_ITEM}
-use Rattle.tables.specs.Schema.{archive_schema}
+use Rattle.tables.specs.Others.{Others, with_others}
 use Rattle.tables.proofs.SelectLemmas.{rows_query}
 use Rattle.tables.proofs.UpdateLemmas.{edit_query}
 
@@ -31,34 +31,34 @@ delete_item_columns = col 1 0 ∷ []
 abbrev pub insert_item_terms : List Term
 insert_item_terms = lit Null ∷ lit Null ∷ col 0 0 ∷ col 0 1 ∷ col 0 2 ∷ col 0 3 ∷ col 0 4 ∷ col 0 5 ∷ col 0 6 ∷ col 0 7 ∷ []
 
-pub insert_item_is : command_of (understood archive_schema INSERT_ITEM.now) ≡ Insert 6 (Values insert_item_terms 10)
+pub insert_item_is : (o : Others) → command_of (understood (with_others o) INSERT_ITEM.now) ≡ Insert 6 (Values insert_item_terms 10)
 unfolding understood everything
-insert_item_is = refl
+insert_item_is o = refl
 
-pub insert_item_plain : IsPlain (understood archive_schema INSERT_ITEM.now)
+pub insert_item_plain : (o : Others) → IsPlain (understood (with_others o) INSERT_ITEM.now)
 unfolding understood everything
-insert_item_plain = (refl, refl)
+insert_item_plain o = (refl, refl)
 
-pub select_items_is : (command_of (understood archive_schema SELECT_ITEMS.now) ≡ Select (record { lets = []; body = rows_query 13 [] item_columns }) (codes "id" ∷ codes "id" ∷ codes "suite" ∷ codes "kind" ∷ codes "package" ∷ codes "architecture" ∷ codes "version" ∷ codes "component" ∷ codes "source" ∷ codes "paragraph" ∷ [])) × (reads_listing archive_schema SELECT_ITEMS.now ≡ false)
+pub select_items_is : (o : Others) → (command_of (understood (with_others o) SELECT_ITEMS.now) ≡ Select (record { lets = []; body = rows_query 13 [] item_columns }) (codes "id" ∷ codes "id" ∷ codes "suite" ∷ codes "kind" ∷ codes "package" ∷ codes "architecture" ∷ codes "version" ∷ codes "component" ∷ codes "source" ∷ codes "paragraph" ∷ [])) × (reads_listing (with_others o) SELECT_ITEMS.now ≡ false)
 unfolding understood everything
-select_items_is = (refl, refl)
+select_items_is o = (refl, refl)
 
-pub select_items_plain : IsPlain (understood archive_schema SELECT_ITEMS.now)
+pub select_items_plain : (o : Others) → IsPlain (understood (with_others o) SELECT_ITEMS.now)
 unfolding understood everything
-select_items_plain = (refl, refl)
+select_items_plain o = (refl, refl)
 
-pub select_item_is : (command_of (understood archive_schema SELECT_ITEM.now) ≡ Select (record { lets = []; body = rows_query 13 item_is item_columns }) (codes "id" ∷ codes "id" ∷ codes "suite" ∷ codes "kind" ∷ codes "package" ∷ codes "architecture" ∷ codes "version" ∷ codes "component" ∷ codes "source" ∷ codes "paragraph" ∷ [])) × (reads_listing archive_schema SELECT_ITEM.now ≡ false)
+pub select_item_is : (o : Others) → (command_of (understood (with_others o) SELECT_ITEM.now) ≡ Select (record { lets = []; body = rows_query 13 item_is item_columns }) (codes "id" ∷ codes "id" ∷ codes "suite" ∷ codes "kind" ∷ codes "package" ∷ codes "architecture" ∷ codes "version" ∷ codes "component" ∷ codes "source" ∷ codes "paragraph" ∷ [])) × (reads_listing (with_others o) SELECT_ITEM.now ≡ false)
 unfolding understood everything
-select_item_is = (refl, refl)
+select_item_is o = (refl, refl)
 
-pub select_item_plain : IsPlain (understood archive_schema SELECT_ITEM.now)
+pub select_item_plain : (o : Others) → IsPlain (understood (with_others o) SELECT_ITEM.now)
 unfolding understood everything
-select_item_plain = (refl, refl)
+select_item_plain o = (refl, refl)
 
-pub delete_item_is : command_of (understood archive_schema DELETE_ITEM.now) ≡ Delete 6 (record { lets = []; body = edit_query 13 item_id_is delete_item_columns })
+pub delete_item_is : (o : Others) → command_of (understood (with_others o) DELETE_ITEM.now) ≡ Delete 6 (record { lets = []; body = edit_query 13 item_id_is delete_item_columns })
 unfolding understood everything
-delete_item_is = refl
+delete_item_is o = refl
 
-pub delete_item_plain : IsPlain (understood archive_schema DELETE_ITEM.now)
+pub delete_item_plain : (o : Others) → IsPlain (understood (with_others o) DELETE_ITEM.now)
 unfolding understood everything
-delete_item_plain = (refl, refl)
+delete_item_plain o = (refl, refl)

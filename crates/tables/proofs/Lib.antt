@@ -1,4 +1,6 @@
 pub mod SchemaLemmas
+pub mod CalmLemmas
+pub mod OtherLemmas
 pub mod InsertLemmas
 pub mod RowLemmas
 pub mod CastLemmas
@@ -15,6 +17,7 @@ pub mod TransactionLemmas
 pub mod RefusalLemmas
 pub mod AcceptMeaning
 pub mod CreatingLemmas
+pub mod IndexLemmas
 pub mod EqualLemmas
 pub mod ReadLemmas
 pub mod InsideLemmas

@@ -1,12 +1,12 @@
 -- What the statements on the one row of `meta` do.
-use Rattle.std.proofs.Common.{◌≡◌, ℕ, pos, [], ◌∷◌, Ok, Err, Result, OnOk, refl}
+use Rattle.std.proofs.Common.{lit≤, ◌≡◌, ℕ, pos, [], ◌∷◌, Ok, Err, Result, OnOk, refl}
 use Rattle.sqlite.specs.Table.{Table}
 use Rattle.sqlite.specs.Order.{Row}
 use Rattle.sqlite.specs.declared.types.Value.TheVariants.{Null, Blob}
 use Rattle.sqlite.specs.Cast.{cast_row}
 use Rattle.sqlite.specs.declared.error.Error.{Error}
 use Rattle.sqlite.specs.State.{State, ExecutesInside}
-use Rattle.tables.specs.Schema.{archive_schema, meta}
+use Rattle.tables.specs.Schema.{meta}
 use Rattle.tables.specs.Rows.{whole, Changes, with_meta, meta_cells}
 use Rattle.tables.specs.declared.rows.Meta.{Meta}
 use Rattle.tables.specs.declared.meta.TheConstants.{INSERT_META}
@@ -28,7 +28,7 @@ meta_cast x = rw (cast_null, cast_int (pos x.version))
 pub changes_insert_meta : (old new : State) (x : Meta) (r : Result ℕ Error) → ExecutesInside 0 INSERT_META.now (meta_params x) old new r → OnOk r (Changes old new (with_meta x))
 changes_insert_meta old new x (Ok count) h = record {
   held = λ t was.
-      let put = puts archive_schema INSERT_META.now 0 insert_meta_terms 3 insert_meta_is insert_meta_plain _ _ _ _ _ _ 0 refl (λ _. refl)
+      let put = puts INSERT_META.now 0 insert_meta_terms 3 insert_meta_is insert_meta_plain _ _ _ _ _ _ 0 (λ _. refl) (lit≤ tt)
       old new (meta_params x) (Null ∷ meta_params x) count refl was.schema h.0 in
       record { schema = put.schema_is; rows = holds_with_meta old.now.trees new.now.trees t was.rows _ (adds_row meta_cells meta_table _ x (meta_cast x) old new put t.meta was.rows.meta) put.others };
   shown = h.1;

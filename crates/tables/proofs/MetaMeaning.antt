@@ -8,15 +8,15 @@ use Rattle.sqlite.specs.Term.{Term, lit, col}
 use Rattle.sqlite.specs.Listing.{understood}
 use Rattle.sqlite.proofs.Callers.{command_of, IsPlain}
 use Rattle.tables.specs.declared.meta.TheConstants.{INSERT_META}
-use Rattle.tables.specs.Schema.{archive_schema}
+use Rattle.tables.specs.Others.{Others, with_others}
 
 abbrev pub insert_meta_terms : List Term
 insert_meta_terms = lit Null ∷ col 0 0 ∷ col 0 1 ∷ []
 
-pub insert_meta_is : command_of (understood archive_schema INSERT_META.now) ≡ Insert 0 (Values insert_meta_terms 3)
+pub insert_meta_is : (o : Others) → command_of (understood (with_others o) INSERT_META.now) ≡ Insert 0 (Values insert_meta_terms 3)
 unfolding understood everything
-insert_meta_is = refl
+insert_meta_is o = refl
 
-pub insert_meta_plain : IsPlain (understood archive_schema INSERT_META.now)
+pub insert_meta_plain : (o : Others) → IsPlain (understood (with_others o) INSERT_META.now)
 unfolding understood everything
-insert_meta_plain = (refl, refl)
+insert_meta_plain o = (refl, refl)

@@ -31,7 +31,7 @@ use Rattle.sqlite_value.proofs.OrderLemmas.{value_cmp-Int, then-Equal}
 use Rattle.sqlite_keyed.proofs.ListLemmas.{all_map, all_unmap, all_weaker, map-map}
 use Rattle.sqlite_typed.proofs.AnswerLemmas.{last_table, at_end, matches_are}
 use Rattle.sqlite_typed.proofs.TestLemmas.{at_ints, last_term, truth_or}
-use Rattle.tables.specs.Schema.{archive_schema}
+use Rattle.tables.specs.Others.{Others, others_in, with_others}
 use Rattle.tables.specs.Rows.{Numbered, Tables, Holds, HasRows, nat_of, rows_of, stored, want_cells}
 use Rattle.tables.specs.Reading.{IsReadFirst}
 use Rattle.tables.specs.Wants.{IsNextWanting, bound_below, is_behind, is_wanted_by, wants_behind}
@@ -52,13 +52,13 @@ next_query = record {
   offset = lit (Int (pos 0));
 }
 
-select_next_is : (command_of (understood archive_schema SELECT_NEXT.now) ≡ Select (record { lets = []; body = next_query }) (codes "upload" ∷ [])) × (reads_listing archive_schema SELECT_NEXT.now ≡ false)
+select_next_is : (o : Others) → (command_of (understood (with_others o) SELECT_NEXT.now) ≡ Select (record { lets = []; body = next_query }) (codes "upload" ∷ [])) × (reads_listing (with_others o) SELECT_NEXT.now ≡ false)
 unfolding understood everything
-select_next_is = (refl, refl)
+select_next_is o = (refl, refl)
 
-pub select_next_plain : IsPlain (understood archive_schema SELECT_NEXT.now)
+pub select_next_plain : (o : Others) → IsPlain (understood (with_others o) SELECT_NEXT.now)
 unfolding understood everything
-select_next_plain = (refl, refl)
+select_next_plain o = (refl, refl)
 
 behind_test : (after : Option ℕ) (id : ℕ) → truth_or false (binary (Compare Gt Binary) (Int (pos id)) (Int (bound_below after))) ≡ is_behind after id
 behind_test None id = at_ints false Gt (pos id) (negsuc 0)
@@ -162,6 +162,6 @@ module _ (after : Option ℕ) (xs : Numbered Want) where
 pub next_answer : (old new : State) (t : Tables) (after : Option ℕ) (found : Option ℕ) → Holds old.now t → IsReadFirst (λ row. nat_of (column row 0)) SELECT_NEXT.now (Int (bound_below after) ∷ []) old new found
     → IsNextWanting after (rows_of t.wants) found × IsUnchanged old new
 next_answer old new t after found was h =
-    let read = reads_as SELECT_NEXT.now (Int (bound_below after) ∷ []) old new archive_schema was.schema _ select_next_is.0 select_next_plain select_next_is.1 h.read.rows h.read.shown in
+    let read = reads_as SELECT_NEXT.now (Int (bound_below after) ∷ []) old new (with_others (others_in old.now.schema)) was.schema.is _ (select_next_is (others_in old.now.schema)).0 (select_next_plain (others_in old.now.schema)) (select_next_is (others_in old.now.schema)).1 h.read.rows h.read.shown in
     let is = next_is after t.wants (overlay old.now.trees []) (record { are = was.rows.wants.are; rise = was.rows.wants.rise }) h.read.rows (read.answer Null) in
     (subst (IsNextWanting after (rows_of t.wants)) (sym (h.is ∙ ap (λ l. slice_get l 0) h.read.are)) is, h.read.same)

@@ -7,7 +7,7 @@ use Rattle.std.proofs.lemmas.List.Sorted.{IsPermutation-refl, IsPermutation-tran
 use Rattle.sqlite_keyed.specs.Keyed.{IsKeyedBy, insert_by}
 use Rattle.sqlite_keyed.specs.Lists.{update_where, delete_where}
 use Rattle.sqlite_keyed.proofs.ListLemmas.{along_permutation, all-filter, all_map, all_weaker}
-use Rattle.sqlite_keyed.proofs.KeyedLemmas.{Less-from_lt, int_eq_apart}
+use Rattle.sqlite_keyed.proofs.KeyedLemmas.{Less-from_lt}
 
 module _ {X : Type 0} (key : X → ℤ) where
   turned : (x y : X) → int_eq (key x) (key y) ≡ false → (base : List X) → insert_by key (insert_by key base x) y ≡ insert_by key (insert_by key base y) x

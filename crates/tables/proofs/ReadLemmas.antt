@@ -1,17 +1,15 @@
 -- What a query leaves of the connection.
-use Rattle.std.proofs.Common.{◌≡◌, ◌⊎◌, ℕ, List, map, inl, inr, Option, None, Some, Ok, Err, Result, IfOk, OnErr, OnOk, refl, sym, ap, subst}
-use Rattle.std.specs.Prelude.{◌≢◌}
+use Rattle.std.proofs.Common.{◌⊎◌, ℕ, List, inl, inr, Option, None, Some, Ok, Err, Result, OnErr, refl, sym, subst}
 use Rattle.sqlite_schema.specs.declared.command.Returning.{Returning}
 use Rattle.sqlite_resolve.specs.declared.compiled.Compiled.{Compiled}
 use Rattle.sqlite.specs.Order.{Row}
-use Rattle.sqlite.specs.Effect.{Database}
 use Rattle.sqlite.specs.declared.error.Error.{Error}
 use Rattle.sqlite.specs.Listing.{understood}
 use Rattle.sqlite.specs.Given.{IsPlain}
-use Rattle.sqlite.specs.State.{State, Shown, IsUnchanged, IsNotRun, FailsToQuery, FailsToShow, RunsCommand, IsTooLate}
-use Rattle.tables.specs.Schema.{archive_schema}
+use Rattle.sqlite.specs.State.{State, Shown, IsUnchanged, IsNotRun, FailsToQuery, FailsToShow, IsTooLate}
+use Rattle.tables.specs.Others.{IsArchiveSchema, Others, others_in, with_others}
 use Rattle.tables.specs.Rows.{Stands, Fails, IsForeign}
-use Rattle.tables.specs.Reading.{IsRead, IsPlainIn}
+use Rattle.tables.specs.Reading.{IsPlainIn}
 use Rattle.tables.proofs.SelectLemmas.{unchanged}
 
 module _ (old new : State) where
@@ -44,11 +42,11 @@ module _ (old new : State) where
   unchanged_if_plain sql params rows plain h = unchanged old.now.schema sql params old new rows refl plain h
 
 -- a text that is plain under the archive's schema is not so only in another database
-pub foreign : (sql : List ℕ) → IsPlain (understood archive_schema sql) → (s : State) → ¬ IsPlainIn s sql → IsForeign s.now
-foreign sql plain s not_plain same = not_plain (subst (λ schema. IsPlain (understood schema sql)) (sym same) plain)
+pub foreign : (sql : List ℕ) → ((o : Others) → IsPlain (understood (with_others o) sql)) → (s : State) → ¬ IsPlainIn s sql → IsForeign s.now
+foreign sql plain s not_plain same = not_plain (subst (λ schema. IsPlain (understood schema sql)) (sym same.is) (plain (others_in s.now.schema)))
 
-pub plain_in : (sql : List ℕ) → IsPlain (understood archive_schema sql) → (s : State) → s.now.schema ≡ archive_schema → IsPlainIn s sql
-plain_in sql plain s same = subst (λ schema. IsPlain (understood schema sql)) (sym same) plain
+pub plain_in : (sql : List ℕ) → ((o : Others) → IsPlain (understood (with_others o) sql)) → (s : State) → IsArchiveSchema s.now.schema → IsPlainIn s sql
+plain_in sql plain s same = subst (λ schema. IsPlain (understood schema sql)) (sym same.is) (plain (others_in s.now.schema))
 
 pub on_err : {X E P : Type 0} (r : Result X E) → P → OnErr r P
 on_err (Ok x) h = tt

@@ -1,5 +1,5 @@
 -- What the statements on refs do.
-use Rattle.std.proofs.Common.{◌≡◌, ℕ, pos, [], ◌∷◌, Ok, Err, Result, OnOk, refl, List, filter}
+use Rattle.std.proofs.Common.{lit≤, ◌≡◌, ℕ, pos, [], ◌∷◌, Ok, Err, Result, OnOk, refl, List, filter}
 use Rattle.sqlite.specs.Table.{Table}
 use Rattle.sqlite.specs.declared.types.Value.TheVariants.{Null}
 use Rattle.sqlite.specs.Cast.{cast_row}
@@ -12,7 +12,7 @@ use Rattle.tables.proofs.EqualLemmas.{whole_test}
 use Rattle.tables.proofs.InsertLemmas.{puts}
 use Rattle.tables.proofs.AddLemmas.{adds_row}
 use Rattle.tables.proofs.ShownLemmas.{Shows, reads_stored}
-use Rattle.tables.specs.Schema.{archive_schema, refs}
+use Rattle.tables.specs.Schema.{refs}
 use Rattle.tables.specs.Rows.{whole, Tables, Holds, Changes, with_ref, ref_cells, ref_of, stored, rows_of}
 use Rattle.tables.specs.Refs.{is_ref_of, without_refs}
 use Rattle.tables.specs.declared.rows.Ref.{Ref}
@@ -31,7 +31,7 @@ pub inserts_ref : (old new : State) (x : Ref) (r : Result ℕ Error) → Execute
     → OnOk r (Changes old new (with_ref x))
 inserts_ref old new x (Ok count) h = record {
   held = λ t was.
-      let put = puts archive_schema INSERT_REF.now 7 insert_ref_terms 8 insert_ref_is insert_ref_plain _ _ _ _ _ _ 15 refl (λ _. refl)
+      let put = puts INSERT_REF.now 7 insert_ref_terms 8 insert_ref_is insert_ref_plain _ _ _ _ _ _ 15 (λ _. refl) (lit≤ tt)
       old new (ref_cells x) (Null ∷ ref_cells x) count refl was.schema h.0 in
       record { schema = put.schema_is; rows = with_refs old.now.trees new.now.trees t was.rows _ (adds_row ref_cells refs_table _ x (ref_cast x) old new put t.refs was.rows.refs) put.others };
   shown = h.1;
@@ -39,7 +39,7 @@ inserts_ref old new x (Ok count) h = record {
 inserts_ref old new x (Err e) h = tt
 
 refs_of_show : (item : ℕ) → Shows ref_cells 15 ref_item_is ref_columns (whole item ∷ []) (λ x. is_ref_of item x.1) (stored ref_cells) SELECT_REFS_OF.now
-refs_of_show item = record { names = _; is = select_refs_of_is.0; plain = select_refs_of_plain; unlisted = select_refs_of_is.1; tests = λ x. last_term (whole_test x.1.item item); shows = λ _. refl; real = λ _. refl }
+refs_of_show item = record { names = _; is = (λ o. (select_refs_of_is o).0); plain = select_refs_of_plain; unlisted = (λ o. (select_refs_of_is o).1); tests = λ x. last_term (whole_test x.1.item item); shows = λ _. refl; real = λ _. refl }
 
 pub refs_of_answer : (old new : State) (t : Tables) (item : ℕ) (all : List Ref) → Holds old.now t → IsRead ref_of SELECT_REFS_OF.now (whole item ∷ []) old new all
     → (all ≡ filter (is_ref_of item) (rows_of t.refs)) × IsUnchanged old new
@@ -50,7 +50,7 @@ pub removes_refs : (old new : State) (item : ℕ) (r : Result ℕ Error) → Exe
 removes_refs old new item (Ok count) h = record {
   held = λ t was.
       let params = whole item ∷ [] in
-      let did = deletes DELETE_REFS.now 7 _ delete_refs_plain refs_table refl delete_refs_is old new params count was.schema h.0 in
+      let did = deletes DELETE_REFS.now 7 _ delete_refs_plain refs_table (λ _. refl) (lit≤ tt) delete_refs_is old new params count was.schema h.0 in
       let now = deletes_rows ref_cells 15 ref_item_is delete_refs_columns params (λ x. is_ref_of item x.1) (λ x. whole x.0 ∷ [])
       (λ x. last_term (whole_test x.1.item item)) (λ _. refl) (λ _. refl) (λ _. refl)
       old new t.refs was.rows.refs did.0 did.1 did.2 in

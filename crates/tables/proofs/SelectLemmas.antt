@@ -1,5 +1,5 @@
 -- What the queries on one table answer.
-use Rattle.std.proofs.Common.{◌≡◌, ℕ, pos, negsuc, List, None, [], ◌∷◌, map, filter, true, false, refl, sym, ap, ◌∙◌, arith, lt→ltb, map-id, subst, Bool, find, slice_get}
+use Rattle.std.proofs.Common.{◌≡◌, ℕ, pos, negsuc, List, None, [], ◌∷◌, map, filter, false, refl, sym, ap, ◌∙◌, arith, lt→ltb, map-id, subst, Bool, find, slice_get}
 use Rattle.std.specs.List.{list_all}
 use Rattle.sqlite.specs.Order.{Row}
 use Rattle.sqlite.specs.Schema.{Schema}
@@ -20,7 +20,7 @@ use Rattle.sqlite_keyed.proofs.ListLemmas.{ascending_weaker, map-map, map_same, 
 use Rattle.sqlite_keyed.specs.Keyed.{IsKeyedBy}
 use Rattle.sqlite_typed.proofs.AnswerLemmas.{last_table, at_end, answer_by_keys}
 use Rattle.tables.specs.Rows.{Numbered, HasRows, Rises, stored, rows_of}
-use Rattle.tables.specs.Schema.{archive_schema}
+use Rattle.tables.specs.Others.{IsArchiveSchema, Others, others_in, with_others}
 
 -- the rows of one table that pass the terms, in the order of their rowids
 abbrev pub rows_query : ℕ → List Term → List Term → Query
@@ -47,10 +47,11 @@ module _ {X : Type 0} (cells : X → Row) (tree : ℕ) (where_ project : List Te
       sym (map-id rows) ∙ answer_by_keys (rows_query tree where_ project) db params source p tests (λ r. r) show shows refl refl (λ a b. then-Equal _ ∙ value_cmp-Int _ _) rows got
 
   pub reads_rows : (sql : List ℕ) (names : List (List ℕ)) (real : (db : Trees) → overlay db [] tree ≡ db tree) (old new : State) (rows : List Row) (xs : Numbered X)
-      → command_of (understood archive_schema sql) ≡ Select (record { lets = []; body = rows_query tree where_ project }) names → IsPlain (understood archive_schema sql)
-      → reads_listing archive_schema sql ≡ false → old.now.schema ≡ archive_schema → HasRows cells xs (old.now.trees tree) → Shown sql params old new rows → rows ≡ map show (filter p xs)
+      → ((o : Others) → command_of (understood (with_others o) sql) ≡ Select (record { lets = []; body = rows_query tree where_ project }) names) → ((o : Others) → IsPlain (understood (with_others o) sql))
+      → ((o : Others) → reads_listing (with_others o) sql ≡ false) → IsArchiveSchema old.now.schema → HasRows cells xs (old.now.trees tree) → Shown sql params old new rows → rows ≡ map show (filter p xs)
   reads_rows sql names real old new rows xs is plain unlisted schema has h =
-      let read = reads_as sql params old new archive_schema schema _ is plain unlisted rows h in
+      let o = others_in old.now.schema in
+      let read = reads_as sql params old new (with_others o) schema.is _ (is o) (plain o) (unlisted o) rows h in
       answered (overlay old.now.trees []) xs (record { are = real old.now.trees ∙ has.are; rise = has.rise }) rows (read.answer Null)
 
 -- a query that is no write leaves the connection as it was

@@ -11,7 +11,7 @@ use Rattle.sqlite.proofs.Callers.{command_of, IsPlain}
 use Rattle.sqlite.specs.Term.{Term}
 use Rattle.sqlite_sql.specs.Term.{eval_all, holds}
 use Rattle.sqlite_keyed.proofs.ListLemmas.{map-map, map_same, map_back, filter-map, slice_get-filter}
-use Rattle.tables.specs.Schema.{archive_schema}
+use Rattle.tables.specs.Others.{IsArchiveSchema, Others, with_others}
 use Rattle.tables.specs.Rows.{whole, Numbered, HasRows, stored, row_of, rows_of}
 use Rattle.tables.specs.Reading.{IsRead, IsReadFirst}
 use Rattle.tables.proofs.SelectLemmas.{rows_query, reads_rows}
@@ -27,15 +27,15 @@ shown cells x = whole x.0 ∷ with_id x.0 (cells x.1)
 -- what a query on one table means, and what it shows of a row
 pub record Shows {X : Type 0} (cells : X → Row) (tree : ℕ) (where_ project : List Term) (params : Row) (p : ℕ × X → Bool) (show : ℕ × X → Row) (sql : List ℕ) : Type 0 where
   pub names : List (List ℕ)
-  pub is : command_of (understood archive_schema sql) ≡ Select (record { lets = []; body = rows_query tree where_ project }) names
-  pub plain : IsPlain (understood archive_schema sql)
-  pub unlisted : reads_listing archive_schema sql ≡ false
+  pub is : (o : Others) → command_of (understood (with_others o) sql) ≡ Select (record { lets = []; body = rows_query tree where_ project }) names
+  pub plain : (o : Others) → IsPlain (understood (with_others o) sql)
+  pub unlisted : (o : Others) → reads_listing (with_others o) sql ≡ false
   pub tests : (x : ℕ × X) → list_all (holds (params ∷ stored cells x ∷ [])) where_ ≡ p x
   pub shows : (x : ℕ × X) → eval_all project (params ∷ stored cells x ∷ []) ≡ show x
   pub real : (db : Trees) → overlay db [] tree ≡ db tree
 
 module _ {X : Type 0} (cells : X → Row) (tree : ℕ) (where_ project : List Term) (params : Row) (sql : List ℕ) (old new : State) (xs : Numbered X)
-    (schema : old.now.schema ≡ archive_schema) (has : HasRows cells xs (old.now.trees tree)) where
+    (schema : IsArchiveSchema old.now.schema) (has : HasRows cells xs (old.now.trees tree)) where
   module _ (p : ℕ × X → Bool) (read : Row → X) (back : (x : ℕ × X) → row_of read (shown cells x) ≡ x) (q : Shows cells tree where_ project params p (shown cells) sql) where
     pub reads_shown : (all : List (ℕ × X)) → IsRead (row_of read) sql params old new all → (all ≡ filter p xs) × IsUnchanged old new
     reads_shown all h =

@@ -1,12 +1,12 @@
 -- What the statements on texts do.
-use Rattle.std.proofs.Common.{◌≡◌, ℕ, pos, [], ◌∷◌, Ok, Err, Result, OnOk, refl, false, List, map, filter, find, slice_get, drop, Option, ap, ◌∙◌}
+use Rattle.std.proofs.Common.{lit≤, ◌≡◌, ℕ, pos, [], ◌∷◌, Ok, Err, Result, OnOk, refl, false, List, map, filter, find, slice_get, drop, Option, ap, ◌∙◌}
 use Rattle.sqlite.specs.Table.{Table}
 use Rattle.sqlite.specs.Order.{Row}
 use Rattle.sqlite.specs.declared.types.Value.TheVariants.{Null, Text, Blob}
 use Rattle.sqlite.specs.Cast.{cast_row}
 use Rattle.sqlite.specs.declared.error.Error.{Error}
 use Rattle.sqlite.specs.State.{State, ExecutesInside, Shown, IsUnchanged}
-use Rattle.tables.specs.Schema.{archive_schema, texts}
+use Rattle.tables.specs.Schema.{texts}
 use Rattle.tables.specs.Rows.{whole, Tables, Holds, Changes, with_text, text_cells, text_of, stored, rows_of}
 use Rattle.tables.specs.Texts.{has_path, with_new_text}
 use Rattle.tables.specs.Reading.{IsReadFirst}
@@ -24,7 +24,7 @@ use Rattle.std.proofs.lemmas.Map.Text.{is_eq-slice_cmp}
 use Rattle.sqlite_sql.specs.declared.ops.CompareOp.TheVariants.{Eq}
 
 abbrev texts_table : Table
-texts_table = record texts { tree = 20 }
+texts_table = record texts { tree = 19 }
 
 abbrev pub text_params : IndexText → Row
 text_params x = Text x.path ∷ Blob x.body ∷ []
@@ -35,7 +35,7 @@ text_cast x = rw cast_null
 pub changes_insert_text : (old new : State) (x : IndexText) (r : Result ℕ Error) → ExecutesInside 0 INSERT_TEXT.now (text_params x) old new r → OnOk r (Changes old new (with_text x))
 changes_insert_text old new x (Ok count) h = record {
   held = λ t was.
-      let put = puts archive_schema INSERT_TEXT.now 9 insert_text_terms 3 insert_text_is insert_text_plain _ _ _ _ _ _ 20 refl (λ _. refl)
+      let put = puts INSERT_TEXT.now 9 insert_text_terms 3 insert_text_is insert_text_plain _ _ _ _ _ _ 19 (λ _. refl) (lit≤ tt)
       old new (text_params x) (Null ∷ text_params x) count refl was.schema h.0 in
       record { schema = put.schema_is; rows = with_texts old.now.trees new.now.trees t was.rows _ (adds_row text_cells texts_table _ x (text_cast x) old new put t.texts was.rows.texts) put.others };
   shown = h.1;
@@ -45,9 +45,9 @@ changes_insert_text old new x (Err e) h = tt
 pub text_read : (old new : State) (t : Tables) (path : List ℕ) (rows : List Row) → Holds old.now t → Shown SELECT_TEXT.now (Text path ∷ []) old new rows
     → rows ≡ map (stored text_cells) (filter (λ x. has_path path x.1) t.texts)
 text_read old new t path rows was h =
-    reads_rows text_cells 20 path_is text_columns (Text path ∷ []) (λ x. has_path path x.1) (stored text_cells)
+    reads_rows text_cells 19 path_is text_columns (Text path ∷ []) (λ x. has_path path x.1) (stored text_cells)
     (λ x. last_term (at_texts false Eq x.1.path path ∙ is_eq-slice_cmp x.1.path path)) (λ _. refl)
-    SELECT_TEXT.now _ (λ _. refl) old new rows t.texts select_text_is.0 select_text_plain select_text_is.1 was.schema was.rows.texts h
+    SELECT_TEXT.now _ (λ _. refl) old new rows t.texts (λ o. (select_text_is o).0) select_text_plain (λ o. (select_text_is o).1) was.schema was.rows.texts h
 
 pub text_answer : (old new : State) (t : Tables) (path : List ℕ) (found : Option IndexText) → Holds old.now t → IsReadFirst text_of SELECT_TEXT.now (Text path ∷ []) old new found
     → (found ≡ find (has_path path) (rows_of t.texts)) × IsUnchanged old new
@@ -66,8 +66,8 @@ pub changes_update_text : (old new : State) (path : List ℕ) (body : List ℕ) 
 changes_update_text old new path body (Ok count) h = record {
   held = λ t was.
       let params = Text path ∷ Blob body ∷ [] in
-      let did = updates UPDATE_TEXT.now 9 _ update_text_plain texts_table refl update_text_is old new params count was.schema h.0 in
-      let now = updates_rows text_cells 20 path_is update_text_columns params (λ x. has_path path x.1) (updated body)
+      let did = updates UPDATE_TEXT.now 9 _ update_text_plain texts_table (λ _. refl) (lit≤ tt) update_text_is old new params count was.schema h.0 in
+      let now = updates_rows text_cells 19 path_is update_text_columns params (λ x. has_path path x.1) (updated body)
       (λ x. last_term (at_texts false Eq x.1.path path ∙ is_eq-slice_cmp x.1.path path)) (λ _. refl) (λ _. refl) (λ _. refl)
       old new t.texts was.rows.texts did.0 did.1 (λ x. record x { body = body }) texts_table (updated_cast body) did.2 in
       record { schema = did.2.schema_is; rows = with_texts old.now.trees new.now.trees t was.rows _ now did.2.others };

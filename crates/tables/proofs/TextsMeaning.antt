@@ -12,20 +12,20 @@ use Rattle.sqlite_sql.specs.Term.{op2}
 use Rattle.sqlite_sql.specs.declared.ops.BinaryOp.TheVariants.{Compare}
 use Rattle.sqlite_sql.specs.declared.ops.CompareOp.TheVariants.{Eq}
 use Rattle.tables.specs.declared.texts.TheConstants.{INSERT_TEXT, SELECT_TEXT, UPDATE_TEXT}
-use Rattle.tables.specs.Schema.{archive_schema}
+use Rattle.tables.specs.Others.{Others, with_others}
 use Rattle.tables.proofs.SelectLemmas.{rows_query}
 use Rattle.tables.proofs.UpdateLemmas.{edit_query}
 
 abbrev pub insert_text_terms : List Term
 insert_text_terms = lit Null ∷ col 0 0 ∷ col 0 1 ∷ []
 
-pub insert_text_is : command_of (understood archive_schema INSERT_TEXT.now) ≡ Insert 9 (Values insert_text_terms 3)
+pub insert_text_is : (o : Others) → command_of (understood (with_others o) INSERT_TEXT.now) ≡ Insert 9 (Values insert_text_terms 3)
 unfolding understood everything
-insert_text_is = refl
+insert_text_is o = refl
 
-pub insert_text_plain : IsPlain (understood archive_schema INSERT_TEXT.now)
+pub insert_text_plain : (o : Others) → IsPlain (understood (with_others o) INSERT_TEXT.now)
 unfolding understood everything
-insert_text_plain = (refl, refl)
+insert_text_plain o = (refl, refl)
 
 abbrev pub text_columns : List Term
 text_columns = col 1 0 ∷ col 1 1 ∷ col 1 2 ∷ []
@@ -33,21 +33,21 @@ text_columns = col 1 0 ∷ col 1 1 ∷ col 1 2 ∷ []
 abbrev pub path_is : List Term
 path_is = op2 (Compare Eq Binary) (col 1 1) (col 0 0) ∷ []
 
-pub select_text_is : (command_of (understood archive_schema SELECT_TEXT.now) ≡ Select (record { lets = []; body = rows_query 20 path_is text_columns }) (codes "rowid" ∷ codes "path" ∷ codes "body" ∷ [])) × (reads_listing archive_schema SELECT_TEXT.now ≡ false)
+pub select_text_is : (o : Others) → (command_of (understood (with_others o) SELECT_TEXT.now) ≡ Select (record { lets = []; body = rows_query 19 path_is text_columns }) (codes "rowid" ∷ codes "path" ∷ codes "body" ∷ [])) × (reads_listing (with_others o) SELECT_TEXT.now ≡ false)
 unfolding understood everything
-select_text_is = (refl, refl)
+select_text_is o = (refl, refl)
 
-pub select_text_plain : IsPlain (understood archive_schema SELECT_TEXT.now)
+pub select_text_plain : (o : Others) → IsPlain (understood (with_others o) SELECT_TEXT.now)
 unfolding understood everything
-select_text_plain = (refl, refl)
+select_text_plain o = (refl, refl)
 
 abbrev pub update_text_columns : List Term
 update_text_columns = col 1 0 ∷ col 1 0 ∷ col 1 1 ∷ col 0 1 ∷ []
 
-pub update_text_is : command_of (understood archive_schema UPDATE_TEXT.now) ≡ Update 9 (record { lets = []; body = edit_query 20 path_is update_text_columns })
+pub update_text_is : (o : Others) → command_of (understood (with_others o) UPDATE_TEXT.now) ≡ Update 9 (record { lets = []; body = edit_query 19 path_is update_text_columns })
 unfolding understood everything
-update_text_is = refl
+update_text_is o = refl
 
-pub update_text_plain : IsPlain (understood archive_schema UPDATE_TEXT.now)
+pub update_text_plain : (o : Others) → IsPlain (understood (with_others o) UPDATE_TEXT.now)
 unfolding understood everything
-update_text_plain = (refl, refl)
+update_text_plain o = (refl, refl)

@@ -1,17 +1,15 @@
 -- What an UPDATE or a DELETE of the rows that pass a test leaves of a table.
-use Rattle.std.proofs.Common.{◌≡◌, ◌≢◌, ℕ, ◌<◌, ℤ, ◌<ℤ◌, not, pos, negsuc, Bool, true, false, cond, List, [], ◌∷◌, map, filter, fold, drop, slice_get, Some, None, Ok, refl, sym, ap, subst, subst₂, ◌∙◌, arith, map-id, IsPermutation, length, flat_map, filter_map, ◌==◌}
-use Rattle.sqlite_schema.specs.Rules.{parent_key}
+use Rattle.std.proofs.Common.{◌≡◌, ◌≢◌, ◌≤◌, ℕ, ◌<◌, ℤ, ◌<ℤ◌, not, pos, negsuc, Bool, false, cond, List, [], ◌∷◌, map, filter, fold, drop, slice_get, Some, None, Ok, refl, sym, ap, subst, subst₂, ◌∙◌, IsPermutation}
 use Rattle.std.specs.List.{AllByRecursion, list_all}
 use Rattle.std.proofs.lemmas.Bool.{cond_both}
 use Rattle.std.proofs.lemmas.List.Sorted.{IsPermutation-map}
 use Rattle.sqlite.specs.Order.{Row}
 use Rattle.sqlite.specs.declared.types.Value.TheVariants.{Null, Int}
 use Rattle.sqlite_trees.specs.Tree.{Trees, rowid, put_row}
-use Rattle.sqlite_rules.specs.Edit.{edit_of, edited, taken_by, without_all, put_all, numbered, id_in}
+use Rattle.sqlite_rules.specs.Edit.{edit_of, taken_by, without_all, put_all, numbered, id_in}
 use Rattle.sqlite_rules.specs.Calls.{ids_of}
 use Rattle.sqlite_rules.specs.Cast.{cast_row}
-use Rattle.sqlite_rules.specs.Action.{works, work_by, deed_for, pairs}
-use Rattle.sqlite_rules.specs.declared.error.Rowids.TheVariants.{Chosen, Above, Given}
+use Rattle.sqlite_rules.specs.declared.error.Rowids.TheVariants.{Given}
 use Rattle.sqlite_schema.specs.declared.schema.Keys.TheVariants.{Enforced}
 use Rattle.sqlite.specs.Command.TheVariants.{Update, Delete}
 use Rattle.sqlite.specs.Table.{Table}
@@ -21,18 +19,20 @@ use Rattle.sqlite.specs.Rows.{Written}
 use Rattle.sqlite.specs.Listing.{understood}
 use Rattle.sqlite.specs.State.{State, mode_of, Executes}
 use Rattle.sqlite.specs.Program.{overlay}
-use Rattle.sqlite.specs.Query.{Query, inner, end, output, IsAnswer, IsKept}
+use Rattle.sqlite.specs.Query.{Query, inner, end, output, IsAnswer}
 use Rattle.sqlite.specs.Term.{Term, lit}
-use Rattle.sqlite_sql.specs.Group.{IsGrouped}
 use Rattle.sqlite_sql.specs.Term.{eval_all, holds}
 use Rattle.sqlite.proofs.Callers.{IsPlain, command_of, statement_of, runs_as, one_step}
-use Rattle.sqlite_keyed.specs.Keyed.{IsKeyedBy, insert_by}
-use Rattle.sqlite_keyed.specs.Lists.{update_where, delete_where}
-use Rattle.sqlite_keyed.proofs.ListLemmas.{map-map, map_same, all_map, all_weaker, ascending-map, ascending-filter, ascending_weaker}
+use Rattle.sqlite_keyed.specs.Keyed.{IsKeyedBy}
+use Rattle.sqlite_keyed.specs.Lists.{delete_where}
+use Rattle.sqlite_keyed.proofs.ListLemmas.{map-map, map_same, ascending-map, ascending-filter, ascending_weaker}
 use Rattle.sqlite_typed.proofs.AnswerLemmas.{last_table, at_end, matches_are}
 use Rattle.sqlite_typed.proofs.RowLemmas.{puts-map}
 use Rattle.tables.specs.Schema.{archive_schema}
-use Rattle.tables.specs.Rows.{Numbered, HasRows, Rises, stored, changed, without}
+use Rattle.tables.specs.Others.{IsArchiveSchema, Others, last_tree, others_in, with_others}
+use Rattle.tables.proofs.CalmLemmas.{calm}
+use Rattle.tables.proofs.OtherLemmas.{own_tables, stays}
+use Rattle.tables.specs.Rows.{Numbered, HasRows, stored, changed, without}
 use Rattle.tables.proofs.InsertLemmas.{went, same_value}
 use Rattle.tables.proofs.SelectLemmas.{keyed_if_rises}
 use Rattle.tables.proofs.DeleteLemmas.{deleted}
@@ -52,71 +52,71 @@ edit_query tree where_ project = record {
   offset = lit (Int (pos 0));
 }
 
--- no foreign key of the archive acts
-pub calm : (tree : ℕ) (olds news : List Row) → works archive_schema Enforced 0 tree olds news ≡ []
-calm tree olds news =
-    elim (length news == 0) as (λ b. flat_map (λ child. filter_map (λ ref. work_by 0 tree (pairs olds news) child ref (deed_for Enforced b ref) (parent_key archive_schema.tables ref)) child.references) archive_schema.tables ≡ [])
-    [ true ↦ refl | false ↦ refl ]
-
 -- the rows that the query found are taken out, and these are put in
 pub record Edits (tree : ℕ) (found news : List Row) (old new : State) : Type 0 where
-  pub schema_is : new.now.schema ≡ archive_schema
+  pub schema_is : IsArchiveSchema new.now.schema
   pub rows : new.now.trees tree ≡ put_all (without_all (old.now.trees tree) (ids_of found)) news
   pub others : AllByRecursion (λ t. t.tree ≢ tree → new.now.trees t.tree ≡ old.now.trees t.tree) archive_schema.tables
 
-module _ (sql : List ℕ) (at : ℕ) (q : Query) (plain : IsPlain (understood archive_schema sql)) (into : Table) (there : slice_get archive_schema.tables at ≡ Some into) where
-  module _ (is : command_of (understood archive_schema sql) ≡ Update at (record { lets = []; body = q })) where
+module _ (sql : List ℕ) (at : ℕ) (q : Query) (plain : (o : Others) → IsPlain (understood (with_others o) sql)) (into : Table) (there : (o : Others) → slice_get (with_others o).tables at ≡ Some into) (low : into.tree ≤ last_tree) where
+  module _ (is : (o : Others) → command_of (understood (with_others o) sql) ≡ Update at (record { lets = []; body = q })) where
     -- an UPDATE
-    pub updates : (old new : State) (params : Row) (count : ℕ) → old.now.schema ≡ archive_schema → Executes sql params old new (Ok count)
+    pub updates : (old new : State) (params : Row) (count : ℕ) → IsArchiveSchema old.now.schema → Executes sql params old new (Ok count)
         → (found : List Row) × IsAnswer q (overlay old.now.trees []) params found
         × Edits into.tree found (numbered Given (without_all (old.now.trees into.tree) (ids_of found)) (map (λ s. cast_row into (drop 1 s)) found)) old new
-    updates old new params count has h =
+    updates old new params count was h =
+        let o = others_in old.now.schema in
+        let schema = with_others o in
+        let has = was.is in
         let db = old.now.trees in
-        let w = runs_as sql params old new archive_schema has (Update at (record { lets = []; body = q })) is plain count h in
-        let text = statement_of sql (understood archive_schema sql) in
+        let w = runs_as sql params old new schema has (Update at (record { lets = []; body = q })) (is o) (plain o) count h in
+        let text = statement_of sql (understood schema sql) in
         let change = subst (λ s. Does old.step_limit (mode_of old) params (record old.now { schema = s }) text None (Update at (record { lets = []; body = q })) (Ok (w.tally, new.now))) has w.changed in
-        let done = went (rw there at change) in
+        let done = went (rw (there o) at change) in
         let now = ap (λ (p : Tally × Database). p.1) (same_value (went (went done.2).2).2) in
         let given = went done.1 in
         let written = went given.2 in
         let found = given.0 in
         let edit = edit_of db into (ids_of found) Given 1 found in
         let trees : done.0.trees ≡ written.0 = ap (λ (it : Written). it.trees) (same_value written.2) in
-        let applied = one_step archive_schema Enforced db written.0 edit (calm into.tree (taken_by db edit) edit.news) written.1 in
+        let applied = one_step schema Enforced db written.0 edit (calm o was.apart into.tree low (taken_by db edit) edit.news) written.1 in
         let all : new.now.trees ≡ written.0 = ap (λ (d : Database). d.trees) now ∙ trees in (
           found,
           given.1.answer Null,
           record {
-            schema_is = ap (λ (d : Database). d.schema) now;
+            schema_is = stays old.now.schema new.now.schema was (ap (λ (d : Database). d.schema) now);
             rows = ap (λ (t : Trees). t into.tree) all ∙ applied.rows;
-            others = subst (λ (n : Trees). AllByRecursion (λ t. t.tree ≢ into.tree → n t.tree ≡ db t.tree) archive_schema.tables) (sym all) applied.tables;
+            others = subst (λ (n : Trees). AllByRecursion (λ t. t.tree ≢ into.tree → n t.tree ≡ db t.tree) archive_schema.tables) (sym all) (own_tables (λ t. t.tree ≢ into.tree → written.0 t.tree ≡ db t.tree) o applied.tables);
           },
         )
 
-  module _ (is : command_of (understood archive_schema sql) ≡ Delete at (record { lets = []; body = q })) where
+  module _ (is : (o : Others) → command_of (understood (with_others o) sql) ≡ Delete at (record { lets = []; body = q })) where
     -- a DELETE
-    pub deletes : (old new : State) (params : Row) (count : ℕ) → old.now.schema ≡ archive_schema → Executes sql params old new (Ok count)
+    pub deletes : (old new : State) (params : Row) (count : ℕ) → IsArchiveSchema old.now.schema → Executes sql params old new (Ok count)
         → (found : List Row) × IsAnswer q (overlay old.now.trees []) params found × Edits into.tree found [] old new
-    deletes old new params count has h =
+    deletes old new params count was h =
+        let o = others_in old.now.schema in
+        let schema = with_others o in
+        let has = was.is in
         let db = old.now.trees in
-        let w = runs_as sql params old new archive_schema has (Delete at (record { lets = []; body = q })) is plain count h in
-        let text = statement_of sql (understood archive_schema sql) in
+        let w = runs_as sql params old new schema has (Delete at (record { lets = []; body = q })) (is o) (plain o) count h in
+        let text = statement_of sql (understood schema sql) in
         let change = subst (λ s. Does old.step_limit (mode_of old) params (record old.now { schema = s }) text None (Delete at (record { lets = []; body = q })) (Ok (w.tally, new.now))) has w.changed in
-        let done = went (rw there at change) in
+        let done = went (rw (there o) at change) in
         let now = ap (λ (p : Tally × Database). p.1) (same_value (went (went done.2).2).2) in
         let given = went done.1 in
         let written = went given.2 in
         let found = given.0 in
         let edit = edit_of db into (ids_of found) Given 0 [] in
         let trees : done.0.trees ≡ written.0 = ap (λ (it : Written). it.trees) (same_value written.2) in
-        let applied = one_step archive_schema Enforced db written.0 edit (calm into.tree (taken_by db edit) edit.news) written.1 in
+        let applied = one_step schema Enforced db written.0 edit (calm o was.apart into.tree low (taken_by db edit) edit.news) written.1 in
         let all : new.now.trees ≡ written.0 = ap (λ (d : Database). d.trees) now ∙ trees in (
           found,
           given.1.answer Null,
           record {
-            schema_is = ap (λ (d : Database). d.schema) now;
+            schema_is = stays old.now.schema new.now.schema was (ap (λ (d : Database). d.schema) now);
             rows = ap (λ (t : Trees). t into.tree) all ∙ applied.rows;
-            others = subst (λ (n : Trees). AllByRecursion (λ t. t.tree ≢ into.tree → n t.tree ≡ db t.tree) archive_schema.tables) (sym all) applied.tables;
+            others = subst (λ (n : Trees). AllByRecursion (λ t. t.tree ≢ into.tree → n t.tree ≡ db t.tree) archive_schema.tables) (sym all) (own_tables (λ t. t.tree ≢ into.tree → written.0 t.tree ≡ db t.tree) o applied.tables);
           },
         )
 

@@ -1,5 +1,5 @@
 -- What the statements on uploads do.
-use Rattle.std.proofs.Common.{◌≡◌, ℕ, pos, [], ◌∷◌, ◌++◌, Ok, Err, Result, OnOk, refl, List, find, drop, Option, Some, None, ap, ◌∙◌}
+use Rattle.std.proofs.Common.{lit≤, ◌≡◌, ℕ, pos, [], ◌∷◌, ◌++◌, Ok, Err, Result, OnOk, refl, List, find, drop, Option, Some, None, ap, ◌∙◌}
 use Rattle.sqlite.specs.Table.{Table}
 use Rattle.sqlite.specs.Order.{Row}
 use Rattle.sqlite.specs.declared.types.Value.TheVariants.{Null, Text}
@@ -17,7 +17,7 @@ use Rattle.tables.proofs.AddLemmas.{adds_row, adds_id}
 use Rattle.tables.proofs.ShownLemmas.{Shows, shown}
 use Rattle.std.specs.Prelude.{nat_eq}
 use Rattle.sums.specs.declared.print.Print.{Print}
-use Rattle.tables.specs.Schema.{archive_schema, uploads}
+use Rattle.tables.specs.Schema.{uploads}
 use Rattle.tables.specs.Rows.{whole, print_cells, Tables, Holds, Changes, full_upload, with_upload, upload_cells, upload_of, row_of, some_nat, stored, next_in}
 use Rattle.tables.specs.Uploads.{is_upload, with_verdict, without_upload}
 use Rattle.tables.specs.declared.rows.Upload.{Upload}
@@ -42,7 +42,7 @@ pub inserts_upload : (old new : State) (name : List ℕ) (print : Print) (count 
 inserts_upload old new name print count h =
     let upload : Upload = record { name = name; print = print; place = None; verdict = None } in
     let put = λ (t : Tables) (was : Holds old.now t).
-    puts archive_schema INSERT_UPLOAD.now 4 insert_upload_terms 9 insert_upload_is insert_upload_plain _ _ _ _ _ _ 7 refl (λ _. refl)
+    puts INSERT_UPLOAD.now 4 insert_upload_terms 9 insert_upload_is insert_upload_plain _ _ _ _ _ _ 7 (λ _. refl) (lit≤ tt)
     old new (Text name ∷ print_cells print) (Null ∷ (Null ∷ (Text name ∷ (print_cells print ++ Null ∷ Null ∷ [])))) count refl was.schema h.0 in
     let raws = λ (t : Tables) (was : Holds old.now t). raw_rows storing t.uploads (old.now.trees 7) was.rows.uploads in (
       record {
@@ -67,7 +67,7 @@ upload_back x =
     λ i. (x.0, record x.1 { place = place i; verdict = verdict i })
 
 upload_shows : (name : List ℕ) (print : Print) → Shows upload_cells 7 upload_is upload_columns (Text name ∷ print_cells print) (λ x. is_upload name print x.1) (shown upload_cells) SELECT_UPLOAD.now
-upload_shows name print = record { names = _; is = select_upload_is.0; plain = select_upload_plain; unlisted = select_upload_is.1; tests = λ x. then_term (text_test x.1.name name) (print_test x.1.print print); shows = λ _. refl; real = λ _. refl }
+upload_shows name print = record { names = _; is = (λ o. (select_upload_is o).0); plain = select_upload_plain; unlisted = (λ o. (select_upload_is o).1); tests = λ x. then_term (text_test x.1.name name) (print_test x.1.print print); shows = λ _. refl; real = λ _. refl }
 
 pub upload_answer : (old new : State) (t : Tables) (name : List ℕ) (print : Print) (found : Option (ℕ × Upload)) → Holds old.now t → IsReadFirst (row_of upload_of) SELECT_UPLOAD.now (Text name ∷ print_cells print) old new found
     → (found ≡ find (λ x. is_upload name print x.1) t.uploads) × IsUnchanged old new
@@ -76,7 +76,7 @@ upload_answer old new t name print found was h =
     (record { tests = λ _. refl; shows = λ _. refl }) found h
 
 numbered_show : (id : ℕ) → Shows upload_cells 7 upload_id_is upload_columns (whole id ∷ []) (λ x. nat_eq x.0 id) (shown upload_cells) SELECT_NUMBERED.now
-numbered_show id = record { names = _; is = select_numbered_is.0; plain = select_numbered_plain; unlisted = select_numbered_is.1; tests = λ x. last_term (whole_test x.0 id); shows = λ _. refl; real = λ _. refl }
+numbered_show id = record { names = _; is = (λ o. (select_numbered_is o).0); plain = select_numbered_plain; unlisted = (λ o. (select_numbered_is o).1); tests = λ x. last_term (whole_test x.0 id); shows = λ _. refl; real = λ _. refl }
 
 pub numbered_answer : (old new : State) (t : Tables) (id : ℕ) (found : Option (ℕ × Upload)) → Holds old.now t → IsReadFirst (row_of upload_of) SELECT_NUMBERED.now (whole id ∷ []) old new found
     → (found ≡ find (λ x. nat_eq x.0 id) t.uploads) × IsUnchanged old new
@@ -99,7 +99,7 @@ pub changes_verdict : (old new : State) (id place verdict : ℕ) (r : Result ℕ
 changes_verdict old new id place verdict (Ok count) h = record {
   held = λ t was.
       let params = whole id ∷ whole place ∷ whole verdict ∷ [] in
-      let did = updates UPDATE_VERDICT.now 4 _ update_verdict_plain uploads_table refl update_verdict_is old new params count was.schema h.0 in
+      let did = updates UPDATE_VERDICT.now 4 _ update_verdict_plain uploads_table (λ _. refl) (lit≤ tt) update_verdict_is old new params count was.schema h.0 in
       let r = raw_rows storing t.uploads (old.now.trees 7) was.rows.uploads in
       let now = updates_rows (raw_cells storing) 7 upload_id_is update_verdict_columns params (λ x. nat_eq x.0 id) (λ x. updated place verdict (value_in storing x))
       (λ x. last_term (whole_test x.0 id)) (λ x. ap (λ row. eval_all update_verdict_columns (params ∷ row ∷ [])) (full_as storing x)) (λ _. refl) (λ _. refl)
@@ -114,7 +114,7 @@ pub removes_upload : (old new : State) (id : ℕ) (r : Result ℕ Error) → Exe
 removes_upload old new id (Ok count) h = record {
   held = λ t was.
       let params = whole id ∷ [] in
-      let did = deletes DELETE_UPLOAD.now 4 _ delete_upload_plain uploads_table refl delete_upload_is old new params count was.schema h.0 in
+      let did = deletes DELETE_UPLOAD.now 4 _ delete_upload_plain uploads_table (λ _. refl) (lit≤ tt) delete_upload_is old new params count was.schema h.0 in
       let now = deletes_full storing 7 upload_id_is delete_upload_columns params (λ x. nat_eq x.0 id) (λ x. whole x.0 ∷ []) (record { tests = λ _. refl; shows = λ _. refl })
       (λ x. last_term (whole_test x.0 id)) (λ _. refl) (λ _. refl) (λ _. refl)
       old new t.uploads was.rows.uploads did.0 did.1 did.2 in

@@ -1,5 +1,5 @@
 -- What the statements on wants do.
-use Rattle.std.proofs.Common.{◌≡◌, ℕ, pos, [], ◌∷◌, ◌++◌, Ok, Err, Result, OnOk, refl, true, false, List, filter, drop, Bool, if◌then◌else◌}
+use Rattle.std.proofs.Common.{lit≤, ◌≡◌, ℕ, pos, [], ◌∷◌, ◌++◌, Ok, Err, Result, OnOk, refl, true, false, List, filter, drop, Bool, if◌then◌else◌}
 use Rattle.sqlite.specs.Table.{Table}
 use Rattle.sqlite.specs.Order.{Row}
 use Rattle.sqlite.specs.declared.types.Value.TheVariants.{Null, Text}
@@ -7,16 +7,15 @@ use Rattle.sqlite.specs.Cast.{cast_row}
 use Rattle.sqlite.specs.declared.error.Error.{Error}
 use Rattle.sqlite.specs.State.{State, ExecutesInside, IsUnchanged}
 use Rattle.sqlite_typed.proofs.TestLemmas.{then_term, last_term}
-use Rattle.sqlite_typed.proofs.AnswerLemmas.{unfiltered}
 use Rattle.tables.specs.Reading.{IsRead}
 use Rattle.tables.proofs.CastLemmas.{cast_null, cast_int}
 use Rattle.tables.proofs.EqualLemmas.{whole_test, text_test}
 use Rattle.tables.proofs.PrintLemmas.{print_test}
 use Rattle.tables.proofs.InsertLemmas.{puts}
 use Rattle.tables.proofs.AddLemmas.{adds_row}
-use Rattle.tables.proofs.ShownLemmas.{Shows, shown, reads_stored}
+use Rattle.tables.proofs.ShownLemmas.{Shows, reads_stored}
 use Rattle.sums.specs.declared.print.Print.{Print}
-use Rattle.tables.specs.Schema.{archive_schema, wants}
+use Rattle.tables.specs.Schema.{wants}
 use Rattle.tables.specs.Rows.{whole, flag, print_cells, Tables, Holds, Changes, with_want, want_cells, want_of, stored, rows_of}
 use Rattle.tables.specs.Wants.{is_wanted_by, is_want, with_away, with_here, without_wants}
 use Rattle.tables.specs.declared.rows.Want.{Want}
@@ -35,7 +34,7 @@ pub inserts_want : (old new : State) (upload : ℕ) (name : List ℕ) (print : P
     → OnOk r (Changes old new (with_want (record { upload = upload; name = name; print = print; here = here })))
 inserts_want old new upload name print here (Ok count) h = record {
   held = λ t was.
-      let put = puts archive_schema INSERT_WANT.now 5 insert_want_terms 8 insert_want_is insert_want_plain _ _ _ _ _ _ 10 refl (λ _. refl)
+      let put = puts INSERT_WANT.now 5 insert_want_terms 8 insert_want_is insert_want_plain _ _ _ _ _ _ 10 (λ _. refl) (lit≤ tt)
       old new (whole upload ∷ Text name ∷ (print_cells print ++ flag here ∷ [])) (Null ∷ (whole upload ∷ Text name ∷ (print_cells print ++ flag here ∷ []))) count refl was.schema h.0 in
       record { schema = put.schema_is; rows = with_wants old.now.trees new.now.trees t was.rows _ (adds_row want_cells wants_table _ (record { upload = upload; name = name; print = print; here = here }) (want_cast upload name print here) old new put t.wants was.rows.wants) put.others };
   shown = h.1;
@@ -46,7 +45,7 @@ want_back : (x : ℕ × Want) → want_of (stored want_cells x) ≡ x.1
 want_back x = elim x.1.here as (λ b. want_of (stored want_cells (x.0, record x.1 { here = b })) ≡ record x.1 { here = b }) [ true ↦ refl | false ↦ refl ]
 
 wants_of_show : (upload : ℕ) → Shows want_cells 10 want_upload_is want_columns (whole upload ∷ []) (λ x. is_wanted_by upload x.1) (stored want_cells) SELECT_WANTS_OF.now
-wants_of_show upload = record { names = _; is = select_wants_of_is.0; plain = select_wants_of_plain; unlisted = select_wants_of_is.1; tests = λ x. last_term (whole_test x.1.upload upload); shows = λ _. refl; real = λ _. refl }
+wants_of_show upload = record { names = _; is = (λ o. (select_wants_of_is o).0); plain = select_wants_of_plain; unlisted = (λ o. (select_wants_of_is o).1); tests = λ x. last_term (whole_test x.1.upload upload); shows = λ _. refl; real = λ _. refl }
 
 pub wants_of_answer : (old new : State) (t : Tables) (upload : ℕ) (all : List Want) → Holds old.now t → IsRead want_of SELECT_WANTS_OF.now (whole upload ∷ []) old new all
     → (all ≡ filter (is_wanted_by upload) (rows_of t.wants)) × IsUnchanged old new
@@ -65,7 +64,7 @@ pub changes_here : (old new : State) (name : List ℕ) (print : Print) (r : Resu
 changes_here old new name print (Ok count) h = record {
   held = λ t was.
       let params = Text name ∷ print_cells print in
-      let did = updates UPDATE_HERE.now 5 _ update_here_plain wants_table refl update_here_is old new params count was.schema h.0 in
+      let did = updates UPDATE_HERE.now 5 _ update_here_plain wants_table (λ _. refl) (lit≤ tt) update_here_is old new params count was.schema h.0 in
       let now = updates_rows want_cells 10 want_is update_here_columns params (λ x. is_want name print x.1) updated
       (λ x. then_term (text_test x.1.name name) (print_test x.1.print print)) (λ _. refl) (λ _. refl) (λ _. refl)
       old new t.wants was.rows.wants did.0 did.1 (λ x. record x { here = true }) wants_table updated_cast did.2 in
@@ -86,7 +85,7 @@ pub changes_away : (old new : State) (name : List ℕ) (print : Print) (r : Resu
 changes_away old new name print (Ok count) h = record {
   held = λ t was.
       let params = Text name ∷ print_cells print in
-      let did = updates UPDATE_AWAY.now 5 _ update_away_plain wants_table refl update_away_is old new params count was.schema h.0 in
+      let did = updates UPDATE_AWAY.now 5 _ update_away_plain wants_table (λ _. refl) (lit≤ tt) update_away_is old new params count was.schema h.0 in
       let now = updates_rows want_cells 10 want_is update_away_columns params (λ x. is_want name print x.1) updated_away
       (λ x. then_term (text_test x.1.name name) (print_test x.1.print print)) (λ _. refl) (λ _. refl) (λ _. refl)
       old new t.wants was.rows.wants did.0 did.1 (λ x. record x { here = false }) wants_table away_cast did.2 in
@@ -99,7 +98,7 @@ pub changes_wants : (old new : State) (upload : ℕ) (r : Result ℕ Error) → 
 changes_wants old new upload (Ok count) h = record {
   held = λ t was.
       let params = whole upload ∷ [] in
-      let did = deletes DELETE_WANTS.now 5 _ delete_wants_plain wants_table refl delete_wants_is old new params count was.schema h.0 in
+      let did = deletes DELETE_WANTS.now 5 _ delete_wants_plain wants_table (λ _. refl) (lit≤ tt) delete_wants_is old new params count was.schema h.0 in
       let now = deletes_rows want_cells 10 want_upload_is delete_wants_columns params (λ x. is_wanted_by upload x.1) (λ x. whole x.0 ∷ [])
       (λ x. last_term (whole_test x.1.upload upload)) (λ _. refl) (λ _. refl) (λ _. refl)
       old new t.wants was.rows.wants did.0 did.1 did.2 in

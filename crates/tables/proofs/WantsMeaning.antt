@@ -12,7 +12,7 @@ use Rattle.sqlite_sql.specs.Term.{op2}
 use Rattle.sqlite_sql.specs.declared.ops.BinaryOp.TheVariants.{Compare}
 use Rattle.sqlite_sql.specs.declared.ops.CompareOp.TheVariants.{Eq}
 use Rattle.tables.specs.declared.wants.TheConstants.{INSERT_WANT, SELECT_WANTS_OF, UPDATE_HERE, UPDATE_AWAY, DELETE_WANTS}
-use Rattle.tables.specs.Schema.{archive_schema}
+use Rattle.tables.specs.Others.{Others, with_others}
 use Rattle.tables.proofs.SelectLemmas.{rows_query}
 use Rattle.tables.proofs.UpdateLemmas.{edit_query}
 
@@ -37,42 +37,42 @@ delete_wants_columns = col 1 0 ∷ []
 abbrev pub insert_want_terms : List Term
 insert_want_terms = lit Null ∷ col 0 0 ∷ col 0 1 ∷ col 0 2 ∷ col 0 3 ∷ col 0 4 ∷ col 0 5 ∷ col 0 6 ∷ []
 
-pub insert_want_is : command_of (understood archive_schema INSERT_WANT.now) ≡ Insert 5 (Values insert_want_terms 8)
+pub insert_want_is : (o : Others) → command_of (understood (with_others o) INSERT_WANT.now) ≡ Insert 5 (Values insert_want_terms 8)
 unfolding understood everything
-insert_want_is = refl
+insert_want_is o = refl
 
-pub insert_want_plain : IsPlain (understood archive_schema INSERT_WANT.now)
+pub insert_want_plain : (o : Others) → IsPlain (understood (with_others o) INSERT_WANT.now)
 unfolding understood everything
-insert_want_plain = (refl, refl)
+insert_want_plain o = (refl, refl)
 
-pub select_wants_of_is : (command_of (understood archive_schema SELECT_WANTS_OF.now) ≡ Select (record { lets = []; body = rows_query 10 want_upload_is want_columns }) (codes "rowid" ∷ codes "upload" ∷ codes "name" ∷ codes "size" ∷ codes "md5" ∷ codes "sha1" ∷ codes "sha256" ∷ codes "here" ∷ [])) × (reads_listing archive_schema SELECT_WANTS_OF.now ≡ false)
+pub select_wants_of_is : (o : Others) → (command_of (understood (with_others o) SELECT_WANTS_OF.now) ≡ Select (record { lets = []; body = rows_query 10 want_upload_is want_columns }) (codes "rowid" ∷ codes "upload" ∷ codes "name" ∷ codes "size" ∷ codes "md5" ∷ codes "sha1" ∷ codes "sha256" ∷ codes "here" ∷ [])) × (reads_listing (with_others o) SELECT_WANTS_OF.now ≡ false)
 unfolding understood everything
-select_wants_of_is = (refl, refl)
+select_wants_of_is o = (refl, refl)
 
-pub select_wants_of_plain : IsPlain (understood archive_schema SELECT_WANTS_OF.now)
+pub select_wants_of_plain : (o : Others) → IsPlain (understood (with_others o) SELECT_WANTS_OF.now)
 unfolding understood everything
-select_wants_of_plain = (refl, refl)
+select_wants_of_plain o = (refl, refl)
 
-pub update_here_is : command_of (understood archive_schema UPDATE_HERE.now) ≡ Update 5 (record { lets = []; body = edit_query 10 want_is update_here_columns })
+pub update_here_is : (o : Others) → command_of (understood (with_others o) UPDATE_HERE.now) ≡ Update 5 (record { lets = []; body = edit_query 10 want_is update_here_columns })
 unfolding understood everything
-update_here_is = refl
+update_here_is o = refl
 
-pub update_here_plain : IsPlain (understood archive_schema UPDATE_HERE.now)
+pub update_here_plain : (o : Others) → IsPlain (understood (with_others o) UPDATE_HERE.now)
 unfolding understood everything
-update_here_plain = (refl, refl)
+update_here_plain o = (refl, refl)
 
-pub update_away_is : command_of (understood archive_schema UPDATE_AWAY.now) ≡ Update 5 (record { lets = []; body = edit_query 10 want_is update_away_columns })
+pub update_away_is : (o : Others) → command_of (understood (with_others o) UPDATE_AWAY.now) ≡ Update 5 (record { lets = []; body = edit_query 10 want_is update_away_columns })
 unfolding understood everything
-update_away_is = refl
+update_away_is o = refl
 
-pub update_away_plain : IsPlain (understood archive_schema UPDATE_AWAY.now)
+pub update_away_plain : (o : Others) → IsPlain (understood (with_others o) UPDATE_AWAY.now)
 unfolding understood everything
-update_away_plain = (refl, refl)
+update_away_plain o = (refl, refl)
 
-pub delete_wants_is : command_of (understood archive_schema DELETE_WANTS.now) ≡ Delete 5 (record { lets = []; body = edit_query 10 want_upload_is delete_wants_columns })
+pub delete_wants_is : (o : Others) → command_of (understood (with_others o) DELETE_WANTS.now) ≡ Delete 5 (record { lets = []; body = edit_query 10 want_upload_is delete_wants_columns })
 unfolding understood everything
-delete_wants_is = refl
+delete_wants_is o = refl
 
-pub delete_wants_plain : IsPlain (understood archive_schema DELETE_WANTS.now)
+pub delete_wants_plain : (o : Others) → IsPlain (understood (with_others o) DELETE_WANTS.now)
 unfolding understood everything
-delete_wants_plain = (refl, refl)
+delete_wants_plain o = (refl, refl)

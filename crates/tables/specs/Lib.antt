@@ -1,4 +1,5 @@
 pub mod Schema
+pub mod Others
 pub mod Rows
 pub mod Reading
 pub mod Texts

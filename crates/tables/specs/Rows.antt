@@ -1,5 +1,5 @@
 -- What the tables of an archive hold, row by row.
-use Rattle.std.specs.Prelude.{◌≡◌, ◌≢◌, ◌⊎◌, true, false, not, ◌==◌, ℕ, ◌+◌, ◌<◌, pos, Bool, if◌then◌else◌, List, [], ◌∷◌, ◌++◌, map, fold, Option, Some, None, IsTrue}
+use Rattle.std.specs.Prelude.{◌≡◌, ◌⊎◌, true, not, ◌==◌, ℕ, ◌+◌, ◌<◌, pos, Bool, if◌then◌else◌, List, [], ◌∷◌, ◌++◌, map, fold, Option, Some, None, IsTrue}
 use Rattle.sqlite.specs.declared.types.Value.TheVariants.{Null, Int, Text, Blob}
 use Rattle.sqlite.specs.declared.types.Value.{Value}
 use Rattle.sqlite.specs.Order.{Row, column, bytes}
@@ -20,7 +20,7 @@ use Rattle.tables.specs.declared.rows.Ref.{Ref}
 use Rattle.tables.specs.declared.rows.File.{File}
 use Rattle.tables.specs.declared.rows.IndexText.{IndexText}
 use Rattle.tables.specs.declared.rows.Date.{Date}
-use Rattle.tables.specs.Schema.{archive_schema}
+use Rattle.tables.specs.Others.{IsArchiveSchema}
 
 -- ---- rows as a table stores them
 
@@ -146,16 +146,16 @@ pub record HoldsRows (trees : Trees) (t : Tables) : Type 0 where
   pub items : HasRows item_cells t.items (trees 13)
   pub refs : HasRows ref_cells t.refs (trees 15)
   pub files : HasRows file_cells t.files (trees 17)
-  pub texts : HasRows text_cells t.texts (trees 20)
-  pub dates : HasRows date_cells t.dates (trees 22)
+  pub texts : HasRows text_cells t.texts (trees 19)
+  pub dates : HasRows date_cells t.dates (trees 21)
 
 -- the database is not that of an archive
 abbrev pub IsForeign : Database → Type 0
-IsForeign db = db.schema ≢ archive_schema
+IsForeign db = ¬ IsArchiveSchema db.schema
 
 -- the database is that of an archive, and its tables hold exactly these rows
 pub record Holds (db : Database) (t : Tables) : Type 0 where
-  pub schema : db.schema ≡ archive_schema
+  pub schema : IsArchiveSchema db.schema
   pub rows : HoldsRows db.trees t
 
 -- ---- the tables as a function of the database
@@ -233,8 +233,8 @@ tables_of trees = record {
   items = map (row_of item_of) (trees 13);
   refs = map (row_of ref_of) (trees 15);
   files = map (row_of file_of) (trees 17);
-  texts = map (row_of text_of) (trees 20);
-  dates = map (row_of date_of) (trees 22);
+  texts = map (row_of text_of) (trees 19);
+  dates = map (row_of date_of) (trees 21);
 }
 
 abbrev pub tables_in : Database → Tables

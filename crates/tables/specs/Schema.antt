@@ -65,7 +65,7 @@ pieces =
 abbrev pub arrivals : Table
 arrivals =
     table (codes "arrivals") (nullable (codes "id") Integer ∷ needed (codes "name") Text ∷ needed (codes "body") Integer ∷ needed (codes "moment") Integer ∷ []) (Some 0) (0 ∷ [])
-    ((3 ∷ 2 ∷ []) ∷ []) (refers 3 (codes "bodies") ∷ [])
+    ((2 ∷ 3 ∷ []) ∷ []) (refers 3 (codes "bodies") ∷ [])
 
 abbrev pub uploads : Table
 uploads =
@@ -92,9 +92,7 @@ refs =
     ((1 ∷ 2 ∷ []) ∷ []) (refers 1 (codes "items") ∷ [])
 
 abbrev pub files : Table
-files =
-    table (codes "files") (needed (codes "path") Text ∷ needed (codes "body") Integer ∷ []) None (1 ∷ []) ((1 ∷ []) ∷ (2 ∷ 1 ∷ []) ∷ [])
-    (refers 2 (codes "bodies") ∷ [])
+files = table (codes "files") (needed (codes "path") Text ∷ needed (codes "body") Integer ∷ []) None (1 ∷ []) ((1 ∷ []) ∷ []) (refers 2 (codes "bodies") ∷ [])
 
 abbrev pub texts : Table
 texts = table (codes "texts") (needed (codes "path") Text ∷ needed (codes "body") Blob ∷ []) None (1 ∷ []) ((1 ∷ []) ∷ []) []

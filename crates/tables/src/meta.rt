@@ -1,12 +1,16 @@
-//! The one row of `meta`: the version of the tables, and the text of the configuration.
+//! The one row of `meta`: the layout of the tables, and the text of the configuration.
 
-ghost use Rattle.std.specs.Prelude.{◌≡◌, IsTrue, OnOk, OnErr};
+ghost use Rattle.std.specs.Prelude.{◌≡◌, false, IsTrue, OnOk, OnErr};
 ghost use Rattle.sqlite.specs.State.{HasCleanDisk, Survives};
 ghost use Rattle.sqlite.specs.Held.{state};
 ghost use Rattle.tables.specs.Rows.{Changes, Fails, with_meta};
 
 use crate::number::whole;
-use sqlite::{Alter, Error, Transaction, params};
+use sqlite::{Alter, Connection, Error, Transaction, params};
+
+/// The layout that these tables have: the number that `meta` keeps. It names the columns and keys of the eleven tables and what their rows
+/// mean; who changes any of these raises it. An index that is no key is no part of it.
+pub const VERSION: u64 = 3;
 
 const INSERT_META: &str = "INSERT INTO meta (version, configuration) VALUES (?1, ?2)";
 
@@ -26,4 +30,20 @@ pub fn insert_meta<S: Alter>(
     let version = whole(version)?;
     tx.execute(INSERT_META, params![version, configuration])?;
     Ok(())
+}
+
+const SELECT_VERSION: &str = "SELECT version FROM meta";
+
+/// The layout that the database says it has: the number in the one row of `meta`. There is none where no such row can be read. It
+/// serves a message alone, and no clause says which it is.
+pub fn layout_of<S: Alter>(conn: &mut Connection<S>) -> Option<u64>
+    ensures idle { conn.old.in_transaction ≡ false → conn.new.in_transaction ≡ false }
+{
+    let Ok(rows) = conn.query_all(SELECT_VERSION, &[]) else {
+        return None;
+    };
+    if rows.len() != 1 {
+        return None;
+    }
+    rows[0].get(0).ok()
 }

@@ -1,10 +1,10 @@
-//! The tables, and how they are made.
+//! The tables, and how they and the two indexes of bodies are made.
 
 ghost use Rattle.std.specs.Prelude.{◌≡◌, ◌<◌, false, IsTrue, IfErr, OnOk, OnErr};
 ghost use Rattle.sqlite.specs.State.{HasCleanDisk, Survives, KeepsCommit};
 ghost use Rattle.sqlite.specs.Held.{state};
 ghost use Rattle.tables.specs.Causes.{IsCaused};
-ghost use Rattle.tables.specs.Creating.{Creates, text_at};
+ghost use Rattle.tables.specs.Creating.{Creates, CreatesIndexes, text_at};
 ghost use Rattle.tables.specs.Schema.{no_schema};
 
 use sqlite::{Alter, Error, Transaction};
@@ -19,7 +19,7 @@ const CREATE_PIECES: &str =
     "CREATE TABLE pieces (body INTEGER NOT NULL REFERENCES bodies (id), number INTEGER NOT NULL, bytes BLOB NOT NULL, PRIMARY KEY (body, number)) STRICT";
 
 const CREATE_ARRIVALS: &str =
-    "CREATE TABLE arrivals (id INTEGER PRIMARY KEY, name TEXT NOT NULL, body INTEGER NOT NULL REFERENCES bodies (id), moment INTEGER NOT NULL, UNIQUE (body, name)) STRICT";
+    "CREATE TABLE arrivals (id INTEGER PRIMARY KEY, name TEXT NOT NULL, body INTEGER NOT NULL REFERENCES bodies (id), moment INTEGER NOT NULL, UNIQUE (name, body)) STRICT";
 
 const CREATE_UPLOADS: &str =
     "CREATE TABLE uploads (id INTEGER PRIMARY KEY, name TEXT NOT NULL, size INTEGER NOT NULL, md5 BLOB NOT NULL, sha1 BLOB NOT NULL, sha256 BLOB NOT NULL, place INTEGER UNIQUE, verdict INTEGER, UNIQUE (name, size, md5, sha1, sha256)) STRICT";
@@ -34,13 +34,17 @@ const CREATE_REFS: &str =
     "CREATE TABLE refs (item INTEGER NOT NULL REFERENCES items (id), number INTEGER NOT NULL, path TEXT NOT NULL, size INTEGER NOT NULL, md5 BLOB NOT NULL, sha1 BLOB NOT NULL, sha256 BLOB NOT NULL, PRIMARY KEY (item, number)) STRICT";
 
 const CREATE_FILES: &str =
-    "CREATE TABLE files (path TEXT NOT NULL PRIMARY KEY, body INTEGER NOT NULL REFERENCES bodies (id), UNIQUE (body, path)) STRICT";
+    "CREATE TABLE files (path TEXT NOT NULL PRIMARY KEY, body INTEGER NOT NULL REFERENCES bodies (id)) STRICT";
 
 const CREATE_TEXTS: &str =
     "CREATE TABLE texts (path TEXT NOT NULL PRIMARY KEY, body BLOB NOT NULL) STRICT";
 
 const CREATE_DATES: &str =
     "CREATE TABLE dates (suite TEXT NOT NULL PRIMARY KEY, moment INTEGER NOT NULL) STRICT";
+
+const CREATE_ARRIVALS_BY_BODY: &str = "CREATE INDEX arrivals_by_body ON arrivals (body)";
+
+const CREATE_FILES_BY_BODY: &str = "CREATE INDEX files_by_body ON files (body)";
 
 /// The text that makes the table at this place. A table comes after those that it refers to.
 fn create_text(at: usize) -> &'static str
@@ -77,5 +81,20 @@ pub fn create_tables<S: Alter>(tx: &mut Transaction<'_, S>) -> Result<(), Error>
     for at in 0..11 {
         tx.execute(create_text(at), &[])?;
     }
+    Ok(())
+}
+
+/// Makes the two indexes by which the arrivals and the files of a body are found, in a database that has the tables of an archive and
+/// nothing else. They are no part of the layout: an archive without them is one, and only slower.
+pub fn create_indexes<S: Alter>(tx: &mut Transaction<'_, S>) -> Result<(), Error>
+    ensures same_reference { tx.new.conn.ghost_name ≡ tx.old.conn.ghost_name }
+    ensures ok { HasCleanDisk (state S.Store tx.new.conn.now) → IsTrue (state S.Store tx.old.conn.now).in_transaction
+        → OnOk result (CreatesIndexes (state S.Store tx.old.conn.now) (state S.Store tx.new.conn.now)) }
+    ensures err { HasCleanDisk (state S.Store tx.new.conn.now) → IsTrue (state S.Store tx.old.conn.now).in_transaction
+        → OnErr result (KeepsCommit (state S.Store tx.old.conn.now) (state S.Store tx.new.conn.now)) }
+    ensures survives { Survives (state S.Store tx.old.conn.now) (state S.Store tx.new.conn.now) (λ _. ⊥) }
+{
+    tx.execute(CREATE_ARRIVALS_BY_BODY, &[])?;
+    tx.execute(CREATE_FILES_BY_BODY, &[])?;
     Ok(())
 }

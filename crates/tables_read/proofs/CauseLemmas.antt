@@ -26,7 +26,7 @@ use Rattle.sqlite_sql.specs.Query.{Output, output}
 use Rattle.sqlite_sql.specs.Term.{Env, eval_all}
 use Rattle.sqlite_typing.specs.Types.{accepts_program}
 use Rattle.tables.specs.Causes.{IsCaused}
-use Rattle.tables.specs.Schema.{archive_schema}
+use Rattle.tables.specs.Others.{IsArchiveSchema, others_in, with_others}
 use Rattle.tables.proofs.CauseLemmas.{IsAlone, not_run}
 use Rattle.tables.proofs.SelectLemmas.{rows_query}
 use Rattle.tables_read.specs.Layout.{IsLayout, IsShort, Layout}
@@ -43,25 +43,26 @@ pub rows_sure : (tree : ℕ) (columns : List Term) → IsSure (rows_query tree [
 rows_sure tree columns db (inl bad) = bad
 rows_sure tree columns db (inr bad) = none_of _ bad
 
-module _ (query : Query) (tree : ℕ) (sql : List ℕ) (asks : Means query tree sql) (sure : IsSure query) (old new : State) (schema : old.now.schema ≡ archive_schema) (e : Error) where
-  refused : (db : Database) → db.schema ≡ archive_schema → RefusesQuery old.step_limit db (record { lets = []; body = query }) [] e → IsCaused old new e
-  refused db is (inl wrong) = absurd (let k : true ≡ false = sym asks.accepted ∙ ap (λ s. accepts_program s [] query []) (sym is) ∙ wrong.1 in cc)
+module _ (query : Query) (tree : ℕ) (sql : List ℕ) (asks : Means query tree sql) (sure : IsSure query) (old new : State) (schema : IsArchiveSchema old.now.schema) (e : Error) where
+  refused : (db : Database) → IsArchiveSchema db.schema → RefusesQuery old.step_limit db (record { lets = []; body = query }) [] e → IsCaused old new e
+  refused db is (inl wrong) = absurd (let k : true ≡ false = sym (asks.accepted (others_in db.schema)) ∙ ap (λ s. accepts_program s [] query []) (sym is.is) ∙ wrong.1 in cc)
   refused db is (inr (inl large)) = absurd (sure (overlay db.trees []) large.1)
   refused db is (inr (inr limited)) = inr (inr (inr limited.1))
 
   not_shown : (command : Command) (db : Database) → command ≡ Select (record { lets = []; body = query }) asks.names → db ≡ old.now → RefusesToRead old.step_limit command db [] e → IsCaused old new e
-  not_shown command db is same h = refused db (ap (λ (d : Database). d.schema) same ∙ schema) (subst (λ k. RefusesToRead old.step_limit k db [] e) is h)
+  not_shown command db is same h = refused db (subst IsArchiveSchema (sym (ap (λ (d : Database). d.schema) same)) schema) (subst (λ k. RefusesToRead old.step_limit k db [] e) is h)
 
   pub query_caused : FailsToQuery sql [] old new e → IsCaused old new e
   unfolding FailsToQuery
-  query_caused (inl h) = not_run old new sql e (subst (λ s. IsAlone sql (understood s sql)) (sym schema) asks.alone) (subst (λ s. IsPlain (understood s sql)) (sym schema) asks.plain) h
+  query_caused (inl h) = not_run old new sql e (subst (λ s. IsAlone sql (understood s sql)) (sym schema.is) (asks.alone (others_in old.now.schema))) (subst (λ s. IsPlain (understood s sql)) (sym schema.is) (asks.plain (others_in old.now.schema))) h
   query_caused (inr h) =
-      let same : Ok h.0 ≡ understood archive_schema sql = sym h.1.is ∙ ap (λ s. understood s sql) schema in
-      let bare = subst IsPlain (sym same) asks.plain in
+      let o = others_in old.now.schema in
+      let same : Ok h.0 ≡ understood (with_others o) sql = sym h.1.is ∙ ap (λ s. understood s sql) schema.is in
+      let bare = subst IsPlain (sym same) (asks.plain o) in
       let it = rw (bare.0, bare.1) at h.2 in
-      let unlisted : reads_listing old.now.schema sql ≡ false = subst (λ s. reads_listing s sql ≡ false) (sym schema) asks.unlisted in
+      let unlisted : reads_listing old.now.schema sql ≡ false = subst (λ s. reads_listing s sql ≡ false) (sym schema.is) (asks.unlisted o) in
       let db : it.0 ≡ old.now = subst (λ b. IsSourceOf b old.now it.0) unlisted it.1 in
-      not_shown h.0.command it.0 (ap command_of same ∙ asks.is) db it.2
+      not_shown h.0.command it.0 (ap command_of same ∙ asks.is o) db it.2
 
 -- ---- rows that are as long as the query is wide
 
@@ -93,9 +94,10 @@ answer_wide db tree columns rows a =
     subst (AllByRecursion (λ r. length r ≡ length columns)) (sym a.shown) (all_map (λ r. length r ≡ length columns) (λ (o : Output). o.1) a.ordered ordered)
 
 -- no row of the answer is short
-pub none_short : {X : Type 0} (l : Layout X) (sql : List ℕ) → AsksForRows l.tree l.columns sql → (old new : State) → old.now.schema ≡ archive_schema → (rows : List Row) → Shown sql [] old new rows → Any (IsShort l) rows → ⊥
+pub none_short : {X : Type 0} (l : Layout X) (sql : List ℕ) → AsksForRows l.tree l.columns sql → (old new : State) → IsArchiveSchema old.now.schema → (rows : List Row) → Shown sql [] old new rows → Any (IsShort l) rows → ⊥
 none_short l sql asks old new schema rows shown any =
-    let read = reads_as sql [] old new archive_schema schema _ asks.is asks.plain asks.unlisted rows shown in
+    let o = others_in old.now.schema in
+    let read = reads_as sql [] old new (with_others o) schema.is _ (asks.is o) (asks.plain o) (asks.unlisted o) rows shown in
     let wide = All-from_recursion (λ r. length r ≡ length l.columns) rows (answer_wide (overlay old.now.trees []) l.tree l.columns rows (read.answer Null)) in
     let here : length any.1 ≡ length l.columns = subst (λ r. length r ≡ length l.columns) any.3 (wide any.0 any.1 any.2) in
     absurd (omega (arith, here, any.4))

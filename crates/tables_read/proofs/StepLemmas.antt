@@ -8,7 +8,7 @@ use Rattle.sqlite.proofs.StateLemmas.{survives_then}
 use Rattle.tables.specs.Causes.{IsCaused}
 use Rattle.tables.specs.Rows.{Fails, IsForeign}
 use Rattle.tables.proofs.CauseLemmas.{caused_later}
-use Rattle.tables.specs.Schema.{archive_schema}
+use Rattle.tables.specs.Others.{IsArchiveSchema}
 use Rattle.tables_read.specs.Reading.{Tells}
 
 on_ok : {X E : Type 0} {P Q : Type 0} (r : Result X E) → (P → Q) → OnOk r P → OnOk r Q
@@ -29,7 +29,7 @@ module _ (a b : State) where
   failed e f same h = record { idle = h.idle; is = λ _ _. tt; unchanged = λ _ _. tt; err = h.err; cause = λ clean is. subst (IsCaused a b) (sym same) (h.cause clean is); survives = h.survives }
 
   -- what was read says something else
-  pub told : {X Y : Type 0} {P : X → Type 0} {Q : Y → Type 0} (x : X) (y : Y) → Tells a b (Ok x) P → (HasCleanDisk b → a.now.schema ≡ archive_schema → IsUnchanged a b → P x → Q y) → Tells a b (Ok y) Q
+  pub told : {X Y : Type 0} {P : X → Type 0} {Q : Y → Type 0} (x : X) (y : Y) → Tells a b (Ok x) P → (HasCleanDisk b → IsArchiveSchema a.now.schema → IsUnchanged a b → P x → Q y) → Tells a b (Ok y) Q
   told x y h f = record { idle = h.idle; is = λ clean is. f clean is (h.unchanged clean is) (h.is clean is); unchanged = h.unchanged; err = λ _ _. tt; cause = λ _ _. tt; survives = h.survives }
 
 module _ (a b c : State) where
@@ -45,11 +45,11 @@ module _ (a b c : State) where
 
   -- a read after one that changed nothing
   pub then_told : {X Y : Type 0} {P : X → Type 0} {Q R : Y → Type 0} (x : X) (r : Result Y Error) → Tells a b (Ok x) P → Tells b c r Q
-      → (HasCleanDisk b → HasCleanDisk c → a.now.schema ≡ archive_schema → IsUnchanged a b → P x → (y : Y) → Q y → R y) → Tells a c r R
+      → (HasCleanDisk b → HasCleanDisk c → IsArchiveSchema a.now.schema → IsUnchanged a b → P x → (y : Y) → Q y → R y) → Tells a c r R
   then_told x r one two f =
       let before : HasCleanDisk c → HasCleanDisk b = λ clean. let k = two.survives.clean in omega (arith, k, clean) in
-      let same : HasCleanDisk c → a.now.schema ≡ archive_schema → IsUnchanged a b = λ clean is. one.unchanged (before clean) is in
-      let now : HasCleanDisk c → a.now.schema ≡ archive_schema → b.now.schema ≡ archive_schema = λ clean is. ap (λ d. d.schema) (same clean is).0.now_is ∙ is in
+      let same : HasCleanDisk c → IsArchiveSchema a.now.schema → IsUnchanged a b = λ clean is. one.unchanged (before clean) is in
+      let now : HasCleanDisk c → IsArchiveSchema a.now.schema → IsArchiveSchema b.now.schema = λ clean is. subst IsArchiveSchema (sym (ap (λ d. d.schema) (same clean is).0.now_is)) is in
       record {
         idle = λ i. two.idle (one.idle i);
         is = λ clean is. IfOk-weaker r _ _ (f (before clean) clean is (same clean is) (one.is (before clean) is)) (two.is clean (now clean is));

@@ -17,7 +17,7 @@ use Rattle.sqlite.proofs.StateLemmas.{survives_then}
 use Rattle.sqlite_resolve.specs.declared.compiled.Compiled.{Compiled}
 use Rattle.tables.specs.Causes.{IsCaused}
 use Rattle.tables.specs.Rows.{Fails, IsForeign, Numbered}
-use Rattle.tables.specs.Schema.{archive_schema}
+use Rattle.tables.specs.Others.{IsArchiveSchema, others_in}
 use Rattle.tables.proofs.CauseLemmas.{caused_later}
 use Rattle.tables.proofs.ReadLemmas.{fails_to_query, fails_unchanged, plain_in}
 use Rattle.tables.proofs.SelectLemmas.{rows_query}
@@ -139,18 +139,18 @@ module _ {S X : Type 0} (g : Ghosts S) (l : Layout X) (sql : List ℕ) (asks : A
     survives = survives_plain (state g first) (state g now) sql asks (rows_sure l.tree l.columns) idle survives;
   }
     where
-      plainly : HasCleanDisk (state g now) → (state g first).now.schema ≡ archive_schema → HasGiven g sql [] now [] × IsUnchanged (state g first) (state g now)
+      plainly : HasCleanDisk (state g now) → IsArchiveSchema (state g first).now.schema → HasGiven g sql [] now [] × IsUnchanged (state g first) (state g now)
       plainly clean schema = begun_plain g sql [] first now (plain_in sql asks.plain (state g first) schema) (starts clean)
 
   -- rows that were given are the first ones of an answer
-  first_of : (now : Held S) (given : List Row) → (state g first).now.schema ≡ archive_schema → IsUnchanged (state g first) (state g now) → HasGiven g sql [] now given
+  first_of : (now : Held S) (given : List Row) → IsArchiveSchema (state g first).now.schema → IsUnchanged (state g first) (state g now) → HasGiven g sql [] now given
       → (tail : List Row) × Shown sql [] (state g first) (state g now) (given ++ tail)
   first_of now given schema same has =
       begins_shown sql [] (state g first) (state g now) given (begins_earlier sql (state g first) (state g now) given same (given_begin g sql [] now given has)) same
-      (λ c db it source. subst (λ (k : Command). EndsIn k db (timed [] c.formats it.now)) (sym (ap command_of (sym it.is ∙ ap (λ s. understood s sql) schema) ∙ asks.is)) tt)
+      (λ c db it source. subst (λ (k : Command). EndsIn k db (timed [] c.formats it.now)) (sym (ap command_of (sym it.is ∙ ap (λ s. understood s sql) schema.is) ∙ asks.is (others_in (state g first).now.schema))) tt)
 
   -- so is one more
-  one_more : (now : Held S) (given : List Row) (row : Row) → (state g first).now.schema ≡ archive_schema → IsUnchanged (state g first) (state g now) → HasGiven g sql [] now (given ++ row ∷ [])
+  one_more : (now : Held S) (given : List Row) (row : Row) → IsArchiveSchema (state g first).now.schema → IsUnchanged (state g first) (state g now) → HasGiven g sql [] now (given ++ row ∷ [])
       → (tail : List Row) × Shown sql [] (state g first) (state g now) (given ++ row ∷ tail)
   one_more now given row schema same has =
       let shown = first_of now (given ++ row ∷ []) schema same has in
@@ -171,7 +171,7 @@ module _ {S X : Type 0} (g : Ghosts S) (l : Layout X) (sql : List ℕ) (asks : A
 
     -- a step that says what it is
     then_took : {Z : Type 0} {R : Z → Type 0} (o : Option Bool) (z : Z) → r ≡ Ok o
-        → ((state g first).now.schema ≡ archive_schema → IsUnchanged (state g first) (state g now) → IsUnchanged (state g first) (state g new) → (given : List Row) → made (Ok o) given → R z)
+        → (IsArchiveSchema (state g first).now.schema → IsUnchanged (state g first) (state g now) → IsUnchanged (state g first) (state g new) → (given : List Row) → made (Ok o) given → R z)
         → Tells (state g first) (state g new) (Ok z) R
     then_took o z is f = record {
       idle = λ i. two.idle (one.idle i);
@@ -184,7 +184,7 @@ module _ {S X : Type 0} (g : Ghosts S) (l : Layout X) (sql : List ℕ) (asks : A
       survives = survives_both;
     }
       where
-        same : HasCleanDisk (state g new) → (state g first).now.schema ≡ archive_schema → IsUnchanged (state g first) (state g new)
+        same : HasCleanDisk (state g new) → IsArchiveSchema (state g first).now.schema → IsUnchanged (state g first) (state g new)
         same clean schema =
             unchanged_then (state g first) (state g now) (state g new) (one.unchanged (early clean) schema)
             (subst (λ (s : Result (Option Bool) Error). OnOk s (IsUnchanged (state g now) (state g new))) is (two.same clean))
@@ -211,18 +211,18 @@ module _ {S X : Type 0} (g : Ghosts S) (l : Layout X) (sql : List ℕ) (asks : A
         fails was given (inl refused) = fails_then (state g first) (state g now) (state g new) was (fails_to_query (state g now) (state g new) sql [] e refused)
         fails was given (inr read) = fails_unchanged (state g first) (state g new) (unchanged_then (state g first) (state g now) (state g new) was read.0)
 
-        why : (state g first).now.schema ≡ archive_schema → IsUnchanged (state g first) (state g new) → (given : List Row) → (e ≡ SqliteFailure OutOfMemory) ⊎ HasOneMore g sql new given (IsShort l)
+        why : IsArchiveSchema (state g first).now.schema → IsUnchanged (state g first) (state g new) → (given : List Row) → (e ≡ SqliteFailure OutOfMemory) ⊎ HasOneMore g sql new given (IsShort l)
             → IsCaused (state g first) (state g new) e
         why schema same given (inl memory) = inl memory
         why schema same given (inr short) =
             let shown = one_more new given short.row schema same short.has in
             absurd (none_short l sql asks (state g first) (state g new) schema (given ++ short.row ∷ shown.0) shown.1 (short_among l given short.row shown.0 short.is))
 
-        caused : HasCleanDisk (state g new) → (state g first).now.schema ≡ archive_schema → IsUnchanged (state g first) (state g now) → (given : List Row) → made (Err e) given
+        caused : HasCleanDisk (state g new) → IsArchiveSchema (state g first).now.schema → IsUnchanged (state g first) (state g now) → (given : List Row) → made (Err e) given
             → IsCaused (state g first) (state g new) e
         caused clean schema was given (inl refused) =
             caused_later (state g first) (state g now) (state g new) one.survives (early clean) e two.survives.counts
-            (query_caused (rows_query l.tree [] l.columns) l.tree sql asks (rows_sure l.tree l.columns) (state g now) (state g new) (ap (λ d. d.schema) was.0.now_is ∙ schema) e refused)
+            (query_caused (rows_query l.tree [] l.columns) l.tree sql asks (rows_sure l.tree l.columns) (state g now) (state g new) (subst IsArchiveSchema (sym (ap (λ d. d.schema) was.0.now_is)) schema) e refused)
         caused clean schema was given (inr read) = why schema (unchanged_then (state g first) (state g now) (state g new) was read.0) given read.1
 
   module _ {V : Type 0} (held : V) (items : V → Numbered X) (real : X → Type 0) where
@@ -267,6 +267,6 @@ module _ {S X : Type 0} (g : Ghosts S) (l : Layout X) (sql : List ℕ) (asks : A
             rows = given;
             sql = sql;
             asks = asks;
-            shown = shown_earlier sql (state g first) (state g now) given was (state g new) (plain_in sql asks.plain (state g now) (ap (λ d. d.schema) was.0.now_is ∙ schema)) took.0;
+            shown = shown_earlier sql (state g first) (state g now) given was (state g new) (plain_in sql asks.plain (state g now) (subst IsArchiveSchema (sym (ap (λ d. d.schema) was.0.now_is)) schema)) took.0;
             is = subst (AreRead l given) (sym same_items) took.1;
           })

@@ -17,6 +17,7 @@ use Rattle.sqlite_keyed.proofs.KeyedLemmas.{lt_from_Less}
 use Rattle.sqlite_keyed.proofs.ListLemmas.{map-map, filter_all, all_of, ascending-map, ascending_from_map}
 use Rattle.tables.specs.Rows.{whole, Numbered, HasRows, Rises, stored}
 use Rattle.tables.specs.Schema.{archive_schema}
+use Rattle.tables.specs.Others.{IsArchiveSchema, others_in, with_others}
 use Rattle.tables.proofs.SelectLemmas.{reads_rows}
 use Rattle.tables_read.specs.Reading.{AsksForRows, Spells}
 use Rattle.tables_read.specs.Layout.{Layout, IsLayout, HasTypes, AreRead, AreSmall, ids, show}
@@ -95,7 +96,7 @@ module _ {X : Type 0} (l : Layout X) (laid : IsLayout l) where
   have_numbers (r ∷ rs) [] zip small = absurd zip
   have_numbers (r ∷ rs) (x ∷ xs) zip small = ((x.0, small.0, zip.0.0), have_numbers rs xs zip.1 small.1)
 
-  module _ (sql : List ℕ) (asks : AsksForRows l.tree l.columns sql) (old mid : State) (rows : List Row) (schema : old.now.schema ≡ archive_schema) (shown : Shown sql [] old mid rows) where
+  module _ (sql : List ℕ) (asks : AsksForRows l.tree l.columns sql) (old mid : State) (rows : List Row) (schema : IsArchiveSchema old.now.schema) (shown : Shown sql [] old mid rows) where
     shown_if : (ns : List ℕ) → IsAscending (λ m n. m < n) ns → map rowid (old.now.trees l.tree) ≡ map whole ns → rows ≡ map (show l) (old.now.trees l.tree)
     shown_if ns up are =
         let zs = numbered (old.now.trees l.tree) ns are in
@@ -106,7 +107,8 @@ module _ {X : Type 0} (l : Layout X) (laid : IsLayout l) where
 
     numbers_if : AllByRecursion HasNumber rows → AllByRecursion HasNumber (old.now.trees l.tree)
     numbers_if all =
-        let read = reads_as sql [] old mid archive_schema schema _ asks.is asks.plain asks.unlisted rows shown in
+        let o = others_in old.now.schema in
+        let read = reads_as sql [] old mid (with_others o) schema.is _ (asks.is o) (asks.plain o) (asks.unlisted o) rows shown in
         let each = each_shown (overlay old.now.trees []) l.tree l.columns HasNumber rows (read.answer Null) all in
         go (old.now.trees l.tree) (subst (AllByRecursion (λ r. HasNumber (show l r))) (asks.real old.now.trees) each)
       where

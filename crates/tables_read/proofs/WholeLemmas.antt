@@ -7,7 +7,7 @@ use Rattle.sqlite.specs.Effect.{Database}
 use Rattle.sqlite.specs.Order.{Row}
 use Rattle.sqlite_keyed.proofs.ListLemmas.{all_of, all_unmap}
 use Rattle.tables.specs.Rows.{Numbered, HasRows, Tables, Holds, rows_of}
-use Rattle.tables.specs.Schema.{archive_schema}
+use Rattle.tables.specs.Others.{IsArchiveSchema}
 use Rattle.tables_read.specs.Layout.{IsTable, IsNoTable}
 use Rattle.tables_read.specs.Layouts.{meta_layout, body_layout, piece_layout, arrival_layout, upload_layout, want_layout, item_layout, ref_layout, file_layout, text_layout, date_layout}
 use Rattle.tables.specs.Real.{AreReal, IsRealBody, IsRealArrival, IsRealUpload, IsRealWant, IsRealItem, IsRealRef, IsRealFile, IsRealText, IsRealDate}
@@ -37,7 +37,7 @@ AreNoTables db =
     ⊎ ((IsNoTable upload_layout IsRealUpload db ⊎ IsNoTable want_layout IsRealWant db)
     ⊎ ((IsNoTable item_layout IsRealItem db ⊎ (IsNoTable ref_layout IsRealRef db ⊎ IsNoTable file_layout IsRealFile db)) ⊎ (IsNoTable text_layout IsRealText db ⊎ IsNoTable date_layout IsRealDate db)))
 
-pub holds_all : (db : Database) (t : Tables) → db.schema ≡ archive_schema → AreTables db t → Holds db t
+pub holds_all : (db : Database) (t : Tables) → IsArchiveSchema db.schema → AreTables db t → Holds db t
 holds_all db t schema h = record {
   schema = schema;
   rows = record {

@@ -19,7 +19,8 @@ use Rattle.sums.specs.declared.print.Print.{Print}
 use Rattle.tables.specs.Arrivals.{is_arrival}
 use Rattle.tables.specs.Items.{is_item}
 use Rattle.tables.specs.Rows.{Holds, Tables, arrival_cells, body_cells, file_cells, full_body, full_upload, item_cells, piece_cells, ref_cells, stored, upload_cells, want_cells, whole}
-use Rattle.tables.specs.Schema.{archive_schema, arrivals, bodies, files, items, pieces, refers, refs, uploads, wants}
+use Rattle.tables.specs.Others.{IsArchiveSchema, Others, others_in, with_others}
+use Rattle.tables.specs.Schema.{arrivals, bodies, files, items, pieces, refers, refs, uploads, wants}
 use Rattle.tables.specs.declared.rows.Arrival.{Arrival}
 use Rattle.tables.specs.declared.rows.Body.{Body}
 use Rattle.tables.specs.declared.rows.File.{File}
@@ -56,63 +57,66 @@ abbrev files_table : Table
 files_table = record files { tree = 17 }
 
 -- where the references point: to the tree of a table, by the rowid
-bodies_key : parent_key archive_schema.tables (refers 1 (codes "bodies")) ≡ Some (1, 0 ∷ [], plain)
+bodies_key : (o : Others) → parent_key (with_others o).tables (refers 1 (codes "bodies")) ≡ Some (1, 0 ∷ [], plain)
 unfolding same_name joined
-bodies_key = refl
+bodies_key o = refl
 
-uploads_key : parent_key archive_schema.tables (refers 1 (codes "uploads")) ≡ Some (7, 0 ∷ [], plain)
+uploads_key : (o : Others) → parent_key (with_others o).tables (refers 1 (codes "uploads")) ≡ Some (7, 0 ∷ [], plain)
 unfolding same_name joined
-uploads_key = refl
+uploads_key o = refl
 
-items_key : parent_key archive_schema.tables (refers 1 (codes "items")) ≡ Some (13, 0 ∷ [], plain)
+items_key : (o : Others) → parent_key (with_others o).tables (refers 1 (codes "items")) ≡ Some (13, 0 ∷ [], plain)
 unfolding same_name joined
-items_key = refl
+items_key o = refl
 
-module _ (db : Database) (is : db.schema ≡ archive_schema) (sound : IsDatabase db) where
+module _ (db : Database) (is : IsArchiveSchema db.schema) (sound : IsDatabase db) where
   -- the rows pass each rule
-  keeps : (rule : Constraint) → Keeps rule archive_schema db.trees
-  keeps rule = subst (λ s. Keeps rule s db.trees) is (sound.obeys.rules rule)
+  abbrev o : Others
+  o = others_in db.schema
+
+  keeps : (rule : Constraint) → Keeps rule (with_others o) db.trees
+  keeps rule = subst (λ s. Keeps rule s db.trees) is.is (sound.obeys.rules rule)
 
   -- the unique keys, each by its columns
   bodies_clash : HasNoClash (2 ∷ 3 ∷ 4 ∷ 5 ∷ []) (db.trees 1)
   bodies_clash =
-      guarded archive_schema db.trees bodies_table (automatic bodies_table 0 (2 ∷ 3 ∷ 4 ∷ 5 ∷ []) 2) (keeps Unique) (has_got archive_schema.tables 1 bodies_table refl) (has_got archive_schema.indexes 0 _ refl) refl
+      guarded (with_others o) db.trees bodies_table (automatic bodies_table 0 (2 ∷ 3 ∷ 4 ∷ 5 ∷ []) 2) (keeps Unique) (has_got (with_others o).tables 1 bodies_table refl) (has_got (with_others o).indexes 0 _ refl) refl
 
-  arrivals_clash : HasNoClash (3 ∷ 2 ∷ []) (db.trees 5)
+  arrivals_clash : HasNoClash (2 ∷ 3 ∷ []) (db.trees 5)
   arrivals_clash =
-      guarded archive_schema db.trees arrivals_table (automatic arrivals_table 0 (3 ∷ 2 ∷ []) 6) (keeps Unique) (has_got archive_schema.tables 3 arrivals_table refl) (has_got archive_schema.indexes 2 _ refl) refl
+      guarded (with_others o) db.trees arrivals_table (automatic arrivals_table 0 (2 ∷ 3 ∷ []) 6) (keeps Unique) (has_got (with_others o).tables 3 arrivals_table refl) (has_got (with_others o).indexes 2 _ refl) refl
 
   places_clash : HasNoClash (7 ∷ []) (db.trees 7)
   places_clash =
-      guarded archive_schema db.trees uploads_table (automatic uploads_table 0 (7 ∷ []) 8) (keeps Unique) (has_got archive_schema.tables 4 uploads_table refl) (has_got archive_schema.indexes 3 _ refl) refl
+      guarded (with_others o) db.trees uploads_table (automatic uploads_table 0 (7 ∷ []) 8) (keeps Unique) (has_got (with_others o).tables 4 uploads_table refl) (has_got (with_others o).indexes 3 _ refl) refl
 
   uploads_clash : HasNoClash (2 ∷ 3 ∷ 4 ∷ 5 ∷ 6 ∷ []) (db.trees 7)
   uploads_clash =
-      guarded archive_schema db.trees uploads_table (automatic uploads_table 1 (2 ∷ 3 ∷ 4 ∷ 5 ∷ 6 ∷ []) 9) (keeps Unique) (has_got archive_schema.tables 4 uploads_table refl) (has_got archive_schema.indexes 4 _ refl) refl
+      guarded (with_others o) db.trees uploads_table (automatic uploads_table 1 (2 ∷ 3 ∷ 4 ∷ 5 ∷ 6 ∷ []) 9) (keeps Unique) (has_got (with_others o).tables 4 uploads_table refl) (has_got (with_others o).indexes 4 _ refl) refl
 
   items_clash : HasNoClash (2 ∷ 3 ∷ 4 ∷ 5 ∷ []) (db.trees 13)
   items_clash =
-      guarded archive_schema db.trees items_table (automatic items_table 0 (2 ∷ 3 ∷ 4 ∷ 5 ∷ []) 14) (keeps Unique) (has_got archive_schema.tables 6 items_table refl) (has_got archive_schema.indexes 7 _ refl) refl
+      guarded (with_others o) db.trees items_table (automatic items_table 0 (2 ∷ 3 ∷ 4 ∷ 5 ∷ []) 14) (keeps Unique) (has_got (with_others o).tables 6 items_table refl) (has_got (with_others o).indexes 7 _ refl) refl
 
   files_clash : HasNoClash (1 ∷ []) (db.trees 17)
   files_clash =
-      guarded archive_schema db.trees files_table (automatic files_table 0 (1 ∷ []) 18) (keeps Unique) (has_got archive_schema.tables 8 files_table refl) (has_got archive_schema.indexes 9 _ refl) refl
+      guarded (with_others o) db.trees files_table (automatic files_table 0 (1 ∷ []) 18) (keeps Unique) (has_got (with_others o).tables 8 files_table refl) (has_got (with_others o).indexes 9 _ refl) refl
 
   -- the references, each by its column and the tree of its parents
   pieces_refer : HasParents 1 (db.trees 1) (db.trees 3)
-  pieces_refer = referred archive_schema db.trees pieces_table (refers 1 (codes "bodies")) 1 1 (keeps ForeignKey) (has_got archive_schema.tables 2 pieces_table refl) (has_got pieces_table.references 0 _ refl) refl bodies_key
+  pieces_refer = referred (with_others o) db.trees pieces_table (refers 1 (codes "bodies")) 1 1 (keeps ForeignKey) (has_got (with_others o).tables 2 pieces_table refl) (has_got pieces_table.references 0 _ refl) refl (bodies_key o)
 
   arrivals_refer : HasParents 3 (db.trees 1) (db.trees 5)
-  arrivals_refer = referred archive_schema db.trees arrivals_table (refers 3 (codes "bodies")) 3 1 (keeps ForeignKey) (has_got archive_schema.tables 3 arrivals_table refl) (has_got arrivals_table.references 0 _ refl) refl bodies_key
+  arrivals_refer = referred (with_others o) db.trees arrivals_table (refers 3 (codes "bodies")) 3 1 (keeps ForeignKey) (has_got (with_others o).tables 3 arrivals_table refl) (has_got arrivals_table.references 0 _ refl) refl (bodies_key o)
 
   wants_refer : HasParents 1 (db.trees 7) (db.trees 10)
-  wants_refer = referred archive_schema db.trees wants_table (refers 1 (codes "uploads")) 1 7 (keeps ForeignKey) (has_got archive_schema.tables 5 wants_table refl) (has_got wants_table.references 0 _ refl) refl uploads_key
+  wants_refer = referred (with_others o) db.trees wants_table (refers 1 (codes "uploads")) 1 7 (keeps ForeignKey) (has_got (with_others o).tables 5 wants_table refl) (has_got wants_table.references 0 _ refl) refl (uploads_key o)
 
   refs_refer : HasParents 1 (db.trees 13) (db.trees 15)
-  refs_refer = referred archive_schema db.trees refs_table (refers 1 (codes "items")) 1 13 (keeps ForeignKey) (has_got archive_schema.tables 7 refs_table refl) (has_got refs_table.references 0 _ refl) refl items_key
+  refs_refer = referred (with_others o) db.trees refs_table (refers 1 (codes "items")) 1 13 (keeps ForeignKey) (has_got (with_others o).tables 7 refs_table refl) (has_got refs_table.references 0 _ refl) refl (items_key o)
 
   files_refer : HasParents 2 (db.trees 1) (db.trees 17)
-  files_refer = referred archive_schema db.trees files_table (refers 2 (codes "bodies")) 2 1 (keeps ForeignKey) (has_got archive_schema.tables 8 files_table refl) (has_got files_table.references 0 _ refl) refl bodies_key
+  files_refer = referred (with_others o) db.trees files_table (refers 2 (codes "bodies")) 2 1 (keeps ForeignKey) (has_got (with_others o).tables 8 files_table refl) (has_got files_table.references 0 _ refl) refl (bodies_key o)
 
 -- ---- rows that would have one key
 
@@ -137,10 +141,10 @@ same_bodies x y some same =
       ),
     )
 
-same_arrivals : (x y : ℕ × Arrival) → is_arrival x.1.name x.1.body y.1 ≡ true → AreSame (3 ∷ 2 ∷ []) (stored arrival_cells x) (stored arrival_cells y)
+same_arrivals : (x y : ℕ × Arrival) → is_arrival x.1.name x.1.body y.1 ≡ true → AreSame (2 ∷ 3 ∷ []) (stored arrival_cells x) (stored arrival_cells y)
 same_arrivals x y same =
     let parts = and_parts _ _ same in
-    ((ap whole (sym (eqb-true _ _ parts.1)), refl), ((ap Text (sym (same_bytes _ _ parts.0)), refl), tt))
+    ((ap Text (sym (same_bytes _ _ parts.0)), refl), ((ap whole (sym (eqb-true _ _ parts.1)), refl), tt))
 
 same_uploads : (x y : ℕ × Upload) → name_and_print x.1 ≡ name_and_print y.1 → AreSame (2 ∷ 3 ∷ 4 ∷ 5 ∷ 6 ∷ []) (stored upload_cells x) (stored upload_cells y)
 same_uploads x y same =
@@ -187,7 +191,7 @@ module _ (db : Database) (t : Tables) (sound : IsDatabase db) (holds : Holds db 
         owned arrival_cells body_cells (db.trees 5) (map full_body (db.trees 1)) t.arrivals t.bodies 3 (λ a. a.body) holds.rows.arrivals holds.rows.bodies (λ _. refl)
         (parents_read full_body (λ _. refl) 3 (db.trees 1) (db.trees 5) (arrivals_refer db holds.schema sound));
     arrivals_apart =
-        rows_apart arrival_cells (3 ∷ 2 ∷ []) (db.trees 5) t.arrivals holds.rows.arrivals (arrivals_clash db holds.schema sound) (λ a b. is_arrival a.name a.body b ≡ false)
+        rows_apart arrival_cells (2 ∷ 3 ∷ []) (db.trees 5) t.arrivals holds.rows.arrivals (arrivals_clash db holds.schema sound) (λ a b. is_arrival a.name a.body b ≡ false)
         (λ x y no. false_from_ne_true _ (λ same. no (same_arrivals x y same)));
     uploads_apart =
         rows_apart upload_cells (2 ∷ 3 ∷ 4 ∷ 5 ∷ 6 ∷ []) (map full_upload (db.trees 7)) t.uploads holds.rows.uploads uploads_named (λ u v. name_and_print u ≢ name_and_print v) (λ x y no same. no (same_uploads x y same));

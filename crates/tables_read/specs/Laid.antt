@@ -157,7 +157,7 @@ pub text_laid : IsLayout text_layout
 text_laid = record {
   placed = (9, _, refl, refl);
   number = λ r. refl;
-  typed = λ db h. types db schema.texts (db 20) h.1.1.1.1.1.1.1.1.1.0;
+  typed = λ db h. types db schema.texts (db 19) h.1.1.1.1.1.1.1.1.1.0;
   fits = λ x r t s. fits_as None schema.texts.columns r _ t refl (λ e. cc) s;
   back = λ x r e. (ap (λ l. column l 0) e, (ap (λ l. column l 1) e, (ap (λ l. column l 2) e, tt)));
 }
@@ -166,7 +166,7 @@ pub date_laid : IsLayout date_layout
 date_laid = record {
   placed = (10, _, refl, refl);
   number = λ r. refl;
-  typed = λ db h. types db schema.dates (db 22) h.1.1.1.1.1.1.1.1.1.1.0;
+  typed = λ db h. types db schema.dates (db 21) h.1.1.1.1.1.1.1.1.1.1.0;
   fits = λ x r t s. fits_as None schema.dates.columns r _ t refl (λ e. cc) s;
   back = λ x r e. (ap (λ l. column l 0) e, (ap (λ l. column l 1) e, (ap (λ l. column l 2) e, tt)));
 }

@@ -64,7 +64,7 @@ abbrev pub file_layout : Layout File
 file_layout = record { tree = 17; table = schema.files; columns = col 1 0 ∷ col 1 1 ∷ col 1 2 ∷ []; full = λ r. r; cells = file_cells; seen = file_cells }
 
 abbrev pub text_layout : Layout IndexText
-text_layout = record { tree = 20; table = schema.texts; columns = col 1 0 ∷ col 1 1 ∷ col 1 2 ∷ []; full = λ r. r; cells = text_cells; seen = text_cells }
+text_layout = record { tree = 19; table = schema.texts; columns = col 1 0 ∷ col 1 1 ∷ col 1 2 ∷ []; full = λ r. r; cells = text_cells; seen = text_cells }
 
 abbrev pub date_layout : Layout Date
-date_layout = record { tree = 22; table = schema.dates; columns = col 1 0 ∷ col 1 1 ∷ col 1 2 ∷ []; full = λ r. r; cells = date_cells; seen = date_cells }
+date_layout = record { tree = 21; table = schema.dates; columns = col 1 0 ∷ col 1 1 ∷ col 1 2 ∷ []; full = λ r. r; cells = date_cells; seen = date_cells }

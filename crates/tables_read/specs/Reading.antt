@@ -13,7 +13,7 @@ use Rattle.sqlite.proofs.Callers.{command_of, IsPlain}
 use Rattle.sqlite_typing.specs.Types.{accepts_program}
 use Rattle.tables.specs.Causes.{IsCaused}
 use Rattle.tables.specs.Rows.{Fails, IsForeign, whole}
-use Rattle.tables.specs.Schema.{archive_schema}
+use Rattle.tables.specs.Others.{IsArchiveSchema, Others, with_others}
 use Rattle.tables.proofs.CauseLemmas.{IsAlone}
 use Rattle.tables.proofs.SelectLemmas.{rows_query}
 
@@ -26,20 +26,20 @@ Agree row at (v ∷ vs) = (column row at ≡ v) × Agree row (at + 1) vs
 -- an error has a cause, and no call commits.
 pub record Tells {X : Type 0} (old new : State) (result : Result X Error) (Is : X → Type 0) : Type 0 where
   pub idle : old.in_transaction ≡ false → new.in_transaction ≡ false
-  pub is : HasCleanDisk new → old.now.schema ≡ archive_schema → IfOk result Is
-  pub unchanged : HasCleanDisk new → old.now.schema ≡ archive_schema → OnOk result (IsUnchanged old new)
-  pub err : HasCleanDisk new → old.now.schema ≡ archive_schema → OnErr result (Fails old new)
-  pub cause : HasCleanDisk new → old.now.schema ≡ archive_schema → IfErr result (IsCaused old new)
+  pub is : HasCleanDisk new → IsArchiveSchema old.now.schema → IfOk result Is
+  pub unchanged : HasCleanDisk new → IsArchiveSchema old.now.schema → OnOk result (IsUnchanged old new)
+  pub err : HasCleanDisk new → IsArchiveSchema old.now.schema → OnErr result (Fails old new)
+  pub cause : HasCleanDisk new → IsArchiveSchema old.now.schema → IfErr result (IsCaused old new)
   pub survives : Survives old new (λ _. IsForeign old.now)
 
 -- the text is one statement, and means this query
 pub record Means (query : Query) (tree : ℕ) (sql : List ℕ) : Type 0 where
   pub names : List (List ℕ)
-  pub is : command_of (understood archive_schema sql) ≡ Select (record { lets = []; body = query }) names
-  pub plain : IsPlain (understood archive_schema sql)
-  pub alone : IsAlone sql (understood archive_schema sql)
-  pub accepted : accepts_program archive_schema [] query [] ≡ true
-  pub unlisted : reads_listing archive_schema sql ≡ false
+  pub is : (o : Others) → command_of (understood (with_others o) sql) ≡ Select (record { lets = []; body = query }) names
+  pub plain : (o : Others) → IsPlain (understood (with_others o) sql)
+  pub alone : (o : Others) → IsAlone sql (understood (with_others o) sql)
+  pub accepted : (o : Others) → accepts_program (with_others o) [] query [] ≡ true
+  pub unlisted : (o : Others) → reads_listing (with_others o) sql ≡ false
   pub real : (db : Trees) → overlay db [] tree ≡ db tree
 
 -- the text asks for these columns of the rows of a table, by their rowids

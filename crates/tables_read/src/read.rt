@@ -6,7 +6,7 @@ ghost use Rattle.sqlite.specs.Held.{state};
 ghost use Rattle.sqlite.specs.State.{HasCleanDisk, IsUnchanged, Survives};
 ghost use Rattle.tables.specs.Causes.{IsCaused};
 ghost use Rattle.tables.specs.Rows.{Tables, Holds, Fails};
-ghost use Rattle.tables.specs.Schema.{archive_schema};
+ghost use Rattle.tables.specs.Others.{IsArchiveSchema};
 ghost use Rattle.tables_read.specs.All.{tables_with};
 ghost use Rattle.tables_read.specs.Layout.{IsTable, IsNoTable};
 ghost use Rattle.tables_read.specs.Pairs.{tables_in};
@@ -102,7 +102,7 @@ pub fn read_all<S: InOrder>(
     conn: &mut Connection<S>,
 ) -> Result<Option<AllRows>, Error>
     requires idle { conn.old.in_transaction ≡ false }
-    requires archive { (state S.Store conn.old).now.schema ≡ archive_schema }
+    requires archive { IsArchiveSchema (state S.Store conn.old).now.schema }
     ensures idle { conn.old.in_transaction ≡ false → conn.new.in_transaction ≡ false }
     ensures some { HasCleanDisk (state S.Store conn.new) → IfOk result (λ o. IfSome o (λ all. Holds (state S.Store conn.old).now (tables_with all))) }
     // A text or a digest that code cannot hold is none of an archive.

@@ -1,5 +1,4 @@
 use Rattle.tables.proofs.BookLemmas.{held_tables}
-use Rattle.tables.proofs.EqualLemmas.{whole_test}
 use Rattle.tables.proofs.laws.held_tables.Goals as goal
 
 pub returns : goal.returns

@@ -1,8 +1,6 @@
-use Rattle.std.proofs.lemmas.Result.{IfOk-weaker}
 use Rattle.sqlite.specs.Held.{state}
 use Rattle.sqlite.proofs.StateLemmas.{survives_weaker}
 use Rattle.tables.proofs.ReadLemmas.{on_err}
-use Rattle.tables.proofs.InsideLemmas.{on_ok}
 use Rattle.tables.proofs.ServingMeaning.{select_one_plain}
 use Rattle.tables.proofs.serving.serve.Goals as goal
 
