@@ -1,4 +1,5 @@
 pub mod CommandLines
 pub mod Fault
+pub mod Grammar
 pub mod Lists
 pub mod Shape

@@ -3,6 +3,7 @@
 
 mod arguments;
 mod commands;
+mod laws;
 mod list;
 mod parsed;
 mod readings;
@@ -11,6 +12,7 @@ mod version;
 mod words;
 
 pub use arguments::MOST_CONNECTIONS;
+pub use laws::{lines_of_commands, lists_of_commands};
 pub use list::{BatchFault, Entry, read_list};
 pub use parsed::{CommandLine, LineFault};
 pub use version::VERSION;
