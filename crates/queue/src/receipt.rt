@@ -1,9 +1,10 @@
 //! Deliveries whose body a reader gives.
 
-ghost use Rattle.std.specs.Prelude.{◌≡◌, ◌≤◌, true, OnErr};
+ghost use Rattle.std.specs.Prelude.{◌≡◌, ◌<◌, ◌≤◌, ℕ, List, Some, true, length, IsErrAnd, OnErr};
+ghost use Rattle.std.specs.Io.KnownBytes.{Keeps};
 ghost use Rattle.keep.specs.Book.{is_changes_name as is_changes_name_of};
 ghost use Rattle.queue.specs.Commands.{is_new, stored};
-ghost use Rattle.queue.specs.Deliveries.{most_bytes};
+ghost use Rattle.queue.specs.Deliveries.{delivery_fault, most_bytes};
 ghost use Rattle.queue.specs.Receiving.{IsReceived, LeavesReceived};
 ghost use Rattle.queue.specs.Steps.{IsServed, IsUndone, Lasts};
 ghost use Rattle.sums.specs.Lines.{is_file_name as is_file_name_of};
@@ -53,6 +54,9 @@ impl<K: Keeper> Archive<K> {
         ensures served { IsServed K.Keeper self.new.keeper (stored result) }
         // What the reader gave, and what came of it.
         ensures received { IsReceived K.Keeper (R.remaining reader.old) (R.remaining reader.new) name.now size moment self.old.keeper self.new.keeper result }
+        // Of a body of more than 4194304 bytes nothing is read, and the answer is the fault of the delivery itself.
+        ensures large { most_bytes < size → Keeps (R.remaining reader.old) (R.remaining reader.new)
+            × IsErrAnd result (λ e. (body : List ℕ) → length body ≡ size → delivery_fault name.now body moment ≡ Some e) }
         // A refusal leaves the book as it was, whatever the history.
         ensures err { OnErr result (IsUndone K.Keeper self.old.keeper self.new.keeper) }
         // A crash leaves what it would have left before, what the history left, or that with the body that the reader gave.

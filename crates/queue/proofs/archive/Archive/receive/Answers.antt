@@ -14,6 +14,10 @@ returns-then-is_file_name-clause-received g c = (
   λ h kept clean. kept,
 )
 
+pub returns-then-is_file_name-clause-large : goal.returns-then-is_file_name-clause-large
+returns-then-is_file_name-clause-large g c large =
+    (Keeps-same _, λ body size. too_large c.args.name.now body c.args.moment (sym c.if-is_file_name.ensures) (omega (arith, size, large)))
+
 pub returns-then-is_file_name-clause-crash : goal.returns-then-is_file_name-clause-crash
 returns-then-is_file_name-clause-crash g c h kept clean left may = inl may
 
@@ -22,6 +26,9 @@ returns-then-size-gt-MOST_BYTES-clause-received g c = (
   inr (c.if-size-gt-MOST_BYTES.true, Keeps-same _, λ body size. bad_name c.args.name.now body c.args.moment (sym c.if-is_file_name.ensures)),
   λ h kept clean. kept,
 )
+
+pub returns-then-size-gt-MOST_BYTES-clause-large : goal.returns-then-size-gt-MOST_BYTES-clause-large
+returns-then-size-gt-MOST_BYTES-clause-large g c large = (Keeps-same _, λ body size. bad_name c.args.name.now body c.args.moment (sym c.if-is_file_name.ensures))
 
 pub returns-then-size-gt-MOST_BYTES-clause-crash : goal.returns-then-size-gt-MOST_BYTES-clause-crash
 returns-then-size-gt-MOST_BYTES-clause-crash g c h kept clean left may = inl may
