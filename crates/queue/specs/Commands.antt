@@ -3,13 +3,13 @@ use Rattle.std.specs.Prelude.{ℕ, Bool, true, false, List, map, Option, Result,
 use Rattle.std.specs.Option.{option_map}
 use Rattle.std.specs.declared.vec.Vec.{Vec}
 use Rattle.std.specs.declared.alloc.Global.{Global}
+pub use Rattle.queue.specs.Reports.{copy_of, lines_of}
 use Rattle.queue.specs.Histories.{Call, Delivery, QueueRun, Copying, Lookup, WaitingList, Cleaning, Removing, Promoting, VerdictList, Reply, Stored, Lines, Count, Found, Copies}
 use Rattle.queue.specs.declared.fault.Fault.{Fault}
 use Rattle.queue.specs.declared.command.Arrived.{Arrived}
 use Rattle.queue.specs.declared.command.Arrived.TheVariants.{New, Again}
 use Rattle.queue.specs.declared.command.Promotion.{Promotion}
 use Rattle.queue.specs.declared.command.Report.{Report}
-use Rattle.queue.specs.declared.command.SourceCopy.{SourceCopy}
 use Rattle.queue.specs.declared.command.Command.{Command}
 use Rattle.queue.specs.declared.command.Command.TheVariants as command
 use Rattle.queue.specs.declared.command.Outcome.{Outcome}
@@ -19,16 +19,9 @@ abbrev pub is_new : Arrived → Bool
 is_new New = true
 is_new Again = false
 
-abbrev pub lines_of : Report → List (List ℕ)
-lines_of report = map string_bytes report.lines.items
-
 -- the source packages that are named, if any are
 abbrev pub names_given : Option (Vec (String Global) Global) → Option (List (List ℕ))
 names_given sources = option_map (λ names. map string_bytes names.items) sources
-
--- a source package of a promotion, and how many items are new
-abbrev pub copy_of : SourceCopy → List ℕ × Option ℕ
-copy_of copy = (string_bytes copy.source, copy.items)
 
 abbrev pub copies_of : Promotion → List (List ℕ × Option ℕ)
 copies_of promotion = map copy_of promotion.copies.items

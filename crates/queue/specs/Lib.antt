@@ -9,6 +9,7 @@ pub mod Answers
 pub mod Promotions
 pub mod Steps
 pub mod Receiving
+pub mod Reports
 pub mod Commands
 pub mod Judging
 pub mod Renewal

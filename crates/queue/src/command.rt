@@ -1,5 +1,9 @@
 //! Commands, and what they answer.
 
+ghost use Rattle.std.specs.Prelude.{◌≡◌, map};
+ghost use Rattle.queue.specs.Answers.{copy_line};
+ghost use Rattle.queue.specs.Reports.{copy_of, lines_of};
+
 use crate::fault::Fault;
 
 /// Whether a delivery is new.
@@ -32,6 +36,7 @@ pub struct Promotion {
     pub copies: Vec<SourceCopy>,
     /// A line for each: `COUNT SOURCE`, or `refused Q8 SOURCE` where nothing is shown of it.
     pub report: Report,
+    pub ghost lines_of_copies: { lines_of report ≡ map copy_line (map copy_of copies.items) },
 }
 
 /// A call of the archive, with its arguments. Moments are in seconds since 1970-01-01 00:00:00 UTC.
