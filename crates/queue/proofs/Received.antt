@@ -1,5 +1,5 @@
 -- From what was read and stored to what came of a delivery from a reader.
-use Rattle.std.proofs.Common.{◌≡◌, ◌≤◌, ◌<◌, ◌+◌, ◌⊎◌, ◌++◌, ◌∙◌, ℕ, Bool, true, false, not, List, Option, Some, None, Result, Ok, Err, IfErr, OnErr, length, if◌then◌else◌, refl, ap, sym, subst, inl, inr, arith, append-nil}
+use Rattle.std.proofs.Common.{◌≡◌, ◌≤◌, ◌<◌, ◌+◌, ◌⊎◌, ◌++◌, ◌∙◌, ℕ, Bool, true, false, not, List, [], ◌∷◌, Option, Some, None, Result, Ok, Err, IfErr, OnErr, length, take, take_at, if◌then◌else◌, refl, ap, sym, subst, inl, inr, arith, append-nil}
 use Rattle.std.specs.Prelude.{⊤, nat_lt}
 use Rattle.std.proofs.lemmas.Bool.{lt-ltb, le-ltb}
 use Rattle.std.proofs.lemmas.List.{length-append, nil_from_length}
@@ -14,11 +14,11 @@ use Rattle.records.specs.declared.fault.RecordFault.TheVariants as record_faults
 use Rattle.sums.specs.Lines.{is_file_name}
 use Rattle.keep.specs.Book.{Book, is_changes_name, latest}
 use Rattle.keep.specs.declared.keeper.Keeper.{Ghosts}
-use Rattle.queue.specs.Answers.{IsKept, IsStep}
+use Rattle.queue.specs.Answers.{IsFaithful, IsKept, IsStep, answer}
 use Rattle.queue.specs.Archives.{book_of}
 use Rattle.queue.specs.Commands.{is_new, stored}
 use Rattle.queue.specs.Deliveries.{IsKeepers, delivery_fault, fault_of_read, most_bytes, or_else, record_fault}
-use Rattle.queue.specs.Histories.{Delivery, History, Stored}
+use Rattle.queue.specs.Histories.{Delivery, History, Stored, followed}
 use Rattle.queue.specs.Receiving.{Gave, GaveUpTo, HasArrived, HasRead, IsAsBefore, IsCutOff, IsLeft, IsLeftBy, IsReceived, MayBeKept, WasShort}
 use Rattle.queue.specs.Steps.{Does, IsUndone, Lasts}
 use Rattle.queue.specs.declared.command.Arrived.{Arrived}
@@ -93,6 +93,20 @@ whole_front : (other front rest : List ℕ) (n : ℕ) → length other ≡ n →
 whole_front other front rest n size front_size is =
     let sizes : length other ≡ length front + length rest = ap length is ∙ length-append front rest in
     is ∙ ap (λ l. front ++ l) (nil_from_length rest (omega (arith, sizes, size, front_size))) ∙ append-nil front
+
+-- a body that was given is what there was to give first
+given_first : (body rest given : List ℕ) (gives : Option (List ℕ)) → Gave (Some (body ++ rest)) gives (length body) given → given ≡ body
+given_first body rest given None gave = absurd gave.0
+given_first body rest given (Some more) gave =
+    sym (take_at given more (length body) gave.1) ∙ ap (take (length body)) (sym gave.0) ∙ take_at body rest (length body) refl
+
+-- so a crash left the book that the history leaves with that body behind it
+pub left_given : (h : History) (name body rest : List ℕ) (gives : Option (List ℕ)) (moment : ℕ) (left : Option Book)
+    → IsLeftBy h (Some (body ++ rest)) gives name (length body) moment left → IsFaithful h (Delivery name body moment ∷ [])
+    → left ≡ Some (book_of (followed h (Delivery name body moment) (answer h (Delivery name body moment))))
+left_given h name body rest gives moment left it faithful =
+    subst (λ (b : List ℕ). IsFaithful h (Delivery name b moment ∷ []) → left ≡ Some (book_of (followed h (Delivery name b moment) (answer h (Delivery name b moment)))))
+    (given_first body rest it.body gives it.gave_it) it.stands faithful
 
 -- what is not so has every consequence
 never : {X : Type 0} → false ≡ true → X

@@ -3,10 +3,17 @@ use Rattle.std.specs.Prelude.{◌≡◌, ◌⊎◌, ⊤, ℕ, List, [], ◌∷�
 use Rattle.keep.specs.Book.{Book}
 use Rattle.keep.specs.Keeping as keeping
 use Rattle.keep.specs.declared.keeper.Keeper.{Ghosts}
-use Rattle.queue.specs.Answers.{IsFaithful, IsKept, IsStep, answer}
+use Rattle.queue.specs.Answers.{IsFaithful, IsKept, IsRun, IsStep, answer}
 use Rattle.queue.specs.Archives.{book_of}
 use Rattle.queue.specs.Histories.{Call, Delivery, Reply, History, followed}
 use Rattle.queue.specs.declared.fault.Fault.{Fault}
+
+-- What was left is the book that the history leaves with the first of these calls behind it, none, some or all of them; or that
+-- with the whole call that follows them besides.
+abbrev pub IsLeftAlong : History → List Call → List (Result Reply Fault) → Option Book → Type 0
+IsLeftAlong h (call ∷ calls) (outcome ∷ outcomes) left =
+    (left ≡ Some (book_of h)) ⊎ ((left ≡ Some (book_of (followed h call (answer h call)))) ⊎ IsLeftAlong (followed h call outcome) calls outcomes left)
+IsLeftAlong h calls outcomes left = left ≡ Some (book_of h)
 
 module _ {K : Type 0} (g : Ghosts K) (old : K) where
   -- what each call leaves of the archive's keeper, and what one leaves that changes nothing
@@ -39,6 +46,18 @@ module _ {K : Type 0} (g : Ghosts K) (old : K) where
   LeavesCall call new = (h : History) → IsKept (g.is_open old) (g.book old) h → IsFaithful h (call ∷ []) → g.is_clean new
       → (left : Option Book) → g.may_leave new left
       → g.may_leave old left ⊎ ((left ≡ Some (book_of h)) ⊎ (left ≡ Some (book_of (followed h call (answer h call)))))
+
+  -- The calls, with these outcomes, are a run behind each history whose book is kept: each outcome is the answer of its plain
+  -- archive at its place, and what the longer history leaves is kept then.
+  abbrev pub DoesAll : List Call → List (Result Reply Fault) → K → Type 0
+  DoesAll calls outcomes new = (h : History) → IsKept (g.is_open old) (g.book old) h → IsFaithful h calls → g.is_clean new
+      → IsRun g.may_fail h calls outcomes (g.is_open new) (g.book new)
+
+  -- A crash during these calls, one behind the other, or behind them leaves what it would have left before, or what the history
+  -- leaves with the first of them behind it, none, some or all; or that with the whole call that follows them besides.
+  abbrev pub LeavesRun : List Call → List (Result Reply Fault) → K → Type 0
+  LeavesRun calls outcomes new = (h : History) → IsKept (g.is_open old) (g.book old) h → IsFaithful h calls → g.is_clean new
+      → (left : Option Book) → g.may_leave new left → g.may_leave old left ⊎ IsLeftAlong h calls outcomes left
 
   -- A keeper that is open has the book that it had.
   abbrev pub IsUndone : K → Type 0

@@ -4,7 +4,7 @@ ghost use Rattle.std.specs.Prelude.{◌≡◌, IfOk, OnErr, map};
 ghost use Rattle.queue.specs.Answers.{IsFaithful, IsKept, IsRun};
 ghost use Rattle.queue.specs.Commands.{call_of, kind_of_command, kind_of_outcome, outcome_of};
 ghost use Rattle.queue.specs.Histories.{History};
-ghost use Rattle.queue.specs.Steps.{Does, IsServed, IsServedLast, Lasts};
+ghost use Rattle.queue.specs.Steps.{Does, IsServed, IsServedLast, Lasts, LeavesCall, LeavesRun};
 
 use crate::archive::Archive;
 use crate::command::{Command, Outcome};
@@ -18,6 +18,8 @@ impl<K: Keeper> Archive<K> {
         ensures lasts { Lasts K.Keeper self.old.keeper self.new.keeper }
         ensures served { IsServed K.Keeper self.new.keeper (outcome_of result) }
         ensures step { Does K.Keeper self.old.keeper (call_of command.now) (outcome_of result) self.new.keeper }
+        // A crash leaves what it would have left before, what the history left, or all that the command does.
+        ensures crash { LeavesCall K.Keeper self.old.keeper (call_of command.now) self.new.keeper }
     {
         match command {
             Command::Deliver { name, body, moment } => {
@@ -59,6 +61,9 @@ impl<K: Keeper> Archive<K> {
         // keeps what the longer history leaves.
         ensures once { IfOk result (λ outcomes. (h : History) → IsKept (K.is_open self.old.keeper) (K.book self.old.keeper) h → IsFaithful h (map call_of commands.now)
             → K.is_clean self.new.keeper → IsRun K.may_fail h (map call_of commands.now) (map outcome_of outcomes.items) (K.is_open self.new.keeper) (K.book self.new.keeper)) }
+        // A crash during the list or behind it leaves what it would have left before, or what the history leaves with the first of
+        // the commands behind it, none, some or all; or that with the whole command that follows them besides.
+        ensures crash { IfOk result (λ outcomes. LeavesRun K.Keeper self.old.keeper (map call_of commands.now) (map outcome_of outcomes.items) self.new.keeper) }
         ensures err { OnErr result (self.new ≡ self.old) }
     {
         let mut outcomes = Vec::with_capacity(alloc, commands.len())?;

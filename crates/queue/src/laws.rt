@@ -1,6 +1,6 @@
 //! Laws of histories.
 
-ghost use Rattle.std.specs.Prelude.{◌≡◌, ◌⊎◌, ◌≤◌, ℕ, List, [], ◌∷◌, Option, Some, None, Result, Ok};
+ghost use Rattle.std.specs.Prelude.{◌≡◌, ◌⊎◌, ◌≤◌, ℕ, List, [], ◌∷◌, ◌++◌, Option, Some, None, Result, Ok, length};
 ghost use Rattle.keep.specs.Book.{Book, HasItsFiles, latest};
 ghost use Rattle.queue.specs.Archives.{archive, book_of, sources_in, Stands};
 ghost use Rattle.queue.specs.Copies.{AreSuites};
@@ -11,8 +11,9 @@ ghost use Rattle.rules.specs.Values.{ConfigValue};
 ghost use Rattle.std.specs.FinMap.{values};
 ghost use Rattle.suites.specs.Pool.{AreAgreed, files_of};
 ghost use Rattle.keep.specs.Plain.{fresh_book};
-ghost use Rattle.queue.specs.Answers.{IsFaithful, IsKept, IsOpening, answer};
-ghost use Rattle.queue.specs.Steps.{LeavesCall, LeavesDelivery, LeavesStep};
+ghost use Rattle.queue.specs.Answers.{IsFaithful, IsKept, IsOpening, IsRun, answer};
+ghost use Rattle.queue.specs.Receiving.{LeavesReceived};
+ghost use Rattle.queue.specs.Steps.{DoesAll, IsLeftAlong, LeavesCall, LeavesDelivery, LeavesRun, LeavesStep};
 
 use keep::Keeper;
 
@@ -55,12 +56,15 @@ pub fn a_promotion_is_its_copies()
         → answer h (Promoting from to sources moment) ≡ Ok (Copies (answered_copies h from to moment (sources_in (archive h) f sources))) }
 {}
 
-/// What is said of a crash in a call, and what is said of one in a delivery, which is stored piece by piece, are both said of a
-/// call of which a stop may leave nothing done.
+/// What is said of a crash in a call, in a delivery, which is stored piece by piece, and in one whose body a reader gives are all
+/// said of a call of which a stop may leave nothing done. The body is then what the reader had to give first, of the length that was
+/// told.
 pub fn a_crash_is_of_a_call<K: Keeper>()
     ensures step { (before after : K) (call : Call) → LeavesStep K.Keeper before call after → LeavesCall K.Keeper before call after }
     ensures delivery { (before after : K) (name body : List ℕ) (moment : ℕ) → LeavesDelivery K.Keeper before name body moment after
         → LeavesCall K.Keeper before (Delivery name body moment) after }
+    ensures received { (before after : K) (name body rest : List ℕ) (gives : Option (List ℕ)) (moment : ℕ)
+        → LeavesReceived K.Keeper (Some (body ++ rest)) gives name (length body) moment before after → LeavesCall K.Keeper before (Delivery name body moment) after }
 {}
 
 /// A stop during a call of an open keeper, or behind it, leaves the book that the history leaves, or the one that it leaves with
@@ -69,4 +73,31 @@ pub fn a_stop_leaves_a_book<K: Keeper>()
     ensures { (before after : K) (h : History) (call : Call) → K.is_clean before → K.is_open before → IsKept (K.is_open before) (K.book before) h → IsFaithful h (call ∷ [])
         → K.is_clean after → LeavesCall K.Keeper before call after → (left : Option Book) → K.may_leave after left
         → (left ≡ Some (book_of h)) ⊎ (left ≡ Some (book_of (followed h call (answer h call)))) }
+{}
+
+/// Lists of calls, one behind the other, are one list. Where some are a run behind a history, and others are one behind each
+/// history that is kept between them, all of them are a run behind the first; and what is said of two lists, and of a crash in
+/// them, is said of both as one.
+pub fn lists_are_one_list<K: Keeper>()
+    ensures run { (h : History) (calls more : List Call) (outcomes others : List (Result Reply Fault)) (between after : K)
+        → IsRun K.may_fail h calls outcomes (K.is_open between) (K.book between)
+        → ((later : History) → IsKept (K.is_open between) (K.book between) later → IsFaithful later more → IsRun K.may_fail later more others (K.is_open after) (K.book after))
+        → IsFaithful h (calls ++ more) → IsRun K.may_fail h (calls ++ more) (outcomes ++ others) (K.is_open after) (K.book after) }
+    ensures once { (before between after : K) (calls more : List Call) (outcomes others : List (Result Reply Fault)) → (K.is_clean after → K.is_clean between)
+        → DoesAll K.Keeper before calls outcomes between → DoesAll K.Keeper between more others after
+        → DoesAll K.Keeper before (calls ++ more) (outcomes ++ others) after }
+    ensures crash { (before between after : K) (calls more : List Call) (outcomes others : List (Result Reply Fault)) → (K.is_clean after → K.is_clean between)
+        → DoesAll K.Keeper before calls outcomes between → LeavesRun K.Keeper before calls outcomes between → LeavesRun K.Keeper between more others after
+        → LeavesRun K.Keeper before (calls ++ more) (outcomes ++ others) after }
+    // A call is a list of its own.
+    ensures one { (before after : K) (call : Call) (outcome : Result Reply Fault) → LeavesCall K.Keeper before call after
+        → LeavesRun K.Keeper before (call ∷ []) (outcome ∷ []) after }
+{}
+
+/// A stop during a list of calls of an open keeper, or behind it, leaves the book that the history leaves with the first of these
+/// calls behind it, none, some or all; or that with the whole call that follows them besides. And it does leave one.
+pub fn a_stop_leaves_a_part_of_a_list<K: Keeper>()
+    ensures { (before after : K) (h : History) (calls : List Call) (outcomes : List (Result Reply Fault)) → K.is_clean before → K.is_open before
+        → IsKept (K.is_open before) (K.book before) h → IsFaithful h calls → K.is_clean after → LeavesRun K.Keeper before calls outcomes after
+        → (left : Option Book) → K.may_leave after left → IsLeftAlong h calls outcomes left }
 {}

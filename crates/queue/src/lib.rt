@@ -25,7 +25,8 @@ pub use command::{Arrived, Command, Outcome, Promotion, Report, SourceCopy};
 pub use fault::Fault;
 pub use laws::{
     a_book_opens_its_history, a_crash_is_of_a_call, a_history_goes_on_from_its_book,
-    a_promotion_is_its_copies, a_stop_leaves_a_book, for_good, nothing_is_an_opening,
+    a_promotion_is_its_copies, a_stop_leaves_a_book, a_stop_leaves_a_part_of_a_list, for_good,
+    lists_are_one_list, nothing_is_an_opening,
 };
 pub use once::drive_anew;
 pub use reading::{ReaderFailed, read_some};
