@@ -15,13 +15,10 @@ use sqlite::{Alter, Error, Transaction};
 use std::alloc::{AllocError, Global};
 use suites::Shelves;
 use tables::dates::insert_date;
-use tables::meta::insert_meta;
-use tables::schema::create_tables;
+use tables::meta::{VERSION, insert_meta};
+use tables::schema::{create_indexes, create_tables};
 use tables::texts::insert_text;
 use texts::{index_path, indices_of, listed_text, release};
-
-/// The version of the tables.
-pub(crate) const VERSION: u64 = 3;
 
 /// The whole path of a text in the folder of the suite.
 fn path_in(alloc: Global, suite: &Suite, path: &str) -> Result<String, AllocError>
@@ -227,7 +224,7 @@ fn insert_first_rows<S: Alter>(
     insert_dates(tx, config, moment)
 }
 
-/// Makes the tables of an archive in a database that has no table, and adds the first rows.
+/// Makes the tables of an archive and its indexes in a database that has no table, and adds the first rows.
 pub fn found_inside<S: Alter>(
     alloc: Global,
     tx: &mut Transaction<'_, S>,
@@ -243,5 +240,6 @@ pub fn found_inside<S: Alter>(
     ensures survives { Survives (state S.Store tx.old.conn.now) (state S.Store tx.new.conn.now) (λ _. ⊥) }
 {
     create_tables(tx)?;
+    create_indexes(tx)?;
     insert_first_rows(alloc, tx, config, moment)
 }

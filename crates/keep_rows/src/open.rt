@@ -1,16 +1,19 @@
 //! Whether a database is that of an archive.
 
-ghost use Rattle.std.specs.Prelude.{◌≡◌, ◌↔◌, All, ⊤, [], IsTrue, IfErr, IfOk};
+ghost use Rattle.std.specs.Prelude.{◌≡◌, ◌↔◌, ◌≤◌, ◌++◌, ◌&&◌, All, ⊤, [], bytes_eq, drop, length, nat_eq, not, IsTrue, IfErr, IfOk};
+ghost use Rattle.std.specs.List.{list_all};
 ghost use Rattle.sqlite.specs.declared.error.Error.TheVariants.{SqliteFailure};
 ghost use Rattle.sqlite.specs.declared.error.ErrorCode.TheVariants.{OutOfMemory};
 ghost use Rattle.sqlite.specs.Held.{state};
 ghost use Rattle.sqlite_value.specs.declared.value.Value.TheVariants.{Null};
 ghost use Rattle.tables.specs.Schema.{archive_schema};
-ghost use Rattle.kept.specs.Opening.{IsPlainSchema, IsPlainTable, no_stamps};
+ghost use Rattle.tables.specs.Others.{IsArchiveSchema, is_apart as is_apart_of, is_apart_from as is_apart_from_of, is_by as is_by_of, is_elsewhere as is_elsewhere_of, is_known as is_known_of, is_ours};
+ghost use Rattle.kept.specs.Opening.{IsPlainTable, no_stamps};
 
 use sqlite::{Alter, Connection, Error, MemStore};
 use sqlite_items::Items;
 use sqlite_schema::code::Terms;
+use sqlite_schema::names::same_name;
 use sqlite_schema::schema::{Action, Column, Index, Kind, Reference, Schema, Stamps, Table};
 use sqlite_value::keys::{Collation, Order};
 use sqlite_value::value::{Bytes, Value};
@@ -230,16 +233,140 @@ impl Same for Index {
     }
 }
 
-/// A plain schema has plain tables and no view.
-impl Same for Schema {
-    ghost is_plain = { IsPlainSchema };
-
-    fn is_same(&self, other: &Schema) -> bool {
-        let tables = self.tables.is_same(&other.tables);
-        let indexes = self.indexes.is_same(&other.indexes);
-        let views = self.views.is_empty();
-        tables && indexes && views
+/// Whether the first parts are the others, in their order.
+fn begin_with<T: Same>(all: &[T], others: &[T]) -> bool
+    requires { All T.Same.is_plain others.now }
+    ensures { IsTrue result ↔ (all.now ≡ others.now ++ drop (length others.now) all.now) }
+{
+    if all.len() < others.len() {
+        return false;
     }
+    let (first, _) = all.split_at(others.len());
+    are_same(first, others)
+}
+
+/// Whether a table of an archive has the name.
+#[tactic(auto, unfolding(tables::specs::Others::is_ours))]
+fn has_name(archive: &[Table], name: &Bytes) -> bool
+    requires { archive.now ≡ archive_schema.tables }
+    ensures { result ≡ is_ours name.now }
+{
+    archive
+        .iter()
+        .any(|table| same_name(table.name.as_slice(), name.as_slice()))
+}
+
+/// Whether the reference is to no table of an archive.
+fn is_elsewhere(archive: &[Table], reference: &Reference) -> bool
+    requires { archive.now ≡ archive_schema.tables }
+    ensures { result ≡ is_elsewhere_of reference.now }
+{
+    !has_name(archive, &reference.parent)
+}
+
+/// Whether the references are to no table of an archive.
+fn refer_elsewhere(archive: &[Table], references: &[Reference]) -> bool
+    requires { archive.now ≡ archive_schema.tables }
+    ensures { result ≡ list_all is_elsewhere_of references.now }
+{
+    references
+        .iter()
+        .all(|reference| is_elsewhere(archive, reference))
+}
+
+/// The last tree of an archive.
+const LAST_TREE: u32 = 22;
+
+/// Whether the table stands behind those of an archive, and refers to none of them.
+#[tactic(auto, unfolding(tables::specs::Others::is_apart))]
+fn is_apart(archive: &[Table], table: &Table) -> bool
+    requires { archive.now ≡ archive_schema.tables }
+    ensures { result ≡ is_apart_of table.now }
+{
+    let behind = table.tree > LAST_TREE;
+    let elsewhere = refer_elsewhere(archive, table.references.as_slice());
+    behind && elsewhere
+}
+
+/// Whether the tables behind those of an archive refer to none of these.
+fn are_tables_apart(archive: &[Table], tables: &[Table]) -> bool
+    requires { archive.now ≡ archive_schema.tables }
+    ensures { result ≡ list_all is_apart_of tables.now }
+{
+    tables.iter().all(|table| is_apart(archive, table))
+}
+
+/// Whether these columns are this one alone.
+fn is_by(columns: &[usize], column: usize) -> bool
+    ensures { result ≡ is_by_of columns.now column }
+{
+    columns.len() == 1 && columns[0] == column
+}
+
+/// Whether the index has this name, this table and this column alone, and takes any rows.
+fn is_like(index: &Index, name: &str, table: u32, column: usize) -> bool
+    ensures { result ≡ (bytes_eq index.now.name name.now && (nat_eq index.now.table table && (is_by_of index.now.columns column && not index.now.is_unique))) }
+{
+    let named = index.name.as_slice() == name.as_bytes();
+    let placed = index.table == table;
+    let by = is_by(index.columns.as_slice(), column);
+    let takes_any = !index.is_unique;
+    named && placed && by && takes_any
+}
+
+/// Whether the index is that by which the arrivals or the files of a body are found.
+#[tactic(auto, unfolding(tables::specs::Others::is_known))]
+fn is_known(index: &Index) -> bool
+    ensures { result ≡ is_known_of index.now }
+{
+    let of_arrivals = is_like(index, "arrivals_by_body", 5, 3);
+    let of_files = is_like(index, "files_by_body", 17, 2);
+    of_arrivals || of_files
+}
+
+/// Whether the index stands on no table of an archive, or is one of the two of bodies.
+#[tactic(auto, unfolding(tables::specs::Others::is_apart_from))]
+fn is_apart_from(index: &Index) -> bool
+    ensures { result ≡ is_apart_from_of index.now }
+{
+    let behind = index.table > LAST_TREE;
+    let known = is_known(index);
+    behind || known
+}
+
+/// Whether the indexes stand on no table of an archive, the two of bodies aside.
+fn are_indexes_apart(indexes: &[Index]) -> bool
+    ensures { result ≡ list_all is_apart_from_of indexes.now }
+{
+    indexes.iter().all(is_apart_from)
+}
+
+/// The parts behind so many.
+fn behind<T>(all: &[T], count: usize) -> &[T]
+    requires { count ≤ length all.now }
+    ensures { result.now ≡ drop count all.now }
+{
+    let (_, rest) = all.split_at(count);
+    rest
+}
+
+/// Whether the schema has the tables of an archive first, with their indexes, and then others that leave them alone.
+fn has_tables_first(archive: &Schema, schema: &Schema) -> bool
+    requires { archive.now ≡ archive_schema }
+    ensures { IsTrue result ↔ IsArchiveSchema schema.now }
+{
+    let tables = schema.tables.as_slice();
+    let indexes = schema.indexes.as_slice();
+    let ours = archive.tables.as_slice();
+    let our_indexes = archive.indexes.as_slice();
+    if !begin_with(tables, ours) || !begin_with(indexes, our_indexes) {
+        return false;
+    }
+    let others = behind(tables, ours.len());
+    let other_indexes = behind(indexes, our_indexes.len());
+    let tables_apart = are_tables_apart(ours, others);
+    let indexes_apart = are_indexes_apart(other_indexes);
+    tables_apart && indexes_apart
 }
 
 /// A database in memory with the tables of an archive.
@@ -254,11 +381,12 @@ fn with_tables(alloc: Global) -> Result<Connection<MemStore>, Error>
     Ok(conn)
 }
 
-/// Whether the database has the tables of an archive and nothing else. Nothing of the database fails here: it takes memory alone.
+/// Whether the database has the tables of an archive, with others behind them at most. Nothing of the database fails here: it takes
+/// memory alone.
 pub fn is_archive_schema<S: Alter>(alloc: Global, conn: &Connection<S>) -> Result<bool, Error>
-    ensures ok { IfOk result (λ answer. IsTrue answer ↔ ((state S.Store conn.now).now.schema ≡ archive_schema)) }
+    ensures ok { IfOk result (λ answer. IsTrue answer ↔ IsArchiveSchema (state S.Store conn.now).now.schema) }
     ensures err { IfErr result (λ e. e ≡ SqliteFailure OutOfMemory) }
 {
     let archive = with_tables(alloc)?;
-    Ok(conn.schema().is_same(archive.schema()))
+    Ok(has_tables_first(archive.schema(), conn.schema()))
 }

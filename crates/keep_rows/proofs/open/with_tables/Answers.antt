@@ -18,7 +18,7 @@ returns-clause-ok c =
     let none : begun.schema ≡ no_schema = ap (λ (h : Held _). h.schema) is ∙ c.in_ok-conn.ensures.empty.2 in
     let made = c.in_ok-create_tables.ensures.ok (memory_is_clean one) (ap (λ (h : Held _). h.in_transaction) is) in
     let done = c.in_ok-commit.ensures.ok (memory_is_clean last) in
-    let there : last.schema ≡ archive_schema = ap (λ (db : Database). db.schema) done.1.now_is ∙ (made.held none).schema in
+    let there : last.schema ≡ archive_schema = ap (λ (db : Database). db.schema) done.1.now_is ∙ made.made none in
     let same : last ≡ c.conn-3-1.given.0 = search rules in
     sym (ap (λ (h : Held _). h.schema) same) ∙ there
 
