@@ -39,12 +39,12 @@ row_between p f xs i x within is passes =
     ∙ ap (λ b. filter p (map f (take i xs)) ++ cond b (f x ∷ filter p (map f (drop (i + 1) xs))) (filter p (map f (drop (i + 1) xs)))) passes
 
 -- a place in a list of numbered things behind the first so many of them, and what stands there
-is_before : {X : Type 0} (f : ℕ → X) (k n : ℕ) (front rest : List X) (x : X) → length front ≡ n → front ++ x ∷ rest ≡ map f (range_with_len 0 k) → n < k
+pub is_before : {X : Type 0} (f : ℕ → X) (k n : ℕ) (front rest : List X) (x : X) → length front ≡ n → front ++ x ∷ rest ≡ map f (range_with_len 0 k) → n < k
 is_before f k n front rest x front_long whole =
     let long : length front + suc (length rest) ≡ k = sym (length-append front (x ∷ rest)) ∙ ap length whole ∙ length-map-range_with_len f 0 k in
     omega (arith, long, front_long)
 
-next_is : {X : Type 0} (f : ℕ → X) (k n : ℕ) (front rest : List X) (x : X) → length front ≡ n → front ++ x ∷ rest ≡ map f (range_with_len 0 k) → x ≡ f n
+pub next_is : {X : Type 0} (f : ℕ → X) (k n : ℕ) (front rest : List X) (x : X) → length front ≡ n → front ++ x ∷ rest ≡ map f (range_with_len 0 k) → x ≡ f n
 next_is f k n front rest x front_long whole =
     let below = is_before f k n front rest x front_long whole in
     sym (get_or_at front x rest x n front_long) ∙ ap (λ l. get_or l n x) whole ∙ get_or-map-range_with_len f 0 k n n x (omega arith) (omega (arith, below))
@@ -69,10 +69,10 @@ module _ (id : ℕ) (rows : Numbered Piece) (i : ℕ) (x : ℕ × Piece) (within
   around of = row_between (is_of id) (λ x. x.1) rows i x within is of
 
 -- the row of the piece of these bytes at a place
-abbrev piece_row : ℕ → List ℕ → ℕ → Piece
+abbrev pub piece_row : ℕ → List ℕ → ℕ → Piece
 piece_row id bytes n = record { body = id; number = n + 1; bytes = piece_at bytes n }
 
-same_piece : (p : Piece) (id number : ℕ) → p.body ≡ id → p.number ≡ number → p ≡ record { body = id; number = number; bytes = p.bytes }
+pub same_piece : (p : Piece) (id number : ℕ) → p.body ≡ id → p.number ≡ number → p ≡ record { body = id; number = number; bytes = p.bytes }
 same_piece p id number a b = ap (λ n. piece n p.number) a ∙ ap (piece id) b
   where
     piece : ℕ → ℕ → Piece

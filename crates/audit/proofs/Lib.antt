@@ -8,6 +8,7 @@ pub mod MetaLemmas
 pub mod PlacesLemmas
 pub mod SignsLemmas
 pub mod TextsLemmas
+pub mod UnderWayLemmas
 pub mod UploadsFits
 pub mod UploadsJudged
 pub mod UploadsLists

@@ -6,6 +6,7 @@ use Rattle.rules.specs.Configuration.{config_fault, config_in, config_limit, con
 use Rattle.rules.specs.Values.{ConfigValue}
 use Rattle.rules.specs.declared.fault.ConfigFault.{ConfigFault}
 use Rattle.tables.specs.declared.rows.Meta.{Meta}
+use Rattle.tables.specs.declared.meta.TheConstants.{VERSION}
 
 of_no_fault : (text : List ℕ) (ps : List Fields) (o : Option ConfigFault) (config : ConfigValue) → unless o (config_of text ps) ≡ Ok config → config.text ≡ text
 of_no_fault text ps None config e = cc
@@ -22,7 +23,7 @@ text_of_read text config e = of_read text (paragraphs_in text config_limit) conf
 
 -- so the row of a configuration is that of its text
 pub row_of_read : (row : Meta) (text : List ℕ) (config : ConfigValue) → row.version ≡ 3 → text ≡ row.configuration → config_in text ≡ Ok config
-    → (row ≡ record { version = 3; configuration = config.text }) × (config_in config.text ≡ Ok config)
+    → (row ≡ record { version = VERSION; configuration = config.text }) × (config_in config.text ≡ Ok config)
 row_of_read row text config three e read =
     let f : ℕ → List ℕ → Meta = λ a b. record { version = a; configuration = b } in
     let same : config.text ≡ text = text_of_read text config read in (

@@ -1,5 +1,5 @@
 -- When the rows of uploads fit, told from what is tested of them.
-use Rattle.std.proofs.Common.{◌≡◌, ◌&&◌, not, ℕ, Bool, true, false, nat_eq, Option, Some, None, IfSome, IsTrue, List, map, filter, All, Contains, sym, ap₂, subst, ◌∙◌, MatchBool}
+use Rattle.std.proofs.Common.{◌≡◌, ◌&&◌, not, ℕ, Bool, true, false, nat_eq, Option, Some, None, IfSome, IsTrue, List, map, All, Contains, sym, ap₂, subst, ◌∙◌, MatchBool}
 use Rattle.std.specs.List.{filter_map, list_any, range_with_len}
 use Rattle.std.proofs.lemmas.List.Elements.{All-weaker}
 use Rattle.keep.specs.declared.change.Judgement.{Judgement}
@@ -12,7 +12,7 @@ use Rattle.tables.specs.declared.rows.Want.{Want}
 use Rattle.tables.specs.Uploads.{is_judged as has_place}
 use Rattle.tables_read.specs.All.{AreConstrained}
 use Rattle.audit.specs.Parts.{BodiesFit, UploadsFit}
-use Rattle.audit.specs.Uploads.{AreAsked, AreBesides, IsPlacedWell, awaited_view, found_awaited, judged_at, last_of, print_among, printed, request_among, request_row, with_print, with_print_in}
+use Rattle.audit.specs.Uploads.{AreAsked, AreBesides, IsPlacedWell, awaited_view, found_awaited, judged_at, last_of, print_among, printed, with_print, with_print_in}
 use Rattle.audit.specs.declared.uploads.arrived.Arrived.{Arrived}
 use Rattle.audit.specs.declared.uploads.awaited.Awaited.{Awaited}
 use Rattle.audit.proofs.UploadsJudged.{is_judged_list, none_misses, places_fit}

@@ -9,6 +9,7 @@ use Rattle.texts.specs.Indices.{all_texts}
 use Rattle.keep.specs.declared.change.Judgement.{Judgement}
 use Rattle.tables.specs.Rows.{Tables, rows_of}
 use Rattle.tables.specs.declared.rows.Meta.{Meta}
+use Rattle.tables.specs.declared.meta.TheConstants.{VERSION}
 use Rattle.tables_read.specs.All.{AreConstrained}
 use Rattle.kept.specs.Kept.{AreFiles, AreItems, AreReadable, AreSigned, AreUploads, IsKept, date_row, has_body}
 use Rattle.kept.specs.OneBook.{first_same, one_configuration, same_dates, same_judged, same_shown}
@@ -54,7 +55,7 @@ fit_uploads t judged keys fit = record {
 }
 
 pub whole : (t : Tables) (config : ConfigValue) (judged : List Judgement) (shown : ShelvesValue) (dates : List ℕ) → AreConstrained t
-    → rows_of t.meta ≡ record { version = 3; configuration = config.text } ∷ [] → config_in config.text ≡ Ok config → BodiesFit t → ArrivalsFit t → RestFits t config judged shown dates
+    → rows_of t.meta ≡ record { version = VERSION; configuration = config.text } ∷ [] → config_in config.text ≡ Ok config → BodiesFit t → ArrivalsFit t → RestFits t config judged shown dates
     → IsKept t config judged shown dates
 unfolding has_body
 whole t config judged shown dates keys meta read bodies arrivals rest = record {
@@ -130,10 +131,10 @@ no_shown t config judged shown dates others rest rows long none =
     none shown (subst (ShownFits t config shown) same rest.shows)
 
 -- where this configuration keeps no archive, no other does
-pub no_other : (t : Tables) (config : ConfigValue) → rows_of t.meta ≡ record { version = 3; configuration = config.text } ∷ [] → config_in config.text ≡ Ok config
+pub no_other : (t : Tables) (config : ConfigValue) → rows_of t.meta ≡ record { version = VERSION; configuration = config.text } ∷ [] → config_in config.text ≡ Ok config
     → ((judged : List Judgement) (shown : ShelvesValue) (dates : List ℕ) → RestFits t config judged shown dates → ⊥) → KeepsNone t
 no_other t config meta read none other judged shown dates h =
-    let row : record { version = 3; configuration = other.text } ≡ record { version = 3; configuration = config.text } = first_same _ _ _ _ (sym h.meta ∙ meta) in
+    let row : record { version = VERSION; configuration = other.text } ≡ record { version = VERSION; configuration = config.text } = first_same _ _ _ _ (sym h.meta ∙ meta) in
     let text : other.text ≡ config.text = ap (λ (m : Meta). m.configuration) row in
     let same : other ≡ config = one_configuration other config h.read read text in
     none judged shown dates (subst (λ c. RestFits t c judged shown dates) same (rest_fits t other judged shown dates h))

@@ -1,5 +1,5 @@
--- What makes one body whole, and in which order its pieces, its arrivals and its files are looked up.
-use Rattle.std.specs.Prelude.{◌≡◌, ◌<◌, ℕ, ◌+◌, ◌-◌, ◌/◌, min, List, ◌++◌, map, length, Some, IsTrue}
+-- What makes one body whole, what the pieces of one that is not are like, and in which order pieces, arrivals and files are looked up.
+use Rattle.std.specs.Prelude.{◌≡◌, ◌<◌, ◌≤◌, ℕ, ◌+◌, ◌-◌, ◌/◌, min, List, ◌++◌, map, length, None, Some, IsTrue}
 use Rattle.std.specs.List.{flat_map}
 use Rattle.std.specs.List.Sorted.{IsNonDecreasing, IsNonDecreasingBy, IsPermutation}
 use Rattle.sums.specs.Prints.{print as print_of}
@@ -41,3 +41,17 @@ pub record IsBodyFit (t : Tables) (x : ℕ × Body) : Type 0 where
   pub whole : x.1.print ≡ Some (print_of (bytes_of t x.0))
   pub pieces : pieces_of t x.0 ≡ pieces_for x.0 (bytes_of t x.0)
   pub used : IsTrue (is_used t x.0)
+
+-- The piece may be the next one of a body, behind so many full ones.
+pub record IsBehind (count : ℕ) (p : Piece) : Type 0 where
+  pub number : p.number ≡ count + 1
+  pub some : 0 < length p.bytes
+  pub small : length p.bytes ≤ piece_size
+
+-- these are the pieces of a body of their bytes
+abbrev pub AreInPieces : ℕ → List Piece → Type 0
+AreInPieces id ps = ps ≡ pieces_for id (bytes_in ps)
+
+-- where the body of this row is not whole, its pieces are as those of a whole one
+abbrev pub IsInPieces : Tables → ℕ × Body → Type 0
+IsInPieces t x = x.1.print ≡ None → pieces_of t x.0 ≡ pieces_for x.0 (bytes_of t x.0)

@@ -17,7 +17,7 @@ use tables::rows::{Arrival, Body, File, Piece};
 use tables_read::AllRows;
 
 /// The most bytes that a piece has.
-const PIECE_SIZE: u64 = 65536;
+pub const PIECE_SIZE: u64 = 65536;
 
 /// How many bytes the pieces of a body have, or the most that can be counted.
 fn count_of_bytes(pieces: &[(u64, Piece)], id: u64) -> usize

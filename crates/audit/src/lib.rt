@@ -11,7 +11,9 @@ mod meta;
 mod pieces;
 mod signed;
 mod text_rows;
+mod under_way;
 mod uploads;
 mod whole;
 
+pub use under_way::are_under_way;
 pub use whole::{Held, archive_in};

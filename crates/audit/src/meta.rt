@@ -8,11 +8,9 @@ ghost use Rattle.tables_read.specs.All.{tables_with};
 
 use rules::{Config, ConfigFault};
 use std::alloc::{AllocError, Global};
+use tables::meta::VERSION;
 use tables::rows::Meta;
 use tables_read::AllRows;
-
-/// The version of the tables.
-const VERSION: u64 = 3;
 
 /// The configuration that a text is, if it is one.
 fn config_of(alloc: Global, text: &[u8]) -> Result<Option<Config>, AllocError>
@@ -29,10 +27,10 @@ fn config_of(alloc: Global, text: &[u8]) -> Result<Option<Config>, AllocError>
 
 /// The configuration that a row has, if it is of the version and its text is one.
 fn config_in_row(alloc: Global, row: &Meta) -> Result<Option<Config>, AllocError>
-    ensures some { IfOk result (λ o. IfSome o (λ config. (row.now ≡ record { version = 3; configuration = config.text })
+    ensures some { IfOk result (λ o. IfSome o (λ config. (row.now ≡ record { version = VERSION; configuration = config.text })
         × (config_of_text config.text ≡ Ok config))) }
     ensures none { IfOk result (λ o. o ≡ None
-        → (config : ConfigValue) → row.now ≡ record { version = 3; configuration = config.text }
+        → (config : ConfigValue) → row.now ≡ record { version = VERSION; configuration = config.text }
         → config_of_text config.text ≡ Ok config → ⊥) }
 {
     if row.version != VERSION {
@@ -44,10 +42,10 @@ fn config_in_row(alloc: Global, row: &Meta) -> Result<Option<Config>, AllocError
 /// The configuration of an archive with these rows: the one row of `meta` is of the version, and has its text.
 pub fn config_in(alloc: Global, all: &AllRows) -> Result<Option<Config>, AllocError>
     ensures some { IfOk result (λ o. IfSome o (λ config.
-        (rows_of (tables_with all.now).meta ≡ record { version = 3; configuration = config.text } ∷ [])
+        (rows_of (tables_with all.now).meta ≡ record { version = VERSION; configuration = config.text } ∷ [])
         × (config_of_text config.text ≡ Ok config))) }
     ensures none { IfOk result (λ o. o ≡ None → (config : ConfigValue)
-        → rows_of (tables_with all.now).meta ≡ record { version = 3; configuration = config.text } ∷ []
+        → rows_of (tables_with all.now).meta ≡ record { version = VERSION; configuration = config.text } ∷ []
         → config_of_text config.text ≡ Ok config → ⊥) }
 {
     let rows = all.meta.as_slice();

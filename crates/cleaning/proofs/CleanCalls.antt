@@ -15,6 +15,7 @@ use Rattle.kept.specs.Kept.{AreNumbered, IsKept, book_in}
 use Rattle.kept.proofs.ComingLemmas.{none_coming}
 use Rattle.kept.proofs.DeliveredLemmas.{numbered}
 use Rattle.kept.proofs.FinishedLemmas.{finished_numbered, kept_finished}
+use Rattle.kept.proofs.UnderWayLemmas.{finished_under_way}
 use Rattle.cleaning.proofs.CleanedArchive.{cleaned_archive}
 use Rattle.cleaning.proofs.CleanedFinished.{cleaned_finished, count_ended}
 
@@ -46,7 +47,11 @@ module _ (before after : Database) (config : ConfigValue) (moment : ℕ) (held :
   turns =
       let same : finished (tables_in after) ≡ left = all_whole ∙ rows in
       record {
-        kept = record { held = subst (Holds after) (sym rows_held) (held rows_before archive.held); kept = subst (λ u. IsKept u config judged shown dates) (sym same) both.0 };
+        kept = record {
+          held = subst (Holds after) (sym rows_held) (held rows_before archive.held);
+          kept = subst (λ u. IsKept u config judged shown dates) (sym same) both.0;
+          coming = finished_under_way (tables_in after) all_whole;
+        };
         book = ap (book_in config judged shown dates) same ∙ both.1;
       }
 

@@ -43,7 +43,7 @@ book_files db config b keeps =
 
 pub finished_files : (db : Database) (config : ConfigValue) (b : Book) → KeepsFinished db config b → HasItsFiles b
 finished_files db config b keeps =
-    ∥∥₁_elim keeps (its_files_prop b) (λ w. subst HasItsFiles (sym w.5) (kept_files (finished (tables_in db)) config w.0 w.1 w.2 w.4))
+    ∥∥₁_elim keeps (its_files_prop b) (λ w. subst HasItsFiles (sym w.6) (kept_files (finished (tables_in db)) config w.0 w.1 w.2 w.4))
 
 -- trees keep one book
 pub one_kept : (db other : Database) (config another : ConfigValue) (b c : Book) → other.trees ≡ db.trees → KeepsBook db config b → KeepsBook other another c → c ≡ b

@@ -1,14 +1,12 @@
 -- A body that comes in pieces: it is no part of the finished rows, and once it is whole it is one that was stored at once.
-use Rattle.std.proofs.Common.{◌≡◌, ℕ, zero, suc, ◌+◌, ◌*◌, ◌/◌, ◌%◌, ◌<◌, ◌≤◌, nat_eq, Bool, true, false, not, ◌&&◌, cond, List, [], ◌∷◌, ◌++◌, map, filter, find, fold, take, drop, length, All, Option, Some, None, is_some, unwrap_or, option_map, IsTrue, refl, sym, ap, ap₂, subst, ◌∙◌, arith, true≢false}
+use Rattle.std.proofs.Common.{◌≡◌, ℕ, zero, suc, ◌+◌, ◌*◌, ◌%◌, ◌<◌, ◌≤◌, nat_eq, Bool, true, false, not, ◌&&◌, cond, List, [], ◌∷◌, ◌++◌, map, filter, fold, take, drop, length, All, Option, Some, None, is_some, unwrap_or, IsTrue, refl, sym, ap, ap₂, subst, ◌∙◌, arith, true≢false}
 use Rattle.std.specs.List.{AllByRecursion, flat_map, list_any, range_with_len}
-use Rattle.std.specs.Option.{option_map_or}
-use Rattle.std.proofs.lemmas.Bool.{eq-eqb, ne_eqb}
+use Rattle.std.proofs.lemmas.Bool.{eq-eqb}
 use Rattle.std.proofs.lemmas.Bool.Decides.{nat_tests}
-use Rattle.std.proofs.lemmas.List.{append-nil, length-append, take_all}
-use Rattle.std.proofs.lemmas.List.Elements.{All-contains, filter-append, recursion_from_All}
+use Rattle.std.proofs.lemmas.List.{length-append, take_all}
+use Rattle.std.proofs.lemmas.List.Elements.{All-contains, All-from_recursion, All-push, filter-append, recursion_from_All}
 use Rattle.std.proofs.lemmas.List.FromFn.{map-range_with_len_more}
-use Rattle.sqlite_keyed.proofs.ListLemmas.{all_of, all_weaker, filter_all}
-use Rattle.sums.specs.Prints.{print as print_of}
+use Rattle.sqlite_keyed.proofs.ListLemmas.{all_weaker, filter_all}
 use Rattle.sums.specs.declared.entries.Entry.{Entry}
 use Rattle.sums.specs.declared.print.Print.{Print}
 use Rattle.tables.specs.Bodies.{body_with, with_print}
@@ -17,8 +15,8 @@ use Rattle.tables.specs.Rows.{Numbered, Rises, Tables, added, changed, next_in, 
 use Rattle.tables.specs.declared.rows.Body.{Body}
 use Rattle.tables.specs.declared.rows.Piece.{Piece}
 use Rattle.kept.specs.Coming.{HasComing, bytes_so_far, coming_number, ended_number, with_begun, with_coming, with_ended, with_finished, with_next_piece, with_received, with_whole}
-use Rattle.kept.specs.Finished.{finished, is_of_unfinished, is_unfinished, without_whole}
-use Rattle.kept.specs.Kept.{AreBodies, AreNumbered, bytes_of, has_body, piece_at, piece_count, pieces_for, pieces_of}
+use Rattle.kept.specs.Finished.{AreUnderWay, finished, is_unfinished, without_whole}
+use Rattle.kept.specs.Kept.{AreBodies, bytes_of, has_body, piece_at, piece_count, pieces_for, pieces_of}
 use Rattle.kept.specs.Making.{number_with, with_bytes, with_delivered, with_pieces}
 use Rattle.kept.specs.Taking.{listed_in}
 use Rattle.kept.proofs.BodyLemmas.{is_below_next, none_kept, only_pieces, own_pieces, pieces_joined, pieces_of_one, row_of_body, rows_with}
@@ -26,6 +24,7 @@ use Rattle.kept.proofs.BodySteps.{bytes_new, bytes_there, number_new, number_the
 use Rattle.kept.proofs.FinishedLemmas.{bodies_whole, body_finished}
 use Rattle.kept.proofs.PassingLemmas.{Passes, beside, bodies_left, finished_passes, pieces_left}
 use Rattle.kept.proofs.Searches.{all_of_rows, below_next}
+use Rattle.kept.proofs.UnderWayLemmas.{whole_under_way}
 
 abbrev begun_body : Body
 begun_body = record { print = None }
@@ -279,6 +278,21 @@ pub coming_bytes : (bytes : List ℕ) (u : Tables) → AreWhole u → bytes_so_f
 unfolding with_coming coming_number
 coming_bytes [] u h = refl
 coming_bytes (b ∷ bytes) u h = begun_bytes u (b ∷ bytes) h
+
+begun_under_way : (u : Tables) (bytes : List ℕ) → AreWhole u → AreUnderWay (with_begun bytes u)
+begun_under_way u bytes h =
+    let n = next_in u.bodies in
+    let t = with_begun bytes u in
+    let P : ℕ × Body → Type 0 = λ x. x.1.print ≡ None → pieces_of t x.0 ≡ pieces_for x.0 (bytes_of t x.0) in
+    let others : All P u.bodies = All-from_recursion P u.bodies (all_weaker (λ x. is_unfinished x ≡ false) P (λ x some none. absurd (true≢false (sym (ap (λ o. not (is_some o)) none) ∙ some))) u.bodies h.whole) in
+    let its : P (n, begun_body) = λ none. begun_pieces u bytes h ∙ ap (pieces_for n) (sym (begun_bytes u bytes h)) in
+    record { pieces = subst (All P) (sym (bodies_stay (pieces_for n bytes) (with_body begun_body u))) (All-push P u.bodies (n, begun_body) others its) }
+
+-- and they are as those of a whole one
+pub coming_under_way : (bytes : List ℕ) (u : Tables) → AreWhole u → AreUnderWay (with_coming bytes u)
+unfolding with_coming
+coming_under_way [] u h = whole_under_way u h.whole
+coming_under_way (b ∷ bytes) u h = begun_under_way u (b ∷ bytes) h
 
 -- ---- once it is whole
 

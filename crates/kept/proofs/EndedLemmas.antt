@@ -1,5 +1,5 @@
 -- What the statements on a body that came leave of the connection.
-use Rattle.std.proofs.Common.{◌≡◌, ℕ, ◌+◌, ◌<◌, ◌≤◌, cond, true, false, List, Ok, [], Option, Some, None, is_some, unwrap_or, option_map, IsTrue, refl, sym, ap, subst, ◌∙◌, arith, inl, inr}
+use Rattle.std.proofs.Common.{◌≡◌, ℕ, ◌+◌, ◌<◌, cond, true, false, List, Ok, [], Option, Some, None, is_some, unwrap_or, IsTrue, refl, sym, ap, subst, ◌∙◌, arith, inl, inr}
 use Rattle.std.proofs.lemmas.Bool.{cases_lt}
 use Rattle.records.specs.Records.{changes_in}
 use Rattle.records.specs.Values.{ChangesValue}
@@ -13,7 +13,6 @@ use Rattle.tables.specs.Rows.{Tables, Holds, Changes, next_in, with_body, with_p
 use Rattle.kept.specs.Coming.{IsNoOther, IsSameAs, bytes_so_far, ended_number, with_ended, with_finished, with_new_print, with_next_piece, with_received, with_whole}
 use Rattle.kept.specs.Finished.{without_whole}
 use Rattle.kept.specs.Kept.{pieces_for}
-use Rattle.kept.specs.Making.{with_bytes}
 use Rattle.kept.specs.Taking.{listed_in}
 use Rattle.kept.proofs.BodySteps.{Looks, bytes_new, bytes_there}
 use Rattle.kept.proofs.DeliverLemmas.{changes_as, read_alone, read_then}

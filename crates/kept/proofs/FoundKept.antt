@@ -23,6 +23,7 @@ use Rattle.tables.specs.Rows.{Tables, Numbered, rows_of, added, next_in, no_rows
 use Rattle.tables.specs.declared.rows.Date.{Date}
 use Rattle.tables.specs.declared.rows.IndexText.{IndexText}
 use Rattle.tables.specs.declared.rows.Meta.{Meta}
+use Rattle.tables.specs.declared.meta.TheConstants.{VERSION}
 use Rattle.kept.specs.Kept.{AreArrivals, AreBodies, AreFiles, AreItems, AreUploads, IsKept, arrivals_in, book_in, date_row, files_in}
 use Rattle.kept.specs.Founding.{first_date, first_dates, founded, with_dates, with_first_rows, with_path_text, with_texts}
 use Rattle.kept.proofs.FoundLemmas.{map_twice}
@@ -53,7 +54,7 @@ dates_are (d ∷ ds) t = dates_are ds (with_date d t)
 -- ---- the first rows
 
 abbrev first_meta : ConfigValue → Meta
-first_meta config = record { version = 3; configuration = config.text }
+first_meta config = record { version = VERSION; configuration = config.text }
 
 abbrev first_texts : ConfigValue → ℕ → List PathText
 first_texts config moment = all_texts config empty (first_dates config moment)

@@ -17,9 +17,9 @@ use Rattle.texts.specs.Positions.{indices_at, release_at}
 use Rattle.texts.specs.Release.{indices_of, listed_entry, listed_texts, release_text}
 use Rattle.tables.specs.Rows.{Tables, Holds, Changes, no_rows, with_date, with_meta}
 use Rattle.tables.specs.Schema.{no_schema}
-use Rattle.tables.specs.Creating.{Creates}
 use Rattle.tables.specs.declared.rows.Date.{Date}
 use Rattle.tables.proofs.TransactionLemmas.{as_old, keeps_then, keeps_if_changed}
+use Rattle.tables.specs.declared.meta.TheConstants.{VERSION}
 use Rattle.kept.specs.Transactions.{IsUndone}
 use Rattle.kept.specs.Founding.{Continues, Founds, component_texts, components_texts, first_date, first_dates, founded, from_root, suite_texts_at, with_dates, with_first_rows, with_path_text, with_texts}
 
@@ -68,14 +68,14 @@ changes_on a b c f g h e p q =
     }
 
 -- the tables are made, and rows are added
-pub founds_then : (a b c : State) (f : Tables → Tables) (rows : Tables) → f no_rows ≡ rows → Creates a b → Changes b c f → Founds a c rows
-founds_then a b c f rows e p q = record {
-  held = λ none. subst (Holds c.now) e (q.held no_rows (p.held none));
+pub founds_then : (a b c : State) (f : Tables → Tables) (rows : Tables) → f no_rows ≡ rows → (a.now.schema ≡ no_schema → Holds b.now no_rows) → KeepsCommit a b → Changes b c f → Founds a c rows
+founds_then a b c f rows e laid p q = record {
+  held = λ none. subst (Holds c.now) e (q.held no_rows (laid none));
   shown = record {
-    was_open = p.kept.was_open q.shown.was_open;
+    was_open = p.was_open q.shown.was_open;
     is_open = q.shown.is_open;
     now_is = refl;
-    committed_is = q.shown.committed_is ∙ p.kept.committed q.shown.was_open;
+    committed_is = q.shown.committed_is ∙ p.committed q.shown.was_open;
     mode = q.shown.mode;
   };
 }
@@ -209,12 +209,12 @@ suite_then config shelves moment i s text here e t =
 
 -- ---- all first rows
 
-pub first_rows_then : (a b c d : State) (config : ConfigValue) (moment : ℕ) → Changes a b (with_meta (record { version = 3; configuration = config.text }))
+pub first_rows_then : (a b c d : State) (config : ConfigValue) (moment : ℕ) → Changes a b (with_meta (record { version = VERSION; configuration = config.text }))
     → Continues b c (with_texts (all_texts config empty (first_dates config moment))) → Continues c d (with_dates (map (first_date moment) config.suites))
     → Changes a d (with_first_rows config moment)
 unfolding with_first_rows
 first_rows_then a b c d config moment one two three =
-    changes_on a b d (with_meta (record { version = 3; configuration = config.text }))
+    changes_on a b d (with_meta (record { version = VERSION; configuration = config.text }))
     (λ t. with_dates (map (first_date moment) config.suites) (with_texts (all_texts config empty (first_dates config moment)) t)) (with_first_rows config moment)
     (λ t. refl) one
     (continues_then b c d (with_texts (all_texts config empty (first_dates config moment))) (with_dates (map (first_date moment) config.suites)) _ (λ t. refl) two three)

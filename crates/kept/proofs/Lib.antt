@@ -48,6 +48,7 @@ pub mod OrderLemmas
 pub mod WaitingLemmas
 pub mod DueLemmas
 pub mod FinishedLemmas
+pub mod UnderWayLemmas
 pub mod PassingLemmas
 pub mod SweptFinished
 pub mod ComingLemmas

@@ -18,6 +18,7 @@ use Rattle.kept.proofs.CallLemmas.{shown_here}
 use Rattle.kept.proofs.ComingLemmas.{none_coming}
 use Rattle.kept.proofs.FinishedLemmas.{kept_finished}
 use Rattle.kept.proofs.FoundKept.{founded_is_kept, founded_book}
+use Rattle.kept.proofs.UnderWayLemmas.{finished_under_way}
 
 module _ (db : Database) (config : ConfigValue) (moment : ℕ) (read : config_in config.text ≡ Ok config) (early : moment ≤ latest) (held : Holds db (founded config moment)) where
   -- no body of them is unfinished
@@ -30,6 +31,7 @@ module _ (db : Database) (config : ConfigValue) (moment : ℕ) (read : config_in
       record {
         held = subst (Holds db) (sym same) held;
         kept = subst (λ t. IsKept t config [] empty (first_dates config moment)) (sym (ap finished same ∙ founded_finished)) (founded_is_kept config moment read early);
+        coming = finished_under_way (tables_in db) (ap finished same ∙ founded_finished ∙ sym same);
       }
 
   pub founded_here : book_of db config [] (shown_in config.suites (tables_in db)) (first_dates config moment) ≡ fresh_book config moment

@@ -1,6 +1,7 @@
 -- The schema of an archive is plain, and a database in memory fails for want of memory alone.
 use Rattle.std.proofs.Common.{◌≡◌, [], None, true, false, inl, inr, IsTrue, IsSome, refl, sym, ap, subst, ◌∙◌, arith}
 use Rattle.std.specs.List.{AllByRecursion}
+use Rattle.std.specs.Prelude.{All}
 use Rattle.std.proofs.lemmas.List.Elements.{All-from_recursion}
 use Rattle.sqlite.specs.declared.error.Error.{Error}
 use Rattle.sqlite.specs.declared.error.Error.TheVariants.{SqliteFailure}
@@ -15,7 +16,7 @@ use Rattle.sqlite_value.specs.declared.value.Value.TheVariants.{Null}
 use Rattle.tables.specs.Causes.{IsCaused}
 use Rattle.tables.specs.Schema.{archive_schema, no_schema}
 use Rattle.tables.proofs.CauseLemmas.{store_failed}
-use Rattle.kept.specs.Opening.{IsPlainSchema, IsPlainTable, no_stamps}
+use Rattle.kept.specs.Opening.{IsPlainTable, no_stamps}
 
 plain : (t : Table) → AllByRecursion (λ c. c.default ≡ Null) t.columns → t.checks ≡ [] → t.stamps ≡ no_stamps → IsPlainTable t
 plain t columns checks stamps = record { columns = All-from_recursion (λ (c : Column). c.default ≡ Null) t.columns columns; checks = checks; stamps = stamps }
@@ -56,8 +57,8 @@ plain_tables = (
   ),
 )
 
-pub archive_is_plain : IsPlainSchema archive_schema
-archive_is_plain = record { tables = All-from_recursion IsPlainTable archive_schema.tables plain_tables; views = refl }
+pub archive_is_plain : All IsPlainTable archive_schema.tables
+archive_is_plain = All-from_recursion IsPlainTable archive_schema.tables plain_tables
 
 -- an open connection without a limit, whose store counts no fault
 want_of_memory : (old new : State) (e : Error) → IsTrue old.is_open → old.step_limit ≡ None → new.faults ≡ 0 → IsCaused old new e → e ≡ SqliteFailure OutOfMemory

@@ -31,7 +31,7 @@ use Rattle.tables.specs.declared.rows.Item as row
 use Rattle.tables.specs.declared.rows.Piece.{Piece}
 use Rattle.tables.specs.declared.rows.Ref.{Ref}
 use Rattle.tables.specs.declared.rows.Upload.{Upload}
-use Rattle.kept.specs.Finished.{finished, is_of_unfinished, is_unfinished}
+use Rattle.kept.specs.Finished.{finished, is_unfinished}
 use Rattle.kept.specs.Kept.{is_on, item_row, refs_for}
 use Rattle.kept.specs.Making.{judged_by, with_judged, with_new_dates, with_new_texts, with_plan, with_pooled, with_refs, with_shown, with_step, with_steps, with_written, without_shown}
 use Rattle.kept.proofs.FinishedLemmas.{body_finished}

@@ -1,5 +1,5 @@
 -- Two bodies that have the same pieces have the same bytes.
-use Rattle.std.proofs.Common.{◌≡◌, ℕ, zero, suc, ◌+◌, ◌*◌, ◌<◌, ◌≤◌, nat_eq, Bool, true, false, ◌&&◌, cond, List, [], ◌∷◌, ◌++◌, map, filter, find, length, Option, Some, None, is_none, is_some, option_map, refl, sym, ap, ◌∙◌, arith, inl, inr}
+use Rattle.std.proofs.Common.{◌≡◌, ℕ, zero, suc, ◌+◌, ◌<◌, ◌≤◌, nat_eq, Bool, true, false, ◌&&◌, cond, List, [], ◌∷◌, ◌++◌, map, filter, find, length, Option, Some, None, is_none, option_map, refl, sym, ap, ◌∙◌, arith, inl, inr}
 use Rattle.std.specs.List.{flat_map, range_with_len}
 use Rattle.std.specs.Option.{option_or}
 use Rattle.std.proofs.lemmas.Bool.{cases_lt, eq-eqb, ne_eqb}
@@ -10,7 +10,7 @@ use Rattle.tables.specs.Pieces.{is_of, is_piece}
 use Rattle.tables.specs.Rows.{Tables, rows_of}
 use Rattle.tables.specs.declared.rows.Piece.{Piece}
 use Rattle.kept.specs.Coming.{HasSamePieces, bytes_at}
-use Rattle.kept.specs.Kept.{bytes_of, piece_at, piece_count, pieces_for, pieces_of}
+use Rattle.kept.specs.Kept.{piece_at, piece_count, pieces_for, pieces_of}
 use Rattle.kept.proofs.BodyLemmas.{pieces_joined}
 
 abbrev at_number : ℕ → Piece → Bool

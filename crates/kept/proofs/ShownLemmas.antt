@@ -5,7 +5,7 @@ use Rattle.std.specs.List.{All, cons_option, enumerate_from, filter_map, list_an
 use Rattle.std.specs.Option.{option_and_then, option_map_or, option_or}
 use Rattle.std.specs.Ordering.{eq_by_cmp}
 use Rattle.std.specs.Cmp.{eq_by_cmp_equiv}
-use Rattle.std.specs.FinMap.{get, insert, entries, values, get-insert, get-from_entries, same_map}
+use Rattle.std.specs.FinMap.{get, entries, values, get-insert, get-from_entries, same_map}
 use Rattle.std.specs.FinMap as keyed
 use Rattle.std.proofs.lemmas.Bool.{both_ways, and_parts, and_from, eq-eqb, eqb-true, false_from_ne_true, cases_lt}
 use Rattle.std.proofs.lemmas.Bool.Decides.{nat_tests}

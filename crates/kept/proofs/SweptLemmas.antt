@@ -22,6 +22,7 @@ use Rattle.tables.specs.Rows.{Numbered, Tables, rows_of, without}
 use Rattle.tables.specs.declared.rows.Body.{Body}
 use Rattle.tables.specs.declared.rows.File.{File}
 use Rattle.tables.specs.declared.rows.Piece.{Piece}
+use Rattle.tables.specs.declared.meta.TheConstants.{VERSION}
 use Rattle.kept.specs.Kept.{AreArrivals, AreBodies, AreFiles, AreItems, AreSigned, AreStored, AreUploads, IsKept, arrival_in, arrivals_in, book_in, bytes_of, date_row, files_in, has_body, is_used, pieces_for, pieces_of, print_at}
 use Rattle.kept.specs.Sweeping.{swept}
 use Rattle.kept.proofs.BodyLemmas.{all_if, found, its_arrival, its_file, map_alike, row_of_body}
@@ -210,7 +211,7 @@ module _ (u : Tables) where
 
 -- The rows are those of an archive, but that some bodies may be unused.
 pub record IsUnswept (t : Tables) (config : ConfigValue) (judged : List Judgement) (shown : ShelvesValue) (dates : List ℕ) : Type 0 where
-  pub meta : rows_of t.meta ≡ record { version = 3; configuration = config.text } ∷ []
+  pub meta : rows_of t.meta ≡ record { version = VERSION; configuration = config.text } ∷ []
   pub read : config_in config.text ≡ Ok config
   pub sound : AreSound shown
   pub told : AreTold config.suites shown

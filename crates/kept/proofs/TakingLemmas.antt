@@ -23,17 +23,18 @@ use Rattle.tables.proofs.BookLemmas.{held_tables, is_archive}
 use Rattle.kept.specs.Archives.{KeepsArchive, Turns, book_of}
 use Rattle.kept.specs.Cleaning.{counts_row}
 use Rattle.kept.specs.Coming.{Comes, HasComing, HasSamePieces, IsNoOther, IsSameAs, coming_number, ended_number, with_coming, with_ended, with_finished, with_next_piece}
-use Rattle.kept.specs.Finished.{finished, without_all, without_whole}
+use Rattle.kept.specs.Finished.{AreUnderWay, finished, without_all, without_whole}
 use Rattle.kept.specs.Kept.{IsKept, book_in, bytes_of, has_body, pieces_for, pieces_of}
 use Rattle.kept.specs.Making.{number_with, with_bytes, with_delivered}
 use Rattle.kept.specs.Taking.{HasNoOther, listed_in}
 use Rattle.kept.specs.Transactions.{MayCommit}
 use Rattle.kept.proofs.BodyLemmas.{HasBody, body_found, has_body_if, row_of_found}
-use Rattle.kept.proofs.ComingLemmas.{AreWhole, coming_finished, coming_more, coming_pieces, coming_removed, count_more, ended_numbered, ended_stored, finished_delivered, no_number, none_coming, number_first, number_more, whole_rows}
+use Rattle.kept.proofs.ComingLemmas.{AreWhole, coming_finished, coming_more, coming_pieces, coming_removed, coming_under_way, count_more, ended_numbered, ended_stored, finished_delivered, no_number, none_coming, number_first, number_more, whole_rows}
 use Rattle.kept.proofs.Commits.{survives_commit}
 use Rattle.kept.proofs.DeliveredLemmas.{KeepsDelivery, delivered_archive, numbered}
 use Rattle.kept.proofs.FinishedLemmas.{body_finished, finished_numbered, finished_rises, finished_twice, kept_finished, pieces_finished}
 use Rattle.kept.proofs.SamePieces.{no_bytes, same_bytes}
+use Rattle.kept.proofs.UnderWayLemmas.{finished_under_way}
 
 -- two facts about one answer
 pub both_on : {X E P R : Type 0} {Q : X → Type 0} (r : Result X E) → OnOk r P → IfOk r Q → (P → (x : X) → Q x → R) → OnOk r R
@@ -100,11 +101,15 @@ module _ (old : State) (settled : IsTrue old.is_open → old.now ≡ old.committ
   abbrev Same : Database → Type 0
   Same db = Turns old.committed db config judged shown dates judged shown dates (λ b. b)
 
-  same_turn : (db : Database) (new : Tables) → Holds db new → finished new ≡ left → Same db
-  same_turn db new held same =
+  same_turn : (db : Database) (new : Tables) → Holds db new → finished new ≡ left → AreUnderWay new → Same db
+  same_turn db new held same under =
       let is : finished (tables_in db) ≡ left = ap finished (held_tables db new held) ∙ same in
       record {
-        kept = record { held = is_archive db new held; kept = subst (λ t. IsKept t config judged shown dates) (sym is) keeps.kept };
+        kept = record {
+          held = is_archive db new held;
+          kept = subst (λ t. IsKept t config judged shown dates) (sym is) keeps.kept;
+          coming = subst AreUnderWay (sym (held_tables db new held)) under;
+        };
         book = ap (book_in config judged shown dates) is;
       }
 
@@ -121,7 +126,7 @@ module _ (old : State) (settled : IsTrue old.is_open → old.now ≡ old.committ
     longer_finished = ap finished longer_is ∙ coming_finished (bytes ++ piece) left whole twice
 
     pub piece_turns : (db : Database) → ((t : Tables) → Holds old.now t → Holds db (with_next_piece body (count + 1) piece t)) → Same db
-    piece_turns db done = same_turn db longer (done was held_now) longer_finished
+    piece_turns db done = same_turn db longer (done was held_now) longer_finished (subst AreUnderWay (sym longer_is) (coming_under_way (bytes ++ piece) left whole))
 
     pub piece_comes : (db : Database) → ((t : Tables) → Holds old.now t → Holds db (with_next_piece body (count + 1) piece t)) → (id : ℕ)
         → ((t : Tables) → Holds old.now t → id ≡ unwrap_or body (next_in t.bodies)) → Comes (tables_in db) (Some id) (count + 1) (bytes ++ piece)
@@ -146,7 +151,7 @@ module _ (old : State) (settled : IsTrue old.is_open → old.now ≡ old.committ
     shorter_finished = ap finished shorter_is ∙ twice
 
     pub removed_turns : (db : Database) → ((t : Tables) → Holds old.now t → Holds db (without_all (id ∷ []) t)) → Same db
-    removed_turns db done = same_turn db (without_whole id was) (done was held_now) shorter_finished
+    removed_turns db done = same_turn db (without_whole id was) (done was held_now) shorter_finished (finished_under_way (without_whole id was) (shorter_finished ∙ sym shorter_is))
 
     pub removed_all : (db : Database) → ((t : Tables) → Holds old.now t → Holds db (without_all (id ∷ []) t)) → HasComing (tables_in db) []
     removed_all db done =
@@ -210,6 +215,7 @@ module _ (old : State) (settled : IsTrue old.is_open → old.now ≡ old.committ
         kept = record {
           held = is_archive db (with_finished name body print moment was) (done was held_now);
           kept = subst (λ t. IsKept t config judged shown dates) (sym all_finished) keeps_delivery.kept;
+          coming = finished_under_way (tables_in db) (all_finished ∙ sym rows_are);
         };
         book = ap (book_in config judged shown dates) all_finished ∙ keeps_delivery.book;
       }

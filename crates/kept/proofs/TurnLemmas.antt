@@ -23,7 +23,7 @@ use Rattle.kept.specs.Amending.{HasAllBodies}
 use Rattle.kept.specs.Archives.{Amends, KeepsArchive, book_of}
 use Rattle.kept.specs.Changing.{is_within, puts_within}
 use Rattle.kept.specs.Coming.{Comes, HasComing}
-use Rattle.kept.specs.Finished.{finished}
+use Rattle.kept.specs.Finished.{AreUnderWay, finished}
 use Rattle.kept.specs.Kept.{AreArrivals, has_body}
 use Rattle.kept.specs.Making.{takes_file, with_change, with_written}
 use Rattle.kept.specs.Planned.{KeepsChange}
@@ -34,9 +34,10 @@ use Rattle.kept.proofs.AmendedLemmas.{IsWritten}
 use Rattle.kept.proofs.ChangeLemmas.{kept_after, written_after}
 use Rattle.kept.proofs.ComingLemmas.{change_beside, none_coming, number_by_bodies, whole_rows}
 use Rattle.kept.proofs.FinishedLemmas.{body_finished, finished_numbered, finished_rises, finished_twice, kept_finished}
-use Rattle.kept.proofs.PassingLemmas.{bodies_left, finished_passes, passes_written}
+use Rattle.kept.proofs.PassingLemmas.{bodies_left, finished_passes, passes_written, pieces_left}
 use Rattle.kept.proofs.SweptFinished.{UseWhole, swept_finished, use_whole}
 use Rattle.kept.proofs.SweptLemmas.{bodies_swept}
+use Rattle.kept.proofs.UnderWayLemmas.{finished_under_way, like_under_way}
 use Rattle.kept.proofs.DeliveredLemmas.{numbered}
 
 -- ---- what a change puts stands in the suites
@@ -128,6 +129,15 @@ module _ (config : ConfigValue) (judged : ℕ) (change : Change) (t : Tables) (u
       by true = ap finished swept_is ∙ swept_whole
       by false = whole_is
 
+  -- the pieces of bodies that are not whole stay as they are, or go
+  change_under_way : AreUnderWay t → AreUnderWay (with_change config judged change t)
+  unfolding with_change
+  change_under_way coming = by (list_any takes_file change.steps)
+    where
+      by : (b : Bool) → AreUnderWay (if b then swept made else made)
+      by true = finished_under_way (swept made) (ap finished swept_is ∙ swept_whole ∙ sym swept_is)
+      by false = like_under_way t made (bodies_left (with_written config judged change) (passes_written config judged change) t) (pieces_left (with_written config judged change) (passes_written config judged change) t) coming
+
   -- where a file goes all rows are finished
   change_ends : list_any takes_file change.steps ≡ true → with_change config judged change t ≡ with_change config judged change (finished t)
   change_ends takes = sym (swept_as config judged change t takes) ∙ swept_is ∙ swept_as config judged change (finished t) takes
@@ -163,7 +173,11 @@ module _ (config : ConfigValue) (judged : ℕ) (change : Change) (small : change
     amends =
         let there : KeepsChange whole_before (finished (tables_in after)) config prior shown dates change = subst (λ s. KeepsChange whole_before s config prior shown dates change) (sym same) whole in
         record {
-          kept = record { held = subst (Holds after) (sym rows) (held rows_before archive.held); kept = there.kept };
+          kept = record {
+            held = subst (Holds after) (sym rows) (held rows_before archive.held);
+            kept = there.kept;
+            coming = subst AreUnderWay (sym rows) (change_under_way config judged change rows_before archive.held.rows.bodies.rise written archive.coming);
+          };
           book = there.book;
         }
 

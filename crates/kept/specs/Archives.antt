@@ -11,14 +11,15 @@ use Rattle.keep.specs.Keeping.{HasEachBody}
 use Rattle.keep.specs.declared.change.Change.{Change}
 use Rattle.keep.specs.declared.change.Judgement.{Judgement}
 use Rattle.tables.specs.Rows.{Holds, IsArchive, tables_in}
-use Rattle.kept.specs.Finished.{finished}
+use Rattle.kept.specs.Finished.{AreUnderWay, finished}
 use Rattle.kept.specs.Kept.{IsKept, book_in}
 
 -- The database is that of an archive of this configuration, with these judged uploads, this shown, and these dates. A body that
--- is not whole is no part of it.
+-- is not whole is no part of it, but its pieces are as those of a whole one.
 pub record KeepsArchive (db : Database) (config : ConfigValue) (judged : List Judgement) (shown : ShelvesValue) (dates : List ℕ) : Type 0 where
   pub held : Holds db (tables_in db)
   pub kept : IsKept (finished (tables_in db)) config judged shown dates
+  pub coming : AreUnderWay (tables_in db)
 
 -- the book that a database keeps
 abbrev pub book_of : Database → ConfigValue → List Judgement → ShelvesValue → List ℕ → Book
@@ -28,10 +29,10 @@ book_of db config judged shown dates = book_in config judged shown dates (finish
 abbrev pub KeepsBook : Database → ConfigValue → Book → Type 0
 KeepsBook db config b = ∥ ((judged : List Judgement) × (shown : ShelvesValue) × (dates : List ℕ) × KeepsArchive db config judged shown dates × (b ≡ book_of db config judged shown dates)) ∥₁
 
--- The database keeps this book, once the bodies that are not whole are away.
+-- The database keeps this book, once the bodies that are not whole are away. Their pieces are as those of whole ones.
 abbrev pub KeepsFinished : Database → ConfigValue → Book → Type 0
 KeepsFinished db config b = ∥ ((judged : List Judgement) × (shown : ShelvesValue) × (dates : List ℕ) × IsArchive db
-    × IsKept (finished (tables_in db)) config judged shown dates × (b ≡ book_in config judged shown dates (finished (tables_in db)))) ∥₁
+    × IsKept (finished (tables_in db)) config judged shown dates × AreUnderWay (tables_in db) × (b ≡ book_in config judged shown dates (finished (tables_in db)))) ∥₁
 
 -- What trees keep that a crash leaves: an archive of this configuration with this book, or none of this configuration.
 abbrev pub KeepsLeft : Trees → ConfigValue → Option Book → Type 0

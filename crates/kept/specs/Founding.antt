@@ -14,6 +14,7 @@ use Rattle.texts.specs.Release.{listed_entry}
 use Rattle.tables.specs.Rows.{Tables, Holds, no_rows, with_meta, with_text, with_date}
 use Rattle.tables.specs.Schema.{no_schema}
 use Rattle.tables.specs.declared.rows.Date.{Date}
+use Rattle.tables.specs.declared.meta.TheConstants.{VERSION}
 
 -- ---- the first rows
 
@@ -40,7 +41,7 @@ first_date moment s = record { suite = s.codename; moment = moment }
 unfoldable pub with_first_rows : ConfigValue → ℕ → Tables → Tables
 with_first_rows config moment t =
     with_dates (map (first_date moment) config.suites)
-    (with_texts (all_texts config empty (first_dates config moment)) (with_meta (record { version = 3; configuration = config.text }) t))
+    (with_texts (all_texts config empty (first_dates config moment)) (with_meta (record { version = VERSION; configuration = config.text }) t))
 
 -- the rows of a new archive of this configuration, made at this moment
 unfoldable pub founded : ConfigValue → ℕ → Tables

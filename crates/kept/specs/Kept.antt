@@ -38,6 +38,7 @@ use Rattle.tables.specs.declared.rows.Item.{Item}
 use Rattle.tables.specs.declared.rows.Piece.{Piece}
 use Rattle.tables.specs.declared.rows.Ref.{Ref}
 use Rattle.tables.specs.declared.rows.Upload.{Upload}
+use Rattle.tables.specs.declared.meta.TheConstants.{VERSION}
 use Rattle.vers.specs.Syntax.{IsVersion}
 
 -- ---- bodies
@@ -242,7 +243,7 @@ date_row d = record { suite = d.0.codename; moment = d.1 }
 -- The configuration is what its text spells, each item stands on its own shelf and is as its records tell it, and the judged
 -- uploads may have been delivered.
 pub record IsKept (t : Tables) (config : ConfigValue) (judged : List Judgement) (shown : ShelvesValue) (dates : List ℕ) : Type 0 where
-  pub meta : rows_of t.meta ≡ record { version = 3; configuration = config.text } ∷ []
+  pub meta : rows_of t.meta ≡ record { version = VERSION; configuration = config.text } ∷ []
   pub read : config_in config.text ≡ Ok config
   pub sound : AreSound shown
   pub told : AreTold config.suites shown

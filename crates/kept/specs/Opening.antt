@@ -1,6 +1,5 @@
 -- What a schema is told by, where it is that of an archive or is not.
 use Rattle.std.specs.Prelude.{◌≡◌, [], All}
-use Rattle.sqlite_schema.specs.declared.schema.Schema.{Schema}
 use Rattle.sqlite_schema.specs.declared.schema.Stamps.{Stamps}
 use Rattle.sqlite_schema.specs.declared.schema.Table.{Table}
 use Rattle.sqlite_value.specs.declared.value.Value.TheVariants.{Null}
@@ -14,8 +13,3 @@ pub record IsPlainTable (t : Table) : Type 0 where
   pub columns : All (λ c. c.default ≡ Null) t.columns
   pub checks : t.checks ≡ []
   pub stamps : t.stamps ≡ no_stamps
-
--- such tables, and no view
-pub record IsPlainSchema (s : Schema) : Type 0 where
-  pub tables : All IsPlainTable s.tables
-  pub views : s.views ≡ []
