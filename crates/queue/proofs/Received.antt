@@ -100,7 +100,14 @@ given_first body rest given None gave = absurd gave.0
 given_first body rest given (Some more) gave =
     sym (take_at given more (length body) gave.1) ∙ ap (take (length body)) (sym gave.0) ∙ take_at body rest (length body) refl
 
--- so a crash left the book that the history leaves with that body behind it
+-- none was given where there were too few bytes
+pub none_given : (given : List ℕ) (gives : Option (List ℕ)) (n : ℕ) (body : List ℕ) → length given < n → Gave (Some given) gives n body → ⊥
+none_given given None n body few gave = gave.0
+none_given given (Some more) n body few gave =
+    let sizes : length given ≡ length body + length more = ap length gave.0 ∙ length-append body more in
+    omega (arith, sizes, gave.1, few)
+
+-- of a body that was given a crash left the book that the history leaves with it behind it
 pub left_given : (h : History) (name body rest : List ℕ) (gives : Option (List ℕ)) (moment : ℕ) (left : Option Book)
     → IsLeftBy h (Some (body ++ rest)) gives name (length body) moment left → IsFaithful h (Delivery name body moment ∷ [])
     → left ≡ Some (book_of (followed h (Delivery name body moment) (answer h (Delivery name body moment))))

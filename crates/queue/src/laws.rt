@@ -1,6 +1,6 @@
 //! Laws of histories.
 
-ghost use Rattle.std.specs.Prelude.{◌≡◌, ◌⊎◌, ◌≤◌, ℕ, List, [], ◌∷◌, ◌++◌, Option, Some, None, Result, Ok, length};
+ghost use Rattle.std.specs.Prelude.{◌≡◌, ◌⊎◌, ◌<◌, ◌≤◌, ℕ, List, [], ◌∷◌, ◌++◌, Option, Some, None, Result, Ok, length};
 ghost use Rattle.keep.specs.Book.{Book, HasItsFiles, latest};
 ghost use Rattle.queue.specs.Archives.{archive, book_of, sources_in, Stands};
 ghost use Rattle.queue.specs.Copies.{AreSuites};
@@ -56,8 +56,8 @@ pub fn a_promotion_is_its_copies()
         → answer h (Promoting from to sources moment) ≡ Ok (Copies (answered_copies h from to moment (sources_in (archive h) f sources))) }
 {}
 
-/// What is said of a crash in a call, in a delivery, which is stored piece by piece, and in one whose body a reader gives are all
-/// said of a call of which a stop may leave nothing done. The body is then what the reader had to give first, of the length that was
+/// What is said of a crash in a call, in a delivery, which is stored piece by piece, and in one whose body a reader gives is said
+/// of a call of which a stop may leave nothing done. The body is then what the reader had to give first, of the length that was
 /// told.
 pub fn a_crash_is_of_a_call<K: Keeper>()
     ensures step { (before after : K) (call : Call) → LeavesStep K.Keeper before call after → LeavesCall K.Keeper before call after }
@@ -65,6 +65,9 @@ pub fn a_crash_is_of_a_call<K: Keeper>()
         → LeavesCall K.Keeper before (Delivery name body moment) after }
     ensures received { (before after : K) (name body rest : List ℕ) (gives : Option (List ℕ)) (moment : ℕ)
         → LeavesReceived K.Keeper (Some (body ++ rest)) gives name (length body) moment before after → LeavesCall K.Keeper before (Delivery name body moment) after }
+    // Where the reader had fewer bytes nothing is delivered, so that it is said of each call, also of one that changes nothing.
+    ensures short { (before after : K) (name given : List ℕ) (gives : Option (List ℕ)) (n moment : ℕ) (call : Call) → length given < n
+        → LeavesReceived K.Keeper (Some given) gives name n moment before after → LeavesCall K.Keeper before call after }
 {}
 
 /// A stop during a call of an open keeper, or behind it, leaves the book that the history leaves, or the one that it leaves with

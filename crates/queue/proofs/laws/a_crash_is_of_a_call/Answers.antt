@@ -1,5 +1,5 @@
 use Rattle.std.proofs.Common.{inl, inr}
-use Rattle.queue.proofs.Received.{left_given}
+use Rattle.queue.proofs.Received.{left_given, none_given}
 use Rattle.queue.proofs.Runs.{leaves_delivery, leaves_step}
 use Rattle.queue.proofs.laws.a_crash_is_of_a_call.Goals as goal
 
@@ -15,5 +15,14 @@ returns-clause-received g c before after name body rest gives moment leaves h ke
   | inr made ↦ inr (elim made [
     | inl is ↦ inl is
     | inr it ↦ inr (left_given h name body rest gives moment left it faithful)
+  ])
+]
+
+pub returns-clause-short : goal.returns-clause-short
+returns-clause-short g c before after name given gives n moment call few leaves h kept faithful clean left may = elim (leaves h kept clean left may) [
+  | inl was ↦ inl was
+  | inr made ↦ inr (elim made [
+    | inl is ↦ inl is
+    | inr it ↦ absurd (none_given given gives n it.body few it.gave_it)
   ])
 ]
