@@ -33,6 +33,7 @@ use Rattle.kept.proofs.ComingLemmas.{no_number, none_coming}
 use Rattle.kept.proofs.DeliveredLemmas.{KeepsDelivery, delivered_archive, numbered}
 use Rattle.kept.proofs.FinishedLemmas.{kept_finished}
 use Rattle.kept.proofs.SamePieces.{at_place, behind_place}
+use Rattle.kept.proofs.UnderWayLemmas.{finished_under_way}
 use Rattle.keep_tables.specs.AtOnce.{arrives_at_once}
 use Rattle.keep_tables.proofs.FoundArrivals.{AreApart, bytes_keep, counts_if_some}
 
@@ -122,6 +123,7 @@ module _ (old : State) (settled : IsTrue old.is_open → old.now ≡ old.committ
         kept = record {
           held = is_archive db (with_delivery_at_once name bytes print moment was) (done was held_now);
           kept = subst (λ t. IsKept t config judged shown dates) (sym all_finished) keeps_delivery.kept;
+          coming = finished_under_way (tables_in db) (all_finished ∙ sym rows_are);
         };
         book = ap (book_in config judged shown dates) all_finished ∙ keeps_delivery.book ∙ ap (λ t. delivers (book_in config judged shown dates t)) (sym whole);
       }

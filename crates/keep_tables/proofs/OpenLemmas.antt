@@ -13,7 +13,7 @@ use Rattle.keep.specs.Book.{Book}
 use Rattle.keep.specs.declared.change.Judgement.{Judgement}
 use Rattle.tables.proofs.BookLemmas.{held_tables, is_archive}
 use Rattle.tables.specs.Rows.{Tables, Holds, IsArchive, Numbered, Rises, rows_of, tables_in, without}
-use Rattle.tables.specs.Schema.{archive_schema}
+use Rattle.tables.specs.Others.{IsArchiveSchema}
 use Rattle.tables.specs.declared.rows.Body.{Body}
 use Rattle.tables.specs.Real.{AreReal, IsRealBody, IsRealPrint}
 use Rattle.kept.specs.Archives.{KeepsArchive, KeepsFinished, book_of}
@@ -25,8 +25,9 @@ use Rattle.kept.proofs.ComingLemmas.{none_coming}
 use Rattle.kept.proofs.FinishedLemmas.{finished_twice, shown_finished}
 use Rattle.kept.proofs.NameLemmas.{config_codenames}
 use Rattle.kept.proofs.ShownLemmas.{shown_is}
+use Rattle.kept.proofs.UnderWayLemmas.{finished_under_way}
 use Rattle.kept.specs.Coming.{HasComing}
-use Rattle.kept.specs.Finished.{finished, is_unfinished, without_all}
+use Rattle.kept.specs.Finished.{AreUnderWay, finished, is_unfinished, without_all}
 use Rattle.kept.specs.Transactions.{IsDone, IsUndone, MayCommit}
 use Rattle.keep_tables.specs.Finishing.{unfinished_ids}
 use Rattle.audit.specs.Whole.{KeepsNone, KeepsSome}
@@ -35,10 +36,11 @@ use Rattle.keep_tables.proofs.FinishLemmas.{finished_as}
 
 -- ---- of a database
 
-pub archive_here : (db : Database) (t : Tables) (config : ConfigValue) (judged : List Judgement) (dates : List ℕ) → Holds db t → KeepsSome (finished t) config judged dates → IsArchiveOf db config judged dates
-archive_here db t config judged dates held some =
+pub archive_here : (db : Database) (t : Tables) (config : ConfigValue) (judged : List Judgement) (dates : List ℕ) → Holds db t → KeepsSome (finished t) config judged dates → AreUnderWay t
+    → IsArchiveOf db config judged dates
+archive_here db t config judged dates held some under =
     let same = sym (held_tables db t held) in
-    (subst (Holds db) same held, subst (λ u. KeepsSome (finished u) config judged dates) same some)
+    (subst (Holds db) same held, subst (λ u. KeepsSome (finished u) config judged dates) same some, subst AreUnderWay same under)
 
 -- a body without a print can be held
 real_more : (x : ℕ × Body) (bodies : Numbered Body) → (AllByRecursion IsRealBody (rows_of (without is_unfinished bodies)) → AllByRecursion IsRealBody (rows_of bodies))
@@ -65,23 +67,24 @@ real_unfinished t h = record {
   dates = h.dates;
 }
 
-pub no_archive : (db : Database) (t : Tables) → Holds db t → (AreReadable t → KeepsNone (finished t)) → IsNoArchive db
+pub no_archive : (db : Database) (t : Tables) → Holds db t → (AreReadable t → AreUnderWay t → KeepsNone (finished t)) → IsNoArchive db
 unfolding finished
-no_archive db t held none archive config judged shown dates h =
-    let here : IsKept (finished t) config judged shown dates = subst (λ u. IsKept (finished u) config judged shown dates) (held_tables db t held) h in
-    none (kept_readable (finished t) config judged shown dates here) config judged shown dates here
+no_archive db t held none archive under config judged shown dates h =
+    let same = held_tables db t held in
+    let here : IsKept (finished t) config judged shown dates = subst (λ u. IsKept (finished u) config judged shown dates) same h in
+    none (kept_readable (finished t) config judged shown dates here) (subst AreUnderWay same under) config judged shown dates here
 
 pub no_rows : (db : Database) → ((t : Tables) → AreReal t → Holds db t → ⊥) → IsNoArchive db
-no_rows db none archive config judged shown dates h =
+no_rows db none archive under config judged shown dates h =
     none (tables_in db) (real_unfinished (tables_in db) (kept_real (finished (tables_in db)) config judged shown dates h)) archive
 
-pub no_tables : (db : Database) → (db.schema ≡ archive_schema → ⊥) → IsNoArchive db
-no_tables db other archive config judged shown dates h = other archive.schema
+pub no_tables : (db : Database) → ¬ IsArchiveSchema db.schema → IsNoArchive db
+no_tables db other archive under config judged shown dates h = other archive.schema
 
 -- the archive of a database, with what the rows show
 archive_shown : (db : Database) (config : ConfigValue) (judged : List Judgement) (dates : List ℕ) → IsArchive db → KeepsSome (finished (tables_in db)) config judged dates
-    → ∥ KeepsArchive db config judged (shown_in config.suites (tables_in db)) dates ∥₁
-archive_shown db config judged dates held keeps = ∥∥₁_map keeps (λ some. kept_here db (record { held = held; kept = some.1 }))
+    → AreUnderWay (tables_in db) → ∥ KeepsArchive db config judged (shown_in config.suites (tables_in db)) dates ∥₁
+archive_shown db config judged dates held keeps under = ∥∥₁_map keeps (λ some. kept_here db (record { held = held; kept = some.1; coming = under }))
 
 -- what the whole rows are found to show is what all rows show
 pub found_shown : (t whole : Tables) → whole ≡ finished t → (config : ConfigValue) (judged : List Judgement) (shown : ShelvesValue) (dates : List ℕ) → IsKept whole config judged shown dates
@@ -114,6 +117,10 @@ module _ (s : State) (config : ConfigValue) (judged : List Judgement) (dates ids
   rows_finished_are : (new : Database) → ((t : Tables) → Holds s.now t → Holds new (without_all ids t)) → finished (tables_in new) ≡ finished (tables_in s.now)
   rows_finished_are new now = ap finished (rows_are new now) ∙ finished_twice (tables_in s.now)
 
+  -- no body of theirs is unfinished
+  rows_under_way : (new : Database) → ((t : Tables) → Holds s.now t → Holds new (without_all ids t)) → AreUnderWay (tables_in new)
+  rows_under_way new now = finished_under_way (tables_in new) (rows_finished_are new now ∙ sym (rows_are new now))
+
   -- and show what was shown
   pub shown_still : (new : Database) → ((t : Tables) → Holds s.now t → Holds new (without_all ids t)) → shown_in config.suites (tables_in new) ≡ shown_in config.suites (tables_in s.now)
   shown_still new now = ap (shown_in config.suites) (rows_are new now) ∙ shown_finished config.suites (tables_in s.now)
@@ -124,6 +131,7 @@ module _ (s : State) (config : ConfigValue) (judged : List Judgement) (dates ids
       let t = tables_in s.now in
       let held = finished_now new t found.archive.0 (now t found.archive.0) in
       archive_shown new config judged dates (is_archive new (finished t) held) (subst (λ u. KeepsSome u config judged dates) (sym (rows_finished_are new now)) found.archive.1)
+      (rows_under_way new now)
 
   -- each of its bodies is whole
   pub whole_finished : (new : Database) → ((t : Tables) → Holds s.now t → Holds new (without_all ids t)) → HasComing (tables_in new) []
@@ -139,8 +147,8 @@ module _ (s : State) (config : ConfigValue) (judged : List Judgement) (dates ids
       subst (λ db. KeepsFinished db config (book_of new config judged (shown_in config.suites (tables_in new)) dates)) found.rests
       (∥∥₁_map found.archive.1 (λ some.
       let kept : IsKept (finished (tables_in new)) config judged some.0 dates = subst (λ u. IsKept u config judged some.0 dates) (sym is) some.1 in
-      let shows : shown_in config.suites (tables_in new) ≡ some.0 = shown_here new (record { held = is_archive new (finished t) held; kept = kept }) in
-      (judged, some.0, dates, found.archive.0, some.1, λ i. book_in config judged (shows i) dates (is i))))
+      let shows : shown_in config.suites (tables_in new) ≡ some.0 = shown_here new (record { held = is_archive new (finished t) held; kept = kept; coming = rows_under_way new now }) in
+      (judged, some.0, dates, found.archive.0, some.1, found.archive.2, λ i. book_in config judged (shows i) dates (is i))))
 
   -- numbers of none
   none_if_whole : (t : Tables) → Holds s.committed t → filter is_unfinished t.bodies ≡ [] → ids ≡ []

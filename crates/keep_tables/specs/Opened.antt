@@ -5,18 +5,19 @@ use Rattle.sqlite.specs.State.{State}
 use Rattle.rules.specs.Values.{ConfigValue}
 use Rattle.keep.specs.declared.change.Judgement.{Judgement}
 use Rattle.tables.specs.Rows.{Tables, Holds, IsArchive, tables_in}
-use Rattle.kept.specs.Finished.{finished, is_unfinished}
+use Rattle.kept.specs.Finished.{AreUnderWay, finished, is_unfinished}
 use Rattle.audit.specs.Whole.{KeepsNone, KeepsSome}
 use Rattle.keep_tables.specs.Finishing.{unfinished_ids}
 
 -- The database keeps an archive of this configuration, with these judged uploads and these dates, once the bodies that are not
--- whole are away.
+-- whole are away. Their pieces are as those of whole ones.
 abbrev pub IsArchiveOf : Database → ConfigValue → List Judgement → List ℕ → Type 0
-IsArchiveOf db config judged dates = IsArchive db × KeepsSome (finished (tables_in db)) config judged dates
+IsArchiveOf db config judged dates = IsArchive db × KeepsSome (finished (tables_in db)) config judged dates × AreUnderWay (tables_in db)
 
--- the database keeps no archive, whatever it shows, also without the bodies that are not whole
+-- The database keeps no archive, whatever it shows: where the pieces of the bodies that are not whole are as those of whole ones,
+-- the rows without these bodies are those of none.
 abbrev pub IsNoArchive : Database → Type 0
-IsNoArchive db = IsArchive db → KeepsNone (finished (tables_in db))
+IsNoArchive db = IsArchive db → AreUnderWay (tables_in db) → KeepsNone (finished (tables_in db))
 
 -- some body is not whole
 abbrev pub HasUnfinished : Database → Type 0

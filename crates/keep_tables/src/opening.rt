@@ -6,12 +6,12 @@ ghost use Rattle.sqlite.specs.Held.{state};
 ghost use Rattle.keep.specs.declared.fault.KeepFault.TheVariants.{OutOfMemory, Tables as NoArchive};
 ghost use Rattle.tables.specs.Causes.{IsCaused, MayFail};
 ghost use Rattle.tables.specs.Rows.{Fails, Rises, Stands, tables_in};
-ghost use Rattle.tables.specs.Schema.{archive_schema};
+ghost use Rattle.tables.specs.Others.{IsArchiveSchema};
 ghost use Rattle.tables_read.specs.All.{AreConstrained, tables_with};
 ghost use Rattle.kept.specs.Kept.{AreReadable};
 ghost use Rattle.kept.specs.Archives.{KeepsArchive, KeepsFinished};
 ghost use Rattle.kept.specs.Coming.{HasComing};
-ghost use Rattle.kept.specs.Finished.{finished};
+ghost use Rattle.kept.specs.Finished.{AreUnderWay, finished};
 ghost use Rattle.kept.specs.Shown.{shown_in};
 ghost use Rattle.kept.specs.Transactions.{IsUndone, MayCommit};
 ghost use Rattle.keep_tables.specs.Keepers.{config_in_use, table_book};
@@ -21,7 +21,7 @@ ghost use Rattle.keep_tables.specs.Opened.{HasUnfinished, IsArchiveOf, IsFinishe
 
 use crate::keeper::TableKeeper;
 use crate::unfinished::{are_named, finished_rows, unfinished_among};
-use audit::{Held, archive_in};
+use audit::{Held, archive_in, are_under_way};
 use bodies::remove_all;
 use keep::KeepFault;
 use keep_rows::{fault_of, is_archive_schema};
@@ -36,15 +36,20 @@ struct Found {
     unfinished: Vec<u64>,
 }
 
-/// The archive with these rows, once the bodies that are not whole are away, where they are those of one.
+/// The archive with these rows, once the bodies that are not whole are away, where they are those of one: the pieces of these
+/// bodies have to be as those of whole ones.
 fn found_in(alloc: Global, all: AllRows) -> Result<Option<Found>, AllocError>
     ensures some { AreConstrained (tables_with all) → IfOk result (λ o. IfSome o (λ found. KeepsSome (finished (tables_with all)) found.held.config found.held.judged.items found.held.dates.items
-        × (found.unfinished.items ≡ unfinished_ids (tables_with all).bodies))) }
+        × AreUnderWay (tables_with all) × (found.unfinished.items ≡ unfinished_ids (tables_with all).bodies))) }
     ensures shown { AreConstrained (tables_with all) → IfOk result (λ o. IfSome o (λ found. found.held.shelves ≡ shown_in found.held.config.suites (tables_with all))) }
-    ensures none { AreConstrained (tables_with all) → Rises (tables_with all).bodies → IfOk result (λ o. o ≡ None → AreReadable (tables_with all) → KeepsNone (finished (tables_with all))) }
+    ensures none { AreConstrained (tables_with all) → Rises (tables_with all).bodies → IfOk result (λ o. o ≡ None → AreReadable (tables_with all) → AreUnderWay (tables_with all)
+        → KeepsNone (finished (tables_with all))) }
 {
     let unfinished = unfinished_among(alloc, &all.bodies)?;
     if are_named(&all, &unfinished) {
+        return Ok(None);
+    }
+    if !are_under_way(&all) {
         return Ok(None);
     }
     let whole = finished_rows(all, &unfinished);
@@ -57,7 +62,7 @@ fn found_in(alloc: Global, all: AllRows) -> Result<Option<Found>, AllocError>
 /// The same of the rows of a database that has the tables of an archive.
 fn archive_of<S: InOrder>(alloc: Global, conn: &mut Connection<S>) -> Result<Option<Found>, Error>
     requires idle { conn.old.in_transaction ≡ false }
-    requires archive { (state S.Store conn.old).now.schema ≡ archive_schema }
+    requires archive { IsArchiveSchema (state S.Store conn.old).now.schema }
     ensures idle { conn.old.in_transaction ≡ false → conn.new.in_transaction ≡ false }
     ensures some { HasCleanDisk (state S.Store conn.new) → IfOk result (λ o. IfSome o (λ found. IsUnchanged (state S.Store conn.old) (state S.Store conn.new)
         × IsArchiveOf (state S.Store conn.old).now found.held.config found.held.judged.items found.held.dates.items

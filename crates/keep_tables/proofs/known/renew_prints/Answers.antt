@@ -1,4 +1,4 @@
-use Rattle.std.proofs.Common.{Some, length, get_or, sym, subst, ◌<◌, arith}
+use Rattle.std.proofs.Common.{Some, length, sym, subst, ◌<◌, arith}
 use Rattle.std.proofs.lemmas.List.Elements.{Contains-get_or}
 use Rattle.std.specs.List.{Contains}
 use Rattle.keep.specs.declared.change.IndexText.{IndexText}

@@ -26,7 +26,7 @@ returns-clause-some g c clean =
     let held : Holds old.now t = search rules in
     let keys : AreConstrained t = constrained old.now t (c.schema.ensures.live same.0.was_open).0 held in
     if_some _ _ c.in_ok-found_in.field-0
-    (λ f some. (same, archive_here old.now t f.held.config f.held.judged.items f.held.dates.items held some.0, some.1 ∙ ap (λ u. unfinished_ids u.bodies) (sym (held_tables old.now t held))))
+    (λ f some. (same, archive_here old.now t f.held.config f.held.judged.items f.held.dates.items held some.0 some.1, some.2 ∙ ap (λ u. unfinished_ids u.bodies) (sym (held_tables old.now t held))))
     (c.in_ok-found_in.ensures.some keys)
 
 pub returns-clause-shown : goal.returns-clause-shown

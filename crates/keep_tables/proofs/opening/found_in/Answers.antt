@@ -1,4 +1,5 @@
 use Rattle.std.proofs.Common.{rules, ◌≡◌, true, false, sym, ap, subst, ◌∙◌}
+use Rattle.std.proofs.lemmas.Bool.{iff_false}
 use Rattle.tables_read.specs.All.{tables_with}
 use Rattle.kept.specs.Finished.{finished}
 use Rattle.kept.specs.Kept.{IsKept}
@@ -10,13 +11,17 @@ use Rattle.audit.proofs.WholeLemmas.{at_some}
 use Rattle.keep_tables.proofs.opening.found_in.Goals as goal
 
 pub returns-then-are_named-clause-none : goal.returns-then-are_named-clause-none
-returns-then-are_named-clause-none c keys up same readable config judged shown dates h =
+returns-then-are_named-clause-none c keys up same readable under config judged shown dates h =
     let t = tables_with c.args.all in
     let named : are_named t (unfinished_ids t.bodies) ≡ true = search rules in
     named_none t up named config judged shown dates h
 
+pub returns-then-not-are_under_way-clause-none : goal.returns-then-not-are_under_way-clause-none
+returns-then-not-are_under_way-clause-none c keys up same readable under config judged shown dates h =
+    absurd (iff_false c.are_under_way.ensures c.if-not-are_under_way.true under)
+
 pub returns-in_default-clause-none : goal.returns-in_default-clause-none
-returns-in_default-clause-none c keys up same readable config judged shown dates h =
+returns-in_default-clause-none c keys up same readable under config judged shown dates h =
     let t = tables_with c.args.all in
     let whole = tables_with c.finished_rows-whole.result in
     let ids : c.in_ok-unfinished.unfinished.items ≡ unfinished_ids t.bodies = search rules in
@@ -34,7 +39,7 @@ returns-clause-some c keys =
     let is : whole ≡ finished t = c.finished_rows-whole.ensures in
     let kept : IsKept whole c.in-Some.held.config c.in-Some.held.judged.items c.in-Some.held.shelves c.in-Some.held.dates.items =
     at_some _ _ c.in-Some.held c.in-Some.is (c.in_ok-held.ensures.some (constrained_whole t whole is keys none)) in
-    (subst (λ u. KeepsSome u c.in-Some.held.config c.in-Some.held.judged.items c.in-Some.held.dates.items) is ∣ (c.in-Some.held.shelves, kept) ∣₁, ids)
+    (subst (λ u. KeepsSome u c.in-Some.held.config c.in-Some.held.judged.items c.in-Some.held.dates.items) is ∣ (c.in-Some.held.shelves, kept) ∣₁, c.are_under_way.ensures.0 c.if-not-are_under_way.false, ids)
 
 pub returns-clause-shown : goal.returns-clause-shown
 returns-clause-shown c keys =

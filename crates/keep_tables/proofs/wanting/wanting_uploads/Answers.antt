@@ -76,3 +76,8 @@ loop-preserved g c =
           );
     }
     )
+
+pub returns-in_default-clause-survives : goal.returns-in_default-clause-survives
+returns-in_default-clause-survives g c =
+    survives_rested (state g.S.Store c.args.conn.now) (state g.S.Store c.loop.conn) (state g.S.Store c.next_upload.new.conn)
+    (λ clean t was. (c.loop.invariant.read clean t was).1) c.loop.invariant.survives c.next_upload.ensures.survives
