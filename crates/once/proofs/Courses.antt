@@ -55,6 +55,21 @@ module _ {K : Type 0} {is_clean is_open : K → Type 0} {faults : K → ℕ} {bo
       run opening (stands_kept (is_open old) (book old) opening (ap book same ∙ whole))
       (faithful_opened (book made) (map call_of commands) bodies files apart have there) clean)
 
+  -- before the commands the keeper is clean and open, and keeps what a history leaves
+  abbrev pub IsReady : History → Type 0
+  IsReady h = is_clean old × is_open old × IsKept (is_open old) (book old) h
+
+  ready : (h : History) → is_open made → Stands (book old) h → is_clean new → IsReady h
+  ready h up stands clean = (lasts.clean clean, subst is_open (sym same) up, stands_kept (is_open old) (book old) h stands)
+
+  pub ready_made : (config : ConfigValue) (moment : ℕ) → (is_clean made → is_open made × (book made ≡ fresh_book config moment)) → is_clean new → IsReady (opened_with (fresh_book config moment))
+  ready_made config moment fresh clean =
+      let made_is = fresh (clean_made clean) in
+      ready (opened_with (fresh_book config moment)) made_is.0 (ap book same ∙ made_is.1 ∙ fresh_stands config moment) clean
+
+  pub ready_opened : HasItsFiles (book made) → is_open made → is_clean new → IsReady (opened_with (book made))
+  ready_opened files up clean = ready (opened_with (book made)) up (ap book same ∙ opens_itself (book made) files) clean
+
   pub open_or_failed : (first : ℕ) → (is_clean made → is_open made) → first ≤ faults made → is_clean new → is_open new ⊎ MoreFaults first (faults new)
   open_or_failed first up counts clean = elim (lasts.stays clean (subst is_open (sym same) (up (clean_made clean)))) [
     | inl still ↦ inl still

@@ -11,9 +11,9 @@ use Rattle.rules.specs.Configuration.{config_in}
 use Rattle.rules.specs.Values.{ConfigValue}
 use Rattle.keep.specs.Book.{Book}
 use Rattle.tables.specs.Rows.{HoldsRows, IsArchive, Tables, tables_in, tables_of}
-use Rattle.tables.specs.Schema.{archive_schema}
+use Rattle.tables.specs.Others.{IsArchiveSchema}
 use Rattle.kept.specs.Archives.{KeepsBook, KeepsFinished, KeepsLeft}
-use Rattle.kept.specs.Finished.{finished}
+use Rattle.kept.specs.Finished.{AreUnderWay, finished}
 use Rattle.kept.specs.Kept.{IsKept}
 use Rattle.kept.specs.OneBook.{one_configuration, one_text}
 use Rattle.keep_tables.specs.Opened.{IsNoArchive}
@@ -23,11 +23,11 @@ config_set = hlevel props
 
 -- what a database keeps once the bodies that are not whole are away is what it keeps
 kept_book : (db : Database) (config : ConfigValue) (b : Book) → KeepsFinished db config b → KeepsBook db config b
-kept_book db config b keeps = ∥∥₁_map keeps (λ w. (w.0, w.1, w.2, record { held = w.3; kept = w.4 }, w.5))
+kept_book db config b keeps = ∥∥₁_map keeps (λ w. (w.0, w.1, w.2, record { held = w.3; kept = w.4; coming = w.5 }, w.6))
 
 -- ---- the database that is found
 
-archive_there : (db found : Database) → db.trees ≡ found.trees → found.schema ≡ archive_schema → IsArchive db → IsArchive found
+archive_there : (db found : Database) → db.trees ≡ found.trees → IsArchiveSchema found.schema → IsArchive db → IsArchive found
 archive_there db found same lists held = record { schema = lists; rows = subst (λ (trees : Trees). HoldsRows trees (tables_of trees)) same held.rows }
 
 no_two : (x y : ⊥) → x ≡ y
@@ -42,11 +42,11 @@ module _ (found : Database) (config : ConfigValue) (one other : Book)
     | inr is ↦ let e : None ≡ Some other = is in absurd cc
   ]
 
-  pub not_none : found.schema ≡ archive_schema → IsNoArchive found → ⊥
+  pub not_none : IsArchiveSchema found.schema → IsNoArchive found → ⊥
   not_none lists none = keeps_some (λ db same b keeps.
       ∥∥₁_elim keeps no_two (λ w.
       let held : IsArchive found = archive_there db found same lists w.3.held in
-      none held config w.0 w.1 w.2 (subst (λ (t : Tables). IsKept (finished t) config w.0 w.1 w.2) (ap tables_of same) w.3.kept)))
+      none held (subst AreUnderWay (ap tables_of same) w.3.coming) config w.0 w.1 w.2 (subst (λ (t : Tables). IsKept (finished t) config w.0 w.1 w.2) (ap tables_of same) w.3.kept)))
 
   -- its text tells the configuration
   of_text : (c : ConfigValue) (b : Book) → ∥ config_in config.text ≡ Ok config ∥₁ → KeepsBook found c b → (same : Bool) → bytes_eq c.text config.text ≡ same → (b ≡ one) ⊎ (b ≡ other)

@@ -5,7 +5,7 @@ ghost use Rattle.sqlite.specs.Effect.{Database};
 ghost use Rattle.rules.specs.Values.{ConfigValue};
 ghost use Rattle.keep.specs.Book.{Book};
 ghost use Rattle.keep.specs.Keeping.{HasBodies, NoCollision};
-ghost use Rattle.tables.specs.Schema.{archive_schema};
+ghost use Rattle.tables.specs.Others.{IsArchiveSchema};
 ghost use Rattle.kept.specs.Archives.{KeepsFinished};
 ghost use Rattle.keep_tables.specs.Keepers.{connection_of};
 ghost use Rattle.keep_tables.specs.declared.keeper.TableKeeper.{TableKeeper};
@@ -27,7 +27,7 @@ pub fn a_stop_goes_on<S: Alter + Drop>()
     // Where the database that is found lists the tables of an archive, its rows are those of one.
     ensures opens { (before after : TableKeeper S S.Store) (h : History) (call : Call) (found : Database)
         → IsCalled ⟦<TableKeeper<S> as Keeper>⟧ before after h call → (connection_of after).may_leave found.trees
-        → found.schema ≡ archive_schema → IsNoArchive found → ⊥ }
+        → IsArchiveSchema found.schema → IsNoArchive found → ⊥ }
     ensures book { (before after : TableKeeper S S.Store) (h : History) (call : Call) (found : Database) (config : ConfigValue) (b : Book)
         → IsCalled ⟦<TableKeeper<S> as Keeper>⟧ before after h call → (connection_of after).may_leave found.trees
         → KeepsFinished found config b → (b ≡ book_of h) ⊎ (b ≡ book_of (followed h call (answer h call))) }

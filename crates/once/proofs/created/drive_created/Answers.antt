@@ -1,11 +1,17 @@
-use Rattle.std.proofs.Common.{◌≡◌, true, subst}
+use Rattle.std.proofs.Common.{◌≡◌, true, map, subst, ap, ◌∙◌}
 use Rattle.sqlite.specs.Held.{state}
 use Rattle.rules.specs.Values.{ConfigValue}
 use Rattle.kept.specs.Archives.{KeepsBook}
 use Rattle.kept.specs.Kept.{book_in}
 use Rattle.keep_tables.specs.Keepers.{connection_of, table_book}
 use Rattle.keep_tables.proofs.KeptBook.{keeps_book}
-use Rattle.once.proofs.Courses.{config_made, once_made, open_or_failed}
+use Rattle.queue.specs.Commands.{call_of, outcome_of}
+use Rattle.queue.specs.Histories.{opened_with}
+use Rattle.queue.proofs.Openings.{faithful_anew}
+use Rattle.keep.specs.Plain.{fresh_book}
+use Rattle.kept.proofs.ReadCalls.{if_then}
+use Rattle.once.proofs.Courses.{clean_made, config_made, once_made, open_or_failed, ready_made}
+use Rattle.once.proofs.Refusals.{err_then}
 use Rattle.once.proofs.created.drive_created.Goals as goal
 
 pub returns-in-Ok-clause-once : goal.returns-in-Ok-clause-once
@@ -25,3 +31,21 @@ returns-in-Ok-clause-kept g c clean up =
     let config : new.config ≡ c.args.config =
     config_made true c.in-Ok.keeper c.new-archive.result.keeper new c.new-archive.ensures c.drive-outcomes.ensures.lasts c.args.config c.args.moment c.in-Ok.ensures.made clean in
     subst (λ (x : ConfigValue). KeepsBook (connection_of new).committed x (table_book new)) config (keeps_book new clean up)
+
+pub returns-in-Ok-clause-none : goal.returns-in-Ok-clause-none
+unfolding book_in
+returns-in-Ok-clause-none g c clean =
+    let new = c.drive-outcomes.new.self.keeper in
+    let early = clean_made true c.in-Ok.keeper c.new-archive.result.keeper new c.new-archive.ensures c.drive-outcomes.ensures.lasts clean in
+    err_then c.drive-outcomes.result c.drive-outcomes.ensures.err
+    (λ same. ap (λ a. table_book a.keeper) same ∙ ap table_book c.new-archive.ensures ∙ (c.in-Ok.ensures.made early).1)
+
+pub returns-in-Ok-clause-crash : goal.returns-in-Ok-clause-crash
+returns-in-Ok-clause-crash g c clean =
+    let old = c.new-archive.result.keeper in
+    let new = c.drive-outcomes.new.self.keeper in
+    let ready = ready_made true c.in-Ok.keeper old new c.new-archive.ensures c.drive-outcomes.ensures.lasts c.args.config c.args.moment c.in-Ok.ensures.made clean in
+    let calls = map call_of c.args.commands.now in
+    if_then c.drive-outcomes.result c.drive-outcomes.ensures.crash (λ outcomes leaves apart left may.
+    c.a_stop_leaves_a_part_of_a_list.ensures old new (opened_with (fresh_book c.args.config c.args.moment)) calls (map outcome_of outcomes.items)
+    ready.0 ready.1 ready.2 (faithful_anew c.args.config c.args.moment calls apart) clean leaves left may)

@@ -1,4 +1,4 @@
-use Rattle.std.proofs.Common.{◌≡◌, true, sym, subst}
+use Rattle.std.proofs.Common.{◌≡◌, true, map, sym, subst, ap, ◌∙◌}
 use Rattle.sqlite.specs.Held.{state}
 use Rattle.rules.specs.Values.{ConfigValue}
 use Rattle.kept.specs.Archives.{KeepsFinished}
@@ -6,7 +6,10 @@ use Rattle.kept.specs.Kept.{book_in}
 use Rattle.kept.proofs.BookFiles.{finished_files}
 use Rattle.keep_tables.specs.Keepers.{config_in_use, table_book}
 use Rattle.keep_tables.proofs.KeptBook.{keeps_book}
-use Rattle.once.proofs.Courses.{clean_made, config_stays, once_opened, open_or_failed}
+use Rattle.queue.specs.Commands.{call_of, outcome_of}
+use Rattle.queue.specs.Histories.{opened_with}
+use Rattle.once.proofs.Courses.{clean_made, config_stays, faithful_opened, once_opened, open_or_failed, ready_opened}
+use Rattle.once.proofs.Refusals.{both_then, err_then}
 use Rattle.once.proofs.reopened.drive_opened.Goals as goal
 
 pub returns-in-Ok-clause-once : goal.returns-in-Ok-clause-once
@@ -15,13 +18,24 @@ returns-in-Ok-clause-once g c clean =
     let db = (state g.S.Store c.args.connection).committed in
     let made = c.in-Ok.keeper in
     let new = c.drive-outcomes.new.self.keeper in
+    let old = c.new-archive.result.keeper in
+    let calls = map call_of c.args.commands.now in
     let early = clean_made true made c.new-archive.result.keeper new c.new-archive.ensures c.drive-outcomes.ensures.lasts clean in
     let keeps : KeepsFinished db (config_in_use made) (table_book made) = (c.in-Ok.ensures.opened early).1 in
+    let files = finished_files db (config_in_use made) (table_book made) keeps in
+    let ready = ready_opened true made old new c.new-archive.ensures c.drive-outcomes.ensures.lasts files (c.in-Ok.ensures.opened early).0.is_open clean in
     let config : config_in_use new ≡ config_in_use made = config_stays true made c.new-archive.result.keeper new c.new-archive.ensures c.drive-outcomes.ensures.lasts in (
       table_book made,
       subst (λ (x : ConfigValue). KeepsFinished db x (table_book made)) (sym config) keeps,
-      once_opened true made c.new-archive.result.keeper new c.new-archive.ensures c.drive-outcomes.ensures.lasts
-          c.args.commands.now c.drive-outcomes.result (finished_files db (config_in_use made) (table_book made) keeps) c.drive-outcomes.ensures.once clean,
+      both_then c.drive-outcomes.result
+          (once_opened true made old new c.new-archive.ensures c.drive-outcomes.ensures.lasts c.args.commands.now c.drive-outcomes.result files c.drive-outcomes.ensures.once clean)
+          c.drive-outcomes.ensures.crash (λ outcomes run leaves bodies apart have there. (
+            run bodies apart have there,
+            λ left may.
+                c.a_stop_leaves_a_part_of_a_list.ensures old new (opened_with (table_book made)) calls (map outcome_of outcomes.items)
+                ready.0 ready.1 ready.2 (faithful_opened (table_book made) calls bodies files apart have there) clean leaves left may,
+          )),
+      err_then c.drive-outcomes.result c.drive-outcomes.ensures.err (λ same. ap (λ a. table_book a.keeper) same ∙ ap table_book c.new-archive.ensures),
     )
 
 pub returns-in-Ok-clause-open : goal.returns-in-Ok-clause-open
