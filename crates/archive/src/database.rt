@@ -3,15 +3,16 @@
 ghost use Rattle.std.specs.Prelude.{◌≤◌};
 
 use command_line::CommandLine;
-use commands::{InFile, act};
+use commands::{InFile, OpenFault, act};
 use keep::{KeepFault, LATEST};
 use keep_rows::fault_of;
-use keep_tables::{InOrder, TableKeeper};
+use keep_tables::{InOrder, LAYOUT, TableKeeper, layout_of};
 use rules::Config;
 use sqlite::{Alter, Connection, FileFrom, FileStore, Options, Wary};
 use sqlite_disk::Disk;
 use sqlite_std_file::OpenError;
 use std::alloc::Global;
+use std::cmp::Ordering;
 use std::hash::{BuildHasher, RandomState};
 use std::io::{ErrorKind, Write};
 use std::thread;
@@ -25,7 +26,7 @@ pub type FileKeeper = TableKeeper<FileStore<FileFrom<Wary>>>;
 pub struct DatabaseFile;
 
 impl InFile<FileKeeper> for DatabaseFile {
-    fn opened(rt: &HostRuntime, path: &str) -> Result<FileKeeper, KeepFault> {
+    fn opened(rt: &HostRuntime, path: &str) -> Result<FileKeeper, OpenFault> {
         opened_over(rt.alloc(), connect(rt, path))
     }
 
@@ -117,11 +118,24 @@ fn disconnect<D: Disk + Drop>(connection: Connection<FileStore<D>>) {
     let _ = connection.close();
 }
 
-/// The keeper over a database, or why there is none.
-fn kept<K, C: Drop>(keeper: Result<K, (C, KeepFault)>) -> Result<K, KeepFault> {
-    match keeper {
-        Ok(keeper) => Ok(keeper),
-        Err((_, fault)) => Err(fault),
+/// Why no archive is opened of tables that are not those of one, and say that they are of this layout.
+fn fault_of_layout(layout: u64) -> OpenFault {
+    match layout.cmp(&LAYOUT) {
+        Ordering::Less => OpenFault::Older(layout),
+        Ordering::Equal => OpenFault::Keeper(KeepFault::Tables),
+        Ordering::Greater => OpenFault::Later(layout),
+    }
+}
+
+/// Why no archive of a database is opened, where the keeper has this fault. Tables that are not those of an archive are asked for their
+/// layout.
+fn open_fault<S: Alter>(connection: &mut Connection<S>, fault: KeepFault) -> OpenFault {
+    if fault != KeepFault::Tables {
+        return OpenFault::Keeper(fault);
+    }
+    match layout_of(connection) {
+        Some(layout) => fault_of_layout(layout),
+        None => OpenFault::Keeper(fault),
     }
 }
 
@@ -129,10 +143,13 @@ fn kept<K, C: Drop>(keeper: Result<K, (C, KeepFault)>) -> Result<K, KeepFault> {
 fn opened_over<S: InOrder + Drop>(
     alloc: Global,
     connection: Result<Connection<S>, KeepFault>,
-) -> Result<TableKeeper<S>, KeepFault> {
+) -> Result<TableKeeper<S>, OpenFault> {
     match connection {
-        Ok(connection) => kept(TableKeeper::open(alloc, connection)),
-        Err(fault) => Err(fault),
+        Ok(connection) => match TableKeeper::open(alloc, connection) {
+            Ok(keeper) => Ok(keeper),
+            Err((mut connection, fault)) => Err(open_fault(&mut connection, fault)),
+        },
+        Err(fault) => Err(OpenFault::Keeper(fault)),
     }
 }
 
@@ -146,7 +163,10 @@ fn made_over<S: Alter + Drop>(
     requires { moment ≤ LATEST }
 {
     match connection {
-        Ok(connection) => kept(TableKeeper::create(alloc, connection, config, moment)),
+        Ok(connection) => match TableKeeper::create(alloc, connection, config, moment) {
+            Ok(keeper) => Ok(keeper),
+            Err((_, fault)) => Err(fault),
+        },
         Err(fault) => Err(fault),
     }
 }

@@ -6,16 +6,27 @@ use crate::fault::Stop;
 use keep::{KeepFault, Keeper, LATEST};
 use queue::{Archive, Fault};
 use rules::Config;
-use std::alloc::{AllocError, Global};
+use std::alloc::AllocError;
 use std::os::unix::fs::MetadataExt;
 use std::rt::Files;
 use std::{fs, io};
+
+/// Why the archive of a database file is not opened.
+#[derive(Clone, Copy, Debug)]
+pub enum OpenFault {
+    /// There is no keeper, for this reason.
+    Keeper(KeepFault),
+    /// The tables are not those of an archive, and say that they are of this layout, which an older program made.
+    Older(u64),
+    /// The same of a layout that a later program made.
+    Later(u64),
+}
 
 /// What opens, makes and closes the keepers of archives in database files. Only what implements it names a store of files, since each
 /// function that does takes the prover long.
 pub trait InFile<K> {
     /// A keeper of the archive that the file at the path holds.
-    fn opened(rt: &HostRuntime, path: &str) -> Result<K, KeepFault>;
+    fn opened(rt: &HostRuntime, path: &str) -> Result<K, OpenFault>;
 
     /// A keeper of a new archive of the configuration, made at the moment in the file at the path.
     fn made(rt: &HostRuntime, path: &str, config: Config, moment: u64) -> Result<K, KeepFault>
@@ -85,17 +96,6 @@ pub fn is_of_database<R: Files + AllocGlobal>(
     Ok(false)
 }
 
-/// The archive over a keeper, or why there is none.
-fn archive_over<'a, K: Keeper>(
-    alloc: Global,
-    keeper: Result<K, KeepFault>,
-) -> Result<Archive<K>, Stop<'a>> {
-    match keeper {
-        Ok(keeper) => Ok(Archive::new(alloc, keeper)),
-        Err(fault) => Err(Stop::NoArchive(fault)),
-    }
-}
-
 /// Opens the archive of a database file. A file that is not there or has no bytes is no archive, and nothing is made.
 pub fn open_archive<'a, K: Keeper + Drop, F: InFile<K>>(
     rt: &HostRuntime,
@@ -104,7 +104,8 @@ pub fn open_archive<'a, K: Keeper + Drop, F: InFile<K>>(
     if would_make(rt, path) || is_blank(rt, path)? {
         return Err(Stop::NoArchive(KeepFault::Tables));
     }
-    archive_over(rt.alloc(), F::opened(rt, path))
+    let keeper = F::opened(rt, path)?;
+    Ok(Archive::new(rt.alloc(), keeper))
 }
 
 /// Makes an archive of the configuration in a database file, at a moment, in seconds since 1970-01-01 00:00:00 UTC. The
@@ -118,7 +119,8 @@ pub fn create_archive<'a, K: Keeper + Drop, F: InFile<K>>(
     if moment > LATEST {
         return Err(Stop::Refused(Fault::Moment));
     }
-    archive_over(rt.alloc(), F::made(rt, path, config, moment))
+    let keeper = F::made(rt, path, config, moment)?;
+    Ok(Archive::new(rt.alloc(), keeper))
 }
 
 /// Closes the archive of a database file. The log beside the file is copied into the file, so that this alone is the

@@ -246,9 +246,9 @@ fn finished<'a, K: Keeper + Drop, F: InFile<K>, W: Write, E: Write>(
 
 /// Does a line over keepers of this type, which `F` opens and makes, and answers the exit status: 0 where it is done; 1 where
 /// something is refused or a file can't be read; 2 where a list has a bad line; 3 where memory runs out, a disk fails or is full,
-/// the address can't be used, or an output fails. What was refused is a line on `err`, but for the files of a `put` and the
-/// commands of a list, which have their lines on `out`; where an output fails nothing more is printed. The log of a `serve` is
-/// on `err` too.
+/// the address can't be used, or an output fails. What was refused is a line on `err`, or two where the archive is of another layout, but
+/// for the files of a `put` and the commands of a list, which have their lines on `out`; where an output fails nothing more is printed.
+/// The log of a `serve` is on `err` too.
 pub fn act<K: Keeper + Drop, F: InFile<K>, W: Write, E: Write>(
     rt: &HostRuntime,
     line: &CommandLine<'_>,

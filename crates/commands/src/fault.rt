@@ -1,5 +1,6 @@
 //! Why the program ends before it is done.
 
+use crate::database::OpenFault;
 use command_line::BatchFault;
 use keep::KeepFault;
 use queue::Fault;
@@ -22,6 +23,13 @@ pub enum Stop<'a> {
     /// The database is not opened, or no archive is made in it.
     #[error("archive: {0}")]
     NoArchive(KeepFault),
+    /// The database is not opened: its tables are not those of an archive, and say that they are of this layout, which an older program
+    /// made.
+    #[error("archive: {0}\narchive: an archive of layout {1}, which an older program made")]
+    Older(KeepFault, u64),
+    /// The same of a layout that a later program made.
+    #[error("archive: {0}\narchive: an archive of layout {1}, which a later program made")]
+    Later(KeepFault, u64),
     /// The configuration of a new archive is refused.
     #[error("archive: {0}")]
     NoConfig(ConfigFault),
@@ -62,6 +70,16 @@ impl From<KeepFault> for Stop<'_> {
     }
 }
 
+impl From<OpenFault> for Stop<'_> {
+    fn from(fault: OpenFault) -> Self {
+        match fault {
+            OpenFault::Keeper(fault) => Stop::NoArchive(fault),
+            OpenFault::Older(layout) => Stop::Older(KeepFault::Tables, layout),
+            OpenFault::Later(layout) => Stop::Later(KeepFault::Tables, layout),
+        }
+    }
+}
+
 impl From<ConfigFault> for Stop<'_> {
     fn from(fault: ConfigFault) -> Self {
         Stop::NoConfig(fault)
@@ -95,9 +113,12 @@ impl Stop<'_> {
     /// an output that fails.
     pub fn status(&self) -> u8 {
         match self {
-            Stop::Unreadable(_) | Stop::NotFound | Stop::NoArchive(KeepFault::Tables) => 1,
+            Stop::Unreadable(_) | Stop::NotFound => 1,
+            Stop::NoArchive(KeepFault::Tables)
+            | Stop::Older(KeepFault::Tables, _)
+            | Stop::Later(KeepFault::Tables, _) => 1,
             Stop::BadLine(_) => 2,
-            Stop::NoArchive(_) => 3,
+            Stop::NoArchive(_) | Stop::Older(..) | Stop::Later(..) => 3,
             Stop::Refused(Fault::OutOfMemory | Fault::Keeper(_)) => 3,
             Stop::Refused(_) => 1,
             Stop::NoConfig(ConfigFault::OutOfMemory) => 3,

@@ -14,7 +14,7 @@ mod serving;
 mod words;
 
 pub use client::Patience;
-pub use database::{InFile, close, create_archive, open_archive};
+pub use database::{InFile, OpenFault, close, create_archive, open_archive};
 pub use doing::{act, explain};
 pub use fault::Stop;
 pub use serving::{serve, serve_within};

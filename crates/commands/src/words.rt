@@ -131,7 +131,7 @@ fn serve_some<'a, K: Keeper + Drop, F: InFile<K>, E: Write>(
 /// What an opening of an archive that was served before ends with.
 fn again<'a>(stop: Stop<'a>) -> Stop<'a> {
     match stop {
-        Stop::NoArchive(fault) => Stop::Lost(fault),
+        Stop::NoArchive(fault) | Stop::Older(fault, _) | Stop::Later(fault, _) => Stop::Lost(fault),
         stop => stop,
     }
 }
