@@ -1,5 +1,7 @@
 //! The moments of connections.
 
+ghost use Rattle.std.specs.Prelude.{◌≡◌, ◌≤◌, None};
+
 use keep::LATEST;
 use std::fs::File;
 use std::io::{self, Read};
@@ -37,7 +39,9 @@ fn beginning_of<R: Files + AllocGlobal>(rt: &R, path: &str) -> io::Result<Vec<u8
 
 impl<'p> Moments<'p> {
     /// The greatest of this moment and all numbers that the file has held so far. Without a file each connection has the moment.
-    pub fn new(moment: u64, file: Option<&'p str>) -> Moments<'p> {
+    pub fn new(moment: u64, file: Option<&'p str>) -> Moments<'p>
+        ensures { (result.file ≡ file) × (result.greatest ≡ moment) }
+    {
         Moments {
             file,
             greatest: moment,
@@ -45,7 +49,12 @@ impl<'p> Moments<'p> {
     }
 
     /// The moment of the next connection. A file that can't be read or that holds no moment changes nothing.
-    pub fn next<R: Files + AllocGlobal>(&mut self, rt: &R) -> u64 {
+    pub fn next<R: Files + AllocGlobal>(&mut self, rt: &R) -> u64
+        ensures is { result ≡ self.new.greatest }
+        ensures rises { self.old.greatest ≤ self.new.greatest }
+        ensures still { self.old.file ≡ None → self.new.greatest ≡ self.old.greatest }
+        ensures file { self.new.file ≡ self.old.file }
+    {
         if let Some(path) = self.file
             && let Ok(text) = beginning_of(rt, path)
             && let Some(moment) = moment_in(&text)

@@ -1,6 +1,7 @@
 //! The archive served over HTTP, one connection after the other.
 
-ghost use Rattle.desk.specs.Connections.{HasServed};
+ghost use Rattle.std.specs.Prelude.{◌≡◌, ◌≤◌, None};
+ghost use Rattle.desk.specs.Connections.{HasServed, IsClientsWithin};
 ghost use Rattle.queue.specs.Steps.{Reads};
 
 use crate::client::{Client, FirstLine, FromClient, Patience, ToClient};
@@ -57,8 +58,9 @@ pub fn serve<'a, R: Clock + Files + AllocGlobal, K: Keeper>(
     count: u64,
     moment: u64,
 ) -> Result<(), Stop<'a>>
-    // Whatever clients send, and whenever they leave: the archive is as `attend` leaves it of some list of connections.
-    ensures served { HasServed K.Keeper archive.old.keeper archive.new.keeper }
+    // Whatever clients send, and whenever they leave: the archive is as `attend` leaves it of some list of connections, at most so many, at
+    // the moment, none of which is made up here.
+    ensures served { HasServed K.Keeper count (IsClientsWithin moment moment) archive.old.keeper archive.new.keeper }
 {
     keep_room(rt.alloc());
     serve_within(rt, archive, listener, count, moment, patience())
@@ -73,7 +75,7 @@ pub fn serve_within<'a, R: Clock + Files + AllocGlobal, K: Keeper>(
     moment: u64,
     patience: Patience,
 ) -> Result<(), Stop<'a>>
-    ensures served { HasServed K.Keeper archive.old.keeper archive.new.keeper }
+    ensures served { HasServed K.Keeper count (IsClientsWithin moment moment) archive.old.keeper archive.new.keeper }
 {
     let mut moments = Moments::new(moment, None);
     let mut no_log: Option<&mut Vec<u8>> = None;
@@ -98,7 +100,10 @@ pub fn serve_at<'a, R: Clock + Files + AllocGlobal, K: Keeper, E: Write>(
     patience: Patience,
     log: &mut Option<&mut E>,
 ) -> Result<(), Stop<'a>>
-    ensures served { HasServed K.Keeper archive.old.keeper archive.new.keeper }
+    // Each moment is one that they have now or had on the way.
+    ensures served { HasServed K.Keeper count (IsClientsWithin moments.old.greatest moments.new.greatest) archive.old.keeper archive.new.keeper }
+    ensures rises { moments.old.greatest ≤ moments.new.greatest }
+    ensures still { moments.old.file ≡ None → moments.new.greatest ≡ moments.old.greatest }
 {
     let desk = Desk::new(rt.alloc())?;
     for served in 0..count {
@@ -128,7 +133,7 @@ fn leaves_shut<R: Clock + AllocGlobal, K: Keeper, E: Write>(
     patience: Patience,
     log: &mut Option<&mut E>,
 ) -> bool
-    ensures served { HasServed K.Keeper archive.old.keeper archive.new.keeper }
+    ensures served { HasServed K.Keeper 1 (IsClientsWithin moment moment) archive.old.keeper archive.new.keeper }
 {
     let end = answer_client(rt, desk, archive, stream, moment, patience, log);
     if !is_insufficient_storage(&end) {
@@ -170,7 +175,7 @@ fn answer_client<R: Clock + AllocGlobal, K: Keeper, E: Write>(
     patience: Patience,
     log: &mut Option<&mut E>,
 ) -> io::Result<Result<Served, DeskFault>>
-    ensures served { HasServed K.Keeper archive.old.keeper archive.new.keeper }
+    ensures served { HasServed K.Keeper 1 (IsClientsWithin moment moment) archive.old.keeper archive.new.keeper }
 {
     let client = Client {
         rt,
@@ -206,7 +211,7 @@ fn answered<R: Clock + AllocGlobal, K: Keeper>(
     line: &mut FirstLine,
     sent: &Cell<u64>,
 ) -> Result<Served, DeskFault>
-    ensures served { HasServed K.Keeper archive.old.keeper archive.new.keeper }
+    ensures served { HasServed K.Keeper 1 (IsClientsWithin moment moment) archive.old.keeper archive.new.keeper }
 {
     let mut reader = FromClient {
         client,
@@ -228,24 +233,28 @@ fn replied<R: Clock + AllocGlobal, K: Keeper, I: Read>(
     reader: &mut I,
     sent: &Cell<u64>,
 ) -> Result<Served, DeskFault>
-    ensures served { HasServed K.Keeper archive.old.keeper archive.new.keeper }
+    requires foreign { I.remaining reader.old ≡ None }
+    ensures served { HasServed K.Keeper 1 (IsClientsWithin moment moment) archive.old.keeper archive.new.keeper }
 {
     let alloc = client.rt.alloc();
     let writer = ToClient { client, sent };
     match BufWriter::new(alloc, writer) {
         Ok(buffered) => {
             let mut one = connection(reader, buffered, moment);
-            attended(alloc, desk, archive, slice::from_mut(&mut one))
+            attended(alloc, desk, archive, &mut one)
         }
         Err(_) => {
             let mut one = connection(reader, writer, moment);
-            attended(alloc, desk, archive, slice::from_mut(&mut one))
+            attended(alloc, desk, archive, &mut one)
         }
     }
 }
 
 /// A connection of this reader and this writer, which is to be answered.
-fn connection<R, W>(reader: R, writer: W, moment: u64) -> Connection<R, W> {
+fn connection<R, W>(reader: R, writer: W, moment: u64) -> Connection<R, W>
+    ensures reader { result.reader ≡ reader }
+    ensures moment { result.moment ≡ moment }
+{
     Connection {
         reader,
         writer,
@@ -254,19 +263,20 @@ fn connection<R, W>(reader: R, writer: W, moment: u64) -> Connection<R, W> {
     }
 }
 
-/// Answers connections, and says how the first of them ended.
+/// Answers a connection, and says how it ended.
 fn attended<K: Keeper, R: Read, W: Write>(
     alloc: Global,
     desk: &Desk,
     archive: &mut Archive<K>,
-    connections: &mut [Connection<R, W>],
+    connection: &mut Connection<R, W>,
 ) -> Result<Served, DeskFault>
-    ensures served { HasServed K.Keeper archive.old.keeper archive.new.keeper }
+    requires foreign { R.remaining connection.old.reader ≡ None }
+    ensures served { HasServed K.Keeper 1 (IsClientsWithin connection.old.moment connection.old.moment) archive.old.keeper archive.new.keeper }
 {
-    attend(alloc, desk, archive, connections);
-    match connections.first() {
-        Some(Connection { end: Some(end), .. }) => *end,
-        _ => Ok(Served::Nothing),
+    attend(alloc, desk, archive, slice::from_mut(connection));
+    match connection.end {
+        Some(end) => end,
+        None => Ok(Served::Nothing),
     }
 }
 

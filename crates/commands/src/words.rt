@@ -1,6 +1,6 @@
 //! The words that ask for the archive of a database file.
 
-ghost use Rattle.desk.specs.Connections.{HasServed};
+ghost use Rattle.desk.specs.Connections.{HasServed, IsClientsWithin};
 
 use crate::answers;
 use crate::database::{InFile, close, create_archive, open_archive};
@@ -100,7 +100,7 @@ fn serve_listener<'a, K: Keeper, E: Write>(
     moments: &mut Moments<'_>,
     log: &mut Option<&mut E>,
 ) -> Result<(), Stop<'a>>
-    ensures served { HasServed K.Keeper archive.old.keeper archive.new.keeper }
+    ensures served { HasServed K.Keeper left (IsClientsWithin moments.old.greatest moments.new.greatest) archive.old.keeper archive.new.keeper }
 {
     match listener {
         Ok(listener) => serve_at(rt, archive, listener, left, moments, patience(), log),

@@ -1,8 +1,8 @@
 -- Connections that were served, and others behind them.
-use Rattle.std.proofs.Common.{◌≡◌, ℕ, List, [], ◌∷◌, ◌++◌, Option, Result, refl, sym, ap, subst, ◌∙◌, append_assoc, arith}
+use Rattle.std.proofs.Common.{◌≡◌, ◌≤◌, ◌+◌, ℕ, List, [], ◌∷◌, ◌++◌, Option, Result, refl, sym, ap, subst, ◌∙◌, append_assoc, append-nil, length-append, arith}
 use Rattle.std.proofs.lemmas.Grind.{flat_map-append}
-use Rattle.std.proofs.lemmas.List.Elements.{Contains-append_left}
-use Rattle.std.specs.Prelude.{Contains, length}
+use Rattle.std.proofs.lemmas.List.Elements.{All-append, All-nil, All-weaker, Contains-append_left}
+use Rattle.std.specs.Prelude.{All, Contains, length}
 use Rattle.keep.specs.Book.{HasItsFiles}
 use Rattle.keep.specs.Keeping.{HasBodies, NoCollision}
 use Rattle.keep.specs.declared.keeper.Keeper.{Ghosts}
@@ -129,22 +129,29 @@ module _ {K : Type 0} (g : Ghosts K) where
       (record { bodies = bodies; apart = apart; opened = record { known = have; whole = whole }; delivered = there }) clean
 
   -- one turn of connections, and a read between two turns
-  pub a_turn : (before after : K) (vs : List Visit) → Lasts g before after → AreServed g before after vs → HasServed g before after
-  a_turn before after vs lasts served = record { visits = vs; lasts = lasts; served = served }
+  pub a_turn : (most : ℕ) (Fits : Visit → Type 0) (before after : K) (vs : List Visit) → length vs ≤ most → All Fits vs → Lasts g before after → AreServed g before after vs
+      → HasServed g most Fits before after
+  a_turn most Fits before after vs number fit lasts served = record { visits = vs; number = number; fit = fit; lasts = lasts; served = served }
 
-  pub no_turn : (k : K) → HasServed g k k
-  no_turn k = a_turn k k [] (lasts_itself k) (served_none k k (reads_none k))
+  pub no_turn : (most : ℕ) (Fits : Visit → Type 0) (k : K) → HasServed g most Fits k k
+  no_turn most Fits k = a_turn most Fits k k [] (omega arith) (All-nil Fits) (lasts_itself k) (served_none k k (reads_none k))
 
-  pub turn_and_read : (before mid after : K) → HasServed g before mid → Reads g mid after → HasServed g before after
-  turn_and_read before mid after turn reads = record {
-    visits = turn.visits ++ [];
+  pub turn_and_read : (most : ℕ) (Fits : Visit → Type 0) (before mid after : K) → HasServed g most Fits before mid → Reads g mid after → HasServed g most Fits before after
+  turn_and_read most Fits before mid after turn reads = record {
+    visits = turn.visits;
+    number = turn.number;
+    fit = turn.fit;
     lasts = lasts_more turn.lasts reads.lasts;
-    served = served_joined before mid after turn.visits [] reads.lasts.clean turn.served (served_none mid after reads);
+    served = subst (AreServed g before after) (append-nil turn.visits) (served_joined before mid after turn.visits [] reads.lasts.clean turn.served (served_none mid after reads));
   }
 
-  pub two_turns : (before mid after : K) → HasServed g before mid → HasServed g mid after → HasServed g before after
-  two_turns before mid after first others = record {
+  -- others behind the first, all of which are as this says
+  pub two_turns : (most more whole : ℕ) (One Other Fits : Visit → Type 0) (before mid after : K) → most + more ≤ whole → ((v : Visit) → One v → Fits v) → ((v : Visit) → Other v → Fits v)
+      → HasServed g most One before mid → HasServed g more Other mid after → HasServed g whole Fits before after
+  two_turns most more whole One Other Fits before mid after within one_fits other_fits first others = record {
     visits = first.visits ++ others.visits;
+    number = omega (arith, first.number, others.number, within, length-append first.visits others.visits);
+    fit = All-append Fits first.visits others.visits (All-weaker One Fits one_fits first.visits first.fit) (All-weaker Other Fits other_fits others.visits others.fit);
     lasts = lasts_more first.lasts others.lasts;
     served = served_joined before mid after first.visits others.visits others.lasts.clean first.served others.served;
   }

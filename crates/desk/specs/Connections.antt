@@ -1,5 +1,5 @@
 -- Connections, served one after the other.
-use Rattle.std.specs.Prelude.{◌≡◌, ℕ, List, [], ◌∷◌, Option, Some, Result, ⊤}
+use Rattle.std.specs.Prelude.{◌≡◌, ◌≤◌, ℕ, List, [], ◌∷◌, length, All, Option, Some, None, Result, ⊤}
 use Rattle.std.specs.List.{flat_map}
 use Rattle.keep.specs.declared.keeper.Keeper.{Ghosts}
 use Rattle.queue.specs.Answers.{IsFaithful, IsKept, IsRun}
@@ -39,6 +39,13 @@ module _ {R W : Type 0} (remaining : R → Option (List ℕ)) (contents : W → 
   visits [] news = []
   visits (old ∷ olds) [] = []
   visits (old ∷ olds) (new ∷ news) = visit old new ∷ visits olds news
+
+-- The connection was answered at a moment from the first of these to the last, and comes from outside: which bytes it gives is known of
+-- none before they are read.
+pub record IsClientsWithin (first last : ℕ) (v : Visit) : Type 0 where
+  pub from_first : first ≤ v.moment
+  pub to_last : v.moment ≤ last
+  pub foreign : v.gave ≡ None
 
 -- The connection was answered, and has ended so.
 pub record IsServed {K : Type 0} (g : Ghosts K) (v : Visit) (before after : K) : Type 0 where
@@ -90,8 +97,10 @@ pub record AreServed {K : Type 0} (g : Ghosts K) (before after : K) (vs : List V
   pub run : (h : History) → IsKept (g.is_open before) (g.book before) h → IsFaithful h (calls_in courses) → g.is_clean after
       → IsRun g.may_fail h (calls_in courses) (outcomes_in courses) (g.is_open after) (g.book after)
 
--- Some connections were served, and what else was asked of the archive was read.
-pub record HasServed {K : Type 0} (g : Ghosts K) (before after : K) : Type 0 where
+-- At most so many connections were served, each of which is as this says, and what else was asked of the archive was read.
+pub record HasServed {K : Type 0} (g : Ghosts K) (most : ℕ) (Fits : Visit → Type 0) (before after : K) : Type 0 where
   pub visits : List Visit
+  pub number : length visits ≤ most
+  pub fit : All Fits visits
   pub lasts : Lasts g before after
   pub served : AreServed g before after visits
