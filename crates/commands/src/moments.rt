@@ -40,7 +40,8 @@ fn beginning_of<R: Files + AllocGlobal>(rt: &R, path: &str) -> io::Result<Vec<u8
 impl<'p> Moments<'p> {
     /// The greatest of this moment and all numbers that the file has held so far. Without a file each connection has the moment.
     pub fn new(moment: u64, file: Option<&'p str>) -> Moments<'p>
-        ensures { (result.file ≡ file) × (result.greatest ≡ moment) }
+        ensures still { file.entry ≡ None → result.file ≡ None }
+        ensures greatest { result.greatest ≡ moment }
     {
         Moments {
             file,

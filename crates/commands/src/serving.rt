@@ -1,6 +1,6 @@
 //! The archive served over HTTP, one connection after the other.
 
-ghost use Rattle.std.specs.Prelude.{◌≡◌, ◌≤◌, None};
+ghost use Rattle.std.specs.Prelude.{◌≡◌, ◌≤◌, ℕ, All, None, length};
 ghost use Rattle.desk.specs.Connections.{HasServed, IsClientsWithin};
 ghost use Rattle.queue.specs.Steps.{Reads};
 
@@ -241,11 +241,11 @@ fn replied<R: Clock + AllocGlobal, K: Keeper, I: Read>(
     match BufWriter::new(alloc, writer) {
         Ok(buffered) => {
             let mut one = connection(reader, buffered, moment);
-            attended(alloc, desk, archive, &mut one)
+            attended(alloc, desk, archive, slice::from_mut(&mut one))
         }
         Err(_) => {
             let mut one = connection(reader, writer, moment);
-            attended(alloc, desk, archive, &mut one)
+            attended(alloc, desk, archive, slice::from_mut(&mut one))
         }
     }
 }
@@ -263,20 +263,20 @@ fn connection<R, W>(reader: R, writer: W, moment: u64) -> Connection<R, W>
     }
 }
 
-/// Answers a connection, and says how it ended.
+/// Answers connections, and says how the first of them ended.
 fn attended<K: Keeper, R: Read, W: Write>(
     alloc: Global,
     desk: &Desk,
     archive: &mut Archive<K>,
-    connection: &mut Connection<R, W>,
+    connections: &mut [Connection<R, W>],
 ) -> Result<Served, DeskFault>
-    requires foreign { R.remaining connection.old.reader ≡ None }
-    ensures served { HasServed K.Keeper 1 (IsClientsWithin connection.old.moment connection.old.moment) archive.old.keeper archive.new.keeper }
+    ensures served { (moment : ℕ) → All (λ one. (R.remaining one.reader ≡ None) × (one.moment ≡ moment)) connections.old
+        → HasServed K.Keeper (length connections.old) (IsClientsWithin moment moment) archive.old.keeper archive.new.keeper }
 {
-    attend(alloc, desk, archive, slice::from_mut(connection));
-    match connection.end {
-        Some(end) => end,
-        None => Ok(Served::Nothing),
+    attend(alloc, desk, archive, connections);
+    match connections.first() {
+        Some(Connection { end: Some(end), .. }) => *end,
+        _ => Ok(Served::Nothing),
     }
 }
 
