@@ -1,13 +1,13 @@
 -- Connections that were served, and others behind them.
-use Rattle.std.proofs.Common.{◌≡◌, ◌≤◌, ◌+◌, ℕ, List, [], ◌∷◌, ◌++◌, Option, Result, refl, sym, ap, subst, ◌∙◌, append_assoc, append-nil, length-append, arith}
+use Rattle.std.proofs.Common.{◌≡◌, ◌≤◌, ◌+◌, ℕ, List, [], ◌∷◌, ◌++◌, Option, Some, Result, Ok, Err, refl, sym, ap, subst, ◌⊎◌, inl, inr, ◌∙◌, append_assoc, append-nil, length-append, arith}
 use Rattle.std.proofs.lemmas.Grind.{flat_map-append}
 use Rattle.std.proofs.lemmas.List.Elements.{All-append, All-nil, All-weaker, Contains-append_left}
 use Rattle.std.specs.Prelude.{All, Contains, length}
-use Rattle.keep.specs.Book.{HasItsFiles}
+use Rattle.keep.specs.Book.{Book, HasItsFiles}
 use Rattle.keep.specs.Keeping.{HasBodies, NoCollision}
 use Rattle.keep.specs.declared.keeper.Keeper.{Ghosts}
 use Rattle.queue.specs.Answers.{IsFaithful, IsKept, IsRun}
-use Rattle.queue.specs.Archives.{Stands}
+use Rattle.queue.specs.Archives.{Stands, book_of}
 use Rattle.queue.specs.Histories.{Call, Reply, History, followed, bodies_of, bodies_of_call, calls_of, opened_with}
 use Rattle.queue.specs.Steps.{Does, Lasts, Reads}
 use Rattle.queue.specs.declared.fault.Fault.{Fault}
@@ -16,8 +16,9 @@ use Rattle.queue.proofs.ReadLemmas.{lasts_itself, lasts_more, reads_none}
 use Rattle.queue.proofs.Reopening.{opens_itself}
 use Rattle.queue.proofs.Runs.{IsFaithful-rest}
 use Rattle.desk.specs.Calls.{call_wanted}
-use Rattle.desk.specs.Connections.{Visit, visit, visits, AllWent, AreServed, HasServed, IsServed, IsAt, calls_in, calls_of_course, outcomes_in, outcomes_of_course}
-use Rattle.desk.specs.Exchange.{Course, Silent, TurnedAway, Short, Broken, Called, Leaves}
+use Rattle.desk.specs.Connections.{Visit, visit, visits, AllWent, AreServed, HasServed, IsLeftAmong, IsLeftIn, IsServed, IsAt, behind, calls_in, calls_of_course, outcomes_in, outcomes_of_course}
+use Rattle.desk.specs.Exchange.{Course, Silent, TurnedAway, Short, Broken, Called, Leaves, LeavesCourse}
+use Rattle.desk.specs.Want.{Want}
 use Rattle.desk.specs.declared.connection.Connection.{Connection}
 
 -- what is faithful with calls to come is so without the last of them
@@ -82,6 +83,65 @@ module _ {K : Type 0} (g : Ghosts K) where
       let step = does h kept faithful clean in
       (step.answered, step.kept)
 
+  -- what a crash leaves of the one connection
+  one_crash : (h : History) (v : Visit) (before after : K) (course : Course) → Leaves g v.moment before after course → LeavesCourse g v.gave v.gives v.moment before after course
+      → IsKept (g.is_open before) (g.book before) h → IsFaithful h (calls_in (course ∷ [])) → g.is_clean after → (left : Option Book) → g.may_leave after left
+      → g.may_leave before left ⊎ ((left ≡ Some (book_of h)) ⊎ IsLeftIn h v course left)
+  one_crash h v before after Silent leaves crash kept faithful clean left may = crash h kept faithful clean left may
+  one_crash h v before after (TurnedAway e) leaves crash kept faithful clean left may = crash h kept faithful clean left may
+  one_crash h v before after Short leaves crash kept faithful clean left may = crash h kept faithful clean left may
+  one_crash h v before after Broken leaves crash kept faithful clean left may = crash h kept faithful clean left may
+  one_crash h v before after (Called want body at outcome) leaves crash kept faithful clean left may =
+      subst (λ (m : ℕ). IsFaithful h (call_wanted want body m ∷ []) → g.may_leave before left ⊎ ((left ≡ Some (book_of h)) ⊎ IsLeftIn h v (Called want body m outcome) left)) (sym leaves.0)
+      (called_crash h v before after want body outcome crash kept clean left may) faithful
+    where
+      called_crash : (h : History) (v : Visit) (before after : K) (want : Want) (body : List ℕ) (outcome : Result Reply Fault) → LeavesCourse g v.gave v.gives v.moment before after (Called want body v.moment outcome)
+          → IsKept (g.is_open before) (g.book before) h → g.is_clean after → (left : Option Book) → g.may_leave after left → IsFaithful h (call_wanted want body v.moment ∷ [])
+          → g.may_leave before left ⊎ ((left ≡ Some (book_of h)) ⊎ IsLeftIn h v (Called want body v.moment outcome) left)
+      called_crash h v before after want body (Ok reply) crash kept clean left may faithful = crash h kept faithful clean left may
+      called_crash h v before after want body (Err fault) crash kept clean left may faithful = crash h kept faithful clean left may
+
+  -- what was left is the book of the history itself
+  pub among_none : (h : History) (vs : List Visit) (courses : List Course) (left : Option Book) → left ≡ Some (book_of h) → IsLeftAmong h vs courses left
+  among_none h [] [] left is = is
+  among_none h (v ∷ vs) (course ∷ courses) left is = inl is
+  among_none h [] (course ∷ courses) left is = is
+  among_none h (v ∷ vs) [] left is = is
+
+  -- what may be left among some connections may be left among more
+  among_front : (h : History) (vs ws : List Visit) (courses others : List Course) (left : Option Book) → AllWent vs courses → IsLeftAmong h vs courses left
+      → IsLeftAmong h (vs ++ ws) (courses ++ others) left
+  among_front h [] ws [] others left went is = among_none h ws others left is
+  among_front h (v ∷ vs) ws (course ∷ courses) others left (first, went) is = elim is [
+    | inl same ↦ inl same
+    | inr made ↦ inr (elim made [
+      | inl whole ↦ inl whole
+      | inr later ↦ inr (among_front (behind h course) vs ws courses others left went later)
+    ])
+  ]
+  among_front h [] ws (course ∷ courses) others left went is = absurd went
+  among_front h (v ∷ vs) ws [] others left went is = absurd went
+
+  -- what is left among connections behind others, where it was not left by these
+  among_behind : (h : History) (vs ws : List Visit) (courses others : List Course) (left : Option Book) (mid : K) (P : Type 0) → AllWent vs courses
+      → IsRun g.may_fail h (calls_in courses) (outcomes_in courses) (g.is_open mid) (g.book mid)
+      → ((later : History) → IsKept (g.is_open mid) (g.book mid) later → IsFaithful later (calls_in others) → P ⊎ IsLeftAmong later ws others left)
+      → IsFaithful h (calls_in courses ++ calls_in others) → P ⊎ IsLeftAmong h (vs ++ ws) (courses ++ others) left
+  among_behind h [] ws [] others left mid P went kept leaves faithful = leaves h kept faithful
+  among_behind h (v ∷ vs) ws (Called want body at outcome ∷ courses) others left mid P (first, went) (answered, run) leaves faithful =
+      elim (among_behind (followed h (call_wanted want body at) outcome) vs ws courses others left mid P went run leaves
+      (IsFaithful-rest h (call_wanted want body at) outcome (calls_in courses ++ calls_in others) faithful)) [ inl p ↦ inl p | inr is ↦ inr (inr (inr is)) ]
+  among_behind h (v ∷ vs) ws (Silent ∷ courses) others left mid P (first, went) run leaves faithful =
+      elim (among_behind h vs ws courses others left mid P went run leaves faithful) [ inl p ↦ inl p | inr is ↦ inr (inr (inr is)) ]
+  among_behind h (v ∷ vs) ws (TurnedAway e ∷ courses) others left mid P (first, went) run leaves faithful =
+      elim (among_behind h vs ws courses others left mid P went run leaves faithful) [ inl p ↦ inl p | inr is ↦ inr (inr (inr is)) ]
+  among_behind h (v ∷ vs) ws (Short ∷ courses) others left mid P (first, went) run leaves faithful =
+      elim (among_behind h vs ws courses others left mid P went run leaves faithful) [ inl p ↦ inl p | inr is ↦ inr (inr (inr is)) ]
+  among_behind h (v ∷ vs) ws (Broken ∷ courses) others left mid P (first, went) run leaves faithful =
+      elim (among_behind h vs ws courses others left mid P went run leaves faithful) [ inl p ↦ inl p | inr is ↦ inr (inr (inr is)) ]
+  among_behind h [] ws (course ∷ courses) others left mid P went run leaves faithful = absurd went
+  among_behind h (v ∷ vs) ws [] others left mid P went run leaves faithful = absurd went
+
   pub served_one : (before after : K) (v : Visit) → IsServed g v before after → AreServed g before after (v ∷ [])
   served_one before after v served =
       let answered = served.answered in
@@ -90,6 +150,10 @@ module _ {K : Type 0} (g : Ghosts K) where
         courses = course ∷ [];
         went = (record { read = answered.read; at = at_of v.moment before after course answered.leaves; result = served.result; end_is = served.end_is; written = answered.written }, tt);
         run = λ h kept faithful clean. one_run h v.moment before after course answered.leaves kept faithful clean;
+        crash = λ h kept faithful clean left may. elim (one_crash h v before after course answered.leaves answered.crash kept faithful clean left may) [
+          | inl was ↦ inl was
+          | inr made ↦ inr (elim made [ inl same ↦ inl same | inr whole ↦ inr (inl whole) ])
+        ];
       }
 
   -- no connection was answered, and reads at most were made
@@ -97,6 +161,7 @@ module _ {K : Type 0} (g : Ghosts K) where
   served_none before after reads = record {
     courses = [];
     went = tt;
+    crash = λ h kept faithful clean left may. inl (reads.crash clean left may);
     run = λ h kept faithful clean. record { config = reads.lasts.config ∙ kept.config; stands = λ up. reads.same clean up ∙ kept.stands (reads.lasts.was_open clean up) };
   }
 
@@ -117,6 +182,14 @@ module _ {K : Type 0} (g : Ghosts K) where
             subst (λ (xs : List Call). IsRun g.may_fail h xs (outcomes_in (cs ++ ds)) (g.is_open after) (g.book after)) (sym calls)
             (subst (λ (os : List (Result Reply Fault)). IsRun g.may_fail h (calls_in cs ++ calls_in ds) os (g.is_open after) (g.book after)) (sym outcomes)
             (IsRun-append h (calls_in cs) (outcomes_in cs) (calls_in ds) (outcomes_in ds) mid after run (λ later stays holds. rest.run later stays holds clean) parts));
+        crash = λ h kept faithful clean left may.
+            let parts = subst (λ (xs : List Call). IsFaithful h xs) calls faithful in
+            let front = IsFaithful-front h (calls_in cs) (calls_in ds) parts in
+            let run = first.run h kept front (clean_before clean) in
+            elim (among_behind h vs ws cs ds left mid (g.may_leave mid left) first.went run (λ later stays holds. rest.crash later stays holds clean left may) parts) [
+              | inl was ↦ elim (first.crash h kept front (clean_before clean) left was) [ inl before_it ↦ inl before_it | inr is ↦ inr (among_front h vs ws cs ds left first.went is) ]
+              | inr is ↦ inr is
+            ];
       }
 
   -- the answers begin behind the book that is kept before, where that has its files

@@ -1,19 +1,23 @@
 -- From what was read and what the archive answered to the reply.
-use Rattle.std.proofs.Common.{◌≡◌, ◌≤◌, ℕ, List, [], Option, None, Some, Result, Ok, Err, IfOk, OnErr, false, refl, sym, ap, subst, inl, inr, arith}
-use Rattle.std.specs.Prelude.{MatchResult}
+use Rattle.std.proofs.Common.{◌≡◌, ◌≤◌, ◌<◌, ◌++◌, ◌∙◌, ℕ, List, [], ◌∷◌, Option, None, Some, Result, Ok, Err, IfOk, OnErr, false, length, refl, sym, ap, subst, inl, inr, arith, length-append}
+use Rattle.std.specs.Prelude.{MatchResult, ⊤}
+use Rattle.std.specs.Io.KnownBytes.{Consumes}
 use Rattle.std.proofs.KnownBytes.{Consumes-nil}
+use Rattle.keep.specs.Book.{Book}
 use Rattle.keep.specs.declared.keeper.Keeper.{Ghosts}
-use Rattle.queue.specs.Commands.{is_new}
-use Rattle.queue.specs.Histories.{Stored}
-use Rattle.queue.specs.Receiving.{IsAsBefore, IsReceived, IsRefusedFor}
+use Rattle.queue.specs.Archives.{book_of}
+use Rattle.queue.specs.Commands.{is_new, stored}
+use Rattle.queue.specs.Histories.{Call, Delivery, History, Reply as Answered, Stored, followed}
+use Rattle.queue.specs.Receiving.{Gave, IsAsBefore, IsReceived, IsRefusedFor, LeavesReceived}
+use Rattle.queue.specs.Steps.{Does, IsServed, LeavesCall}
 use Rattle.queue.specs.declared.command.Arrived.{Arrived}
 use Rattle.queue.specs.declared.fault.Fault.{Fault}
 use Rattle.queue.specs.declared.fault.Fault.TheVariants as fault
 use Rattle.queue.specs.declared.reading.ReaderFailed.{ReaderFailed}
 use Rattle.queue.proofs.Received.{refused_does}
 use Rattle.desk.specs.Answer.{refusal_message}
-use Rattle.desk.specs.Calls.{done_message, fault_message, reception_message}
-use Rattle.desk.specs.Exchange.{Course, HasReadBehind, IsCalled, IsCarriedOut, IsHandledWith, Leaves, Silent, TurnedAway, Short, Broken, Called, reply_of}
+use Rattle.desk.specs.Calls.{call_wanted, done_message, fault_message, reception_message}
+use Rattle.desk.specs.Exchange.{Course, HasReadBehind, IsCalled, IsCarriedOut, IsHandledWith, IsLeftBehind, IsLeftBy, Leaves, LeavesBehind, LeavesCourse, LeavesOr, MayHaveCome, Silent, TurnedAway, Short, Broken, Called, reply_of}
 use Rattle.desk.specs.Incoming.{HasHead, IsRefused, ReadsBeginning, ReadsUpTo}
 use Rattle.desk.specs.Message.{message_of}
 use Rattle.desk.specs.Reply.{Message}
@@ -22,17 +26,101 @@ use Rattle.desk.specs.Want.{Want, delivery}
 use Rattle.desk.specs.declared.head.Refusal.{Refusal}
 use Rattle.desk.specs.declared.head.Refusal.TheVariants.{BadRequest, NotFound, MethodNotAllowed, LengthRequired, PayloadTooLarge, HeadTooLarge, NotImplemented, OutOfMemory}
 use Rattle.desk.specs.declared.reply.Reply.{Reply}
-use Rattle.desk.proofs.RequestLemmas.{read_behind, reads_behind}
+use Rattle.desk.proofs.RequestLemmas.{read_behind, reads_behind, received_whole}
+
+-- a reader that tells nothing behind some bytes told nothing before them
+unknown_before : (old mid : Option (List ℕ)) (front : List ℕ) → Consumes old mid front → mid ≡ None → old ≡ None
+unknown_before None mid front read is = refl
+unknown_before (Some xs) None front read is = absurd read
+unknown_before (Some xs) (Some ys) front read is = absurd (cc)
+
+come_before : (old mid : Option (List ℕ)) (front : List ℕ) (course : Course) → Consumes old mid front → MayHaveCome mid course → MayHaveCome old course
+come_before old mid front Short read may = tt
+come_before old mid front Broken read may = unknown_before old mid front read may
+come_before old mid front (TurnedAway BadRequest) read may = unknown_before old mid front read may
+come_before old mid front (TurnedAway NotFound) read may = absurd may
+come_before old mid front (TurnedAway (MethodNotAllowed m)) read may = absurd may
+come_before old mid front (TurnedAway LengthRequired) read may = absurd may
+come_before old mid front (TurnedAway PayloadTooLarge) read may = absurd may
+come_before old mid front (TurnedAway HeadTooLarge) read may = absurd may
+come_before old mid front (TurnedAway NotImplemented) read may = absurd may
+come_before old mid front (TurnedAway OutOfMemory) read may = absurd may
+come_before old mid front Silent read may = absurd may
+come_before old mid front (Called want body at outcome) read may = absurd may
+
+-- a reader that tells its bytes gave as many as it gave
+unknown_of : (old new : Option (List ℕ)) (n : ℕ) (body front : List ℕ) → Consumes old new body → length body ≡ n → Consumes old new front → length front < n → old ≡ None
+unknown_of None new n body front one size other short = refl
+unknown_of (Some xs) None n body front one size other short = absurd one
+unknown_of (Some xs) (Some ys) n body front one size other short =
+    let sizes : length (body ++ ys) ≡ length (front ++ ys) = ap length (sym one ∙ other) in
+    absurd (omega (arith, sizes, size, short, length-append body ys, length-append front ys))
+
+-- what was left by a body behind a head was so by the whole
+left_by : (h : History) (old mid new : Option (List ℕ)) (want : Want) (moment : ℕ) (left : Option Book) → HasHead old mid want → IsLeftBehind h mid new want moment left → IsLeftBy h old new want moment left
+left_by h old mid new want moment left head it = record {
+  body = it.body;
+  read = received_whole old mid new head.head it.body want head.read head.first head.asked it.read it.size;
+  stands = it.stands;
+}
 
 module _ {K : Type 0} (g : Ghosts K) where
+  -- where nothing was done a crash leaves what it would have left before
+  pub leaves_nothing : (before : K) (calls : List Call) (Else : History → Option Book → Type 0) → LeavesOr g before before calls Else
+  leaves_nothing before calls Else h kept faithful clean left may = inl may
+
+  leaves_more : (before after : K) (calls : List Call) (One Else : History → Option Book → Type 0) → ((h : History) (left : Option Book) → One h left → Else h left)
+      → LeavesOr g before after calls One → LeavesOr g before after calls Else
+  leaves_more before after calls One Else more leaves h kept faithful clean left may = elim (leaves h kept faithful clean left may) [
+    | inl was ↦ inl was
+    | inr made ↦ inr (elim made [ inl same ↦ inl same | inr one ↦ inr (more h left one) ])
+  ]
+
+  module _ (old mid new : Option (List ℕ)) (before after : K) (want : Want) (moment : ℕ) (head : HasHead old mid want) where
+    none_told : (course : Course) → LeavesOr g before after [] (λ h left. MayHaveCome mid course × IsLeftBehind h mid new want moment left)
+        → LeavesOr g before after [] (λ h left. MayHaveCome old course × ((want : Want) × IsLeftBy h old new want moment left))
+    none_told course leaves = leaves_more before after [] (λ h left. MayHaveCome mid course × IsLeftBehind h mid new want moment left) (λ h left. MayHaveCome old course × ((want : Want) × IsLeftBy h old new want moment left))
+        (λ h left one. (come_before old mid head.head course head.read one.0, (want, left_by h old mid new want moment left head one.1))) leaves
+
+    -- what a crash leaves behind a head it leaves of the whole
+    pub crash_behind : (course : Course) → HasReadBehind mid new want course → LeavesBehind g mid new want moment before after course → LeavesCourse g old new moment before after course
+    crash_behind Silent read leaves = none_told Silent leaves
+    crash_behind (TurnedAway e) read leaves = none_told (TurnedAway e) leaves
+    crash_behind Short read leaves = none_told Short leaves
+    crash_behind Broken read leaves = none_told Broken leaves
+    crash_behind (Called other body at (Ok reply)) read leaves = leaves
+    crash_behind (Called other body at (Err fault)) read leaves =
+        leaves_more before after (call_wanted other body moment ∷ []) (λ h left. IsLeftBehind h mid new other moment left) (λ h left. IsLeftBy h old new other moment left)
+        (λ h left one. left_by h old mid new other moment left (subst (λ (w : Want). HasHead old mid w) (sym read.0) head) one) leaves
+
+  -- what a crash leaves of a call that was done, where the keeper is open behind it
+  done_leaves : (before after : K) (call : Call) (reply : Answered) → ((k : K) (left : Option Book) → g.is_clean k → g.is_open k → g.may_leave k left → left ≡ Some (g.book k))
+      → Does g before call (Ok reply) after → IsServed g after (Ok reply) → LeavesCall g before call after
+  done_leaves before after call reply settled does served h kept faithful clean left may =
+      let step = does h kept faithful clean in
+      let up = served clean in
+      inr (inr (settled after left clean up may ∙ ap Some (step.kept.stands up) ∙ ap (λ o. Some (book_of (followed h call o))) step.answered))
+
+  -- what it leaves of one that has no body
+  called_leaves : (old : Option (List ℕ)) (before after : K) (want : Want) (moment : ℕ) (outcome : Result Answered Fault) → body_length want ≡ 0 → LeavesCall g before (call_wanted want [] moment) after
+      → LeavesBehind g old old want moment before after (Called want [] moment outcome)
+  called_leaves old before after want moment (Ok reply) none leaves = leaves
+  called_leaves old before after want moment (Err fault) none leaves = λ h kept faithful clean left may. elim (leaves h kept faithful clean left may) [
+    | inl was ↦ inl was
+    | inr made ↦ inr (elim made [
+      | inl same ↦ inl same
+      | inr whole ↦ inr (record { body = []; size = sym none; read = Consumes-nil old; stands = λ holds. whole })
+    ])
+  ]
+
   turned_away : (old new : Option (List ℕ)) (before : K) (moment : ℕ) (e : Refusal) (m : Message) → Received old new (refused e) → m ≡ refusal_message e
       → IsHandledWith g old new before before moment m
-  turned_away old new before moment e m h is = record { course = TurnedAway e; read = h; leaves = λ past kept clean. kept; reply = ap Some (sym is) }
+  turned_away old new before moment e m h is = record { course = TurnedAway e; read = h; leaves = λ past kept clean. kept; crash = λ past kept faithful clean left may. inl may; reply = ap Some (sym is) }
 
   -- what is refused before the archive heard of it
   pub handled_refused : (old new : Option (List ℕ)) (before : K) (moment : ℕ) (e : Refusal) (m : Message) → IsRefused old new e → m ≡ refusal_message e
       → IsHandledWith g old new before before moment m
-  handled_refused old new before moment OutOfMemory m h is = record { course = Short; read = h; leaves = λ past kept clean. kept; reply = ap Some (sym is) }
+  handled_refused old new before moment OutOfMemory m h is = record { course = Short; read = h; leaves = λ past kept clean. kept; crash = λ past kept faithful clean left may. inl may; reply = ap Some (sym is) }
   handled_refused old new before moment BadRequest m h is = turned_away old new before moment BadRequest m h is
   handled_refused old new before moment NotFound m h is = turned_away old new before moment NotFound m h is
   handled_refused old new before moment (MethodNotAllowed a) m h is = turned_away old new before moment (MethodNotAllowed a) m h is
@@ -48,13 +136,16 @@ module _ {K : Type 0} (g : Ghosts K) where
     course = carried.course;
     read = read_behind old mid new want carried.course head carried.read;
     leaves = carried.leaves;
+    crash = crash_behind old mid new before after want moment head carried.course carried.read carried.crash;
     reply = carried.reply;
   }
 
   -- a reader that failed behind a head
-  pub broken_behind : (old mid new : Option (List ℕ)) (before after : K) (want : Want) → HasHead old mid want → ReadsUpTo mid new (body_length want) × IsAsBefore g before after
-      → ReadsBeginning old new × IsAsBefore g before after
-  broken_behind old mid new before after want head cut = (reads_behind old mid new head.head want head.read head.first head.asked cut.0, cut.1)
+  pub broken_behind : (old mid new : Option (List ℕ)) (before after : K) (want : Want) (moment : ℕ) → HasHead old mid want
+      → ReadsUpTo mid new (body_length want) × IsAsBefore g before after × LeavesBehind g mid new want moment before after Broken
+      → ReadsBeginning old new × IsAsBefore g before after × LeavesCourse g old new moment before after Broken
+  broken_behind old mid new before after want moment head cut =
+      (reads_behind old mid new head.head want head.read head.first head.asked cut.0, cut.1, none_told old mid new before after want moment head Broken cut.2)
 
   -- a call that has no body behind its head
   pub without_body : (old : Option (List ℕ)) (before after : K) (want : Want) (moment : ℕ) (m : Message) → body_length want ≡ 0 → IsCalled g before after want [] moment m
@@ -63,66 +154,95 @@ module _ {K : Type 0} (g : Ghosts K) where
     course = Called want [] moment called.outcome;
     read = (refl, sym none, Consumes-nil old);
     leaves = (refl, called.done);
+    crash = called_leaves old before after want moment called.outcome none called.crash;
     reply = ap Some (sym called.message_is);
   }
 
   module _ (old new : Option (List ℕ)) (before after : K) (name : List ℕ) (n moment : ℕ) where
     -- a delivery that was done
-    pub received_done : (arrived : Arrived) (m : Message) → IsReceived g old new name n moment before after (Ok arrived) → m ≡ done_message false (Stored (is_new arrived))
+    pub received_done : (arrived : Arrived) (m : Message) → ((k : K) (left : Option Book) → g.is_clean k → g.is_open k → g.may_leave k left → left ≡ Some (g.book k))
+        → IsServed g after (stored (Ok arrived)) → IsReceived g old new name n moment before after (Ok arrived) → m ≡ done_message false (Stored (is_new arrived))
         → IsCarriedOut g old new before after (delivery name n) moment (Some m)
-    received_done arrived m h told = record {
+    received_done arrived m settled served h told = record {
       course = Called (delivery name n) h.0 moment (Ok (Stored (is_new arrived)));
       read = (refl, h.1.1, h.1.0);
       leaves = (refl, h.2);
+      crash = done_leaves before after (Delivery name h.0 moment) (Stored (is_new arrived)) settled h.2 served;
       reply = ap Some (sym told);
     }
 
+    -- what a crash leaves of one, as of a body behind a head
+    module _ (leaves : LeavesReceived g old new name n moment before after) where
+      left_behind : (calls : List Call) (P : Type 0) → ((body : List ℕ) → Gave old new n body → P)
+          → LeavesOr g before after calls (λ h left. P × IsLeftBehind h old new (delivery name n) moment left)
+      left_behind calls P come h kept faithful clean left may = elim (leaves h kept clean left may) [
+        | inl was ↦ inl was
+        | inr made ↦ inr (elim made [
+          | inl same ↦ inl same
+          | inr it ↦ inr (come it.body it.gave_it, record { body = it.body; size = it.gave_it.1; read = it.gave_it.0; stands = it.stands })
+        ])
+      ]
+
+      left_refused : (body : List ℕ) → LeavesOr g before after (Delivery name body moment ∷ []) (λ h left. IsLeftBehind h old new (delivery name n) moment left)
+      left_refused body h kept faithful clean left may = elim (leaves h kept clean left may) [
+        | inl was ↦ inl was
+        | inr made ↦ inr (elim made [
+          | inl same ↦ inl same
+          | inr it ↦ inr (record { body = it.body; size = it.gave_it.1; read = it.gave_it.0; stands = it.stands })
+        ])
+      ]
+
     -- one whose whole body was read, and that is refused by its name, its body or its moment
-    refused_whole : (e : Fault) → n ≤ 4194304 → IsRefusedFor old new name n moment e × IsAsBefore g before after → IsCarriedOut g old new before after (delivery name n) moment (Some (fault_message e))
-    refused_whole e small h = elim h.0 [
+    refused_whole : (e : Fault) → LeavesReceived g old new name n moment before after → n ≤ 4194304 → IsRefusedFor old new name n moment e × IsAsBefore g before after → IsCarriedOut g old new before after (delivery name n) moment (Some (fault_message e))
+    refused_whole e leaves small h = elim h.0 [
       | inl whole ↦ record {
         course = Called (delivery name n) whole.0 moment (Err e);
         read = (refl, whole.1.1, whole.1.0);
         leaves = (refl, refused_does g old new name n moment before after whole.0 e whole.3 h.1);
+        crash = left_refused leaves whole.0;
         reply = refl;
       }
       | inr large ↦ absurd (omega (arith, large.0, small))
     ]
 
     -- one that was refused
-    pub received_not : (e : Fault) → n ≤ 4194304 → IsReceived g old new name n moment before after (Err e) → IsCarriedOut g old new before after (delivery name n) moment (reception_message e)
-    received_not fault.OutOfMemory small h = record {
+    pub received_not : (e : Fault) → LeavesReceived g old new name n moment before after → n ≤ 4194304 → IsReceived g old new name n moment before after (Err e) → IsCarriedOut g old new before after (delivery name n) moment (reception_message e)
+    received_not fault.OutOfMemory leaves small h = record {
       course = Short;
       read = record { front = h.0.front; read = h.0.read; short = h.0.short };
       leaves = h.1;
+      crash = left_behind leaves [] ⊤ (λ body gave. tt);
       reply = refl;
     }
-    received_not (fault.Keeper own) small h = record {
+    received_not (fault.Keeper own) leaves small h = record {
       course = Short;
       read = record { front = h.2.gave.front; read = h.2.gave.read; short = h.2.gave.short };
       leaves = h.3;
+      crash = left_behind leaves [] ⊤ (λ body gave. tt);
       reply = refl;
     }
-    received_not fault.Ended small h = record {
+    received_not fault.Ended leaves small h = record {
       course = TurnedAway BadRequest;
       read = (h.0.front, h.0.read, h.0.short, h.0.end);
       leaves = h.1;
+      crash = left_behind leaves [] (old ≡ None) (λ body gave. unknown_of old new n body h.0.front gave.0 gave.1 h.0.read h.0.short);
       reply = refl;
     }
-    received_not fault.ReaderFailed small h = record {
+    received_not fault.ReaderFailed leaves small h = record {
       course = Broken;
       read = record { front = h.0.front; read = h.0.read; short = omega (arith, h.0.short) };
       leaves = h.1;
+      crash = left_behind leaves [] (old ≡ None) (λ body gave. unknown_of old new n body h.0.front gave.0 gave.1 h.0.read h.0.short);
       reply = refl;
     }
-    received_not fault.BadName small h = refused_whole fault.BadName small h
-    received_not fault.TooLarge small h = refused_whole fault.TooLarge small h
-    received_not (fault.Record own) small h = refused_whole (fault.Record own) small h
-    received_not fault.Moment small h = refused_whole fault.Moment small h
-    received_not fault.UnknownSuite small h = refused_whole fault.UnknownSuite small h
-    received_not fault.SameSuite small h = refused_whole fault.SameSuite small h
-    received_not fault.NothingToCopy small h = refused_whole fault.NothingToCopy small h
-    received_not fault.NothingToRemove small h = refused_whole fault.NothingToRemove small h
+    received_not fault.BadName leaves small h = refused_whole fault.BadName leaves small h
+    received_not fault.TooLarge leaves small h = refused_whole fault.TooLarge leaves small h
+    received_not (fault.Record own) leaves small h = refused_whole (fault.Record own) leaves small h
+    received_not fault.Moment leaves small h = refused_whole fault.Moment leaves small h
+    received_not fault.UnknownSuite leaves small h = refused_whole fault.UnknownSuite leaves small h
+    received_not fault.SameSuite leaves small h = refused_whole fault.SameSuite leaves small h
+    received_not fault.NothingToCopy leaves small h = refused_whole fault.NothingToCopy leaves small h
+    received_not fault.NothingToRemove leaves small h = refused_whole fault.NothingToRemove leaves small h
 
   module _ (old new : Option (List ℕ)) (before after : K) (want : Want) (moment : ℕ) where
     -- the reply to it
@@ -132,14 +252,15 @@ module _ {K : Type 0} (g : Ghosts K) where
     reply_told (Err e) m is carried = tt
 
     -- where there is none the reader failed
-    broken : (course : Course) → reply_of course ≡ None → HasReadBehind old new want course → Leaves g moment before after course → ReadsUpTo old new (body_length want) × IsAsBefore g before after
-    broken Silent none read leaves = absurd read
-    broken (TurnedAway e) none read leaves = absurd (cc)
-    broken Short none read leaves = absurd (cc)
-    broken Broken none read leaves = (read, leaves)
-    broken (Called other body at outcome) none read leaves = absurd (cc)
+    broken : (course : Course) → reply_of course ≡ None → HasReadBehind old new want course → Leaves g moment before after course → LeavesBehind g old new want moment before after course
+        → ReadsUpTo old new (body_length want) × IsAsBefore g before after × LeavesBehind g old new want moment before after Broken
+    broken Silent none read leaves crash = absurd read
+    broken (TurnedAway e) none read leaves crash = absurd (cc)
+    broken Short none read leaves crash = absurd (cc)
+    broken Broken none read leaves crash = (read, leaves, crash)
+    broken (Called other body at outcome) none read leaves crash = absurd (cc)
 
     pub reply_missing : (r : Result Reply ReaderFailed) (m : Option Message) → MatchResult r (λ reply. Some (message_of reply) ≡ m) (λ _. m ≡ None) → IsCarriedOut g old new before after want moment m
-        → OnErr r (ReadsUpTo old new (body_length want) × IsAsBefore g before after)
+        → OnErr r (ReadsUpTo old new (body_length want) × IsAsBefore g before after × LeavesBehind g old new want moment before after Broken)
     reply_missing (Ok reply) m is carried = tt
-    reply_missing (Err e) m is carried = broken carried.course (subst (λ (o : Option Message). reply_of carried.course ≡ o) is carried.reply) carried.read carried.leaves
+    reply_missing (Err e) m is carried = broken carried.course (subst (λ (o : Option Message). reply_of carried.course ≡ o) is carried.reply) carried.read carried.leaves carried.crash

@@ -1,13 +1,16 @@
 -- Connections, served one after the other.
-use Rattle.std.specs.Prelude.{◌≡◌, ◌≤◌, ℕ, List, [], ◌∷◌, length, All, Option, Some, None, Result, ⊤}
+use Rattle.std.specs.Prelude.{◌≡◌, ◌≤◌, ◌⊎◌, ℕ, List, [], ◌∷◌, length, All, Option, Some, None, Result, Ok, Err, ⊤}
 use Rattle.std.specs.List.{flat_map}
+use Rattle.keep.specs.Book.{Book}
 use Rattle.keep.specs.declared.keeper.Keeper.{Ghosts}
-use Rattle.queue.specs.Answers.{IsFaithful, IsKept, IsRun}
-use Rattle.queue.specs.Histories.{Call, Reply, History}
+use Rattle.queue.specs.Answers.{IsFaithful, IsKept, IsRun, answer}
+use Rattle.queue.specs.Archives.{book_of}
+use Rattle.queue.specs.Histories.{Call, Reply, History, followed}
 use Rattle.queue.specs.Steps.{Lasts}
 use Rattle.queue.specs.declared.fault.Fault.{Fault}
 use Rattle.desk.specs.Calls.{call_wanted}
-use Rattle.desk.specs.Exchange.{Course, Called, HasRead, HasWritten, IsAnswered}
+use Rattle.desk.specs.Exchange.{Course, Called, HasRead, HasWritten, IsAnswered, IsLeftBy, MayHaveCome}
+use Rattle.desk.specs.Want.{Want}
 use Rattle.desk.specs.declared.connection.Connection.{Connection}
 use Rattle.desk.specs.declared.exchange.DeskFault.{DeskFault}
 use Rattle.desk.specs.declared.exchange.Served.{Served}
@@ -88,14 +91,35 @@ AllWent (v ∷ vs) (course ∷ courses) = Went v course × AllWent vs courses
 AllWent [] (course ∷ courses) = ⊥
 AllWent (v ∷ vs) [] = ⊥
 
+-- the history with what the connection asked of the archive behind it
+abbrev pub behind : History → Course → History
+behind h (Called want body moment outcome) = followed h (call_wanted want body moment) outcome
+behind h course = h
+
+-- A crash left the book that the history leaves with the whole call of this connection behind it; of one that was refused, by a body that
+-- the reader gave; and where none is told, the delivery of a body that may have reached the archive.
+abbrev pub IsLeftIn : History → Visit → Course → Option Book → Type 0
+IsLeftIn h v (Called want body at (Ok reply)) left = left ≡ Some (book_of (followed h (call_wanted want body at) (answer h (call_wanted want body at))))
+IsLeftIn h v (Called want body at (Err fault)) left = IsLeftBy h v.gave v.gives want at left
+IsLeftIn h v course left = MayHaveCome v.gave course × ((want : Want) × IsLeftBy h v.gave v.gives want v.moment left)
+
+-- What was left is the book that the history leaves with the calls of the first of these connections behind it, of none, some or all of
+-- them; or that with the whole call of the next.
+abbrev pub IsLeftAmong : History → List Visit → List Course → Option Book → Type 0
+IsLeftAmong h (v ∷ vs) (course ∷ courses) left = (left ≡ Some (book_of h)) ⊎ (IsLeftIn h v course left ⊎ IsLeftAmong (behind h course) vs courses left)
+IsLeftAmong h vs courses left = left ≡ Some (book_of h)
+
 -- The connections were served in order. Each was answered what its course says; and where a history was kept before that
 -- is faithful to what they asked, the outcomes are the answers of its plain archive, each at its place, and what the longer
--- history leaves is kept then.
+-- history leaves is kept then. A crash during these connections, between two of them or behind them leaves what it would have left
+-- before, or what the history leaves with the calls of the first of them behind it, and perhaps the next of these.
 pub record AreServed {K : Type 0} (g : Ghosts K) (before after : K) (vs : List Visit) : Type 0 where
   pub courses : List Course
   pub went : AllWent vs courses
   pub run : (h : History) → IsKept (g.is_open before) (g.book before) h → IsFaithful h (calls_in courses) → g.is_clean after
       → IsRun g.may_fail h (calls_in courses) (outcomes_in courses) (g.is_open after) (g.book after)
+  pub crash : (h : History) → IsKept (g.is_open before) (g.book before) h → IsFaithful h (calls_in courses) → g.is_clean after
+      → (left : Option Book) → g.may_leave after left → g.may_leave before left ⊎ IsLeftAmong h vs courses left
 
 -- At most so many connections were served, each of which is as this says, and what else was asked of the archive was read.
 pub record HasServed {K : Type 0} (g : Ghosts K) (most : ℕ) (Fits : Visit → Type 0) (before after : K) : Type 0 where

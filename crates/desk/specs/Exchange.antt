@@ -1,10 +1,13 @@
 -- One connection: what its bytes ask for, what becomes of the archive, and what is written.
-use Rattle.std.specs.Prelude.{◌≡◌, ◌<◌, ℕ, List, length, Option, Some, None, Result, Ok, Err}
+use Rattle.std.specs.Prelude.{◌≡◌, ◌<◌, ◌⊎◌, ⊤, ℕ, List, [], ◌∷◌, length, Option, Some, None, Result, Ok, Err}
 use Rattle.std.specs.Io.KnownBytes.{Appends, Consumes, IsAtEnd, Keeps}
+use Rattle.keep.specs.Book.{Book}
 use Rattle.keep.specs.declared.keeper.Keeper.{Ghosts}
-use Rattle.queue.specs.Histories.{Reply}
+use Rattle.queue.specs.Answers.{IsFaithful, IsKept, answer}
+use Rattle.queue.specs.Archives.{book_of}
+use Rattle.queue.specs.Histories.{Call, Reply, History, followed}
 use Rattle.queue.specs.Receiving.{IsAsBefore}
-use Rattle.queue.specs.Steps.{Does}
+use Rattle.queue.specs.Steps.{Does, LeavesCall}
 use Rattle.queue.specs.declared.fault.Fault.{Fault}
 use Rattle.desk.specs.Answer.{refusal_message}
 use Rattle.desk.specs.Calls.{call_wanted, outcome_message}
@@ -75,7 +78,47 @@ HasReadBehind old new want (TurnedAway BadRequest) = (front : List ℕ) × Consu
 HasReadBehind old new want (Called other body moment outcome) = (other ≡ want) × (length body ≡ body_length want) × Consumes old new body
 HasReadBehind old new want course = ⊥
 
+-- Whether a body may have reached the archive where no call is told. A reader that tells its bytes, and fails or ends early, has not
+-- given all of one.
+abbrev pub MayHaveCome : Option (List ℕ) → Course → Type 0
+MayHaveCome gave Short = ⊤
+MayHaveCome gave Broken = gave ≡ None
+MayHaveCome gave (TurnedAway BadRequest) = gave ≡ None
+MayHaveCome gave course = ⊥
+
+-- A crash left the book that the history leaves with what is wanted behind it, by a body that the reader gave.
+pub record IsLeftBy (h : History) (gave gives : Option (List ℕ)) (want : Want) (moment : ℕ) (left : Option Book) : Type 0 where
+  pub body : List ℕ
+  pub read : Received gave gives (asks want body)
+  pub stands : IsFaithful h (call_wanted want body moment ∷ []) → left ≡ Some (book_of (followed h (call_wanted want body moment) (answer h (call_wanted want body moment))))
+
+-- the same, of a body behind its head
+pub record IsLeftBehind (h : History) (gave gives : Option (List ℕ)) (want : Want) (moment : ℕ) (left : Option Book) : Type 0 where
+  pub body : List ℕ
+  pub size : length body ≡ body_length want
+  pub read : Consumes gave gives body
+  pub stands : IsFaithful h (call_wanted want body moment ∷ []) → left ≡ Some (book_of (followed h (call_wanted want body moment) (answer h (call_wanted want body moment))))
+
 module _ {K : Type 0} (g : Ghosts K) where
+  -- A crash during these calls leaves what it would have left before, what the history left, or what this says.
+  abbrev pub LeavesOr : K → K → List Call → (History → Option Book → Type 0) → Type 0
+  LeavesOr before after calls Else = (h : History) → IsKept (g.is_open before) (g.book before) h → IsFaithful h calls → g.is_clean after
+      → (left : Option Book) → g.may_leave after left → g.may_leave before left ⊎ ((left ≡ Some (book_of h)) ⊎ Else h left)
+
+  -- What a crash leaves, during the connection or behind it. Of a call that was done: what it leaves of a call. Of one that was refused
+  -- the same, by a body that the reader gave. And where no call is told, what it would have left before, or what the history left; and of
+  -- a body that may have reached the archive perhaps all that its delivery does.
+  abbrev pub LeavesCourse : (gave gives : Option (List ℕ)) → ℕ → K → K → Course → Type 0
+  LeavesCourse gave gives moment before after (Called want body at (Ok reply)) = LeavesCall g before (call_wanted want body moment) after
+  LeavesCourse gave gives moment before after (Called want body at (Err fault)) = LeavesOr before after (call_wanted want body moment ∷ []) (λ h left. IsLeftBy h gave gives want moment left)
+  LeavesCourse gave gives moment before after course = LeavesOr before after [] (λ h left. MayHaveCome gave course × ((want : Want) × IsLeftBy h gave gives want moment left))
+
+  -- the same, behind a head
+  abbrev pub LeavesBehind : (gave gives : Option (List ℕ)) → Want → ℕ → K → K → Course → Type 0
+  LeavesBehind gave gives want moment before after (Called other body at (Ok reply)) = LeavesCall g before (call_wanted other body moment) after
+  LeavesBehind gave gives want moment before after (Called other body at (Err fault)) = LeavesOr before after (call_wanted other body moment ∷ []) (λ h left. IsLeftBehind h gave gives other moment left)
+  LeavesBehind gave gives want moment before after course = LeavesOr before after [] (λ h left. MayHaveCome gave course × IsLeftBehind h gave gives want moment left)
+
   -- Nothing happened where no byte came. What was kept is kept still, unless the archive was called at the moment that is
   -- handed in.
   abbrev pub Leaves : ℕ → K → K → Course → Type 0
@@ -88,6 +131,7 @@ module _ {K : Type 0} (g : Ghosts K) where
     pub course : Course
     pub read : HasRead old new course
     pub leaves : Leaves moment before after course
+    pub crash : LeavesCourse old new moment before after course
     pub reply : reply_of course ≡ Some message
 
   -- the same, where no byte may have come
@@ -99,6 +143,7 @@ module _ {K : Type 0} (g : Ghosts K) where
   pub record IsCalled (before after : K) (want : Want) (body : List ℕ) (moment : ℕ) (message : Message) : Type 0 where
     pub outcome : Result Reply Fault
     pub done : Does g before (call_wanted want body moment) outcome after
+    pub crash : LeavesCall g before (call_wanted want body moment) after
     pub message_is : message ≡ outcome_message want outcome
 
   -- What a head asks for was carried out, or why it was not: what was read behind the head, and the reply, where there is one.
@@ -106,6 +151,7 @@ module _ {K : Type 0} (g : Ghosts K) where
     pub course : Course
     pub read : HasReadBehind old new want course
     pub leaves : Leaves moment before after course
+    pub crash : LeavesBehind old new want moment before after course
     pub reply : reply_of course ≡ message
 
   -- One connection was answered: a reader's bytes before and after, the archive before and after, a writer's bytes before and
@@ -115,4 +161,5 @@ module _ {K : Type 0} (g : Ghosts K) where
     pub course : Course
     pub read : HasRead old new course
     pub leaves : Leaves moment before after course
+    pub crash : LeavesCourse old new moment before after course
     pub written : HasWritten held holds course result

@@ -3,7 +3,7 @@ ghost use Rattle.std.specs.Prelude.{◌≡◌, ◌≤◌, Bool, Some, None, IfOk
 ghost use Rattle.std.specs.Option.{option_map};
 ghost use Rattle.desk.specs.Answer.{text_message};
 ghost use Rattle.desk.specs.Calls.{done_message, fault_message, reception_message};
-ghost use Rattle.desk.specs.Exchange.{Course, HasWritten, IsAnswered, IsCarriedOut, IsHandled, reply_of};
+ghost use Rattle.desk.specs.Exchange.{Broken, Course, HasWritten, IsAnswered, IsCarriedOut, IsHandled, LeavesBehind, LeavesCourse, reply_of};
 ghost use Rattle.desk.specs.Incoming.{ReadsBeginning, ReadsUpTo};
 ghost use Rattle.desk.specs.Message.{message_of};
 ghost use Rattle.desk.specs.Reply.{line};
@@ -141,7 +141,8 @@ fn reply_to<K: Keeper, R: Read>(
     ensures lasts { Lasts K.Keeper archive.old.keeper archive.new.keeper }
     ensures ok { IfOk result (λ reply. IsHandled K.Keeper (R.remaining reader.old) (R.remaining reader.new)
         archive.old.keeper archive.new.keeper moment (option_map message_of reply)) }
-    ensures err { OnErr result (ReadsBeginning (R.remaining reader.old) (R.remaining reader.new) × IsAsBefore K.Keeper archive.old.keeper archive.new.keeper) }
+    ensures err { OnErr result (ReadsBeginning (R.remaining reader.old) (R.remaining reader.new) × IsAsBefore K.Keeper archive.old.keeper archive.new.keeper
+        × LeavesCourse K.Keeper (R.remaining reader.old) (R.remaining reader.new) moment archive.old.keeper archive.new.keeper Broken) }
 {
     match read_request(alloc, desk, reader) {
         Err(fault) => Err(fault),
@@ -168,7 +169,8 @@ fn carry_out<K: Keeper, R: Read>(
     ensures carried_out { IfOk result (λ reply. IsCarriedOut K.Keeper (R.remaining reader.old) (R.remaining reader.new)
         archive.old.keeper archive.new.keeper (want_of wanted.now) moment (Some (message_of reply))) }
     ensures err { OnErr result (ReadsUpTo (R.remaining reader.old) (R.remaining reader.new) (body_length (want_of wanted.now))
-        × IsAsBefore K.Keeper archive.old.keeper archive.new.keeper) }
+        × IsAsBefore K.Keeper archive.old.keeper archive.new.keeper
+        × LeavesBehind K.Keeper (R.remaining reader.old) (R.remaining reader.new) (want_of wanted.now) moment archive.old.keeper archive.new.keeper Broken) }
 {
     match wanted {
         Wanted::Deliver { name, length } => {

@@ -1,15 +1,18 @@
 //! Laws of requests, of the routes and of connections.
 
-ghost use Rattle.std.specs.Prelude.{◌≡◌, ◌≢◌, ℕ, List, [], ◌∷◌, ◌++◌, true, codes, Contains, Ok, Err};
+ghost use Rattle.std.specs.Prelude.{◌≡◌, ◌≢◌, ℕ, List, [], ◌∷◌, ◌++◌, Option, Some, true, codes, Contains, Ok, Err};
 ghost use Rattle.std.specs.List.{list_all};
-ghost use Rattle.keep.specs.Book.{HasItsFiles};
+ghost use Rattle.keep.specs.Book.{Book, HasItsFiles};
 ghost use Rattle.keep.specs.Keeping.{HasBodies, NoCollision};
-ghost use Rattle.queue.specs.Answers.{IsRun};
-ghost use Rattle.queue.specs.Histories.{bodies_of, opened_with};
+ghost use Rattle.queue.specs.Answers.{IsFaithful, IsKept, IsRun, answer};
+ghost use Rattle.queue.specs.Archives.{book_of};
+ghost use Rattle.queue.specs.Histories.{History, bodies_of, followed, opened_with};
 ghost use Rattle.queue.specs.Steps.{Lasts, Reads};
-ghost use Rattle.desk.specs.Connections.{AreServed, Visit, calls_in, outcomes_in};
+ghost use Rattle.desk.specs.Calls.{call_wanted};
+ghost use Rattle.desk.specs.Connections.{AreServed, IsLeftAmong, Visit, calls_in, outcomes_in};
+ghost use Rattle.desk.specs.Exchange.{IsLeftBy};
 ghost use Rattle.desk.specs.Paths.{IsPart, IsPlace, IsRest, Place, is_byte, print_path, route_of, wanted_of, to_incoming, to_copy, to_dists, to_pool, to_promote, to_remove, to_run, to_queue, to_clean, to_verdicts};
-ghost use Rattle.desk.specs.Request.{Asked, IsRequest};
+ghost use Rattle.desk.specs.Request.{Asked, IsRequest, Received, asks};
 ghost use Rattle.desk.specs.Want.{Want, asked_at, beside, route_for};
 ghost use Rattle.desk.specs.declared.head.Refusal.TheVariants.{NotFound};
 ghost use Rattle.desk.specs.declared.routes.Route.TheVariants.{Clean, Copy, Deliver, Dists, Pool, Promote, Remove, Run, Verdicts, Waiting};
@@ -62,4 +65,21 @@ pub fn the_first_finds_the_book<K: Keeper>()
         → HasItsFiles (K.book before) → NoCollision bodies → HasBodies bodies (K.book before)
         → ((body : List ℕ) → Contains (bodies_of (calls_in served.courses)) body → Contains bodies body) → K.is_clean after
         → IsRun K.may_fail (opened_with (K.book before)) (calls_in served.courses) (outcomes_in served.courses) (K.is_open after) (K.book after) }
+{}
+
+/// A stop while connections of an open keeper are served, between two of them or behind them, leaves the book that the history
+/// leaves with the calls of the first of them behind it, none, some or all; or that with the next of them besides. And it does leave
+/// one. Nothing is done: the law is the contract.
+pub fn a_stop_leaves_the_first_connections<K: Keeper>()
+    ensures { (before after : K) (visits : List Visit) (served : AreServed K.Keeper before after visits) (h : History) → K.is_clean before → K.is_open before
+        → IsKept (K.is_open before) (K.book before) h → IsFaithful h (calls_in served.courses) → K.is_clean after → (left : Option Book) → K.may_leave after left
+        → IsLeftAmong h visits served.courses left }
+{}
+
+/// Where a reader tells its bytes, a body by which a crash left a book is the one that they ask for. Nothing is done: the law is
+/// the contract.
+pub fn what_is_left_was_sent()
+    ensures { (h : History) (bytes : List ℕ) (gives : Option (List ℕ)) (want other : Want) (body : List ℕ) (moment : ℕ) (left : Option Book)
+        → Received (Some bytes) gives (asks want body) → IsLeftBy h (Some bytes) gives other moment left → IsFaithful h (call_wanted want body moment ∷ [])
+        → left ≡ Some (book_of (followed h (call_wanted want body moment) (answer h (call_wanted want body moment)))) }
 {}
