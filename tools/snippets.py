@@ -59,7 +59,9 @@ PIECES = {
     "copy": "copy=copies/",
     "look": 'archive verdicts --db "$copy"',
     "pack": "VACUUM",
-    "mend": "DROP TABLE",
+    "notes": "CREATE TABLE notes",
+    "bring over": "sqlite3 old.db .dump",
+    "indexes": "CREATE INDEX arrivals_by_body",
 }
 
 

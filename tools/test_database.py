@@ -143,7 +143,7 @@ class Database(Lines):
         for statement in (
             "UPDATE dates SET moment = moment + 1",
             "UPDATE texts SET body = x'0a' WHERE path LIKE '%/Packages'",
-            "UPDATE meta SET version = 2",
+            "UPDATE meta SET configuration = x''",
             "DELETE FROM files",
         ):
             with self.subTest(statement):

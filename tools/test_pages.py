@@ -110,6 +110,32 @@ class Pages(unittest.TestCase):
         more = page.replace(row, f"{row}\n{row.replace('vers', 'nothing', 1)}")
         self.assertIn(f"{path}: there is no crate nothing", self.other(pages.check_crates, path, more))
 
+    def test_a_layout_that_no_row_opens_is_refused(self):
+        path = "docs/USING.md"
+        page, row = self.repository.pages[path], self.row(path, "| 3 |")
+        self.assertEqual(self.other(pages.check_layouts, path, without(page, row)), {f"{path}: Upgrading does not say what opens layout 3"})
+        self.assertEqual(len(self.other(pages.check_layouts, path, page.replace(row, "| 3 | |"))), 1)
+        more = self.other(pages.check_layouts, path, page.replace(row, f"{row}\n{row.replace('3', '12345', 1)}"))
+        self.assertEqual(more, {f"{path}: Upgrading has a row for layout 12345, and there is no tools/archives/12345.db"})
+        kept = self.repository.files
+        self.repository.files = [*kept, "tools/archives/12345.db"]
+        found = list(pages.check_layouts(self.repository))
+        self.repository.files = kept
+        self.assertEqual(found, [f"{path}: Upgrading does not say what opens layout 12345"])
+
+    def test_a_layout_that_the_program_makes_is_wanted(self):
+        path = "crates/tables/src/meta.rt"
+        kept = self.repository.texts[path]
+        self.repository.texts[path] = kept.replace("VERSION: u64 = 3;", "VERSION: u64 = 12345;")
+        found = list(pages.check_layouts(self.repository))
+        self.repository.texts[path] = kept
+        self.assertEqual(found, ["docs/USING.md: Upgrading does not say what opens layout 12345"])
+
+    def test_a_version_without_its_section_is_refused(self):
+        page = self.repository.pages["CHANGELOG.md"]
+        for text, count in ((f"# What differs\n\n## 12.3.45\n\n{page}", 1), ("# What differs\n", 1), (f"{page}\n## 0.0.1\n", 0)):
+            self.assertEqual(len(self.other(pages.check_version, "CHANGELOG.md", text)), count, text)
+
     def test_a_diary_is_refused(self):
         for words in (
             "The state before this one was well.",
@@ -120,6 +146,7 @@ class Pages(unittest.TestCase):
             "It takes SMALL_KIB.",
         ):
             self.assertEqual(len(self.other(pages.check_diary, "docs/OPEN.md", words)), 1, words)
+            self.assertEqual(self.other(pages.check_diary, "CHANGELOG.md", words), set(), words)
 
     def test_a_comment_is_refused(self):
         for text, count in (("A line.\n<!-- a note\nof two lines -->\n", 1), ("a <! b, c -- d and e --> f", 0)):

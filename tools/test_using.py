@@ -33,7 +33,7 @@ class Using(snippets.Case):
                 self.assertTrue(snippet(name))
 
     def test_each_name_is_one_that_a_test_asks_for(self):
-        tests = "".join(it.read_text(encoding="utf-8") for it in HERE.glob("test_using*.py"))
+        tests = "".join(it.read_text(encoding="utf-8") for it in HERE.glob("test_*.py"))
         self.assertEqual(set(snippets.PIECES) - set(re.findall(r'snippet\("([^"]+)"', tests)), set())
 
     @unittest.skipUnless(shutil.which("systemd-analyze"), "there is no systemd-analyze")

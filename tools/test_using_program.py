@@ -447,11 +447,19 @@ class Copies(Case):
         self.shell("archive show --db box.db pool/main/h/hello/hello_1.0-1_amd64.deb | cmp - ready/hello_1.0-1_amd64.deb")
 
     @needs("sqlite3")
-    def test_what_analyze_added_is_taken_out(self):
-        self.shell("sqlite3 box.db ANALYZE")
-        self.assertEqual(self.fails("archive verdicts --db box.db"), (1, "archive: K4\n"))
-        self.shell(snippet("mend"))
+    def test_what_stands_beside_is_passed_over(self):
+        """Until it stands on a table of the archive, or refers to one."""
+        self.shell(snippet("notes") + "sqlite3 box.db ANALYZE")
         self.assertEqual(self.shell("archive verdicts --db box.db"), "")
+        for added, dropped in (
+            ("CREATE INDEX moments ON arrivals (moment)", "DROP INDEX moments"),
+            ("CREATE TABLE marks (body INTEGER REFERENCES bodies (id))", "DROP TABLE marks"),
+        ):
+            self.shell(f"sqlite3 box.db '{added}'")
+            self.assertEqual(self.fails("archive verdicts --db box.db"), (1, "archive: K4\n"))
+            self.shell(f"sqlite3 box.db '{dropped}'")
+            self.assertEqual(self.shell("archive verdicts --db box.db"), "")
+        self.assertEqual(self.shell("sqlite3 box.db 'SELECT version FROM meta'"), "3\n")
 
 
 class Refusals(Case):

@@ -1,0 +1,159 @@
+#!/usr/bin/env python3
+"""Tests of archives that other programs made. The file tools/archives/N.db is an archive of layout N, which a released program made, and
+N.expected tells what it shows: behind each line `$ WORDS`, with the words of a command without its database, what that prints, with a line
+`(no newline)` behind a text without an end. The file of the layout that tables::meta::VERSION names has to be there; whoever changes the
+layout raises the number and adds a file. Then the line of 'Upgrading' in docs/USING.md is run. The program is that of test_database.py."""
+import os
+import pathlib
+import re
+import shutil
+import sqlite3
+import subprocess
+import sys
+import tempfile
+import unittest
+
+sys.dont_write_bytecode = True
+import uploads
+from snippets import needs, snippet
+from test_database import DATA, NAMES, PROGRAM, ROOT, Lines
+from test_lines import ended
+
+ARCHIVES = pathlib.Path(ROOT, "tools/archives")
+WORLD = uploads.Package("world")
+SHOWN = ("dists/box/Release", "dists/box/main/binary-amd64/Packages", "dists/box/main/source/Sources", "pool/main/h/hello/hello_1.0-1_amd64.deb")
+
+# The keys of `arrivals` and `files`, and those that the line of the page takes for other ones.
+KEYS = {
+    "UNIQUE (name, body)": "UNIQUE (body, name)",
+    "files (path TEXT NOT NULL PRIMARY KEY, body INTEGER NOT NULL REFERENCES bodies (id))": "files (path TEXT NOT NULL PRIMARY KEY, body INTEGER NOT NULL REFERENCES bodies (id), UNIQUE (body, path))",
+}
+
+
+def layout():
+    """The layout that this program's archives have."""
+    source = pathlib.Path(ROOT, "crates/tables/src/meta.rt").read_text(encoding="utf-8")
+    [number] = re.findall(r"^pub const VERSION: u64 = (\d+);$", source, re.M)
+    return int(number)
+
+
+def expected(number):
+    """The words of each command on the archive of a layout, in their order, with what it prints."""
+    text = (ARCHIVES / f"{number}.expected").read_text(encoding="utf-8")
+    front, *pieces = re.split(r"^\$ (.*)\n", text, flags=re.M)
+    if front or not pieces:
+        raise ValueError(f"{number}.expected does not begin with a command")
+    return [(words.split(), printed) for words, printed in zip(pieces[::2], pieces[1::2])]
+
+
+def rows_of(db, query):
+    held = sqlite3.connect(f"file:{db}?mode=ro&immutable=1", uri=True)
+    try:
+        return held.execute(query).fetchall()
+    finally:
+        held.close()
+
+
+class Layouts(unittest.TestCase):
+    """What needs no program."""
+
+    def test_the_present_layout_has_a_file(self):
+        for name in (f"{layout()}.db", f"{layout()}.expected"):
+            self.assertTrue((ARCHIVES / name).is_file(), f"there is no tools/archives/{name}: a layout that is released has a file")
+
+    def test_each_file_has_what_it_shows(self):
+        names = {it.name for it in ARCHIVES.iterdir()}
+        numbers = {name.removesuffix(".db") for name in names if name.endswith(".db")}
+        self.assertEqual(names, {f"{number}.{kind}" for number in numbers for kind in ("db", "expected")})
+        for number in numbers:
+            self.assertTrue(expected(number), number)
+
+    @unittest.skipIf(sqlite3.sqlite_version_info < (3, 37), "SQLite has no STRICT tables")
+    def test_each_file_is_of_its_layout(self):
+        for path in ARCHIVES.glob("*.db"):
+            with self.subTest(path.name):
+                self.assertEqual(rows_of(path, "SELECT version FROM meta"), [(int(path.stem),)])
+
+
+@unittest.skipUnless(os.path.exists(PROGRAM), f"there is no program {PROGRAM}")
+class Copies(Lines):
+    """The archive of the present layout, which an earlier program made."""
+
+    def setUp(self):
+        room = tempfile.TemporaryDirectory()
+        self.addCleanup(room.cleanup)
+        self.folder, self.db = room.name, f"{room.name}/box.db"
+        shutil.copyfile(ARCHIVES / f"{layout()}.db", self.db)
+
+    def printed(self, words):
+        """What a command of these words prints, which ends well and says nothing on standard error."""
+        word, *rest = words
+        ran = subprocess.run([PROGRAM, word, "--db", self.db, *rest], cwd=ROOT, capture_output=True, check=False, timeout=120)
+        self.assertEqual((ran.returncode, ran.stderr), (0, b""), words)
+        return ran.stdout
+
+    def test_it_shows_what_it_showed(self):
+        for words, printed in expected(layout()):
+            with self.subTest(" ".join(words)):
+                self.assertEqual(ended(self.printed(words)).decode(), printed)
+
+    def test_it_takes_an_upload(self):
+        """One that is whole is judged, and shown behind what was there."""
+        self.printed(["put", "--at", "1467436851", *uploads.write(f"{self.folder}/world", uploads.upload_of(WORLD))])
+        self.assertEqual(self.printed(["run", "--at", "1467436851"]), b"accepted world_1.0-1_amd64.changes\n")
+        text = self.printed(["show", "dists/box/main/binary-amd64/Packages"])
+        self.assertEqual(re.findall(rb"^Package: (.*)$", text, re.M), [b"hello", b"world"])
+        self.assertEqual(self.printed(["show", "pool/main/w/world/world_1.0-1_amd64.deb"]), uploads.deb_of(WORLD))
+
+
+def former(sql):
+    """The text of a table with the keys that the line of the page takes for other ones."""
+    for present, past in KEYS.items():
+        sql = sql.replace(present, past)
+    return sql
+
+
+@unittest.skipIf(sqlite3.sqlite_version_info < (3, 37), "SQLite has no STRICT tables")
+class Upgrading(Lines):
+    """An archive of other keys, which a program before the first release made."""
+
+    def make_former(self, db):
+        """Makes a database `old.db` beside an archive, with its rows under the former keys and without its indexes of bodies."""
+        held = sqlite3.connect(f"{os.path.dirname(db)}/old.db")
+        self.addCleanup(held.close)
+        held.execute("ATTACH ? AS present", (db,))
+        tables = held.execute("SELECT name, sql FROM present.sqlite_master WHERE type = 'table' ORDER BY rowid").fetchall()
+        self.assertEqual(len([name for name, sql in tables if former(sql) != sql]), len(KEYS))
+        for name, sql in tables:
+            held.execute(former(sql))
+            held.execute(f"INSERT INTO {name} SELECT * FROM present.{name} ORDER BY rowid")
+        held.commit()
+        held.close()
+
+    def shell(self, folder, text):
+        """Runs a text by a shell in a folder, which ends well and says nothing."""
+        ran = subprocess.run(["sh", "-ec", text], cwd=folder, capture_output=True, text=True, check=False, timeout=60)
+        self.assertEqual((ran.returncode, ran.stdout, ran.stderr), (0, "", ""))
+
+    @needs("sqlite3")
+    def test_the_line_brings_it_over(self):
+        db = self.accepted()
+        folder = os.path.dirname(db)
+        old, new = f"{folder}/old.db", f"{folder}/new.db"
+        self.make_former(db)
+        self.assertEqual(self.line(1, "verdicts", old), "archive: K4\n")
+        self.shell(folder, snippet("bring over"))
+        for path in SHOWN:
+            self.assertEqual(self.line(0, "show", new, path), self.line(0, "show", db, path))
+        self.assertEqual(self.line(0, "verdicts", new), f"accepted {NAMES[0]}\n")
+        self.assertEqual(self.line(0, "waiting", new, "--at", "0"), "")
+        self.assertEqual(self.line(0, "put", new, "--at", "0", f"{DATA}/{NAMES[1]}"), f"again {NAMES[1]}\n")
+        self.assertEqual(self.line(0, "remove", new, "--at", "0", "box", "hello"), "1\n")
+        self.assertEqual(rows_of(new, "SELECT name FROM sqlite_master WHERE name LIKE '%_by_body'"), [])
+        self.shell(folder, snippet("indexes"))
+        self.assertEqual(len(rows_of(new, "SELECT name FROM sqlite_master WHERE name LIKE '%_by_body'")), 2)
+        self.assertEqual(self.line(0, "verdicts", new), f"accepted {NAMES[0]}\n")
+
+
+if __name__ == "__main__":
+    unittest.main()
