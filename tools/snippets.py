@@ -61,7 +61,7 @@ PIECES = {
     "pack": "VACUUM",
     "notes": "CREATE TABLE notes",
     "bring over": "sqlite3 old.db .dump",
-    "indexes": "CREATE INDEX arrivals_by_body",
+    "indexes": "arrivals_by_body ON arrivals (body)",
 }
 
 
