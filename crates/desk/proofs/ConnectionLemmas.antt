@@ -1,37 +1,25 @@
 -- Connections that were served, and others behind them.
-use Rattle.std.proofs.Common.{◌≡◌, ◌≤◌, ◌+◌, ℕ, List, [], ◌∷◌, ◌++◌, Option, Some, Result, Ok, Err, refl, sym, ap, subst, ◌⊎◌, inl, inr, ◌∙◌, append_assoc, append-nil, length-append, arith}
+use Rattle.std.proofs.Common.{◌≡◌, ◌≤◌, ◌+◌, ℕ, List, [], ◌∷◌, ◌++◌, Option, Some, Result, Ok, Err, refl, sym, ap, subst, ◌⊎◌, inl, inr, ◌∙◌, append-nil, length-append, arith}
 use Rattle.std.proofs.lemmas.Grind.{flat_map-append}
-use Rattle.std.proofs.lemmas.List.Elements.{All-append, All-nil, All-weaker, Contains-append_left}
+use Rattle.std.proofs.lemmas.List.Elements.{All-append, All-nil, All-weaker}
 use Rattle.std.specs.Prelude.{All, Contains, length}
 use Rattle.keep.specs.Book.{Book, HasItsFiles}
 use Rattle.keep.specs.Keeping.{HasBodies, NoCollision}
 use Rattle.keep.specs.declared.keeper.Keeper.{Ghosts}
 use Rattle.queue.specs.Answers.{IsFaithful, IsKept, IsRun}
 use Rattle.queue.specs.Archives.{Stands, book_of}
-use Rattle.queue.specs.Histories.{Call, Reply, History, followed, bodies_of, bodies_of_call, calls_of, opened_with}
+use Rattle.queue.specs.Histories.{Call, Reply, History, followed, bodies_of, opened_with}
 use Rattle.queue.specs.Steps.{Does, Lasts, Reads}
 use Rattle.queue.specs.declared.fault.Fault.{Fault}
 use Rattle.queue.proofs.Kept.{stands_kept}
 use Rattle.queue.proofs.ReadLemmas.{lasts_itself, lasts_more, reads_none}
 use Rattle.queue.proofs.Reopening.{opens_itself}
-use Rattle.queue.proofs.Runs.{IsFaithful-rest}
+use Rattle.queue.proofs.Runs.{IsFaithful-front, IsFaithful-rest, IsRun-append}
 use Rattle.desk.specs.Calls.{call_wanted}
 use Rattle.desk.specs.Connections.{Visit, visit, visits, AllWent, AreServed, HasServed, IsLeftAmong, IsLeftIn, IsServed, IsAt, behind, calls_in, calls_of_course, outcomes_in, outcomes_of_course}
 use Rattle.desk.specs.Exchange.{Course, Silent, TurnedAway, Short, Broken, Called, Leaves, LeavesCourse}
 use Rattle.desk.specs.Want.{Want}
 use Rattle.desk.specs.declared.connection.Connection.{Connection}
-
--- what is faithful with calls to come is so without the last of them
-pub IsFaithful-front : (h : History) (calls more : List Call) → IsFaithful h (calls ++ more) → IsFaithful h calls
-IsFaithful-front h calls more faithful =
-    let regrouped : bodies_of (calls_of h.steps ++ (calls ++ more)) ≡ bodies_of (calls_of h.steps ++ calls) ++ bodies_of more =
-    ap bodies_of (sym (append_assoc (calls_of h.steps) calls more)) ∙ flat_map-append bodies_of_call (calls_of h.steps ++ calls) more in
-    record {
-      bodies = faithful.bodies;
-      apart = faithful.apart;
-      opened = faithful.opened;
-      delivered = λ body there. faithful.delivered body (subst (λ all. Contains all body) (sym regrouped) (Contains-append_left (bodies_of (calls_of h.steps ++ calls)) (bodies_of more) body there));
-    }
 
 -- courses of connections, and of others behind them
 AllWent-append : (vs : List Visit) (courses : List Course) (ws : List Visit) (others : List Course) → AllWent vs courses → AllWent ws others → AllWent (vs ++ ws) (courses ++ others)
@@ -49,17 +37,6 @@ module _ {R W : Type 0} (remaining : R → Option (List ℕ)) (contents : W → 
   visits-snoc (o ∷ os) [] old new same = absurd (omega (arith, same))
 
 module _ {K : Type 0} (g : Ghosts K) where
-  -- a run, and calls behind it that are a run behind each history whose book is then kept
-  IsRun-append : (h : History) (calls : List Call) (outcomes : List (Result Reply Fault)) (more : List Call) (others : List (Result Reply Fault)) (mid after : K)
-      → IsRun g.may_fail h calls outcomes (g.is_open mid) (g.book mid)
-      → ((later : History) → IsKept (g.is_open mid) (g.book mid) later → IsFaithful later more → IsRun g.may_fail later more others (g.is_open after) (g.book after))
-      → IsFaithful h (calls ++ more) → IsRun g.may_fail h (calls ++ more) (outcomes ++ others) (g.is_open after) (g.book after)
-  IsRun-append h [] [] more others mid after kept runs faithful = runs h kept faithful
-  IsRun-append h (c ∷ cs) (o ∷ os) more others mid after (answered, run) runs faithful =
-      (answered, IsRun-append (followed h c o) cs os more others mid after run runs (IsFaithful-rest h c o (cs ++ more) faithful))
-  IsRun-append h [] (o ∷ os) more others mid after run runs faithful = absurd run
-  IsRun-append h (c ∷ cs) [] more others mid after run runs faithful = absurd run
-
   pub at_of : (moment : ℕ) (before after : K) (course : Course) → Leaves g moment before after course → IsAt moment course
   at_of moment before after Silent leaves = tt
   at_of moment before after (TurnedAway e) leaves = tt
@@ -181,7 +158,7 @@ module _ {K : Type 0} (g : Ghosts K) where
             let run = first.run h kept (IsFaithful-front h (calls_in cs) (calls_in ds) parts) (clean_before clean) in
             subst (λ (xs : List Call). IsRun g.may_fail h xs (outcomes_in (cs ++ ds)) (g.is_open after) (g.book after)) (sym calls)
             (subst (λ (os : List (Result Reply Fault)). IsRun g.may_fail h (calls_in cs ++ calls_in ds) os (g.is_open after) (g.book after)) (sym outcomes)
-            (IsRun-append h (calls_in cs) (outcomes_in cs) (calls_in ds) (outcomes_in ds) mid after run (λ later stays holds. rest.run later stays holds clean) parts));
+            (IsRun-append g h (calls_in cs) (calls_in ds) (outcomes_in cs) (outcomes_in ds) mid after run (λ later stays holds. rest.run later stays holds clean) parts));
         crash = λ h kept faithful clean left may.
             let parts = subst (λ (xs : List Call). IsFaithful h xs) calls faithful in
             let front = IsFaithful-front h (calls_in cs) (calls_in ds) parts in
