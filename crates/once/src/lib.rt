@@ -1,6 +1,7 @@
 //! The promise over a database: an archive is made in one, or the one that it keeps is opened, and commands follow, also behind a stop.
 #![tactic(auto)]
 
+mod commands;
 mod created;
 mod reopened;
 mod stop;

@@ -16,6 +16,7 @@ ghost use Rattle.queue.specs.Commands.{call_of, kind_of_command, kind_of_outcome
 ghost use Rattle.queue.specs.Histories.{bodies_of, opened_with};
 ghost use Rattle.queue.specs.Steps.{IsLeftAlong, IsServedLast};
 
+use crate::commands::make_commands;
 use keep::{KeepFault, Keeper};
 use keep_tables::{InOrder, TableKeeper};
 use queue::{Archive, Command, Outcome, a_stop_leaves_a_part_of_a_list};
@@ -59,9 +60,8 @@ pub fn drive_opened<S: InOrder + Drop>(
     a_stop_leaves_a_part_of_a_list::<TableKeeper<S>>();
     match TableKeeper::open(alloc, connection) {
         Ok(keeper) => {
-            let mut archive = Archive::new(alloc, keeper);
-            let outcomes = archive.drive(alloc, commands);
-            Ok((archive, outcomes))
+            let archive = Archive::new(alloc, keeper);
+            Ok(make_commands(alloc, archive, commands))
         }
         Err(refused) => Err(refused),
     }
