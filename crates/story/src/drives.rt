@@ -63,7 +63,7 @@ fn look_up(alloc: Global, words: &[Vec<u8>]) -> Result<Command, Unread> {
 }
 
 /// A command: its words as a row has them, but for `fetch` in the place of `show`.
-fn command_of(alloc: Global, words: &[Vec<u8>]) -> Result<Command, Unread> {
+pub fn command_of(alloc: Global, words: &[Vec<u8>]) -> Result<Command, Unread> {
     let Some((verb, words)) = words.split_first() else {
         return Err(Unread::BadWords);
     };
@@ -88,7 +88,7 @@ fn command_of(alloc: Global, words: &[Vec<u8>]) -> Result<Command, Unread> {
 }
 
 /// Adds the commands of a list, with the word `;` between them.
-fn add_commands(
+pub fn add_commands(
     alloc: Global,
     commands: &mut Vec<Command>,
     words: &[Vec<u8>],
@@ -103,7 +103,7 @@ fn add_commands(
 }
 
 /// What a command answered.
-fn outcome_text(alloc: Global, outcome: Outcome) -> Result<Vec<u8>, Unread> {
+pub fn outcome_text(alloc: Global, outcome: Outcome) -> Result<Vec<u8>, Unread> {
     match outcome {
         Outcome::Deliver(done) => arrived_text(alloc, done),
         Outcome::Run(done) | Outcome::Waiting(done) | Outcome::Verdicts(done) => report_text(
@@ -132,17 +132,13 @@ fn add_outcome(alloc: Global, text: &mut Vec<u8>, outcome: Outcome) -> Result<()
     add_answer(text, &answer)
 }
 
-/// Adds what each command answers.
-fn add_outcomes<K: Keeper>(
-    alloc: Global,
-    archive: &mut Archive<K>,
-    text: &mut Vec<u8>,
-    commands: &[Command],
-) -> Result<(), Unread> {
-    for outcome in archive.drive(alloc, commands)? {
-        add_outcome(alloc, text, outcome)?;
+/// What each command of a list answered, each ended by a newline.
+pub fn outcomes_text(alloc: Global, outcomes: Vec<Outcome>) -> Result<Vec<u8>, Unread> {
+    let mut text = Vec::new(alloc);
+    for outcome in outcomes {
+        add_outcome(alloc, &mut text, outcome)?;
     }
-    Ok(())
+    Ok(text)
 }
 
 /// `drive COMMAND ; COMMAND ..`: what each command of the list answers, one behind the other, each ended by a newline.
@@ -153,7 +149,5 @@ pub fn drive<K: Keeper>(
 ) -> Result<Vec<u8>, Unread> {
     let mut commands = Vec::new(alloc);
     add_commands(alloc, &mut commands, words)?;
-    let mut text = Vec::new(alloc);
-    add_outcomes(alloc, archive, &mut text, &commands)?;
-    Ok(text)
+    outcomes_text(alloc, archive.drive(alloc, &commands)?)
 }

@@ -13,6 +13,9 @@ use std::alloc::Global;
 /// How many bytes come a read.
 const MOST: usize = 7;
 
+/// When requests come that are cut, or whose reply can't be written. Those before them come at 0.
+const LATER: u64 = 86_400;
+
 /// The reply to each request that ends early.
 const BAD_REQUEST: &[u8] =
     b"HTTP/1.1 400 Bad Request\r\nContent-Type: text/plain; charset=utf-8\r\nContent-Length: 16\r\nConnection: close\r\n\r\n400 Bad Request\n";
@@ -44,7 +47,7 @@ fn beside_end<K: Keeper>(
         most: MOST,
         fails: false,
     };
-    let reply = reply_to(alloc, archive, &mut reader, 0)?;
+    let reply = reply_to(alloc, archive, &mut reader, LATER)?;
     if reply.as_slice() == wanted && reader.bytes.is_empty() {
         return Ok(None);
     }
@@ -63,7 +66,7 @@ fn beside_failure<K: Keeper>(
         fails: true,
     };
     let mut writer = Vec::new(alloc);
-    let served = answer(alloc, archive, &mut reader, &mut writer, 0);
+    let served = answer(alloc, archive, &mut reader, &mut writer, LATER);
     if served == Err(DeskFault::ReaderFailed) && writer.is_empty() {
         return None;
     }
@@ -94,10 +97,11 @@ pub fn cut<K: Keeper>(
     said(alloc, "nothing delivered")
 }
 
-/// A request that is made twice of a new archive, and both replies.
+/// A request that is made twice of a new archive, behind others, and both replies.
 #[derive(Drop)]
 struct Twice<'a> {
     config: &'a [u8],
+    before: &'a [Vec<u8>],
     bytes: &'a [u8],
     first: Vec<u8>,
     second: Vec<u8>,
@@ -114,31 +118,50 @@ fn fresh<K: Keeper, M: Makes<K>>(alloc: Global, config: &[u8]) -> Result<Archive
     }
 }
 
+/// A new archive of a configuration, of which requests were made.
+fn fresh_behind<K: Keeper + Drop, M: Makes<K>>(
+    alloc: Global,
+    config: &[u8],
+    before: &[Vec<u8>],
+) -> Result<Archive<K>, Unread> {
+    let mut archive = fresh::<K, M>(alloc, config)?;
+    for bytes in before {
+        let _reply = whole_reply(alloc, &mut archive, bytes.as_slice(), 0)?;
+    }
+    Ok(archive)
+}
+
 /// The reply to the whole request.
 fn whole_reply<K: Keeper>(
     alloc: Global,
     archive: &mut Archive<K>,
     bytes: &[u8],
+    moment: u64,
 ) -> Result<Vec<u8>, Unread> {
     let mut reader = Pieces {
         bytes,
         most: MOST,
         fails: false,
     };
-    reply_to(alloc, archive, &mut reader, 0)
+    reply_to(alloc, archive, &mut reader, moment)
 }
 
 /// The replies of a new archive to a request that is made twice.
 fn asked_twice<'a, K: Keeper + Drop, M: Makes<K>>(
     alloc: Global,
     config: &'a [u8],
-    bytes: &'a [u8],
+    words: &'a [Vec<u8>],
 ) -> Result<Twice<'a>, Unread> {
-    let mut archive = fresh::<K, M>(alloc, config)?;
-    let first = whole_reply(alloc, &mut archive, bytes)?;
-    let second = whole_reply(alloc, &mut archive, bytes)?;
+    let Some((bytes, before)) = words.split_last() else {
+        return Err(Unread::BadWords);
+    };
+    let bytes = bytes.as_slice();
+    let mut archive = fresh_behind::<K, M>(alloc, config, before)?;
+    let first = whole_reply(alloc, &mut archive, bytes, LATER)?;
+    let second = whole_reply(alloc, &mut archive, bytes, LATER)?;
     Ok(Twice {
         config,
+        before,
         bytes,
         first,
         second,
@@ -160,7 +183,7 @@ fn beside_full<K: Keeper>(
         room,
         full,
     };
-    let served = answer(alloc, archive, &mut reader, &mut writer, 0);
+    let served = answer(alloc, archive, &mut reader, &mut writer, LATER);
     let front = twice.first.as_slice().get(..room);
     if served == Err(DeskFault::WriterFailed) && front == Some(writer.taken.as_slice()) {
         return None;
@@ -175,11 +198,11 @@ fn beside_full_of<K: Keeper + Drop, M: Makes<K>>(
     room: usize,
     full: Full,
 ) -> Result<Option<Vec<u8>>, Unread> {
-    let mut archive = fresh::<K, M>(alloc, twice.config)?;
+    let mut archive = fresh_behind::<K, M>(alloc, twice.config, twice.before)?;
     if let Some(written) = beside_full(alloc, &mut archive, twice, room, full) {
         return Ok(Some(written));
     }
-    let second = whole_reply(alloc, &mut archive, twice.bytes)?;
+    let second = whole_reply(alloc, &mut archive, twice.bytes, LATER)?;
     if second.as_slice() == twice.second.as_slice() {
         return Ok(None);
     }
@@ -216,15 +239,15 @@ fn told_each<K: Keeper + Drop, M: Makes<K>>(
     told_full::<K, M>(alloc, twice, length, Full::FailsToFlush)
 }
 
-/// `writer-fails BYTES`: `done`, where a new archive whose reply can't be written from any of its bytes on, or can't be flushed, tells
-/// this as H2, writes the bytes before, and answers the same request then as if the reply had been written; else where it was
-/// otherwise.
+/// `writer-fails [REQUEST..] REQUEST`: `done`, where a new archive, behind the first requests, whose reply to the last can't be written from
+/// any of its bytes on, or can't be flushed, tells this as H2, writes the bytes before, and answers the same request then as if the
+/// reply had been written; else where it was otherwise.
 pub fn writer_fails<K: Keeper + Drop, M: Makes<K>>(
     alloc: Global,
     config: &[u8],
     words: &[Vec<u8>],
 ) -> Result<Vec<u8>, Unread> {
-    let twice = asked_twice::<K, M>(alloc, config, only_word(words)?)?;
+    let twice = asked_twice::<K, M>(alloc, config, words)?;
     match told_each::<K, M>(alloc, &twice)? {
         Some(found) => Ok(found),
         None => said(alloc, "done"),

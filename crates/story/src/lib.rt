@@ -2,6 +2,7 @@
 //! keeper.
 #![tactic(auto)]
 
+mod calls;
 mod delivery;
 mod drives;
 mod failures;
@@ -16,5 +17,6 @@ mod requests;
 mod steps;
 mod telling;
 
+pub use calls::{Answered, Call};
 pub use keepers::Makes;
 pub use telling::{Story, asked};

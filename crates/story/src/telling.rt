@@ -6,7 +6,7 @@ use crate::keepers::Makes;
 use crate::numbers::numbers;
 use crate::outcomes::printed;
 use crate::reading::{status, wanted};
-use crate::receptions::{receive, receive_fails};
+use crate::receptions::{receive, receive_fails, receive_fails_each};
 use crate::requests::{left, request};
 use crate::steps::{
     clean, copy, deliver, has, moment_of, promote, remove, run, show, verdicts, waiting,
@@ -39,6 +39,7 @@ fn asked_by_reader<K: Keeper>(
         "reader-fails" => cut(alloc, archive, words, true),
         "receive" => receive(alloc, archive, words),
         "receive-fails" => receive_fails(alloc, archive, words),
+        "receive-fails-each" => receive_fails_each(alloc, archive, words),
         _ => Err(Unread::NoSuchQuestion),
     }
 }
@@ -154,20 +155,40 @@ fn tell<K: Keeper + Drop, M: Makes<K>>(
     }
 }
 
-impl<K: Keeper + Drop, M: Makes<K>, R: AllocGlobal> Answers<R> for Story<K, M> {
-    fn fresh(_rt: &R) -> Story<K, M> {
+impl<K: Keeper + Drop, M: Makes<K>> Story<K, M> {
+    /// A story in which no archive is there yet.
+    pub fn new() -> Story<K, M> {
         Story {
             archive: None,
             makes: PhantomData,
         }
     }
 
-    fn answer(&mut self, rt: &R, words: &[Vec<u8>]) -> Result<Vec<u8>, Unread> {
+    /// Takes the archive out that is there, if any.
+    pub fn take(&mut self) -> Option<Archive<K>> {
+        self.archive.take()
+    }
+
+    /// Has this archive from here on.
+    pub fn put(&mut self, archive: Archive<K>) {
+        self.archive = Some(archive);
+    }
+
+    /// What is answered to the words of a row.
+    pub fn answered(&mut self, alloc: Global, words: &[Vec<u8>]) -> Result<Vec<u8>, Unread> {
         match words {
-            [verb, words @ ..] => {
-                tell::<K, M>(rt.alloc(), &mut self.archive, text_of(verb)?, words)
-            }
+            [verb, words @ ..] => tell::<K, M>(alloc, &mut self.archive, text_of(verb)?, words),
             [] => Err(Unread::BadWords),
         }
+    }
+}
+
+impl<K: Keeper + Drop, M: Makes<K>, R: AllocGlobal> Answers<R> for Story<K, M> {
+    fn fresh(_rt: &R) -> Story<K, M> {
+        Story::new()
+    }
+
+    fn answer(&mut self, rt: &R, words: &[Vec<u8>]) -> Result<Vec<u8>, Unread> {
+        self.answered(rt.alloc(), words)
     }
 }

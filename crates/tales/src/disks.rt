@@ -1,6 +1,6 @@
 //! Archives in files in memory: whose disks stop, fail or are full, and databases that are no archive.
 
-mod account;
+pub mod account;
 mod case;
 mod failing;
 mod image;
@@ -8,8 +8,8 @@ mod interrupted;
 mod named;
 mod steps;
 mod tampered;
-mod task;
+pub mod task;
 mod trial;
-mod work;
+pub mod work;
 
 pub use case::Case;

@@ -9,6 +9,28 @@ use sqlite::{Connection, MemStore};
 use std::alloc::{AllocError, Global};
 use story::{Makes, Story};
 
+/// What makes keepers in a place and opens them there, and gives the place back where it can't.
+pub trait Places<K>: Makes<K> {
+    /// What a keeper is made in.
+    type Place: Drop;
+
+    /// A new place.
+    fn place(alloc: Global) -> Result<Self::Place, AllocError>;
+
+    /// A keeper of the configuration's archive, made at 0.
+    fn create(
+        alloc: Global,
+        place: Self::Place,
+        config: Config,
+    ) -> Result<K, (Self::Place, KeepFault)>;
+
+    /// The place of a keeper.
+    fn leave(keeper: K) -> Self::Place;
+
+    /// The keeper of the archive that is there.
+    fn open(alloc: Global, place: Self::Place) -> Result<K, (Self::Place, KeepFault)>;
+}
+
 /// A story over a plain keeper.
 pub type OverLists = Story<PlainKeeper, Lists>;
 
@@ -28,6 +50,39 @@ impl Makes<PlainKeeper> for Lists {
 
     fn reopened(_alloc: Global, keeper: PlainKeeper) -> Result<PlainKeeper, KeepFault> {
         Ok(keeper)
+    }
+}
+
+impl Places<PlainKeeper> for Lists {
+    type Place = Option<PlainKeeper>;
+
+    fn place(_alloc: Global) -> Result<Option<PlainKeeper>, AllocError> {
+        Ok(None)
+    }
+
+    fn create(
+        alloc: Global,
+        place: Option<PlainKeeper>,
+        config: Config,
+    ) -> Result<PlainKeeper, (Option<PlainKeeper>, KeepFault)> {
+        match PlainKeeper::new(alloc, config, 0) {
+            Ok(keeper) => Ok(keeper),
+            Err(fault) => Err((place, fault)),
+        }
+    }
+
+    fn leave(keeper: PlainKeeper) -> Option<PlainKeeper> {
+        Some(keeper)
+    }
+
+    fn open(
+        _alloc: Global,
+        place: Option<PlainKeeper>,
+    ) -> Result<PlainKeeper, (Option<PlainKeeper>, KeepFault)> {
+        match place {
+            Some(keeper) => Ok(keeper),
+            None => Err((None, KeepFault::Tables)),
+        }
     }
 }
 
@@ -65,5 +120,32 @@ impl<S: InMemory + Drop> Makes<TableKeeper<S>> for Tables {
             Ok(keeper) => Ok(keeper),
             Err((_, fault)) => Err(fault),
         }
+    }
+}
+
+impl<S: InMemory + Drop> Places<TableKeeper<S>> for Tables {
+    type Place = Connection<S>;
+
+    fn place(alloc: Global) -> Result<Connection<S>, AllocError> {
+        S::connect(alloc)
+    }
+
+    fn create(
+        alloc: Global,
+        place: Connection<S>,
+        config: Config,
+    ) -> Result<TableKeeper<S>, (Connection<S>, KeepFault)> {
+        TableKeeper::create(alloc, place, config, 0)
+    }
+
+    fn leave(keeper: TableKeeper<S>) -> Connection<S> {
+        keeper.into_connection()
+    }
+
+    fn open(
+        alloc: Global,
+        place: Connection<S>,
+    ) -> Result<TableKeeper<S>, (Connection<S>, KeepFault)> {
+        TableKeeper::open(alloc, place)
     }
 }

@@ -2,8 +2,10 @@
 
 use std::alloc::{AllocError, Global};
 
-/// The answer of an archive whose disk failed.
-pub const REFUSED: &[u8] = b"Q4 K2";
+/// The answer of an archive whose disk failed, and its beginning where behind it stands how many bytes a reader has left.
+const REFUSED: &[u8] = b"Q4 K2";
+
+const REFUSED_BESIDE: &[u8] = b"Q4 K2 ";
 
 /// What an archive shows, what it answers to a question, and what it shows then.
 #[derive(Clone, Copy)]
@@ -35,14 +37,21 @@ fn has_line(text: &[u8], line: &[u8]) -> bool {
     text.split(|byte| *byte == b'\n').any(|other| other == line)
 }
 
+/// Whether a line says that the disk failed.
+pub fn is_refused_line(line: &[u8]) -> bool {
+    line == REFUSED || line.starts_with(REFUSED_BESIDE)
+}
+
 /// Whether an answer is the right one, but all of it or some was refused since the disk failed.
 pub fn is_refusal(answer: &[u8], right: &[u8]) -> bool {
     for line in answer.split(|byte| *byte == b'\n') {
-        if line != REFUSED && !has_line(right, line) {
+        if !is_refused_line(line) && !has_line(right, line) {
             return false;
         }
     }
-    has_line(answer, REFUSED)
+    answer
+        .split(|byte| *byte == b'\n')
+        .any(|line| is_refused_line(line))
 }
 
 /// Whether a piece is an answer of which all was refused, or shows that what stands at its path was.

@@ -8,6 +8,9 @@ ghost use Rattle.sqlite_disk.specs.Tally.{both_counts};
 use sqlite_disk::{Disk, Tally};
 use std::io;
 
+/// How many bytes the header of a log has.
+const HEADER_LEN: usize = 32;
+
 /// How a disk fails.
 #[derive(Clone, Copy)]
 pub enum Kind {
@@ -28,7 +31,8 @@ pub struct Failing<D: Disk> {
     pub failed: u64,
     pub refused: u64,
     pub sync_failed: bool,
-    pub read_failed: bool,
+    /// Whether a write failed of one byte, or of one of the first of the file.
+    pub turn_failed: bool,
 }
 
 // It is written out, so that a caller does not prove again how each part is dropped.
@@ -41,7 +45,7 @@ impl<D: Disk + Drop> Drop for Failing<D> {
             failed: _,
             refused: _,
             sync_failed: _,
-            read_failed: _,
+            turn_failed: _,
         } = self;
     }
 }
@@ -63,22 +67,6 @@ fn count(kind: Kind, calls_left: &mut u64, failed: &mut u64) -> io::Result<()>
     }
     *failed = failed.saturating_add(1);
     Err(io::Error::other("the call fails"))
-}
-
-/// Counts a read, or lets it fail.
-fn count_read(
-    kind: Kind,
-    calls_left: &mut u64,
-    failed: &mut u64,
-    read_failed: &mut bool,
-) -> io::Result<()>
-    ensures faults { CountsFault result failed.old failed.new }
-{
-    let counted = count(kind, calls_left, failed);
-    if counted.is_err() {
-        *read_failed = true;
-    }
-    counted
 }
 
 /// Counts a write, lets it fail, or finds no room for it.
@@ -148,42 +136,30 @@ impl<D: Disk> Disk for Failing<D> {
     }
 
     fn len(&mut self) -> io::Result<usize> {
-        count_read(
-            self.kind,
-            &mut self.calls_left,
-            &mut self.failed,
-            &mut self.read_failed,
-        )?;
+        count(self.kind, &mut self.calls_left, &mut self.failed)?;
         self.inner.len()
     }
 
     fn read_at(&mut self, at: usize, buf: &mut [u8]) -> io::Result<()> {
-        count_read(
-            self.kind,
-            &mut self.calls_left,
-            &mut self.failed,
-            &mut self.read_failed,
-        )?;
+        count(self.kind, &mut self.calls_left, &mut self.failed)?;
         self.inner.read_at(at, buf)
     }
 
     fn read_checked(&mut self, key: u64, want: u64, at: usize, buf: &mut [u8]) -> io::Result<()> {
-        count_read(
-            self.kind,
-            &mut self.calls_left,
-            &mut self.failed,
-            &mut self.read_failed,
-        )?;
+        count(self.kind, &mut self.calls_left, &mut self.failed)?;
         self.inner.read_checked(key, want, at, buf)
     }
 
     fn write_at(&mut self, at: usize, bytes: &[u8]) -> io::Result<()> {
-        count_write(
+        if let Err(error) = count_write(
             self.kind,
             &mut self.calls_left,
             &mut self.failed,
             &mut self.refused,
-        )?;
+        ) {
+            self.turn_failed = at < HEADER_LEN || bytes.len() == 1;
+            return Err(error);
+        }
         self.inner.write_at(at, bytes)
     }
 

@@ -1,6 +1,6 @@
 //! A step that is done while a disk stops, fails or is full.
 
-use crate::disks::account::{REFUSED, are_refused, difference, is_answer, is_like};
+use crate::disks::account::{are_refused, difference, is_answer, is_like, is_refused_line};
 use crate::disks::failing::Kind;
 use crate::disks::image::Image;
 use crate::disks::steps::{Step, paths_of, told_of};
@@ -171,10 +171,10 @@ impl<'a> Interruption<'a> {
     }
 
     /// Whether an archive may refuse all or some behind a step that was refused: where one call alone fails, all or nothing, and
-    /// nothing where that was to read.
+    /// nothing where the store has no need to read its files again.
     fn may_refuse(&self, left: &Left, is_all: bool) -> bool {
         match self.plan.kind {
-            Kind::Fails => left.has_failed && is_all && !left.has_failed_a_read,
+            Kind::Fails => left.may_be_shut && is_all,
             Kind::Stops | Kind::Full => left.has_failed,
         }
     }
@@ -204,7 +204,7 @@ impl<'a> Interruption<'a> {
             return Outcome::Otherwise;
         };
         match self.outcome_by(left, told, self.undone.as_slice()) {
-            Outcome::Otherwise if answer.as_slice() != REFUSED => {
+            Outcome::Otherwise if !is_refused_line(answer.as_slice()) => {
                 self.outcome_by(left, told, self.done.as_slice())
             }
             outcome => outcome,

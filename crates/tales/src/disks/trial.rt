@@ -44,9 +44,11 @@ pub struct Left {
     /// The files as they stand, and as a crash of the machine leaves them, which loses what was not synced.
     pub stood: Image,
     pub crashed: Image,
-    /// Whether a call failed, and whether one did that was to read.
+    /// Whether a call failed.
     pub has_failed: bool,
-    pub has_failed_a_read: bool,
+    /// Whether one did behind which only reading the files again shows what was committed: a sync, or of the log a write of its header,
+    /// or of the one byte behind which a commit counts.
+    pub may_be_shut: bool,
     /// How many calls the file passed on that was to fail.
     pub calls: u64,
 }
@@ -114,7 +116,7 @@ fn disk_of(alloc: Global, bytes: &[u8], kind: Kind, calls: u64) -> Result<Broken
             failed: 0,
             refused: 0,
             sync_failed: false,
-            read_failed: false,
+            turn_failed: false,
         }),
         Err(_) => Err(AllocError),
     }
@@ -157,7 +159,7 @@ fn left_of(
         stood,
         crashed: image_of(alloc, &files)?,
         has_failed: files.log.failed > 0 || files.db.failed > 0,
-        has_failed_a_read: files.log.read_failed || files.db.read_failed,
+        may_be_shut: files.log.sync_failed || files.log.turn_failed || files.db.sync_failed,
         calls: u64::MAX - calls_left,
     })
 }
