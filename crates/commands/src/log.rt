@@ -102,27 +102,33 @@ impl<'l, E: Write> Log<'l, E> {
         is_whole
     }
 
-    /// The line of a connection, and before it how many were left out, if any were.
-    fn text_of(&self, alloc: Global, ended: &Ended<'_>) -> Result<String, AllocError> {
-        let line = line_of(alloc, ended)?;
+    /// Writes how many lines were left out, and says whether this is told, or none was.
+    fn has_told(&mut self, alloc: Global) -> bool {
         if self.left_out == 0 {
-            return Ok(line);
+            return true;
         }
         let (end, count) = (if self.is_cut { "\n" } else { "" }, self.left_out);
-        Ok(format!(in alloc; "{end}archive: {count} lines of the log were left out\n{line}")?)
-    }
-
-    /// Writes the line of a connection. One that there is no memory for, or that can't be written at once, is left out, and the next that
-    /// is written says how many were.
-    pub fn write_line(&mut self, alloc: Global, ended: &Ended<'_>) {
-        let is_written = match self.text_of(alloc, ended) {
+        let is_told = match format!(in alloc;
+            "{end}archive: {count} lines of the log were left out\n"
+        ) {
             Ok(text) => self.is_taken(text.as_bytes()),
             Err(_) => false,
         };
-        self.left_out = if is_written {
-            0
-        } else {
-            self.left_out.saturating_add(1)
+        if is_told {
+            self.left_out = 0;
+        }
+        is_told
+    }
+
+    /// Writes the line of a connection. One that there is no memory for, or that can't be written at once, is left out, and before the next
+    /// that is written stands how many were.
+    pub fn write_line(&mut self, alloc: Global, ended: &Ended<'_>) {
+        let is_written = match line_of(alloc, ended) {
+            Ok(line) => self.has_told(alloc) && self.is_taken(line.as_bytes()),
+            Err(_) => false,
         };
+        if !is_written {
+            self.left_out = self.left_out.saturating_add(1);
+        }
     }
 }
