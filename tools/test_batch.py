@@ -38,7 +38,7 @@ INDICES = [f"dists/{suite}/{name}" for suite in ("box", "lab") for name in ("Rel
 
 
 # How many steps of memory or of room below what a list needs are tried, and how many bytes a step of each has.
-STEPS, MEMORY_STEP, ROOM_STEP = 64, 16_384, 4096
+STEPS, MEMORY_STEP, ROOM_STEP = 24, 32_768, 8192
 
 
 def limit(resource_, most):
@@ -194,14 +194,14 @@ class Moving(Folder):
         def moved(steps):
             return self.moved(self.start(self.folder), preexec_fn=functools.partial(limit, resource.RLIMIT_AS, steps * MEMORY_STEP))
 
-        self.expect(moved, f"{self.folder}/move.db", lambda: None, 65_536, "archive: Q0\n")
+        self.expect(moved, f"{self.folder}/move.db", lambda: None, 32_768, "archive: Q0\n")
 
     def test_over_files_that_may_not_grow(self):
         def moved(steps):
             little = functools.partial(limit, resource.RLIMIT_FSIZE, steps * ROOM_STEP)
             return self.moved(self.start(self.folder), preexec_fn=little, restore_signals=False)
 
-        self.expect(moved, f"{self.folder}/move.db", lambda: None, 1024, "archive: Q4 K2\n")
+        self.expect(moved, f"{self.folder}/move.db", lambda: None, 512, "archive: Q4 K2\n")
 
     @unittest.skipUnless(os.geteuid() == 0 and shutil.which("mount"), "only root can mount a file system that fills")
     def test_over_a_disk_that_is_nearly_full(self):
@@ -222,7 +222,7 @@ class Moving(Folder):
                     it.write(b"." * (disk.f_bavail * disk.f_bsize - steps * ROOM_STEP))
                 return self.moved(db)
 
-            self.expect(moved, f"{folder}/move.db", free, 1024, "archive: Q4 K2\n")
+            self.expect(moved, f"{folder}/move.db", free, 512, "archive: Q4 K2\n")
 
 
 if __name__ == "__main__":
