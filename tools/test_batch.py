@@ -1,10 +1,13 @@
 #!/usr/bin/env python3
 """Tests of lists of commands. What a list of a thousand lines prints, and what each index is behind it, is what the same commands give
-one by one, each over an opening of its own: some of them are refused, and some files can't be read. And of a file that may not grow. The
-program is that of test_database.py."""
+one by one, each over an opening of its own: some of them are refused, and some files can't be read. And where a list ends that finds no
+memory or no room: over files that may not grow, and over a file system that is nearly full, which root may mount; where that is not there
+the test says that it was skipped. The program is that of test_database.py."""
+import functools
 import os
 import random
 import resource
+import shutil
 import subprocess
 import sys
 import tempfile
@@ -13,6 +16,7 @@ import unittest
 sys.dont_write_bytecode = True
 import uploads
 from test_database import PROGRAM
+from test_failing import mounted
 
 # The moment of all commands, in seconds since 1970-01-01 00:00:00 UTC.
 MOMENT = "1467436850"
@@ -33,23 +37,34 @@ WORDS += [f"refused {fault} " for fault in ("Q1", "Q3 C1 P8", "Q6", "Q7", "Q8", 
 INDICES = [f"dists/{suite}/{name}" for suite in ("box", "lab") for name in ("Release", "main/binary-amd64/Packages", "main/source/Sources")]
 
 
-def let_files_have_little():
-    """Lets no file of this process grow beyond a million bytes. Python ignores the signal that tells of this, so that the call alone
-    tells it."""
-    resource.setrlimit(resource.RLIMIT_FSIZE, (1_000_000, resource.getrlimit(resource.RLIMIT_FSIZE)[1]))
+# How many steps of memory or of room below what a list needs are tried, and how many bytes a step of each has.
+STEPS, MEMORY_STEP, ROOM_STEP = 24, 32_768, 8192
+
+
+def limit(resource_, most):
+    """Lets this process have so much of a resource. Python ignores the signal that tells of a file that may not grow, so that the call
+    alone tells it."""
+    resource.setrlimit(resource_, (most, resource.getrlimit(resource_)[1]))
+
+
+def least(is_enough, most):
+    """The least number from 1 to `most` that is enough, where each greater one is, too."""
+    too_little = 0
+    while most - too_little > 1:
+        middle = (too_little + most) // 2
+        too_little, most = (too_little, middle) if is_enough(middle) else (middle, most)
+    return most
 
 
 @unittest.skipUnless(os.path.exists(PROGRAM), f"there is no program {PROGRAM}")
-class Batch(unittest.TestCase):
+class Folder(unittest.TestCase):
+    """A folder that lines are run in."""
+
     def setUp(self):
         room = tempfile.TemporaryDirectory()
         self.addCleanup(room.cleanup)
         self.folder = room.name
-        made = uploads.make(f"{self.folder}/all uploads", UPLOADS, source_every=4)
-        self.paths = [os.path.relpath(path, self.folder) for upload in made for path in upload]
         self.write("box.conf", uploads.CONFIGURATION)
-        self.write(".hid", "abc")
-        self.write("bad.changes", "")
 
     def write(self, name, text):
         with open(f"{self.folder}/{name}", "w", encoding="utf-8") as it:
@@ -63,6 +78,15 @@ class Batch(unittest.TestCase):
     def made(self, db):
         """Makes an archive in a database file."""
         self.assertEqual(self.ran("init", "--db", db, "--at", "0", "box.conf"), (0, "", ""))
+
+
+class Batch(Folder):
+    def setUp(self):
+        super().setUp()
+        made = uploads.make(f"{self.folder}/all uploads", UPLOADS, source_every=4)
+        self.paths = [os.path.relpath(path, self.folder) for upload in made for path in upload]
+        self.write(".hid", "abc")
+        self.write("bad.changes", "")
 
     def commands(self):
         """The commands of the list: their words are drawn, the same each time."""
@@ -113,11 +137,92 @@ class Batch(unittest.TestCase):
             self.write(name, "x" * size)
         self.write("list", "put one.bin\nput large.bin\nput two.bin\nrun\n")
         words = ["batch", "--db", "full.db", "--at", MOMENT, "list"]
-        ended = self.ran(*words, preexec_fn=let_files_have_little, restore_signals=False)
+        little = functools.partial(limit, resource.RLIMIT_FSIZE, 1_000_000)
+        ended = self.ran(*words, preexec_fn=little, restore_signals=False)
         self.assertEqual(ended, (3, "new one.bin\n", "archive: Q4 K2\n"))
         status, printed, told = self.ran(*words)
         self.assertEqual((status, told), (0, ""))
         self.assertRegex(printed, r"\Aagain one\.bin\nnew large\.bin\n(?:new|again) two\.bin\n\Z")
+
+
+class Moving(Folder):
+    """A list that copies a package to another suite and then takes it out of the first: wherever it ends, a suite shows the package, and
+    given again it is done. What the copy writes is far more than what the removal does."""
+
+    NAME = uploads.name_of(0)
+
+    def setUp(self):
+        super().setUp()
+        self.write("move.list", f"copy box lab {self.NAME}\nremove box {self.NAME}\n")
+        self.made("first.db")
+        [paths] = uploads.make(f"{self.folder}/upload", 1, description=60_000)
+        self.ran("put", "--db", "first.db", "--at", "0", *paths)
+        self.assertEqual(self.ran("run", "--db", "first.db", "--at", "0")[0], 0)
+
+    def start(self, folder):
+        """A copy of the archive in which nothing is moved."""
+        db = f"{folder}/move.db"
+        for name in (db, f"{db}-wal"):
+            if os.path.exists(name):
+                os.unlink(name)
+        shutil.copy(f"{self.folder}/first.db", db)
+        return db
+
+    def moved(self, db, **more):
+        return self.ran("batch", "--db", db, "--at", MOMENT, "move.list", **more)
+
+    def shown(self, db):
+        """The suites that show the package."""
+        texts = {suite: self.ran("show", "--db", db, f"dists/{suite}/main/binary-amd64/Packages")[1] for suite in ("box", "lab")}
+        return [suite for suite, text in texts.items() if f"Package: {self.NAME}\n" in text]
+
+    def expect(self, moved, db, free, most, failed):
+        """Expects that nothing is lost, however little there is. `moved` makes the list over a new archive with so many steps of what it
+        needs; `free` lets the archive have all; the end `failed` has to come where the copy found too little."""
+        ends = set()
+        enough = least(lambda steps: moved(steps)[0] == 0, most)
+        for steps in range(max(1, enough - STEPS), enough):
+            with self.subTest(steps=steps):
+                ends.add(moved(steps))
+                free()
+                self.assertIn(self.shown(db), (["box"], ["lab"], ["box", "lab"]))
+                self.assertIn(self.moved(db)[0], (0, 1))
+                self.assertEqual(self.shown(db), ["lab"])
+        self.assertIn((3, "", failed), ends)
+
+    def test_with_little_memory(self):
+        def moved(steps):
+            return self.moved(self.start(self.folder), preexec_fn=functools.partial(limit, resource.RLIMIT_AS, steps * MEMORY_STEP))
+
+        self.expect(moved, f"{self.folder}/move.db", lambda: None, 32_768, "archive: Q0\n")
+
+    def test_over_files_that_may_not_grow(self):
+        def moved(steps):
+            little = functools.partial(limit, resource.RLIMIT_FSIZE, steps * ROOM_STEP)
+            return self.moved(self.start(self.folder), preexec_fn=little, restore_signals=False)
+
+        self.expect(moved, f"{self.folder}/move.db", lambda: None, 512, "archive: Q4 K2\n")
+
+    @unittest.skipUnless(os.geteuid() == 0 and shutil.which("mount"), "only root can mount a file system that fills")
+    def test_over_a_disk_that_is_nearly_full(self):
+        with mounted(8_000_000) as folder:
+            if not folder:
+                self.skipTest("no file system can be mounted here")
+            filler = f"{folder}/filler"
+
+            def free():
+                if os.path.exists(filler):
+                    os.unlink(filler)
+
+            def moved(steps):
+                free()
+                db = self.start(folder)
+                disk = os.statvfs(folder)
+                with open(filler, "wb") as it:
+                    it.write(b"." * (disk.f_bavail * disk.f_bsize - steps * ROOM_STEP))
+                return self.moved(db)
+
+            self.expect(moved, f"{folder}/move.db", free, 512, "archive: Q4 K2\n")
 
 
 if __name__ == "__main__":

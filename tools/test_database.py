@@ -158,6 +158,15 @@ class Database(Lines):
         held.close()
         self.assertEqual(self.line(0, "verdicts", db), f"accepted {NAMES[0]}\n")
 
+    def test_a_file_with_automatic_vacuum_is_not_opened_until_that_goes(self):
+        db = self.accepted()
+        for mode, status, told in ((1, 3, "archive: K2\n"), (2, 3, "archive: K2\n"), (0, 0, f"accepted {NAMES[0]}\n")):
+            with contextlib.closing(sqlite3.connect(db)) as held:
+                held.execute(f"PRAGMA auto_vacuum = {mode}")
+                held.execute("VACUUM")
+            with self.subTest(mode):
+                self.assertEqual(self.line(status, "verdicts", db), told)
+
 
 if __name__ == "__main__":
     unittest.main()

@@ -1,11 +1,17 @@
 #!/usr/bin/env python3
 """Tests of how `serve` begins, waits for its clients, and ends: clients that are silent or stay, a program that is killed, one that
-begins while another has the file. The program is that of test_database.py. Waits of more than some seconds are in test_waits.py."""
+begins while another has the file. And of what it does not wait for: a log that nobody reads, moments in a pipe; and of who may read the
+log of a database. The program is that of test_database.py. Waits of more than some seconds are in test_waits.py. Some tests need strace;
+where that is not there they say that they were skipped."""
 import contextlib
+import fcntl
 import os
+import re
 import resource
+import shutil
 import signal
 import socket
+import stat
 import sys
 import tempfile
 import time
@@ -23,6 +29,14 @@ TOO_LARGE = replied("413 Payload Too Large", b"413 Payload Too Large\n")
 RUN = b"POST /queue/run HTTP/1.1\r\n\r\n"
 ACCEPTED = replied("200 OK", f"accepted {NAMES[0]}\n".encode())
 DEB = "pool/main/h/hello/hello_1.0-1_amd64.deb"
+
+# The errors of accept that pass, for want of room and, as accept(2) has them, of a network; and some that do not.
+PASSING = ["EMFILE", "ENFILE", "ENOBUFS", "ENOMEM"]
+PASSING += ["ENETDOWN", "EPROTO", "ENOPROTOOPT", "EHOSTDOWN", "ENONET", "EHOSTUNREACH", "EOPNOTSUPP", "ENETUNREACH"]
+LASTING = ["EBADF", "EINVAL", "ENOTSOCK", "EFAULT"]
+
+# The call of fcntl by which Linux is told how many bytes a pipe holds, which Python names from 3.10 on.
+F_SETPIPE_SZ = 1031
 
 
 class Deadlines(Lines):
@@ -193,14 +207,37 @@ class Beginnings(Lines):
             self.assertEqual([rest(it) for it in clients], [ACCEPTED] * 20)
             self.assertEqual(serving.ended(), (0, "", ""))
 
-    def test_where_no_connection_can_be_accepted_it_ends(self):
-        """The program may open no more files. It may have begun to accept one."""
-        with Serving(self.made(), 3) as serving:
+    def test_a_connection_that_can_not_be_accepted_for_now_is_accepted_later(self):
+        """The program may open no more files for a while, but one that it may have begun to accept."""
+        with Serving(self.made(), 4) as serving:
             self.assertEqual(serving.answer(get("verdicts")), NOTHING)
-            resource.prlimit(serving.process.pid, resource.RLIMIT_NOFILE, (0, 0))
-            with contextlib.suppress(OSError):
-                serving.answer(get("verdicts"))
-            self.assertEqual(serving.ended(), (3, "", "archive: cannot listen\n"))
+            hard = resource.prlimit(serving.process.pid, resource.RLIMIT_NOFILE)[1]
+            resource.prlimit(serving.process.pid, resource.RLIMIT_NOFILE, (0, hard))
+            begun, client = (serving.sent(get("verdicts")) for _ in range(2))
+            client.settimeout(1)
+            with self.assertRaises(TimeoutError):
+                client.recv(1)
+            self.assertTrue(serving.is_running())
+            resource.prlimit(serving.process.pid, resource.RLIMIT_NOFILE, (hard, hard))
+            client.settimeout(60)
+            self.assertEqual([rest(it) for it in (begun, client)], [NOTHING] * 2)
+            self.assertEqual(serving.answer(get("verdicts")), NOTHING)
+            self.assertEqual(serving.ended(), (0, "", ""))
+
+    @unittest.skipUnless(shutil.which("strace"), "there is no strace")
+    def test_which_errors_of_accept_end_it(self):
+        """Each comes twice. Those that pass count as no connection."""
+        db = self.made()
+        for error in [*PASSING, *LASTING]:
+            under = ["strace", "-f", "-qq", "-o", os.devnull, "-e", "trace=accept4", "-e", f"inject=accept4:error={error}:when=1..2"]
+            with self.subTest(error), Serving(db, 2, under=under) as serving:
+                if error in LASTING:
+                    serving.connected().close()
+                    self.assertEqual(serving.ended(), (3, "", "archive: cannot listen\n"))
+                    continue
+                for _ in range(2):
+                    self.assertEqual(serving.answer(get("verdicts")), NOTHING)
+                self.assertEqual(serving.ended(), (0, "", ""))
 
     def test_which_fault_is_told(self):
         db = self.made()
@@ -217,6 +254,101 @@ class Beginnings(Lines):
             ):
                 with self.subTest(path=path, address=address):
                     self.assertEqual(self.line(status, "serve", path, "--at", "0", address, "1"), told)
+
+
+class Unread(Lines):
+    """A log that nobody reads: in a pipe that is full."""
+
+    # How many connections there are, with paths of so many bytes.
+    COUNT, LONG_PATH = 24, 1000
+
+    def test_lines_that_can_not_be_written_at_once_are_left_out_and_counted(self):
+        reader, writer = os.pipe()
+        fcntl.fcntl(reader, F_SETPIPE_SZ, 4096)
+        with open(reader, "rb") as log, open(writer, "wb") as stderr, Serving(self.made(), self.COUNT, "--log", stderr=stderr) as serving:
+            start = time.monotonic()
+            for number in range(self.COUNT - 3):
+                self.assertEqual(status_of(serving.answer(get(f"{number}/" + "a" * self.LONG_PATH))), 404)
+            self.assertLess(seconds_since(start), 20)
+            told = os.read(reader, 4096)
+            for number in range(self.COUNT - 3, self.COUNT):
+                self.assertEqual(status_of(serving.answer(get(f"{number}/"))), 404)
+            self.assertEqual(serving.ended()[0], 0)
+            self.assertFalse(fcntl.fcntl(writer, fcntl.F_GETFL) & os.O_NONBLOCK)
+            stderr.close()
+            told = (told + log.read()).decode()
+        self.expect_all(told.splitlines())
+
+    def expect_all(self, lines):
+        """Expects that each connection has a line, in their order, or is counted where the lines go on."""
+        left_out = 0
+        for line in lines:
+            count = re.fullmatch(r"archive: (\d+) lines of the log were left out", line)
+            if count:
+                left_out += int(count[1])
+        numbers = [int(line.split()[2].split("/")[1]) for line in lines if not line.startswith("archive: ")]
+        self.assertEqual(numbers, sorted(set(numbers)))
+        self.assertEqual(numbers[-1], self.COUNT - 1)
+        self.assertGreater(left_out, 0)
+        self.assertEqual(len(numbers) + left_out, self.COUNT)
+
+    def test_moments_in_a_pipe_are_not_waited_for(self):
+        db = self.made()
+        folder = os.path.dirname(db)
+        os.mkfifo(f"{folder}/pipe")
+        with open(f"{folder}/now", "w", encoding="ascii") as it:
+            it.write("9\n")
+        os.symlink("pipe", f"{folder}/to the pipe")
+        os.symlink("now", f"{folder}/to now")
+        for name, moment in (("pipe", "7"), ("to the pipe", "7"), ("to now", "9")):
+            with self.subTest(name), Serving(db, 2, "--moments", f"{folder}/{name}", "--log", at="7") as serving:
+                for _ in range(2):
+                    self.assertEqual(serving.answer(get("verdicts")), NOTHING)
+                status, _, told = serving.ended()
+                self.assertEqual((status, [line.split()[0] for line in told.splitlines()]), (0, [moment] * 2))
+
+
+class Readers(Lines):
+    """Who may read the log of a database: whoever may read the database."""
+
+    def mode(self, path):
+        return stat.S_IMODE(os.stat(path).st_mode)
+
+    def test_a_log_gets_the_mode_of_its_database(self):
+        db = self.accepted()
+        link = f"{os.path.dirname(db)}/link.db"
+        os.symlink("box.db", link)
+        for path in (db, link):
+            for mode, before in ((0o600, 0o644), (0o640, 0o600), (0o644, 0o666), (0o660, 0o660)):
+                with self.subTest(path=path, mode=mode):
+                    os.chmod(db, mode)
+                    os.chmod(f"{db}-wal", before)
+                    self.assertEqual(self.line(0, "verdicts", path), f"accepted {NAMES[0]}\n")
+                    self.assertEqual((self.mode(db), self.mode(f"{db}-wal")), (mode, mode))
+        self.assertFalse(os.path.exists(f"{link}-wal"))
+
+    def test_a_log_has_the_mode_of_its_database_while_it_is_served(self):
+        db = self.accepted()
+        os.chmod(db, 0o600)
+        os.chmod(f"{db}-wal", 0o644)
+        with Serving(db, 1) as serving:
+            self.assertEqual(serving.answer(put("hello_1.0-1_amd64.deb")), AGAIN)
+            self.assertEqual(serving.ended(), (0, "", ""))
+        self.assertEqual((self.mode(db), self.mode(f"{db}-wal")), (0o600, 0o600))
+
+    def test_no_other_file_is_changed(self):
+        """Where the name of the log is another name of some file, the database is not opened, and the file stays as it is."""
+        for another_name in (os.link, os.symlink):
+            db = self.accepted()
+            other = f"{os.path.dirname(db)}/other"
+            with open(other, "wb") as it:
+                it.write(b"abc")
+            os.chmod(other, 0o600)
+            os.unlink(f"{db}-wal")
+            another_name(other, f"{db}-wal")
+            with self.subTest(another_name.__name__):
+                self.assertEqual(self.line(3, "verdicts", db), "archive: K2\n")
+                self.assertEqual(self.mode(other), 0o600)
 
 
 if __name__ == "__main__":

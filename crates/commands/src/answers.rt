@@ -3,27 +3,30 @@
 use crate::database::{is_of_database, length_of};
 use crate::doing::{body_of, file_name, opened};
 use crate::fault::Stop;
+use crate::shown::Shown;
 use keep::Keeper;
 use queue::{Archive, Arrived, Fault, Promotion, Report};
 use std::alloc::{AllocError, Global};
 use std::io::{self, Write};
 use std::rt::Files;
 
-/// Prints the lines of a report.
+/// Prints the lines of a report, as they are shown.
 pub fn print_report<W: Write>(report: &Report, out: &mut W) -> io::Result<()> {
     for line in &report.lines {
+        let line = Shown(line);
         writeln!(out, "{line}")?;
     }
     Ok(())
 }
 
-/// Prints `new NAME`, `again NAME` or `refused FAULT NAME`, and says whether a delivery was taken. Want of memory and a
-/// fault of the keeper end the program instead.
+/// Prints `new NAME`, `again NAME` or `refused FAULT NAME`, with the name as it is shown, and says whether a delivery was taken. Want
+/// of memory and a fault of the keeper end the program instead.
 pub fn print_arrived<'a, W: Write>(
     arrived: Result<Arrived, Fault>,
     name: &str,
     out: &mut W,
 ) -> Result<bool, Stop<'a>> {
+    let name = Shown(name);
     match arrived {
         Ok(Arrived::New) => writeln!(out, "new {name}")?,
         Ok(Arrived::Again) => writeln!(out, "again {name}")?,
@@ -73,7 +76,7 @@ pub fn put_files<'a, R: Files + AllocGlobal, K: Keeper, W: Write>(
     let mut all = true;
     for path in paths {
         if is_of_database(rt, db, path)? {
-            return Err(Stop::Unreadable(path));
+            return Err(Stop::Unreadable(Shown(path)));
         }
         if !put_file(rt, archive, at, path, out)? {
             all = false;

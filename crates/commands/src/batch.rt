@@ -6,6 +6,7 @@ use crate::answers::{print_arrived, print_report};
 use crate::database::{InFile, close, is_of_database, open_archive};
 use crate::doing::{body_of, file_name, read_of};
 use crate::fault::Stop;
+use crate::shown::Shown;
 use command_line::{Entry, read_list};
 use keep::Keeper;
 use queue::{Archive, Command, Fault, Outcome, Promotion, Report};
@@ -24,7 +25,7 @@ struct Opening<'o> {
     at: u64,
 }
 
-/// Commands that are made by one call, and their lines of the list.
+/// Deliveries that are made by one call, or one other command, and their lines of the list.
 #[derive(Drop)]
 struct Group<'l> {
     entries: Vec<Entry<'l>>,
@@ -48,12 +49,9 @@ fn size_of(command: &Command) -> u64 {
     }
 }
 
-/// Whether a line is answered by lines, of which there may be many.
-fn has_lines(entry: &Entry<'_>) -> bool {
-    matches!(
-        entry,
-        Entry::Run | Entry::Promote { .. } | Entry::Waiting | Entry::Verdicts
-    )
+/// Whether a line delivers a file.
+fn is_delivery(entry: &Entry<'_>) -> bool {
+    matches!(entry, Entry::Put { .. })
 }
 
 impl<'l> Group<'l> {
@@ -117,7 +115,7 @@ fn delivery<'a, R: Files + AllocGlobal, E: Write>(
     err: &mut E,
 ) -> Result<Option<Command>, Stop<'a>> {
     let Some(body) = readable(rt, opening.db, path)? else {
-        let stop = Stop::Unreadable(path);
+        let stop = Stop::Unreadable(Shown(path));
         writeln!(err, "{stop}")?;
         return Ok(None);
     };
@@ -192,8 +190,8 @@ fn name_of<'l>(entry: &Entry<'l>) -> &'l str {
     }
 }
 
-/// Prints `refused FAULT` and the words of a line behind its first, and says that it was not done. Want of memory and a
-/// fault of the keeper end the program instead.
+/// Prints `refused FAULT` and the words of a line behind its first, as they are shown, and says that it was not done. Want of memory
+/// and a fault of the keeper end the program instead.
 fn print_refused<'a, W: Write>(
     fault: Fault,
     entry: &Entry<'_>,
@@ -203,9 +201,18 @@ fn print_refused<'a, W: Write>(
         return Err(Stop::Refused(fault));
     }
     match entry {
-        Entry::Copy { from, to, source } => writeln!(out, "refused {fault} {from} {to} {source}")?,
-        Entry::Promote { from, to } => writeln!(out, "refused {fault} {from} {to}")?,
-        Entry::Remove { suite, name } => writeln!(out, "refused {fault} {suite} {name}")?,
+        Entry::Copy { from, to, source } => {
+            let (from, to, source) = (Shown(from), Shown(to), Shown(source));
+            writeln!(out, "refused {fault} {from} {to} {source}")?;
+        }
+        Entry::Promote { from, to } => {
+            let (from, to) = (Shown(from), Shown(to));
+            writeln!(out, "refused {fault} {from} {to}")?;
+        }
+        Entry::Remove { suite, name } => {
+            let (suite, name) = (Shown(suite), Shown(name));
+            writeln!(out, "refused {fault} {suite} {name}")?;
+        }
         _ => writeln!(out, "refused {fault}")?,
     }
     Ok(false)
@@ -250,8 +257,14 @@ fn print_count<'a, W: Write>(
     match done {
         Ok(count) => {
             match entry {
-                Entry::Copy { source, .. } => writeln!(out, "copied {count} {source}")?,
-                Entry::Remove { name, .. } => writeln!(out, "removed {count} {name}")?,
+                Entry::Copy { source, .. } => {
+                    let source = Shown(source);
+                    writeln!(out, "copied {count} {source}")?;
+                }
+                Entry::Remove { name, .. } => {
+                    let name = Shown(name);
+                    writeln!(out, "removed {count} {name}")?;
+                }
                 _ => writeln!(out, "cleaned {count}")?,
             }
             Ok(true)
@@ -310,9 +323,9 @@ fn make_group<'a, K: Keeper, W: Write>(
     printed
 }
 
-/// Adds the command of a line to a group, which is made before where its bodies leave no room, and behind where the
-/// command is answered by lines: so a group has at most one report. It says whether all that it made was done, and the
-/// file of the line could be read.
+/// Adds the delivery of a line to a group, which is made before where its bodies leave no room. A command of another kind is a
+/// group of its own, made at once, and the group before it is made first: so nothing is made behind one that ends the program but
+/// deliveries, which may be given again. It says whether all that it made was done, and the file of the line could be read.
 fn take_line<'a, 'l, R: Files + AllocGlobal, K: Keeper, W: Write, E: Write>(
     rt: &R,
     archive: &mut Archive<K>,
@@ -326,11 +339,11 @@ fn take_line<'a, 'l, R: Files + AllocGlobal, K: Keeper, W: Write, E: Write>(
         return Ok(false);
     };
     let mut all = true;
-    if !has_room(group.bytes, size_of(&command)) {
+    if !is_delivery(entry) || !has_room(group.bytes, size_of(&command)) {
         all = make_group(rt.alloc(), archive, group, out)?;
     }
     group.push(*entry, command)?;
-    if has_lines(entry) {
+    if !is_delivery(entry) {
         let done = make_group(rt.alloc(), archive, group, out)?;
         all = all && done;
     }

@@ -7,7 +7,8 @@ use keep::{KeepFault, Keeper, LATEST};
 use queue::{Archive, Fault};
 use rules::Config;
 use std::alloc::AllocError;
-use std::os::unix::fs::MetadataExt;
+use std::fs::{File, OpenFile, Permissions};
+use std::os::unix::fs::{MetadataExt, PermissionsExt};
 use std::rt::Files;
 use std::{fs, io};
 
@@ -96,7 +97,29 @@ pub fn is_of_database<R: Files + AllocGlobal>(
     Ok(false)
 }
 
-/// Opens the archive of a database file. A file that is not there or has no bytes is no archive, and nothing is made.
+/// The bits of a mode by which a file may be read, written and run.
+const ACCESS: u32 = 0o777;
+
+/// Gives the log that lies beside a database the mode of the database, where this process may. A log stays behind a command, so that it
+/// has the mode which the database had once. Only a file with this one name is changed: the one that was looked at.
+fn share_mode<R: Files + AllocGlobal>(rt: &R, path: &str) -> io::Result<()> {
+    let mode = fs::metadata(rt, path)?.mode() & ACCESS;
+    let real = fs::canonicalize(rt, path)?;
+    let log = format!(in rt.alloc(); "{}-wal", real.as_str())?;
+    let named = fs::symlink_metadata(rt, log.as_str())?;
+    if !named.is_file() || named.nlink() != 1 || named.mode() & ACCESS == mode {
+        return Ok(());
+    }
+    let file = File::open(rt, log.as_str())?;
+    let found = file.metadata()?;
+    if found.dev() != named.dev() || found.ino() != named.ino() {
+        return Ok(());
+    }
+    file.set_permissions(Permissions::from_mode(mode))
+}
+
+/// Opens the archive of a database file. A file that is not there or has no bytes is no archive, and nothing is made. The log beside it
+/// gets its mode, if that can be.
 pub fn open_archive<'a, K: Keeper + Drop, F: InFile<K>>(
     rt: &HostRuntime,
     path: &str,
@@ -104,6 +127,7 @@ pub fn open_archive<'a, K: Keeper + Drop, F: InFile<K>>(
     if would_make(rt, path) || is_blank(rt, path)? {
         return Err(Stop::NoArchive(KeepFault::Tables));
     }
+    let _ = share_mode(rt, path);
     let keeper = F::opened(rt, path)?;
     Ok(Archive::new(rt.alloc(), keeper))
 }

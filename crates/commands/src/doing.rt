@@ -3,12 +3,13 @@
 use crate::batch::batch_file;
 use crate::database::InFile;
 use crate::fault::Stop;
+use crate::shown::Shown;
 use crate::words::{self, Serving, Word};
-use command_line::{CommandLine, LineFault};
+use command_line::{CommandLine, LineFault, line};
 use keep::{Keeper, PlainKeeper};
 use queue::{Archive, Fault};
 use rules::Config;
-use std::alloc::Global;
+use std::alloc::{AllocError, Global};
 use std::cmp::Ordering;
 use std::fs::File;
 use std::io::{self, Read, Write};
@@ -44,7 +45,7 @@ fn read_file<R: Files + AllocGlobal>(rt: &R, path: &str) -> io::Result<Vec<u8>> 
 pub fn opened<'a, R: Files>(rt: &R, path: &'a str) -> Result<R::File, Stop<'a>> {
     match File::open(rt, path) {
         Ok(file) => Ok(file),
-        Err(_) => Err(Stop::Unreadable(path)),
+        Err(_) => Err(Stop::Unreadable(Shown(path))),
     }
 }
 
@@ -55,7 +56,7 @@ pub fn read_of<'a>(read: io::Result<Vec<u8>>, path: &'a str) -> Result<Vec<u8>, 
         Err(error) if error.kind() == io::ErrorKind::OutOfMemory => {
             Err(Stop::Refused(Fault::OutOfMemory))
         }
-        Err(_) => Err(Stop::Unreadable(path)),
+        Err(_) => Err(Stop::Unreadable(Shown(path))),
     }
 }
 
@@ -286,11 +287,47 @@ fn explained<W: Write, E: Write>(fault: &LineFault, out: &mut W, err: &mut E) ->
     }
 }
 
-/// Prints why words are no line, and answers the exit status: 0 for the help or the version that was asked for, which
-/// is printed on `out`; 2 for words that are refused, with a text on `err` that says why; 3 where memory runs out or an output fails.
-pub fn explain<W: Write, E: Write>(fault: &LineFault, out: &mut W, err: &mut E) -> u8 {
-    match explained(fault, out, err) {
-        Ok(status) => status,
-        Err(_) => 3,
+/// Words as they are shown, as texts of their own.
+fn shown_words(alloc: Global, words: &[&str]) -> Result<Vec<String>, AllocError> {
+    let mut texts = Vec::new(alloc);
+    for word in words {
+        let word = Shown(word);
+        texts.push(format!(in alloc; "{word}")?)?;
     }
+    Ok(texts)
+}
+
+/// The words that these texts are.
+fn words_of(alloc: Global, texts: &[String]) -> Result<Vec<&str>, AllocError> {
+    let mut words = Vec::new(alloc);
+    for text in texts {
+        words.push(text.as_str())?;
+    }
+    Ok(words)
+}
+
+/// Reads words as they are shown, and takes only why they are no line.
+fn read_shown(alloc: Global, words: &[&str]) -> Result<(), LineFault> {
+    let texts = shown_words(alloc, words)?;
+    let shown = words_of(alloc, &texts)?;
+    line(alloc, &shown)?;
+    Ok(())
+}
+
+/// Prints why words are no line, in which this fault was found, and answers the exit status: 0 for the help or the version that was
+/// asked for, which is printed on `out`; 2 for words that are refused, with a text on `err` that says why; 3 where memory runs out or an
+/// output fails. The text is that of the words as they are shown, which are read for its sake: it quotes what was given.
+pub fn explain<W: Write, E: Write>(
+    alloc: Global,
+    fault: LineFault,
+    words: &[&str],
+    out: &mut W,
+    err: &mut E,
+) -> u8 {
+    let told = match read_shown(alloc, words) {
+        Err(shown) => explained(&shown, out, err),
+        // No word becomes a good one by a question mark. If one did, the fault would be told by its number.
+        Ok(()) => writeln!(err, "archive: {fault}").map(|_| 2),
+    };
+    told.unwrap_or(3)
 }

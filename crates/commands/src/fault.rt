@@ -1,6 +1,7 @@
 //! Why the program ends before it is done.
 
 use crate::database::OpenFault;
+use crate::shown::Shown;
 use command_line::BatchFault;
 use keep::KeepFault;
 use queue::Fault;
@@ -14,7 +15,7 @@ use vers::VersionFault;
 #[derive(Debug, Drop, Error)]
 pub enum Stop<'a> {
     #[error("archive: cannot read {0}")]
-    Unreadable(&'a str),
+    Unreadable(Shown<'a>),
     /// A list of commands has this line, counted from 1, that is neither a command nor passed over.
     #[error("archive: line {0}")]
     BadLine(usize),

@@ -11,6 +11,7 @@ mod fault;
 mod log;
 mod moments;
 mod serving;
+mod shown;
 mod words;
 
 pub use client::Patience;

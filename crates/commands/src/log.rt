@@ -1,9 +1,12 @@
 //! The log: a line for each connection.
 
+use crate::shown::shown_bytes;
 use desk::{DeskFault, Served};
 use http::StatusCode;
 use std::alloc::{AllocError, Global};
 use std::io::Write;
+use std::net::TcpStream;
+use std::os::fd::OwnedFd;
 use std::time::Duration;
 
 /// What came of a connection.
@@ -19,18 +22,6 @@ pub struct Ended<'l> {
     pub sent: u64,
     /// How long it lasted.
     pub lasted: Duration,
-}
-
-/// A line as it is shown: each byte that is not of 0x20 to 0x7E is a question mark.
-fn shown(alloc: Global, line: &[u8]) -> Result<String, AllocError> {
-    let mut text = String::new(alloc);
-    for byte in line {
-        text.push(match byte {
-            b' '..=b'~' => char::from(*byte),
-            _ => '?',
-        })?;
-    }
-    Ok(text)
 }
 
 /// A word, or `-` for none.
@@ -55,9 +46,10 @@ fn status_text(alloc: Global, end: &Result<Served, DeskFault>) -> Result<String,
     }
 }
 
-/// The line of a connection.
+/// The line of a connection: the moment that it had, the method and the path of its request, the status of its reply, how many bytes its
+/// client was sent, and how many milliseconds it lasted.
 fn line_of(alloc: Global, ended: &Ended<'_>) -> Result<String, AllocError> {
-    let line = shown(alloc, ended.line)?;
+    let line = shown_bytes(alloc, ended.line)?;
     let mut words = line.as_str().split(' ');
     let (method, path) = (word_or_dash(words.next()), word_or_dash(words.next()));
     let status = status_text(alloc, &ended.end)?;
@@ -65,10 +57,78 @@ fn line_of(alloc: Global, ended: &Ended<'_>) -> Result<String, AllocError> {
     Ok(format!(in alloc; "{moment} {method} {path} {status} {sent} {milliseconds}\n")?)
 }
 
-/// Writes the line of a connection: the moment that it had, the method and the path of its request, the status of its reply, how
-/// many bytes its client was sent, and how many milliseconds it lasted. What there is no memory for or can't be written is lost.
-pub fn write_line<E: Write>(alloc: Global, ended: &Ended<'_>, log: &mut E) {
-    if let Ok(line) = line_of(alloc, ended) {
-        let _ = log.write_all(line.as_bytes());
+/// A log, which never waits for whoever reads it.
+#[derive(Drop)]
+pub struct Log<'l, E> {
+    out: &'l mut E,
+    /// The file of the output once more. It need not be a socket: to say whether a write may wait is all that it is for.
+    file: Option<TcpStream>,
+    /// How many lines were left out since the last that was written.
+    left_out: u64,
+    /// Whether the last of them was written in part.
+    is_cut: bool,
+}
+
+impl<'l, E: Write> Log<'l, E> {
+    /// A log of which nothing is written yet, on an output that has this file. Without it, a write may wait.
+    pub fn new(out: &'l mut E, file: Option<OwnedFd>) -> Log<'l, E> {
+        let file = match file {
+            Some(file) => Some(TcpStream::from(file)),
+            None => None,
+        };
+        Log {
+            out,
+            file,
+            left_out: 0,
+            is_cut: false,
+        }
+    }
+
+    /// Says whether a write may wait.
+    fn set_waiting(&self, may_wait: bool) {
+        if let Some(file) = &self.file {
+            let _ = file.set_nonblocking(!may_wait);
+        }
+    }
+
+    /// Hands a text to the output, which takes what it can at once, and says whether it took all. Others may have the same file, so it
+    /// is told not to wait for this alone.
+    fn is_taken(&mut self, text: &[u8]) -> bool {
+        self.set_waiting(false);
+        let count = self.out.write(text).unwrap_or(0);
+        self.set_waiting(true);
+        let is_whole = count == text.len();
+        self.is_cut = !is_whole && (count > 0 || self.is_cut);
+        is_whole
+    }
+
+    /// Writes how many lines were left out, and says whether this is told, or none was.
+    fn has_told(&mut self, alloc: Global) -> bool {
+        if self.left_out == 0 {
+            return true;
+        }
+        let (end, count) = (if self.is_cut { "\n" } else { "" }, self.left_out);
+        let is_told = match format!(in alloc;
+            "{end}archive: {count} lines of the log were left out\n"
+        ) {
+            Ok(text) => self.is_taken(text.as_bytes()),
+            Err(_) => false,
+        };
+        if is_told {
+            self.left_out = 0;
+        }
+        is_told
+    }
+
+    /// Writes the line of a connection. One that there is no memory for, or that can't be written at once, is left out, and before the next
+    /// that is written stands how many were.
+    pub fn write_line(&mut self, alloc: Global, ended: &Ended<'_>) {
+        let is_written = match line_of(alloc, ended) {
+            Ok(line) => self.has_told(alloc) && self.is_taken(line.as_bytes()),
+            Err(_) => false,
+        };
+        if !is_written {
+            self.left_out = self.left_out.saturating_add(1);
+        }
     }
 }

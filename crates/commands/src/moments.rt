@@ -2,6 +2,7 @@
 
 ghost use Rattle.std.specs.Prelude.{◌≡◌, ◌≤◌, None};
 
+use crate::database::length_of;
 use keep::LATEST;
 use std::fs::File;
 use std::io::{self, Read};
@@ -28,8 +29,11 @@ fn moment_in(text: &[u8]) -> Option<u64> {
     (number <= LATEST).then_some(number)
 }
 
-/// The first bytes of a file.
+/// The first bytes of a regular file. Any other, as a pipe, is not opened: that may wait without end.
 fn beginning_of<R: Files + AllocGlobal>(rt: &R, path: &str) -> io::Result<Vec<u8>> {
+    if length_of(rt, path).is_none() {
+        return Err(io::Error::from(io::ErrorKind::InvalidInput));
+    }
     let mut text = Vec::new(rt.alloc());
     File::open(rt, path)?
         .take(MOST_READ)
@@ -49,7 +53,7 @@ impl<'p> Moments<'p> {
         }
     }
 
-    /// The moment of the next connection. A file that can't be read or that holds no moment changes nothing.
+    /// The moment of the next connection. A file that can't be read, that holds no moment or that is no regular file changes nothing.
     pub fn next<R: Files + AllocGlobal>(&mut self, rt: &R) -> u64
         ensures is { result ≡ self.new.greatest }
         ensures rises { self.old.greatest ≤ self.new.greatest }

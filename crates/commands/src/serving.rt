@@ -6,7 +6,7 @@ ghost use Rattle.queue.specs.Steps.{Reads};
 
 use crate::client::{Client, FirstLine, FromClient, Patience, ToClient};
 use crate::fault::Stop;
-use crate::log::{Ended, write_line};
+use crate::log::{Ended, Log};
 use crate::moments::Moments;
 use desk::{Connection, Desk, DeskFault, Served, attend};
 use http::StatusCode;
@@ -17,8 +17,8 @@ use std::cell::Cell;
 use std::io::{self, BufReader, BufWriter, Read, Write};
 use std::net::{Shutdown, TcpListener, TcpStream};
 use std::rt::Files;
-use std::slice;
 use std::time::{Clock, Duration, Instant};
+use std::{slice, thread};
 
 /// The patience of the program.
 pub fn patience() -> Patience {
@@ -40,6 +40,14 @@ const ROOM: usize = 16_777_216;
 /// larger one costs more than the calls that it spares: this one takes a head, and most bodies that follow one at once.
 const MOST_AHEAD: usize = 2_048;
 
+/// How long is waited where no connection can be accepted for now, in milliseconds.
+const BETWEEN_TRIES: u64 = 100;
+
+/// The errors of Linux by which it says that no connection can be accepted for now: EMFILE, ENFILE, ENOBUFS and ENOMEM for want of room,
+/// and those of a network that failed the connection, which accept(2) lists: ENETDOWN, EPROTO, ENOPROTOOPT, EHOSTDOWN, ENONET,
+/// EHOSTUNREACH, EOPNOTSUPP and ENETUNREACH.
+const PASSING: [i32; 12] = [24, 23, 105, 12, 100, 71, 92, 112, 64, 113, 95, 101];
+
 /// Has the allocator keep the memory of a reply for the next. The C library's gives back what lies free at the end of its
 /// memory, if that is more than twice the largest piece that was ever given back to it; taken anew for each reply it costs
 /// more than the reply.
@@ -49,8 +57,9 @@ pub fn keep_room(alloc: Global) {
 
 /// Answers so many connections of a listener, one after the other, each as a list of it alone, at the moment, in seconds
 /// since 1970-01-01 00:00:00 UTC. A client whose first byte does not come within 5 seconds, that is silent for 30, or whose
-/// connection lasts for 120 loses it. A connection that fails counts, and the next is answered. It ends early where one
-/// can't be accepted, and with the number of those that are left where the keeper is shut.
+/// connection lasts for 120 loses it. A connection that fails counts, and the next is answered. Where none can be accepted for now, it
+/// waits a moment and tries again, however often. It ends early where none can be accepted at all, and with the number of those that
+/// are left where the keeper is shut.
 pub fn serve<'a, R: Clock + Files + AllocGlobal, K: Keeper>(
     rt: &R,
     archive: &mut Archive<K>,
@@ -78,7 +87,7 @@ pub fn serve_within<'a, R: Clock + Files + AllocGlobal, K: Keeper>(
     ensures served { HasServed K.Keeper count (IsClientsWithin moment moment) archive.old.keeper archive.new.keeper }
 {
     let mut moments = Moments::new(moment, None);
-    let mut no_log: Option<&mut Vec<u8>> = None;
+    let mut no_log: Option<Log<'_, Vec<u8>>> = None;
     serve_at(
         rt,
         archive,
@@ -98,7 +107,7 @@ pub fn serve_at<'a, R: Clock + Files + AllocGlobal, K: Keeper, E: Write>(
     count: u64,
     moments: &mut Moments<'_>,
     patience: Patience,
-    log: &mut Option<&mut E>,
+    log: &mut Option<Log<'_, E>>,
 ) -> Result<(), Stop<'a>>
     // Each moment is one that they have now or had on the way.
     ensures served { HasServed K.Keeper count (IsClientsWithin moments.old.greatest moments.new.greatest) archive.old.keeper archive.new.keeper }
@@ -107,9 +116,9 @@ pub fn serve_at<'a, R: Clock + Files + AllocGlobal, K: Keeper, E: Write>(
 {
     let desk = Desk::new(rt.alloc())?;
     for served in 0..count {
-        match listener.accept() {
+        match accepted(rt, listener) {
             // What comes of the connection is its client's alone.
-            Ok((stream, _)) => {
+            Ok(stream) => {
                 let moment = moments.next(rt);
                 if leaves_shut(rt, &desk, archive, &stream, moment, patience, log) {
                     return Err(Stop::Shut(count - served - 1));
@@ -123,6 +132,28 @@ pub fn serve_at<'a, R: Clock + Files + AllocGlobal, K: Keeper, E: Write>(
     Ok(())
 }
 
+/// Whether a connection can't be accepted for now alone.
+fn is_passing(error: &io::Error) -> bool {
+    match error.raw_os_error() {
+        Some(code) => PASSING.contains(&code),
+        None => false,
+    }
+}
+
+/// The next connection of a listener. Where none can be accepted for now, it is waited a moment and tried again.
+fn accepted<R: Clock>(rt: &R, listener: &TcpListener) -> io::Result<TcpStream> {
+    for _ in 0..u64::MAX {
+        match listener.accept() {
+            Ok((stream, _)) => return Ok(stream),
+            Err(error) if is_passing(&error) => {
+                thread::sleep(rt, Duration::from_millis(BETWEEN_TRIES));
+            }
+            Err(error) => return Err(error),
+        }
+    }
+    Err(io::Error::from(io::ErrorKind::TimedOut))
+}
+
 /// Answers one connection, and says whether the keeper is shut behind it.
 fn leaves_shut<R: Clock + AllocGlobal, K: Keeper, E: Write>(
     rt: &R,
@@ -131,7 +162,7 @@ fn leaves_shut<R: Clock + AllocGlobal, K: Keeper, E: Write>(
     stream: &TcpStream,
     moment: u64,
     patience: Patience,
-    log: &mut Option<&mut E>,
+    log: &mut Option<Log<'_, E>>,
 ) -> bool
     ensures served { HasServed K.Keeper 1 (IsClientsWithin moment moment) archive.old.keeper archive.new.keeper }
 {
@@ -173,7 +204,7 @@ fn answer_client<R: Clock + AllocGlobal, K: Keeper, E: Write>(
     stream: &TcpStream,
     moment: u64,
     patience: Patience,
-    log: &mut Option<&mut E>,
+    log: &mut Option<Log<'_, E>>,
 ) -> io::Result<Result<Served, DeskFault>>
     ensures served { HasServed K.Keeper 1 (IsClientsWithin moment moment) archive.old.keeper archive.new.keeper }
 {
@@ -197,7 +228,7 @@ fn answer_client<R: Clock + AllocGlobal, K: Keeper, E: Write>(
             sent: sent.get(),
             lasted: client.accepted.elapsed(rt)?,
         };
-        write_line(rt.alloc(), &ended, *log);
+        log.write_line(rt.alloc(), &ended);
     }
     Ok(end)
 }

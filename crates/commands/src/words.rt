@@ -6,6 +6,7 @@ use crate::answers;
 use crate::database::{InFile, close, create_archive, open_archive};
 use crate::doing::body_of;
 use crate::fault::Stop;
+use crate::log::Log;
 use crate::moments::Moments;
 use crate::serving::{keep_room, patience, serve_at};
 use keep::Keeper;
@@ -13,6 +14,7 @@ use queue::Archive;
 use rules::Config;
 use std::io::{self, Write};
 use std::net::TcpListener;
+use std::os::fd::AsFd;
 
 /// What is asked of an archive that stands. Moments are in seconds since 1970-01-01 00:00:00 UTC.
 #[derive(Clone, Copy)]
@@ -98,7 +100,7 @@ fn serve_listener<'a, K: Keeper, E: Write>(
     listener: &io::Result<TcpListener>,
     left: u64,
     moments: &mut Moments<'_>,
-    log: &mut Option<&mut E>,
+    log: &mut Option<Log<'_, E>>,
 ) -> Result<(), Stop<'a>>
     ensures served { HasServed K.Keeper left (IsClientsWithin moments.old.greatest moments.new.greatest) archive.old.keeper archive.new.keeper }
 {
@@ -116,7 +118,7 @@ fn serve_some<'a, K: Keeper + Drop, F: InFile<K>, E: Write>(
     listener: &io::Result<TcpListener>,
     left: u64,
     moments: &mut Moments<'_>,
-    log: &mut Option<&mut E>,
+    log: &mut Option<Log<'_, E>>,
 ) -> Result<u64, Stop<'a>> {
     let mut archive = open_archive::<K, F>(rt, db)?;
     let served = serve_listener(rt, &mut archive, listener, left, moments, log);
@@ -136,9 +138,13 @@ fn again<'a>(stop: Stop<'a>) -> Stop<'a> {
     }
 }
 
-/// The output that a log goes to, where one is wanted.
-fn log_on<E>(is_wanted: bool, err: &mut E) -> Option<&mut E> {
-    if is_wanted { Some(err) } else { None }
+/// The log, where one is wanted, on an output that is standard error.
+fn log_on<'l, E: Write>(rt: &HostRuntime, is_wanted: bool, err: &'l mut E) -> Option<Log<'l, E>> {
+    if !is_wanted {
+        return None;
+    }
+    let stderr = rt.stderr();
+    Some(Log::new(err, stderr.as_fd().try_clone_to_owned().ok()))
 }
 
 /// Serves the archive of a database file. The listener is made before the file is opened, so that clients wait meanwhile, and
@@ -153,26 +159,13 @@ pub fn serve_file<'a, K: Keeper + Drop, F: InFile<K>, E: Write>(
     keep_room(rt.alloc());
     let listener = TcpListener::bind(rt, serving.address);
     let mut moments = Moments::new(serving.at, serving.moments);
-    let mut left = serve_some::<K, F, E>(
-        rt,
-        db,
-        &listener,
-        serving.count,
-        &mut moments,
-        &mut log_on(serving.log, err),
-    )?;
+    let mut log = log_on(rt, serving.log, err);
+    let mut left = serve_some::<K, F, E>(rt, db, &listener, serving.count, &mut moments, &mut log)?;
     for _ in 1..serving.count {
         if left == 0 {
             break;
         }
-        left = match serve_some::<K, F, E>(
-            rt,
-            db,
-            &listener,
-            left,
-            &mut moments,
-            &mut log_on(serving.log, err),
-        ) {
+        left = match serve_some::<K, F, E>(rt, db, &listener, left, &mut moments, &mut log) {
             Ok(left) => left,
             Err(stop) => return Err(again(stop)),
         };

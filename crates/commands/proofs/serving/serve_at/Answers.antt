@@ -45,7 +45,7 @@ returns-then-leaves_shut-clause-served g c =
 pub loop-served-preserved : goal.loop-served-preserved
 loop-served-preserved g c =
     let sofar = c.loop-served.invariant in
-    elim c.match-accept.branch [
+    elim c.match-accepted.branch [
       | in-Ok+else-leaves_shut w ↦ rw (w.archive-is, w.moments-is) (record {
         turns = one_more g.K.Keeper c.loop-served.served (c.loop-served.served + 1) c.args.moments.now.greatest c.loop-served.moments.greatest w.next-moment.new.self.greatest
             c.args.archive.now.keeper c.loop-served.archive.keeper w.leaves_shut.new.archive.keeper (omega arith) sofar.rises w.next-moment.ensures.rises sofar.turns

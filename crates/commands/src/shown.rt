@@ -1,0 +1,38 @@
+//! Names, words and lines that others chose, as they are printed.
+
+use std::alloc::{AllocError, Global};
+use std::fmt;
+
+/// What is printed in place of a character that is not shown.
+const MARK: char = '?';
+
+/// A name or a word as it is printed: a question mark stands for each control character, which is one of U+0000 to U+001F or of U+007F
+/// to U+009F. So it forges no line, and is no command to a terminal.
+#[derive(Clone, Copy, Debug)]
+pub struct Shown<'s>(pub &'s str);
+
+impl fmt::Display for Shown<'_> {
+    fn fmt<W: fmt::Write>(&self, f: &mut fmt::Formatter<W>) -> fmt::Result {
+        let mut is_first = true;
+        for piece in self.0.split(char::is_control) {
+            if !is_first {
+                f.write_char(MARK)?;
+            }
+            f.write_str(piece)?;
+            is_first = false;
+        }
+        Ok(())
+    }
+}
+
+/// Bytes of which nothing is known, as they are printed: a question mark stands for each that is not of 0x20 to 0x7E.
+pub fn shown_bytes(alloc: Global, bytes: &[u8]) -> Result<String, AllocError> {
+    let mut text = String::new(alloc);
+    for byte in bytes {
+        text.push(match byte {
+            b' '..=b'~' => char::from(*byte),
+            _ => MARK,
+        })?;
+    }
+    Ok(text)
+}
