@@ -1,10 +1,11 @@
 # try: the main job on stored files; build: prove and build the program; install: copy what was built, and with_sidecars, to
 # PREFIX/bin; test: the gate and all other tests (tools/run_tests); test-long: tests of the built program that take minutes
-# (tools/run_long_tests); wrong: the wrong bodies that the gate leaves out, from where the last run was cut off.
+# (tools/run_long_tests); wrong: the wrong bodies that the gate leaves out, from where the last run was cut off; soak: a million
+# commands with kills among them (tools/soak), from where the last run was stopped.
 PREFIX ?= /usr/local
 PROGRAM = crates/archive/out/archive
 
-.PHONY: try build install test test-long wrong
+.PHONY: try build install test test-long wrong soak
 
 try:
 	@echo 'The stored files of an upload go through an archive in memory, which prints its index. Compiling takes about a minute. Nothing is proved by it: its last line says proved=no.' >&2
@@ -26,3 +27,6 @@ test-long:
 
 wrong:
 	tools/try_wrong_bodies
+
+soak:
+	tools/soak
