@@ -29,11 +29,14 @@ SHARES = {
 LENGTHS = {"serve": (100, 400), "batch": (100, 600), "put": (2, 12), "line": (2, 6)}
 KILLED = {"batch": 0.5, "put": 0.5, "line": 0.2, "serve": 0.006, "between": 0.002}
 
-# The commands that are answered by lines of which there may be none or many, behind which a list makes what stands before it.
-WITH_LINES = {"run", "promote", "waiting", "verdicts"}
+# The commands that are answered by lines of which there may be none or many. A list makes and prints what stands before them at the
+# latest with them. Of a list that is killed, these and others that change something have a guard behind them, which asks what waits: what
+# follows it is begun once all before it is printed. So what had no line and may be done is a command and the files in front of it.
+WITH_LINES = {"run", "promote", "waiting", "verdicts", "guard"}
+GUARDED = {"run", "promote", "waiting", "verdicts", "copy", "remove", "clean"}
 
-# Of a list that is killed, these have such a command behind them.
-FOLLOWED = {"copy", "remove", "clean"}
+# What stands in a list and is no command that is counted.
+UNCOUNTED = {"mark", "guard"}
 
 
 @dataclasses.dataclass(frozen=True)
@@ -65,8 +68,7 @@ class Command:
 
 @dataclasses.dataclass(frozen=True)
 class Stretch:
-    """Commands that are given in one way. Where it is a list that is killed, `ends` tells behind which commands what was made so far is
-    printed at the latest."""
+    """Commands that are given in one way. Where it is a list that is killed, `ends` tells where its guards end."""
 
     way: str
     commands: tuple
@@ -74,7 +76,7 @@ class Stretch:
     ends: tuple = ()
 
     def count(self):
-        return sum(it.word != "mark" for it in self.commands)
+        return sum(it.word not in UNCOUNTED for it in self.commands)
 
     def end_behind(self, start):
         """The first end behind a command."""
@@ -156,7 +158,7 @@ class Drawing:
         is_between = way == "serve" and KILLED[way] <= drawn < KILLED[way] + KILLED["between"]
         sent = chance.choice((1, 1, 1, chance.random()))
         seconds = chance.random() * chance.choice((0.0005, 0.002, 0.01))
-        kill = Kill(is_between, sent, seconds, 1.1 * chance.random(), int(chance.expovariate(1)))
+        kill = Kill(is_between, sent, seconds, 1.1 * chance.random() ** 0.5, int(chance.expovariate(1)))
         return kill if is_between or drawn < KILLED[way] else None
 
     def go_on(self, most):
@@ -188,16 +190,14 @@ class Drawing:
         """Commands that are given at once, all at one moment."""
         self.go_on(count * GOING_ON)
         kills = [it for it in (self.kill(way) for _ in range(3)) if it] if self.kill(way) else []
-        commands, ends, made = [], [], 0
-        while made < count:
-            drawn = [self.command(way)]
-            if kills and drawn[0].word in FOLLOWED:
-                if made + 1 == count:
-                    continue
-                drawn.append(Command("waiting", (), None, self.moment))
-            commands += drawn
-            made += len(drawn)
-            if drawn[-1].word in WITH_LINES:
+        commands, ends = [], []
+        for _ in range(count):
+            commands.append(self.command(way))
+            word = commands[-1].word
+            if word in WITH_LINES:
+                commands.append(self.mark())
+            if kills and word in GUARDED:
+                commands.append(Command("guard", (), None, self.moment))
                 ends.append(len(commands))
                 commands.append(self.mark())
         return Stretch(way, tuple(commands), tuple(kills), tuple(ends))

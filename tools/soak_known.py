@@ -128,6 +128,9 @@ class Known:
     def expect_verdicts(self, command, answer):
         return answer == b"".join(self.verdicts)
 
+    def expect_guard(self, command, answer):
+        return self.expect_waiting(command, answer)
+
     def expect_mark(self, command, answer):
         return answer == refused(command, "Q1")
 

@@ -6,9 +6,11 @@ what the answer is the second time. It also tells what it shows before, between 
 import collections
 import contextlib
 import dataclasses
+import itertools
 import os
 import random
 import signal
+import socket
 import subprocess
 import time
 import urllib.parse
@@ -42,6 +44,10 @@ TIMELESS = {"show", "verdicts"}
 MANY, LONG = 1_000_000, 300
 
 
+# Ports that the system gives to no client by itself, so that one that is free stays so until `serve` has it.
+PORTS = itertools.cycle(range(10_000, 32_000))
+
+
 class Difference(Exception):
     """What is not as it has to be."""
 
@@ -59,7 +65,8 @@ class Given:
 
 @dataclasses.dataclass
 class Attempt:
-    """What a part of a list was answered, from a command on: whole answers, and perhaps a part of the next. It may be the second time."""
+    """What a part of a list was answered, from a command on: whole answers, none for a guard that was cut off, and perhaps a part of the
+    next. It may be the second time."""
 
     start: int
     answers: list
@@ -67,6 +74,14 @@ class Attempt:
     status: int
     told: bytes
     is_again: bool = False
+
+
+def free_address():
+    while True:
+        address = "127.0.0.1", next(PORTS)
+        with socket.socket() as it, contextlib.suppress(OSError):
+            it.bind(address)
+            return address
 
 
 def request_of(command):
@@ -94,7 +109,7 @@ def cut(serving, command):
         return reset(client) or b""
     if end == "goes":
         return client.close() or b""
-    client.shutdown(clients.socket.SHUT_WR)
+    client.shutdown(socket.SHUT_WR)
     return rest(client)
 
 
@@ -140,6 +155,14 @@ def divided(commands, text):
     return answers, b"".join(lines[at:])
 
 
+def pass_guard(stretch, attempt):
+    """A guard whose lines were cut off, or perhaps had none, is not given again: what follows it may have been begun."""
+    place = attempt.start + len(attempt.answers)
+    if place < len(stretch.commands) and stretch.commands[place].word == "guard":
+        attempt.answers.append(None)
+        attempt.partial = b""
+
+
 class Side:
     """An archive with the name of its database file, in a folder, and files to deliver in another."""
 
@@ -147,7 +170,7 @@ class Side:
         self.program, self.db, self.files, self.is_killed = program, f"{folder}/{name}.db", files, is_killed
         self.kills = collections.Counter()
         self.opening, self.pace = 0.1, {}
-        clients.PROGRAM = program  # what `Serving` runs
+        clients.PROGRAM, clients.free_address = program, free_address  # what `Serving` runs, and where
 
     # ---- lines
 
@@ -212,7 +235,7 @@ class Side:
     def listed(self, command):
         """A command as a line of a list."""
         words = [command.file.stored(self.files)] if command.file else command.words
-        return " ".join(["put" if command.word in ("mark", "unreadable") else command.word, *words])
+        return " ".join([{"mark": "put", "unreadable": "put", "guard": "waiting"}.get(command.word, command.word), *words])
 
     def attempt(self, stretch, start, end, kill=None, is_again=False):
         """Gives a part of a list."""
@@ -234,6 +257,7 @@ class Side:
         attempts, start = [], 0
         for kill in [*stretch.kills, None]:
             attempts.append(self.attempt(stretch, start, None, kill))
+            pass_guard(stretch, attempts[-1])
             start += len(attempts[-1].answers)
             if kill:
                 self.kills["in a list" if attempts[-1].status < 0 else "too late"] += 1
