@@ -17,7 +17,7 @@ BEGINNING, GOING_ON, LEAP = 1_467_435_600, 400, 864_000
 
 # How often each way and each command of it is taken, by weights.
 WAYS = {"serve": 36, "batch": 30, "put": 12, "line": 22}
-COMMANDS = {"put": 62, "run": 9, "copy": 6, "promote": 2, "remove": 3, "clean": 2.5, "waiting": 2, "verdicts": 0.3}
+COMMANDS = {"put": 62, "run": 9, "copy": 6, "promote": 1, "remove": 3, "clean": 2.5, "waiting": 2, "verdicts": 0.3}
 SHARES = {
     "serve": {**COMMANDS, "show": 8, "cut": 6, "hostile": 4},
     "batch": {**COMMANDS, "unreadable": 1},

@@ -77,9 +77,12 @@ class Attempt:
 
 
 def free_address():
+    """An address at which nothing listens. A process that is started meanwhile may hold this socket for a moment, too: so it is one
+    beside which `serve` may have the address."""
     while True:
         address = "127.0.0.1", next(PORTS)
         with socket.socket() as it, contextlib.suppress(OSError):
+            it.setsockopt(socket.SOL_SOCKET, socket.SO_REUSEADDR, 1)
             it.bind(address)
             return address
 

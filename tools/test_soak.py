@@ -73,7 +73,7 @@ class Soak(unittest.TestCase):
         os.chmod(program, 0o755)
         status, printed = self.soak("--commands", str(FEW), "--each", str(FEW), program=program)
         self.assertEqual(status, 1, printed)
-        self.assertRegex(printed, rf"\Asoak: --seed 1 --each {FEW}, behind \d+ commands")
+        self.assertRegex(printed, rf"\Asoak: --seed 1 --each {FEW}, behind [\d,]+ commands: ")
 
     def test_a_file_that_is_lost_is_found(self):
         self.found("batch*killed.db.list", LOST)
