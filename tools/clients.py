@@ -76,12 +76,17 @@ class Serving:
         return rest(self.sent(request))
 
     def said(self):
-        """What was printed so far, on both outputs."""
-        texts = []
-        for file in (self.printed, self.told):
-            file.seek(0)
-            texts.append(file.read().decode(errors="backslashreplace"))
-        return tuple(texts)
+        """What was printed so far, on both outputs. The place in each at which the program goes on is left as it is."""
+        files = [it.fileno() for it in (self.printed, self.told)]
+        return tuple(os.pread(it, os.fstat(it).st_size, 0).decode(errors="backslashreplace") for it in files)
+
+    def logged(self, count):
+        """Waits until so many lines are logged, of which the last is written behind its reply. Answers all that is there then, or behind
+        the longest wait."""
+        end = time.monotonic() + LONG
+        while (told := self.said()[1]).count("\n") < count and self.is_running() and time.monotonic() < end:
+            time.sleep(0.01)
+        return told
 
     def ended(self, limit=SOON):
         """Waits for the end. Answers the exit status, and what was printed on both outputs."""
@@ -99,6 +104,22 @@ def rest(client):
         while part := client.recv(1 << 16):
             parts.append(part)
     return b"".join(parts)
+
+
+def unread(client):
+    """How many bytes that a client on loopback sent the server has not read, by what the system says of both ends."""
+    own, other = ("0100007F:%04X" % port for _, port in (client.getsockname(), client.getpeername()))
+    with open("/proc/net/tcp", encoding="ascii") as it:
+        queues = {tuple(words[1:3]): words[4].split(":") for words in map(str.split, it)}
+    (on_the_way, _), (_, arrived) = (queues.get(ends, ("0", "0")) for ends in ((own, other), (other, own)))
+    return int(on_the_way, 16) + int(arrived, 16)
+
+
+def wait_until_read(client):
+    """Waits until the server has read what a client sent, but no longer than what should come at once may take."""
+    end = time.monotonic() + SOON
+    while unread(client) and time.monotonic() < end:
+        time.sleep(0.01)
 
 
 def reset(client):

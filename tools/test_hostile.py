@@ -237,7 +237,7 @@ class Hostile(Lines):
             serving.answer(get("verdicts"))
             made += 1
             last, took = peak_of(serving.process), seconds_since(start)
-            time.sleep(0.5)
+            serving.logged(made)
             serving.kill(signal.SIGTERM)
             status, printed, told = serving.ended()
         print(f"{COUNT} hostile connections: {took:.1f} s, VmHWM {first} KiB behind the first hundred and {last} KiB behind all.")

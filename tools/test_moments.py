@@ -3,11 +3,10 @@
 import os
 import re
 import sys
-import time
 import unittest
 
 sys.dont_write_bytecode = True
-from clients import Serving, reset, rest
+from clients import Serving, reset, rest, wait_until_read
 from test_database import NAMES, Lines
 from test_served import PACKAGES, get, put, release, replied
 
@@ -139,7 +138,7 @@ class Log(Lines):
         def client(serving):
             it = serving.connected()
             it.sendall(put(NAMES[1])[:-1])
-            time.sleep(0.2)
+            wait_until_read(it)
             reset(it)
 
         _, words = self.logged(client)

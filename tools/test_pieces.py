@@ -9,11 +9,10 @@ import sqlite3
 import subprocess
 import sys
 import threading
-import time
 import unittest
 
 sys.dont_write_bytecode = True
-from clients import Serving, put_of, reset, status_of
+from clients import Serving, put_of, reset, status_of, wait_until_read
 from test_database import PROGRAM, Lines
 from test_served import replied
 
@@ -86,7 +85,7 @@ class CutOff(Bodies):
         db, request = self.made(), put_of("large.deb", LARGE)
         with Serving(db, 1) as serving, serving.connected() as client:
             client.sendall(request[: len(request) // 2])
-            time.sleep(1)
+            wait_until_read(client)
             serving.kill(signal.SIGKILL)
             serving.process.wait()
         with Serving(db, 1) as serving:

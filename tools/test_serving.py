@@ -18,7 +18,7 @@ import time
 import unittest
 
 sys.dont_write_bytecode = True
-from clients import Serving, free_address, put_of, reset, rest, seconds_since, status_of
+from clients import Serving, free_address, put_of, reset, rest, seconds_since, status_of, wait_until_read
 from test_database import DATA, NAMES, Lines
 from test_served import get, put, replied
 
@@ -157,7 +157,7 @@ class Kills(Lines):
                 self.assertEqual(serving.answer(put(NAMES[0])), NEW)
                 with serving.connected() as client:
                     client.sendall(put(NAMES[1])[:-1])
-                    time.sleep(0.2)
+                    wait_until_read(client)
                     self.killed(serving, number)
                     self.assertEqual(rest(client), b"")
             self.assertEqual(self.line(0, "waiting", db, "--at", "0"), f"2 {NAMES[0]}\n")

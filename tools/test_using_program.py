@@ -59,6 +59,14 @@ class Case(snippets.Case):
         self.process = self.room.start(line, port=port)
         return port
 
+    def wait_for(self, pattern):
+        """Waits for what a server writes behind a reply: until this pattern finds it among what programs printed. Answers all of that."""
+        end = time.monotonic() + 60
+        while not re.search(pattern, self.room.read("told")):
+            self.assertLess(time.monotonic(), end, self.room.read("told"))
+            time.sleep(0.05)
+        return self.room.read("told")
+
     def names(self):
         return [os.path.basename(path) for path in self.room.read("work/files").split()]
 
@@ -247,18 +255,21 @@ class Serving(Case):
         self.ready()
         port = self.serve("--log")
         text = snippet("curl", self.at(port))
-        start = time.monotonic()
         self.assertEqual(self.shell(text), "new\n" * len(self.names()))
-        self.assertLess(time.monotonic() - start, 1)
+        self.check_quick(self.wait_for(f"(?m)(^\\d+ PUT .*\n){{{len(self.names())}}}"))
         self.assertEqual(self.shell(text), "again\n" * len(self.names()))
         self.assertEqual(self.shell(snippet("lists", self.at(port))), f"0 {CHANGES}\n")
         self.shell(f"curl -sS --fail-with-body -X POST http://127.0.0.1:{port}/queue/run")
         self.assertEqual(self.shell(snippet("lists", self.at(port))), f"accepted {CHANGES}\n")
         self.check_log(snippet("log"))
 
+    def check_quick(self, log):
+        """Checks that no connection of a log took the second that a client waits which asks first whether it may send."""
+        self.assertLess(max(int(line.split()[5]) for line in log.splitlines()), 1000, log)
+
     def check_log(self, line):
         """Checks that the log has such a line as the page's, with other numbers."""
-        self.assertRegex(self.room.read("told"), "(?m)^" + re.sub(r"(?<= )\\?\d+(?= |$)|^\d+", r"\\d+", re.escape(line.strip()).replace(r"\ ", " ")) + "$")
+        self.wait_for("(?m)^" + re.sub(r"(?<= )\\?\d+(?= |$)|^\d+", r"\\d+", re.escape(line.strip()).replace(r"\ ", " ")) + "$")
 
     @needs("dpkg-deb", "curl")
     def test_a_refusal_by_curl_tells_the_fault(self):
@@ -266,10 +277,7 @@ class Serving(Case):
         self.spoil()
         text = snippet("curl", self.at(self.serve()))
         self.room.start(["sh", "-ec", text])
-        end = time.monotonic() + 20
-        while "Q3 C4\n" not in self.room.read("told"):
-            self.assertLess(time.monotonic(), end)
-            time.sleep(0.05)
+        self.wait_for("Q3 C4\n")
 
     def spoil(self):
         """Has the .changes be of another format, which is refused, and be the one file that is uploaded."""
@@ -349,7 +357,7 @@ class Serving(Case):
         printed = [self.done(words) for words in commands]
         self.assertEqual(printed[-1], f"accepted {CHANGES}\n")
         moment = self.room.read("work/now").strip()
-        self.assertIn(f"{moment} POST /queue/run 200 ", self.room.read("told"))
+        self.wait_for(f"(?m)^{moment} POST /queue/run 200 ")
         [clean] = commands_of(snippet("clean.service", address))
         self.assertEqual(self.done(clean), "0\n")
         [moment, run] = commands_of(snippet("queue.service"))
@@ -394,11 +402,19 @@ class Copies(Case):
             ended.set()
             thread.join(60)
 
+    def is_one(self, answered):
+        """Waits until something is answered, and says whether it is."""
+        end = time.monotonic() + 60
+        while not answered and time.monotonic() < end:
+            time.sleep(0.01)
+        return bool(answered)
+
     def test_a_copy_while_it_serves_opens_and_has_all_that_was_answered(self):
         port = self.serve()
         self.systemctl()
         counts = []
         with self.putting(port) as answered:
+            self.assertTrue(self.is_one(answered))
             for number in range(6):
                 time.sleep(0.3)
                 counts.append(len(answered))

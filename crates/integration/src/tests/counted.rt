@@ -4,8 +4,10 @@ use super::checks::{BOX, config_of, same};
 use super::uploads::{File, HELLO, MOMENT, TIE, TIE_AGAIN};
 use desk::{DeskFault, answer};
 use keep::{Change, IndexText, Judgement, KeepFault, Keeper, PlainKeeper, Waiting};
+use once::{InOrder, drive_created};
 use queue::{Archive, Arrived, Fault, Report};
 use rules::Config;
+use sqlite::Connection;
 use std::alloc::{AllocError, Global};
 use std::io::{self, ErrorKind, Read};
 use std::process::Abort;
@@ -107,15 +109,19 @@ impl<K: Keeper> Keeper for Counting<K> {
     ghost settled = { λ k. K.Keeper.settled k.inner };
 }
 
-/// An archive in memory with one suite, box, whose texts are counted.
-fn counted(alloc: Global) -> Result<Archive<Counting<PlainKeeper>>, Fail> {
-    let inner = PlainKeeper::new(alloc, config_of(alloc, BOX)?, 0)?;
+/// An archive over a keeper, of which texts and pieces are counted.
+fn counted<K: Keeper>(alloc: Global, inner: K) -> Archive<Counting<K>> {
     let counting = Counting {
         inner,
         texts: 0,
         pieces: 0,
     };
-    Ok(Archive::new(alloc, counting))
+    Archive::new(alloc, counting)
+}
+
+/// A keeper in memory of an archive with one suite, box.
+fn in_memory(alloc: Global) -> Result<PlainKeeper, Fail> {
+    Ok(PlainKeeper::new(alloc, config_of(alloc, BOX)?, 0)?)
 }
 
 /// Checks the lines of a report.
@@ -145,35 +151,40 @@ fn expect_run<K: Keeper>(
     Ok(())
 }
 
-/// Checks that a run of no upload names no text. The one before names two, those of Packages and Release.
-fn expect_hello<K: Keeper>(
+/// Checks that a run of no upload names no text, and none that admits a version equal to the one that is shown. Others name two texts,
+/// those of Packages and Release.
+fn expect_runs<K: Keeper>(
     rt: &impl Abort,
     alloc: Global,
     archive: &mut Archive<Counting<K>>,
 ) -> Result<(), Fail> {
     let lines = ["accepted hello_1.0-1_amd64.changes"];
     expect_run(rt, alloc, archive, &HELLO, MOMENT, &lines, 2)?;
-    expect_run(rt, alloc, archive, &[], MOMENT + 1, &[], 2)
+    expect_run(rt, alloc, archive, &[], MOMENT + 1, &[], 2)?;
+    let lines = ["accepted tie_1.0_amd64.changes"];
+    expect_run(rt, alloc, archive, &TIE, MOMENT + 2, &lines, 4)?;
+    let lines = ["accepted tie_1.00_amd64.changes"];
+    expect_run(rt, alloc, archive, &TIE_AGAIN, MOMENT + 3, &lines, 4)
 }
 
-/// Checks that a run that admits a version equal to the one that is shown names no text.
-fn expect_tie<K: Keeper>(
+/// Checks the same over the tables of a database that has none.
+fn expect_runs_over_tables<S: InOrder + Drop>(
     rt: &impl Abort,
     alloc: Global,
-    archive: &mut Archive<Counting<K>>,
+    connection: Connection<S>,
 ) -> Result<(), Fail> {
-    let lines = ["accepted tie_1.0_amd64.changes"];
-    expect_run(rt, alloc, archive, &TIE, MOMENT, &lines, 2)?;
-    let lines = ["accepted tie_1.00_amd64.changes"];
-    expect_run(rt, alloc, archive, &TIE_AGAIN, MOMENT + 1, &lines, 2)
+    let Ok((archive, _)) = drive_created(alloc, connection, config_of(alloc, BOX)?, 0, &[]) else {
+        return Err(Fail::from("not made"));
+    };
+    expect_runs(rt, alloc, &mut counted(alloc, archive.into_keeper()))
 }
 
 /// A run after which all indices are as before names no text to the keeper.
 #[test]
 fn a_run_that_changes_nothing_names_no_text(rt: HostRuntime) -> Result<(), Fail> {
     let alloc = rt.alloc();
-    expect_hello(&rt, alloc, &mut counted(alloc)?)?;
-    expect_tie(&rt, alloc, &mut counted(alloc)?)
+    expect_runs(&rt, alloc, &mut counted(alloc, in_memory(alloc)?))?;
+    expect_runs_over_tables(&rt, alloc, Connection::open_in_memory(alloc)?)
 }
 
 /// Bytes behind which the reader fails.
@@ -197,25 +208,27 @@ impl Read for Failing<'_> {
 /// How much comes of a body of 200,000 bytes: two pieces of 65,536.
 const COMES: usize = 131_072;
 
-/// The head of its delivery.
-const HEAD: &[u8] = b"PUT /incoming/long.deb HTTP/1.1\r\nContent-Length: 200000\r\n\r\n";
+/// The head of the delivery of such a body.
+const HEAD: &[u8] = b"PUT /incoming/other.deb HTTP/1.1\r\nContent-Length: 200000\r\n\r\n";
 
 /// What comes of the body.
 fn front_of_body(alloc: Global) -> Result<Vec<u8>, AllocError> {
     vec![in alloc; b'x'; COMES]
 }
 
-/// Checks that two pieces have come, and that nothing has arrived: the same bytes are a body of their own then.
+/// Checks that two pieces have come behind so many, and that nothing has arrived: the same bytes are a body of their own then.
 fn expect_two_pieces<K: Keeper>(
     rt: &impl Abort,
     alloc: Global,
     archive: &mut Archive<Counting<K>>,
+    before: usize,
+    name: &str,
     front: &[u8],
 ) {
-    same(rt, &archive.keeper.pieces, &2);
-    let arrived = archive.deliver(alloc, "long.deb", front, MOMENT);
+    same(rt, &archive.keeper.pieces, &before.saturating_add(2));
+    let arrived = archive.deliver(alloc, name, front, MOMENT);
     same(rt, &arrived, &Ok(Arrived::New));
-    same(rt, &archive.keeper.pieces, &4);
+    same(rt, &archive.keeper.pieces, &before.saturating_add(4));
 }
 
 /// Checks what comes of a delivery whose reader fails behind two pieces.
@@ -228,9 +241,10 @@ fn expect_cut<K: Keeper>(
     let mut reader = Failing {
         bytes: front.as_slice(),
     };
+    let before = archive.keeper.pieces;
     let arrived = archive.receive(alloc, "long.deb", 200_000, &mut reader, MOMENT);
     same(rt, &arrived, &Err(Fault::ReaderFailed));
-    expect_two_pieces(rt, alloc, archive, front.as_slice());
+    expect_two_pieces(rt, alloc, archive, before, "long.deb", front.as_slice());
     Ok(())
 }
 
@@ -257,15 +271,38 @@ fn expect_cut_request<K: Keeper>(
     let front = front_of_body(alloc)?;
     let mut request = Vec::from_slice(alloc, HEAD)?;
     request.extend_from_slice(front.as_slice())?;
+    let before = archive.keeper.pieces;
     expect_failed(rt, alloc, archive, request.as_slice());
-    expect_two_pieces(rt, alloc, archive, front.as_slice());
+    expect_two_pieces(rt, alloc, archive, before, "other.deb", front.as_slice());
     Ok(())
+}
+
+/// Checks both over one archive.
+fn expect_pieces<K: Keeper>(
+    rt: &impl Abort,
+    alloc: Global,
+    archive: &mut Archive<Counting<K>>,
+) -> Result<(), Fail> {
+    expect_cut(rt, alloc, archive)?;
+    expect_cut_request(rt, alloc, archive)
+}
+
+/// Checks the same over the tables of a database that has none.
+fn expect_pieces_over_tables<S: InOrder + Drop>(
+    rt: &impl Abort,
+    alloc: Global,
+    connection: Connection<S>,
+) -> Result<(), Fail> {
+    let Ok((archive, _)) = drive_created(alloc, connection, config_of(alloc, BOX)?, 0, &[]) else {
+        return Err(Fail::from("not made"));
+    };
+    expect_pieces(rt, alloc, &mut counted(alloc, archive.into_keeper()))
 }
 
 /// Each piece of a body is stored before the next is read.
 #[test]
 fn pieces_are_stored_as_they_come(rt: HostRuntime) -> Result<(), Fail> {
     let alloc = rt.alloc();
-    expect_cut(&rt, alloc, &mut counted(alloc)?)?;
-    expect_cut_request(&rt, alloc, &mut counted(alloc)?)
+    expect_pieces(&rt, alloc, &mut counted(alloc, in_memory(alloc)?))?;
+    expect_pieces_over_tables(&rt, alloc, Connection::open_in_memory(alloc)?)
 }
