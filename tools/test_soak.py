@@ -12,7 +12,7 @@ sys.dont_write_bytecode = True
 from test_database import PROGRAM, ROOT
 
 # How many commands are given, and how many where something else is done, which has to be found.
-COMMANDS, FEW = 4000, 1000
+COMMANDS, FEW = 3000, 1000
 
 # A program that first does something else for some of its lines. $list is the last word of the line, $folder a folder of its own.
 SHIM = """#!/bin/sh
@@ -56,7 +56,7 @@ class Soak(unittest.TestCase):
         status, printed = self.soak("--commands", str(COMMANDS), "--each", str(COMMANDS // 2))
         self.assertEqual(status, 0, printed)
         self.assertIn(f"\ncommands: {COMMANDS:,}\n", printed)
-        print("; ".join(it for it in printed.splitlines() if re.match(r"kills|killed|4,000", it)) + ".")
+        print("; ".join(it for it in printed.splitlines() if re.match(r"kills|killed|3,000", it)) + ".")
 
     def test_it_goes_on_where_it_was_stopped(self):
         parts = [self.soak("--commands", str(count), "--each", "100", folder="parts") for count in (200, 400)]
