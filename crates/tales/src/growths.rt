@@ -185,7 +185,7 @@ fn called_of<K: Keeper + Drop, M: Places<K>, R: Print + AllocGlobal>(
 
 /// `call CALL`: what a call answers, or its fault; `call create CONFIG` and `call open`: whether an archive is made, or opened again. Behind
 /// `marked` in the place of `call` the marks are printed.
-fn marked<K: Keeper + Drop, M: Places<K>, R: Print + AllocGlobal>(
+fn answered<K: Keeper + Drop, M: Places<K>, R: Print + AllocGlobal>(
     marks: Marks<'_, R>,
     story: &mut Story<K, M>,
     words: &[Vec<u8>],
@@ -219,6 +219,6 @@ impl<K: Keeper + Drop, M: Places<K>, R: Print + AllocGlobal> Answers<R> for Mark
             "marked" => true,
             _ => return self.story.answered(rt.alloc(), words),
         };
-        marked(Marks { rt, are_printed }, &mut self.story, rest)
+        answered(Marks { rt, are_printed }, &mut self.story, rest)
     }
 }
