@@ -28,7 +28,7 @@ fn do_words(rt: &HostRuntime, given: &[String]) -> io::Result<u8> {
     let (mut out, mut err) = (io::writer(rt), rt.stderr());
     match command_line::line(alloc, &words) {
         Ok(line) => Ok(act_in_file(rt, &line, &mut out, &mut err)),
-        Err(fault) => Ok(explain(alloc, fault, &words, &mut out, &mut err)),
+        Err(_) => Ok(explain(alloc, &words, &mut out, &mut err)),
     }
 }
 

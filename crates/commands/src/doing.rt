@@ -314,20 +314,14 @@ fn read_shown(alloc: Global, words: &[&str]) -> Result<(), LineFault> {
     Ok(())
 }
 
-/// Prints why words are no line, in which this fault was found, and answers the exit status: 0 for the help or the version that was
+/// Prints why words are no line, which were found to be none, and answers the exit status: 0 for the help or the version that was
 /// asked for, which is printed on `out`; 2 for words that are refused, with a text on `err` that says why; 3 where memory runs out or an
-/// output fails. The text is that of the words as they are shown, which are read for its sake: it quotes what was given.
-pub fn explain<W: Write, E: Write>(
-    alloc: Global,
-    fault: LineFault,
-    words: &[&str],
-    out: &mut W,
-    err: &mut E,
-) -> u8 {
+/// output fails. The text is that of the words as they are shown, which are read once more for its sake: it quotes what was given.
+pub fn explain<W: Write, E: Write>(alloc: Global, words: &[&str], out: &mut W, err: &mut E) -> u8 {
     let told = match read_shown(alloc, words) {
         Err(shown) => explained(&shown, out, err),
-        // No word becomes a good one by a question mark. If one did, the fault would be told by its number.
-        Ok(()) => writeln!(err, "archive: {fault}").map(|_| 2),
+        // No word becomes a good one by a question mark: where no fault is left, memory was wanting before.
+        Ok(()) => explained(&LineFault::OutOfMemory, out, err),
     };
     told.unwrap_or(3)
 }
