@@ -17,7 +17,7 @@ import urllib.parse
 
 import clients
 import test_hostile
-from clients import SOON, Serving, put_of, reset, rest
+from clients import Serving, put_of, reset, rest
 from soak_commands import WITH_LINES
 from soak_files import INDICES
 from test_served import get
@@ -363,7 +363,7 @@ class Side:
                     moment = command.moment
                     self.go_on_to(moment)
                 given.append(self.request_given(command))
-            if not self.is_killed and self.serving.ended(SOON) != (0, "", ""):
+            if not self.is_killed and self.serving.ended(LONG) != (0, "", ""):
                 raise Difference(f"`serve` said {self.serving.said()}")
         finally:
             self.stop()
