@@ -223,9 +223,9 @@ class Side:
             between, second = self.looked_by_lines(command.moment), self.line_of(command)
             return Given(first, second, b"", (before, between, self.looked_by_lines(command.moment)))
         status, partial, _ = ended = self.line_of(command, command.kill)
-        self.kills["in a line" if status < 0 else "too late"] += 1
         if status >= 0:
             return Given(ended)
+        self.kills["in a line"] += 1
         self.open_and_kill(command.kill, command.moment)
         look = self.looked_by_lines(command.moment)
         return Given(self.line_of(command), None, partial, (look,))
@@ -262,12 +262,10 @@ class Side:
             attempts.append(self.attempt(stretch, start, None, kill))
             pass_guard(stretch, attempts[-1])
             start += len(attempts[-1].answers)
-            if kill:
-                self.kills["in a list" if attempts[-1].status < 0 else "too late"] += 1
+            self.kills["in a list"] += attempts[-1].status < 0
             if attempts[-1].status >= 0 or start == len(stretch.commands):
                 break
-            if kill:
-                self.open_and_kill(kill, stretch.commands[0].moment)
+            self.open_and_kill(kill, stretch.commands[0].moment)
         return attempts
 
     def list_again(self, stretch, starts):
