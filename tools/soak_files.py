@@ -7,6 +7,7 @@ import dataclasses
 import functools
 import hashlib
 import os
+import threading
 
 import uploads
 
@@ -80,12 +81,13 @@ class File:
         return self.name, print_of(self.body)
 
     def stored(self, folder):
-        """Where the file stands below a folder. It is written where it is not there."""
-        path = f"{folder}/{self.key[1][3].hex()[:24]}/{self.name}"
+        """Where the file stands below a folder. Where it is not there it is written, and then put there whole."""
+        path, new = f"{folder}/{self.key[1][3].hex()[:24]}/{self.name}", f"{folder}/{threading.get_ident()}"
         if not os.path.exists(path):
             os.makedirs(os.path.dirname(path), exist_ok=True)
-            with open(path, "wb") as it:
+            with open(new, "wb") as it:
                 it.write(self.body)
+            os.replace(new, path)
         return path
 
 

@@ -17,7 +17,7 @@ import urllib.parse
 
 import clients
 import test_hostile
-from clients import SOON, Serving, put_of, reset, rest
+from clients import Serving, put_of, reset, rest
 from soak_commands import WITH_LINES
 from soak_files import INDICES
 from test_served import get
@@ -223,9 +223,9 @@ class Side:
             between, second = self.looked_by_lines(command.moment), self.line_of(command)
             return Given(first, second, b"", (before, between, self.looked_by_lines(command.moment)))
         status, partial, _ = ended = self.line_of(command, command.kill)
-        self.kills["in a line" if status < 0 else "too late"] += 1
         if status >= 0:
             return Given(ended)
+        self.kills["in a line"] += 1
         self.open_and_kill(command.kill, command.moment)
         look = self.looked_by_lines(command.moment)
         return Given(self.line_of(command), None, partial, (look,))
@@ -262,12 +262,10 @@ class Side:
             attempts.append(self.attempt(stretch, start, None, kill))
             pass_guard(stretch, attempts[-1])
             start += len(attempts[-1].answers)
-            if kill:
-                self.kills["in a list" if attempts[-1].status < 0 else "too late"] += 1
+            self.kills["in a list"] += attempts[-1].status < 0
             if attempts[-1].status >= 0 or start == len(stretch.commands):
                 break
-            if kill:
-                self.open_and_kill(kill, stretch.commands[0].moment)
+            self.open_and_kill(kill, stretch.commands[0].moment)
         return attempts
 
     def list_again(self, stretch, starts):
@@ -363,7 +361,7 @@ class Side:
                     moment = command.moment
                     self.go_on_to(moment)
                 given.append(self.request_given(command))
-            if not self.is_killed and self.serving.ended(SOON) != (0, "", ""):
+            if not self.is_killed and self.serving.ended(LONG) != (0, "", ""):
                 raise Difference(f"`serve` said {self.serving.said()}")
         finally:
             self.stop()
