@@ -132,23 +132,61 @@ fn config_of(alloc: Global, text: &[u8]) -> Result<Config, Unread> {
     }
 }
 
-/// Makes an archive, at once or where it is made again in the same place.
+/// Makes an archive again in its place, where memory was wanting.
+fn created_again<K: Keeper + Drop, M: Places<K>>(
+    alloc: Global,
+    made: Result<K, (M::Place, KeepFault)>,
+    config: Config,
+) -> Result<K, (M::Place, KeepFault)> {
+    match made {
+        Ok(keeper) => Ok(keeper),
+        Err((place, KeepFault::OutOfMemory)) => M::create(alloc, place, config),
+        Err((place, fault)) => Err((place, fault)),
+    }
+}
+
+/// Makes an archive in a place, at once or where it is made again.
+fn created_in<K: Keeper + Drop, M: Places<K>, R: Print + AllocGlobal>(
+    marks: Marks<'_, R>,
+    story: &mut Story<K, M>,
+    place: M::Place,
+    config: Config,
+    other: Config,
+) -> Result<Vec<u8>, Unread> {
+    let alloc = marks.rt.alloc();
+    let begun = marks.begin();
+    let made = M::create(alloc, place, config);
+    let ended = marks.end(made.is_err());
+    let made = created_again::<K, M>(alloc, made, other);
+    let answer = kept(alloc, story, made, "made");
+    begun?;
+    ended?;
+    answer
+}
+
+/// `create CONFIG`: makes an archive of a configuration.
 fn created<K: Keeper + Drop, M: Places<K>, R: Print + AllocGlobal>(
     marks: Marks<'_, R>,
     story: &mut Story<K, M>,
     text: &[u8],
 ) -> Result<Vec<u8>, Unread> {
     let alloc = marks.rt.alloc();
-    let (config, other) = (config_of(alloc, text)?, config_of(alloc, text)?);
+    let config = config_of(alloc, text)?;
+    let other = config_of(alloc, text)?;
     let place = M::place(alloc)?;
-    marks.begin()?;
-    let made = M::create(alloc, place, config);
-    marks.end(made.is_err())?;
-    let made = match made {
-        Err((place, KeepFault::OutOfMemory)) => M::create(alloc, place, other),
-        made => made,
-    };
-    kept(alloc, story, made, "made")
+    created_in(marks, story, place, config, other)
+}
+
+/// Opens an archive again in its place, where memory was wanting.
+fn opened_again<K: Keeper + Drop, M: Places<K>>(
+    alloc: Global,
+    there: Result<K, (M::Place, KeepFault)>,
+) -> Result<K, (M::Place, KeepFault)> {
+    match there {
+        Ok(keeper) => Ok(keeper),
+        Err((place, KeepFault::OutOfMemory)) => M::open(alloc, place),
+        Err((place, fault)) => Err((place, fault)),
+    }
 }
 
 /// Opens an archive, at once or where it is opened again in the same place.
@@ -159,14 +197,14 @@ fn opened<K: Keeper + Drop, M: Places<K>, R: Print + AllocGlobal>(
 ) -> Result<Vec<u8>, Unread> {
     let alloc = marks.rt.alloc();
     let place = M::leave(archive.into_keeper());
-    marks.begin()?;
+    let begun = marks.begin();
     let there = M::open(alloc, place);
-    marks.end(there.is_err())?;
-    let there = match there {
-        Err((place, KeepFault::OutOfMemory)) => M::open(alloc, place),
-        there => there,
-    };
-    kept(alloc, story, there, "opened")
+    let ended = marks.end(there.is_err());
+    let there = opened_again::<K, M>(alloc, there);
+    let answer = kept(alloc, story, there, "opened");
+    begun?;
+    ended?;
+    answer
 }
 
 /// What a call answers of the archive that is there, which stays there.
