@@ -44,3 +44,6 @@ pub mod AcceptedParts
 pub mod ToldLemmas
 pub mod PutLemmas
 pub mod RemovalLemmas
+pub mod MovedEntries
+pub mod MovedLemmas
+pub mod MovedLoops

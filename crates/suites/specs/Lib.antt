@@ -14,3 +14,4 @@ pub mod Applying
 pub mod Admission
 pub mod PoolChange
 pub mod Told
+pub mod Moved
