@@ -1,5 +1,5 @@
 -- What the statements on dates do.
-use Rattle.std.proofs.Common.{lit≤, ◌≡◌, ℕ, pos, [], ◌∷◌, Ok, Err, Result, OnOk, refl, false, List, drop, ◌∙◌}
+use Rattle.std.proofs.Common.{lit≤, ◌≡◌, ℕ, pos, [], ◌∷◌, Ok, Err, Result, OnOk, refl, false, List, drop, ◌∙◌, true, subst}
 use Rattle.sqlite.specs.Table.{Table}
 use Rattle.sqlite.specs.Order.{Row}
 use Rattle.sqlite.specs.declared.types.Value.TheVariants.{Null, Text}
@@ -7,16 +7,17 @@ use Rattle.sqlite.specs.Cast.{cast_row}
 use Rattle.sqlite.specs.declared.error.Error.{Error}
 use Rattle.sqlite.specs.State.{State, ExecutesInside}
 use Rattle.tables.specs.Schema.{dates}
-use Rattle.tables.specs.Rows.{whole, Changes, with_date, date_cells, stored}
-use Rattle.tables.specs.Dates.{has_suite, with_new_date}
+use Rattle.tables.specs.Rows.{whole, Changes, with_date, date_cells, stored, HasRows, Numbered}
+use Rattle.tables.specs.Dates.{has_suite, with_new_date, without_dates}
 use Rattle.tables.specs.declared.rows.Date.{Date}
-use Rattle.tables.specs.declared.dates.TheConstants.{INSERT_DATE, UPDATE_DATE}
+use Rattle.tables.specs.declared.dates.TheConstants.{INSERT_DATE, UPDATE_DATE, DELETE_DATES}
 use Rattle.tables.proofs.CastLemmas.{cast_null, cast_int}
-use Rattle.tables.proofs.DatesMeaning.{insert_date_terms, insert_date_is, insert_date_plain, update_date_columns, update_date_is, update_date_plain, suite_is}
+use Rattle.tables.proofs.DatesMeaning.{insert_date_terms, insert_date_is, insert_date_plain, update_date_columns, update_date_is, update_date_plain, suite_is, delete_dates_columns, delete_dates_is, delete_dates_plain}
 use Rattle.tables.proofs.InsertLemmas.{puts}
 use Rattle.tables.proofs.AddLemmas.{adds_row}
 use Rattle.tables.proofs.HoldsLemmas.{with_dates}
-use Rattle.tables.proofs.UpdateLemmas.{updates, updates_rows}
+use Rattle.tables.proofs.DeleteLemmas.{none_left}
+use Rattle.tables.proofs.UpdateLemmas.{updates, updates_rows, deletes, deletes_rows}
 use Rattle.sqlite_typed.proofs.TestLemmas.{last_term, at_texts}
 use Rattle.std.proofs.lemmas.Map.Text.{is_eq-slice_cmp}
 use Rattle.sqlite_sql.specs.declared.ops.CompareOp.TheVariants.{Eq}
@@ -60,3 +61,15 @@ changes_update_date old new suite moment (Ok count) h = record {
   shown = h.1;
 }
 changes_update_date old new suite moment (Err e) h = tt
+
+pub removes_dates : (old new : State) (r : Result ℕ Error) → ExecutesInside 0 DELETE_DATES.now [] old new r → OnOk r (Changes old new without_dates)
+removes_dates old new (Ok count) h = record {
+  held = λ t was.
+      let did = deletes DELETE_DATES.now 10 _ delete_dates_plain dates_table (λ _. refl) (lit≤ tt) delete_dates_is old new [] count was.schema h.0 in
+      let now = deletes_rows date_cells 21 [] delete_dates_columns [] (λ _. true) (λ x. whole x.0 ∷ []) (λ _. refl) (λ _. refl) (λ _. refl) (λ _. refl)
+      old new t.dates was.rows.dates did.0 did.1 did.2 in
+      let none = subst (λ (rows : Numbered Date). HasRows date_cells rows (new.now.trees 21)) (none_left t.dates) now in
+      record { schema = did.2.schema_is; rows = with_dates old.now.trees new.now.trees t was.rows [] none did.2.others };
+  shown = h.1;
+}
+removes_dates old new (Err e) h = tt

@@ -2,7 +2,7 @@
 use Rattle.std.proofs.Common.{◌≡◌, refl, ◌∷◌, [], List}
 use Rattle.sqlite_tied.specs.Compute.{everything}
 use Rattle.sqlite.specs.declared.types.Value.TheVariants.{Null}
-use Rattle.sqlite.specs.Command.TheVariants.{Insert, Update}
+use Rattle.sqlite.specs.Command.TheVariants.{Insert, Update, Delete}
 use Rattle.sqlite.specs.Source.TheVariants.{Values}
 use Rattle.sqlite.specs.Term.{Term, lit, col}
 use Rattle.sqlite.specs.Listing.{understood}
@@ -11,7 +11,7 @@ use Rattle.sqlite.specs.Collation.TheVariants.{Binary}
 use Rattle.sqlite_sql.specs.Term.{op2}
 use Rattle.sqlite_sql.specs.declared.ops.BinaryOp.TheVariants.{Compare}
 use Rattle.sqlite_sql.specs.declared.ops.CompareOp.TheVariants.{Eq}
-use Rattle.tables.specs.declared.dates.TheConstants.{INSERT_DATE, UPDATE_DATE}
+use Rattle.tables.specs.declared.dates.TheConstants.{INSERT_DATE, UPDATE_DATE, DELETE_DATES}
 use Rattle.tables.specs.Others.{Others, with_others}
 use Rattle.tables.proofs.UpdateLemmas.{edit_query}
 
@@ -39,3 +39,14 @@ update_date_is o = refl
 pub update_date_plain : (o : Others) → IsPlain (understood (with_others o) UPDATE_DATE.now)
 unfolding understood everything
 update_date_plain o = (refl, refl)
+
+abbrev pub delete_dates_columns : List Term
+delete_dates_columns = col 1 0 ∷ []
+
+pub delete_dates_is : (o : Others) → command_of (understood (with_others o) DELETE_DATES.now) ≡ Delete 10 (record { lets = []; body = edit_query 21 [] delete_dates_columns })
+unfolding understood everything
+delete_dates_is o = refl
+
+pub delete_dates_plain : (o : Others) → IsPlain (understood (with_others o) DELETE_DATES.now)
+unfolding understood everything
+delete_dates_plain o = (refl, refl)

@@ -1,5 +1,5 @@
 -- What the statements on texts do.
-use Rattle.std.proofs.Common.{lit≤, ◌≡◌, ℕ, pos, [], ◌∷◌, Ok, Err, Result, OnOk, refl, false, List, map, filter, find, slice_get, drop, Option, ap, ◌∙◌}
+use Rattle.std.proofs.Common.{lit≤, ◌≡◌, ℕ, pos, [], ◌∷◌, Ok, Err, Result, OnOk, refl, false, List, map, filter, find, slice_get, drop, Option, ap, ◌∙◌, true, subst}
 use Rattle.sqlite.specs.Table.{Table}
 use Rattle.sqlite.specs.Order.{Row}
 use Rattle.sqlite.specs.declared.types.Value.TheVariants.{Null, Text, Blob}
@@ -7,18 +7,19 @@ use Rattle.sqlite.specs.Cast.{cast_row}
 use Rattle.sqlite.specs.declared.error.Error.{Error}
 use Rattle.sqlite.specs.State.{State, ExecutesInside, Shown, IsUnchanged}
 use Rattle.tables.specs.Schema.{texts}
-use Rattle.tables.specs.Rows.{whole, Tables, Holds, Changes, with_text, text_cells, text_of, stored, rows_of}
-use Rattle.tables.specs.Texts.{has_path, with_new_text}
+use Rattle.tables.specs.Rows.{whole, Tables, Holds, Changes, with_text, text_cells, text_of, stored, rows_of, HasRows, Numbered}
+use Rattle.tables.specs.Texts.{has_path, with_new_text, without_texts}
 use Rattle.tables.specs.Reading.{IsReadFirst}
 use Rattle.tables.specs.declared.rows.IndexText.{IndexText}
-use Rattle.tables.specs.declared.texts.TheConstants.{INSERT_TEXT, UPDATE_TEXT, SELECT_TEXT}
+use Rattle.tables.specs.declared.texts.TheConstants.{INSERT_TEXT, UPDATE_TEXT, SELECT_TEXT, DELETE_TEXTS}
 use Rattle.tables.proofs.CastLemmas.{cast_null, cast_int}
-use Rattle.tables.proofs.TextsMeaning.{insert_text_terms, insert_text_is, insert_text_plain, update_text_columns, update_text_is, update_text_plain, text_columns, path_is, select_text_is, select_text_plain}
+use Rattle.tables.proofs.TextsMeaning.{insert_text_terms, insert_text_is, insert_text_plain, update_text_columns, update_text_is, update_text_plain, text_columns, path_is, select_text_is, select_text_plain, delete_texts_columns, delete_texts_is, delete_texts_plain}
 use Rattle.tables.proofs.InsertLemmas.{puts}
 use Rattle.tables.proofs.AddLemmas.{adds_row}
 use Rattle.tables.proofs.HoldsLemmas.{with_texts}
 use Rattle.tables.proofs.SelectLemmas.{reads_rows, first_read}
-use Rattle.tables.proofs.UpdateLemmas.{updates, updates_rows}
+use Rattle.tables.proofs.DeleteLemmas.{none_left}
+use Rattle.tables.proofs.UpdateLemmas.{updates, updates_rows, deletes, deletes_rows}
 use Rattle.sqlite_typed.proofs.TestLemmas.{last_term, at_texts}
 use Rattle.std.proofs.lemmas.Map.Text.{is_eq-slice_cmp}
 use Rattle.sqlite_sql.specs.declared.ops.CompareOp.TheVariants.{Eq}
@@ -74,3 +75,15 @@ changes_update_text old new path body (Ok count) h = record {
   shown = h.1;
 }
 changes_update_text old new path body (Err e) h = tt
+
+pub removes_texts : (old new : State) (r : Result ℕ Error) → ExecutesInside 0 DELETE_TEXTS.now [] old new r → OnOk r (Changes old new without_texts)
+removes_texts old new (Ok count) h = record {
+  held = λ t was.
+      let did = deletes DELETE_TEXTS.now 9 _ delete_texts_plain texts_table (λ _. refl) (lit≤ tt) delete_texts_is old new [] count was.schema h.0 in
+      let now = deletes_rows text_cells 19 [] delete_texts_columns [] (λ _. true) (λ x. whole x.0 ∷ []) (λ _. refl) (λ _. refl) (λ _. refl) (λ _. refl)
+      old new t.texts was.rows.texts did.0 did.1 did.2 in
+      let none = subst (λ (rows : Numbered IndexText). HasRows text_cells rows (new.now.trees 19)) (none_left t.texts) now in
+      record { schema = did.2.schema_is; rows = with_texts old.now.trees new.now.trees t was.rows [] none did.2.others };
+  shown = h.1;
+}
+removes_texts old new (Err e) h = tt

@@ -2,7 +2,7 @@
 use Rattle.std.proofs.Common.{◌≡◌, refl, ◌∷◌, [], List, codes, false}
 use Rattle.sqlite_tied.specs.Compute.{everything}
 use Rattle.sqlite.specs.declared.types.Value.TheVariants.{Null}
-use Rattle.sqlite.specs.Command.TheVariants.{Insert, Select, Update}
+use Rattle.sqlite.specs.Command.TheVariants.{Insert, Select, Update, Delete}
 use Rattle.sqlite.specs.Source.TheVariants.{Values}
 use Rattle.sqlite.specs.Term.{Term, lit, col}
 use Rattle.sqlite.specs.Listing.{understood, reads_listing}
@@ -11,7 +11,7 @@ use Rattle.sqlite.specs.Collation.TheVariants.{Binary}
 use Rattle.sqlite_sql.specs.Term.{op2}
 use Rattle.sqlite_sql.specs.declared.ops.BinaryOp.TheVariants.{Compare}
 use Rattle.sqlite_sql.specs.declared.ops.CompareOp.TheVariants.{Eq}
-use Rattle.tables.specs.declared.texts.TheConstants.{INSERT_TEXT, SELECT_TEXT, UPDATE_TEXT}
+use Rattle.tables.specs.declared.texts.TheConstants.{INSERT_TEXT, SELECT_TEXT, UPDATE_TEXT, DELETE_TEXTS}
 use Rattle.tables.specs.Others.{Others, with_others}
 use Rattle.tables.proofs.SelectLemmas.{rows_query}
 use Rattle.tables.proofs.UpdateLemmas.{edit_query}
@@ -51,3 +51,14 @@ update_text_is o = refl
 pub update_text_plain : (o : Others) → IsPlain (understood (with_others o) UPDATE_TEXT.now)
 unfolding understood everything
 update_text_plain o = (refl, refl)
+
+abbrev pub delete_texts_columns : List Term
+delete_texts_columns = col 1 0 ∷ []
+
+pub delete_texts_is : (o : Others) → command_of (understood (with_others o) DELETE_TEXTS.now) ≡ Delete 9 (record { lets = []; body = edit_query 19 [] delete_texts_columns })
+unfolding understood everything
+delete_texts_is o = refl
+
+pub delete_texts_plain : (o : Others) → IsPlain (understood (with_others o) DELETE_TEXTS.now)
+unfolding understood everything
+delete_texts_plain o = (refl, refl)

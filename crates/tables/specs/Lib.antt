@@ -4,6 +4,7 @@ pub mod Rows
 pub mod Reading
 pub mod Texts
 pub mod Dates
+pub mod Metas
 pub mod Creating
 pub mod Bodies
 pub mod Causes

@@ -4,6 +4,7 @@ ghost use Rattle.std.specs.Prelude.{◌≡◌, false, IsTrue, OnOk, OnErr};
 ghost use Rattle.sqlite.specs.State.{HasCleanDisk, Survives};
 ghost use Rattle.sqlite.specs.Held.{state};
 ghost use Rattle.tables.specs.Rows.{Changes, Fails, with_meta};
+ghost use Rattle.tables.specs.Metas.{with_configuration};
 
 use crate::number::whole;
 use sqlite::{Alter, Connection, Error, Transaction, params};
@@ -13,6 +14,8 @@ use sqlite::{Alter, Connection, Error, Transaction, params};
 pub const VERSION: u64 = 3;
 
 const INSERT_META: &str = "INSERT INTO meta (version, configuration) VALUES (?1, ?2)";
+
+const UPDATE_META: &str = "UPDATE meta SET configuration = ?1";
 
 /// Adds the version of the tables and the text of the configuration.
 pub fn insert_meta<S: Alter>(
@@ -46,4 +49,20 @@ pub fn layout_of<S: Alter>(conn: &mut Connection<S>) -> Option<u64>
         return None;
     }
     rows[0].get(0).ok()
+}
+
+/// Replaces the text of the configuration.
+pub fn update_configuration<S: Alter>(
+    tx: &mut Transaction<'_, S>,
+    configuration: &[u8],
+) -> Result<(), Error>
+    ensures same_reference { tx.new.conn.ghost_name ≡ tx.old.conn.ghost_name }
+    ensures ok { HasCleanDisk (state S.Store tx.new.conn.now) → IsTrue (state S.Store tx.old.conn.now).in_transaction
+        → OnOk result (Changes (state S.Store tx.old.conn.now) (state S.Store tx.new.conn.now) (with_configuration configuration.now)) }
+    ensures err { HasCleanDisk (state S.Store tx.new.conn.now) → IsTrue (state S.Store tx.old.conn.now).in_transaction
+        → OnErr result (Fails (state S.Store tx.old.conn.now) (state S.Store tx.new.conn.now)) }
+    ensures survives { Survives (state S.Store tx.old.conn.now) (state S.Store tx.new.conn.now) (λ _. ⊥) }
+{
+    tx.execute(UPDATE_META, params![configuration])?;
+    Ok(())
 }

@@ -4,7 +4,7 @@ ghost use Rattle.std.specs.Prelude.{◌≡◌, find, false, IsTrue, IfOk, OnOk, 
 ghost use Rattle.sqlite.specs.State.{HasCleanDisk, IsUnchanged, Survives};
 ghost use Rattle.sqlite.specs.Held.{state};
 ghost use Rattle.tables.specs.Rows.{Tables, Holds, Changes, Fails, IsForeign, with_text, text_of, rows_of};
-ghost use Rattle.tables.specs.Texts.{has_path, with_new_text};
+ghost use Rattle.tables.specs.Texts.{has_path, with_new_text, without_texts};
 
 use crate::read::{FromRow, bytes_at, select_first, text_at};
 use crate::rows::IndexText;
@@ -16,6 +16,8 @@ const INSERT_TEXT: &str = "INSERT INTO texts (path, body) VALUES (?1, ?2)";
 const SELECT_TEXT: &str = "SELECT rowid, path, body FROM texts WHERE path = ?1 ORDER BY rowid";
 
 const UPDATE_TEXT: &str = "UPDATE texts SET body = ?2 WHERE path = ?1";
+
+const DELETE_TEXTS: &str = "DELETE FROM texts";
 
 impl FromRow for IndexText {
     ghost of_row = { text_of };
@@ -75,5 +77,18 @@ pub fn update_text<S: Alter>(
     ensures survives { Survives (state S.Store tx.old.conn.now) (state S.Store tx.new.conn.now) (λ _. ⊥) }
 {
     tx.execute(UPDATE_TEXT, params![path, body])?;
+    Ok(())
+}
+
+/// Removes all texts.
+pub fn delete_texts<S: Alter>(tx: &mut Transaction<'_, S>) -> Result<(), Error>
+    ensures same_reference { tx.new.conn.ghost_name ≡ tx.old.conn.ghost_name }
+    ensures ok { HasCleanDisk (state S.Store tx.new.conn.now) → IsTrue (state S.Store tx.old.conn.now).in_transaction
+        → OnOk result (Changes (state S.Store tx.old.conn.now) (state S.Store tx.new.conn.now) without_texts) }
+    ensures err { HasCleanDisk (state S.Store tx.new.conn.now) → IsTrue (state S.Store tx.old.conn.now).in_transaction
+        → OnErr result (Fails (state S.Store tx.old.conn.now) (state S.Store tx.new.conn.now)) }
+    ensures survives { Survives (state S.Store tx.old.conn.now) (state S.Store tx.new.conn.now) (λ _. ⊥) }
+{
+    tx.execute(DELETE_TEXTS, &[])?;
     Ok(())
 }
