@@ -3,7 +3,7 @@
 ghost use Rattle.std.specs.Prelude.{◌≡◌, ◌≤◌, false, IsTrue, IfOk};
 ghost use Rattle.keep.specs.Plain.{fresh_book};
 
-use keep::{Change, Judgement, KeepFault, Keeper, LATEST, PlainKeeper, Waiting};
+use keep::{Change, Configured, Judgement, KeepFault, Keeper, LATEST, PlainKeeper, Waiting};
 use rules::Config;
 use std::alloc::Global;
 use suites::{Shelves, Upload};
@@ -72,6 +72,11 @@ impl Keeper for DiskKeeper {
         self.kept.config()
     }
 
+    #[tactic(auto, unfolding(keep::specs::Plain::plain_book))]
+    fn dates(&self) -> &[u64] {
+        self.kept.dates()
+    }
+
     fn begin(&mut self, alloc: Global) -> Result<(), KeepFault> {
         if !self.is_open {
             let _ = self.kept.abandon();
@@ -124,6 +129,10 @@ impl Keeper for DiskKeeper {
     fn hold(&mut self, _shelves: Shelves) {}
 
     fn clean(&mut self, _alloc: Global, _moment: u64) -> Result<u64, KeepFault> {
+        Err(KeepFault::OutOfMemory)
+    }
+
+    fn configure(&mut self, _alloc: Global, _next: Configured) -> Result<(), KeepFault> {
         Err(KeepFault::OutOfMemory)
     }
 

@@ -16,7 +16,7 @@ use Rattle.keep.specs.declared.change.Change.{Change}
 use Rattle.keep.specs.declared.change.IndexText.{IndexText}
 use Rattle.keep.specs.declared.change.Judgement.{Judgement}
 use Rattle.keep.specs.declared.fault.KeepFault.{KeepFault}
-use Rattle.keep.specs.declared.fault.KeepFault.TheVariants.{OutOfMemory, Disk, Size, Tables}
+use Rattle.keep.specs.declared.fault.KeepFault.TheVariants.{OutOfMemory, Disk, Size, Tables, Configuration}
 
 -- Of these bodies no two have the same print.
 abbrev pub NoCollision : List (List ℕ) → Type 0
@@ -77,6 +77,13 @@ pub record Lasts {K : Type 0} (is_clean is_open : K → Type 0) (faults : K → 
   pub stays : is_clean new → is_open old → is_open new ⊎ MoreFaults (faults old) (faults new)
   pub config : (book new).config ≡ (book old).config
 
+-- The same of a call behind which the configuration may be another.
+pub record Endures {K : Type 0} (is_clean is_open : K → Type 0) (faults : K → ℕ) (old new : K) : Type 0 where
+  pub clean : is_clean new → is_clean old
+  pub counts : faults old ≤ faults new
+  pub was_open : is_clean new → is_open new → is_open old
+  pub stays : is_clean new → is_open old → is_open new ⊎ MoreFaults (faults old) (faults new)
+
 -- What a read leaves: the book of a keeper that is open, and nothing that a crash would not have left before.
 pub record Reads {K : Type 0} (is_clean is_open : K → Type 0) (faults : K → ℕ) (book : K → Book) (may_leave : K → Option Book → Type 0) (old new : K) : Type 0 where
   pub lasts : Lasts is_clean is_open faults book old new
@@ -109,6 +116,7 @@ MayAnswer may_fail OutOfMemory = ⊤
 MayAnswer may_fail Disk = IsTrue may_fail
 MayAnswer may_fail Size = IsTrue may_fail
 MayAnswer may_fail Tables = ⊥
+MayAnswer may_fail Configuration = ⊥
 
 -- A body was begun, of whole pieces so far, and these bytes can be its next piece.
 pub record TakesPiece (coming : Option (List ℕ)) (bytes : List ℕ) : Type 0 where

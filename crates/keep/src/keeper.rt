@@ -1,12 +1,14 @@
 //! The trait of keepers.
 
-ghost use Rattle.std.specs.Prelude.{◌≡◌, ◌≤◌, ◌++◌, ◌⊎◌, [], ℕ, Bool, List, Option, Some, None, IfOk, IfErr, OnOk, OnErr, length, map, not};
+ghost use Rattle.std.specs.Prelude.{◌≡◌, ◌≤◌, All, ◌++◌, ◌⊎◌, [], ℕ, Bool, List, Option, Some, None, IfOk, IfErr, OnOk, OnErr, length, map, not};
 ghost use Rattle.std.specs.Option.{option_map};
 ghost use Rattle.keep.specs.Book.{Book, amended, at_moment, due, ended, has_arrival, is_kept, latest, shown_past, span, text_at, upload_of, waiting_list, with_delivery};
-ghost use Rattle.keep.specs.Keeping.{Apart, ApartWith, HasEachBody, IsDeliverable, IsSound, IsWholeFor, Lasts, Leaves, MayAnswer, Reads, Stays, TakesPiece, sign_of};
+ghost use Rattle.keep.specs.Configured.{IsConfiguration, reconfigured};
+ghost use Rattle.keep.specs.Keeping.{Apart, ApartWith, Endures, HasEachBody, IsDeliverable, IsSound, IsWholeFor, Lasts, Leaves, MayAnswer, Reads, Stays, TakesPiece, sign_of};
 ghost use Rattle.sums.specs.Prints.{print as print_of};
 
 use crate::change::{Change, IndexText, Judgement, Waiting};
+use crate::configured::Configured;
 use crate::fault::KeepFault;
 use crate::printing::is_kept;
 use rules::Config;
@@ -42,12 +44,17 @@ pub trait Keeper {
     /// Whether the keeper can answer a fault of a disk or of size at all.
     ghost may_fail: { Bool };
 
-    /// What an opening of the store may find after a crash at this moment: a book, or no archive of this configuration.
+    /// What an opening of the store may find after a crash at this moment: a book, or no archive.
     ghost may_leave: { Self → Option Book → Type 0 };
 
-    /// The configuration that the archive was made with.
+    /// The configuration that the archive has.
     fn config(&self) -> &Config
         ensures { result.now ≡ (book self.now).config };
+
+    /// The dates of the suites, in the order of the configuration.
+    fn dates(&self) -> &[u64]
+        ensures dates { result.now ≡ (book self.now).dates }
+        ensures in_range { ∥ All (λ date. date ≤ latest) result.now ∥₁ };
 
     /// Begins a body: what is coming has no byte yet, and a body that was begun before is forgotten.
     fn begin(&mut self, alloc: Global) -> Result<(), KeepFault>
@@ -183,6 +190,22 @@ pub trait Keeper {
         ensures err { is_clean self.new → is_open self.new → OnErr result (book self.new ≡ book self.old) }
         ensures cause { IfErr result (MayAnswer may_fail) }
         ensures crash { Leaves is_clean is_open may_leave self.old self.new (λ left. left ≡ Some (at_moment moment (book self.old))) };
+
+    /// Takes another configuration, with what the suites show under it and their dates. Arrivals, verdicts, items and files stay,
+    /// and the index texts are those of it. It takes all or nothing. A crash leaves what it would have left before, or the book
+    /// with all of it.
+    fn configure(&mut self, alloc: Global, next: Configured) -> Result<(), KeepFault>
+        requires sound { is_clean self.now → is_open self.now → IsConfiguration (book self.now) next.config next.shelves }
+        ensures endures { Endures is_clean is_open faults self.old self.new }
+        ensures served { is_clean self.new → OnOk result (is_open self.new) }
+        ensures ok { is_clean self.new → OnOk result (book self.new ≡ reconfigured next.config next.shelves next.dates.items (book self.old)) }
+        ensures err { is_clean self.new → is_open self.new → OnErr result (book self.new ≡ book self.old) }
+        // The configuration, also where the keeper is not clean, or is shut.
+        ensures given { OnOk result ((book self.new).config ≡ next.config) }
+        ensures stays { OnErr result ((book self.new).config ≡ (book self.old).config) }
+        ensures cause { IfErr result (MayAnswer may_fail) }
+        ensures crash { Leaves is_clean is_open may_leave self.old self.new (λ left.
+            left ≡ Some (reconfigured next.config next.shelves next.dates.items (book self.old))) };
 
     /// The file of the pool at a path without a leading slash.
     fn file(&mut self, alloc: Global, path: &str) -> Result<Option<Vec<u8>>, KeepFault>

@@ -4,6 +4,7 @@
 mod arrival;
 mod candidate;
 mod change;
+mod configured;
 mod fault;
 mod keeper;
 mod plain;
@@ -14,6 +15,7 @@ mod steps;
 
 pub use arrival::{Arrival, Body};
 pub use change::{Change, IndexText, Judgement, Step, Waiting};
+pub use configured::Configured;
 pub use fault::KeepFault;
 pub use keeper::{Keeper, LATEST, PIECE_SIZE};
 pub use plain::PlainKeeper;

@@ -4,6 +4,7 @@ ghost use Rattle.std.specs.Prelude.{◌≤◌, All, IfOk};
 
 use crate::arrival::{Arrival, Body, Counting};
 use crate::change::{Change, Judgement, Waiting};
+use crate::configured::Configured;
 use crate::fault::KeepFault;
 use crate::keeper::{Keeper, LATEST};
 use crate::pool::{PoolBody, body_at_path, pool_bodies};
@@ -88,6 +89,11 @@ impl Keeper for PlainKeeper {
     }
 
     #[tactic(auto, unfolding(crate::specs::Plain::plain_book))]
+    fn dates(&self) -> &[u64] {
+        self.dates.as_slice()
+    }
+
+    #[tactic(auto, unfolding(crate::specs::Plain::plain_book))]
     fn begin(&mut self, alloc: Global) -> Result<(), KeepFault> {
         self.coming = Some(Vec::new(alloc));
         Ok(())
@@ -166,6 +172,20 @@ impl Keeper for PlainKeeper {
         let _ = alloc;
         let counting = Counting::new(&self.config, moment);
         Ok(remove_ended(&mut self.arrivals, counting))
+    }
+
+    #[tactic(auto, unfolding(crate::specs::Plain::plain_book))]
+    fn configure(&mut self, alloc: Global, next: Configured) -> Result<(), KeepFault> {
+        let _ = alloc;
+        let Configured {
+            config,
+            shelves,
+            dates,
+        } = next;
+        self.config = config;
+        self.shelves = shelves;
+        self.dates = dates;
+        Ok(())
     }
 
     #[tactic(auto, unfolding(crate::specs::Plain::plain_book))]
