@@ -56,5 +56,5 @@ amends_turns old new amends has = record { kept = amends.kept; book = amends.boo
 
 -- what a crash leaves of it
 pub turn_left : {config : ConfigValue} {judged judged_after : List Judgement} {shown shown_after : ShelvesValue} {dates dates_after : List ℕ} {step : Book → Book} (old new : Database) (trees : Trees) → trees ≡ new.trees → (left : Option Book)
-    → KeepsLeft trees config left → Turns old new config judged shown dates judged_after shown_after dates_after step → left ≡ Some (step (book_of old config judged shown dates))
+    → KeepsLeft trees left → Turns old new config judged shown dates judged_after shown_after dates_after step → left ≡ Some (step (book_of old config judged shown dates))
 turn_left old new trees same left here turn = left_is trees new same ∣ turn.kept ∣₁ left here ∙ ap Some turn.book

@@ -1,6 +1,5 @@
 -- The first rows of an archive are those of one in which nothing is yet.
-use Rattle.std.proofs.Common.{◌≡◌, ◌≤◌, ℕ, true, Ok, List, [], ◌∷◌, ◌++◌, map, fold, length, replicate, None, option_map, append_assoc, refl, sym, ap, subst, ◌∙◌, arith}
-use Rattle.std.specs.List.{zip}
+use Rattle.std.proofs.Common.{◌≡◌, ◌≤◌, ℕ, true, Ok, List, [], ◌∷◌, ◌++◌, map, fold, length, None, option_map, append_assoc, refl, sym, ap, subst, ◌∙◌, arith}
 use Rattle.std.specs.FinMap.{empty, entries, get, get-empty, len-empty, len-entries}
 use Rattle.std.proofs.lemmas.List.{map-append, append-nil, length-replicate}
 use Rattle.std.proofs.lemmas.List.Elements.{All-nil, All-replicate}
@@ -10,7 +9,6 @@ use Rattle.suites.proofs.SharedLemmas.{entries-empty}
 use Rattle.suites.proofs.ToldLemmas.{told_empty}
 use Rattle.suites.specs.Items.{IsAtHome}
 use Rattle.suites.specs.Shelves.{AreSound}
-use Rattle.rules.specs.declared.suite.Suite.{Suite}
 use Rattle.suites.specs.Keys.{key_order, text_order}
 use Rattle.suites.specs.Pool.{files_of, pool_of}
 use Rattle.suites.specs.Shelves.{pool}
@@ -24,29 +22,29 @@ use Rattle.tables.specs.declared.rows.Date.{Date}
 use Rattle.tables.specs.declared.rows.IndexText.{IndexText}
 use Rattle.tables.specs.declared.rows.Meta.{Meta}
 use Rattle.tables.specs.declared.meta.TheConstants.{VERSION}
-use Rattle.kept.specs.Kept.{AreArrivals, AreBodies, AreFiles, AreItems, AreUploads, IsKept, arrivals_in, book_in, date_row, files_in}
+use Rattle.kept.specs.Kept.{AreArrivals, AreBodies, AreFiles, AreItems, AreUploads, IsKept, arrivals_in, book_in, files_in}
 use Rattle.kept.specs.Founding.{first_date, first_dates, founded, with_dates, with_first_rows, with_path_text, with_texts}
-use Rattle.kept.proofs.FoundLemmas.{map_twice}
+use Rattle.kept.proofs.FoundLemmas.{map_twice, one_date}
 
 -- ---- rows one after another
 
 rows_added : {X : Type 0} (rows : Numbered X) (x : X) → rows_of (added rows x) ≡ rows_of rows ++ x ∷ []
 rows_added rows x = map-append (λ r. r.1) rows ((next_in rows, x) ∷ [])
 
-rows_all : {X Y : Type 0} (f : Y → X) (ys : List Y) (rows : Numbered X) → rows_of (fold (λ now y. added now (f y)) rows ys) ≡ rows_of rows ++ map f ys
+pub rows_all : {X Y : Type 0} (f : Y → X) (ys : List Y) (rows : Numbered X) → rows_of (fold (λ now y. added now (f y)) rows ys) ≡ rows_of rows ++ map f ys
 rows_all f [] rows = sym (append-nil (rows_of rows))
 rows_all f (y ∷ ys) rows =
     rows_all f ys (added rows (f y)) ∙ ap (λ xs. xs ++ map f ys) (rows_added rows (f y)) ∙ append_assoc (rows_of rows) (f y ∷ []) (map f ys)
 
-abbrev text_row : PathText → IndexText
+abbrev pub text_row : PathText → IndexText
 text_row x = record { path = x.0; body = x.1 }
 
-texts_are : (xs : List PathText) (t : Tables) → with_texts xs t ≡ record t { texts = fold (λ now x. added now (text_row x)) t.texts xs }
+pub texts_are : (xs : List PathText) (t : Tables) → with_texts xs t ≡ record t { texts = fold (λ now x. added now (text_row x)) t.texts xs }
 unfolding with_texts
 texts_are [] t = refl
 texts_are (x ∷ xs) t = texts_are xs (with_path_text x t)
 
-dates_are : (ds : List Date) (t : Tables) → with_dates ds t ≡ record t { dates = fold (λ now d. added now d) t.dates ds }
+pub dates_are : (ds : List Date) (t : Tables) → with_dates ds t ≡ record t { dates = fold (λ now d. added now d) t.dates ds }
 unfolding with_dates
 dates_are [] t = refl
 dates_are (d ∷ ds) t = dates_are ds (with_date d t)
@@ -89,15 +87,11 @@ founded_are config moment =
 
 -- ---- what is kept
 
-same_pairs : (xs : List PathText) → map (λ x. (x.0, x.1)) xs ≡ xs
+pub same_pairs : (xs : List PathText) → map (λ x. (x.0, x.1)) xs ≡ xs
 same_pairs [] = refl
 same_pairs (x ∷ xs) = ap (λ ys. x ∷ ys) (same_pairs xs)
 
-one_date : (moment : ℕ) (suites : List Suite) → map (first_date moment) suites ≡ map date_row (zip suites (replicate (length suites) moment))
-one_date moment [] = refl
-one_date moment (s ∷ suites) = ap (λ ds. first_date moment s ∷ ds) (one_date moment suites)
-
-same_dates : (ds : List Date) → map (λ d. d) ds ≡ ds
+pub same_dates : (ds : List Date) → map (λ d. d) ds ≡ ds
 same_dates [] = refl
 same_dates (d ∷ ds) = ap (λ es. d ∷ es) (same_dates ds)
 

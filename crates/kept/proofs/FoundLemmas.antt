@@ -5,7 +5,8 @@ use Rattle.std.specs.List.{flat_map, zip}
 use Rattle.std.specs.Option.{option_map_or}
 use Rattle.std.proofs.lemmas.List.{map-append, append-nil, take_more}
 use Rattle.std.proofs.lemmas.List.Sums.{fold-append}
-use Rattle.std.proofs.lemmas.Grind.{flat_map-append}
+use Rattle.std.proofs.lemmas.Grind.{flat_map-append, get_or_default_zero}
+use Rattle.std.proofs.lemmas.Slice.Zip.{get_or-zip, length-zip}
 use Rattle.sqlite.specs.Held.{Held, state}
 use Rattle.sqlite.specs.State.{State, KeepsCommit, Survives}
 use Rattle.sqlite.specs.Store.{Ghosts}
@@ -20,6 +21,7 @@ use Rattle.tables.specs.Schema.{no_schema}
 use Rattle.tables.specs.declared.rows.Date.{Date}
 use Rattle.tables.proofs.TransactionLemmas.{as_old, keeps_then, keeps_if_changed}
 use Rattle.tables.specs.declared.meta.TheConstants.{VERSION}
+use Rattle.kept.specs.Kept.{date_row}
 use Rattle.kept.specs.Transactions.{IsUndone}
 use Rattle.kept.specs.Founding.{Continues, Founds, component_texts, components_texts, first_date, first_dates, founded, from_root, suite_texts_at, with_dates, with_first_rows, with_path_text, with_texts}
 
@@ -118,7 +120,7 @@ module _ {X : Type 0} (xs : List X) (i : ℕ) (x : X) (inside : i < length xs) (
       then_text (map f (take i xs)) (f x) t
       ∙ ap (λ ys. with_texts ys t) (sym (map-append f (take i xs) (x ∷ [])) ∙ ap (map f) front)
 
-  pub date_more : (f : X → Date) (t : Tables) → with_date (f x) (with_dates (map f (take i xs)) t) ≡ with_dates (map f (take (i + 1) xs)) t
+  date_more : (f : X → Date) (t : Tables) → with_date (f x) (with_dates (map f (take i xs)) t) ≡ with_dates (map f (take (i + 1) xs)) t
   date_more f t =
       then_date (map f (take i xs)) (f x) t
       ∙ ap (λ ys. with_dates ys t) (sym (map-append f (take i xs) (x ∷ [])) ∙ ap (map f) front)
@@ -130,6 +132,19 @@ module _ {X : Type 0} (xs : List X) (i : ℕ) (x : X) (inside : i < length xs) (
       (ap (λ ys. flat_map f (take i xs) ++ ys) (sym (append-nil (f x)))
       ∙ sym (flat_map-append f (take i xs) (x ∷ []))
       ∙ ap (flat_map f) front)
+
+-- the next suite with its date
+next_date : (suites : List Suite) (dates : List ℕ) (i : ℕ) (s : Suite) → i < length suites → i < length dates → s ≡ get_or suites i s
+    → (s, get_or dates i 0) ≡ get_or (zip suites dates) i (s, get_or dates i 0)
+next_date suites dates i s within dated is =
+    ap (λ (x : Suite). (x, get_or dates i 0)) is
+    ∙ ap (λ (n : ℕ). (get_or suites i s, n)) (sym (get_or_default_zero dates i (get_or dates i 0) dated))
+    ∙ sym (get_or-zip suites dates i (s, get_or dates i 0) within dated)
+
+pub suite_date_more : (suites : List Suite) (dates : List ℕ) (i : ℕ) (s : Suite) → i < length suites → i < length dates → s ≡ get_or suites i s → (t : Tables)
+    → with_date (date_row (s, get_or dates i 0)) (with_dates (map date_row (take i (zip suites dates))) t) ≡ with_dates (map date_row (take (i + 1) (zip suites dates))) t
+suite_date_more suites dates i s within dated is =
+    date_more (zip suites dates) i (s, get_or dates i 0) (omega (arith, length-zip suites dates, within, dated)) (next_date suites dates i s within dated is) date_row
 
 -- ---- the texts of a suite
 
@@ -154,45 +169,39 @@ suite_texts_are shelves position s date =
 
 -- ---- the texts of all suites
 
--- the texts of the first suites, and of one more
-texts_of_next : (shelves : ShelvesValue) (moment from : ℕ) (suites : List Suite) (i : ℕ) → i < length suites
-    → texts_from shelves from (take i (zip suites (replicate (length suites) moment))) ++ option_map_or (λ s. suite_texts shelves (from + i) s moment) (slice_get suites i) []
-    ≡ texts_from shelves from (take (suc i) (zip suites (replicate (length suites) moment)))
+-- the texts of the first suites with their dates, and of one more
+texts_of_next : (shelves : ShelvesValue) (from : ℕ) (suites : List Suite) (dates : List ℕ) (i : ℕ) → i < length suites → i < length dates
+    → texts_from shelves from (take i (zip suites dates)) ++ option_map_or (λ s. suite_texts shelves (from + i) s (get_or dates i 0)) (slice_get suites i) []
+    ≡ texts_from shelves from (take (suc i) (zip suites dates))
 unfolding texts_from
-texts_of_next shelves moment from [] i within = absurd (omega arith)
-texts_of_next shelves moment from (x ∷ xs) zero within =
+texts_of_next shelves from [] dates i within dated = absurd (omega arith)
+texts_of_next shelves from (x ∷ xs) [] i within dated = absurd (omega arith)
+texts_of_next shelves from (x ∷ xs) (d ∷ ds) zero within dated =
     let at : from + 0 ≡ from = omega arith in
-    ap (λ n. suite_texts shelves n x moment) at ∙ sym (append-nil (suite_texts shelves from x moment))
-texts_of_next shelves moment from (x ∷ xs) (suc i) within =
-    let rest = take i (zip xs (replicate (length xs) moment)) in
+    ap (λ n. suite_texts shelves n x d) at ∙ sym (append-nil (suite_texts shelves from x d))
+texts_of_next shelves from (x ∷ xs) (d ∷ ds) (suc i) within dated =
+    let rest = take i (zip xs ds) in
     let at : from + suc i ≡ (from + 1) + i = omega arith in
-    append_assoc (suite_texts shelves from x moment) (texts_from shelves (from + 1) rest) (option_map_or (λ s. suite_texts shelves (from + suc i) s moment) (slice_get xs i) [])
-    ∙ ap (λ ys. suite_texts shelves from x moment ++ ys)
-    (ap (λ n. texts_from shelves (from + 1) rest ++ option_map_or (λ s. suite_texts shelves n s moment) (slice_get xs i) []) at
-    ∙ texts_of_next shelves moment (from + 1) xs i (omega arith))
+    append_assoc (suite_texts shelves from x d) (texts_from shelves (from + 1) rest) (option_map_or (λ s. suite_texts shelves (from + suc i) s (get_or ds i 0)) (slice_get xs i) [])
+    ∙ ap (λ ys. suite_texts shelves from x d ++ ys)
+    (ap (λ n. texts_from shelves (from + 1) rest ++ option_map_or (λ s. suite_texts shelves n s (get_or ds i 0)) (slice_get xs i) []) at
+    ∙ texts_of_next shelves (from + 1) xs ds i (omega arith) (omega arith))
 
-pub length_of_pairs : {A B : Type 0} (xs : List A) (y : B) → length (zip xs (replicate (length xs) y)) ≡ length xs
-length_of_pairs [] y = refl
-length_of_pairs (x ∷ xs) y = ap suc (length_of_pairs xs y)
-
--- the suites with the dates that they have at first
-abbrev pub dated : ConfigValue → ℕ → List (Suite × ℕ)
-dated config moment = zip config.suites (first_dates config moment)
-
-pub no_suites : (config : ConfigValue) (shelves : ShelvesValue) (moment : ℕ) (t : Tables) → t ≡ with_texts (texts_from shelves 0 (take 0 (dated config moment))) t
+pub no_suites : (config : ConfigValue) (shelves : ShelvesValue) (dates : List ℕ) (t : Tables) → t ≡ with_texts (texts_from shelves 0 (take 0 (zip config.suites dates))) t
 unfolding with_texts texts_from
-no_suites config shelves moment t = refl
+no_suites config shelves dates t = refl
 
-pub suite_more : (config : ConfigValue) (shelves : ShelvesValue) (moment i : ℕ) → i < length config.suites → (t : Tables)
-    → with_texts (suite_texts_at config shelves i moment) (with_texts (texts_from shelves 0 (take i (dated config moment))) t) ≡ with_texts (texts_from shelves 0 (take (i + 1) (dated config moment))) t
-suite_more config shelves moment i within t =
+pub suite_more : (config : ConfigValue) (shelves : ShelvesValue) (dates : List ℕ) (i : ℕ) → i < length config.suites → i < length dates → (t : Tables)
+    → with_texts (suite_texts_at config shelves i (get_or dates i 0)) (with_texts (texts_from shelves 0 (take i (zip config.suites dates))) t)
+    ≡ with_texts (texts_from shelves 0 (take (i + 1) (zip config.suites dates))) t
+suite_more config shelves dates i within dated t =
     let at : suc i ≡ i + 1 = omega arith in
     let here : i ≡ 0 + i = omega arith in
-    let before : List PathText = texts_from shelves 0 (take i (dated config moment)) in
-    let more : before ++ suite_texts_at config shelves i moment ≡ texts_from shelves 0 (take (i + 1) (dated config moment)) =
-    ap (λ n. before ++ option_map_or (λ s. suite_texts shelves n s moment) (slice_get config.suites i) []) here
-    ∙ texts_of_next shelves moment 0 config.suites i within ∙ ap (λ n. texts_from shelves 0 (take n (dated config moment))) at in
-    texts_then before (suite_texts_at config shelves i moment) t ∙ ap (λ ys. with_texts ys t) more
+    let before : List PathText = texts_from shelves 0 (take i (zip config.suites dates)) in
+    let more : before ++ suite_texts_at config shelves i (get_or dates i 0) ≡ texts_from shelves 0 (take (i + 1) (zip config.suites dates)) =
+    ap (λ n. before ++ option_map_or (λ s. suite_texts shelves n s (get_or dates i 0)) (slice_get config.suites i) []) here
+    ∙ texts_of_next shelves 0 config.suites dates i within dated ∙ ap (λ n. texts_from shelves 0 (take n (zip config.suites dates))) at in
+    texts_then before (suite_texts_at config shelves i (get_or dates i 0)) t ∙ ap (λ ys. with_texts ys t) more
 
 -- Release of a suite, and then the others
 pub suite_then : (config : ConfigValue) (shelves : ShelvesValue) (moment i : ℕ) (s : Suite) (text : List ℕ) → slice_get config.suites i ≡ Some s
@@ -209,15 +218,22 @@ suite_then config shelves moment i s text here e t =
 
 -- ---- all first rows
 
+-- each suite has the one moment
+pub one_date : (moment : ℕ) (suites : List Suite) → map (first_date moment) suites ≡ map date_row (zip suites (replicate (length suites) moment))
+one_date moment [] = refl
+one_date moment (s ∷ suites) = ap (λ ds. first_date moment s ∷ ds) (one_date moment suites)
+
 pub first_rows_then : (a b c d : State) (config : ConfigValue) (moment : ℕ) → Changes a b (with_meta (record { version = VERSION; configuration = config.text }))
-    → Continues b c (with_texts (all_texts config empty (first_dates config moment))) → Continues c d (with_dates (map (first_date moment) config.suites))
+    → Continues b c (with_texts (all_texts config empty (first_dates config moment))) → Continues c d (with_dates (map date_row (zip config.suites (first_dates config moment))))
     → Changes a d (with_first_rows config moment)
 unfolding with_first_rows
 first_rows_then a b c d config moment one two three =
-    changes_on a b d (with_meta (record { version = VERSION; configuration = config.text }))
-    (λ t. with_dates (map (first_date moment) config.suites) (with_texts (all_texts config empty (first_dates config moment)) t)) (with_first_rows config moment)
+    let texts : Tables → Tables = with_texts (all_texts config empty (first_dates config moment)) in
+    let dates : Tables → Tables = with_dates (map (first_date moment) config.suites) in
+    changes_on a b d (with_meta (record { version = VERSION; configuration = config.text })) (λ t. dates (texts t)) (with_first_rows config moment)
     (λ t. refl) one
-    (continues_then b c d (with_texts (all_texts config empty (first_dates config moment))) (with_dates (map (first_date moment) config.suites)) _ (λ t. refl) two three)
+    (continues_then b c d texts (with_dates (map date_row (zip config.suites (first_dates config moment)))) (λ t. dates (texts t))
+    (λ t. ap (λ ds. with_dates ds (texts t)) (sym (one_date moment config.suites))) two three)
 
 pub first_of_none : (config : ConfigValue) (moment : ℕ) → with_first_rows config moment no_rows ≡ founded config moment
 unfolding founded

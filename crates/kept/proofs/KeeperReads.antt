@@ -40,5 +40,5 @@ module _ {config : ConfigValue} {judged : List Judgement} {dates : List ℕ} (a 
   same_after clean up = ap (λ db. book_of db config judged (shown_in config.suites (tables_in db)) dates) (still_committed clean up)
 
   -- a crash leaves nothing new
-  pub left_before : HasCleanDisk b → (left : Option Book) → ((trees : Trees) × b.may_leave trees × KeepsLeft trees config left) → (trees : Trees) × a.may_leave trees × KeepsLeft trees config left
+  pub left_before : HasCleanDisk b → (left : Option Book) → ((trees : Trees) × b.may_leave trees × KeepsLeft trees left) → (trees : Trees) × a.may_leave trees × KeepsLeft trees left
   left_before clean left might = (might.0, read.crash clean (was_archive clean) might.0 might.1, might.2)

@@ -61,3 +61,6 @@ pub mod KeeperReads
 pub mod ReadCalls
 pub mod MakeLemmas
 pub mod BookFiles
+pub mod ConfiguredRows
+pub mod ConfiguredItems
+pub mod ConfiguringLemmas

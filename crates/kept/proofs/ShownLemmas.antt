@@ -110,7 +110,7 @@ lt_true : (a b : ℕ) → a < b → nat_lt a b ≡ true
 lt_true a b h = grind (arith, nat_tests)
 
 -- the suite of a name has it
-named_suite : (suites : List Suite) (name : List ℕ) (n : ℕ) → suite_named suites name ≡ Some n → (n < length suites) × (name ≡ codename_at suites n)
+pub named_suite : (suites : List Suite) (name : List ℕ) (n : ℕ) → suite_named suites name ≡ Some n → (n < length suites) × (name ≡ codename_at suites n)
 unfolding suite_named
 named_suite [] name n e = cc
 named_suite (s ∷ ss) name n e =
@@ -119,7 +119,7 @@ named_suite (s ∷ ss) name n e =
 
 module _ (suites : List Suite) (differ : AllPairs (λ s r. s.codename ≢ r.codename) suites) where
   -- a suite is found by its name
-  suite_back : (n : ℕ) → n < length suites → suite_named suites (codename_at suites n) ≡ Some n
+  pub suite_back : (n : ℕ) → n < length suites → suite_named suites (codename_at suites n) ≡ Some n
   unfolding suite_named
   suite_back n lt =
       let d = some_element suites n lt in

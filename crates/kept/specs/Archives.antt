@@ -34,10 +34,10 @@ abbrev pub KeepsFinished : Database → ConfigValue → Book → Type 0
 KeepsFinished db config b = ∥ ((judged : List Judgement) × (shown : ShelvesValue) × (dates : List ℕ) × IsArchive db
     × IsKept (finished (tables_in db)) config judged shown dates × AreUnderWay (tables_in db) × (b ≡ book_in config judged shown dates (finished (tables_in db)))) ∥₁
 
--- What trees keep that a crash leaves: an archive of this configuration with this book, or none of this configuration.
-abbrev pub KeepsLeft : Trees → ConfigValue → Option Book → Type 0
-KeepsLeft trees config (Some b) = (db : Database) × (db.trees ≡ trees) × KeepsBook db config b
-KeepsLeft trees config None = (db : Database) → db.trees ≡ trees → (b : Book) → KeepsBook db config b → ⊥
+-- What trees keep that a crash leaves: an archive with this book, or none, of whatever configuration.
+abbrev pub KeepsLeft : Trees → Option Book → Type 0
+KeepsLeft trees (Some b) = (db : Database) × (db.trees ≡ trees) × KeepsBook db b.config b
+KeepsLeft trees None = (db : Database) → db.trees ≡ trees → (b : Book) → KeepsBook db b.config b → ⊥
 
 -- What one database keeps becomes what another keeps: the judged uploads, what is shown and the dates become these, and the
 -- book that of the step.

@@ -17,3 +17,4 @@ pub mod Coming
 pub mod Cleaning
 pub mod OneBook
 pub mod KeeperLemmas
+pub mod Configuring
