@@ -1,13 +1,14 @@
 //! The first rows of an archive.
 
-ghost use Rattle.std.specs.Prelude.{◌≡◌, ◌≤◌, ◌<◌, length, map, string_bytes, IsTrue, IfOk, OnOk, OnErr};
+ghost use Rattle.std.specs.Prelude.{◌≡◌, ◌≤◌, ◌<◌, All, length, map, string_bytes, zip, IsTrue, IfOk, OnOk, OnErr};
 ghost use Rattle.sqlite.specs.State.{HasCleanDisk, KeepsCommit, Survives};
 ghost use Rattle.sqlite.specs.Held.{state};
 ghost use Rattle.texts.specs.Indices.{all_texts, suite_path};
 ghost use Rattle.texts.specs.Positions.{indices_at, release_at};
 ghost use Rattle.texts.specs.Release.{listed_entry};
 ghost use Rattle.tables.specs.Rows.{Changes};
-ghost use Rattle.kept.specs.Founding.{Continues, Founds, component_texts, components_texts, first_date, first_dates, founded, from_root, suite_texts_at, with_dates, with_first_rows, with_path_text, with_texts};
+ghost use Rattle.kept.specs.Founding.{Continues, Founds, component_texts, components_texts, founded, from_root, suite_texts_at, with_dates, with_first_rows, with_path_text, with_texts};
+ghost use Rattle.kept.specs.Kept.{date_row};
 
 use keep::LATEST;
 use rules::{Config, Suite};
@@ -162,48 +163,51 @@ fn insert_suite<S: Alter>(
     insert_components(alloc, tx, shelves, position, suite)
 }
 
-/// Adds the texts of the suites, each of which last changed at the moment.
-fn insert_texts<S: Alter>(
+/// Adds the texts of the suites, each of which last changed at its date.
+pub fn insert_texts<S: Alter>(
     alloc: Global,
     tx: &mut Transaction<'_, S>,
     config: &Config,
     shelves: &Shelves,
-    moment: u64,
+    dates: &[u64],
 ) -> Result<(), Error>
-    requires { moment ≤ LATEST }
+    requires dated { length dates.now ≡ length config.now.suites }
+    requires in_range { All (λ date. date ≤ LATEST) dates.now }
     ensures same_reference { tx.new.conn.ghost_name ≡ tx.old.conn.ghost_name }
     ensures ok { HasCleanDisk (state S.Store tx.new.conn.now) → IsTrue (state S.Store tx.old.conn.now).in_transaction
-        → OnOk result (Continues (state S.Store tx.old.conn.now) (state S.Store tx.new.conn.now) (with_texts (all_texts config.now shelves.now (first_dates config.now moment)))) }
+        → OnOk result (Continues (state S.Store tx.old.conn.now) (state S.Store tx.new.conn.now) (with_texts (all_texts config.now shelves.now dates.now))) }
     ensures err { HasCleanDisk (state S.Store tx.new.conn.now) → IsTrue (state S.Store tx.old.conn.now).in_transaction
         → OnErr result (KeepsCommit (state S.Store tx.old.conn.now) (state S.Store tx.new.conn.now)) }
     ensures survives { Survives (state S.Store tx.old.conn.now) (state S.Store tx.new.conn.now) (λ _. ⊥) }
 {
-    for position in 0..config.suites().len() {
-        insert_suite(alloc, tx, config, shelves, position, moment)?;
+    for position in 0..dates.len() {
+        insert_suite(alloc, tx, config, shelves, position, dates[position])?;
     }
     Ok(())
 }
 
-/// Adds the dates of the suites: the moment for each.
-fn insert_dates<S: Alter>(
+/// Adds the dates of the suites.
+pub fn insert_dates<S: Alter>(
     tx: &mut Transaction<'_, S>,
     config: &Config,
-    moment: u64,
+    dates: &[u64],
 ) -> Result<(), Error>
+    requires dated { length dates.now ≡ length config.now.suites }
     ensures same_reference { tx.new.conn.ghost_name ≡ tx.old.conn.ghost_name }
     ensures ok { HasCleanDisk (state S.Store tx.new.conn.now) → IsTrue (state S.Store tx.old.conn.now).in_transaction
-        → OnOk result (Continues (state S.Store tx.old.conn.now) (state S.Store tx.new.conn.now) (with_dates (map (first_date moment) config.now.suites))) }
+        → OnOk result (Continues (state S.Store tx.old.conn.now) (state S.Store tx.new.conn.now) (with_dates (map date_row (zip config.now.suites dates.now)))) }
     ensures err { HasCleanDisk (state S.Store tx.new.conn.now) → IsTrue (state S.Store tx.old.conn.now).in_transaction
         → OnErr result (KeepsCommit (state S.Store tx.old.conn.now) (state S.Store tx.new.conn.now)) }
     ensures survives { Survives (state S.Store tx.old.conn.now) (state S.Store tx.new.conn.now) (λ _. ⊥) }
 {
-    for suite in config.suites() {
-        insert_date(tx, suite.codename.as_str(), moment)?;
+    for position in 0..dates.len() {
+        let suite = &config.suites()[position];
+        insert_date(tx, suite.codename.as_str(), dates[position])?;
     }
     Ok(())
 }
 
-/// Adds the first rows of an archive: the version and the configuration, the texts, and the dates.
+/// Adds the first rows of an archive: the version and the configuration, the texts, and the dates, the moment for each suite.
 fn insert_first_rows<S: Alter>(
     alloc: Global,
     tx: &mut Transaction<'_, S>,
@@ -218,10 +222,12 @@ fn insert_first_rows<S: Alter>(
         → OnErr result (KeepsCommit (state S.Store tx.old.conn.now) (state S.Store tx.new.conn.now)) }
     ensures survives { Survives (state S.Store tx.old.conn.now) (state S.Store tx.new.conn.now) (λ _. ⊥) }
 {
+    let moments = vec![in alloc; moment; config.suites().len()]?;
+    let dates = moments.as_slice();
     insert_meta(tx, VERSION, config.text())?;
     let shelves = Shelves::new(alloc);
-    insert_texts(alloc, tx, config, &shelves, moment)?;
-    insert_dates(tx, config, moment)
+    insert_texts(alloc, tx, config, &shelves, dates)?;
+    insert_dates(tx, config, dates)
 }
 
 /// Makes the tables of an archive and its indexes in a database that has no table, and adds the first rows.

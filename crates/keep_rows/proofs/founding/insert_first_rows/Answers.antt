@@ -1,9 +1,11 @@
-use Rattle.std.proofs.Common.{arith}
+use Rattle.std.proofs.Common.{◌≡◌, List, length, replicate, ap, ◌∙◌, arith}
 use Rattle.std.proofs.lemmas.Result.{on_err_weaker}
 use Rattle.sqlite.specs.State.{HasCleanDisk}
 use Rattle.sqlite.specs.Held.{state}
 use Rattle.sqlite.proofs.StateLemmas.{survives_then}
 use Rattle.tables.proofs.TransactionLemmas.{keeps_if_changed, keeps_if_failed, keeps_then, on_err, on_ok}
+use Rattle.rules.specs.declared.suite.Suite.{Suite}
+use Rattle.kept.specs.Founding.{first_dates}
 use Rattle.kept.proofs.FoundLemmas.{first_rows_then}
 use Rattle.keep_rows.proofs.founding.insert_first_rows.Goals as goal
 
@@ -36,8 +38,11 @@ returns-clause-ok g c clean inside =
     let later : HasCleanDisk two = omega (arith, c.insert_dates.ensures.survives.clean, clean) in
     let early : HasCleanDisk one = omega (arith, c.insert_texts.ensures.survives.clean, later) in
     let first = rw c.text.ensures.text at (c.in_ok-insert_meta.ensures.ok early inside) in
-    let second = rw c.new-shelves.ensures at (c.in_ok-insert_texts.ensures.ok later first.shown.mode) in
-    on_ok c.insert_dates.result (c.insert_dates.ensures.ok clean second.mode) (λ third.
+    let are : c.as_slice-dates.result.now ≡ first_dates c.args.config.now c.args.moment =
+    c.as_slice-dates.ensures.value ∙ c.in_ok-moments.ensures.items_if_clones_equal (λ y e. e) ∙ ap (λ (suites : List Suite). replicate (length suites) c.args.moment) c.suites.ensures in
+    let second = rw (c.new-shelves.ensures, are) at (c.in_ok-insert_texts.ensures.ok later first.shown.mode) in
+    let last = rw are at (c.insert_dates.ensures.ok clean second.mode) in
+    on_ok c.insert_dates.result last (λ third.
     first_rows_then old one two three c.args.config.now c.args.moment first second third)
 
 pub returns-clause-err : goal.returns-clause-err

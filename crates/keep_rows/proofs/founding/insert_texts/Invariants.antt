@@ -1,9 +1,9 @@
 use Rattle.std.proofs.Common.{◌≡◌, IsTrue, take}
+use Rattle.std.specs.List.{zip}
 use Rattle.sqlite.specs.State.{HasCleanDisk, Survives}
 use Rattle.sqlite.specs.Held.{state}
 use Rattle.texts.specs.Indices.{texts_from}
 use Rattle.kept.specs.Founding.{Continues, with_texts}
-use Rattle.kept.proofs.FoundLemmas.{dated}
 use Rattle.keep_rows.proofs.founding.insert_texts.Given as goal
 
 -- those of the suites so far are added
@@ -12,5 +12,5 @@ invariant-loop-position g l = record {
   reference : l.tx.conn.ghost_name ≡ l.fn.tx.conn.ghost_name;
   survives : Survives (state g.S.Store l.fn.tx.conn.now) (state g.S.Store l.tx.conn.now) (λ _. ⊥);
   added : HasCleanDisk (state g.S.Store l.tx.conn.now) → IsTrue (state g.S.Store l.fn.tx.conn.now).in_transaction
-      → Continues (state g.S.Store l.fn.tx.conn.now) (state g.S.Store l.tx.conn.now) (with_texts (texts_from l.shelves 0 (take l.position (dated l.config l.moment))));
+      → Continues (state g.S.Store l.fn.tx.conn.now) (state g.S.Store l.tx.conn.now) (with_texts (texts_from l.shelves 0 (take l.position (zip l.config.suites l.dates))));
 }
