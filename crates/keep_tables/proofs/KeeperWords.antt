@@ -24,7 +24,7 @@ module _ {S : Type 0} (g : Ghosts S) where
   kept_in k = table_book k
 
   abbrev pub may_leave_in : TableKeeper S g → Option Book → Type 0
-  may_leave_in k left = (trees : Trees) × (state g k.conn).may_leave trees × KeepsLeft trees k.config left
+  may_leave_in k left = (trees : Trees) × (state g k.conn).may_leave trees × KeepsLeft trees left
 
   abbrev pub StaysIn : TableKeeper S g → TableKeeper S g → Type 0
   StaysIn = Stays clean_in open_in faults_in kept_in may_leave_in

@@ -10,3 +10,4 @@ pub mod MomentReads
 pub mod AtOnceLemmas
 pub mod KeeperWords
 pub mod SweptChanges
+pub mod ConfiguredCalls

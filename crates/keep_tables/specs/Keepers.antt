@@ -13,7 +13,7 @@ use Rattle.keep_tables.specs.declared.keeper.TableKeeper.{TableKeeper}
 abbrev pub connection_of : {S : Type 0} {g : Ghosts S} → TableKeeper S g → State
 connection_of {S} {g} k = state g k.conn
 
--- the configuration that its archive was made with
+-- the configuration that its archive has
 abbrev pub config_in_use : {S : Type 0} {g : Ghosts S} → TableKeeper S g → ConfigValue
 config_in_use k = k.config
 

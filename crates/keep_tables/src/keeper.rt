@@ -14,6 +14,7 @@ use crate::begun::{begun, forget_if, is_coming, is_one_piece, number_of, stop};
 use crate::calls::{clear, deliver_at_once, finish_delivery, forget_body, take_piece};
 use crate::changes::make_change;
 use crate::cleanings::clean_up;
+use crate::configurations::take_configuration;
 use crate::current::span_of;
 use crate::known::{TextPrint, known_print, note_print, renew_prints};
 use crate::reads::{
@@ -21,7 +22,7 @@ use crate::reads::{
 };
 use bodies::{Begun, Finished, OnePiece};
 use keep::{
-    Change, IndexText, Judgement, KeepFault, Keeper, LATEST, PIECE_SIZE, Waiting,
+    Change, Configured, IndexText, Judgement, KeepFault, Keeper, LATEST, PIECE_SIZE, Waiting,
     append_judgements, copied_judgements, dates_after, room_for_judgements,
 };
 use keep_rows::{create, fault_of, is_without_tables, some_take_files};
@@ -176,11 +177,16 @@ impl<S: Alter + Drop> Keeper for TableKeeper<S> {
     ghost may_fail = { true };
 
     /// A crash leaves trees that an opening may find, with a book in them or none.
-    ghost may_leave = { λ k left. (trees : Trees) × (state S.Store k.conn).may_leave trees × KeepsLeft trees k.config left };
+    ghost may_leave = { λ k left. (trees : Trees) × (state S.Store k.conn).may_leave trees × KeepsLeft trees left };
 
     #[tactic(auto, unfolding(kept::specs::Kept::book_in))]
     fn config(&self) -> &Config {
         &self.config
+    }
+
+    #[tactic(auto, unfolding(kept::specs::Kept::book_in))]
+    fn dates(&self) -> &[u64] {
+        self.dates.as_slice()
     }
 
     #[tactic(auto, unfolding(kept::specs::Kept::book_in))]
@@ -371,6 +377,25 @@ impl<S: Alter + Drop> Keeper for TableKeeper<S> {
             Ok(count) => {
                 self.begun = None;
                 Ok(count)
+            }
+            Err(error) => Err(fault_of(error)),
+        }
+    }
+
+    #[tactic(auto, unfolding(kept::specs::Kept::book_in))]
+    fn configure(&mut self, alloc: Global, next: Configured) -> Result<(), KeepFault> {
+        let Configured {
+            config,
+            shelves,
+            dates,
+        } = next;
+        match take_configuration(alloc, &mut self.conn, &config, &shelves, dates.as_slice()) {
+            Ok(()) => {
+                self.config = config;
+                self.dates = dates;
+                self.spare = Some(shelves);
+                self.prints.clear();
+                Ok(())
             }
             Err(error) => Err(fault_of(error)),
         }

@@ -1,12 +1,13 @@
 //! A keeper of an archive over the tables of a database: bodies, arrivals and what uploads want are read from the tables,
-//! and a piece of a body, its arrival, both for a body of one piece, a change, a cleaning and the making of an archive are one transaction
-//! each. An opening reads all rows and says whether they are those of an archive.
+//! and a piece of a body, its arrival, both for a body of one piece, a change, a cleaning, another configuration and the making of an
+//! archive are one transaction each. An opening reads all rows and says whether they are those of an archive.
 #![tactic(auto)]
 
 mod begun;
 mod calls;
 mod changes;
 mod cleanings;
+mod configurations;
 mod current;
 mod due;
 mod keeper;

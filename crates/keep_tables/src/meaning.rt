@@ -20,6 +20,6 @@ pub fn a_keeper_is_its_tables<S: Alter + Drop>()
     ensures faults { (k : TableKeeper S S.Store) → ⟦<TableKeeper<S> as Keeper>⟧.faults k ≡ (connection_of k).faults }
     ensures book { (k : TableKeeper S S.Store) → ⟦<TableKeeper<S> as Keeper>⟧.book k ≡ table_book k }
     ensures keeps { (k : TableKeeper S S.Store) → HasCleanDisk (connection_of k) → IsTrue (connection_of k).is_open → KeepsBook (connection_of k).committed (config_in_use k) (table_book k) }
-    ensures leaves { (k : TableKeeper S S.Store) (trees : Trees) (left : Option Book) → (connection_of k).may_leave trees → KeepsLeft trees (config_in_use k) left
+    ensures leaves { (k : TableKeeper S S.Store) (trees : Trees) (left : Option Book) → (connection_of k).may_leave trees → KeepsLeft trees left
         → ⟦<TableKeeper<S> as Keeper>⟧.may_leave k left }
 {}
