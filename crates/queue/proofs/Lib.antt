@@ -46,3 +46,4 @@ pub mod ReaderLemmas
 pub mod ForGood
 pub mod Stored
 pub mod Received
+pub mod ConfiguredLemmas

@@ -211,7 +211,7 @@ claims_own : (s : Suite) → claims s.codename s ≡ true
 unfolding claims
 claims_own s = any_true (bytes_eq s.codename) (distributions s) s.codename (here s.codename (option_to_list s.suite ++ s.also_accept_for)) ((bytes_eq-Decides s.codename s.codename).1 refl)
 
-codenames_apart : (suites : List Suite) → ClaimApart suites → AllPairs (λ s t. s.codename ≢ t.codename) suites
+pub codenames_apart : (suites : List Suite) → ClaimApart suites → AllPairs (λ s t. s.codename ≢ t.codename) suites
 codenames_apart suites h = λ i j d below within e.
     let s : Suite = get_or suites i d in
     let t : Suite = get_or suites j d in

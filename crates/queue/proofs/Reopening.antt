@@ -120,7 +120,7 @@ module _ (book : Book) (its : HasItsFiles book) where
   opens_itself = ap₂ (λ (s : ShelvesValue) (f : List ℕ → Option (List ℕ)). record book { shown = s; files = f }) (sym shown_back) files_back_all
 
 -- the book that a history leaves has its files
-book_of-files : (h : History) → AreAgreed (files_of (values (book_of h).shown)) → HasItsFiles (book_of h)
+pub book_of-files : (h : History) → AreAgreed (files_of (values (book_of h).shown)) → HasItsFiles (book_of h)
 unfolding book_of book_from
 book_of-files h agreed = record { agreed = agreed; files = get-pool (archive h) }
 

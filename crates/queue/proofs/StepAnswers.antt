@@ -49,6 +49,7 @@ allowed may_fail h call keep_faults.OutOfMemory may free = tt
 allowed may_fail h call keep_faults.Disk may free = (may, tt, free)
 allowed may_fail h call keep_faults.Size may free = (may, tt, free)
 allowed may_fail h call keep_faults.Tables may free = absurd may
+allowed may_fail h call keep_faults.Configuration may free = absurd may
 
 -- where a keeper refuses, the archive's fault may stand in the answer's place
 pub keeper_step : (may_fail : Bool) (h : History) (call : Call) (fault : KeepFault) (told : Fault) (was_open is_open : Type 0) (old new : Book) → told ≡ of_keeper fault → IsKept was_open old h → IsSame was_open is_open old new
@@ -67,6 +68,7 @@ keepers_of may_fail free keep_faults.OutOfMemory may here = tt
 keepers_of may_fail free keep_faults.Disk may here = (may, tt, here)
 keepers_of may_fail free keep_faults.Size may here = (may, tt, here)
 keepers_of may_fail free keep_faults.Tables may here = absurd may
+keepers_of may_fail free keep_faults.Configuration may here = absurd may
 
 -- what a keeper refuses is a refusal of its own, and so is want of memory
 pub keepers_own : (may_fail : Bool) (free : Type 0) (fault : KeepFault) (told : Fault) → told ≡ of_keeper fault → MayAnswer may_fail fault → free → IsKeepers may_fail free told

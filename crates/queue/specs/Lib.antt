@@ -14,3 +14,4 @@ pub mod Commands
 pub mod Judging
 pub mod Renewal
 pub mod Printed
+pub mod Configuring

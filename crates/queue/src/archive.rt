@@ -1,6 +1,6 @@
 //! The archive over a keeper.
 
-ghost use Rattle.std.specs.Prelude.{◌≡◌, ◌⊎◌, ◌<◌, ◌≤◌, ⊤, true, Some, None, Err, IfOk, IfErr, OnErr, map};
+ghost use Rattle.std.specs.Prelude.{◌≡◌, ◌⊎◌, ◌<◌, ◌≤◌, ⊤, true, Some, None, Err, IfOk, IfErr, OnOk, OnErr, false, map};
 ghost use Rattle.queue.specs.Answers.{copy_line, is_free_copy, is_free_removal};
 ghost use Rattle.queue.specs.Commands.{stored, reported, counted, found, copies_of, lines_of, names_given, promoted};
 ghost use Rattle.queue.specs.Copies.{copy_fault};
@@ -9,9 +9,14 @@ ghost use Rattle.keep.specs.Book.{latest};
 ghost use Rattle.queue.specs.Deliveries.{delivery_fault, IsKeepers};
 ghost use Rattle.queue.specs.Promotions.{promotion_fault};
 ghost use Rattle.queue.specs.Removals.{removal_fault};
+ghost use Rattle.keep.specs.Configured.{configured, keeps_shown};
+ghost use Rattle.keep.specs.Keeping.{MayAnswer};
+ghost use Rattle.keep.specs.declared.fault.KeepFault.TheVariants.{Configuration};
+ghost use Rattle.queue.specs.Configuring.{Configures, Endures, LeavesConfigured};
 ghost use Rattle.queue.specs.Steps.{Does, IsServed, IsUndone, Lasts, LeavesDelivery, LeavesStep, Reads};
 
 use crate::command::{Arrived, Promotion, Report};
+use crate::configuring::configured;
 use crate::copy::{copy_plan, only_step, two_suites};
 use crate::delivery::check_delivery;
 use crate::fault::Fault;
@@ -21,8 +26,9 @@ use crate::removal::{place_of, removal_plan};
 use crate::renewal::renewed_texts;
 use crate::report::{verdict_lines, waiting_lines};
 use crate::run::{judged_steps, report_lines};
-use keep::{Change, Keeper, LATEST};
+use keep::{Change, KeepFault, Keeper, LATEST};
 use para::Listed;
+use rules::Config;
 use std::alloc::Global;
 
 /// An archive, over the keeper that keeps it between calls.
@@ -294,6 +300,34 @@ impl<K: Keeper> Archive<K> {
         self.keeper.apply(alloc, &change)?;
         self.keeper.hold(shelves);
         Ok(count)
+    }
+
+    /// Gives the archive another configuration from a moment on, in seconds since 1970-01-01 00:00:00 UTC. What has arrived, was
+    /// judged and is shown stays; a suite goes by its codename. The indices are those of the new configuration, and the moment is the
+    /// date of each suite that is new, or whose Release would be another text also with the date that it has. Refused as
+    /// `KeepFault::Configuration` where something that is shown would not be kept: its suite is not there, or does not keep its
+    /// architecture or its component.
+    pub fn configure(&mut self, alloc: Global, config: Config, moment: u64) -> Result<(), KeepFault>
+        requires in_time { moment ≤ latest }
+        ensures endures { Endures K.Keeper self.old.keeper self.new.keeper }
+        // Behind a success the keeper is open.
+        ensures served { K.is_clean self.new.keeper → OnOk result (K.is_open self.new.keeper) }
+        ensures step { Configures K.Keeper self.old.keeper config moment result self.new.keeper }
+        // The book, whatever the history.
+        ensures book { K.is_clean self.new.keeper → OnOk result (K.book self.new.keeper ≡ configured config moment (K.book self.old.keeper)) }
+        ensures kept { K.is_clean self.new.keeper → OnOk result (keeps_shown config (K.book self.old.keeper) ≡ true) }
+        ensures err { OnErr result (IsUndone K.Keeper self.old.keeper self.new.keeper) }
+        ensures differs { K.is_clean self.new.keeper → IfErr result (λ e. e ≡ Configuration → keeps_shown config (K.book self.old.keeper) ≡ false) }
+        ensures cause { IfErr result (λ e. (e ≡ Configuration) ⊎ MayAnswer K.may_fail e) }
+        // A crash leaves what it would have left before, or the configured book.
+        ensures crash { LeavesConfigured K.Keeper self.old.keeper config moment self.new.keeper }
+    {
+        // For the prover alone: the configuration is what its text spells, so no two suites have one codename.
+        let _ = self.keeper.config().text();
+        let next = configured(alloc, &mut self.keeper, config, moment)?;
+        self.keeper.configure(alloc, next)?;
+        self.printed = Vec::new(alloc);
+        Ok(())
     }
 
     /// The index text or the file of the pool at a path without a leading slash.

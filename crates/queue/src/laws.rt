@@ -1,7 +1,10 @@
 //! Laws of histories.
 
-ghost use Rattle.std.specs.Prelude.{◌≡◌, ◌⊎◌, ◌<◌, ◌≤◌, ℕ, List, [], ◌∷◌, ◌++◌, Option, Some, None, Result, Ok, length};
+ghost use Rattle.std.specs.Prelude.{◌≡◌, ◌⊎◌, ◌<◌, ◌≤◌, ℕ, List, [], ◌∷◌, ◌++◌, Option, Some, None, Result, Ok, length, true};
 ghost use Rattle.keep.specs.Book.{Book, HasItsFiles, latest};
+ghost use Rattle.keep.specs.Configured.{configured, keeps_shown};
+ghost use Rattle.queue.specs.Configuring.{IsLeftConfigured, LeavesConfigured, reopened};
+ghost use Rattle.rules.specs.Configuration.{ClaimApart};
 ghost use Rattle.queue.specs.Archives.{archive, book_of, sources_in, Stands};
 ghost use Rattle.queue.specs.Copies.{AreSuites};
 ghost use Rattle.queue.specs.Histories.{Call, Cleaning, Copies, Count, Delivery, History, Promoting, Reply, Step, arrived, counting, followed, opened_with};
@@ -34,6 +37,17 @@ pub fn a_book_opens_its_history()
 pub fn a_history_goes_on_from_its_book()
     ensures { (h : History) (calls : List Call) → AreAgreed (files_of (values (book_of h).shown)) → IsFaithful h calls
         → IsFaithful (opened_with (book_of h)) calls }
+{}
+
+/// A book whose files are those of its pool, under another configuration that keeps all that is shown, has its files, too, and stands
+/// for the history that opens with it. So a history goes on under another configuration: where the promise holds for calls behind it, it
+/// holds for them behind the book that it leaves, configured anew. No two suites of the configuration before claim one distribution,
+/// as is so of each that is read.
+pub fn a_configured_book_opens_its_history()
+    ensures files { (config : ConfigValue) (moment : ℕ) (book : Book) → ClaimApart book.config.suites → keeps_shown config book ≡ true → HasItsFiles book
+        → HasItsFiles (configured config moment book) }
+    ensures goes_on { (config : ConfigValue) (moment : ℕ) (h : History) (calls : List Call) → ClaimApart (book_of h).config.suites → keeps_shown config (book_of h) ≡ true
+        → AreAgreed (files_of (values (book_of h).shown)) → IsFaithful h calls → IsFaithful (reopened config moment h) calls }
 {}
 
 /// Where the configuration has no number of days, all that has arrived counts at each moment, and a cleaning takes nothing and
@@ -76,6 +90,14 @@ pub fn a_stop_leaves_a_book<K: Keeper>()
     ensures { (before after : K) (h : History) (call : Call) → K.is_clean before → K.is_open before → IsKept (K.is_open before) (K.book before) h → IsFaithful h (call ∷ [])
         → K.is_clean after → LeavesCall K.Keeper before call after → (left : Option Book) → K.may_leave after left
         → (left ≡ Some (book_of h)) ⊎ (left ≡ Some (book_of (followed h call (answer h call)))) }
+{}
+
+/// A stop while an open keeper takes another configuration, or behind that, leaves the book that the history leaves, or the configured
+/// one, and this only where the configuration keeps all that is shown; and it does leave one.
+pub fn a_stop_in_a_configuration_leaves_a_book<K: Keeper>()
+    ensures { (before after : K) (h : History) (config : ConfigValue) (moment : ℕ) → K.is_clean before → K.is_open before → IsKept (K.is_open before) (K.book before) h
+        → K.is_clean after → LeavesConfigured K.Keeper before config moment after → (left : Option Book) → K.may_leave after left
+        → IsLeftConfigured config moment (book_of h) left }
 {}
 
 /// Lists of calls, one behind the other, are one list. Where some are a run behind a history, and others are one behind each
