@@ -1,5 +1,5 @@
 -- Commands behind the making or the opening of an archive.
-use Rattle.std.proofs.Common.{◌≡◌, ◌⊎◌, ◌≤◌, ℕ, Bool, List, map, Result, IfOk, Contains, inl, inr, sym, ap, subst, ◌∙◌}
+use Rattle.std.proofs.Common.{◌≡◌, ◌⊎◌, ◌≤◌, ℕ, Bool, List, map, Option, Result, IfOk, Contains, inl, inr, sym, ap, subst, ◌∙◌}
 use Rattle.std.specs.declared.alloc.AllocError.{AllocError}
 use Rattle.std.specs.declared.alloc.Global.{Global}
 use Rattle.std.specs.declared.vec.Vec.{Vec}
@@ -12,12 +12,14 @@ use Rattle.queue.specs.Answers.{IsFaithful, IsKept, IsRun}
 use Rattle.queue.specs.Archives.{Stands}
 use Rattle.queue.specs.Commands.{call_of, outcome_of}
 use Rattle.queue.specs.Histories.{Call, History, bodies_of, opened_with}
+use Rattle.queue.specs.Steps.{IsLeftAlong}
 use Rattle.queue.specs.declared.command.Command.{Command}
 use Rattle.queue.specs.declared.command.Outcome.{Outcome}
 use Rattle.queue.proofs.Kept.{stands_kept}
 use Rattle.queue.proofs.Openings.{faithful_anew, fresh_stands}
 use Rattle.queue.proofs.ReadLemmas.{more_before}
 use Rattle.queue.proofs.Reopening.{opens_itself}
+use Rattle.once.proofs.Refusals.{both_then}
 
 -- calls behind a book that has its files, where no two bodies of these and of the book have one print
 pub faithful_opened : (b : Book) (calls : List Call) (bodies : List (List ℕ)) → HasItsFiles b → NoCollision bodies → HasBodies bodies b
@@ -69,6 +71,19 @@ module _ {K : Type 0} {is_clean is_open : K → Type 0} {faults : K → ℕ} {bo
 
   pub ready_opened : HasItsFiles (book made) → is_open made → is_clean new → IsReady (opened_with (book made))
   ready_opened files up clean = ready (opened_with (book made)) up (ap book same ∙ opens_itself (book made) files) clean
+
+  -- so they go on behind the book, also over a crash
+  pub go_on : (may_leave : Option Book → Type 0) (commands : List Command) (r : Result (Vec Outcome Global) AllocError) → HasItsFiles (book made) → is_open made → Drives commands r
+      → IfOk r (λ outcomes. (h : History) → IsReady h → IsFaithful h (map call_of commands) → (left : Option Book) → may_leave left → IsLeftAlong h (map call_of commands) (map outcome_of outcomes.items) left)
+      → is_clean new
+      → IfOk r (λ outcomes. (bodies : List (List ℕ)) → NoCollision bodies → HasBodies bodies (book made) → ((x : List ℕ) → Contains (bodies_of (map call_of commands)) x → Contains bodies x)
+      → IsRun may_fail (opened_with (book made)) (map call_of commands) (map outcome_of outcomes.items) (is_open new) (book new)
+      × ((left : Option Book) → may_leave left → IsLeftAlong (opened_with (book made)) (map call_of commands) (map outcome_of outcomes.items) left))
+  go_on may_leave commands r files up drives stops clean =
+      both_then r (once_opened commands r files drives clean) stops (λ outcomes run leaves bodies apart have there. (
+        run bodies apart have there,
+        leaves (opened_with (book made)) (ready_opened files up clean) (faithful_opened (book made) (map call_of commands) bodies files apart have there),
+      ))
 
   pub open_or_failed : (first : ℕ) → (is_clean made → is_open made) → first ≤ faults made → is_clean new → is_open new ⊎ MoreFaults first (faults new)
   open_or_failed first up counts clean = elim (lasts.stays clean (subst is_open (sym same) (up (clean_made clean)))) [

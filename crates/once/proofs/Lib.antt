@@ -1,3 +1,4 @@
+pub mod Configurations
 pub mod Courses
 pub mod Stops
 pub mod Refusals

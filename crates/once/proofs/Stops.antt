@@ -1,29 +1,32 @@
 -- What is found behind a stop.
-use Rattle.std.proofs.Common.{◌≡◌, ◌⊎◌, Bool, true, false, Option, Some, None, Ok, inl, inr, refl, sym, ap, subst, ◌∙◌}
+use Rattle.std.proofs.Common.{◌≡◌, ◌⊎◌, Option, Some, None, inl, inr, refl, sym, ap, subst}
 use Rattle.std.proofs.Math.Logic.{∥∥₁_elim, ∥∥₁_map}
 use Rattle.std.proofs.Props.{props}
-use Rattle.std.specs.Prelude.{bytes_eq}
 use Rattle.std.proofs.lemmas.Option.{same_Some}
 use Rattle.sqlite.specs.Effect.{Database}
 use Rattle.sqlite.specs.Tree.{Trees}
-use Rattle.sums.proofs.Agree.{bytes_same, same_bytes}
-use Rattle.rules.specs.Configuration.{config_in}
 use Rattle.rules.specs.Values.{ConfigValue}
 use Rattle.keep.specs.Book.{Book}
 use Rattle.tables.specs.Rows.{HoldsRows, IsArchive, Tables, tables_in, tables_of}
 use Rattle.tables.specs.Others.{IsArchiveSchema}
 use Rattle.kept.specs.Archives.{KeepsBook, KeepsFinished, KeepsLeft}
 use Rattle.kept.specs.Finished.{AreUnderWay, finished}
-use Rattle.kept.specs.Kept.{IsKept}
-use Rattle.kept.specs.OneBook.{one_configuration, one_text}
+use Rattle.kept.specs.Kept.{IsKept, book_in}
 use Rattle.keep_tables.specs.Opened.{IsNoArchive}
 
 config_set : IsSet ConfigValue
 config_set = hlevel props
 
+-- the configuration of a book is its archive's
+pub own_config : (db : Database) (config : ConfigValue) (b : Book) → KeepsFinished db config b → config ≡ b.config
+unfolding book_in
+own_config db config b keeps = ∥∥₁_elim keeps (config_set _ _) (λ w. sym (ap (λ (x : Book). x.config) w.6))
+
 -- what a database keeps once the bodies that are not whole are away is what it keeps
-kept_book : (db : Database) (config : ConfigValue) (b : Book) → KeepsFinished db config b → KeepsBook db config b
-kept_book db config b keeps = ∥∥₁_map keeps (λ w. (w.0, w.1, w.2, record { held = w.3; kept = w.4; coming = w.5 }, w.6))
+kept_book : (db : Database) (config : ConfigValue) (b : Book) → KeepsFinished db config b → KeepsBook db b.config b
+kept_book db config b keeps =
+    let own : config ≡ b.config = own_config db config b keeps in
+    subst (λ (c : ConfigValue). KeepsBook db c b) own (∥∥₁_map keeps (λ w. (w.0, w.1, w.2, record { held = w.3; kept = w.4; coming = w.5 }, w.6)))
 
 -- ---- the database that is found
 
@@ -33,36 +36,35 @@ archive_there db found same lists held = record { schema = lists; rows = subst (
 no_two : (x y : ⊥) → x ≡ y
 no_two x y = absurd x
 
--- A stop leaves this book or the other of this configuration.
-module _ (found : Database) (config : ConfigValue) (one other : Book)
-    (left : (o : Option Book) → KeepsLeft found.trees config o → (o ≡ Some one) ⊎ (o ≡ Some other)) where
-  keeps_some : KeepsLeft found.trees config None → ⊥
-  keeps_some none = elim (left None none) [
-    | inl is ↦ let e : None ≡ Some one = is in absurd cc
-    | inr is ↦ let e : None ≡ Some other = is in absurd cc
-  ]
+-- a stop left some book, and this is said of it
+abbrev pub IsLeft : (Book → Type 0) → Option Book → Type 0
+IsLeft Is None = ⊥
+IsLeft Is (Some b) = Is b
 
+-- The trees that are found keep what a stop left.
+module _ (found : Database) (Is : Book → Type 0) (left : (o : Option Book) → KeepsLeft found.trees o → IsLeft Is o) where
   pub not_none : IsArchiveSchema found.schema → IsNoArchive found → ⊥
-  not_none lists none = keeps_some (λ db same b keeps.
+  not_none lists none = left None (λ db same b keeps.
       ∥∥₁_elim keeps no_two (λ w.
       let held : IsArchive found = archive_there db found same lists w.3.held in
-      none held (subst AreUnderWay (ap tables_of same) w.3.coming) config w.0 w.1 w.2 (subst (λ (t : Tables). IsKept (finished t) config w.0 w.1 w.2) (ap tables_of same) w.3.kept)))
+      none held (subst AreUnderWay (ap tables_of same) w.3.coming) b.config w.0 w.1 w.2
+      (subst (λ (t : Tables). IsKept (finished t) b.config w.0 w.1 w.2) (ap tables_of same) w.3.kept)))
 
-  -- its text tells the configuration
-  of_text : (c : ConfigValue) (b : Book) → ∥ config_in config.text ≡ Ok config ∥₁ → KeepsBook found c b → (same : Bool) → bytes_eq c.text config.text ≡ same → (b ≡ one) ⊎ (b ≡ other)
-  of_text c b read keeps true e =
-      let is : c ≡ config =
-      ∥∥₁_elim read (config_set _ _) (λ r. ∥∥₁_elim keeps (config_set _ _) (λ w. one_configuration c config w.3.kept.read r (same_bytes c.text config.text e))) in
-      elim (left (Some b) (found, refl, subst (λ (d : ConfigValue). KeepsBook found d b) is keeps)) [
-        | inl i ↦ inl (same_Some b one i)
-        | inr i ↦ inr (same_Some b other i)
-      ]
-  of_text c b read keeps false e = absurd (keeps_some (λ db same d others.
-      ∥∥₁_elim others no_two (λ w. ∥∥₁_elim keeps no_two (λ v.
-      let kept : IsKept (finished (tables_in found)) config w.0 w.1 w.2 = subst (λ (t : Tables). IsKept (finished t) config w.0 w.1 w.2) (ap tables_of same) w.3.kept in
-      let texts : c.text ≡ config.text = one_text (finished (tables_in found)) c config v.0 w.0 v.1 w.1 v.2 w.2 v.3.kept kept in
-      let both : false ≡ true = sym e ∙ bytes_same c.text config.text texts in
-      absurd cc))))
+  pub is_left : (config : ConfigValue) (b : Book) → KeepsFinished found config b → Is b
+  is_left config b keeps = left (Some b) (found, refl, kept_book found config b keeps)
 
-  pub is_one : (c : ConfigValue) (b : Book) → ∥ config_in config.text ≡ Ok config ∥₁ → KeepsFinished found c b → (b ≡ one) ⊎ (b ≡ other)
-  is_one c b read keeps = of_text c b read (kept_book found c b keeps) (bytes_eq c.text config.text) refl
+-- one book or another
+abbrev pub OneOf : Book → Book → Book → Type 0
+OneOf one other b = (b ≡ one) ⊎ (b ≡ other)
+
+pub one_of : (one other : Book) (o : Option Book) → (o ≡ Some one) ⊎ (o ≡ Some other) → IsLeft (OneOf one other) o
+one_of one other None is = elim is [ inl e ↦ cc | inr e ↦ cc ]
+one_of one other (Some b) is = elim is [ inl e ↦ inl (same_Some b one e) | inr e ↦ inr (same_Some b other e) ]
+
+-- the same, the other only where this holds
+abbrev pub OneOrThen : Book → Type 0 → Book → Book → Type 0
+OneOrThen one Then other b = (b ≡ one) ⊎ (Then × (b ≡ other))
+
+pub one_or_then : (one other : Book) (Then : Type 0) (o : Option Book) → (o ≡ Some one) ⊎ (Then × (o ≡ Some other)) → IsLeft (OneOrThen one Then other) o
+one_or_then one other Then None is = elim is [ inl e ↦ cc | inr w ↦ let e : None ≡ Some other = w.1 in absurd cc ]
+one_or_then one other Then (Some b) is = elim is [ inl e ↦ inl (same_Some b one e) | inr w ↦ inr (w.0, same_Some b other w.1) ]

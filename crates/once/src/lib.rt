@@ -1,12 +1,15 @@
-//! The promise over a database: an archive is made in one, or the one that it keeps is opened, and commands follow, also behind a stop.
+//! The promise over a database: an archive is made in one, or the one that it keeps is opened, also for another configuration, and
+//! commands follow, also behind a stop.
 #![tactic(auto)]
 
 mod commands;
+mod configured;
 mod created;
 mod reopened;
 mod stop;
 
+pub use configured::drive_configured;
 pub use created::drive_created;
 pub use keep_tables::InOrder;
 pub use reopened::drive_opened;
-pub use stop::a_stop_goes_on;
+pub use stop::{a_stop_goes_on, a_stop_in_a_configuration_goes_on};

@@ -1,20 +1,19 @@
 //! An archive that a database keeps, and commands in order behind the book that it has.
 
-ghost use Rattle.std.specs.Prelude.{◌≡◌, ◌⊎◌, true, ℕ, List, Option, Contains, IsTrue, IfOk, IfErr, IsErrAnd, OnErr, map};
+ghost use Rattle.std.specs.Prelude.{◌≡◌, ◌⊎◌, true, IsTrue, IfOk, IfErr, IsErrAnd, OnErr, map};
 ghost use Rattle.sqlite.specs.Held.{state};
 ghost use Rattle.sqlite.specs.State.{HasCleanDisk};
 ghost use Rattle.keep.specs.Book.{Book};
-ghost use Rattle.keep.specs.Keeping.{HasBodies, MoreFaults, NoCollision};
+ghost use Rattle.keep.specs.Keeping.{MoreFaults};
 ghost use Rattle.keep.specs.declared.fault.KeepFault.TheVariants.{OutOfMemory, Tables as NoArchive};
 ghost use Rattle.tables.specs.Causes.{MayFail};
 ghost use Rattle.kept.specs.Archives.{KeepsBook, KeepsFinished};
 ghost use Rattle.kept.specs.Transactions.{IsUndone};
 ghost use Rattle.keep_tables.specs.Keepers.{config_in_use, connection_of, table_book};
 ghost use Rattle.keep_tables.specs.Opened.{HasUnfinished, IsNoArchive};
-ghost use Rattle.queue.specs.Answers.{IsRun};
+ghost use Rattle.once.specs.Lists.{GoOn};
 ghost use Rattle.queue.specs.Commands.{call_of, kind_of_command, kind_of_outcome, outcome_of};
-ghost use Rattle.queue.specs.Histories.{bodies_of, opened_with};
-ghost use Rattle.queue.specs.Steps.{IsLeftAlong, IsServedLast};
+ghost use Rattle.queue.specs.Steps.{IsServedLast};
 
 use crate::commands::make_commands;
 use keep::{KeepFault, Keeper};
@@ -32,16 +31,10 @@ pub fn drive_opened<S: InOrder + Drop>(
     commands: &[Command],
 ) -> Result<(Archive<TableKeeper<S>>, Result<Vec<Outcome>, AllocError>), (Connection<S>, KeepFault)>
     ensures kinds { IfOk result (λ r. IfOk r.1 (λ outcomes. map kind_of_outcome outcomes.items ≡ map kind_of_command commands.now)) }
-    // The database kept a book. Where no two bodies of that book and of the deliveries have one print, each outcome is the answer
-    // of the plain archive behind it, or want of memory or a failure of the disk; and while the connection is open its tables keep
-    // the book that these calls leave. A crash during the list or behind it leaves what that book and the first of the commands
-    // leave, none, some or all of them; or that with the whole command that follows them besides. Where memory is wanting for the
-    // outcomes, no command was made.
+    // The database kept a book, behind which the commands go on, also over a crash. Where memory is wanting for the outcomes, no
+    // command was made.
     ensures once { IfOk result (λ r. HasCleanDisk (connection_of r.0.keeper) → (b : Book) × KeepsFinished (state S.Store connection).committed (config_in_use r.0.keeper) b
-        × IfOk r.1 (λ outcomes. (bodies : List (List ℕ)) → NoCollision bodies → HasBodies bodies b → ((x : List ℕ) → Contains (bodies_of (map call_of commands.now)) x → Contains bodies x)
-        → IsRun true (opened_with b) (map call_of commands.now) (map outcome_of outcomes.items) (IsTrue (connection_of r.0.keeper).is_open) (table_book r.0.keeper)
-        × ((left : Option Book) → ⟦<TableKeeper<S> as Keeper>⟧.may_leave r.0.keeper left
-        → IsLeftAlong (opened_with b) (map call_of commands.now) (map outcome_of outcomes.items) left))
+        × IfOk r.1 (λ outcomes. GoOn b (map call_of commands.now) (map outcome_of outcomes.items) r.0.keeper)
         × OnErr r.1 (table_book r.0.keeper ≡ b)) }
     // Where the last is done the connection is open.
     ensures served { IfOk result (λ r. IfOk r.1 (λ outcomes. IsServedLast ⟦<TableKeeper<S> as Keeper>⟧ r.0.keeper (map outcome_of outcomes.items))) }

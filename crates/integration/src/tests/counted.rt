@@ -3,7 +3,7 @@
 use super::checks::{BOX, config_of, same};
 use super::uploads::{File, HELLO, MOMENT, TIE, TIE_AGAIN};
 use desk::{DeskFault, answer};
-use keep::{Change, IndexText, Judgement, KeepFault, Keeper, PlainKeeper, Waiting};
+use keep::{Change, Configured, IndexText, Judgement, KeepFault, Keeper, PlainKeeper, Waiting};
 use once::{InOrder, drive_created};
 use queue::{Archive, Arrived, Fault, Report};
 use rules::Config;
@@ -44,6 +44,10 @@ impl<K: Keeper> Keeper for Counting<K> {
         self.inner.config()
     }
 
+    fn dates(&self) -> &[u64] {
+        self.inner.dates()
+    }
+
     fn begin(&mut self, alloc: Global) -> Result<(), KeepFault> {
         self.inner.begin(alloc)
     }
@@ -80,6 +84,10 @@ impl<K: Keeper> Keeper for Counting<K> {
 
     fn clean(&mut self, alloc: Global, moment: u64) -> Result<u64, KeepFault> {
         self.inner.clean(alloc, moment)
+    }
+
+    fn configure(&mut self, alloc: Global, next: Configured) -> Result<(), KeepFault> {
+        self.inner.configure(alloc, next)
     }
 
     fn file(&mut self, alloc: Global, path: &str) -> Result<Option<Vec<u8>>, KeepFault> {

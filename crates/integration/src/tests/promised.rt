@@ -1,7 +1,8 @@
-//! Archives from their first call on: in memory, in a database, and one that is opened again.
+//! Archives from their first call on: in memory, in a database, one that is opened again, and one that gets another configuration.
 
 use super::checks::{BOX, config_of, same};
-use once::{InOrder, drive_created, drive_opened};
+use keep::Keeper;
+use once::{InOrder, drive_configured, drive_created, drive_opened};
 use queue::{Arrived, Command, Outcome, drive_anew};
 use sqlite::Connection;
 use std::alloc::{AllocError, Global};
@@ -40,18 +41,40 @@ fn expect_anew(rt: &impl Abort, alloc: Global, commands: &[Command]) -> Result<(
     Ok(())
 }
 
-/// Makes the commands over the archive that a database keeps, where the file has arrived.
+/// The same suite, which keeps one more architecture.
+const BOX_WITH_ARM64: &[u8] =
+    b"Codename: box\nArchitectures: amd64 arm64 source\nComponents: main\n";
+
+/// Makes the commands behind another configuration of the archive that a database keeps, where the file has arrived.
+fn expect_configured<S: InOrder + Drop>(
+    rt: &impl Abort,
+    alloc: Global,
+    connection: Connection<S>,
+    commands: &[Command],
+) -> Result<(), Fail> {
+    let config = config_of(alloc, BOX_WITH_ARM64)?;
+    let Ok((archive, made)) = drive_configured(alloc, connection, config, 1, commands) else {
+        return Err(Fail::from("not opened"));
+    };
+    let outcomes = made??;
+    same(rt, &delivered(&outcomes), &Some(Arrived::Again));
+    same(rt, &archive.keeper.config().text(), &BOX_WITH_ARM64);
+    Ok(())
+}
+
+/// Makes the commands over the archive that a database keeps, where the file has arrived, and then once more behind another
+/// configuration.
 fn expect_opened<S: InOrder + Drop>(
     rt: &impl Abort,
     alloc: Global,
     connection: Connection<S>,
     commands: &[Command],
 ) -> Result<(), Fail> {
-    let Ok((_, outcomes)) = drive_opened(alloc, connection, commands) else {
+    let Ok((archive, outcomes)) = drive_opened(alloc, connection, commands) else {
         return Err(Fail::from("not opened"));
     };
     same(rt, &delivered(&outcomes?), &Some(Arrived::Again));
-    Ok(())
+    expect_configured(rt, alloc, archive.into_keeper().into_connection(), commands)
 }
 
 /// Makes the commands over an archive in a database without tables, and then once more over what that keeps.
@@ -69,7 +92,8 @@ fn expect_created<S: InOrder + Drop>(
     expect_opened(rt, alloc, archive.into_keeper().into_connection(), commands)
 }
 
-/// The same commands have the same outcomes in memory and in a database, and behind them nothing is new.
+/// The same commands have the same outcomes in memory and in a database, and behind them nothing is new, also under another
+/// configuration.
 #[test]
 fn commands_follow_the_making_and_the_opening(rt: HostRuntime) -> Result<(), Fail> {
     let alloc = rt.alloc();
