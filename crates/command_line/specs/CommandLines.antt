@@ -9,7 +9,7 @@ use Rattle.std.specs.Borrow.{Bor}
 use Rattle.clap.specs.Words.{Row, Text, all_of, first_of}
 use Rattle.keep.specs.Book.{latest}
 use Rattle.command_line.specs.declared.parsed.CommandLine.{CommandLine}
-use Rattle.command_line.specs.declared.parsed.CommandLine.TheVariants.{Try, Compare, Init, Put, Run, Copy, Promote, Remove, Clean, Batch, Show, Waiting, Verdicts, Serve}
+use Rattle.command_line.specs.declared.parsed.CommandLine.TheVariants.{Try, Compare, Init, Put, Run, Copy, Promote, Remove, Clean, Batch, Configure, Show, Waiting, Verdicts, Configuration, Serve}
 
 -- the most connections that one call of the program serves
 abbrev pub most_connections : ℕ
@@ -72,10 +72,13 @@ IsLine found (Remove db at suite name) = IsNamed found (codes "remove") (λ rows
 IsLine found (Clean db at) = IsNamed found (codes "clean") (λ rows. IsWord (codes "db") rows db × IsMoment rows at)
 IsLine found (Batch db at list) = IsNamed found (codes "batch") (λ rows.
     IsWord (codes "db") rows db × IsMoment rows at × IsWord (codes "LIST") rows list)
+IsLine found (Configure db at conf) = IsNamed found (codes "configure") (λ rows.
+    IsWord (codes "db") rows db × IsMoment rows at × IsWord (codes "CONF") rows conf)
 IsLine found (Show db path) = IsNamed found (codes "show") (λ rows.
     IsWord (codes "db") rows db × IsWord (codes "PATH") rows path)
 IsLine found (Waiting db at) = IsNamed found (codes "waiting") (λ rows. IsWord (codes "db") rows db × IsMoment rows at)
 IsLine found (Verdicts db) = IsNamed found (codes "verdicts") (λ rows. IsWord (codes "db") rows db)
+IsLine found (Configuration db) = IsNamed found (codes "configuration") (λ rows. IsWord (codes "db") rows db)
 IsLine found (Serve db at moments log address count) = IsNamed found (codes "serve") (λ rows.
     IsWord (codes "db") rows db × IsMoment rows at × IsOptionalWord (codes "moments") rows moments
     × (log ≡ is_true (codes "log") rows) × IsWord (codes "ADDRESS") rows address

@@ -78,6 +78,9 @@ remove_app = with_rule (with_rule (timed_app (codes "remove")) (word_rule (codes
 abbrev pub batch_app : App
 batch_app = with_rule (timed_app (codes "batch")) (word_rule (codes "LIST"))
 
+abbrev pub configure_app : App
+configure_app = with_rule (timed_app (codes "configure")) (word_rule (codes "CONF"))
+
 abbrev pub show_app : App
 show_app = with_rule (db_app (codes "show")) (word_rule (codes "PATH"))
 
@@ -100,20 +103,22 @@ new_archive = record (new_app (codes "archive")) {
 -- with the commands that change an archive
 abbrev pub with_changes : App → App
 with_changes app =
-    with_subcommand (with_subcommand (with_subcommand (with_subcommand (with_subcommand (with_subcommand (with_subcommand (with_subcommand app init_app.top)
+    with_subcommand (with_subcommand (with_subcommand (with_subcommand (with_subcommand (with_subcommand (with_subcommand (with_subcommand (with_subcommand app init_app.top)
     put_app.top)
     (timed_app (codes "run")).top)
     copy_app.top)
     promote_app.top)
     remove_app.top)
     (timed_app (codes "clean")).top)
-    batch_app.top
+    batch_app.top)
+    configure_app.top
 
 -- with the commands that ask an archive, and the one that serves it
 abbrev pub with_questions : App → App
 with_questions app =
-    with_subcommand (with_subcommand (with_subcommand (with_subcommand app show_app.top) (timed_app (codes "waiting")).top)
+    with_subcommand (with_subcommand (with_subcommand (with_subcommand (with_subcommand app show_app.top) (timed_app (codes "waiting")).top)
     (db_app (codes "verdicts")).top)
+    (db_app (codes "configuration")).top)
     serve_app.top
 
 abbrev pub archive_app : App

@@ -2,7 +2,7 @@
 
 ghost use Rattle.std.specs.Prelude.{IfOk, codes};
 ghost use Rattle.clap.specs.Words.{App, with_rule, with_subcommand};
-ghost use Rattle.command_line.specs.Shape.{archive_app, new_archive, IsCommand, try_app, compare_app, init_app, put_app, db_app, timed_app, copy_app, promote_app, remove_app, batch_app, show_app, serve_app, word_rule, moments_rule, log_rule, with_changes, with_questions};
+ghost use Rattle.command_line.specs.Shape.{archive_app, new_archive, IsCommand, try_app, compare_app, init_app, put_app, db_app, timed_app, copy_app, promote_app, remove_app, batch_app, configure_app, show_app, serve_app, word_rule, moments_rule, log_rule, with_changes, with_questions};
 
 use crate::arguments::{at, count, db, log, many, moments, paths, word};
 use crate::version::VERSION;
@@ -162,6 +162,18 @@ fn batch_command<'a>(alloc: Global) -> Result<Command<'a>, AllocError>
     )
 }
 
+fn configure_command<'a>(alloc: Global) -> Result<Command<'a>, AllocError>
+    ensures { IfOk result (IsCommand configure_app) }
+{
+    worded_command(
+        alloc,
+        "configure",
+        "Gives an archive another configuration, if that keeps all that its suites show",
+        "CONF",
+        "The file of its configuration",
+    )
+}
+
 fn show_command<'a>(alloc: Global) -> Result<Command<'a>, AllocError>
     ensures { IfOk result (IsCommand show_app) }
 {
@@ -186,6 +198,16 @@ fn verdicts_command<'a>(alloc: Global) -> Result<Command<'a>, AllocError>
     ensures { IfOk result (IsCommand (db_app (codes "verdicts"))) }
 {
     db_command(alloc, "verdicts", "Lists the verdicts of all runs")
+}
+
+fn configuration_command<'a>(alloc: Global) -> Result<Command<'a>, AllocError>
+    ensures { IfOk result (IsCommand (db_app (codes "configuration"))) }
+{
+    db_command(
+        alloc,
+        "configuration",
+        "Prints the configuration that an archive has",
+    )
 }
 
 /// The command that serves, with its options alone.
@@ -245,7 +267,8 @@ fn with_changing<'a>(
     let command = with(command, promote_command(alloc));
     let command = with(command, remove_command(alloc));
     let command = with(command, clean_command(alloc));
-    with(command, batch_command(alloc))
+    let command = with(command, batch_command(alloc));
+    with(command, configure_command(alloc))
 }
 
 /// A command with those subcommands that ask an archive, and the one that serves it.
@@ -258,6 +281,7 @@ fn with_asking<'a>(
     let command = with(command, show_command(alloc));
     let command = with(command, waiting_command(alloc));
     let command = with(command, verdicts_command(alloc));
+    let command = with(command, configuration_command(alloc));
     with(command, serve_command(alloc))
 }
 

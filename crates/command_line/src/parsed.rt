@@ -68,6 +68,12 @@ pub enum CommandLine<'a> {
         at: u64,
         list: &'a str,
     },
+    /// Gives the archive of a database file the configuration of a file.
+    Configure {
+        db: &'a str,
+        at: u64,
+        conf: &'a str,
+    },
     /// Prints an index or a file of the pool.
     Show {
         db: &'a str,
@@ -80,6 +86,10 @@ pub enum CommandLine<'a> {
     },
     /// Lists the verdicts of all runs.
     Verdicts {
+        db: &'a str,
+    },
+    /// Prints the configuration.
+    Configuration {
         db: &'a str,
     },
     /// Serves so many connections, one after the other. With `moments`, each has the greatest moment that the file at that

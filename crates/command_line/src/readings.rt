@@ -112,6 +112,16 @@ fn read_batch<'a>(alloc: Global, found: &ArgMatches<'a>) -> Result<CommandLine<'
     })
 }
 
+fn read_configure<'a>(alloc: Global, found: &ArgMatches<'a>) -> Result<CommandLine<'a>, LineFault>
+    ensures { IfOk result (IsLine (Some (codes "configure", rows_of (found_of found.now)))) }
+{
+    Ok(CommandLine::Configure {
+        db: required(alloc, found, "db")?,
+        at: moment(alloc, found)?,
+        conf: required(alloc, found, "CONF")?,
+    })
+}
+
 fn read_show<'a>(alloc: Global, found: &ArgMatches<'a>) -> Result<CommandLine<'a>, LineFault>
     ensures { IfOk result (IsLine (Some (codes "show", rows_of (found_of found.now)))) }
 {
@@ -134,6 +144,17 @@ fn read_verdicts<'a>(alloc: Global, found: &ArgMatches<'a>) -> Result<CommandLin
     ensures { IfOk result (IsLine (Some (codes "verdicts", rows_of (found_of found.now)))) }
 {
     Ok(CommandLine::Verdicts {
+        db: required(alloc, found, "db")?,
+    })
+}
+
+fn read_configuration<'a>(
+    alloc: Global,
+    found: &ArgMatches<'a>,
+) -> Result<CommandLine<'a>, LineFault>
+    ensures { IfOk result (IsLine (Some (codes "configuration", rows_of (found_of found.now)))) }
+{
+    Ok(CommandLine::Configuration {
         db: required(alloc, found, "db")?,
     })
 }
@@ -170,9 +191,11 @@ pub fn command_of<'a>(
         "remove" => read_remove(alloc, found),
         "clean" => read_clean(alloc, found),
         "batch" => read_batch(alloc, found),
+        "configure" => read_configure(alloc, found),
         "show" => read_show(alloc, found),
         "waiting" => read_waiting(alloc, found),
         "verdicts" => read_verdicts(alloc, found),
+        "configuration" => read_configuration(alloc, found),
         "serve" => read_serve(alloc, found),
         _ => Err(lacking(alloc)),
     }

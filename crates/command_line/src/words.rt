@@ -24,9 +24,11 @@ use std::alloc::Global;
 /// remove --db FILE --at N SUITE PACKAGE
 /// clean --db FILE --at N
 /// batch --db FILE --at N LIST
+/// configure --db FILE --at N CONF
 /// show --db FILE PATH
 /// waiting --db FILE --at N
 /// verdicts --db FILE
+/// configuration --db FILE
 /// serve --db FILE --at N [--moments MOMENTS] [--log] ADDRESS COUNT
 /// ```
 ///

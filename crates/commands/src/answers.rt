@@ -1,11 +1,21 @@
 //! What the program prints of an archive, over any keeper.
 
+ghost use Rattle.std.specs.Prelude.{◌≡◌, ◌≤◌, true, false, OnOk, OnErr, IfErr};
+ghost use Rattle.std.specs.Io.KnownBytes.{Appends};
+ghost use Rattle.keep.specs.Book.{latest};
+ghost use Rattle.keep.specs.Configured.{configured, keeps_shown};
+ghost use Rattle.keep.specs.declared.fault.KeepFault.TheVariants.{Configuration as NotKept};
+ghost use Rattle.queue.specs.Configuring.{Endures, LeavesConfigured};
+ghost use Rattle.queue.specs.Steps.{IsUndone};
+ghost use Rattle.commands.specs.declared.fault.Stop.TheVariants.{NoArchive};
+
 use crate::database::{is_of_database, length_of};
 use crate::doing::{body_of, file_name, opened};
 use crate::fault::Stop;
 use crate::shown::Shown;
 use keep::Keeper;
 use queue::{Archive, Arrived, Fault, Promotion, Report};
+use rules::Config;
 use std::alloc::{AllocError, Global};
 use std::io::{self, Write};
 use std::rt::Files;
@@ -222,5 +232,42 @@ pub fn verdicts<'a, K: Keeper, W: Write>(
 ) -> Result<(), Stop<'a>> {
     let report = archive.verdicts(alloc)?;
     print_report(&report, out)?;
+    Ok(())
+}
+
+/// Gives an archive another configuration at a moment, in seconds since 1970-01-01 00:00:00 UTC. It is refused where something that is
+/// shown would not be kept.
+pub fn configure<'a, K: Keeper>(
+    alloc: Global,
+    archive: &mut Archive<K>,
+    config: Config,
+    at: u64,
+) -> Result<(), Stop<'a>>
+    requires in_time { at ≤ latest }
+    ensures endures { Endures K.Keeper archive.old.keeper archive.new.keeper }
+    // Done, all that is shown was kept, and the archive goes on under the configuration.
+    ensures kept { K.is_clean archive.new.keeper → OnOk result (keeps_shown config (K.book archive.old.keeper) ≡ true) }
+    ensures book { K.is_clean archive.new.keeper → OnOk result (K.book archive.new.keeper ≡ configured config at (K.book archive.old.keeper)) }
+    // A refusal leaves the book as it was.
+    ensures err { OnErr result (IsUndone K.Keeper archive.old.keeper archive.new.keeper) }
+    // K5 comes only where something that is shown would not be kept.
+    ensures differs { K.is_clean archive.new.keeper → IfErr result (λ stop. stop ≡ NoArchive NotKept → keeps_shown config (K.book archive.old.keeper) ≡ false) }
+    // A crash leaves what it would have left before, or the configured book.
+    ensures crash { LeavesConfigured K.Keeper archive.old.keeper config at archive.new.keeper }
+{
+    match archive.configure(alloc, config, at) {
+        Ok(()) => Ok(()),
+        Err(fault) => Err(Stop::NoArchive(fault)),
+    }
+}
+
+/// Prints the text of the configuration, byte for byte.
+pub fn configuration<'a, K: Keeper, W: Write>(
+    archive: &Archive<K>,
+    out: &mut W,
+) -> Result<(), Stop<'a>>
+    ensures written { OnOk result (Appends (W.contents out.old) (W.contents out.new) (K.book archive.now.keeper).config.text) }
+{
+    out.write_all(archive.keeper.config().text())?;
     Ok(())
 }

@@ -208,9 +208,14 @@ fn done<'a, K: Keeper + Drop, F: InFile<K>, W: Write, E: Write>(
         CommandLine::Batch { db, at, list } => {
             return batch_file::<K, F, W, E>(rt, db, *at, list, out, err);
         }
+        CommandLine::Configure { db, at, conf } => {
+            words::configure::<K, F>(rt, db, *at, conf)?;
+            return Ok(true);
+        }
         CommandLine::Show { db, path } => (*db, Word::Show { path }),
         CommandLine::Waiting { db, at } => (*db, Word::Waiting { at: *at }),
         CommandLine::Verdicts { db } => (*db, Word::Verdicts),
+        CommandLine::Configuration { db } => (*db, Word::Configuration),
         CommandLine::Serve {
             db,
             at,

@@ -21,7 +21,7 @@ pub enum Stop<'a> {
     BadLine(usize),
     #[error("archive: {0}")]
     Refused(Fault),
-    /// The database is not opened, or no archive is made in it.
+    /// The database is not opened, no archive is made in it, or its archive gets no other configuration.
     #[error("archive: {0}")]
     NoArchive(KeepFault),
     /// The database is not opened: its tables are not those of an archive, and say that they are of this layout, which an older program
@@ -31,7 +31,7 @@ pub enum Stop<'a> {
     /// The same of a layout that a later program made.
     #[error("archive: {0}\narchive: an archive of layout {1}, which a later program made")]
     Later(KeepFault, u64),
-    /// The configuration of a new archive is refused.
+    /// A configuration is refused.
     #[error("archive: {0}")]
     NoConfig(ConfigFault),
     /// No index and no file of the pool stands at the path.
@@ -115,7 +115,7 @@ impl Stop<'_> {
     pub fn status(&self) -> u8 {
         match self {
             Stop::Unreadable(_) | Stop::NotFound => 1,
-            Stop::NoArchive(KeepFault::Tables)
+            Stop::NoArchive(KeepFault::Tables | KeepFault::Configuration)
             | Stop::Older(KeepFault::Tables, _)
             | Stop::Later(KeepFault::Tables, _) => 1,
             Stop::BadLine(_) => 2,

@@ -9,8 +9,8 @@ use crate::fault::Stop;
 use crate::log::Log;
 use crate::moments::Moments;
 use crate::serving::{keep_room, patience, serve_at};
-use keep::Keeper;
-use queue::Archive;
+use keep::{Keeper, LATEST};
+use queue::{Archive, Fault};
 use rules::Config;
 use std::io::{self, Write};
 use std::net::TcpListener;
@@ -62,6 +62,8 @@ pub enum Word<'w, 'a> {
     },
     /// Prints the lines of all runs.
     Verdicts,
+    /// Prints the text of the configuration.
+    Configuration,
 }
 
 /// How an archive is served.
@@ -91,6 +93,25 @@ pub fn init<'a, K: Keeper + Drop, F: InFile<K>>(
     let archive = create_archive::<K, F>(rt, db, config, at)?;
     close::<K, F>(archive);
     Ok(())
+}
+
+/// Gives the archive of a database file another configuration, that of a file, at a moment, in seconds since 1970-01-01 00:00:00 UTC. It
+/// is read before the database is opened.
+pub fn configure<'a, K: Keeper + Drop, F: InFile<K>>(
+    rt: &HostRuntime,
+    db: &str,
+    at: u64,
+    conf: &'a str,
+) -> Result<(), Stop<'a>> {
+    if at > LATEST {
+        return Err(Stop::Refused(Fault::Moment));
+    }
+    let text = body_of(rt, conf)?;
+    let config = Config::read(rt.alloc(), &text)?;
+    let mut archive = open_archive::<K, F>(rt, db)?;
+    let done = answers::configure(rt.alloc(), &mut archive, config, at);
+    close::<K, F>(archive);
+    done
 }
 
 /// Serves so many connections of a listener, or says that there is none.
@@ -204,6 +225,7 @@ fn ask<'a, K: Keeper, W: Write>(
         Word::Show { path } => answers::show(alloc, archive, path, out)?,
         Word::Waiting { at } => answers::waiting(alloc, archive, at, out)?,
         Word::Verdicts => answers::verdicts(alloc, archive, out)?,
+        Word::Configuration => answers::configuration(archive, out)?,
     }
     Ok(true)
 }

@@ -5,4 +5,5 @@ returns c app whole =
     let one = c.with-command.ensures _ _ whole c.show_command.ensures in
     let two = c.with-command-2.ensures _ _ one c.waiting_command.ensures in
     let three = c.with-command-3.ensures _ _ two c.verdicts_command.ensures in
-    c.with.ensures _ _ three c.serve_command.ensures
+    let four = c.with-command-4.ensures _ _ three c.configuration_command.ensures in
+    c.with.ensures _ _ four c.serve_command.ensures

@@ -9,4 +9,5 @@ returns c app whole =
     let five = c.with-command-5.ensures _ _ four c.promote_command.ensures in
     let six = c.with-command-6.ensures _ _ five c.remove_command.ensures in
     let seven = c.with-command-7.ensures _ _ six c.clean_command.ensures in
-    c.with.ensures _ _ seven c.batch_command.ensures
+    let eight = c.with-command-8.ensures _ _ seven c.batch_command.ensures in
+    c.with.ensures _ _ eight c.configure_command.ensures
