@@ -1,6 +1,7 @@
 //! Calls of an archive that are read from a row first, then made, and told of last: while one is made nothing grows but what it makes
 //! grow itself.
 
+use crate::configurations::{NotConfigured, configured, told};
 use crate::drives::{add_commands, command_of, outcome_text, outcomes_text};
 use crate::outcomes::printed;
 use crate::readers::Pieces;
@@ -28,6 +29,8 @@ pub enum Call {
     Receive(String, Vec<u8>),
     /// A request at a moment.
     Request(u64, Vec<u8>),
+    /// The text of a configuration that the archive gets, and the moment.
+    Configure(u64, Vec<u8>),
 }
 
 /// What a call was answered.
@@ -37,6 +40,7 @@ pub enum Answered {
     List(Result<Vec<Outcome>, AllocError>),
     /// How the request was served, and what was written.
     Reply(Result<Served, DeskFault>, Vec<u8>),
+    Configured(Result<(), NotConfigured>),
 }
 
 /// Makes a command by itself.
@@ -114,6 +118,17 @@ fn request_of(alloc: Global, words: &[Vec<u8>]) -> Result<Call, Unread> {
     }
 }
 
+/// A configuration that the archive gets: its words are a moment and a text.
+fn configuration_of(alloc: Global, words: &[Vec<u8>]) -> Result<Call, Unread> {
+    match words {
+        [moment, text] => Ok(Call::Configure(
+            number_of(moment)?,
+            Vec::from_slice(alloc, text.as_slice())?,
+        )),
+        _ => Err(Unread::BadWords),
+    }
+}
+
 /// A delivery whose body a reader gives: its words are a name and a body.
 fn receipt_of(alloc: Global, words: &[Vec<u8>]) -> Result<Call, Unread> {
     match words {
@@ -133,8 +148,8 @@ fn list_of(alloc: Global, words: &[Vec<u8>]) -> Result<Call, Unread> {
 }
 
 impl Call {
-    /// The call of a row: `request MOMENT BYTES`, `receive NAME BODY`, `drive COMMAND ; COMMAND ..`, or a command as it stands in such a
-    /// list.
+    /// The call of a row: `request MOMENT BYTES`, `receive NAME BODY`, `configure MOMENT CONFIG`, `drive COMMAND ; COMMAND ..`, or a
+    /// command as it stands in such a list.
     pub fn read(alloc: Global, words: &[Vec<u8>]) -> Result<Call, Unread> {
         let Some((verb, rest)) = words.split_first() else {
             return Err(Unread::BadWords);
@@ -142,6 +157,7 @@ impl Call {
         match text_of(verb)? {
             "request" => request_of(alloc, rest),
             "receive" => receipt_of(alloc, rest),
+            "configure" => configuration_of(alloc, rest),
             "drive" => list_of(alloc, rest),
             _ => Ok(Call::One(command_of(alloc, words)?)),
         }
@@ -159,6 +175,9 @@ impl Call {
             Call::List(commands) => Answered::List(archive.drive(alloc, commands)),
             Call::Receive(name, body) => Answered::One(received(alloc, archive, name, body)),
             Call::Request(moment, bytes) => replied(alloc, archive, *moment, bytes, room),
+            Call::Configure(moment, text) => {
+                Answered::Configured(configured(alloc, archive, text, *moment))
+            }
         }
     }
 }
@@ -197,6 +216,7 @@ impl Answered {
             Answered::List(Ok(outcomes)) => has_refused(outcomes.as_slice()),
             Answered::List(Err(_)) => true,
             Answered::Reply(_, written) => written.as_slice().starts_with(NO_MEMORY),
+            Answered::Configured(done) => matches!(done, Err(NotConfigured::OutOfMemory)),
         }
     }
 
@@ -207,6 +227,7 @@ impl Answered {
             Answered::List(outcomes) => outcomes_text(alloc, outcomes?),
             Answered::Reply(Ok(_), written) => Ok(written),
             Answered::Reply(Err(fault), _) => printed(alloc, &fault),
+            Answered::Configured(done) => told(alloc, done),
         }
     }
 }

@@ -1,8 +1,9 @@
-//! Stories of archives, as rows: deliveries, runs, copies, promotions, removals, cleanings, look-ups and requests, over any
-//! keeper.
+//! Stories of archives, as rows: deliveries, runs, copies, promotions, removals, cleanings, configurations, look-ups and requests, over
+//! any keeper.
 #![tactic(auto)]
 
 mod calls;
+mod configurations;
 mod delivery;
 mod drives;
 mod failures;

@@ -8,11 +8,12 @@ use rows::Unread;
 use std::alloc::{AllocError, Global};
 use std::fmt::{Display, Write};
 
-const OF_KEEPERS: [KeepFault; 4] = [
+const OF_KEEPERS: [KeepFault; 5] = [
     KeepFault::OutOfMemory,
     KeepFault::Disk,
     KeepFault::Size,
     KeepFault::Tables,
+    KeepFault::Configuration,
 ];
 
 const OF_ARCHIVES: [Fault; 12] = [

@@ -1,5 +1,6 @@
 //! A story: an archive, and what is asked of it.
 
+use crate::configurations::{configuration, configure};
 use crate::drives::drive;
 use crate::failures::{cut, writer_fails};
 use crate::keepers::Makes;
@@ -45,7 +46,7 @@ fn asked_by_reader<K: Keeper>(
 }
 
 /// What an archive answers to a question: `deliver`, `run`, `waiting`, `verdicts`, `show`, `has`, `copy`, `promote`, `remove`,
-/// `clean`, `drive` and those on requests and readers.
+/// `clean`, `configure`, `configuration`, `drive` and those on requests and readers.
 pub fn asked<K: Keeper>(
     alloc: Global,
     archive: &mut Archive<K>,
@@ -63,6 +64,8 @@ pub fn asked<K: Keeper>(
         "promote" => promote(alloc, archive, words),
         "remove" => remove(alloc, archive, words),
         "clean" => clean(alloc, archive, words),
+        "configure" => configure(alloc, archive, words),
+        "configuration" => configuration(alloc, archive, words),
         "drive" => drive(alloc, archive, words),
         _ => asked_by_reader(alloc, archive, verb, words),
     }

@@ -7,6 +7,12 @@ const REFUSED: &[u8] = b"Q4 K2";
 
 const REFUSED_BESIDE: &[u8] = b"Q4 K2 ";
 
+/// The answer where it was to take another configuration.
+const REFUSED_ALONE: &[u8] = b"K2";
+
+/// How the piece begins that is the configuration.
+const CONFIGURATION: &[u8] = b"configuration:\n";
+
 /// What an archive shows, what it answers to a question, and what it shows then.
 #[derive(Clone, Copy)]
 struct Told<'a> {
@@ -39,7 +45,7 @@ fn has_line(text: &[u8], line: &[u8]) -> bool {
 
 /// Whether a line says that the disk failed.
 pub fn is_refused_line(line: &[u8]) -> bool {
-    line == REFUSED || line.starts_with(REFUSED_BESIDE)
+    line == REFUSED || line == REFUSED_ALONE || line.starts_with(REFUSED_BESIDE)
 }
 
 /// Whether an answer is the right one, but all of it or some was refused since the disk failed.
@@ -59,10 +65,15 @@ fn is_refused(piece: &[u8]) -> bool {
     piece.ends_with(b":\nQ4 K2\n") || is_refusal(piece, b"")
 }
 
-/// Whether all pieces were refused.
+/// Whether a piece is the configuration, which no disk is asked for.
+fn is_configuration(piece: &[u8]) -> bool {
+    piece.starts_with(CONFIGURATION)
+}
+
+/// Whether all pieces were refused, but the configuration.
 pub fn are_refused(pieces: &[Vec<u8>]) -> bool {
     for piece in pieces {
-        if !is_refused(piece.as_slice()) {
+        if !is_configuration(piece.as_slice()) && !is_refused(piece.as_slice()) {
             return false;
         }
     }

@@ -66,13 +66,20 @@ fn add_piece<K: Keeper>(
     Ok(())
 }
 
-/// Adds all that an archive shows: the lists, and what stands at these paths.
+/// Adds all that an archive shows: its configuration, the lists, and what stands at these paths.
 fn observe<K: Keeper>(
     alloc: Global,
     archive: &mut Archive<K>,
     paths: &[Vec<u8>],
     pieces: &mut Pieces,
 ) -> Result<(), Unread> {
+    add_piece(
+        alloc,
+        archive,
+        b"configuration",
+        ("configuration", &[]),
+        pieces,
+    )?;
     add_piece(alloc, archive, b"waiting", ("waiting", &[]), pieces)?;
     add_piece(alloc, archive, b"verdicts", ("verdicts", &[]), pieces)?;
     for path in paths {
