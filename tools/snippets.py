@@ -43,6 +43,7 @@ PIECES = {
     "queue.service": "Description=One run of the queue of box\n",
     "queue.timer": "Description=Runs the queue of box each minute\n",
     "batch": "archive batch --db box.db",
+    "another configuration": "archive configure --db box.db",
     "clean": "archive clean --db box.db",
     "clean.service": "Description=One cleaning of box\n",
     "clean.timer": "Description=Cleans box each day\n",

@@ -13,6 +13,11 @@ import unittest
 sys.dont_write_bytecode = True
 from test_database import DATA, NAMES, PROGRAM, ROOT, Lines
 
+# A configuration, which lies outside of the folders of the tests.
+CONF = tempfile.NamedTemporaryFile(suffix=".conf")
+CONF.write(b"Codename: box\nArchitectures: amd64 source\nComponents: main\n")
+CONF.flush()
+
 # The words of each command behind its own.
 COMMANDS = {
     "put": ["--db", "a.db", "--at", "0", f"{DATA}/{NAMES[1]}"],
@@ -22,9 +27,11 @@ COMMANDS = {
     "copy": ["--db", "a.db", "--at", "0", "box", "lab", "hello"],
     "promote": ["--db", "a.db", "--at", "0", "box", "lab"],
     "remove": ["--db", "a.db", "--at", "0", "box", "hello"],
+    "configure": ["--db", "a.db", "--at", "0", CONF.name],
     "show": ["--db", "a.db", "dists/box/Release"],
     "waiting": ["--db", "a.db", "--at", "0"],
     "verdicts": ["--db", "a.db"],
+    "configuration": ["--db", "a.db"],
     "serve": ["--db", "a.db", "--at", "0", "127.0.0.1:0", "1"],
 }
 
@@ -40,9 +47,11 @@ USAGES = {
     "copy": "copy --db <FILE> --at <N> <FROM> <TO> <SOURCE>",
     "promote": "promote --db <FILE> --at <N> <FROM> <TO> [SOURCE]...",
     "remove": "remove --db <FILE> --at <N> <SUITE> <PACKAGE>",
+    "configure": "configure --db <FILE> --at <N> <CONF>",
     "show": "show --db <FILE> <PATH>",
     "waiting": "waiting --db <FILE> --at <N>",
     "verdicts": "verdicts --db <FILE>",
+    "configuration": "configuration --db <FILE>",
     "serve": "serve .*--db <FILE> --at <N>.* <ADDRESS> <COUNT>",
 }
 

@@ -20,6 +20,7 @@ import snippets
 import uploads
 from clients import put_of
 from snippets import ROOT, built, commands_of, free_port, needs, snippet
+from test_configurations import arm64_upload
 from test_database import PROGRAM
 from test_failing import mounted
 
@@ -52,9 +53,9 @@ class Case(snippets.Case):
         """Makes the upload of a package, by with_sidecars. Its paths are in the file `files`."""
         self.shell(f"with_sidecars {built(self.room.folder, package)} {folder} > files")
 
-    def serve(self, *words):
-        """Serves the archive, and answers the port."""
-        port = free_port()
+    def serve(self, *words, port=None):
+        """Serves the archive, at a port that is free where none is named, and answers it."""
+        port = port or free_port()
         line = ["archive", "serve", "--db", "box.db", "--at", str(int(time.time())), *words, f"127.0.0.1:{port}", "1000"]
         self.process = self.room.start(line, port=port)
         return port
@@ -343,6 +344,42 @@ class Serving(Case):
         self.shell('archive put --db box.db --at "$(date +%s)" $(cat files); archive run --db box.db --at "$(date +%s)"')
         self.room.apt(snippet("trusted", self.at(self.serve())))
         self.shell("apt-get update && apt-get download hello")
+
+    def systemctl(self):
+        """A systemctl that ends what serves where it is told to stop it, and notes what it was told."""
+        text = f'#!/bin/sh -e\necho "$*" >> systemctl.log\n[ "$1" = start ] || kill {self.process.pid}\n'
+        self.room.write("bin/systemctl", text, 0o755)
+
+    def updates(self, wanted):
+        """Has apt look once, and checks whether it then gets the package for arm64."""
+        status, _, told = self.room.run("apt-get update")
+        self.assertEqual(status, 0, told)
+        status, _, told = self.room.run("rm -rf got; mkdir got; cd got; apt-get download hello:arm64")
+        self.assertEqual(status == 0, wanted, told)
+
+    @needs("dpkg-deb", "apt-get")
+    def test_apt_sees_another_configuration(self):
+        """Behind one update, where the service is ended, configured and started as the page says."""
+        self.ready()
+        self.shell('archive put --db box.db --at "$(date +%s)" $(cat files); archive run --db box.db --at "$(date +%s)"')
+        port = self.serve()
+        self.room.apt(snippet("trusted", self.at(port)))
+        with open(self.room.variables["APT_CONFIG"], "a", encoding="ascii") as it:
+            it.write('#clear APT::Architectures;\nAPT::Architectures { "amd64"; "arm64"; };\n')
+        self.updates(False)
+        self.systemctl()
+        self.assertEqual(self.shell(snippet("another configuration", {"cd /srv/box\n": "", "runuser -u archive -- ": ""})), "")
+        self.assertEqual(self.room.read("work/systemctl.log"), "stop box\nstart box\n")
+        self.assertEqual(self.room.read("work/old.conf"), snippet("configuration"))
+        self.assertEqual(self.shell("archive configuration --db box.db"), snippet("configuration", {"amd64 source": "amd64 arm64 source"}))
+        for name, body in arm64_upload().items():
+            pathlib.Path(self.room.work, name).write_bytes(body)
+        self.shell('archive put --db box.db --at "$(date +%s)" *_arm64.*; archive run --db box.db --at "$(date +%s)"')
+        self.room.end(self.process)
+        self.serve(port=port)
+        self.updates(True)
+        self.assertEqual(self.room.read("work/got/hello_1.0-1_arm64.deb"), "arm64\n")
+        self.shell("apt-get download hello")
 
     @needs("dpkg-deb", "curl")
     def test_the_commands_of_the_units(self):

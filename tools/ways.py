@@ -106,6 +106,11 @@ class Lines:
         """Opens the archive, and lists what was judged."""
         return self.line("verdicts", moment=False)[0]
 
+    def configure(self):
+        """Gives the archive another configuration, in which each suite has an architecture more."""
+        pathlib.Path(f"{self.db}.conf").write_text(uploads.CONFIGURATION.replace("amd64", "amd64 arm64"))
+        return self.line("configure", f"{self.db}.conf")[0]
+
     def look_up(self, path, size):
         """Looks up a file of the pool, of so many bytes."""
         taken, printed = self.line("show", path, moment=False)
@@ -174,6 +179,9 @@ class Served(Lines):
         self.server.ask("GET", "nothing")
         return self.server.so_far() - measure.Taken(0, start, 0)
 
+    def configure(self):
+        """No request asks for it."""
+
     def look_up(self, path, size):
         with self.server.taking() as taken:
             status, found = self.server.ask("GET", path)
@@ -229,6 +237,9 @@ class Reprepro:
         return self.line("copy", "lab", "box", *sources)[0]
 
     def opening(self):
+        pass
+
+    def configure(self):
         pass
 
     def look_up(self, path, size):
