@@ -16,4 +16,5 @@ mod uploads;
 mod whole;
 
 pub use under_way::are_under_way;
+pub use uploads::judgements_in;
 pub use whole::{Held, archive_in};

@@ -14,5 +14,6 @@ pub use amending::{amend, some_take_files};
 pub use configuring::{configure, configure_inside};
 pub use creating::{create, is_without_tables};
 pub use fault::fault_of;
+pub use founding::found_inside;
 pub use open::is_archive_schema;
 pub use sparing::needs_sweep;

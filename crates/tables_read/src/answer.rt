@@ -15,7 +15,7 @@ use sqlite::{Alter, Connection, Error, ErrorCode, Row, Rows};
 use std::alloc::Global;
 
 /// A row with its rowid, if both are of an archive.
-fn numbered<T: Stored>(row: &Row) -> Result<Option<(u64, T)>, Error>
+pub fn numbered<T: Stored>(row: &Row) -> Result<Option<(u64, T)>, Error>
     ensures some { IfOk result (λ o. IfSome o (λ x.
         (x.0 < 2 ^ 64) × Spells T.layout.seen row.now x)) }
     ensures none { IfOk result (λ o. o ≡ None

@@ -11,5 +11,7 @@ mod stored;
 mod table;
 
 pub use all::AllRows;
+pub use answer::numbered;
 pub use in_order::InOrder;
 pub use read::read_all;
+pub use stored::Stored;

@@ -17,7 +17,7 @@ use sums::Print;
 use tables::rows::{Arrival, Body, Date, File, IndexText, Item, Meta, Piece, Ref, Upload, Want};
 
 /// A row of one of the tables.
-pub(crate) trait Stored: Sized + Drop {
+pub trait Stored: Sized + Drop {
     ghost layout: { Layout Self };
 
     // the values that code can hold

@@ -1,0 +1,53 @@
+-- Rows of an archive's tables, as they are written into tables that are empty.
+use Rattle.std.specs.Prelude.{◌≡◌, ℕ, true, List, [], map, IsTrue}
+use Rattle.std.specs.List.{enumerate_from}
+use Rattle.sqlite.specs.State.{State, KeepsCommit}
+use Rattle.tables.specs.Rows.{Tables, Numbered, Rises, Holds, rows_of}
+use Rattle.tables.specs.declared.rows.Arrival.{Arrival}
+
+-- the rows of a table, numbered from 1 in their order
+abbrev pub anew : {X : Type 0} → List X → Numbered X
+anew rows = enumerate_from 1 rows
+
+-- an arrival, as of another moment
+abbrev pub arrived_at : ℕ → Arrival → Arrival
+arrived_at moment a = record a { moment = moment }
+
+-- The tables to which rows are copied have none.
+pub record IsBare (t : Tables) : Type 0 where
+  pub bodies : t.bodies ≡ []
+  pub pieces : t.pieces ≡ []
+  pub arrivals : t.arrivals ≡ []
+  pub uploads : t.uploads ≡ []
+  pub wants : t.wants ≡ []
+  pub items : t.items ≡ []
+  pub refs : t.refs ≡ []
+  pub files : t.files ≡ []
+
+-- The numbers to which other rows refer rise.
+pub record AreRising (t : Tables) : Type 0 where
+  pub bodies : Rises t.bodies
+  pub uploads : Rises t.uploads
+  pub items : Rises t.items
+
+-- The rows of the one in the tables of the other: bodies, uploads and items under the numbers that they have, since other rows refer
+-- to these, and all others numbered from 1; each arrival is as of the moment. The other's configuration, texts and dates stay.
+abbrev pub copied : Tables → ℕ → Tables → Tables
+copied t moment into = record into {
+  bodies = t.bodies;
+  pieces = anew (rows_of t.pieces);
+  arrivals = anew (map (arrived_at moment) (rows_of t.arrivals));
+  uploads = t.uploads;
+  wants = anew (rows_of t.wants);
+  items = t.items;
+  refs = anew (rows_of t.refs);
+  files = anew (rows_of t.files);
+}
+
+-- The transaction goes on: whatever rows the tables held, with none where rows are copied to, they hold the copied ones now, and what
+-- was committed stays.
+pub record Copies (old new : State) (t : Tables) (moment : ℕ) : Type 0 where
+  pub held : (into : Tables) → IsBare into → Holds old.now into → Holds new.now (copied t moment into)
+  pub kept : KeepsCommit old new
+  pub stays : IsTrue old.is_open → IsTrue new.is_open
+  pub mode : new.in_transaction ≡ true

@@ -1,0 +1,18 @@
+-- What a migration makes of the rows of an archive, and of its book.
+use Rattle.std.specs.Prelude.{ℕ, List, map}
+use Rattle.rules.specs.Values.{ConfigValue}
+use Rattle.suites.specs.Shelves.{ShelvesValue}
+use Rattle.keep.specs.Book.{Book}
+use Rattle.tables.specs.Rows.{Tables}
+use Rattle.kept.specs.Configuring.{with_configured}
+use Rattle.kept.specs.Founding.{founded}
+use Rattle.copying.specs.Copying.{copied}
+
+-- The rows of an archive of this configuration that shows this, with these dates, made from those of another: its version, its
+-- configuration, its texts and dates are new, all other rows are those of the other one, and each arrival is as of the moment.
+unfoldable pub moved_rows : ConfigValue → ShelvesValue → List ℕ → ℕ → Tables → Tables
+moved_rows config shown dates moment t = with_configured config shown dates (copied t moment (founded config moment))
+
+-- The book under another configuration, with each arrival as of the moment.
+abbrev pub moved_book : ConfigValue → ℕ → Book → Book
+moved_book config moment b = record b { config = config; arrivals = map (λ a. record a { moment = moment }) b.arrivals }
