@@ -1,12 +1,11 @@
 -- How two readings make one.
-use Rattle.std.proofs.Common.{◌≡◌, Result, Ok, Err, OnOk, OnErr, IsErrAnd, sym, subst, arith}
+use Rattle.std.proofs.Common.{◌≡◌, Result, Ok, Err, OnOk, OnErr, IsErrAnd, arith}
 use Rattle.std.proofs.lemmas.Result.{IfOk-weaker}
 use Rattle.old_rows.specs.Shown.{Says}
 use Rattle.sqlite.specs.declared.error.Error.{Error}
 use Rattle.sqlite.specs.State.{State, HasCleanDisk, IsUnchanged}
 use Rattle.sqlite.proofs.Callers.{unchanged_then}
 use Rattle.sqlite.proofs.StateLemmas.{survives_then}
-use Rattle.tables.specs.Rows.{Fails}
 use Rattle.tables_read.proofs.StepLemmas.{fails_then}
 
 on_ok : {X E P Q : Type 0} (r : Result X E) → (P → Q) → OnOk r P → OnOk r Q

@@ -1,5 +1,5 @@
 -- A text that is a SELECT gives no rows of a write and reads no time, whatever the schema is.
-use Rattle.std.proofs.Common.{◌≡◌, ℕ, List, [], Option, None, Ok, Err, refl, sym, ap, subst, ◌∙◌, inl, inr}
+use Rattle.std.proofs.Common.{◌≡◌, ℕ, List, [], Option, None, Ok, Err, sym, ap, subst, ◌∙◌, inl, inr}
 use Rattle.std.proofs.lemmas.Bool.{cases_Bool}
 use Rattle.sqlite_syntax.specs.declared.statement.Parsed.{Parsed}
 use Rattle.sqlite_schema.specs.declared.command.Command.{Command}

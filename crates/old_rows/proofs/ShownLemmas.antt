@@ -1,5 +1,5 @@
 -- What a query said of a database, and what it left.
-use Rattle.std.proofs.Common.{◌≡◌, ◌⊎◌, ◌≤◌, ℕ, List, [], ◌∷◌, length, Option, None, Some, Result, Ok, Err, IfOk, IfSome, MatchOption, true, false, inl, inr, refl, sym, ap, subst, ◌∙◌, arith}
+use Rattle.std.proofs.Common.{◌≡◌, ◌≤◌, ℕ, List, [], ◌∷◌, length, Option, None, Some, Result, Ok, Err, IfOk, IfSome, MatchOption, true, false, inl, inr, refl, sym, ap, subst, ◌∙◌, arith}
 use Rattle.std.specs.List.{AllZip}
 use Rattle.old_rows.specs.Failing.{is_fault}
 use Rattle.old_rows.specs.Shown.{IsNotShown, IsRefused, IsSelectText, IsShown, IsUnderstood, Says, Shows}
@@ -73,15 +73,17 @@ module _ (sql : List ℕ) (text : IsSelectText sql) (old new : State) where
   refused e own (inl h) = not_run e own h
   refused e own (inr h) =
       let bare = plain_text sql text old.now.schema h.0 h.1.is in
-      let it : FailsToShow old new sql h.0 [] e None = rw (bare.0, bare.1) at h.2 in
-      (inr (record {
-        compiled = h.0;
-        is_understood = record { is = h.1.is; whole = h.1.whole; bare = no_names h.0.names h.1.given };
-        source = it.0;
-        is_source = it.1;
-        error = e;
-        refuses = unlimited old.step_limit h.0.command it.0 e own it.2;
-      }), it.3)
+      let it : FailsToShow old new sql h.0 [] e None = rw (bare.0, bare.1) at h.2 in (
+        inr (record {
+          compiled = h.0;
+          is_understood = record { is = h.1.is; whole = h.1.whole; bare = no_names h.0.names h.1.given };
+          source = it.0;
+          is_source = it.1;
+          error = e;
+          refuses = unlimited old.step_limit h.0.command it.0 e own it.2;
+        }),
+        it.3,
+      )
 
   module _ (idle : old.in_transaction ≡ false → new.in_transaction ≡ false) (survives : Survives old new (CommitsShowing sql [] old)) where
     commits_none : Survives old new (λ _. ⊥)

@@ -1,5 +1,4 @@
 -- What is shown of each table is shown of all.
-use Rattle.std.proofs.Common.{ℕ}
 use Rattle.old_rows.specs.Layouts.{Asked, AreShown}
 use Rattle.old_rows.specs.Pairs.{Pairs, tables_in}
 use Rattle.old_rows.specs.Shown.{IsShown}

@@ -75,14 +75,20 @@ type Numbered<T> = Vec<(u64, T)>;
 
 type Shown = (
     Numbered<Item>,
-    (Numbered<Ref>, (Numbered<File>, (Numbered<IndexText>, Numbered<Date>))),
+    (
+        Numbered<Ref>,
+        (Numbered<File>, (Numbered<IndexText>, Numbered<Date>)),
+    ),
 );
 
 type Judged = (Numbered<Upload>, (Numbered<Want>, Shown));
 
 type Arrived = (
     Numbered<Meta>,
-    (Numbered<Body>, (Numbered<Piece>, (Numbered<Arrival>, Judged))),
+    (
+        Numbered<Body>,
+        (Numbered<Piece>, (Numbered<Arrival>, Judged)),
+    ),
 );
 
 /// The rows of the pairs in which they are read.

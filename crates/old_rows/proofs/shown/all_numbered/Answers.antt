@@ -1,7 +1,6 @@
-use Rattle.std.proofs.Common.{◌≡◌, ◌∷◌, ◌++◌, [], ◌+◌, List, refl, suc, take, drop, sym, ap, subst, subst₂, ◌∙◌, arith}
+use Rattle.std.proofs.Common.{◌≡◌, ◌∷◌, ◌++◌, [], ◌+◌, refl, take, drop, sym, ap, subst, subst₂, ◌∙◌}
 use Rattle.std.specs.List.{AllZip}
 use Rattle.std.proofs.lemmas.List.{append_assoc, take_more, take-append-drop}
-use Rattle.sqlite.specs.Order.{Row}
 use Rattle.tables_read.specs.Layout.{IsNotRead}
 use Rattle.tables_read.specs.Reading.{Spells}
 use Rattle.old_rows.proofs.RowLemmas.{zip_push}
@@ -25,6 +24,6 @@ returns-in-None-clause-none g c none =
     let row = c.row-item.result in
     let front : take (i + 1) rows ≡ take i rows ++ row ∷ [] = take_more rows i row c.loop-row-test.true ∙ ap (λ r. take i rows ++ r ∷ []) (sym c.row-item.is) in
     let all : take i rows ++ row ∷ drop (i + 1) rows ≡ rows =
-        sym (append_assoc (take i rows) (row ∷ []) (drop (i + 1) rows)) ∙ ap (λ l. l ++ drop (i + 1) rows) (sym front) ∙ take-append-drop (i + 1) rows in
+    sym (append_assoc (take i rows) (row ∷ []) (drop (i + 1) rows)) ∙ ap (λ l. l ++ drop (i + 1) rows) (sym front) ∙ take-append-drop (i + 1) rows in
     subst (IsNotRead g.T.Stored.layout g.T.Stored.is_real) all
     (not_read_among g.T.Stored.layout g.T.Stored.is_real (take i rows) row (drop (i + 1) rows) (rw c.in-None.is at c.in_ok-one.ensures.none refl))
