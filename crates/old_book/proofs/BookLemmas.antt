@@ -62,7 +62,7 @@ pub bodies_kept : (t : Tables) (text : List ℕ) (config : ConfigValue) (judged 
 unfolding bytes_of is_used
 bodies_kept t text config judged shown dates kept = record { whole = kept.bodies.whole; pieces = kept.bodies.pieces; used = kept.bodies.used }
 
-first_configuration : List Meta → List ℕ
+abbrev first_configuration : List Meta → List ℕ
 first_configuration [] = []
 first_configuration (r ∷ rs) = r.configuration
 

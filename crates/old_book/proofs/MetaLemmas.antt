@@ -10,7 +10,7 @@ use Rattle.old_book.specs.Text.{without_days}
 abbrev no_row : Meta
 no_row = record { version = 0; configuration = [] }
 
-first_text : List Meta → List ℕ
+abbrev first_text : List Meta → List ℕ
 first_text [] = []
 first_text (r ∷ rs) = r.configuration
 

@@ -2,6 +2,7 @@
 #![tactic(auto)]
 
 mod book;
+mod finding;
 mod listed;
 mod renewed;
 mod rising;

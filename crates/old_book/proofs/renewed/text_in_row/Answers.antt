@@ -10,5 +10,5 @@ returns-clause-some c =
 pub returns-clause-none : goal.returns-clause-none
 returns-clause-none c = IfOk-weaker c.without_days.result _ _ (λ o same. no_row_text (λ text. text.items) c.args.row.now c.as_slice.result.now o c.as_slice.ensures same) c.without_days.ensures
 
-pub returns-then-row-version-ne-VERSION-clause-none : goal.returns-then-row-version-ne-VERSION-clause-none
-returns-then-row-version-ne-VERSION-clause-none c = ?
+pub returns-then-row-ne-VERSION-clause-none : goal.returns-then-row-ne-VERSION-clause-none
+returns-then-row-ne-VERSION-clause-none c none text h = other_version c.args.row.now c.if-row-ne-VERSION.true text h

@@ -1,7 +1,7 @@
 use Rattle.std.proofs.Common.{◌≡◌, true, true≢false, sym, ◌∙◌}
 use Rattle.tables_read.specs.All.{tables_with}
 use Rattle.old_book.proofs.RisingLemmas.{if_rising, rising_if}
-use Rattle.old_book.proofs.book.old_book_in.Goals as goal
+use Rattle.old_book.proofs.finding.old_book_in.Goals as goal
 
 pub are_taken-requires : goal.are_taken-requires
 are_taken-requires c = rising_if (tables_with c.args.all) (sym c.is_rising.ensures ∙ c.if-not-is_rising.false)

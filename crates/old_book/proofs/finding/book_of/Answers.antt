@@ -6,7 +6,7 @@ use Rattle.kept.specs.Kept.{IsKept}
 use Rattle.old_book.specs.Old.{HasText}
 use Rattle.old_book.specs.Settling.{settled, with_configuration}
 use Rattle.old_book.proofs.BookLemmas.{bodies_kept, constrained_rows, no_old_archive, old_archive, rising_rows}
-use Rattle.old_book.proofs.book.book_of.Goals as goal
+use Rattle.old_book.proofs.finding.book_of.Goals as goal
 
 pub returns-in_default-clause-none : goal.returns-in_default-clause-none
 returns-in_default-clause-none c none readable config judged shown dates old =

@@ -2,7 +2,7 @@ use Rattle.sqlite.specs.Held.{state}
 use Rattle.tables_read.specs.All.{tables_with}
 use Rattle.tables.proofs.ReadLemmas.{fails_unchanged}
 use Rattle.old_book.proofs.FoundLemmas.{on_err_is, on_ok_is, shown_book, shown_none}
-use Rattle.old_book.proofs.book.book_as.Goals as goal
+use Rattle.old_book.proofs.finding.book_as.Goals as goal
 
 pub returns-in-Some-clause-some : goal.returns-in-Some-clause-some
 returns-in-Some-clause-some g c clean =
