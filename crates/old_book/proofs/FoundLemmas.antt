@@ -1,5 +1,5 @@
 -- What is found of an old archive in a database, layout by layout.
-use Rattle.std.proofs.Common.{◌≡◌, ◌⊎◌, inl, inr, ◌≤◌, [], ◌∷◌, Option, Some, None, Result, Ok, Err, IfErr, IfOk, IfSome, OnErr, OnOk, refl, sym, subst, ◌∙◌, arith}
+use Rattle.std.proofs.Common.{◌≡◌, ◌⊎◌, inl, inr, true, [], ◌∷◌, Option, Some, None, Result, Ok, Err, IfErr, IfOk, IfSome, OnErr, OnOk, refl, sym, subst, ◌∙◌, arith}
 use Rattle.std.specs.Prelude.{All, Contains}
 use Rattle.std.proofs.lemmas.List.Elements.{All-from_recursion}
 use Rattle.sqlite.specs.Effect.{Database}
@@ -39,12 +39,12 @@ on_err_is (Err e) h = h
 
 pub first_book : (asked : Asked) (db : Database) (old : OldBook) → asked ≡ first_layout → IsShownBook asked db old → IsOldBookIn db old
 first_book asked db old is h =
-    let there : Contains older_layouts asked = subst (Contains older_layouts) (sym is) (0, (omega arith, refl)) in
+    let there : Contains older_layouts asked = subst (Contains older_layouts) (sym is) (0, omega arith, refl) in
     (h.0, ((asked, there, h.1, h.2.0), h.2.1))
 
 pub second_book : (asked : Asked) (db : Database) (old : OldBook) → asked ≡ second_layout → IsShownBook asked db old → IsOldBookIn db old
 second_book asked db old is h =
-    let there : Contains older_layouts asked = subst (Contains older_layouts) (sym is) (1, (omega arith, refl)) in
+    let there : Contains older_layouts asked = subst (Contains older_layouts) (sym is) (1, omega arith, refl) in
     (h.0, ((asked, there, h.1, h.2.0), h.2.1))
 
 pub no_book : (first second : Asked) (db : Database) → first ≡ first_layout → second ≡ second_layout → KeepsNoneAs first db → KeepsNoneAs second db → IsNoOldArchive db
@@ -52,5 +52,5 @@ no_book first second db one two h k =
     All-from_recursion (λ asked. KeepsNoneAs asked db) older_layouts (subst (λ asked. KeepsNoneAs asked db) one h, (subst (λ asked. KeepsNoneAs asked db) two k, tt))
 
 -- a fault of the database is another
-pub other_fault : (fault : KeepFault) → MayAnswer _ fault → fault ≡ NoArchive → ⊥
-other_fault fault may is = subst (MayAnswer _) is may
+pub other_fault : (fault : KeepFault) → MayAnswer true fault → fault ≡ NoArchive → ⊥
+other_fault fault may is = subst (MayAnswer true) is may

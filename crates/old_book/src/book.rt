@@ -1,9 +1,10 @@
 //! The book of an archive of an older layout.
 
-ghost use Rattle.std.specs.Prelude.{◌≡◌};
+ghost use Rattle.std.specs.Prelude.{◌≡◌, true};
 ghost use Rattle.copying.specs.Copying.{AreRising};
 ghost use Rattle.kept.specs.Kept.{IsKept};
 ghost use Rattle.tables_read.specs.All.{tables_with};
+ghost use Rattle.old_book.specs.Rising.{is_rising};
 
 use audit::Held;
 use keep::Judgement;
@@ -17,18 +18,18 @@ use tables_read::AllRows;
 pub struct OldBook {
     pub(crate) rows: AllRows,
     pub(crate) held: Held,
-    ghost kept: { IsKept (tables_with rows) held.config held.judged.items held.shelves held.dates.items },
-    ghost rising: { AreRising (tables_with rows) },
+    ghost kept: { ∥ IsKept (tables_with rows) held.config held.judged.items held.shelves held.dates.items ∥₁ },
+    ghost rising: { is_rising (tables_with rows) ≡ true },
 }
 
 impl OldBook {
-    ghost use Rattle.std.specs.Prelude.{◌≤◌, All, length};
+    ghost use Rattle.std.specs.Prelude.{◌≤◌, All};
     ghost use Rattle.keep.specs.Book.{latest};
 
     /// The rows, as those of an archive of today.
     pub fn rows(&self) -> &AllRows
         ensures rows { result.now ≡ self.now.rows }
-        ensures kept { IsKept (tables_with self.now.rows) self.now.held.config self.now.held.judged.items self.now.held.shelves self.now.held.dates.items }
+        ensures kept { ∥ IsKept (tables_with self.now.rows) self.now.held.config self.now.held.judged.items self.now.held.shelves self.now.held.dates.items ∥₁ }
         ensures rising { AreRising (tables_with self.now.rows) }
     {
         &self.rows
@@ -58,7 +59,6 @@ impl OldBook {
     /// For each suite the moment at which what it shows last changed.
     pub fn dates(&self) -> &[u64]
         ensures dates { result.now ≡ self.now.held.dates.items }
-        ensures dated { length self.now.held.dates.items ≡ length self.now.held.config.suites }
         ensures in_range { All (λ date. date ≤ latest) self.now.held.dates.items }
     {
         &self.held.dates

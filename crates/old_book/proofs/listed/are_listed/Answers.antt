@@ -9,4 +9,4 @@ pub returns-clause-fit : goal.returns-clause-fit
 returns-clause-fit c keys bodies =
     let t = tables_with c.args.all.now in
     subst (λ b. IsTrue b ↔ UploadsFit (unjudged t) []) (sym c.is_some.ensures)
-    (listed_in t c.in_ok-waiting.waiting.items (λ j. j.items) c.in_ok-judged.judged (c.in_ok-waiting.ensures ∙ ap unjudged_uploads c.deref.ensures.value) c.in_ok-judged.ensures.some c.in_ok-judged.ensures.none keys bodies)
+    (listed_in t c.replace-uploads.new.dest.items (λ j. j.items) c.in_ok-judged.judged (ap (λ v. v.items) c.replace-uploads.ensures.after ∙ c.in_ok-waiting.ensures ∙ ap unjudged_uploads c.deref.ensures.value) c.in_ok-judged.ensures.some c.in_ok-judged.ensures.none keys bodies)
