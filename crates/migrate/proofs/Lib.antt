@@ -1,0 +1,5 @@
+pub mod WrittenLemmas
+pub mod HeldLemmas
+pub mod MadeLemmas
+pub mod OverLemmas
+pub mod RisingLemmas
