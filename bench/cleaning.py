@@ -1,7 +1,6 @@
-#!/usr/bin/env -S python3 -B
 """What a cleaning takes, beside an opening of the same archive.
 
-    bench_clean ARCHIVE FOLDER [--files 10000] [--end 1000]
+    python3 -m bench.cleaning ARCHIVE FOLDER [--files 10000] [--end 1000]
 
 ARCHIVE is the program, FOLDER a new folder to work in. An archive with `KeepDays: 1` is given so many files (--files), each of its own 4,096 bytes. The
 first of them (--end) come at moment 0 and the others a second later, so that a cleaning at 86400 takes the first alone. The table has:
@@ -15,8 +14,7 @@ import hashlib
 import os
 import pathlib
 
-import measure
-import ways
+from bench import measure, ways
 
 
 def contents_of(number):

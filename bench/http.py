@@ -1,7 +1,6 @@
-#!/usr/bin/env -S python3 -B
 """What `archive serve` takes over loopback, beside Python's http.server.
 
-    bench_http ARCHIVE FOLDER
+    python3 -m bench.http ARCHIVE FOLDER
 
 ARCHIVE is the program, FOLDER a new folder to work in. It makes an archive that shows one package, whose file has nearly 4 MiB.
 It prints the time that passes in one GET of that file over loopback (the middle of 21), the same of `python3 -m http.server`,
@@ -11,9 +10,8 @@ import os
 import statistics
 import sys
 
-import measure
-import uploads
-import ways
+from bench import measure, ways
+from uploads import uploads
 
 
 def milliseconds(server, path, body):

@@ -18,9 +18,14 @@ import time
 PR_SET_CHILD_SUBREAPER = 36
 
 
+def name():
+    """The name of the module that measures."""
+    return f"bench.{os.path.basename(sys.argv[0]).removesuffix('.py')}"
+
+
 def stop(why):
-    """Ends the script that measures."""
-    sys.exit(f"{os.path.basename(sys.argv[0])}: {why}")
+    """Ends the module that measures."""
+    sys.exit(f"{name()}: {why}")
 
 
 @dataclasses.dataclass(frozen=True)
@@ -58,9 +63,9 @@ def mean(parts):
     return total(parts) / len(parts)
 
 
-def words(script):
-    """What reads the words of a script, the program and the folder first."""
-    parser = argparse.ArgumentParser(description=script, formatter_class=argparse.RawDescriptionHelpFormatter)
+def words(text):
+    """What reads the words of a module, of which this is the text, the program and the folder first."""
+    parser = argparse.ArgumentParser(prog=f"python3 -m {name()}", description=text, formatter_class=argparse.RawDescriptionHelpFormatter)
     parser.add_argument("archive", metavar="ARCHIVE")
     parser.add_argument("folder", metavar="FOLDER")
     return parser
@@ -73,7 +78,7 @@ def numbers(word):
 
 @contextlib.contextmanager
 def started(words, folder, out):
-    """A command line that is started by a shell that ends, so that it is a child of this script then: its number. It begins
+    """A command line that is started by a shell that ends, so that it is a child of this process then: its number. It begins
     its work with the `with`, so that it does not end before the shell.
 
     The most memory that Linux tells of a process is no less than what its parent had at its start, and a shell has little."""
@@ -105,7 +110,7 @@ def line(words, folder=None, status=0):
 
 @contextlib.contextmanager
 def taking():
-    """A list to which what this script takes in this time is added, without its memory."""
+    """A list to which what this process takes in this time is added, without its memory."""
     taken, before, start = [], time.process_time(), time.perf_counter()
     yield taken
     taken.append(Taken(time.process_time() - before, time.perf_counter() - start, 0))
@@ -204,7 +209,7 @@ def cell(taken):
 
 def heading(*more):
     """What stands over a table: the line that makes it again, the machine, and more sentences."""
-    words = [f"tools/{os.path.basename(sys.argv[0])}", "ARCHIVE", "FOLDER", *sys.argv[3:]]
+    words = ["python3", "-m", name(), "ARCHIVE", "FOLDER", *sys.argv[3:]]
     system = f"{platform.system()} {platform.release()}, {platform.machine()}"
     machine = f"{system}, {os.cpu_count()} processors, load {os.getloadavg()[0]:.1f}."
     cells = "Each cell: processor time / time that passes, most memory."

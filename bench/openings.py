@@ -1,7 +1,6 @@
-#!/usr/bin/env -S python3 -B
 """What an opening takes, by what the archive holds, beside what the library `sqlite` takes of it.
 
-    bench_openings ARCHIVE FOLDER [--bodies 100] [--judged 10000] [--verdicts 40000] [--waiting 4000] [--large] [--rounds 1]
+    python3 -m bench.openings ARCHIVE FOLDER [--bodies 100] [--judged 10000] [--verdicts 40000] [--waiting 4000] [--large] [--rounds 1]
 
 ARCHIVE is the program, FOLDER a new folder to work in. Each archive is made by `init`. Its rows are then written into the file by
 Python's sqlite3, since to hand everything in takes too long. The opening judges that they are those of an archive. They are those of
@@ -27,9 +26,8 @@ import os
 import pathlib
 import sqlite3
 
-import measure
-import uploads
-import ways
+from bench import measure, ways
+from uploads import uploads
 
 # How many bytes a piece of a body has at most, and a large body.
 PIECE_SIZE, LARGE_SIZE = 65_536, 4_000_000

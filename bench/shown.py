@@ -1,7 +1,6 @@
-#!/usr/bin/env -S python3 -B
 """What a run takes by the number of packages that are shown, seen from outside.
 
-    bench_shown ARCHIVE FOLDER [--shown 100,1000,10000] [--each 20] [--description 1000]
+    python3 -m bench.shown ARCHIVE FOLDER [--shown 100,1000,10000] [--each 20] [--description 1000]
 
 ARCHIVE is the program, FOLDER a new folder to work in. For each number an archive is made that shows so many packages, and
 `serve` answers over it. So many uploads (--each) are handed in, each with a run of its own, and then as many, with one run.
@@ -15,9 +14,8 @@ The table has, of `serve` alone:
 """
 import os
 
-import measure
-import uploads
-import ways
+from bench import measure, ways
+from uploads import uploads
 
 PACKAGES = "dists/box/main/binary-amd64/Packages"
 

@@ -1,7 +1,6 @@
-#!/usr/bin/env -S python3 -B
 """What the archive takes over a database file, and what the program `sqlite3` takes for the statements alone.
 
-    bench_sqlite3 ARCHIVE FOLDER [--deliveries 10,1000,10000] [--uploads 1000]
+    python3 -m bench.sqlite3 ARCHIVE FOLDER [--deliveries 10,1000,10000] [--uploads 1000]
 
 ARCHIVE is the program, FOLDER a new folder to work in. It prints a table. What the archive takes is that of `serve` for a request,
 and of `verdicts` for an opening; what `sqlite3` takes is told less a start of it that only opens the file. It does
@@ -20,9 +19,8 @@ import os
 import shutil
 import sqlite3
 
-import measure
-import uploads
-import ways
+from bench import measure, ways
+from uploads import uploads
 
 # A body of 4 MiB has so many pieces of so many bytes.
 PIECES, PIECE_SIZE = 64, 65_536

@@ -1,7 +1,6 @@
-#!/usr/bin/env -S python3 -B
 """What `archive try` takes for small and large files, and for texts that are made to be slow to read.
 
-    bench_texts ARCHIVE FOLDER [--rounds 10]
+    python3 -m bench.texts ARCHIVE FOLDER [--rounds 10]
 
 ARCHIVE is the program, FOLDER a new folder to work in. `try` keeps its archive in memory: it delivers the files that it is given,
 runs the queue once and prints an index. So the lines with uploads tell what these take without a database. The texts are
@@ -11,8 +10,8 @@ import itertools
 import os
 import random
 
-import measure
-import uploads
+from bench import measure
+from uploads import uploads
 
 MOST = 1_048_576
 

@@ -1,7 +1,7 @@
 """Ways to an archive, each with the same calls: the program by its command lines, the program by HTTP, and reprepro.
 
-A call answers what it took, or nothing where the way has no such thing. Each looks at what is printed or replied, and ends the
-script where that is not what should come, so that no refusal is measured.
+A call answers what it took, or nothing where the way has no such thing. Each looks at what is printed or replied, and ends
+the process where that is not what should come, so that no refusal is measured.
 """
 import contextlib
 import os
@@ -9,8 +9,8 @@ import pathlib
 import shutil
 import time
 
-import measure
-import uploads
+from bench import measure
+from uploads import uploads
 
 # How many files one `put` is given: the system takes only so many bytes of words.
 MOST_WORDS = 10_000

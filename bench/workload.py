@@ -1,7 +1,6 @@
-#!/usr/bin/env -S python3 -B
 """A workload on the built program, seen from outside, and what reprepro takes for the same where it is installed.
 
-    bench ARCHIVE FOLDER [--http] [--packages 1000,10000] [--each 50] [--deliveries 10,1000] [--bodies 25] [--rounds 1]
+    python3 -m bench.workload ARCHIVE FOLDER [--http] [--packages 1000,10000] [--each 50] [--deliveries 10,1000] [--bodies 25] [--rounds 1]
 
 ARCHIVE is the program, FOLDER a new folder to work in. The uploads are those of make_uploads: a .deb of some 560 bytes, its
 sidecar and its .changes. For each number of packages (--packages) all are handed in and run; handed in again, and run; then come
@@ -23,9 +22,8 @@ import os
 import shutil
 import sys
 
-import measure
-import uploads
-import ways
+from bench import measure, ways
+from uploads import uploads
 
 
 def mean(parts):

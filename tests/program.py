@@ -1,16 +1,24 @@
-"""An archive that is served on loopback, for tests, and clients of it that are quick, silent, slow or rude.
+"""The built program, for tests: lines of it over a database file, an archive that it serves on loopback, and clients of that which are quick,
+silent, slow or rude. It is the program that `rt ci` or `make build` built, or the one that ARCHIVE names; where there is none the tests say
+that they were skipped.
 
 Each waits for a limited time, and each process is ended whatever happens."""
 import contextlib
+import hashlib
 import os
+import shutil
 import signal
 import socket
 import struct
 import subprocess
 import tempfile
 import time
+import unittest
 
-from test_database import PROGRAM
+ROOT = os.path.dirname(os.path.dirname(os.path.abspath(__file__)))
+PROGRAM = os.environ.get("ARCHIVE", f"{ROOT}/crates/archive/out/archive")
+DATA = f"{ROOT}/crates/archive/data"
+NAMES = ["hello_1.0-1_amd64.changes", "hello_1.0-1_amd64.deb", "hello_1.0-1_amd64.control"]
 
 # How long a test waits for what should come at once, and for what may take its time, in seconds.
 SOON, LONG = 10, 150
@@ -18,8 +26,72 @@ SOON, LONG = 10, 150
 # Whoever is started by a shell in the background ignores SIGINT, and so do its children, unless this is said.
 signal.signal(signal.SIGINT, signal.default_int_handler)
 
+# 2016-07-02 05:20:50 UTC.
+MOMENT = "1467436850"
+
+PACKAGES = b"""Package: hello
+Version: 1.0-1
+Architecture: amd64
+Maintainer: Ann <ann@example.org>
+Description: greets
+Filename: pool/main/h/hello/hello_1.0-1_amd64.deb
+Size: 3
+MD5sum: 900150983cd24fb0d6963f7d28e17f72
+SHA1: a9993e364706816aba3e25717850c26c9cd0d89d
+SHA256: ba7816bf8f01cfea414140de5dae2223b00361a396177a9cb410ff61f20015ad
+
+"""
+
+
+# ---- over a database file
+
+
+@unittest.skipUnless(os.path.exists(PROGRAM), f"there is no program {PROGRAM}")
+class Lines(unittest.TestCase):
+    """Lines of the program over a database file."""
+
+    def line(self, status, word, db, *words):
+        """Runs a line of the program, and answers what it prints, on both outputs."""
+        ran = subprocess.run([PROGRAM, word, "--db", db, *words], capture_output=True, text=True, check=False, timeout=120)
+        self.assertEqual(ran.returncode, status, ran.stderr)
+        return ran.stdout + ran.stderr
+
+    def made(self):
+        """A new database with an archive."""
+        room = tempfile.TemporaryDirectory()
+        self.addCleanup(room.cleanup)
+        db, conf = f"{room.name}/box.db", f"{room.name}/box.conf"
+        with open(conf, "w", encoding="ascii") as it:
+            it.write("Codename: box\nArchitectures: amd64 source\nComponents: main\n")
+        self.line(0, "init", db, "--at", "0", conf)
+        return db
+
+    def accepted(self):
+        """A new database in which an upload is accepted."""
+        db = self.made()
+        self.line(0, "put", db, "--at", "0", *(f"{DATA}/{name}" for name in NAMES))
+        self.line(0, "run", db, "--at", "0")
+        return db
+
+
+@contextlib.contextmanager
+def mounted(size):
+    """A folder on a file system of so many bytes, or None where it can't be had."""
+    folder = tempfile.mkdtemp()
+    done = subprocess.run(["mount", "-t", "tmpfs", "-o", f"size={size}", "none", folder], capture_output=True, check=False)
+    try:
+        yield folder if done.returncode == 0 else None
+    finally:
+        if done.returncode == 0:
+            subprocess.run(["umount", "-l", folder], check=False)
+        shutil.rmtree(folder, ignore_errors=True)
+
+
+# ---- served
+
 
 def free_address():
+    """An address at which nothing listens."""
     with socket.socket() as it:
         it.bind(("127.0.0.1", 0))
         return it.getsockname()
@@ -27,12 +99,12 @@ def free_address():
 
 class Serving:
     """`serve` over a database file, with so many connections at a moment, and more words. It may run under another program, and its
-    standard error may go elsewhere."""
+    standard error may go elsewhere. The program may be another, too, and the address one that is given."""
 
-    def __init__(self, db, count, *words, at="0", under=(), stderr=None):
-        self.address = free_address()
+    def __init__(self, db, count, *words, at="0", under=(), stderr=None, program=PROGRAM, address=None):
+        self.address = address or free_address()
         self.printed, self.told = tempfile.TemporaryFile(), tempfile.TemporaryFile()
-        line = [*under, PROGRAM, "serve", "--db", db, "--at", at, *words, "%s:%d" % self.address, str(count)]
+        line = [*under, program, "serve", "--db", db, "--at", at, *words, "%s:%d" % self.address, str(count)]
         streams = {"stdin": subprocess.DEVNULL, "stdout": self.printed, "stderr": stderr or self.told}
         self.process = subprocess.Popen(line, start_new_session=True, **streams)
 
@@ -97,6 +169,9 @@ class Serving:
         self.process.send_signal(number)
 
 
+# ---- clients
+
+
 def rest(client):
     """All that a client is sent until its connection ends, be it by a reset."""
     parts = []
@@ -133,10 +208,40 @@ def status_of(reply):
     return int(reply.split()[1]) if reply else None
 
 
+def seconds_since(start):
+    return time.monotonic() - start
+
+
+# ---- requests and replies
+
+
 def put_of(name, body):
     """A request that delivers a body under a name."""
     return f"PUT /incoming/{name} HTTP/1.1\r\nContent-Length: {len(body)}\r\n\r\n".encode() + body
 
 
-def seconds_since(start):
-    return time.monotonic() - start
+def put(name):
+    """A request that delivers a file of the three."""
+    with open(f"{DATA}/{name}", "rb") as it:
+        return put_of(name, it.read())
+
+
+def get(path):
+    """A request for what stands at a path."""
+    return f"GET /{path} HTTP/1.1\r\nHost: a\r\n\r\n".encode()
+
+
+def release():
+    """The Release of the archive that shows hello."""
+    lines = ["Codename: box", "Date: Sat, 02 Jul 2016 05:20:50 UTC", "Architectures: amd64", "Components: main"]
+    for title, name in (("MD5Sum", "md5"), ("SHA1", "sha1"), ("SHA256", "sha256")):
+        lines.append(f"{title}:")
+        for path, text in (("main/binary-amd64/Packages", PACKAGES), ("main/source/Sources", b"")):
+            lines.append(f" {hashlib.new(name, text).hexdigest()} {len(text)} {path}")
+    return "".join(f"{line}\n" for line in lines).encode()
+
+
+def replied(status, body, kind="text/plain; charset=utf-8"):
+    """The bytes of a reply."""
+    head = [f"HTTP/1.1 {status}", f"Content-Type: {kind}", f"Content-Length: {len(body)}", "Connection: close", "", ""]
+    return "\r\n".join(head).encode() + body

@@ -1,5 +1,4 @@
-#!/usr/bin/env python3
-"""Each growth of each call is refused once: `tools/refuse_growths [--lists] [CALL..]`.
+"""Each growth of each call is refused once: `python3 -m tests.refuse_growths [--lists] [CALL..]`.
 
 The calls are the rows `call ..` of data/*.growths of the crate `tales`; CALL is the first word of some of them, and --lists leaves out
 the keeper over tables. For each call a file is written that has its story alone, in which this one call is marked, so that the program
@@ -11,13 +10,11 @@ The program answers the row, at once or where the call is made again behind a fa
 else its line differs. For each call and keeper a line is printed: how many growths the call has, and at how many of them it was refused
 or was answered at once. The status is 0 where each call has a growth, but those that make nothing grow, and no run printed another line.
 Without rustc, which makes that library, it says so and tries nothing."""
-import sys
-
-sys.dont_write_bytecode = True
 import os
 import re
 import shutil
 import subprocess
+import sys
 import tempfile
 from concurrent.futures import ThreadPoolExecutor
 from pathlib import Path

@@ -1,4 +1,3 @@
-#!/usr/bin/env python3
 """All tests of this repository, one after another, as `make test` and CI run them.
 
 First come those that take seconds: whether the pages and the wrong bodies fit the sources, and the tests of the tools. Then
@@ -11,40 +10,48 @@ import sys
 import time
 
 ROOT = os.path.dirname(os.path.dirname(os.path.abspath(__file__)))
-BEFORE = ["check_pages", "try_wrong_bodies --read", "test_pages.py", "test_using.py", "test_wrong_bodies.py", "test_with_sidecars.py"]
+BEFORE = [
+    "checks/pages",
+    "checks/try_wrong_bodies --read",
+    "tests.test_pages",
+    "tests.test_using",
+    "tests.test_wrong_bodies",
+    "tests.test_with_sidecars",
+]
 GATE = ["rt", "ci"]
 # The memory that a check takes at most, in bytes, over the four that take the most side by side.
 MEMORY_OF_CHECK = 5_500_000_000
 BEHIND = [
-    "test_database.py",
-    "test_archives.py",
-    "test_others.py",
-    "test_served.py",
-    "test_pieces.py",
-    "test_command_lines.py",
-    "test_layouts.py",
-    "test_batch.py",
-    "test_configurations.py",
-    "test_long_indices.py",
-    "test_lines.py",
-    "test_serving.py",
-    "test_holders.py",
-    "test_moments.py",
-    "test_failing.py",
-    "test_hostile.py",
-    "test_soak.py",
-    "test_using_program.py",
-    "test_using_proxy.py",
-    "refuse_growths --lists",
+    "tests.test_database",
+    "tests.test_archives",
+    "tests.test_others",
+    "tests.test_served",
+    "tests.test_pieces",
+    "tests.test_command_lines",
+    "tests.test_layouts",
+    "tests.test_batch",
+    "tests.test_configurations",
+    "tests.test_long_indices",
+    "tests.test_lines",
+    "tests.test_serving",
+    "tests.test_holders",
+    "tests.test_moments",
+    "tests.test_failing",
+    "tests.test_hostile",
+    "tests.test_soak",
+    "tests.test_using_program",
+    "tests.test_using_proxy",
+    "tests.refuse_growths --lists",
 ]
 COUNTS = re.compile(r"(\d+) passed, (\d+) failed$")
 
 
 def is_passed(line):
-    """Runs a tool, and answers whether it ended well."""
-    print(f"== tools/{line}", flush=True)
+    """Runs a tool, which is named by its path or as a module of tests, and answers whether it ended well."""
+    print(f"== {line}", flush=True)
     name, *words = line.split()
-    return subprocess.run([sys.executable, f"tools/{name}", *words], cwd=ROOT, check=False).returncode == 0
+    module = ["-m"] if name.startswith("tests.") else []
+    return subprocess.run([sys.executable, *module, name, *words], cwd=ROOT, check=False).returncode == 0
 
 
 def free_memory():

@@ -1,7 +1,7 @@
 """What is set in on docs/USING.md, and rooms in which tests run it.
 
 Each text has a name here, by a piece that no other has. Tests ask for it by that name, and may put their own addresses and folders
-in place of those of the page. tools/test_using.py looks whether each text has a name that some test asks for."""
+in place of those of the page. test_using.py looks whether each text has a name that some test asks for."""
 import contextlib
 import os
 import pathlib
@@ -18,8 +18,8 @@ import textwrap
 import time
 import unittest
 
-import uploads
-from test_database import PROGRAM
+from tests.program import PROGRAM
+from uploads import uploads
 
 ROOT = pathlib.Path(__file__).resolve().parent.parent
 
@@ -150,7 +150,7 @@ class Room:
             os.mkdir(f"{self.folder}/{name}")
         self.home, self.work = f"{self.folder}/home", f"{self.folder}/work"
         os.symlink(os.path.abspath(PROGRAM), f"{self.folder}/bin/archive")
-        os.symlink(ROOT / "tools/with_sidecars", f"{self.folder}/bin/with_sidecars")
+        os.symlink(ROOT / "bin/with_sidecars", f"{self.folder}/bin/with_sidecars")
         self.variables = {
             "PATH": f"{self.folder}/bin:{os.environ['PATH']}:/usr/sbin:/sbin",
             "HOME": self.home,

@@ -1,5 +1,6 @@
-#!/usr/bin/env python3
-"""Gives an archive a million commands and kills it again and again: soak [ARCHIVE] [--folder F] [--commands N] [--seed S] [--each N]
+"""Gives an archive a million commands and kills it again and again.
+
+    python3 -m tests.soak [ARCHIVE] [--folder F] [--commands N] [--seed S] [--each N]
 
 The commands are drawn by chance, good ones and hostile ones: files in any order, cut off, repeated or wrong, runs, copies, promotions,
 removals and cleanings, at moments that go on. They go to `serve`, to `batch`, to `put` of several files and to lines of their own. The
@@ -11,7 +12,7 @@ show is looked at, byte for byte, and the rows of both files by SQLite.
 
 A line is printed then, and all is kept in the folder: begun again with the same words it goes on there. At the first difference it says
 where it is and what was answered, leaves both archives in the folder, and ends with status 1. The same words then give the same commands
-again, from the last line on. Each 100,000 commands have archives of their own. The program is that of test_database.py, or is named."""
+again, from the last line on. Each 100,000 commands have archives of their own. The program is that of program.py, or is named."""
 import argparse
 import collections
 import concurrent.futures
@@ -26,14 +27,11 @@ import subprocess
 import sys
 import time
 
-sys.dont_write_bytecode = True
-import soak_commands
-import soak_files
-import soak_known
-from soak_commands import PER_ARCHIVE, UNCOUNTED, Drawing
-from soak_known import Known
-from soak_ways import MANY, Difference, Side
-from test_database import PROGRAM
+from tests import soak_commands, soak_files, soak_known
+from tests.program import PROGRAM
+from tests.soak_commands import PER_ARCHIVE, UNCOUNTED, Drawing
+from tests.soak_known import Known
+from tests.soak_ways import MANY, Difference, Side
 
 # The archives: the one that is killed, and the other.
 NAMES = ("killed", "whole")
@@ -296,7 +294,7 @@ def report(state):
 
 
 def words_of(line):
-    parser = argparse.ArgumentParser(description=__doc__, formatter_class=argparse.RawDescriptionHelpFormatter)
+    parser = argparse.ArgumentParser(prog="python3 -m tests.soak", description=__doc__, formatter_class=argparse.RawDescriptionHelpFormatter)
     parser.add_argument("archive", nargs="?", default=PROGRAM)
     parser.add_argument("--folder", default="/tmp/soak")
     parser.add_argument("--commands", type=int, default=1_000_000)

@@ -1,13 +1,12 @@
-"""The commands that tools/soak gives, drawn by chance: the same seed gives the same ones, and they hang on no answer.
+"""The commands that soak.py gives, drawn by chance: the same seed gives the same ones, and they hang on no answer.
 
 They come in stretches, each given in one way: requests to `serve`, a list to `batch`, files to one `put`, or lines of their own. A kill is
 drawn with them. When it falls, and so how much was done by then, is up to the machine."""
 import dataclasses
 import random
 
-import soak_files
-import test_hostile
-from soak_files import File
+from tests import soak_files, test_hostile
+from tests.soak_files import File
 
 # How many commands an archive gets before another is made, and in how many the versions of the sources rise by one.
 PER_ARCHIVE, PACE = 100_000, 1000

@@ -1,4 +1,4 @@
-"""What tools/soak delivers: the files of uploads, and files that an archive has to refuse.
+"""What soak.py delivers: the files of uploads, and files that an archive has to refuse.
 
 Some thirty sources have versions that rise. Three revisions of one upstream version share its tarball, which mostly the first alone
 lists. An upload comes in one of several forms, some of which are refused. What the archive's configuration and an upload by itself
@@ -9,7 +9,7 @@ import hashlib
 import os
 import threading
 
-import uploads
+from uploads import uploads
 
 SOURCES = 30
 

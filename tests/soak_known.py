@@ -1,4 +1,4 @@
-"""What tools/soak knows of an archive from outside: which answers deliveries, runs, cleanings and lists have, by docs/USING.md and
+"""What soak.py knows of an archive from outside: which answers deliveries, runs, cleanings and lists have, by docs/USING.md and
 docs/FAULTS.md and not by the program, and what its indices have to hold.
 
 Not known is which of two uploads was accepted where that depends on what is shown, and what a copy or a removal found: for these one
@@ -7,11 +7,10 @@ import collections
 import hashlib
 import re
 
-import soak_files
-import test_hostile
-from soak_files import INDICES, print_of
-from soak_ways import Difference, asked
-from test_served import get, replied
+from tests import soak_files, test_hostile
+from tests.program import get, replied
+from tests.soak_files import INDICES
+from tests.soak_ways import Difference, asked
 
 DAY = 86_400
 

@@ -1,4 +1,4 @@
-"""An archive in a database file, and the ways in which tools/soak gives it commands: requests to `serve`, a list to `batch`, files to
+"""An archive in a database file, and the ways in which soak.py gives it commands: requests to `serve`, a list to `batch`, files to
 one `put`, and lines of their own. It may be killed where commands have a kill; another gets the same without.
 
 Of an archive that is killed, what had no answer is given again. The other is given the same again, behind the first time, so that it tells
@@ -15,12 +15,10 @@ import subprocess
 import time
 import urllib.parse
 
-import clients
-import test_hostile
-from clients import Serving, put_of, reset, rest
-from soak_commands import WITH_LINES
-from soak_files import INDICES
-from test_served import get
+from tests import test_hostile
+from tests.program import Serving, get, put_of, reset, rest, status_of
+from tests.soak_commands import WITH_LINES
+from tests.soak_files import INDICES
 
 # The request of each command, with its words.
 REQUESTS = {
@@ -123,7 +121,7 @@ def attacked(serving, command):
     if not answered:
         return b""
     reply, statuses = answered
-    if clients.status_of(reply) not in statuses:
+    if status_of(reply) not in statuses:
         raise Difference(f"{command}: answered {reply!r:.300}")
     return reply
 
@@ -173,7 +171,6 @@ class Side:
         self.program, self.db, self.files, self.is_killed = program, f"{folder}/{name}.db", files, is_killed
         self.kills = collections.Counter()
         self.opening, self.pace = 0.1, {}
-        clients.PROGRAM, clients.free_address = program, free_address  # what `Serving` runs, and where
 
     # ---- lines
 
@@ -287,7 +284,8 @@ class Side:
         with open(f"{self.db}.moment", "w", encoding="ascii") as it:
             it.write(f"{moment}\n")
         self.begun = time.monotonic()
-        self.serving = Serving(self.db, count, "--moments", f"{self.db}.moment", at=str(moment))
+        more = {"program": self.program, "address": free_address()}
+        self.serving = Serving(self.db, count, "--moments", f"{self.db}.moment", at=str(moment), **more)
 
     def stop(self):
         self.serving.__exit__()

@@ -1,25 +1,22 @@
-#!/usr/bin/env python3
-"""Tests of archives that other programs made. The file tools/archives/N.db is an archive of layout N, which a released program made, and
+"""Tests of archives that other programs made. The file tests/archives/N.db is an archive of layout N, which a released program made, and
 N.expected tells what it shows: behind each line `$ WORDS`, with the words of a command without its database, what that prints, with a line
 `(no newline)` behind a text without an end. The file of the layout that tables::meta::VERSION names has to be there; whoever changes the
-layout raises the number and adds a file. Then the line of 'Upgrading' in docs/USING.md is run. The program is that of test_database.py."""
+layout raises the number and adds a file. Then the line of 'Upgrading' in docs/USING.md is run. The program is that of program.py."""
 import os
 import pathlib
 import re
 import shutil
 import sqlite3
 import subprocess
-import sys
 import tempfile
 import unittest
 
-sys.dont_write_bytecode = True
-import uploads
-from snippets import needs, snippet
-from test_database import DATA, NAMES, PROGRAM, ROOT, Lines
-from test_lines import ended
+from tests.program import DATA, NAMES, PROGRAM, ROOT, Lines
+from tests.snippets import needs, snippet
+from tests.test_lines import ended
+from uploads import uploads
 
-ARCHIVES = pathlib.Path(ROOT, "tools/archives")
+ARCHIVES = pathlib.Path(ROOT, "tests/archives")
 WORLD = uploads.Package("world")
 SHOWN = ("dists/box/Release", "dists/box/main/binary-amd64/Packages", "dists/box/main/source/Sources", "pool/main/h/hello/hello_1.0-1_amd64.deb")
 
@@ -59,7 +56,7 @@ class Layouts(unittest.TestCase):
 
     def test_the_present_layout_has_a_file(self):
         for name in (f"{layout()}.db", f"{layout()}.expected"):
-            self.assertTrue((ARCHIVES / name).is_file(), f"there is no tools/archives/{name}: a layout that is released has a file")
+            self.assertTrue((ARCHIVES / name).is_file(), f"there is no tests/archives/{name}: a layout that is released has a file")
 
     def test_each_file_has_what_it_shows(self):
         names = {it.name for it in ARCHIVES.iterdir()}

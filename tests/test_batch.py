@@ -1,22 +1,18 @@
-#!/usr/bin/env python3
 """Tests of lists of commands. What a list of a thousand lines prints, and what each index is behind it, is what the same commands give
 one by one, each over an opening of its own: some of them are refused, and some files can't be read. And where a list ends that finds no
 memory or no room: over files that may not grow, and over a file system that is nearly full, which root may mount; where that is not there
-the test says that it was skipped. The program is that of test_database.py."""
+the test says that it was skipped. The program is that of program.py."""
 import functools
 import os
 import random
 import resource
 import shutil
 import subprocess
-import sys
 import tempfile
 import unittest
 
-sys.dont_write_bytecode = True
-import uploads
-from test_database import PROGRAM
-from test_failing import mounted
+from tests.program import PROGRAM, mounted
+from uploads import uploads
 
 # The moment of all commands, in seconds since 1970-01-01 00:00:00 UTC.
 MOMENT = "1467436850"

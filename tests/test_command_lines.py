@@ -1,17 +1,14 @@
-#!/usr/bin/env python3
 """Tests of command lines that name no archive, have words that are no text, hand in the database itself, or ask for help. The program is
-that of test_database.py."""
+that of program.py."""
 import os
 import re
 import shutil
 import sqlite3
 import subprocess
-import sys
 import tempfile
 import unittest
 
-sys.dont_write_bytecode = True
-from test_database import DATA, NAMES, PROGRAM, ROOT, Lines
+from tests.program import DATA, NAMES, PROGRAM, ROOT, Lines
 
 # A configuration, which lies outside of the folders of the tests.
 CONF = tempfile.NamedTemporaryFile(suffix=".conf")

@@ -1,7 +1,6 @@
-#!/usr/bin/env python3
 """Tests of configurations that an archive gets: of the rows in the file, by SQLite itself; of an archive that was served, and is served
 again; and of a kill within `configure`, behind which the archive has the one configuration or the other, whole. The program is that of
-test_database.py. Where there is no strace, a kill comes at times alone, and where SQLite is too old for STRICT tables nothing is read by
+program.py. Where there is no strace, a kill comes at times alone, and where SQLite is too old for STRICT tables nothing is read by
 it; the tests say that they were skipped."""
 import contextlib
 import hashlib
@@ -10,16 +9,12 @@ import re
 import shutil
 import sqlite3
 import subprocess
-import sys
 import tempfile
 import time
 import unittest
 
-sys.dont_write_bytecode = True
-import uploads
-from clients import Serving, put_of
-from test_database import DATA, NAMES, PROGRAM, Lines
-from test_served import PACKAGES, get, put, replied
+from tests.program import DATA, NAMES, PACKAGES, PROGRAM, Lines, Serving, get, put, put_of, replied
+from uploads import uploads
 
 BOX = "Codename: box\nArchitectures: amd64 source\nComponents: main\n"
 WIDE = "Codename: box\nArchitectures: amd64 arm64 source\nComponents: main\n"

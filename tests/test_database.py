@@ -1,104 +1,22 @@
-#!/usr/bin/env python3
 """A test of the database files that the program makes, with SQLite itself: it reads them and finds them whole, and what it changes
 in one the program finds. And of a file that another process holds. The program is the one that `rt ci` or `make build` built, or
 the one that ARCHIVE names; where there is none the tests say that they were skipped, and so do those with SQLite where it is too
 old for STRICT tables."""
 import contextlib
-import os
-import socket
 import sqlite3
-import subprocess
-import tempfile
-import time
 import unittest
 
-ROOT = os.path.dirname(os.path.dirname(os.path.abspath(__file__)))
-PROGRAM = os.environ.get("ARCHIVE", f"{ROOT}/crates/archive/out/archive")
-DATA = f"{ROOT}/crates/archive/data"
-NAMES = ["hello_1.0-1_amd64.changes", "hello_1.0-1_amd64.deb", "hello_1.0-1_amd64.control"]
-
-
-class Server:
-    """An archive that is served on loopback, at a moment, to so many connections and the one that waits for it to listen."""
-
-    def __init__(self, db, moment, count):
-        with socket.socket() as it:
-            it.bind(("127.0.0.1", 0))
-            self.address = it.getsockname()
-        words = ["serve", "--db", db, "--at", moment, "127.0.0.1:%d" % self.address[1], str(count + 1)]
-        self.process = subprocess.Popen([PROGRAM, *words], stdout=subprocess.PIPE, stderr=subprocess.STDOUT, text=True)
-
-    def __enter__(self):
-        while True:
-            with contextlib.suppress(ConnectionRefusedError):
-                self.sent(b"").close()
-                return self
-            if self.process.poll() is not None:
-                raise RuntimeError(f"the server ended: {self.process.stdout.read()}")
-            time.sleep(0.01)
-
-    def __exit__(self, *_):
-        self.process.kill()
-        self.process.communicate()
-
-    def sent(self, request):
-        """A client that has sent a request and is done."""
-        it = socket.create_connection(self.address, timeout=60)
-        it.sendall(request)
-        it.shutdown(socket.SHUT_WR)
-        return it
-
-    def reply(self, request):
-        return received(self.sent(request))
-
-    def ended(self):
-        """Waits for the last connection to be served. Answers the exit status, and what was printed."""
-        printed = self.process.communicate(timeout=60)[0]
-        return self.process.returncode, printed
-
-
-def received(client):
-    """All that a client is sent."""
-    with client:
-        return b"".join(iter(lambda: client.recv(1 << 16), b""))
-
-
-@unittest.skipUnless(os.path.exists(PROGRAM), f"there is no program {PROGRAM}")
-class Lines(unittest.TestCase):
-    """Lines of the program over a database file."""
-
-    def line(self, status, word, db, *words):
-        """Runs a line of the program, and answers what it prints, on both outputs."""
-        ran = subprocess.run([PROGRAM, word, "--db", db, *words], capture_output=True, text=True, check=False, timeout=120)
-        self.assertEqual(ran.returncode, status, ran.stderr)
-        return ran.stdout + ran.stderr
-
-    def made(self):
-        """A new database with an archive."""
-        room = tempfile.TemporaryDirectory()
-        self.addCleanup(room.cleanup)
-        db, conf = f"{room.name}/box.db", f"{room.name}/box.conf"
-        with open(conf, "w", encoding="ascii") as it:
-            it.write("Codename: box\nArchitectures: amd64 source\nComponents: main\n")
-        self.line(0, "init", db, "--at", "0", conf)
-        return db
-
-    def accepted(self):
-        """A new database in which an upload is accepted."""
-        db = self.made()
-        self.line(0, "put", db, "--at", "0", *(f"{DATA}/{name}" for name in NAMES))
-        self.line(0, "run", db, "--at", "0")
-        return db
+from tests.program import DATA, NAMES, Lines, Serving
 
 
 class Held(Lines):
     def test_a_second_holder_is_refused(self):
         db = self.accepted()
-        with Server(db, "0", 2) as server:
-            server.reply(b"")
+        with Serving(db, 2) as serving:
+            serving.answer(b"")
             self.assertEqual(self.line(3, "run", db, "--at", "0"), "archive: K2\n")
-            server.reply(b"")
-            self.assertEqual(server.ended(), (0, ""))
+            serving.answer(b"")
+            self.assertEqual(serving.ended(), (0, "", ""))
         self.assertEqual(self.line(0, "verdicts", db), f"accepted {NAMES[0]}\n")
 
 

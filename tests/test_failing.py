@@ -1,22 +1,16 @@
-#!/usr/bin/env python3
 """Tests of `serve` over a file that may not grow, over a disk that is full, and over one whose calls fail one by one. The second needs a
 file system of its own, which root may mount, the last strace; where that is not there they say that they were skipped. The program is
-that of test_database.py."""
+that of program.py."""
 import contextlib
 import os
 import re
 import resource
 import shutil
 import sqlite3
-import subprocess
-import sys
 import tempfile
 import unittest
 
-sys.dont_write_bytecode = True
-from clients import Serving, put_of, status_of
-from test_database import NAMES, Lines
-from test_served import get, put, replied
+from tests.program import NAMES, Lines, Serving, get, put, put_of, replied, status_of
 
 NEW = replied("201 Created", b"new\n")
 AGAIN = replied("200 OK", b"again\n")
@@ -38,19 +32,6 @@ SESSION = (
 
 # How many connections there are behind a session, at least.
 MORE = 3
-
-
-@contextlib.contextmanager
-def mounted(size):
-    """A folder on a file system of so many bytes, or None where it can't be had."""
-    folder = tempfile.mkdtemp()
-    done = subprocess.run(["mount", "-t", "tmpfs", "-o", f"size={size}", "none", folder], capture_output=True, check=False)
-    try:
-        yield folder if done.returncode == 0 else None
-    finally:
-        if done.returncode == 0:
-            subprocess.run(["umount", "-l", folder], check=False)
-        shutil.rmtree(folder, ignore_errors=True)
 
 
 def name_of(kind, number):

@@ -1,16 +1,11 @@
-#!/usr/bin/env python3
-"""Tests of commands on a database file that another process has. The program is that of test_database.py."""
+"""Tests of commands on a database file that another process has. The program is that of program.py."""
 import contextlib
 import os
 import subprocess
-import sys
 import time
 import unittest
 
-sys.dont_write_bytecode = True
-from clients import Serving, rest, seconds_since
-from test_database import DATA, NAMES, PROGRAM, Lines
-from test_served import get
+from tests.program import DATA, NAMES, PROGRAM, Lines, Serving, get, rest, seconds_since
 
 # The words of each command behind `--db FILE`, and what it answers where nobody has the file: status, and both outputs.
 COMMANDS = {

@@ -1,10 +1,9 @@
-#!/usr/bin/env python3
-"""A test of `serve` among hostile clients: test_hostile.py [COUNT]
+"""A test of `serve` among hostile clients: python3 -m tests.test_hostile [COUNT]
 
 COUNT connections (1,000 where it is not given) are cut, reset, silent, pipelined, too long or rubbish, always the same ones. Between
 them a client delivers uploads, runs the queue and looks at what is shown: each of its answers has to be right, byte for byte; each
 connection has its line in the log; and the memory of the server grows by at most 1 MiB behind the first hundred. The program is that of
-test_database.py."""
+program.py."""
 import hashlib
 import random
 import re
@@ -14,10 +13,7 @@ import sys
 import time
 import unittest
 
-sys.dont_write_bytecode = True
-from clients import Serving, put_of, reset, rest, seconds_since, status_of
-from test_database import Lines
-from test_served import get, replied
+from tests.program import Lines, Serving, get, put_of, replied, reset, rest, seconds_since, status_of
 
 COUNT = 1000
 NAME, BODY = "noise_1.0-1_amd64.deb", b"noise" * 20_000

@@ -1,16 +1,13 @@
-#!/usr/bin/env python3
 """Tests of databases that no archive is opened of, and that say of which layout they are: for an older or a later one a second line tells
-it. The program is that of test_database.py."""
+it. The program is that of program.py."""
 import os
 import pathlib
 import sqlite3
-import sys
 import unittest
 
-sys.dont_write_bytecode = True
-from test_archives import layout
-from test_command_lines import COMMANDS, Words
-from test_database import NAMES, Lines
+from tests.program import NAMES, Lines
+from tests.test_archives import layout
+from tests.test_command_lines import COMMANDS, Words
 
 CONFIGURATION = b"Codename: box\nArchitectures: amd64 source\nComponents: main\n"
 META = "CREATE TABLE meta (version INTEGER NOT NULL, configuration BLOB NOT NULL)"

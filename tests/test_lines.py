@@ -1,5 +1,4 @@
-#!/usr/bin/env python3
-"""Rows on the program's command lines, over database files. Each file of rows in tools/lines is a test. Its rows are asked in their
+"""Rows on the program's command lines, over database files. Each file of rows in tests/lines is a test. Its rows are asked in their
 order, and the lines are run in a folder that is new with each file: what one leaves in files, those behind it find.
 
     line WORD..            what a line prints, its errors behind a line `errors:`, and its exit status; `(no newline)` behind a text without an end
@@ -12,7 +11,7 @@ order, and the lines are run in a folder that is new with each file: what one le
     copy-file FROM TO      `copied`
     exists NAME            `yes` or `no`
 
-What is asked of files may also be answered `not there` or `failed`. The program is that of test_database.py, and the same as Rattle's own
+What is asked of files may also be answered `not there` or `failed`. The program is that of program.py, and the same as Rattle's own
 compiler builds it, where that lies beside it."""
 import inspect
 import os
@@ -20,15 +19,13 @@ import pathlib
 import resource
 import shutil
 import subprocess
-import sys
 import tempfile
 import unittest
 
-sys.dont_write_bytecode = True
-from rows import Row, Unread, questions_of, read_rows
-from test_database import PROGRAM, ROOT
+from tests.program import PROGRAM, ROOT
+from tests.rows import Row, Unread, questions_of, read_rows
 
-FILES = sorted(pathlib.Path(ROOT, "tools/lines").glob("*.rows"))
+FILES = sorted(pathlib.Path(ROOT, "tests/lines").glob("*.rows"))
 PROGRAMS = [os.path.abspath(it) for it in (PROGRAM, f"{PROGRAM}.by-rattle") if os.path.exists(it)]
 
 # How many bytes a file may have, for a program of which an output is cut.

@@ -1,18 +1,13 @@
-#!/usr/bin/env python3
 """Tests of indices of several hundred thousand bytes, whose prints go on from those before them: over one `serve`, each Release tells
 the sizes and digests of the indices beside it, as hashlib makes them, wherever in an index an item comes, changes or goes. The
-program is that of test_database.py."""
+program is that of program.py."""
 import hashlib
 import re
-import sys
 import tempfile
 import unittest
 
-sys.dont_write_bytecode = True
-import uploads
-from clients import Serving, put_of, status_of
-from test_database import Lines
-from test_served import get
+from tests.program import Lines, Serving, get, put_of, status_of
+from uploads import uploads
 
 INDICES = ("main/binary-amd64/Packages", "main/source/Sources")
 DIGESTS = {"MD5Sum": "md5", "SHA1": "sha1", "SHA256": "sha256"}

@@ -1,14 +1,9 @@
-#!/usr/bin/env python3
-"""Tests of the moments of `serve --moments`, and of the lines of `serve --log`. The program is that of test_database.py."""
+"""Tests of the moments of `serve --moments`, and of the lines of `serve --log`. The program is that of program.py."""
 import os
 import re
-import sys
 import unittest
 
-sys.dont_write_bytecode = True
-from clients import Serving, reset, rest, wait_until_read
-from test_database import NAMES, Lines
-from test_served import PACKAGES, get, put, release, replied
+from tests.program import NAMES, PACKAGES, Lines, Serving, get, put, release, replied, reset, rest, wait_until_read
 
 NOTHING = replied("200 OK", b"")
 BAD = replied("400 Bad Request", b"400 Bad Request\n")

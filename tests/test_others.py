@@ -1,20 +1,16 @@
-#!/usr/bin/env python3
 """Tests of archives in files that hold more: tables, indexes and views of somebody else, and what ANALYZE adds. Each command is given to
 such a file and to a copy that holds the archive alone, and prints the same, also behind a VACUUM; what else there is stays as it was. And
-of what is refused, since it stands on the archive's own tables. SQLite itself makes all of it. The program is that of test_database.py."""
+of what is refused, since it stands on the archive's own tables. SQLite itself makes all of it. The program is that of program.py."""
 import glob
 import os
 import shutil
 import sqlite3
 import subprocess
-import sys
 import unittest
 
-sys.dont_write_bytecode = True
-import uploads
-from snippets import needs
-from test_database import DATA, NAMES, PROGRAM, Lines, Server
-from test_served import get
+from tests.program import DATA, NAMES, PROGRAM, Lines, Serving, get
+from tests.snippets import needs
+from uploads import uploads
 
 COUNT = 100
 CONFIGURATION = """Codename: box
@@ -141,8 +137,8 @@ class Others(Lines):
 
     def served(self, db, at):
         """What a server answers to two requests, and how it ends."""
-        with Server(db, at, 2) as server:
-            return [server.reply(get(path)) for path in ("dists/box/Release", "verdicts")], server.ended()
+        with Serving(db, 2, at=at) as serving:
+            return [serving.answer(get(path)) for path in ("dists/box/Release", "verdicts")], serving.ended()
 
     def list_of(self, number, at):
         """A list of commands with an upload of its own, by its path."""

@@ -1,23 +1,16 @@
-#!/usr/bin/env python3
-"""Tests of check_pages: the pages as they are, and copies of which one thing is wrong."""
-import importlib.machinery
-import importlib.util
+"""Tests of checks/pages: the pages as they are, and copies of which one thing is wrong."""
 import pathlib
 import re
 import shutil
 import subprocess
-import sys
 import tempfile
 import unittest
 
-HERE = pathlib.Path(__file__).resolve().parent
-ROOT = HERE.parent
+from tests.tools import ROOT, tool
+
 FAULTS = "docs/FAULTS.md"
 
-sys.dont_write_bytecode = True
-loader = importlib.machinery.SourceFileLoader("check_pages", str(HERE / "check_pages"))
-pages = importlib.util.module_from_spec(importlib.util.spec_from_loader("check_pages", loader))
-loader.exec_module(pages)
+pages = tool("checks/pages")
 
 
 def without(text, line):
@@ -90,7 +83,8 @@ class Pages(unittest.TestCase):
     def test_what_is_not_there_is_refused(self):
         for named in (
             "`crates/keep/src/nothing.rt`",
-            "tools/nothing",
+            "tests/nothing",
+            "`python3 -m tests.nothing`",
             "docs/NOTHING.md",
             "`specs/Nothing`",
             "`no_such_" "function`",
@@ -100,7 +94,7 @@ class Pages(unittest.TestCase):
             self.assertEqual(len(self.other(pages.check_names, "docs/OPEN.md", f"It is {named}, says a page.")), 1, named)
 
     def test_what_is_there_is_taken(self):
-        for named in ("`crates/keep/src/lib.rt`", "tools/check_pages", "`specs/Book`", "`Keeper`", "`Archive::drive`", "crates/NAME/src", "[it](DECISIONS.md)"):
+        for named in ("`crates/keep/src/lib.rt`", "checks/pages", "`python3 -m tests.run`", "`specs/Book`", "`Keeper`", "`Archive::drive`", "crates/NAME/src", "[it](DECISIONS.md)"):
             self.assertEqual(self.other(pages.check_names, "docs/OPEN.md", f"It is {named}, says a page."), set(), named)
 
     def test_a_crate_without_a_room_is_refused(self):
@@ -116,9 +110,9 @@ class Pages(unittest.TestCase):
         self.assertEqual(self.other(pages.check_layouts, path, without(page, row)), {f"{path}: Upgrading does not say what opens layout 3"})
         self.assertEqual(len(self.other(pages.check_layouts, path, page.replace(row, "| 3 | |"))), 1)
         more = self.other(pages.check_layouts, path, page.replace(row, f"{row}\n{row.replace('3', '12345', 1)}"))
-        self.assertEqual(more, {f"{path}: Upgrading has a row for layout 12345, and there is no tools/archives/12345.db"})
+        self.assertEqual(more, {f"{path}: Upgrading has a row for layout 12345, and there is no tests/archives/12345.db"})
         kept = self.repository.files
-        self.repository.files = [*kept, "tools/archives/12345.db"]
+        self.repository.files = [*kept, "tests/archives/12345.db"]
         found = list(pages.check_layouts(self.repository))
         self.repository.files = kept
         self.assertEqual(found, [f"{path}: Upgrading does not say what opens layout 12345"])
@@ -162,14 +156,14 @@ class Pages(unittest.TestCase):
     def test_the_command_tells_it(self):
         row = self.row(FAULTS, "| `K2`")
         with tempfile.TemporaryDirectory() as room:
-            for name in ("crates", "tools", "docs", ".ci"):
+            for name in (*pages.FOLDERS, "docs"):
                 shutil.copytree(ROOT / name, f"{room}/{name}", ignore=shutil.ignore_patterns("out", "__pycache__"))
             for name in self.repository.tops:
                 shutil.copy(ROOT / name, room)
-            well = subprocess.run([f"{room}/tools/check_pages"], capture_output=True, text=True, check=False)
+            well = subprocess.run([f"{room}/checks/pages"], capture_output=True, text=True, check=False)
             pathlib.Path(room, FAULTS).write_text("<!-- -->\n" + without(self.faults, row), encoding="utf-8")
             pathlib.Path(room, "NOTES").write_text("A stray file.\n", encoding="utf-8")
-            ill = subprocess.run([f"{room}/tools/check_pages"], capture_output=True, text=True, check=False)
+            ill = subprocess.run([f"{room}/checks/pages"], capture_output=True, text=True, check=False)
         self.assertEqual((well.returncode, well.stdout), (0, ""))
         self.assertEqual(ill.returncode, 1)
         wanted = [f"{FAULTS}: K2 is missing", "NOTES: no page says what it is", f"{FAULTS}:1: a comment that a reader does not see"]

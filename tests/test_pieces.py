@@ -1,20 +1,15 @@
-#!/usr/bin/env python3
 """Tests of bodies that are stored while they come: clients that are cut off within one and come again, a program that is killed
 within one, the memory that one takes, and files that hold less than their length says, can't be read, or have no length. The program
-is that of test_database.py."""
+is that of program.py."""
 import os
 import shutil
 import signal
 import sqlite3
 import subprocess
-import sys
 import threading
 import unittest
 
-sys.dont_write_bytecode = True
-from clients import Serving, put_of, reset, status_of, wait_until_read
-from test_database import PROGRAM, Lines
-from test_served import replied
+from tests.program import PROGRAM, Lines, Serving, put_of, replied, reset, status_of, wait_until_read
 
 NEW = replied("201 Created", b"new\n")
 AGAIN = replied("200 OK", b"again\n")

@@ -1,7 +1,6 @@
-#!/usr/bin/env python3
 """Tests of how `serve` begins, waits for its clients, and ends: clients that are silent or stay, a program that is killed, one that
 begins while another has the file. And of what it does not wait for: a log that nobody reads, moments in a pipe; and of who may read the
-log of a database. The program is that of test_database.py. Waits of more than some seconds are in test_waits.py. Some tests need strace;
+log of a database. The program is that of program.py. Waits of more than some seconds are in test_waits.py. Some tests need strace;
 where that is not there they say that they were skipped."""
 import contextlib
 import fcntl
@@ -12,15 +11,11 @@ import shutil
 import signal
 import socket
 import stat
-import sys
 import tempfile
 import time
 import unittest
 
-sys.dont_write_bytecode = True
-from clients import Serving, free_address, put_of, reset, rest, seconds_since, status_of, wait_until_read
-from test_database import DATA, NAMES, Lines
-from test_served import get, put, replied
+from tests.program import DATA, NAMES, Lines, Serving, free_address, get, put, put_of, replied, reset, rest, seconds_since, status_of, wait_until_read
 
 NOTHING = replied("200 OK", b"")
 NEW = replied("201 Created", b"new\n")

@@ -1,6 +1,5 @@
-#!/usr/bin/env python3
-"""A part of the million commands of tools/soak, with its kills, and what it says of an archive that does something else. The program is
-that of test_database.py."""
+"""A part of the million commands of soak.py, with its kills, and what it says of an archive that does something else. The program is
+that of program.py."""
 import os
 import re
 import subprocess
@@ -8,8 +7,7 @@ import sys
 import tempfile
 import unittest
 
-sys.dont_write_bytecode = True
-from test_database import PROGRAM, ROOT
+from tests.program import PROGRAM, ROOT
 
 # How many commands are given, and how many where something else is done, which has to be found.
 COMMANDS, FEW = 3000, 1000
@@ -47,8 +45,8 @@ class Soak(unittest.TestCase):
 
     def soak(self, *words, program=PROGRAM, folder="soak"):
         """Runs it in a folder. Answers the status, and what it printed."""
-        line = [sys.executable, f"{ROOT}/tools/soak", program, "--folder", f"{self.folder}/{folder}", *words]
-        ran = subprocess.run(line, capture_output=True, text=True, check=False, timeout=600)
+        line = [sys.executable, "-m", "tests.soak", os.path.abspath(program), "--folder", f"{self.folder}/{folder}", *words]
+        ran = subprocess.run(line, cwd=ROOT, capture_output=True, text=True, check=False, timeout=600)
         self.assertEqual(ran.stderr, "")
         return ran.returncode, ran.stdout
 

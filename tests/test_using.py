@@ -1,4 +1,3 @@
-#!/usr/bin/env python3
 """Tests of docs/USING.md that need no built program: each text that is set in there is one that a test asks for, its units of systemd
 and its text for nginx are right as they stand there. Where systemd-analyze, nginx or openssl is not there, the test says that it was
 skipped. What it shows is run by test_using_program.py and test_using_proxy.py."""
@@ -7,12 +6,10 @@ import pathlib
 import re
 import shutil
 import subprocess
-import sys
 import unittest
 
-sys.dont_write_bytecode = True
-import snippets
-from snippets import snippet
+from tests import snippets
+from tests.snippets import snippet
 
 HERE = pathlib.Path(__file__).resolve().parent
 

@@ -1,6 +1,5 @@
-#!/usr/bin/env python3
 """Tests of docs/USING.md with the built program: what is set in there is run by a shell as it stands, with addresses of the test's own,
-and what the page says of copies, of the file and of answers is tried. The program is that of test_database.py. Where curl, dput, apt-get,
+and what the page says of copies, of the file and of answers is tried. The program is that of program.py. Where curl, dput, apt-get,
 sqlite3 or dpkg-deb is not there, the test says that it was skipped."""
 import contextlib
 import glob
@@ -10,19 +9,15 @@ import re
 import shutil
 import socket
 import subprocess
-import sys
 import threading
 import time
 import unittest
 
-sys.dont_write_bytecode = True
-import snippets
-import uploads
-from clients import put_of
-from snippets import ROOT, built, commands_of, free_port, needs, snippet
-from test_configurations import arm64_upload
-from test_database import PROGRAM
-from test_failing import mounted
+from tests import snippets
+from tests.program import PROGRAM, mounted, put_of
+from tests.snippets import ROOT, built, commands_of, free_port, needs, snippet
+from tests.test_configurations import arm64_upload
+from uploads import uploads
 
 HELLO = uploads.Package("hello", source=True)
 CHANGES = "hello_1.0-1_amd64.changes"

@@ -1,7 +1,6 @@
-#!/usr/bin/env python3
 """Tests of docs/USING.md with the built program behind nginx: the text for it as it stands in the page, with addresses and folders of the
 test's own; logins, dput over https, the signature beside the archive with apt, and the caches and mirrors of more than one machine. The
-program is that of test_database.py. Where a tool is not there, the test says that it was skipped."""
+program is that of program.py. Where a tool is not there, the test says that it was skipped."""
 import os
 import pathlib
 import subprocess
@@ -9,11 +8,10 @@ import sys
 import time
 import unittest
 
-sys.dont_write_bytecode = True
-import snippets
-import uploads
-from snippets import built, free_port, needs, snippet
-from test_database import PROGRAM
+from tests import snippets
+from tests.program import PROGRAM
+from tests.snippets import built, free_port, needs, snippet
+from uploads import uploads
 
 HELLO = uploads.Package("hello", source=True)
 DEB = "pool/main/h/hello/hello_1.0-1_amd64.deb"

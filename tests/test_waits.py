@@ -1,6 +1,5 @@
-#!/usr/bin/env python3
 """Tests of how long `serve` waits for a slow client, which take minutes. They run beside each other. The program is that of
-test_database.py."""
+program.py."""
 import contextlib
 import socket
 import sys
@@ -8,11 +7,8 @@ import threading
 import time
 import unittest
 
-sys.dont_write_bytecode = True
-import uploads
-from clients import Serving, rest, seconds_since
-from test_database import Lines
-from test_served import get, put, replied
+from tests.program import Lines, Serving, get, put, replied, rest, seconds_since
+from uploads import uploads
 
 NOTHING = replied("200 OK", b"")
 

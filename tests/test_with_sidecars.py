@@ -1,6 +1,6 @@
 """Tests of with_sidecars, on uploads that they make with dpkg-deb and dpkg-buildpackage.
 
-Where the archive's program is built, at crates/archive/out/archive or where ARCHIVE says, it takes the uploads.
+Where there is the program of program.py, it takes the uploads.
 """
 import hashlib
 import os
@@ -11,8 +11,9 @@ import sys
 import tempfile
 import unittest
 
-HERE = pathlib.Path(__file__).resolve().parent
-ARCHIVE = pathlib.Path(os.environ.get("ARCHIVE", HERE.parent / "crates/archive/out/archive"))
+from tests.program import PROGRAM, ROOT
+
+TOOL = f"{ROOT}/bin/with_sidecars"
 
 CONTROL = """Package: {package}
 Version: {version}
@@ -106,7 +107,7 @@ def run(*words, cwd=None):
 
 
 def with_sidecars(changes, folder):
-    return run(sys.executable, HERE / "with_sidecars", changes, folder)
+    return run(sys.executable, TOOL, changes, folder)
 
 
 @unittest.skipUnless(shutil.which("dpkg-deb"), "dpkg-deb is missing")
@@ -152,9 +153,9 @@ class Uploads(unittest.TestCase):
 
     def check_accepted(self, paths, packages):
         """Checks what the archive shows of an upload, where its program is built."""
-        if not ARCHIVE.exists():
-            self.skipTest(f"{ARCHIVE} is not built")
-        tried = run(ARCHIVE, "try", *paths)
+        if not os.path.exists(PROGRAM):
+            self.skipTest(f"there is no program {PROGRAM}")
+        tried = run(PROGRAM, "try", *paths)
         self.assertEqual((tried.stderr, tried.returncode), ("", 0))
         self.assertEqual([line for line in tried.stdout.splitlines() if line.startswith("Package:")], packages)
 
@@ -208,11 +209,11 @@ class Uploads(unittest.TestCase):
         changes.write_text(good)
         self.assertEqual(with_sidecars(changes, self.built).returncode, 1)
         self.assertEqual(with_sidecars(self.built / "none.changes", self.ready).returncode, 1)
-        self.assertEqual(run(sys.executable, HERE / "with_sidecars").returncode, 2)
+        self.assertEqual(run(sys.executable, TOOL).returncode, 2)
         self.assertFalse(self.ready.exists())
 
     def test_help(self):
-        done = run(sys.executable, HERE / "with_sidecars", "--help")
+        done = run(sys.executable, TOOL, "--help")
         self.assertEqual((done.stderr, done.returncode), ("", 0))
         self.assertIn("with_sidecars FILE.changes FOLDER\n", done.stdout)
 

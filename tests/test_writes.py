@@ -1,12 +1,9 @@
-#!/usr/bin/env python3
 """Tests of `serve` over a file whose writes fail one by one, or whose disk is full at one of them. They take minutes, and need strace.
-The program is that of test_database.py."""
+The program is that of program.py."""
 import shutil
-import sys
 import unittest
 
-sys.dont_write_bytecode = True
-import test_failing
+from tests import test_failing
 
 
 @unittest.skipUnless(shutil.which("strace"), "there is no strace")

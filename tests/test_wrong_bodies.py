@@ -1,14 +1,11 @@
 """Tests of what try_wrong_bodies reads, on a small repository."""
-import importlib.machinery
-import importlib.util
 import pathlib
 import tempfile
 import unittest
 
-TOOL = str(pathlib.Path(__file__).resolve().parent / "try_wrong_bodies")
-LOADER = importlib.machinery.SourceFileLoader("try_wrong_bodies", TOOL)
-tool = importlib.util.module_from_spec(importlib.util.spec_from_loader("try_wrong_bodies", LOADER))
-LOADER.exec_module(tool)
+from tests import tools
+
+tool = tools.tool("checks/try_wrong_bodies")
 
 SOURCE = "fn one() -> u8 {\n    1\n}\n\nfn two() -> u8 {\n    one() + 1\n}\n"
 
@@ -19,7 +16,7 @@ class WrongBodies(unittest.TestCase):
         self.addCleanup(room.cleanup)
         self.root = pathlib.Path(room.name)
         self.write("crates/low/src/lib.rt", SOURCE)
-        self.write("tools/wrong_bodies/low/is_three.edit", "file: src/lib.rt\nold: one() + 1\nnew: one() + 2\n")
+        self.write("checks/wrong_bodies/low/is_three.edit", "file: src/lib.rt\nold: one() + 1\nnew: one() + 2\n")
 
     def write(self, path, text):
         (self.root / path).parent.mkdir(parents=True, exist_ok=True)
@@ -29,10 +26,10 @@ class WrongBodies(unittest.TestCase):
         return tool.changed(text, str(self.root / "crates/low"))
 
     def edit(self, name):
-        return tool.Edit("low", f"{name}.edit", str(self.root / "tools/wrong_bodies/low"), False)
+        return tool.Edit("low", f"{name}.edit", str(self.root / "checks/wrong_bodies/low"), False)
 
     def written(self, name, old, new):
-        self.write(f"tools/wrong_bodies/low/{name}.edit", f"file: src/lib.rt\nold: {old}\nnew: {new}\n")
+        self.write(f"checks/wrong_bodies/low/{name}.edit", f"file: src/lib.rt\nold: {old}\nnew: {new}\n")
         return self.edit(name)
 
     def groups(self, *edits):
@@ -167,7 +164,7 @@ class WrongBodies(unittest.TestCase):
 
     def test_what_the_compiler_has_to_refuse(self):
         text = "error: mismatched-types\nfile: src/lib.rt\nold: one() + 1\nnew: b\"2\"\n"
-        self.write("tools/wrong_bodies/low/is_text.edit", text)
+        self.write("checks/wrong_bodies/low/is_text.edit", text)
         is_text, is_two = self.edit("is_text"), self.written("is_two", "    1", "    2")
         self.assertEqual((tool.error_of(is_text), tool.error_of(is_two)), ("mismatched-types", None))
         self.assertEqual(tool.faults_in(str(self.root)), [])

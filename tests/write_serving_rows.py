@@ -1,7 +1,6 @@
-#!/usr/bin/env python3
 """Writes the rows of archives that serve for long, into crates/tales/data or the folder that is named.
 
-    write_serving_rows [FOLDER]
+    python3 -m tests.write_serving_rows [FOLDER]
 
 keeper_serves.rows has 200 uploads of different packages, with a cleaning and an opening anew after every tenth, removals of the first, and a
 promotion of all others; desk_serves.rows has 100 requests of each route.
@@ -221,7 +220,7 @@ def keeper_rows():
     rows.say(
         "# keeper_serves, two_hundred_uploads: 200 uploads of different packages, of which some are run one by one, and some ten at\n"
         "# a time; the archive is cleaned and opened anew after every tenth, while others wait; with look-ups, copies, lists of what waits\n"
-        "# and of verdicts between. Their names come in another order than that of the index. Made by tools/write_serving_rows.\n\n"
+        "# and of verdicts between. Their names come in another order than that of the index. Made by tests/write_serving_rows.py.\n\n"
     )
     rows.say(templates())
     rows.say("archive $pair = made\n")
@@ -319,7 +318,7 @@ def desk_round(number, shown):
 def desk_rows():
     text = (
         "# desk_serves: at least 100 requests of each route, by 1, 7 or 1000 bytes a read; none is answered 507, H1 or H2. Made by\n"
-        "# tools/write_serving_rows.\n\n"
+        "# tests/write_serving_rows.py.\n\n"
     )
     text += templates()
     for name, kind in [("ok", "text/plain; charset=utf-8"), ("file", "application/octet-stream")]:
@@ -341,4 +340,5 @@ def main(words):
             out.write(text)
 
 
-main(sys.argv[1:])
+if __name__ == "__main__":
+    main(sys.argv[1:])
