@@ -26,6 +26,7 @@ import sqlite3
 import subprocess
 import sys
 import time
+from typing import Optional
 
 from tests import soak_commands, soak_files, soak_known
 from tests.program import PROGRAM
@@ -43,7 +44,7 @@ class State:
 
     place: int = 0
     moment: int = soak_commands.BEGINNING
-    known: Known | None = None
+    known: Optional[Known] = None
     seconds: float = 0
     commands: collections.Counter = dataclasses.field(default_factory=collections.Counter)
     answers: collections.Counter = dataclasses.field(default_factory=collections.Counter)

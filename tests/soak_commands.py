@@ -4,6 +4,7 @@ They come in stretches, each given in one way: requests to `serve`, a list to `b
 drawn with them. When it falls, and so how much was done by then, is up to the machine."""
 import dataclasses
 import random
+from typing import Optional
 
 from tests import soak_files, test_hostile
 from tests.soak_files import File
@@ -57,9 +58,9 @@ class Command:
 
     word: str
     words: tuple = ()
-    file: File | None = None
+    file: Optional[File] = None
     moment: int = 0
-    kill: Kill | None = None
+    kill: Optional[Kill] = None
 
     def __str__(self):
         return " ".join([self.word, *map(str, self.words), *([self.file.name] if self.file else []), f"at {self.moment}"])
