@@ -1,2 +1,3 @@
-pub mod Shown
+pub mod Failing
 pub mod Layouts
+pub mod Shown
