@@ -1,7 +1,7 @@
 -- Rows that are written one after another: under their own numbers, or under the next ones.
-use Rattle.std.specs.Prelude.{◌≡◌, ℕ, true, List, [], ◌∷◌, fold, IsTrue}
-use Rattle.std.specs.Ordering.{match_ordering, nat_cmp}
+use Rattle.std.specs.Prelude.{◌≡◌, ℕ, pos, true, List, fold, IsTrue}
 use Rattle.sqlite.specs.State.{State, KeepsCommit}
+use Rattle.sqlite_keyed.specs.Keyed.{insert_by}
 use Rattle.tables.specs.Rows.{Tables, Numbered, Holds, with_piece, with_arrival, with_want, with_ref, with_file}
 use Rattle.tables.specs.declared.rows.Body.{Body}
 use Rattle.tables.specs.declared.rows.Piece.{Piece}
@@ -13,10 +13,9 @@ use Rattle.tables.specs.declared.rows.Ref.{Ref}
 use Rattle.tables.specs.declared.rows.File.{File}
 use Rattle.copying.specs.Copying.{arrived_at}
 
--- the rows with this one at its place among rising numbers, and in place of the one of its number
+-- the rows with this one at its place among rising numbers, and in place of one of its number
 abbrev pub put_at : {X : Type 0} → ℕ × X → Numbered X → Numbered X
-put_at x [] = x ∷ []
-put_at x (y ∷ rows) = match_ordering (nat_cmp y.0 x.0) (y ∷ put_at x rows) (x ∷ rows) (x ∷ y ∷ rows)
+put_at x rows = insert_by (λ y. pos y.0) rows x
 
 -- ---- a row more, with its number
 
