@@ -4,6 +4,7 @@ ghost use Rattle.std.specs.Prelude.{◌≡◌};
 ghost use Rattle.old_rows.specs.Layouts.{AreSelects, first_layout, second_layout};
 
 /// The texts that ask a database of a layout for rows of today's tables, one text for each table.
+#[derive(Clone, Copy)]
 pub struct Asked {
     pub meta: &'static str,
     pub bodies: &'static str,
