@@ -181,6 +181,17 @@ class Upgrading(Lines):
         self.assertEqual((ran.returncode, ran.stdout, ran.stderr), (0, "", ""))
 
     @needs("sqlite3")
+    def test_the_lines_migrate_an_older_layout(self):
+        with tempfile.TemporaryDirectory() as folder:
+            older.archive().make(1, f"{folder}/old.db")
+            os.symlink(os.path.abspath(PROGRAM), f"{folder}/archive")
+            text = f"PATH={folder}:$PATH\n" + snippet("migrate")
+            ran = subprocess.run(["sh", "-ec", text], cwd=folder, capture_output=True, text=True, check=False, timeout=60)
+            self.assertEqual((ran.returncode, ran.stdout, ran.stderr), (0, f"accepted {NAMES[0]}\n", ""))
+            for path, text in older.archive().suites[0].texts().items():
+                self.assertEqual(self.line(0, "show", f"{folder}/box.db", path), text.decode())
+
+    @needs("sqlite3")
     def test_the_line_brings_it_over(self):
         db = self.accepted()
         folder = os.path.dirname(db)

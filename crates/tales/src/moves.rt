@@ -20,6 +20,7 @@ pub struct Moves<S: InMemory + Drop> {
 }
 
 /// Under what an archive of an older layout is migrated.
+#[derive(Clone, Copy)]
 struct Move<'a> {
     old: &'a OldBook,
     config: &'a [u8],
@@ -56,7 +57,7 @@ fn read<S: InMemory + Drop, R: Print + AllocGlobal>(
 fn migrated_again<S: InMemory + Drop>(
     alloc: Global,
     made: Result<TableKeeper<S>, (Connection<S>, KeepFault)>,
-    step: &Move<'_>,
+    step: Move<'_>,
     config: Config,
 ) -> Result<TableKeeper<S>, (Connection<S>, KeepFault)> {
     match made {
@@ -70,7 +71,7 @@ fn migrated_again<S: InMemory + Drop>(
 /// Makes an archive of an older one, at once or where it is made again.
 fn migrated<S: InMemory + Drop, R: Print + AllocGlobal>(
     marks: Marks<'_, R>,
-    step: &Move<'_>,
+    step: Move<'_>,
 ) -> Result<Result<TableKeeper<S>, KeepFault>, Unread> {
     let alloc = marks.rt.alloc();
     let config = config_of(alloc, step.config)?;
@@ -119,7 +120,7 @@ impl<S: InMemory + Drop> Moves<S> {
             config,
             moment,
         };
-        match migrated::<S, R>(marks, &step)? {
+        match migrated::<S, R>(marks, step)? {
             Ok(keeper) => {
                 self.story.put(Archive::new(alloc, keeper));
                 said(alloc, "made")
