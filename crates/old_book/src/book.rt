@@ -17,7 +17,7 @@ use crate::taken::are_taken;
 use audit::{Held, archive_in};
 use keep::{Judgement, KeepFault};
 use keep_rows::fault_of;
-use old_rows::{Asked, FIRST, SECOND, old_rows};
+use old_rows::{Asked, first, old_rows, second};
 use rules::Config;
 use sqlite::{Alter, Connection, Error};
 use std::alloc::{AllocError, Global};
@@ -95,10 +95,10 @@ fn book_in<S: Alter>(alloc: Global, from: &mut Connection<S>) -> Result<Option<O
     ensures unchanged { HasCleanDisk (state S.Store from.new) → OnOk result (IsUnchanged (state S.Store from.old) (state S.Store from.new)) }
     ensures survives { Survives (state S.Store from.old) (state S.Store from.new) (λ _. ⊥) }
 {
-    if let Some(old) = book_as(alloc, from, &FIRST)? {
+    if let Some(old) = book_as(alloc, from, &first())? {
         return Ok(Some(old));
     }
-    book_as(alloc, from, &SECOND)
+    book_as(alloc, from, &second())
 }
 
 impl OldBook {
