@@ -429,7 +429,10 @@ class Files(Migrations):
         os.chmod(self.old, 0o444)
         os.mkdir(f"{self.folder}/own")
         os.chown(f"{self.folder}/own", nobody, nobody)
-        words = [PROGRAM, "migrate", "--from", self.old, "--db", f"{self.folder}/own/a.db", "--at", "0", self.conf(BOX)]
+        # The program may lie where this user can't reach it.
+        program = shutil.copy(PROGRAM, f"{self.folder}/archive")
+        words = [program, "migrate", "--from", self.old, "--db", f"{self.folder}/own/a.db", "--at", "0", self.conf(BOX)]
+        os.chmod(program, 0o555)
         os.chmod(words[-1], 0o444)
         for mode, answer in ((0o400, K2), (0o444, DONE)):
             os.chmod(self.old, mode)
