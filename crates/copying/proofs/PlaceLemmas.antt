@@ -1,5 +1,5 @@
 -- What a row that is put into a table under its own number makes of its typed rows.
-use Rattle.std.proofs.Common.{◌≡◌, ℕ, ◌∷◌, map, sym, ap, ◌∙◌}
+use Rattle.std.proofs.Common.{◌≡◌, ℕ, map, sym, ap, ◌∙◌}
 use Rattle.sqlite.specs.Table.{Table}
 use Rattle.sqlite.specs.Order.{Row}
 use Rattle.sqlite.specs.Cast.{cast_row}
@@ -9,7 +9,7 @@ use Rattle.sqlite.specs.Rowids.TheVariants.{Chosen}
 use Rattle.sqlite.specs.State.{State}
 use Rattle.tables.specs.Rows.{Numbered, HasRows, stored}
 use Rattle.tables.proofs.InsertLemmas.{PutsRow}
-use Rattle.tables.proofs.FullLemmas.{Storing, Raw, raw, raw_cells, value_in}
+use Rattle.tables.proofs.FullLemmas.{Storing, Raw, raw, value_in}
 use Rattle.copying.specs.Placed.{put_at}
 use Rattle.copying.proofs.PutLemmas.{puts_stored, put_mapped, rises_put}
 

@@ -5,7 +5,7 @@ use Rattle.sqlite.specs.Order.{Row}
 use Rattle.sqlite.specs.declared.types.Value.TheVariants.{Null, Text}
 use Rattle.sqlite.specs.Cast.{cast, cast_row}
 use Rattle.sqlite.specs.Kind.TheVariants.{Integer}
-use Rattle.sqlite.specs.Values.{or_null}
+use Rattle.sqlite.specs.Values.{bound_value, or_null}
 use Rattle.sqlite.specs.declared.error.Error.{Error}
 use Rattle.sqlite.specs.State.{State, ExecutesInside}
 use Rattle.tables.specs.Schema.{uploads}
@@ -30,7 +30,11 @@ storing = record { cells = upload_cells; full = full_upload; same = λ _. refl; 
 abbrev pub upload_params : Upload → Row
 upload_params u = Text u.name ∷ (print_cells u.print ++ or_null whole u.place ∷ or_null whole u.verdict ∷ [])
 
--- a number that may be absent
+-- a number that may be absent, as it is bound and as it is stored
+pub bound_some : (n : Option ℕ) → bound_value (or_null whole n) ≡ or_null whole n
+bound_some None = refl
+bound_some (Some n) = refl
+
 cast_some : (n : Option ℕ) → cast Integer (or_null whole n) ≡ or_null whole n
 cast_some None = cast_null
 cast_some (Some n) = cast_int (pos n)

@@ -1,7 +1,7 @@
 -- Suites that differ in days alone: all that is shown stays, and where it is.
 use Rattle.std.proofs.Common.{◌≡◌, ◌≢◌, ◌<◌, ℕ, zero, suc, ◌+◌, Bool, true, false, not, ◌&&◌, cond, nat_lt, Ok, List, [], ◌∷◌, map, filter_map, Option, Some, None, option_map, length, slice_get, bytes_eq, refl, sym, ap, ◌∙◌, arith}
 use Rattle.std.specs.Prelude.{AllPairs}
-use Rattle.std.specs.List.{AllByRecursion, cons_option, list_all, position_or_len}
+use Rattle.std.specs.List.{AllByRecursion, cons_option, position_or_len}
 use Rattle.std.specs.Option.{option_and_then, option_map_or}
 use Rattle.std.specs.FinMap.{entries, from_entries, get-entries, get-from_entries, same_map}
 use Rattle.std.proofs.lemmas.List.{length-map}
@@ -33,7 +33,7 @@ first_timeless name (s ∷ suites) = ap (λ n. cond (not (bytes_eq s.codename na
 place_timeless : (suites : List Suite) (name : List ℕ) → place_named (map without_days suites) name ≡ place_named suites name
 unfolding place_named
 place_timeless suites name =
-    let count = length-map without_days suites in
+    let count = length-map suites without_days in
     let first = first_timeless name suites in
     λ i. cond (nat_lt (first i) (count i)) (Some (first i)) None
 
@@ -88,7 +88,7 @@ entries_back shown =
 
 -- They have as many suites.
 pub alike_length : (config other : ConfigValue) → AreAlike config other → length config.suites ≡ length other.suites
-alike_length config other alike = sym (length-map without_days config.suites) ∙ ap length alike ∙ length-map without_days other.suites
+alike_length config other alike = sym (length-map config.suites without_days) ∙ ap length alike ∙ length-map other.suites without_days
 
 module _ (config other : ConfigValue) (shown : ShelvesValue) (read : config_in config.text ≡ Ok config) (told : AreTold config.suites shown) (alike : AreAlike config other) where
   same_places : (name : List ℕ) → place_named other.suites name ≡ place_named config.suites name

@@ -1,5 +1,5 @@
 -- The rows of an archive, copied with each arrival as of a moment: those of an archive still.
-use Rattle.std.proofs.Common.{◌≡◌, ◌≢◌, ◌≤◌, ◌<◌, ℕ, ◌+◌, false, not, ◌&&◌, ◌||◌, nat_eq, List, [], ◌∷◌, ◌++◌, map, filter, filter_map, find, length, Option, Some, option_map, IsTrue, refl, sym, ap, subst, ◌∙◌}
+use Rattle.std.proofs.Common.{◌≡◌, ◌≢◌, ◌≤◌, ◌<◌, ℕ, ◌+◌, false, not, ◌&&◌, ◌||◌, nat_eq, List, [], ◌∷◌, ◌++◌, map, filter, find, length, Some, option_map, IsTrue, refl, sym, ap, subst, ◌∙◌}
 use Rattle.std.specs.Prelude.{All, AllPairs}
 use Rattle.std.specs.List.{cons_option, enumerate_from, flat_map, list_any}
 use Rattle.std.specs.Option.{option_and_then}
@@ -10,7 +10,6 @@ use Rattle.rules.specs.Values.{ConfigValue}
 use Rattle.rules.specs.declared.suite.Suite.{Suite}
 use Rattle.sums.specs.Prints.{print as print_of}
 use Rattle.sums.specs.declared.entries.Entry.{Entry}
-use Rattle.sums.specs.declared.print.Print.{Print}
 use Rattle.suites.specs.Shelves.{ShelvesValue, pool}
 use Rattle.suites.specs.declared.key.ShelfKey.{ShelfKey}
 use Rattle.keep.specs.Book.{Candidate, candidate_of, candidates, is_body_of, is_judged, is_there, latest}

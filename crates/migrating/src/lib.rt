@@ -3,4 +3,6 @@
 
 mod laws;
 
-pub use laws::{a_moved_archive_is_kept, a_new_archive_takes_copies, an_alike_configuration_keeps_what_is_shown};
+pub use laws::{
+    a_moved_archive_is_kept, a_new_archive_takes_copies, an_alike_configuration_keeps_what_is_shown,
+};

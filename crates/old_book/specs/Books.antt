@@ -3,8 +3,7 @@ use Rattle.std.specs.Prelude.{◌≡◌}
 use Rattle.sqlite.specs.Effect.{Database}
 use Rattle.tables.specs.Rows.{Tables}
 use Rattle.tables_read.specs.All.{tables_with}
-use Rattle.old_rows.specs.Layouts.{AreShown}
-use Rattle.old_rows.specs.declared.asked.Asked.{Asked}
+use Rattle.old_rows.specs.Layouts.{AreShown, Asked}
 use Rattle.old_book.specs.Old.{IsOldArchive, IsOldBook}
 use Rattle.old_book.specs.Settling.{settled, with_configuration}
 use Rattle.old_book.specs.declared.book.OldBook.{OldBook}

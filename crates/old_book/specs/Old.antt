@@ -10,14 +10,21 @@ use Rattle.tables.specs.declared.rows.Meta.{Meta}
 use Rattle.kept.specs.Kept.{AreReadable, IsKept}
 use Rattle.audit.specs.Parts.{UploadsFit}
 use Rattle.copying.specs.Copying.{AreRising}
-use Rattle.old_rows.specs.Layouts.{AreShown, ShowsNone, older_layouts}
-use Rattle.old_rows.specs.declared.asked.Asked.{Asked}
+use Rattle.old_rows.specs.Layouts.{AreShown, Asked, ShowsNone, older_layouts}
 use Rattle.old_book.specs.Settling.{settled, unjudged, with_configuration}
 use Rattle.old_book.specs.Text.{without_days}
 
+-- the row of meta has a configuration, and this is its text without the fields KeepDays and ValidDays
+pub record HasTextIn (row : Meta) (text : List ℕ) : Type 0 where
+  pub old : List ℕ
+  pub is : row ≡ record { version = VERSION; configuration = old }
+  pub text_is : without_days old ≡ Some text
+
 -- The one row of meta has a configuration, and this is its text without the fields KeepDays and ValidDays.
-abbrev pub HasText : Numbered Meta → List ℕ → Type 0
-HasText meta text = (old : List ℕ) × (rows_of meta ≡ record { version = VERSION; configuration = old } ∷ []) × (without_days old ≡ Some text)
+pub record HasText (meta : Numbered Meta) (text : List ℕ) : Type 0 where
+  pub old : List ℕ
+  pub is : rows_of meta ≡ record { version = VERSION; configuration = old } ∷ []
+  pub text_is : without_days old ≡ Some text
 
 -- Rows that are shown are those of an old archive: of its configuration the two fields are passed over; the wants are exactly the
 -- entries of all uploads, judged ones too; and without those of judged ones they are rows of an archive of today.

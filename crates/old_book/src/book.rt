@@ -1,10 +1,11 @@
 //! The book of an archive of an older layout.
 
-ghost use Rattle.std.specs.Prelude.{◌≡◌, None, false, IfOk, IfSome, OnOk};
+ghost use Rattle.std.specs.Prelude.{◌≡◌, None, false, IfOk, IfSome, OnOk, OnErr};
 ghost use Rattle.sqlite.specs.State.{HasCleanDisk, IsUnchanged, Survives};
 ghost use Rattle.sqlite.specs.Held.{state};
 ghost use Rattle.copying.specs.Copying.{AreRising};
 ghost use Rattle.kept.specs.Kept.{AreReadable, IsKept};
+ghost use Rattle.tables.specs.Rows.{Fails};
 ghost use Rattle.tables_read.specs.All.{AreConstrained, tables_with};
 ghost use Rattle.old_rows.specs.Layouts.{AreSelects};
 ghost use Rattle.old_book.specs.Old.{IsNoOldArchive, KeepsNoOld, KeepsNoneAs};
@@ -78,6 +79,7 @@ fn book_as<S: Alter>(
     ensures some { HasCleanDisk (state S.Store from.new) → IfOk result (λ o. IfSome o (IsShownBook asked.now (state S.Store from.old).now)) }
     ensures none { HasCleanDisk (state S.Store from.new) → IfOk result (λ o. o ≡ None → KeepsNoneAs asked.now (state S.Store from.old).now) }
     ensures unchanged { HasCleanDisk (state S.Store from.new) → OnOk result (IsUnchanged (state S.Store from.old) (state S.Store from.new)) }
+    ensures err { HasCleanDisk (state S.Store from.new) → OnErr result (Fails (state S.Store from.old) (state S.Store from.new)) }
     ensures survives { Survives (state S.Store from.old) (state S.Store from.new) (λ _. ⊥) }
 {
     match old_rows(alloc, from, asked)? {
@@ -93,6 +95,7 @@ fn book_in<S: Alter>(alloc: Global, from: &mut Connection<S>) -> Result<Option<O
     ensures some { HasCleanDisk (state S.Store from.new) → IfOk result (λ o. IfSome o (λ old. IsOldBookIn (state S.Store from.old).now old)) }
     ensures none { HasCleanDisk (state S.Store from.new) → IfOk result (λ o. o ≡ None → IsNoOldArchive (state S.Store from.old).now) }
     ensures unchanged { HasCleanDisk (state S.Store from.new) → OnOk result (IsUnchanged (state S.Store from.old) (state S.Store from.new)) }
+    ensures err { HasCleanDisk (state S.Store from.new) → OnErr result (Fails (state S.Store from.old) (state S.Store from.new)) }
     ensures survives { Survives (state S.Store from.old) (state S.Store from.new) (λ _. ⊥) }
 {
     if let Some(old) = book_as(alloc, from, &first())? {
@@ -115,8 +118,10 @@ impl OldBook {
         ensures read { IfOk result (λ old. HasCleanDisk (state S.Store from.new) → (t : Tables) × IsOldBook (state S.Store from.old).now t old.held.config old.held.judged.items old.held.shelves old.held.dates.items
             × (tables_with old.rows ≡ with_configuration old.held.config.text (settled t))) }
         ensures refused { IfErr result (λ e. e ≡ NoArchive → HasCleanDisk (state S.Store from.new) → (from.old.in_transaction ≡ true) ⊎ IsNoOldArchive (state S.Store from.old).now) }
-        ensures unchanged { IfOk result (λ _. HasCleanDisk (state S.Store from.new) → Stands (state S.Store from.old) (state S.Store from.new)) }
-        ensures unchanged_refused { IfErr result (λ e. e ≡ NoArchive → HasCleanDisk (state S.Store from.new) → Stands (state S.Store from.old) (state S.Store from.new)) }
+        ensures unchanged { HasCleanDisk (state S.Store from.new) → OnOk result (Stands (state S.Store from.old) (state S.Store from.new)) }
+        ensures unchanged_refused { HasCleanDisk (state S.Store from.new) → IfErr result (λ e. e ≡ NoArchive → Stands (state S.Store from.old) (state S.Store from.new)) }
+        // Another fault may have ended or closed the connection, and what was committed is as before.
+        ensures failed { HasCleanDisk (state S.Store from.new) → OnErr result (Fails (state S.Store from.old) (state S.Store from.new)) }
         ensures survives { Survives (state S.Store from.old) (state S.Store from.new) (λ _. ⊥) }
     {
         if !from.is_autocommit() {

@@ -2,7 +2,7 @@
 
 ghost use Rattle.std.specs.Prelude.{◌≡◌, ℕ, [], ◌∷◌, List, IfOk, IfSome, None};
 ghost use Rattle.tables_read.specs.All.{tables_with};
-ghost use Rattle.old_book.specs.Old.{HasText};
+ghost use Rattle.old_book.specs.Old.{HasText, HasTextIn};
 ghost use Rattle.old_book.specs.Settling.{settled, with_configuration};
 
 use crate::settling::settle;
@@ -13,6 +13,17 @@ use tables::meta::VERSION;
 use tables::rows::Meta;
 use tables_read::AllRows;
 
+/// The text of the configuration that a row has, without the fields KeepDays and ValidDays, where the row is of this layout.
+fn text_in_row(alloc: Global, row: &Meta) -> Result<Option<Vec<u8>>, AllocError>
+    ensures some { IfOk result (λ o. IfSome o (λ text. HasTextIn row.now text.items)) }
+    ensures none { IfOk result (λ o. o ≡ None → (text : List ℕ) → HasTextIn row.now text → ⊥) }
+{
+    if row.version != VERSION {
+        return Ok(None);
+    }
+    without_days(alloc, row.configuration.as_slice())
+}
+
 /// The text of the configuration without the fields KeepDays and ValidDays, where the rows of `meta` are one row of this layout.
 pub fn text_among(alloc: Global, meta: &[(u64, Meta)]) -> Result<Option<Vec<u8>>, AllocError>
     ensures some { IfOk result (λ o. IfSome o (λ text. HasText meta.now text.items)) }
@@ -21,11 +32,7 @@ pub fn text_among(alloc: Global, meta: &[(u64, Meta)]) -> Result<Option<Vec<u8>>
     if meta.len() != 1 {
         return Ok(None);
     }
-    let row = &meta[0].1;
-    if row.version != VERSION {
-        return Ok(None);
-    }
-    without_days(alloc, row.configuration.as_slice())
+    text_in_row(alloc, &meta[0].1)
 }
 
 /// The one row of `meta`, with this text.

@@ -1,12 +1,25 @@
 -- Archives of older layouts: what eleven queries show of them, as rows of today's tables.
-use Rattle.std.specs.Prelude.{◌⊎◌, List, [], ◌∷◌, codes, ⊤}
-use Rattle.old_rows.specs.declared.asked.Asked.{Asked}
+use Rattle.std.specs.Prelude.{◌⊎◌, ℕ, List, [], ◌∷◌, codes, ⊤}
 use Rattle.old_rows.specs.Shown.{IsNotShown, IsSelectText, IsShown}
 use Rattle.sqlite.specs.Effect.{Database}
 use Rattle.tables.specs.Real.{IsRealArrival, IsRealBody, IsRealDate, IsRealFile, IsRealItem, IsRealRef, IsRealText, IsRealUpload, IsRealWant}
 use Rattle.tables.specs.Rows.{Tables, meta_cells, piece_cells, want_cells, ref_cells, file_cells, text_cells, date_cells}
 use Rattle.tables_read.specs.Layouts.{arrival_seen, body_seen, item_seen, upload_seen}
 use Rattle.tables_read.specs.Layouts.{meta_layout, body_layout, piece_layout, arrival_layout, upload_layout, want_layout, item_layout, ref_layout, file_layout, text_layout, date_layout}
+
+-- The texts that ask a database of a layout for rows of today's tables, one text for each table.
+pub record Asked : Type 0 where
+  pub meta : List ℕ
+  pub bodies : List ℕ
+  pub pieces : List ℕ
+  pub arrivals : List ℕ
+  pub uploads : List ℕ
+  pub wants : List ℕ
+  pub items : List ℕ
+  pub refs : List ℕ
+  pub files : List ℕ
+  pub texts : List ℕ
+  pub dates : List ℕ
 
 -- Each of the texts that ask for the rows is a SELECT.
 pub record AreSelects (asked : Asked) : Type 0 where

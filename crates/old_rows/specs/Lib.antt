@@ -1,3 +1,4 @@
 pub mod Failing
 pub mod Layouts
+pub mod Pairs
 pub mod Shown

@@ -1,9 +1,9 @@
 //! The rows that the queries of a layout show.
 
 ghost use Rattle.std.specs.Prelude.{◌≡◌, ◌⊎◌, false, IfOk, IfSome, MatchOption, None, OnErr, OnOk};
-ghost use Rattle.old_rows.specs.Layouts.{AreSelects, AreShown, ShowsNone};
+ghost use Rattle.old_rows.specs.Layouts.{Asked as Texts, AreSelects, AreShown, ShowsNone};
+ghost use Rattle.old_rows.specs.Pairs.{tables_in};
 ghost use Rattle.old_rows.specs.Shown.{IsNotShown, IsShown, Says};
-ghost use Rattle.old_rows.specs.declared.asked.Asked.{Asked as Texts};
 ghost use Rattle.sqlite.specs.Effect.{Database};
 ghost use Rattle.sqlite.specs.Held.{state};
 ghost use Rattle.sqlite.specs.State.{HasCleanDisk, IsUnchanged, Survives};
@@ -75,18 +75,26 @@ type Numbered<T> = Vec<(u64, T)>;
 
 type Shown = (
     Numbered<Item>,
-    (Numbered<Ref>, (Numbered<File>, (Numbered<IndexText>, Numbered<Date>))),
+    (
+        Numbered<Ref>,
+        (Numbered<File>, (Numbered<IndexText>, Numbered<Date>)),
+    ),
 );
 
 type Judged = (Numbered<Upload>, (Numbered<Want>, Shown));
 
 type Arrived = (
     Numbered<Meta>,
-    (Numbered<Body>, (Numbered<Piece>, (Numbered<Arrival>, Judged))),
+    (
+        Numbered<Body>,
+        (Numbered<Piece>, (Numbered<Arrival>, Judged)),
+    ),
 );
 
 /// The rows of the pairs in which they are read.
-fn all_of(rows: Arrived) -> AllRows {
+fn all_of(rows: Arrived) -> AllRows
+    ensures { tables_with result ≡ tables_in rows }
+{
     let (meta, (bodies, (pieces, (arrivals, judged)))) = rows;
     let (uploads, (wants, shown)) = judged;
     let (items, (refs, (files, (texts, dates)))) = shown;

@@ -1,9 +1,8 @@
 //! Which text of a layout asks for the rows of which table.
 
 ghost use Rattle.std.specs.Prelude.{◌≡◌, ℕ, List};
-ghost use Rattle.old_rows.specs.Layouts.{AreSelects};
+ghost use Rattle.old_rows.specs.Layouts.{Asked as Texts, AreSelects};
 ghost use Rattle.old_rows.specs.Shown.{IsSelectText};
-ghost use Rattle.old_rows.specs.declared.asked.Asked.{Asked as Texts};
 
 use crate::asked::Asked;
 use tables::rows::{Arrival, Body, Date, File, IndexText, Item, Meta, Piece, Ref, Upload, Want};
