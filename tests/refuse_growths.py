@@ -1,7 +1,7 @@
 """Each growth of each call is refused once: `python3 -m tests.refuse_growths [--lists] [CALL..]`.
 
-The calls are the rows `call ..` of data/*.growths of the crate `tales`; CALL is the first word of some of them, and --lists leaves out
-the keeper over tables. For each call a file is written that has its story alone, in which this one call is marked, so that the program
+The calls are the rows `call ..` of data/*.growths and data/*.moves of the crate `tales`, of which the latter read and migrate archives of older
+layouts; CALL is the first word of some of them, and --lists leaves out all but the keeper in memory. For each call a file is written that has its story alone, in which this one call is marked, so that the program
 that `rt ci` built of `tales` (or the one that TALES names) prints `begin` and `end` around it. It runs once for each growth between the
 marks, and this one is refused: a library that is loaded before the C library counts what `malloc` and `realloc` are asked for. That goes
 on until a growth is not reached.
@@ -21,7 +21,8 @@ from pathlib import Path
 
 CRATE = Path(__file__).resolve().parent.parent / "crates" / "tales"
 PROGRAM = Path(os.environ.get("TALES", CRATE / "out" / "tales")).resolve()
-KEEPERS = ["over lists", "over tables"]
+# What the calls of the files of each ending are made over, in the order in which the program does it.
+KEEPERS = {"growths": ["over lists", "over tables"], "moves": ["of older ones"]}
 # What grows nothing: a keeper in memory is opened by being handed over, and a cleaning of it takes elements out of its lists.
 NOTHING_GROWS = {("over lists", "open"), ("over lists", "clean")}
 # How many runs are begun before the answers of those before are looked at.
@@ -114,22 +115,19 @@ def make_library(folder):
     return library
 
 
-def stories():
-    """The lines of each story, of all files."""
-    for path in sorted(CRATE.glob("data/*.growths")):
-        story = []
-        for line in path.read_text(encoding="utf-8").split("\n"):
-            if line.startswith("archive ") and story:
-                yield story
-                story = []
-            if line and not line.startswith("#"):
-                story.append(line)
-        yield story
+def stories(ending):
+    """The lines of each story, of all files of an ending. One begins with an archive that is made, or an older one that is read; the texts in
+    front of the first belong to each."""
+    first = "archive " if ending == "growths" else "call old "
+    for path in sorted(CRATE.glob(f"data/*.{ending}")):
+        front, *found = re.split(rf"^(?={first})", path.read_text(encoding="utf-8"), flags=re.M)
+        for story in found:
+            yield [line for line in (front + story).split("\n") if line and not line.startswith("#")]
 
 
-def calls(words):
+def calls(ending, words):
     """Each call with the text of its story, in which it is marked."""
-    for story in stories():
+    for story in stories(ending):
         for place, line in enumerate(story):
             if line.startswith("call ") and (not words or line.split()[1] in words):
                 marked = [*story[:place], line.replace("call", "marked", 1), *story[place + 1:]]
@@ -139,24 +137,25 @@ def calls(words):
 class Call:
     """A marked call over one of the keepers."""
 
-    def __init__(self, folder, library, line, story, keeper):
+    def __init__(self, folder, library, line, story, ending, keeper):
         self.line, self.keeper, self.folder = line, keeper, folder
-        self.environment = {"LD_PRELOAD": str(library), "MARKS": str(1 + KEEPERS.index(keeper))}
-        self.rows = sum(not it.startswith("|") for it in story.split("\n")[:-1])
+        self.keepers, self.file = KEEPERS[ending], f"marked.{ending}"
+        self.environment = {"LD_PRELOAD": str(library), "MARKS": str(1 + self.keepers.index(keeper))}
+        self.rows = sum(not it.startswith(("|", "text ")) for it in story.split("\n")[:-1])
         self.refused, self.at_once, self.ill, self.growths = 0, 0, [], 0
-        (folder / "marked.growths").write_text(story, encoding="utf-8")
+        (folder / self.file).write_text(story, encoding="utf-8")
 
     def run(self, refused):
         """Runs the program, with this growth refused: what it printed, and how many growths there were."""
-        words = [str(PROGRAM), "marked.growths", *(str(it) for it in sorted(CRATE.glob("data/*.texts")))]
+        words = [str(PROGRAM), self.file, *(str(it) for it in sorted(CRATE.glob("data/*.texts")))]
         environment = {**self.environment, "REFUSED": str(refused)}
         run = subprocess.run(words, cwd=self.folder, env=environment, capture_output=True, text=True, errors="replace", check=False)
         return refused, run.stdout, run.stderr
 
     def outcome(self, printed):
         """`refused` or `at once`, or nothing where the program printed something else."""
-        words = {it: "(at once|refused)" if it == self.keeper else "at once" for it in KEEPERS}
-        wanted = "".join(f"begin\nend\n{words[it]}\n{it}: marked.growths: {self.rows} rows\n" for it in KEEPERS)
+        words = {it: "(at once|refused)" if it == self.keeper else "at once" for it in self.keepers}
+        wanted = "".join(f"begin\nend\n{words[it]}\n{it}: {self.file}: {self.rows} rows\n" for it in self.keepers)
         found = re.fullmatch(wanted, printed)
         return found and found[1]
 
@@ -198,14 +197,16 @@ def main():
         print("skipped: there is no rustc here, which makes the library that refuses a growth")
         return 0
     words = sys.argv[1:]
-    keepers = KEEPERS[:1] if "--lists" in words else KEEPERS
+    keepers = [(ending, it) for ending, all_ in KEEPERS.items() for it in all_]
+    if "--lists" in words:
+        keepers = keepers[:1]
     well, count = True, 0
     with tempfile.TemporaryDirectory() as name, ThreadPoolExecutor(len(os.sched_getaffinity(0))) as pool:
         folder = Path(name)
         library = make_library(folder)
-        for keeper in keepers:
-            for line, story in calls([it for it in words if it != "--lists"]):
-                call = Call(folder, library, line, story, keeper)
+        for ending, keeper in keepers:
+            for line, story in calls(ending, [it for it in words if it != "--lists"]):
+                call = Call(folder, library, line, story, ending, keeper)
                 call.refuse_each(pool)
                 well, count = call.report() and well, count + 1
     print(f"{count} calls: {'all as they should' if well and count else 'some otherwise'}")

@@ -32,6 +32,7 @@ BEHIND = [
     "tests.test_layouts",
     "tests.test_batch",
     "tests.test_configurations",
+    "tests.test_migrations",
     "tests.test_long_indices",
     "tests.test_lines",
     "tests.test_serving",

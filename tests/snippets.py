@@ -61,6 +61,7 @@ PIECES = {
     "look": 'archive verdicts --db "$copy"',
     "pack": "VACUUM",
     "notes": "CREATE TABLE notes",
+    "migrate": "archive migrate --from old.db",
     "bring over": "sqlite3 old.db .dump",
     "indexes": "arrivals_by_body ON arrivals (body)",
 }

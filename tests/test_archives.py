@@ -1,7 +1,9 @@
-"""Tests of archives that other programs made. The file tests/archives/N.db is an archive of layout N, which a released program made, and
-N.expected tells what it shows: behind each line `$ WORDS`, with the words of a command without its database, what that prints, with a line
-`(no newline)` behind a text without an end. The file of the layout that tables::meta::VERSION names has to be there; whoever changes the
-layout raises the number and adds a file. Then the line of 'Upgrading' in docs/USING.md is run. The program is that of program.py."""
+"""Tests of archives that other programs made. The file tests/archives/N.db is an archive of layout N, which a released program made, or for
+the layouts 1 and 2, which none had, the statements of older.py; and N.expected tells what it shows: behind each line `$ WORDS`, with the
+words of a command without its database, what that prints, with a line `(no newline)` behind a text without an end. The file of the layout
+that tables::meta::VERSION names has to be there; whoever changes the layout raises the number and adds a file. The archives of older
+layouts are taken through `migrate` first, under the configuration that they have. Then the line of 'Upgrading' in docs/USING.md is run. The
+program is that of program.py."""
 import os
 import pathlib
 import re
@@ -11,6 +13,7 @@ import subprocess
 import tempfile
 import unittest
 
+from tests import older
 from tests.program import DATA, NAMES, PROGRAM, ROOT, Lines
 from tests.snippets import needs, snippet
 from tests.test_lines import ended
@@ -71,16 +74,23 @@ class Layouts(unittest.TestCase):
             with self.subTest(path.name):
                 self.assertEqual(rows_of(path, "SELECT version FROM meta"), [(int(path.stem),)])
 
+    @unittest.skipIf(sqlite3.sqlite_version_info < (3, 37), "SQLite has no STRICT tables")
+    def test_the_first_layouts_are_of_their_statements(self):
+        """No program made these two: each file has the rows that older.py writes."""
+        for number in older.TABLES:
+            with self.subTest(number), tempfile.TemporaryDirectory() as folder:
+                made = older.archive(is_pair=True, more=[older.waiting()]).make(number, f"{folder}/a.db")
+                for query in ("SELECT name, sql FROM sqlite_master", *(f"SELECT rowid, * FROM {name}" for (name,) in rows_of(made, "SELECT name FROM sqlite_master WHERE type = 'table'"))):
+                    self.assertEqual(rows_of(ARCHIVES / f"{number}.db", query), rows_of(made, query))
 
-@unittest.skipUnless(os.path.exists(PROGRAM), f"there is no program {PROGRAM}")
-class Copies(Lines):
-    """The archive of the present layout, which an earlier program made."""
+
+class Shown(Lines):
+    """An archive, and what it prints."""
 
     def setUp(self):
         room = tempfile.TemporaryDirectory()
         self.addCleanup(room.cleanup)
         self.folder, self.db = room.name, f"{room.name}/box.db"
-        shutil.copyfile(ARCHIVES / f"{layout()}.db", self.db)
 
     def printed(self, words):
         """What a command of these words prints, which ends well and says nothing on standard error."""
@@ -89,10 +99,45 @@ class Copies(Lines):
         self.assertEqual((ran.returncode, ran.stderr), (0, b""), words)
         return ran.stdout
 
-    def test_it_shows_what_it_showed(self):
-        for words, printed in expected(layout()):
-            with self.subTest(" ".join(words)):
+    def shows(self, number):
+        """Looks whether it shows what the archive of this layout showed."""
+        for words, printed in expected(number):
+            with self.subTest(" ".join(words), layout=number):
                 self.assertEqual(ended(self.printed(words)).decode(), printed)
+
+
+class Older(Shown):
+    """The archives of older layouts, which a migration reads."""
+
+    def test_they_show_what_they_showed(self):
+        numbers = [int(it.stem) for it in ARCHIVES.glob("*.db") if int(it.stem) < layout()]
+        self.assertNotEqual(numbers, [])
+        for number in sorted(numbers):
+            self.migrated(number)
+            self.shows(number)
+
+    def migrated(self, number):
+        """Makes the archive anew of the one of this layout, which stays as it is."""
+        for name in os.listdir(self.folder):
+            os.unlink(f"{self.folder}/{name}")
+        old, conf = pathlib.Path(self.folder, "old.db"), pathlib.Path(self.folder, "old.conf")
+        shutil.copyfile(ARCHIVES / f"{number}.db", old)
+        [(text,)] = rows_of(old, "SELECT configuration FROM meta")
+        conf.write_bytes(text)
+        self.assertEqual(self.printed(["migrate", "--from", old, "--at", "1467436851", conf]), b"")
+        self.assertEqual(old.read_bytes(), (ARCHIVES / f"{number}.db").read_bytes())
+        self.assertEqual(sorted(it for it in os.listdir(self.folder) if it.startswith("old")), ["old.conf", "old.db"])
+
+
+class Copies(Shown):
+    """The archive of the present layout, which an earlier program made."""
+
+    def setUp(self):
+        super().setUp()
+        shutil.copyfile(ARCHIVES / f"{layout()}.db", self.db)
+
+    def test_it_shows_what_it_showed(self):
+        self.shows(layout())
 
     def test_it_takes_an_upload(self):
         """One that is whole is judged, and shown behind what was there."""
@@ -131,6 +176,17 @@ class Upgrading(Lines):
         """Runs a text by a shell in a folder, which ends well and says nothing."""
         ran = subprocess.run(["sh", "-ec", text], cwd=folder, capture_output=True, text=True, check=False, timeout=60)
         self.assertEqual((ran.returncode, ran.stdout, ran.stderr), (0, "", ""))
+
+    @needs("sqlite3")
+    def test_the_lines_migrate_an_older_layout(self):
+        with tempfile.TemporaryDirectory() as folder:
+            older.archive().make(1, f"{folder}/old.db")
+            os.symlink(os.path.abspath(PROGRAM), f"{folder}/archive")
+            text = f"PATH={folder}:$PATH\n" + snippet("migrate")
+            ran = subprocess.run(["sh", "-ec", text], cwd=folder, capture_output=True, text=True, check=False, timeout=60)
+            self.assertEqual((ran.returncode, ran.stdout, ran.stderr), (0, f"accepted {NAMES[0]}\n", ""))
+            for path, text in older.archive().suites[0].texts().items():
+                self.assertEqual(self.line(0, "show", f"{folder}/box.db", path), text.decode())
 
     @needs("sqlite3")
     def test_the_line_brings_it_over(self):

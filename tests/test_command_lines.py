@@ -45,6 +45,7 @@ USAGES = {
     "promote": "promote --db <FILE> --at <N> <FROM> <TO> [SOURCE]...",
     "remove": "remove --db <FILE> --at <N> <SUITE> <PACKAGE>",
     "configure": "configure --db <FILE> --at <N> <CONF>",
+    "migrate": "migrate --from <FILE> --db <FILE> --at <N> <CONF>",
     "show": "show --db <FILE> <PATH>",
     "waiting": "waiting --db <FILE> --at <N>",
     "verdicts": "verdicts --db <FILE>",

@@ -1,5 +1,5 @@
 """Tests of databases that no archive is opened of, and that say of which layout they are: for an older or a later one a second line tells
-it. The program is that of program.py."""
+it, for an older one with what reads it. The program is that of program.py."""
 import os
 import pathlib
 import sqlite3
@@ -18,8 +18,8 @@ ALONE = "archive: K4\n"
 
 def told(number):
     """What is printed of a database that says that it is of this layout, which is not the present one."""
-    made_by = "an older" if number < PRESENT else "a later"
-    return f"{ALONE}archive: an archive of layout {number}, which {made_by} program made\n"
+    more = ": archive migrate reads it" if number < PRESENT else ", which a later program made"
+    return f"{ALONE}archive: an archive of layout {number}{more}\n"
 
 
 class Layouts(Words):
@@ -47,7 +47,7 @@ class Layouts(Words):
         self.assertEqual(self.db.read_bytes(), before)
 
     def test_the_layout_of_an_older_program(self):
-        for number in range(PRESENT):
+        for number in range(1, PRESENT):
             with self.subTest(number):
                 self.make(number)
                 self.refused(told(number))
@@ -78,8 +78,8 @@ class Layouts(Words):
         self.refused(ALONE)
 
     def test_no_number(self):
-        """Two rows or none, and what is no number or below 0."""
-        for versions in ((), (2, 2), (2, 4), ("two",), ("",), (b"2",), (2.5,), (-2,)):
+        """Two rows or none, and what is no number or below 1."""
+        for versions in ((), (2, 2), (2, 4), ("two",), ("",), (b"2",), (2.5,), (-2,), (0,)):
             with self.subTest(versions):
                 self.make(*versions)
                 self.refused(ALONE)

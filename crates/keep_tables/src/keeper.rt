@@ -110,23 +110,23 @@ impl<S: Alter + Drop> TableKeeper<S> {
         }
     }
 
-    /// The keeper over a database whose archive is of this configuration and shows this, with these judged uploads in order,
-    /// and for each suite in the order of the configuration the moment at which what it shows last changed. Each of its bodies
-    /// is whole.
-    pub(crate) fn over(
+    /// The keeper over a database whose archive is of this configuration, with these judged uploads in order, and for each suite
+    /// in the order of the configuration the moment at which what it shows last changed. Each of its bodies is whole. What the
+    /// suites show may be handed over too.
+    pub fn over(
         alloc: Global,
         connection: Connection<S>,
         config: Config,
         judged: Vec<Judgement>,
         dates: Vec<u64>,
-        shelves: Shelves,
+        spare: Option<Shelves>,
     ) -> TableKeeper<S>
         requires idle { connection.in_transaction ≡ false }
         requires in_range { ∥ All (λ date. date ≤ LATEST) dates.items ∥₁ }
         requires kept { HasCleanDisk (state S.Store connection) → IsTrue (state S.Store connection).is_open
             → ∥ KeepsArchive (state S.Store connection).committed config judged.items (shown_in config.suites (tables_in (state S.Store connection).committed)) dates.items ∥₁ }
         requires whole { HasCleanDisk (state S.Store connection) → IsTrue (state S.Store connection).is_open → HasComing (tables_in (state S.Store connection).committed) [] }
-        requires shown { HasCleanDisk (state S.Store connection) → IsTrue (state S.Store connection).is_open → shelves ≡ shown_in config.suites (tables_in (state S.Store connection).committed) }
+        requires shown { HasCleanDisk (state S.Store connection) → IsTrue (state S.Store connection).is_open → AreAtHand config (state S.Store connection).committed spare }
         ensures { (result.conn ≡ connection) × (result.config ≡ config) × (result.judged ≡ judged) × (result.dates ≡ dates) }
     {
         TableKeeper {
@@ -135,7 +135,7 @@ impl<S: Alter + Drop> TableKeeper<S> {
             judged,
             dates,
             begun: None,
-            spare: Some(shelves),
+            spare,
             prints: Vec::new(alloc),
         }
     }

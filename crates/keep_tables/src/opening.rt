@@ -122,7 +122,7 @@ fn keeper_over<S: Alter + Drop>(
         dates,
         shelves,
     } = held;
-    TableKeeper::over(alloc, connection, config, judged, dates, shelves)
+    TableKeeper::over(alloc, connection, config, judged, dates, Some(shelves))
 }
 
 /// The keeper of an archive that was found, once the bodies that are not whole are away.

@@ -3,6 +3,7 @@ use Rattle.std.specs.Prelude.{ℕ, List, map}
 use Rattle.rules.specs.Values.{ConfigValue}
 use Rattle.suites.specs.Shelves.{ShelvesValue}
 use Rattle.keep.specs.Book.{Book}
+use Rattle.keep.specs.declared.arrival.Arrival.{Arrival}
 use Rattle.tables.specs.Rows.{Tables}
 use Rattle.kept.specs.Configuring.{with_configured}
 use Rattle.kept.specs.Founding.{founded}
@@ -15,4 +16,4 @@ moved_rows config shown dates moment t = with_configured config shown dates (cop
 
 -- The book under another configuration, with each arrival as of the moment.
 abbrev pub moved_book : ConfigValue → ℕ → Book → Book
-moved_book config moment b = record b { config = config; arrivals = map (λ a. record a { moment = moment }) b.arrivals }
+moved_book config moment b = record b { config = config; arrivals = map (λ (a : Arrival). record a { moment = moment }) b.arrivals }

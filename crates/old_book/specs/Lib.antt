@@ -1,1 +1,5 @@
+pub mod Books
 pub mod Old
+pub mod Rising
+pub mod Settling
+pub mod Text

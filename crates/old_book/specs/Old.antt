@@ -1,28 +1,35 @@
 -- Archives of older layouts, from the rows that queries show of them.
--- (imports are still to be written here)
+use Rattle.std.specs.Prelude.{◌≡◌, ◌⊎◌, ℕ, List, [], ◌∷◌, All, Contains, Some}
+use Rattle.sqlite.specs.Effect.{Database}
+use Rattle.rules.specs.Values.{ConfigValue}
+use Rattle.suites.specs.Shelves.{ShelvesValue}
+use Rattle.keep.specs.declared.change.Judgement.{Judgement}
+use Rattle.tables.specs.Rows.{Numbered, Tables, rows_of}
+use Rattle.tables.specs.declared.meta.TheConstants.{VERSION}
+use Rattle.tables.specs.declared.rows.Meta.{Meta}
+use Rattle.kept.specs.Kept.{AreReadable, IsKept}
+use Rattle.audit.specs.Parts.{UploadsFit}
+use Rattle.copying.specs.Copying.{AreRising}
+use Rattle.old_rows.specs.Layouts.{AreShown, Asked, ShowsNone, older_layouts}
+use Rattle.old_book.specs.Settling.{settled, unjudged, with_configuration}
+use Rattle.old_book.specs.Text.{without_days}
 
--- ---- from the rows that are shown to those of an archive of today
+-- the row of meta has a configuration, and this is its text without the fields KeepDays and ValidDays
+pub record HasTextIn (row : Meta) (text : List ℕ) : Type 0 where
+  pub old : List ℕ
+  pub is : row ≡ record { version = VERSION; configuration = old }
+  pub text_is : without_days old ≡ Some text
 
--- as if none had been judged: each upload waits, and wants what it lists
-abbrev pub unjudged : Tables → Tables
-unjudged t = record t { uploads = map (λ x. (x.0, record x.1 { place = None; verdict = None })) t.uploads }
-
--- an upload that is judged wants nothing more
-abbrev pub settled : Tables → Tables
-settled t = record t { wants = filter (λ w. not (list_any (λ x. nat_eq x.0 w.1.upload && has_place x.1) t.uploads)) t.wants }
-
--- The text of a configuration without the fields KeepDays and ValidDays: its paragraphs, printed.
-unfoldable pub without_days : List ℕ → Option (List ℕ)
-without_days text = option_map (λ ps. canon_all (map (filter (λ f. not (is_days_field f))) ps)) (ok (paragraphs_in text config_limit))
-
--- the one row of meta, with another text
-abbrev pub with_configuration : List ℕ → Tables → Tables
-with_configuration text t = record t { meta = (1, record { version = 3; configuration = text }) ∷ [] }
+-- The one row of meta has a configuration, and this is its text without the fields KeepDays and ValidDays.
+pub record HasText (meta : Numbered Meta) (text : List ℕ) : Type 0 where
+  pub old : List ℕ
+  pub is : rows_of meta ≡ record { version = VERSION; configuration = old } ∷ []
+  pub text_is : without_days old ≡ Some text
 
 -- Rows that are shown are those of an old archive: of its configuration the two fields are passed over; the wants are exactly the
 -- entries of all uploads, judged ones too; and without those of judged ones they are rows of an archive of today.
 pub record IsOldArchive (t : Tables) (config : ConfigValue) (judged : List Judgement) (shown : ShelvesValue) (dates : List ℕ) : Type 0 where
-  pub text : (old : List ℕ) × (rows_of t.meta ≡ record { version = 3; configuration = old } ∷ []) × (without_days old ≡ Some config.text)
+  pub text : HasText t.meta config.text
   pub rising : AreRising t
   pub listed : UploadsFit (unjudged t) []
   pub kept : IsKept (with_configuration config.text (settled t)) config judged shown dates
@@ -35,7 +42,10 @@ KeepsNoOld t = (config : ConfigValue) (judged : List Judgement) (shown : Shelves
 abbrev pub IsOldBook : Database → Tables → ConfigValue → List Judgement → ShelvesValue → List ℕ → Type 0
 IsOldBook db t config judged shown dates = (asked : Asked) × Contains older_layouts asked × AreShown asked db t × IsOldArchive t config judged shown dates
 
+-- some query of the layout is refused, or shows no rows of its table, or all show rows that keep no old archive
+abbrev pub KeepsNoneAs : Asked → Database → Type 0
+KeepsNoneAs asked db = ShowsNone asked db ⊎ ((t : Tables) × AreShown asked db t × (AreReadable t → KeepsNoOld t))
+
 -- For each older layout: some query is refused, or shows no rows of its table, or all show rows that keep no old archive.
 abbrev pub IsNoOldArchive : Database → Type 0
-IsNoOldArchive db = All (λ asked. ShowsNone asked db ⊎ ((t : Tables) × AreShown asked db t × (AreReadable t → KeepsNoOld t))) older_layouts
-
+IsNoOldArchive db = All (λ asked. KeepsNoneAs asked db) older_layouts

@@ -1,2 +1,4 @@
-pub mod Shown
+pub mod Failing
 pub mod Layouts
+pub mod Pairs
+pub mod Shown

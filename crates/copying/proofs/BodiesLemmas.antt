@@ -1,0 +1,71 @@
+-- What the statements that add a body under its number do.
+use Rattle.std.proofs.Common.{lit≤, ◌≡◌, ℕ, pos, [], ◌∷◌, Ok, Err, Result, OnOk, refl, Some, None}
+use Rattle.sqlite.specs.Table.{Table}
+use Rattle.sqlite.specs.declared.types.Value.TheVariants.{Null}
+use Rattle.sqlite.specs.Cast.{cast_row}
+use Rattle.sqlite.specs.declared.error.Error.{Error}
+use Rattle.sqlite.specs.State.{State, ExecutesInside}
+use Rattle.sums.specs.declared.print.Print.{Print}
+use Rattle.tables.specs.Schema.{bodies}
+use Rattle.tables.specs.Rows.{whole, print_cells, Changes, body_cells, full_body, stored}
+use Rattle.tables.specs.declared.rows.Body.{Body}
+use Rattle.tables.proofs.CastLemmas.{cast_null, cast_int}
+use Rattle.tables.proofs.InsertLemmas.{puts}
+use Rattle.tables.proofs.HoldsLemmas.{with_bodies}
+use Rattle.tables.proofs.FullLemmas.{Storing, raw, raw_cells, raw_rows, full_rows_as}
+use Rattle.copying.specs.Placed.{with_body_at}
+use Rattle.copying.specs.declared.bodies.TheConstants.{INSERT_BODY, INSERT_BEGUN}
+use Rattle.copying.proofs.Meaning.{insert_body_terms, insert_body_is, insert_body_plain, insert_begun_terms, insert_begun_is, insert_begun_plain}
+use Rattle.copying.proofs.PlaceLemmas.{places_row, placed_of}
+
+abbrev bodies_table : Table
+bodies_table = record bodies { tree = 1 }
+
+abbrev storing : Storing Body
+storing = record { cells = body_cells; full = full_body; same = λ _. refl; again = λ _ _ _. refl; none = refl }
+
+abbrev whole_body : Print → Body
+whole_body p = record { print = Some p }
+
+body_cast : (id : ℕ) (p : Print) → cast_row bodies_table (whole id ∷ (Null ∷ print_cells p)) ≡ stored body_cells (id, whole_body p)
+body_cast id p = rw (cast_null, cast_int (pos id), cast_int (pos p.size))
+
+pub inserts_body : (old new : State) (id : ℕ) (p : Print) (r : Result ℕ Error) → ExecutesInside 0 INSERT_BODY.now (whole id ∷ print_cells p) old new r
+    → OnOk r (Changes old new (with_body_at (id, whole_body p)))
+inserts_body old new id p (Ok count) h = record {
+  held = λ t was.
+      let put =
+      puts INSERT_BODY.now 1 insert_body_terms 6 insert_body_is insert_body_plain _ _ _ _ _ _ 1 (λ _. refl) (lit≤ tt)
+      old new (whole id ∷ print_cells p) (whole id ∷ (Null ∷ print_cells p)) count refl was.schema h.0 in
+      let r = raw_rows storing t.bodies (old.now.trees 1) was.rows.bodies in
+      let now = places_row (raw_cells storing) bodies_table _ (id, raw storing (whole_body p)) (body_cast id p) old new put r.of r.has in
+      record {
+        schema = put.schema_is;
+        rows = with_bodies old.now.trees new.now.trees t was.rows _ (full_rows_as storing _ _ (new.now.trees 1) (placed_of storing t.bodies r.of (id, whole_body p) r.values) now) put.others;
+      };
+  shown = h.1;
+}
+inserts_body old new id p (Err e) h = tt
+
+abbrev begun_body : Body
+begun_body = record { print = None }
+
+begun_cast : (id : ℕ) → cast_row bodies_table (whole id ∷ (Null ∷ Null ∷ Null ∷ Null ∷ Null ∷ [])) ≡ stored body_cells (id, begun_body)
+begun_cast id = rw (cast_null, cast_int (pos id)) refl
+
+pub inserts_begun : (old new : State) (id : ℕ) (r : Result ℕ Error) → ExecutesInside 0 INSERT_BEGUN.now (whole id ∷ []) old new r
+    → OnOk r (Changes old new (with_body_at (id, begun_body)))
+inserts_begun old new id (Ok count) h = record {
+  held = λ t was.
+      let put =
+      puts INSERT_BEGUN.now 1 insert_begun_terms 6 insert_begun_is insert_begun_plain _ _ _ _ _ _ 1 (λ _. refl) (lit≤ tt)
+      old new (whole id ∷ []) (whole id ∷ (Null ∷ Null ∷ Null ∷ Null ∷ Null ∷ [])) count refl was.schema h.0 in
+      let r = raw_rows storing t.bodies (old.now.trees 1) was.rows.bodies in
+      let now = places_row (raw_cells storing) bodies_table _ (id, raw storing begun_body) (begun_cast id) old new put r.of r.has in
+      record {
+        schema = put.schema_is;
+        rows = with_bodies old.now.trees new.now.trees t was.rows _ (full_rows_as storing _ _ (new.now.trees 1) (placed_of storing t.bodies r.of (id, begun_body) r.values) now) put.others;
+      };
+  shown = h.1;
+}
+inserts_begun old new id (Err e) h = tt

@@ -1,0 +1,43 @@
+-- What the statement that adds an item under its number does.
+use Rattle.std.proofs.Common.{lit≤, ◌≡◌, ℕ, pos, [], ◌∷◌, Ok, Err, Result, OnOk, refl}
+use Rattle.sqlite.specs.Table.{Table}
+use Rattle.sqlite.specs.Order.{Row}
+use Rattle.sqlite.specs.declared.types.Value.TheVariants.{Null, Text, Blob}
+use Rattle.sqlite.specs.Cast.{cast_row}
+use Rattle.sqlite.specs.declared.error.Error.{Error}
+use Rattle.sqlite.specs.State.{State, ExecutesInside}
+use Rattle.tables.specs.Schema.{items}
+use Rattle.tables.specs.Rows.{whole, Changes, item_cells, stored}
+use Rattle.tables.specs.declared.rows.Item.{Item}
+use Rattle.tables.proofs.CastLemmas.{cast_null, cast_int}
+use Rattle.tables.proofs.InsertLemmas.{puts}
+use Rattle.tables.proofs.HoldsLemmas.{with_items}
+use Rattle.copying.specs.Placed.{with_item_at}
+use Rattle.copying.specs.declared.items.TheConstants.{INSERT_ITEM}
+use Rattle.copying.proofs.Meaning.{insert_item_terms, insert_item_is, insert_item_plain}
+use Rattle.copying.proofs.PlaceLemmas.{places_row}
+
+abbrev items_table : Table
+items_table = record items { tree = 13 }
+
+-- the values of a row, its number aside
+abbrev pub item_params : Item → Row
+item_params x = Text x.suite ∷ whole x.kind ∷ Text x.«package» ∷ Text x.architecture ∷ Text x.version ∷ Text x.component ∷ Text x.source ∷ Blob x.paragraph ∷ []
+
+item_cast : (id : ℕ) (x : Item) → cast_row items_table (whole id ∷ Null ∷ item_params x) ≡ stored item_cells (id, x)
+item_cast id x = rw (cast_null, cast_int (pos id), cast_int (pos x.kind))
+
+pub inserts_item : (old new : State) (id : ℕ) (x : Item) (r : Result ℕ Error) → ExecutesInside 0 INSERT_ITEM.now (whole id ∷ item_params x) old new r
+    → OnOk r (Changes old new (with_item_at (id, x)))
+inserts_item old new id x (Ok count) h = record {
+  held = λ t was.
+      let put =
+      puts INSERT_ITEM.now 6 insert_item_terms 10 insert_item_is insert_item_plain _ _ _ _ _ _ 13 (λ _. refl) (lit≤ tt)
+      old new (whole id ∷ item_params x) (whole id ∷ Null ∷ item_params x) count refl was.schema h.0 in
+      record {
+        schema = put.schema_is;
+        rows = with_items old.now.trees new.now.trees t was.rows _ (places_row item_cells items_table _ (id, x) (item_cast id x) old new put t.items was.rows.items) put.others;
+      };
+  shown = h.1;
+}
+inserts_item old new id x (Err e) h = tt

@@ -1,0 +1,68 @@
+//! Bodies under the numbers that they have.
+
+ghost use Rattle.std.specs.Prelude.{◌≡◌, Some, None, IsTrue, OnOk, OnErr};
+ghost use Rattle.sqlite.specs.State.{HasCleanDisk, Survives};
+ghost use Rattle.sqlite.specs.Held.{state};
+ghost use Rattle.tables.specs.Rows.{Changes, Fails};
+ghost use Rattle.copying.specs.Placed.{with_body_at};
+
+use crate::number::whole;
+use sqlite::{Alter, Error, Transaction, params};
+use sums::Print;
+use tables::rows::Body;
+
+const INSERT_BODY: &str =
+    "INSERT INTO bodies (id, size, md5, sha1, sha256) VALUES (?1, ?2, ?3, ?4, ?5)";
+
+const INSERT_BEGUN: &str = "INSERT INTO bodies (id) VALUES (?1)";
+
+/// Adds a whole body under its number.
+fn insert_whole<S: Alter>(tx: &mut Transaction<'_, S>, id: u64, print: &Print) -> Result<(), Error>
+    ensures same_reference { tx.new.conn.ghost_name ≡ tx.old.conn.ghost_name }
+    ensures ok { HasCleanDisk (state S.Store tx.new.conn.now) → IsTrue (state S.Store tx.old.conn.now).in_transaction
+        → OnOk result (Changes (state S.Store tx.old.conn.now) (state S.Store tx.new.conn.now) (with_body_at (id, record { print = Some print.now }))) }
+    ensures err { HasCleanDisk (state S.Store tx.new.conn.now) → IsTrue (state S.Store tx.old.conn.now).in_transaction
+        → OnErr result (Fails (state S.Store tx.old.conn.now) (state S.Store tx.new.conn.now)) }
+    ensures survives { Survives (state S.Store tx.old.conn.now) (state S.Store tx.new.conn.now) (λ _. ⊥) }
+{
+    let id = whole(id)?;
+    let size = whole(print.size)?;
+    let md5: &[u8] = &print.md5;
+    let sha1: &[u8] = &print.sha1;
+    let sha256: &[u8] = &print.sha256;
+    tx.execute(INSERT_BODY, params![id, size, md5, sha1, sha256])?;
+    Ok(())
+}
+
+/// Adds a body that is not whole yet under its number.
+fn insert_begun<S: Alter>(tx: &mut Transaction<'_, S>, id: u64) -> Result<(), Error>
+    ensures same_reference { tx.new.conn.ghost_name ≡ tx.old.conn.ghost_name }
+    ensures ok { HasCleanDisk (state S.Store tx.new.conn.now) → IsTrue (state S.Store tx.old.conn.now).in_transaction
+        → OnOk result (Changes (state S.Store tx.old.conn.now) (state S.Store tx.new.conn.now) (with_body_at (id, record { print = None }))) }
+    ensures err { HasCleanDisk (state S.Store tx.new.conn.now) → IsTrue (state S.Store tx.old.conn.now).in_transaction
+        → OnErr result (Fails (state S.Store tx.old.conn.now) (state S.Store tx.new.conn.now)) }
+    ensures survives { Survives (state S.Store tx.old.conn.now) (state S.Store tx.new.conn.now) (λ _. ⊥) }
+{
+    let id = whole(id)?;
+    tx.execute(INSERT_BEGUN, params![id])?;
+    Ok(())
+}
+
+/// Adds a body under its number.
+pub(crate) fn insert_body<S: Alter>(
+    tx: &mut Transaction<'_, S>,
+    id: u64,
+    body: &Body,
+) -> Result<(), Error>
+    ensures same_reference { tx.new.conn.ghost_name ≡ tx.old.conn.ghost_name }
+    ensures ok { HasCleanDisk (state S.Store tx.new.conn.now) → IsTrue (state S.Store tx.old.conn.now).in_transaction
+        → OnOk result (Changes (state S.Store tx.old.conn.now) (state S.Store tx.new.conn.now) (with_body_at (id, body.now))) }
+    ensures err { HasCleanDisk (state S.Store tx.new.conn.now) → IsTrue (state S.Store tx.old.conn.now).in_transaction
+        → OnErr result (Fails (state S.Store tx.old.conn.now) (state S.Store tx.new.conn.now)) }
+    ensures survives { Survives (state S.Store tx.old.conn.now) (state S.Store tx.new.conn.now) (λ _. ⊥) }
+{
+    match &body.print {
+        Some(print) => insert_whole(tx, id, print),
+        None => insert_begun(tx, id),
+    }
+}

@@ -1,0 +1,50 @@
+//! Numbers as the tables take them.
+
+ghost use Rattle.std.specs.Prelude.{◌≡◌, ℕ, pos, unsigned_abs, IfOk};
+ghost use Rattle.sqlite_value.specs.declared.value.Value.TheVariants.{Int};
+
+use sqlite::types::{ToSql, ValueRef};
+use sqlite::{Error, ErrorCode};
+use std::marker::Model;
+
+/// A number that a table can hold, one below 2^63.
+#[derive(Drop)]
+pub(crate) struct Number {
+    n: i64,
+}
+
+impl Model for Number {
+    ghost Value = { ℕ };
+
+    ghost view = { λ w. unsigned_abs w.n };
+
+    ghost invariant = { λ w. w.n ≡ pos (unsigned_abs w.n) };
+}
+
+impl<'a> ToSql<'a> for Number {
+    ghost to_sql = { λ n. Int (pos n) };
+
+    fn to_sql(self) -> ValueRef<'a> {
+        ValueRef::Int(self.n)
+    }
+}
+
+/// The number, refused as too big where a table cannot hold it.
+pub(crate) fn whole(n: u64) -> Result<Number, Error>
+    ensures { IfOk result (λ w. w ≡ n) }
+{
+    match i64::try_from(n) {
+        Ok(n) => Ok(Number { n }),
+        Err(_) => Err(Error::SqliteFailure(ErrorCode::TooBig)),
+    }
+}
+
+/// The number, if there is one.
+pub(crate) fn some_whole(n: Option<u64>) -> Result<Option<Number>, Error>
+    ensures { IfOk result (λ w. w ≡ n) }
+{
+    match n {
+        Some(n) => Ok(Some(whole(n)?)),
+        None => Ok(None),
+    }
+}

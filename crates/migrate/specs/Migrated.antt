@@ -1,0 +1,22 @@
+-- What a migration makes of the book of an older layout.
+use Rattle.std.specs.Prelude.{ℕ}
+use Rattle.rules.specs.Values.{ConfigValue}
+use Rattle.keep.specs.Book.{Book}
+use Rattle.tables.specs.Rows.{Tables}
+use Rattle.tables_read.specs.All.{tables_with}
+use Rattle.kept.specs.Kept.{book_in}
+use Rattle.old_book.specs.declared.book.OldBook.{OldBook}
+use Rattle.migrating.specs.Migrating.{moved_book, moved_rows}
+
+-- the configuration that the book had
+abbrev pub old_config : OldBook → ConfigValue
+old_config old = old.held.config
+
+-- the rows that are written, under another configuration and with arrivals as of a moment
+abbrev pub migrated_rows : OldBook → ConfigValue → ℕ → Tables
+migrated_rows old config moment = moved_rows config old.held.shelves old.held.dates.items moment (tables_with old.rows)
+
+-- the book that they keep
+abbrev pub migrated_book : OldBook → ConfigValue → ℕ → Book
+migrated_book old config moment =
+    moved_book config moment (book_in old.held.config old.held.judged.items old.held.shelves old.held.dates.items (tables_with old.rows))

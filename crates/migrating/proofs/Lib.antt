@@ -1,0 +1,4 @@
+pub mod AlikeSuites
+pub mod FoundedRows
+pub mod CopiedRows
+pub mod MovedArchive

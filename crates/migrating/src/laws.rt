@@ -1,0 +1,39 @@
+//! What a migration makes of the rows of an archive, as laws.
+
+ghost use Rattle.std.specs.Prelude.{◌≡◌, ◌≤◌, ℕ, true, List, Ok, length};
+ghost use Rattle.copying.specs.Copying.{IsBare};
+ghost use Rattle.rules.specs.Configuration.{config_in};
+ghost use Rattle.rules.specs.Values.{ConfigValue};
+ghost use Rattle.suites.specs.Moved.{all_stay, moved};
+ghost use Rattle.suites.specs.Shelves.{ShelvesValue};
+ghost use Rattle.suites.specs.Told.{AreTold};
+ghost use Rattle.keep.specs.Book.{latest};
+ghost use Rattle.keep.specs.Configured.{AreAlike};
+ghost use Rattle.keep.specs.declared.change.Judgement.{Judgement};
+ghost use Rattle.tables.specs.Rows.{Tables};
+ghost use Rattle.kept.specs.Founding.{founded};
+ghost use Rattle.kept.specs.Kept.{IsKept, book_in};
+ghost use Rattle.migrating.specs.Migrating.{moved_book, moved_rows};
+
+/// The rows that a migration makes of those of an archive are those of an archive of the other configuration, with the same judged uploads, the
+/// same shown and the same dates; its book is the old one under that configuration, with each arrival as of the moment.
+pub fn a_moved_archive_is_kept()
+    ensures { (t : Tables) (config other : ConfigValue) (judged : List Judgement) (shown : ShelvesValue) (dates : List ℕ) (moment : ℕ) → IsKept t config judged shown dates → AreAlike config other
+        → config_in other.text ≡ Ok other → moment ≤ latest
+        → IsKept (moved_rows other shown dates moment t) other judged shown dates
+        × (book_in other judged shown dates (moved_rows other shown dates moment t) ≡ moved_book other moment (book_in config judged shown dates t)) }
+{}
+
+/// Under a configuration that differs in days alone there are as many suites, and all that is shown stays where it is.
+pub fn an_alike_configuration_keeps_what_is_shown()
+    ensures length { (config other : ConfigValue) → AreAlike config other → length config.suites ≡ length other.suites }
+    ensures stays { (config other : ConfigValue) (shown : ShelvesValue) → config_in config.text ≡ Ok config → AreTold config.suites shown → AreAlike config other
+        → all_stay config.suites other.suites shown ≡ true }
+    ensures same { (config other : ConfigValue) (shown : ShelvesValue) → config_in config.text ≡ Ok config → AreTold config.suites shown → AreAlike config other
+        → moved config.suites other.suites shown ≡ shown }
+{}
+
+/// Rows can be copied into the tables of a new archive: those to which they go have none.
+pub fn a_new_archive_takes_copies()
+    ensures { (config : ConfigValue) (moment : ℕ) → IsBare (founded config moment) }
+{}

@@ -1,0 +1,175 @@
+//! The book of an archive of an older layout.
+
+ghost use Rattle.std.specs.Prelude.{◌≡◌, None, false, IfOk, IfSome, OnOk, OnErr};
+ghost use Rattle.sqlite.specs.State.{HasCleanDisk, IsUnchanged, Survives};
+ghost use Rattle.sqlite.specs.Held.{state};
+ghost use Rattle.copying.specs.Copying.{AreRising};
+ghost use Rattle.kept.specs.Kept.{AreReadable, IsKept};
+ghost use Rattle.tables.specs.Rows.{Fails};
+ghost use Rattle.tables_read.specs.All.{AreConstrained, tables_with};
+ghost use Rattle.old_rows.specs.Layouts.{AreSelects};
+ghost use Rattle.old_book.specs.Old.{IsNoOldArchive, KeepsNoOld, KeepsNoneAs};
+ghost use Rattle.old_book.specs.Books.{IsBookOf, IsOldBookIn, IsShownBook};
+
+use crate::listed::are_listed;
+use crate::renewed::{renewed, text_among};
+use crate::rising::is_rising;
+use crate::taken::are_taken;
+use audit::{Held, archive_in};
+use keep::{Judgement, KeepFault};
+use keep_rows::fault_of;
+use old_rows::{Asked, first, old_rows, second};
+use rules::Config;
+use sqlite::{Alter, Connection, Error};
+use std::alloc::{AllocError, Global};
+use suites::Shelves;
+use tables_read::AllRows;
+
+/// The book of an archive of an older layout: its rows as those of an archive of today, each arrival at moment 0, and what a keeper holds
+/// beside them.
+#[derive(Drop)]
+pub struct OldBook {
+    rows: AllRows,
+    held: Held,
+    ghost kept: { IsKept (tables_with rows) held.config held.judged.items held.shelves held.dates.items },
+    ghost rising: { AreRising (tables_with rows) },
+}
+
+/// The book of the old archive with these rows, of which the keys of today's tables hold, where they are those of one.
+fn book_of(alloc: Global, mut all: AllRows) -> Result<Option<OldBook>, AllocError>
+    requires rising { AreRising (tables_with all) }
+    requires keys { AreConstrained (tables_with all) }
+    ensures some { IfOk result (λ o. IfSome o (IsBookOf (tables_with all))) }
+    ensures none { IfOk result (λ o. o ≡ None → AreReadable (tables_with all) → KeepsNoOld (tables_with all)) }
+{
+    let Some(text) = text_among(alloc, &all.meta)? else {
+        return Ok(None);
+    };
+    if !are_listed(alloc, &mut all)? {
+        return Ok(None);
+    }
+    let rows = renewed(alloc, all, text)?;
+    match archive_in(alloc, &rows)? {
+        Some(held) => Ok(Some(OldBook { rows, held })),
+        None => Ok(None),
+    }
+}
+
+/// The book of the old archive with these rows, where they are those of one.
+fn old_book_in(alloc: Global, all: AllRows) -> Result<Option<OldBook>, Error>
+    ensures some { IfOk result (λ o. IfSome o (IsBookOf (tables_with all))) }
+    ensures none { IfOk result (λ o. o ≡ None → AreReadable (tables_with all) → KeepsNoOld (tables_with all)) }
+{
+    if !is_rising(&all) {
+        return Ok(None);
+    }
+    are_taken(alloc, &all)?;
+    Ok(book_of(alloc, all)?)
+}
+
+/// The book of a database of this layout, where it keeps an archive.
+fn book_as<S: Alter>(
+    alloc: Global,
+    from: &mut Connection<S>,
+    asked: &Asked,
+) -> Result<Option<OldBook>, Error>
+    requires idle { from.old.in_transaction ≡ false }
+    requires texts { AreSelects asked.now }
+    ensures idle { from.new.in_transaction ≡ false }
+    ensures some { HasCleanDisk (state S.Store from.new) → IfOk result (λ o. IfSome o (IsShownBook asked.now (state S.Store from.old).now)) }
+    ensures none { HasCleanDisk (state S.Store from.new) → IfOk result (λ o. o ≡ None → KeepsNoneAs asked.now (state S.Store from.old).now) }
+    ensures unchanged { HasCleanDisk (state S.Store from.new) → OnOk result (IsUnchanged (state S.Store from.old) (state S.Store from.new)) }
+    ensures err { HasCleanDisk (state S.Store from.new) → OnErr result (Fails (state S.Store from.old) (state S.Store from.new)) }
+    ensures survives { Survives (state S.Store from.old) (state S.Store from.new) (λ _. ⊥) }
+{
+    match old_rows(alloc, from, asked)? {
+        Some(all) => old_book_in(alloc, all),
+        None => Ok(None),
+    }
+}
+
+/// The book of a database of an older layout, where it keeps an archive.
+fn book_in<S: Alter>(alloc: Global, from: &mut Connection<S>) -> Result<Option<OldBook>, Error>
+    requires idle { from.old.in_transaction ≡ false }
+    ensures idle { from.new.in_transaction ≡ false }
+    ensures some { HasCleanDisk (state S.Store from.new) → IfOk result (λ o. IfSome o (λ old. IsOldBookIn (state S.Store from.old).now old)) }
+    ensures none { HasCleanDisk (state S.Store from.new) → IfOk result (λ o. o ≡ None → IsNoOldArchive (state S.Store from.old).now) }
+    ensures unchanged { HasCleanDisk (state S.Store from.new) → OnOk result (IsUnchanged (state S.Store from.old) (state S.Store from.new)) }
+    ensures err { HasCleanDisk (state S.Store from.new) → OnErr result (Fails (state S.Store from.old) (state S.Store from.new)) }
+    ensures survives { Survives (state S.Store from.old) (state S.Store from.new) (λ _. ⊥) }
+{
+    if let Some(old) = book_as(alloc, from, &first())? {
+        return Ok(Some(old));
+    }
+    book_as(alloc, from, &second())
+}
+
+impl OldBook {
+    ghost use Rattle.std.specs.Prelude.{◌≤◌, ◌⊎◌, true, All, length, IfErr};
+    ghost use Rattle.keep.specs.Book.{latest};
+    ghost use Rattle.keep.specs.declared.fault.KeepFault.TheVariants.{Tables as NoArchive};
+    ghost use Rattle.tables.specs.Rows.{Stands, Tables};
+    ghost use Rattle.old_book.specs.Old.{IsOldBook};
+    ghost use Rattle.old_book.specs.Settling.{settled, with_configuration};
+
+    /// The book of an archive of an older layout, from its database. The fault is `KeepFault::Tables` only where a transaction is begun or
+    /// the queries of no older layout show rows that keep one. The database is as before.
+    pub fn read<S: Alter>(alloc: Global, from: &mut Connection<S>) -> Result<OldBook, KeepFault>
+        ensures read { IfOk result (λ old. HasCleanDisk (state S.Store from.new) → (t : Tables) × IsOldBook (state S.Store from.old).now t old.held.config old.held.judged.items old.held.shelves old.held.dates.items
+            × (tables_with old.rows ≡ with_configuration old.held.config.text (settled t))) }
+        ensures refused { IfErr result (λ e. e ≡ NoArchive → HasCleanDisk (state S.Store from.new) → (from.old.in_transaction ≡ true) ⊎ IsNoOldArchive (state S.Store from.old).now) }
+        ensures unchanged { HasCleanDisk (state S.Store from.new) → OnOk result (Stands (state S.Store from.old) (state S.Store from.new)) }
+        ensures unchanged_refused { HasCleanDisk (state S.Store from.new) → IfErr result (λ e. e ≡ NoArchive → Stands (state S.Store from.old) (state S.Store from.new)) }
+        // Another fault may have ended or closed the connection, and what was committed is as before.
+        ensures failed { HasCleanDisk (state S.Store from.new) → OnErr result (Fails (state S.Store from.old) (state S.Store from.new)) }
+        ensures survives { Survives (state S.Store from.old) (state S.Store from.new) (λ _. ⊥) }
+    {
+        if !from.is_autocommit() {
+            return Err(KeepFault::Tables);
+        }
+        match book_in(alloc, from) {
+            Ok(Some(old)) => Ok(old),
+            Ok(None) => Err(KeepFault::Tables),
+            Err(error) => Err(fault_of(error)),
+        }
+    }
+
+    /// The rows, as those of an archive of today.
+    pub fn rows(&self) -> &AllRows
+        ensures rows { result.now ≡ self.now.rows }
+        ensures kept { IsKept (tables_with self.now.rows) self.now.held.config self.now.held.judged.items self.now.held.shelves self.now.held.dates.items }
+        ensures rising { AreRising (tables_with self.now.rows) }
+    {
+        &self.rows
+    }
+
+    /// The configuration, without the fields KeepDays and ValidDays.
+    pub fn config(&self) -> &Config
+        ensures { result.now ≡ self.now.held.config }
+    {
+        &self.held.config
+    }
+
+    /// The judged uploads, in order.
+    pub fn judged(&self) -> &[Judgement]
+        ensures { result.now ≡ self.now.held.judged.items }
+    {
+        &self.held.judged
+    }
+
+    /// What the suites show.
+    pub fn shelves(&self) -> &Shelves
+        ensures { result.now ≡ self.now.held.shelves }
+    {
+        &self.held.shelves
+    }
+
+    /// For each suite the moment at which what it shows last changed.
+    pub fn dates(&self) -> &[u64]
+        ensures dates { result.now ≡ self.now.held.dates.items }
+        ensures dated { length self.now.held.dates.items ≡ length self.now.held.config.suites }
+        ensures in_range { All (λ date. date ≤ latest) self.now.held.dates.items }
+    {
+        &self.held.dates
+    }
+}

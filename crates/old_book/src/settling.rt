@@ -1,0 +1,91 @@
+//! The uploads as if none had been judged, and the wants without those of judged ones.
+
+ghost use Rattle.std.specs.Prelude.{◌≡◌, nat_eq, IfOk, OnOk};
+ghost use Rattle.std.specs.List.{list_any};
+ghost use Rattle.std.specs.List.Sorted.{IsNonDecreasing, IsPermutation};
+ghost use Rattle.tables.specs.Rows.{without};
+ghost use Rattle.old_book.specs.Settling.{as_unjudged, has_judged, judged_ids, unjudged_uploads};
+
+use std::alloc::{AllocError, Global};
+use tables::rows::{Upload, Want};
+
+/// Numbers in rising order.
+#[derive(Drop)]
+struct Numbers {
+    rising: Vec<u64>,
+    ghost rise: { IsNonDecreasing rising.items },
+}
+
+impl Numbers {
+    /// Whether a number is one of these.
+    fn contain(&self, id: u64) -> bool
+        ensures { result ≡ list_any (λ n. nat_eq n id) self.now.rising.items }
+    {
+        self.rising.binary_search(&id).is_ok()
+    }
+}
+
+/// The upload as if it had not been judged.
+fn as_unjudged(upload: &Upload) -> Result<Upload, AllocError>
+    ensures { IfOk result (λ u. u ≡ as_unjudged upload.now) }
+{
+    Ok(Upload {
+        name: upload.name.try_clone()?,
+        print: upload.print,
+        place: None,
+        verdict: None,
+    })
+}
+
+/// The uploads as if none had been judged.
+pub fn unjudged(alloc: Global, uploads: &[(u64, Upload)]) -> Result<Vec<(u64, Upload)>, AllocError>
+    ensures { IfOk result (λ all. all.items ≡ unjudged_uploads uploads.now) }
+{
+    let mut all = Vec::new(alloc);
+    for row in uploads {
+        let upload = as_unjudged(&row.1)?;
+        all.push((row.0, upload))?;
+    }
+    Ok(all)
+}
+
+/// The numbers of the judged uploads, in the order of their rows.
+fn judged_among(alloc: Global, uploads: &[(u64, Upload)]) -> Result<Vec<u64>, AllocError>
+    ensures { IfOk result (λ ids. ids.items ≡ judged_ids uploads.now) }
+{
+    let mut ids = Vec::new(alloc);
+    for row in uploads {
+        if row.1.place.is_some() {
+            ids.push(row.0)?;
+        }
+    }
+    Ok(ids)
+}
+
+/// The numbers in rising order.
+fn in_order(mut numbers: Vec<u64>) -> Numbers
+    ensures { IsPermutation numbers.items result.rising.items }
+{
+    numbers.sort_unstable();
+    Numbers { rising: numbers }
+}
+
+/// Takes out the wants of the uploads with these numbers.
+fn retain_others(wants: &mut Vec<(u64, Want)>, ids: &Numbers)
+    ensures { wants.new.items ≡ without (λ w. list_any (λ n. nat_eq n w.1.upload) ids.now.rising.items) wants.old.items }
+{
+    wants.retain(|row| !ids.contain(row.1.upload));
+}
+
+/// Takes out the wants of judged uploads.
+pub fn settle(
+    alloc: Global,
+    uploads: &[(u64, Upload)],
+    wants: &mut Vec<(u64, Want)>,
+) -> Result<(), AllocError>
+    ensures { OnOk result (wants.new.items ≡ without (λ w. has_judged uploads.now w.1.upload) wants.old.items) }
+{
+    let ids = in_order(judged_among(alloc, uploads)?);
+    retain_others(wants, &ids);
+    Ok(())
+}

@@ -1,0 +1,6 @@
+mod PairLemmas
+mod PlainLemmas
+mod RowLemmas
+mod ShownLemmas
+mod TextLemmas
+mod WholeLemmas

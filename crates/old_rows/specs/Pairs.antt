@@ -1,0 +1,38 @@
+-- The rows of all tables, in the pairs in which they are read.
+use Rattle.std.specs.Prelude.{Vec, ℕ}
+use Rattle.std.specs.Global.{Global}
+use Rattle.tables.specs.Rows.{Tables}
+use Rattle.tables.specs.declared.rows.Arrival.{Arrival}
+use Rattle.tables.specs.declared.rows.Body.{Body}
+use Rattle.tables.specs.declared.rows.Date.{Date}
+use Rattle.tables.specs.declared.rows.File.{File}
+use Rattle.tables.specs.declared.rows.IndexText.{IndexText}
+use Rattle.tables.specs.declared.rows.Item.{Item}
+use Rattle.tables.specs.declared.rows.Meta.{Meta}
+use Rattle.tables.specs.declared.rows.Piece.{Piece}
+use Rattle.tables.specs.declared.rows.Ref.{Ref}
+use Rattle.tables.specs.declared.rows.Upload.{Upload}
+use Rattle.tables.specs.declared.rows.Want.{Want}
+
+-- rows with their rowids, as code holds them
+abbrev pub Held : Type 0 → Type 0
+Held X = Vec (ℕ × X) Global
+
+abbrev pub Pairs : Type 0
+Pairs = Held Meta × (Held Body × (Held Piece × (Held Arrival × (Held Upload × (Held Want × (Held Item × (Held Ref × (Held File × (Held IndexText × (Held Date))))))))))
+
+-- the tables with exactly these rows
+abbrev pub tables_in : Pairs → Tables
+tables_in rows = record {
+  meta = rows.0.items;
+  bodies = rows.1.0.items;
+  pieces = rows.1.1.0.items;
+  arrivals = rows.1.1.1.0.items;
+  uploads = rows.1.1.1.1.0.items;
+  wants = rows.1.1.1.1.1.0.items;
+  items = rows.1.1.1.1.1.1.0.items;
+  refs = rows.1.1.1.1.1.1.1.0.items;
+  files = rows.1.1.1.1.1.1.1.1.0.items;
+  texts = rows.1.1.1.1.1.1.1.1.1.0.items;
+  dates = rows.1.1.1.1.1.1.1.1.1.1.items;
+}

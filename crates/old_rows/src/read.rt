@@ -1,0 +1,135 @@
+//! The rows that the queries of a layout show.
+
+ghost use Rattle.std.specs.Prelude.{◌≡◌, ◌⊎◌, false, IfOk, IfSome, MatchOption, None, OnErr, OnOk};
+ghost use Rattle.old_rows.specs.Layouts.{Asked as Texts, AreSelects, AreShown, ShowsNone};
+ghost use Rattle.old_rows.specs.Pairs.{tables_in};
+ghost use Rattle.old_rows.specs.Shown.{IsNotShown, IsShown, Says};
+ghost use Rattle.sqlite.specs.Effect.{Database};
+ghost use Rattle.sqlite.specs.Held.{state};
+ghost use Rattle.sqlite.specs.State.{HasCleanDisk, IsUnchanged, Survives};
+ghost use Rattle.tables.specs.Rows.{Fails};
+ghost use Rattle.tables_read.specs.All.{tables_with};
+
+use crate::asked::Asked;
+use crate::shown::shown_rows;
+use crate::texts::AskedFor;
+use sqlite::{Alter, Connection, Error};
+use std::alloc::Global;
+use tables::rows::{Arrival, Body, Date, File, IndexText, Item, Meta, Piece, Ref, Upload, Want};
+use tables_read::AllRows;
+
+/// Rows that queries show, one query for each table: a pair of the first and the others.
+trait ReadShown: Sized + Drop {
+    // the queries show these rows
+    ghost are: { Texts → Database → Self → Type 0 };
+
+    // one of them is refused, or shows rows that are no rows of its table
+    ghost are_not: { Texts → Database → Type 0 };
+
+    fn read<S: Alter>(
+        alloc: Global,
+        conn: &mut Connection<S>,
+        asked: &Asked,
+    ) -> Result<Option<Self>, Error>
+        requires { AreSelects asked.now }
+        ensures { Says (state S.Store conn.old) (state S.Store conn.new) result (λ o. MatchOption o
+            (are_not asked.now (state S.Store conn.old).now)
+            (are asked.now (state S.Store conn.old).now)) };
+}
+
+impl<T: AskedFor> ReadShown for Vec<(u64, T)> {
+    ghost are = { λ asked db all. IsShown T.layout.seen (T.text asked) db all.items };
+
+    ghost are_not = { λ asked. IsNotShown T.layout T.is_real (T.text asked) };
+
+    fn read<S: Alter>(
+        alloc: Global,
+        conn: &mut Connection<S>,
+        asked: &Asked,
+    ) -> Result<Option<Vec<(u64, T)>>, Error> {
+        shown_rows(alloc, conn, T::text_of(asked))
+    }
+}
+
+impl<A: ReadShown, B: ReadShown> ReadShown for (A, B) {
+    ghost are = { λ asked db p. A.are asked db p.0 × B.are asked db p.1 };
+
+    ghost are_not = { λ asked db. A.are_not asked db ⊎ B.are_not asked db };
+
+    fn read<S: Alter>(
+        alloc: Global,
+        conn: &mut Connection<S>,
+        asked: &Asked,
+    ) -> Result<Option<(A, B)>, Error> {
+        let Some(first) = A::read(alloc, conn, asked)? else {
+            return Ok(None);
+        };
+        match B::read(alloc, conn, asked)? {
+            Some(others) => Ok(Some((first, others))),
+            None => Ok(None),
+        }
+    }
+}
+
+type Numbered<T> = Vec<(u64, T)>;
+
+type Shown = (
+    Numbered<Item>,
+    (
+        Numbered<Ref>,
+        (Numbered<File>, (Numbered<IndexText>, Numbered<Date>)),
+    ),
+);
+
+type Judged = (Numbered<Upload>, (Numbered<Want>, Shown));
+
+type Arrived = (
+    Numbered<Meta>,
+    (
+        Numbered<Body>,
+        (Numbered<Piece>, (Numbered<Arrival>, Judged)),
+    ),
+);
+
+/// The rows of the pairs in which they are read.
+fn all_of(rows: Arrived) -> AllRows
+    ensures { tables_with result ≡ tables_in rows }
+{
+    let (meta, (bodies, (pieces, (arrivals, judged)))) = rows;
+    let (uploads, (wants, shown)) = judged;
+    let (items, (refs, (files, (texts, dates)))) = shown;
+    AllRows {
+        meta,
+        bodies,
+        pieces,
+        arrivals,
+        uploads,
+        wants,
+        items,
+        refs,
+        files,
+        texts,
+        dates,
+    }
+}
+
+/// What the queries of a layout show, where each is understood and all rows are of today's tables.
+pub fn old_rows<S: Alter>(
+    alloc: Global,
+    from: &mut Connection<S>,
+    asked: &Asked,
+) -> Result<Option<AllRows>, Error>
+    requires idle { from.old.in_transaction ≡ false }
+    requires texts { AreSelects asked.now }
+    ensures idle { from.new.in_transaction ≡ false }
+    ensures some { HasCleanDisk (state S.Store from.new) → IfOk result (λ o. IfSome o (λ all. AreShown asked.now (state S.Store from.old).now (tables_with all))) }
+    ensures none { HasCleanDisk (state S.Store from.new) → IfOk result (λ o. o ≡ None → ShowsNone asked.now (state S.Store from.old).now) }
+    ensures unchanged { HasCleanDisk (state S.Store from.new) → OnOk result (IsUnchanged (state S.Store from.old) (state S.Store from.new)) }
+    ensures err { HasCleanDisk (state S.Store from.new) → OnErr result (Fails (state S.Store from.old) (state S.Store from.new)) }
+    ensures survives { Survives (state S.Store from.old) (state S.Store from.new) (λ _. ⊥) }
+{
+    match Arrived::read(alloc, from, asked)? {
+        Some(rows) => Ok(Some(all_of(rows))),
+        None => Ok(None),
+    }
+}
