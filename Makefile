@@ -1,12 +1,13 @@
 # try: the main job on stored files; build: prove and build the program; install: copy what was built, and with_sidecars, to
-# PREFIX/bin; test: the gate and all other tests (tools/run_tests); test-long: tests of the built program that take minutes
-# (tools/run_long_tests); growths: each growth of each call refused once, by the program of `tales` that the gate built
-# (tools/refuse_growths); wrong: the wrong bodies that the gate leaves out, from where the last run was cut off; soak: a million
-# commands with kills among them (tools/soak), from where the last run was stopped.
+# PREFIX/bin; check: what takes seconds, before each commit: the layout of the code, the pages, and whether the wrong bodies fit the
+# text; test: the gate and all other tests (tests/run.py); test-long: tests of the built program that take minutes
+# (tests/run_long.py); growths: each growth of each call refused once, by the program of `tales` that the gate built
+# (tests/refuse_growths.py); wrong: the wrong bodies that the gate leaves out, from where the last run was cut off; soak: a million
+# commands with kills among them (tests/soak.py), from where the last run was stopped.
 PREFIX ?= /usr/local
 PROGRAM = crates/archive/out/archive
 
-.PHONY: try build install test test-long growths wrong soak
+.PHONY: try build install check test test-long growths wrong soak
 
 try:
 	@echo 'The stored files of an upload go through an archive in memory, which prints its index. Compiling takes about a minute. Nothing is proved by it: its last line says proved=no.' >&2
@@ -18,19 +19,22 @@ build:
 install:
 	@test -x $(PROGRAM) || { echo 'There is no $(PROGRAM) yet: run make build first.' >&2; exit 1; }
 	install -D -m 755 $(PROGRAM) $(PREFIX)/bin/archive
-	install -D -m 755 tools/with_sidecars $(PREFIX)/bin/with_sidecars
+	install -D -m 755 bin/with_sidecars $(PREFIX)/bin/with_sidecars
+
+check:
+	@status=0; for it in checks/format checks/pages 'python3 -m tests.test_pages' 'checks/try_wrong_bodies --read'; do $$it || status=1; done; exit $$status
 
 test:
-	@tools/run_tests
+	@python3 -m tests.run
 
 test-long:
-	@tools/run_long_tests
+	@python3 -m tests.run_long
 
 growths:
-	@tools/refuse_growths
+	@python3 -m tests.refuse_growths
 
 wrong:
-	tools/try_wrong_bodies
+	checks/try_wrong_bodies
 
 soak:
-	tools/soak
+	python3 -m tests.soak

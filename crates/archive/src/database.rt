@@ -2,13 +2,15 @@
 
 ghost use Rattle.std.specs.Prelude.{◌≤◌};
 
+use crate::copied::copied;
 use command_line::CommandLine;
 use commands::{InFile, OpenFault, act};
 use keep::{KeepFault, LATEST};
 use keep_rows::fault_of;
 use keep_tables::{InOrder, LAYOUT, TableKeeper, layout_of};
+use old_book::OldBook;
 use rules::Config;
-use sqlite::{Alter, Connection, FileFrom, FileStore, Options, Wary};
+use sqlite::{Alter, Connection, FileFrom, FileStore, Files, Options, Wary};
 use sqlite_disk::Disk;
 use sqlite_std_file::OpenError;
 use std::alloc::Global;
@@ -26,6 +28,8 @@ pub type FileKeeper = TableKeeper<FileStore<FileFrom<Wary>>>;
 pub struct DatabaseFile;
 
 impl InFile<FileKeeper> for DatabaseFile {
+    type Old = OldBook;
+
     fn opened(rt: &HostRuntime, path: &str) -> Result<FileKeeper, OpenFault> {
         opened_over(rt.alloc(), connect(rt, path))
     }
@@ -39,16 +43,34 @@ impl InFile<FileKeeper> for DatabaseFile {
         made_over(rt.alloc(), connect(rt, path), config, moment)
     }
 
+    fn old(rt: &HostRuntime, path: &str) -> Result<OldBook, KeepFault> {
+        old_over(rt.alloc(), copied(rt, path))
+    }
+
+    fn are_alike(old: &OldBook, config: &Config) -> bool {
+        migrate::are_alike(old.config(), config)
+    }
+
+    fn migrated(
+        rt: &HostRuntime,
+        path: &str,
+        old: &OldBook,
+        config: Config,
+        moment: u64,
+    ) -> Result<FileKeeper, KeepFault> {
+        migrated_over(rt.alloc(), connect(rt, path), old, config, moment)
+    }
+
     fn closed(keeper: FileKeeper) {
         disconnect(connection_of(keeper));
     }
 }
 
 /// How often a database that another process holds is tried again.
-const TRIES: u32 = 100;
+pub const TRIES: u32 = 100;
 
 /// How many milliseconds are waited behind each try: 10 seconds in all.
-const BETWEEN_TRIES: u64 = 100;
+pub const BETWEEN_TRIES: u64 = 100;
 
 /// How many pages of 4,096 bytes the log beside the database file takes before it is copied into that, and how many a transaction writes
 /// before they go to the log: 64 MiB.
@@ -118,11 +140,11 @@ fn disconnect<D: Disk + Drop>(connection: Connection<FileStore<D>>) {
     let _ = connection.close();
 }
 
-/// Why no archive is opened of tables that are not those of one, and say that they are of this layout.
+/// Why no archive is opened of tables that are not those of one, and say that they are of this layout. The first is 1.
 fn fault_of_layout(layout: u64) -> OpenFault {
     match layout.cmp(&LAYOUT) {
-        Ordering::Less => OpenFault::Older(layout),
-        Ordering::Equal => OpenFault::Keeper(KeepFault::Tables),
+        Ordering::Less if layout > 0 => OpenFault::Older(layout),
+        Ordering::Less | Ordering::Equal => OpenFault::Keeper(KeepFault::Tables),
         Ordering::Greater => OpenFault::Later(layout),
     }
 }
@@ -164,6 +186,40 @@ fn made_over<S: Alter + Drop>(
 {
     match connection {
         Ok(connection) => match TableKeeper::create(alloc, connection, config, moment) {
+            Ok(keeper) => Ok(keeper),
+            Err((_, fault)) => Err(fault),
+        },
+        Err(fault) => Err(fault),
+    }
+}
+
+/// What the archive of an older layout holds that files hold which were copied.
+fn old_over<D: Disk + Drop>(
+    alloc: Global,
+    files: Result<Files<D>, KeepFault>,
+) -> Result<OldBook, KeepFault> {
+    let files = files?;
+    if !files.may_be_used() {
+        return Err(KeepFault::Disk);
+    }
+    match Connection::open_files(alloc, files, Options::new(0)) {
+        Ok(mut connection) => OldBook::read(alloc, &mut connection),
+        Err((error, _)) => Err(fault_of(error)),
+    }
+}
+
+/// A keeper of a new archive of the configuration, made in a database of what one of an older layout holds.
+fn migrated_over<S: Alter + Drop>(
+    alloc: Global,
+    connection: Result<Connection<S>, KeepFault>,
+    old: &OldBook,
+    config: Config,
+    moment: u64,
+) -> Result<TableKeeper<S>, KeepFault>
+    requires { moment ≤ LATEST }
+{
+    match connection {
+        Ok(connection) => match migrate::migrate(alloc, connection, old, config, moment) {
             Ok(keeper) => Ok(keeper),
             Err((_, fault)) => Err(fault),
         },

@@ -1,6 +1,7 @@
 //! The program: an archive on the command line.
 #![tactic(auto)]
 
+mod copied;
 mod database;
 
 use crate::database::act_in_file;

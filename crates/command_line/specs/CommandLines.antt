@@ -9,7 +9,7 @@ use Rattle.std.specs.Borrow.{Bor}
 use Rattle.clap.specs.Words.{Row, Text, all_of, first_of}
 use Rattle.keep.specs.Book.{latest}
 use Rattle.command_line.specs.declared.parsed.CommandLine.{CommandLine}
-use Rattle.command_line.specs.declared.parsed.CommandLine.TheVariants.{Try, Compare, Init, Put, Run, Copy, Promote, Remove, Clean, Batch, Configure, Show, Waiting, Verdicts, Configuration, Serve}
+use Rattle.command_line.specs.declared.parsed.CommandLine.TheVariants.{Try, Compare, Init, Put, Run, Copy, Promote, Remove, Clean, Batch, Configure, Migrate, Show, Waiting, Verdicts, Configuration, Serve}
 
 -- the most connections that one call of the program serves
 abbrev pub most_connections : ℕ
@@ -74,6 +74,8 @@ IsLine found (Batch db at list) = IsNamed found (codes "batch") (λ rows.
     IsWord (codes "db") rows db × IsMoment rows at × IsWord (codes "LIST") rows list)
 IsLine found (Configure db at conf) = IsNamed found (codes "configure") (λ rows.
     IsWord (codes "db") rows db × IsMoment rows at × IsWord (codes "CONF") rows conf)
+IsLine found (Migrate from db at conf) = IsNamed found (codes "migrate") (λ rows.
+    IsWord (codes "from") rows from × IsWord (codes "db") rows db × IsMoment rows at × IsWord (codes "CONF") rows conf)
 IsLine found (Show db path) = IsNamed found (codes "show") (λ rows.
     IsWord (codes "db") rows db × IsWord (codes "PATH") rows path)
 IsLine found (Waiting db at) = IsNamed found (codes "waiting") (λ rows. IsWord (codes "db") rows db × IsMoment rows at)

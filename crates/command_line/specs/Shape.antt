@@ -27,6 +27,10 @@ path_rule = record (many_rule (codes "PATH")) { required = true }
 abbrev pub db_rule : Rule
 db_rule = record (word_rule (codes "db")) { long = Some (codes "db"); value_names = 1 }
 
+-- --from FILE
+abbrev pub from_rule : Rule
+from_rule = record (word_rule (codes "from")) { long = Some (codes "from"); value_names = 1 }
+
 -- --at N
 abbrev pub at_rule : Rule
 at_rule = record (word_rule (codes "at")) { long = Some (codes "at"); value_names = 1; parser = Some (parser.Unsigned 0 latest) }
@@ -81,6 +85,9 @@ batch_app = with_rule (timed_app (codes "batch")) (word_rule (codes "LIST"))
 abbrev pub configure_app : App
 configure_app = with_rule (timed_app (codes "configure")) (word_rule (codes "CONF"))
 
+abbrev pub migrate_app : App
+migrate_app = with_rule (with_rule (with_rule (with_rule (new_app (codes "migrate")) from_rule) db_rule) at_rule) (word_rule (codes "CONF"))
+
 abbrev pub show_app : App
 show_app = with_rule (db_app (codes "show")) (word_rule (codes "PATH"))
 
@@ -103,7 +110,7 @@ new_archive = record (new_app (codes "archive")) {
 -- with the commands that change an archive
 abbrev pub with_changes : App → App
 with_changes app =
-    with_subcommand (with_subcommand (with_subcommand (with_subcommand (with_subcommand (with_subcommand (with_subcommand (with_subcommand (with_subcommand app init_app.top)
+    with_subcommand (with_subcommand (with_subcommand (with_subcommand (with_subcommand (with_subcommand (with_subcommand (with_subcommand (with_subcommand (with_subcommand app init_app.top)
     put_app.top)
     (timed_app (codes "run")).top)
     copy_app.top)
@@ -111,7 +118,8 @@ with_changes app =
     remove_app.top)
     (timed_app (codes "clean")).top)
     batch_app.top)
-    configure_app.top
+    configure_app.top)
+    migrate_app.top
 
 -- with the commands that ask an archive, and the one that serves it
 abbrev pub with_questions : App → App

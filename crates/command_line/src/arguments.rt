@@ -2,7 +2,7 @@
 
 ghost use Rattle.std.specs.Prelude.{◌≡◌, false};
 ghost use Rattle.clap.specs.Words.{rule_of};
-ghost use Rattle.command_line.specs.Shape.{at_rule, count_rule, db_rule, log_rule, many_rule, moments_rule, path_rule, word_rule};
+ghost use Rattle.command_line.specs.Shape.{at_rule, count_rule, db_rule, from_rule, log_rule, many_rule, moments_rule, path_rule, word_rule};
 
 use clap::{Arg, ArgAction, value_parser};
 use keep::LATEST;
@@ -49,6 +49,20 @@ pub fn db<'a>(alloc: Global) -> Arg<'a>
     word(alloc, "db", "The database file of the archive")
         .long("db")
         .value_name("FILE")
+}
+
+/// `--from FILE`, the database of an archive of an older layout.
+pub fn from<'a>(alloc: Global) -> Arg<'a>
+    ensures rule { rule_of result ≡ from_rule }
+    ensures local { result.global ≡ false }
+{
+    word(
+        alloc,
+        "from",
+        "The database file of the older archive, which stays as it is",
+    )
+    .long("from")
+    .value_name("FILE")
 }
 
 /// `--at N`, the moment.

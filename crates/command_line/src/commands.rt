@@ -2,9 +2,9 @@
 
 ghost use Rattle.std.specs.Prelude.{IfOk, codes};
 ghost use Rattle.clap.specs.Words.{App, with_rule, with_subcommand};
-ghost use Rattle.command_line.specs.Shape.{archive_app, new_archive, IsCommand, try_app, compare_app, init_app, put_app, db_app, timed_app, copy_app, promote_app, remove_app, batch_app, configure_app, show_app, serve_app, word_rule, moments_rule, log_rule, with_changes, with_questions};
+ghost use Rattle.command_line.specs.Shape.{archive_app, new_archive, IsCommand, try_app, compare_app, init_app, put_app, db_app, timed_app, copy_app, promote_app, remove_app, batch_app, configure_app, migrate_app, show_app, serve_app, word_rule, moments_rule, log_rule, with_changes, with_questions};
 
-use crate::arguments::{at, count, db, log, many, moments, paths, word};
+use crate::arguments::{at, count, db, from, log, many, moments, paths, word};
 use crate::version::VERSION;
 use clap::Command;
 use std::alloc::{AllocError, Global};
@@ -174,6 +174,17 @@ fn configure_command<'a>(alloc: Global) -> Result<Command<'a>, AllocError>
     )
 }
 
+fn migrate_command<'a>(alloc: Global) -> Result<Command<'a>, AllocError>
+    ensures { IfOk result (IsCommand migrate_app) }
+{
+    Command::new(alloc, "migrate")
+        .about("Makes an archive in a database file from one of an older layout")
+        .arg(from(alloc))?
+        .arg(db(alloc))?
+        .arg(at(alloc))?
+        .arg(word(alloc, "CONF", "The file of its configuration"))
+}
+
 fn show_command<'a>(alloc: Global) -> Result<Command<'a>, AllocError>
     ensures { IfOk result (IsCommand show_app) }
 {
@@ -268,7 +279,8 @@ fn with_changing<'a>(
     let command = with(command, remove_command(alloc));
     let command = with(command, clean_command(alloc));
     let command = with(command, batch_command(alloc));
-    with(command, configure_command(alloc))
+    let command = with(command, configure_command(alloc));
+    with(command, migrate_command(alloc))
 }
 
 /// A command with those subcommands that ask an archive, and the one that serves it.

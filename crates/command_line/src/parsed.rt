@@ -74,6 +74,14 @@ pub enum CommandLine<'a> {
         at: u64,
         conf: &'a str,
     },
+    /// Makes an archive of today's layout in a database file, with the configuration of a file, from the archive of an older layout that
+    /// another database file holds.
+    Migrate {
+        from: &'a str,
+        db: &'a str,
+        at: u64,
+        conf: &'a str,
+    },
     /// Prints an index or a file of the pool.
     Show {
         db: &'a str,

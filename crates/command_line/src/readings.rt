@@ -122,6 +122,17 @@ fn read_configure<'a>(alloc: Global, found: &ArgMatches<'a>) -> Result<CommandLi
     })
 }
 
+fn read_migrate<'a>(alloc: Global, found: &ArgMatches<'a>) -> Result<CommandLine<'a>, LineFault>
+    ensures { IfOk result (IsLine (Some (codes "migrate", rows_of (found_of found.now)))) }
+{
+    Ok(CommandLine::Migrate {
+        from: required(alloc, found, "from")?,
+        db: required(alloc, found, "db")?,
+        at: moment(alloc, found)?,
+        conf: required(alloc, found, "CONF")?,
+    })
+}
+
 fn read_show<'a>(alloc: Global, found: &ArgMatches<'a>) -> Result<CommandLine<'a>, LineFault>
     ensures { IfOk result (IsLine (Some (codes "show", rows_of (found_of found.now)))) }
 {
@@ -192,6 +203,7 @@ pub fn command_of<'a>(
         "clean" => read_clean(alloc, found),
         "batch" => read_batch(alloc, found),
         "configure" => read_configure(alloc, found),
+        "migrate" => read_migrate(alloc, found),
         "show" => read_show(alloc, found),
         "waiting" => read_waiting(alloc, found),
         "verdicts" => read_verdicts(alloc, found),

@@ -25,6 +25,7 @@ use std::alloc::Global;
 /// clean --db FILE --at N
 /// batch --db FILE --at N LIST
 /// configure --db FILE --at N CONF
+/// migrate --from FILE --db FILE --at N CONF
 /// show --db FILE PATH
 /// waiting --db FILE --at N
 /// verdicts --db FILE

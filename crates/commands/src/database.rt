@@ -17,20 +17,40 @@ use std::{fs, io};
 pub enum OpenFault {
     /// There is no keeper, for this reason.
     Keeper(KeepFault),
-    /// The tables are not those of an archive, and say that they are of this layout, which an older program made.
+    /// The tables are not those of an archive, and say that they are of this older layout, of which a migration makes one.
     Older(u64),
-    /// The same of a layout that a later program made.
+    /// The tables say that they are of this layout, which a later program made.
     Later(u64),
 }
 
 /// What opens, makes and closes the keepers of archives in database files. Only what implements it names a store of files, since each
 /// function that does takes the prover long.
 pub trait InFile<K> {
+    /// What an archive of an older layout holds.
+    type Old: Drop;
+
     /// A keeper of the archive that the file at the path holds.
     fn opened(rt: &HostRuntime, path: &str) -> Result<K, OpenFault>;
 
     /// A keeper of a new archive of the configuration, made at the moment in the file at the path.
     fn made(rt: &HostRuntime, path: &str, config: Config, moment: u64) -> Result<K, KeepFault>
+        requires { moment ≤ LATEST };
+
+    /// What the archive of an older layout holds that the file at the path has. The file stays as it is, and nothing is made beside it.
+    fn old(rt: &HostRuntime, path: &str) -> Result<Self::Old, KeepFault>;
+
+    /// Whether the configurations are the same but for the fields that a migration may change.
+    fn are_alike(old: &Self::Old, config: &Config) -> bool;
+
+    /// A keeper of a new archive of the configuration, made in the file at the path of what an older one holds, with all arrivals as of
+    /// the moment.
+    fn migrated(
+        rt: &HostRuntime,
+        path: &str,
+        old: &Self::Old,
+        config: Config,
+        moment: u64,
+    ) -> Result<K, KeepFault>
         requires { moment ≤ LATEST };
 
     /// Closes the file. The log beside it is copied into it, where that does not fail.
@@ -144,6 +164,41 @@ pub fn create_archive<'a, K: Keeper + Drop, F: InFile<K>>(
         return Err(Stop::Refused(Fault::Moment));
     }
     let keeper = F::made(rt, path, config, moment)?;
+    Ok(Archive::new(rt.alloc(), keeper))
+}
+
+/// What the archive of an older layout holds that a database file has. The file is to be another than that at the path `to`, and than
+/// those beside it.
+fn old_archive<'a, K, F: InFile<K>>(
+    rt: &HostRuntime,
+    from: &str,
+    to: &str,
+) -> Result<F::Old, Stop<'a>> {
+    if would_make(rt, from) || is_of_database(rt, from, to)? {
+        return Err(Stop::NoArchive(KeepFault::Tables));
+    }
+    Ok(F::old(rt, from)?)
+}
+
+/// Makes an archive of the configuration in a database file, of what the archive of an older layout in another file holds, with all
+/// arrivals as of a moment, in seconds since 1970-01-01 00:00:00 UTC. The file is made where it is not there; a configuration that is not
+/// like the older one is refused before.
+pub fn migrate_archive<'a, K: Keeper + Drop, F: InFile<K>>(
+    rt: &HostRuntime,
+    from: &str,
+    path: &str,
+    config: Config,
+    moment: u64,
+) -> Result<Archive<K>, Stop<'a>> {
+    if moment > LATEST {
+        return Err(Stop::Refused(Fault::Moment));
+    }
+    let old = old_archive::<K, F>(rt, from, path)?;
+    let is_new = would_make(rt, path) || is_blank(rt, path)?;
+    if is_new && !F::are_alike(&old, &config) {
+        return Err(Stop::NoArchive(KeepFault::Configuration));
+    }
+    let keeper = F::migrated(rt, path, &old, config, moment)?;
     Ok(Archive::new(rt.alloc(), keeper))
 }
 

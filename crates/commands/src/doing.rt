@@ -212,6 +212,10 @@ fn done<'a, K: Keeper + Drop, F: InFile<K>, W: Write, E: Write>(
             words::configure::<K, F>(rt, db, *at, conf)?;
             return Ok(true);
         }
+        CommandLine::Migrate { from, db, at, conf } => {
+            words::migrate::<K, F>(rt, from, db, *at, conf)?;
+            return Ok(true);
+        }
         CommandLine::Show { db, path } => (*db, Word::Show { path }),
         CommandLine::Waiting { db, at } => (*db, Word::Waiting { at: *at }),
         CommandLine::Verdicts { db } => (*db, Word::Verdicts),

@@ -21,14 +21,14 @@ pub enum Stop<'a> {
     BadLine(usize),
     #[error("archive: {0}")]
     Refused(Fault),
-    /// The database is not opened, no archive is made in it, or its archive gets no other configuration.
+    /// The database is not opened, no archive is made in it or of it, or its archive gets no other configuration.
     #[error("archive: {0}")]
     NoArchive(KeepFault),
-    /// The database is not opened: its tables are not those of an archive, and say that they are of this layout, which an older program
-    /// made.
-    #[error("archive: {0}\narchive: an archive of layout {1}, which an older program made")]
+    /// The database is not opened: its tables are not those of an archive, and say that they are of this older layout, of which a migration
+    /// makes one.
+    #[error("archive: {0}\narchive: an archive of layout {1}: archive migrate reads it")]
     Older(KeepFault, u64),
-    /// The same of a layout that a later program made.
+    /// The same where the layout is one that a later program made.
     #[error("archive: {0}\narchive: an archive of layout {1}, which a later program made")]
     Later(KeepFault, u64),
     /// A configuration is refused.

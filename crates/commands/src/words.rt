@@ -3,7 +3,7 @@
 ghost use Rattle.desk.specs.Connections.{HasServed, IsClientsWithin};
 
 use crate::answers;
-use crate::database::{InFile, close, create_archive, open_archive};
+use crate::database::{InFile, close, create_archive, migrate_archive, open_archive};
 use crate::doing::body_of;
 use crate::fault::Stop;
 use crate::log::Log;
@@ -112,6 +112,22 @@ pub fn configure<'a, K: Keeper + Drop, F: InFile<K>>(
     let done = answers::configure(rt.alloc(), &mut archive, config, at);
     close::<K, F>(archive);
     done
+}
+
+/// Makes an archive in a database file, with the configuration of a file, of the archive of an older layout in another database file, with
+/// all arrivals as of a moment, in seconds since 1970-01-01 00:00:00 UTC.
+pub fn migrate<'a, K: Keeper + Drop, F: InFile<K>>(
+    rt: &HostRuntime,
+    from: &str,
+    db: &str,
+    at: u64,
+    conf: &'a str,
+) -> Result<(), Stop<'a>> {
+    let text = body_of(rt, conf)?;
+    let config = Config::read(rt.alloc(), &text)?;
+    let archive = migrate_archive::<K, F>(rt, from, db, config, at)?;
+    close::<K, F>(archive);
+    Ok(())
 }
 
 /// Serves so many connections of a listener, or says that there is none.

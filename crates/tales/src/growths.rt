@@ -23,9 +23,9 @@ pub struct Marked<K: Keeper + Drop, M: Places<K>> {
 
 /// Where the marks are printed, if they are.
 #[derive(Clone, Copy)]
-struct Marks<'a, R> {
-    rt: &'a R,
-    are_printed: bool,
+pub struct Marks<'a, R> {
+    pub rt: &'a R,
+    pub are_printed: bool,
 }
 
 impl<R: Print + AllocGlobal> Marks<'_, R> {
@@ -38,12 +38,12 @@ impl<R: Print + AllocGlobal> Marks<'_, R> {
     }
 
     /// Growths count from here on.
-    fn begin(&self) -> Result<(), Unread> {
+    pub fn begin(&self) -> Result<(), Unread> {
         self.print("begin")
     }
 
     /// No growth counts from here on.
-    fn end(&self, is_refused: bool) -> Result<(), Unread> {
+    pub fn end(&self, is_refused: bool) -> Result<(), Unread> {
         self.print("end")?;
         self.print(if is_refused { "refused" } else { "at once" })
     }
@@ -125,7 +125,7 @@ fn kept<K: Keeper + Drop, M: Places<K>>(
 }
 
 /// The configuration of a text.
-fn config_of(alloc: Global, text: &[u8]) -> Result<Config, Unread> {
+pub fn config_of(alloc: Global, text: &[u8]) -> Result<Config, Unread> {
     match Config::read(alloc, text) {
         Ok(config) => Ok(config),
         Err(_) => Err(Unread::BadWords),

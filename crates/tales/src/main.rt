@@ -1,5 +1,5 @@
-//! Archives as rows: stories, told over both keepers, calls of which a growth may be refused from outside, and archives in files in memory
-//! whose disks stop, fail or are full.
+//! Archives as rows: stories, told over both keepers, calls and migrations of which a growth may be refused from outside, and archives in files
+//! in memory whose disks stop, fail or are full.
 //!
 //! A line is printed for each row that differs, and one for each file. The exit status is 0 where each file has rows, all rows can
 //! be read, and none differs; else 1.
@@ -8,10 +8,12 @@
 mod disks;
 mod growths;
 mod keepers;
+mod moves;
 
 use crate::disks::Case;
 use crate::growths::Marked;
 use crate::keepers::{Lists, OverLists, OverTables, Tables};
+use crate::moves::Moves;
 use keep::PlainKeeper;
 use keep_tables::TableKeeper;
 use rows::report_files;
@@ -25,11 +27,15 @@ type MarkedLists = Marked<PlainKeeper, Lists>;
 /// The same over keepers over tables in memory.
 type MarkedTables = Marked<TableKeeper<MemStore>, Tables>;
 
-/// Makes the calls of which a growth may be refused: those of all files over both keepers, or of some over one of them.
+/// Migrations of which a growth may be refused, over tables in memory.
+type MarkedMoves = Moves<MemStore>;
+
+/// Makes the calls of which a growth may be refused: those of all files over both keepers, or of some over one of them, and migrations.
 fn call(rt: &HostRuntime) -> io::Result<bool> {
     let over_lists = report_files::<MarkedLists, HostRuntime>(rt, "over lists: ", ".growths")?;
     let over_tables = report_files::<MarkedTables, HostRuntime>(rt, "over tables: ", ".growths")?;
-    Ok(over_lists && over_tables)
+    let moved = report_files::<MarkedMoves, HostRuntime>(rt, "of older ones: ", ".moves")?;
+    Ok(over_lists && over_tables && moved)
 }
 
 /// Tells the stories over both keepers, and what becomes of files.

@@ -6,9 +6,10 @@ use crate::disks::interrupted::interrupted;
 use crate::disks::steps::{Step, paths_of};
 use crate::disks::tampered::{changed, front, opening, opening_of, tampered, without_end};
 use crate::disks::task::{Question, Task};
-use crate::disks::trial::{Plan, SOUND, Which, done};
+use crate::disks::trial::{Plan, SOUND, Which, done, old_of};
 use crate::disks::work::{Pieces, Work, told_fault, word_or_fault};
 use keep::KeepFault;
+use old_book::OldBook;
 use rows::{Answers, Unread, said, text_of};
 use std::alloc::Global;
 
@@ -16,6 +17,8 @@ use std::alloc::Global;
 #[derive(Drop)]
 pub struct Case {
     image: Image,
+    /// What an archive of an older layout holds, where one was read.
+    old: Option<OldBook>,
 }
 
 /// Which of the two files a word names.
@@ -46,7 +49,12 @@ fn told(alloc: Global, answer: Result<Pieces, KeepFault>) -> Result<Vec<u8>, Unr
 }
 
 /// `interrupted FILE HOW STEP..`: what becomes of a step while one of the files fails.
-fn interrupted_by(alloc: Global, image: &Image, words: &[Vec<u8>]) -> Result<Vec<u8>, Unread> {
+fn interrupted_by(
+    alloc: Global,
+    image: &Image,
+    old: Option<&OldBook>,
+    words: &[Vec<u8>],
+) -> Result<Vec<u8>, Unread> {
     let [which, kind, step @ ..] = words else {
         return Err(Unread::BadWords);
     };
@@ -55,7 +63,7 @@ fn interrupted_by(alloc: Global, image: &Image, words: &[Vec<u8>]) -> Result<Vec
         kind: kind_of(kind)?,
         calls: u64::MAX,
     };
-    interrupted(alloc, image, plan, Step::read(alloc, step)?)
+    interrupted(alloc, image, plan, Step::read(alloc, old, step)?)
 }
 
 /// `observed`: all that an archive shows.
@@ -100,13 +108,45 @@ impl Case {
     fn step(&mut self, alloc: Global, step: Step<'_>) -> Result<Vec<u8>, Unread> {
         let work = step.work(Task::Ask(step.question(&[], &[])));
         let answer = self.works(alloc, work)?;
-        if step.config.is_some() {
+        if step.making.is_some() {
             return word_or_fault(alloc, "made", &answer);
         }
         if step.words.is_empty() {
             return word_or_fault(alloc, "opened", &answer);
         }
         told(alloc, answer)
+    }
+
+    /// Does the step of these words.
+    fn named_step(&mut self, alloc: Global, words: &[Vec<u8>]) -> Result<Vec<u8>, Unread> {
+        let old = self.old.take();
+        let answer = match Step::read(alloc, old.as_ref(), words) {
+            Ok(step) => self.step(alloc, step),
+            Err(unread) => Err(unread),
+        };
+        self.old = old;
+        answer
+    }
+
+    /// `old SQL..`: reads the archive of an older layout that lists of statements make in empty files, and says so, or the fault; with a
+    /// word where that changes the database file.
+    fn read_old(&mut self, alloc: Global, lists: &[Vec<u8>]) -> Result<Vec<u8>, Unread> {
+        self.old = None;
+        let Some(image) = changed(alloc, &Image::empty(alloc), lists)? else {
+            return said(alloc, "not run");
+        };
+        let (left, old) = old_of(alloc, &image)?;
+        let mut text = match old {
+            Ok(old) => {
+                self.old = Some(old);
+                said(alloc, "read")?
+            }
+            Err(fault) => told_fault(alloc, fault)?,
+        };
+        if left.database.as_slice() != image.database.as_slice() {
+            text.extend_from_slice(b" and other bytes")?;
+        }
+        Ok(text)
     }
 
     /// `archive CONFIGURATION`: makes an archive in empty files.
@@ -148,7 +188,8 @@ impl Case {
             }
             ("reopen", []) => self.reopen(alloc),
             ("changed", lists) => self.change(alloc, lists),
-            (_, _) => self.step(alloc, Step::read(alloc, all)?),
+            ("old", lists) => self.read_old(alloc, lists),
+            (_, _) => self.named_step(alloc, all),
         }
     }
 }
@@ -157,6 +198,7 @@ impl<R: AllocGlobal> Answers<R> for Case {
     fn fresh(rt: &R) -> Case {
         Case {
             image: Image::empty(rt.alloc()),
+            old: None,
         }
     }
 
@@ -167,7 +209,7 @@ impl<R: AllocGlobal> Answers<R> for Case {
         };
         match (text_of(verb)?, rest) {
             ("observed", []) => observed(alloc, image),
-            ("interrupted", words) => interrupted_by(alloc, image, words),
+            ("interrupted", words) => interrupted_by(alloc, image, self.old.as_ref(), words),
             ("tampered", lists) => tampered(alloc, image, lists),
             ("transaction", []) => in_transaction(alloc, image),
             ("count", [query]) => counted(alloc, image, query),

@@ -3,42 +3,75 @@
 use crate::disks::image::Image;
 use crate::disks::task::{Question, Task};
 use crate::disks::trial::{SOUND, done};
-use crate::disks::work::{Pieces, Work, told_fault};
-use keep::KeepFault;
-use rows::{Unread, text_of};
+use crate::disks::work::{Making, Pieces, Work, told_fault};
+use keep::{KeepFault, LATEST};
+use old_book::OldBook;
+use rows::{Unread, number_of, text_of};
 use rules::Config;
 use std::alloc::Global;
 
 /// A step of a story: a question to the archive that is there, or none where it is opened or made alone.
 #[derive(Clone, Copy)]
 pub struct Step<'a> {
-    /// The configuration of which an archive is made.
-    pub config: Option<&'a [u8]>,
+    /// Of what an archive is made, if one is.
+    pub making: Option<Making<'a>>,
     pub words: &'a [Vec<u8>],
 }
 
 impl<'a> Step<'a> {
-    /// The step that makes an archive of a configuration.
-    pub fn making(alloc: Global, config: &'a [u8]) -> Result<Step<'a>, Unread> {
+    /// The step that makes an archive of a configuration that can be read.
+    fn of(alloc: Global, config: &[u8], making: Making<'a>) -> Result<Step<'a>, Unread> {
         match Config::read(alloc, config) {
             Ok(_) => Ok(Step {
-                config: Some(config),
+                making: Some(making),
                 words: &[],
             }),
             Err(_) => Err(Unread::BadWords),
         }
     }
 
-    /// The step of these words.
-    pub fn read(alloc: Global, words: &'a [Vec<u8>]) -> Result<Step<'a>, Unread> {
+    /// The step that makes a new archive of a configuration.
+    pub fn making(alloc: Global, config: &'a [u8]) -> Result<Step<'a>, Unread> {
+        Step::of(alloc, config, Making::New(config))
+    }
+
+    /// The step that makes an archive of an older one, where there is one, under a configuration and at a moment.
+    fn migrating(
+        alloc: Global,
+        old: Option<&'a OldBook>,
+        config: &'a [u8],
+        moment: u64,
+    ) -> Result<Step<'a>, Unread> {
+        match old {
+            Some(old) if moment <= LATEST => {
+                let making = Making::Migrated {
+                    old,
+                    config,
+                    moment,
+                };
+                Step::of(alloc, config, making)
+            }
+            _ => Err(Unread::BadWords),
+        }
+    }
+
+    /// The step of these words, where this archive of an older layout was read last, if one was.
+    pub fn read(
+        alloc: Global,
+        old: Option<&'a OldBook>,
+        words: &'a [Vec<u8>],
+    ) -> Result<Step<'a>, Unread> {
         let Some((verb, rest)) = words.split_first() else {
             return Err(Unread::BadWords);
         };
-        let (config, words) = (None, words);
+        let (making, words) = (None, words);
         match (text_of(verb)?, rest) {
             ("create", [config]) => Step::making(alloc, config.as_slice()),
-            ("open", []) => Ok(Step { config, words: &[] }),
-            _ => Ok(Step { config, words }),
+            ("migrated", [config, moment]) => {
+                Step::migrating(alloc, old, config.as_slice(), number_of(moment)?)
+            }
+            ("open", []) => Ok(Step { making, words: &[] }),
+            _ => Ok(Step { making, words }),
         }
     }
 
@@ -53,8 +86,8 @@ impl<'a> Step<'a> {
 
     /// The task with the archive that the step makes, or that is there.
     pub fn work(self, task: Task<'a>) -> Work<'a> {
-        match self.config {
-            Some(config) => Work::Make(config, task),
+        match self.making {
+            Some(making) => Work::Make(making, task),
             None => Work::Open(task),
         }
     }
@@ -96,7 +129,7 @@ pub fn told_of(
     let task = Task::Tell(step.question(paths, &[]));
     let mut told = Vec::new(alloc);
     let stood = add_told(alloc, image, Work::Open(task), &mut told)?;
-    if step.config.is_some() {
+    if step.making.is_some() {
         add_told(alloc, &stood, step.work(task), &mut told)?;
     }
     Ok(told)

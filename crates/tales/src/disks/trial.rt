@@ -6,6 +6,7 @@ use crate::disks::image::Image;
 use crate::disks::work::{Answer, Pieces, Work};
 use keep::KeepFault;
 use keep_rows::fault_of;
+use old_book::OldBook;
 use rows::Unread;
 use sqlite::{Connection, FileStore, Files, Options};
 use sqlite_disk::{Crash, Disk, Memory};
@@ -102,6 +103,20 @@ fn worked<D: Disk + Drop>(alloc: Global, files: Files<D>, work: Work<'_>) -> (Fi
     }
 }
 
+/// Reads the archive of an older layout in files, and gives them back.
+fn old_in<D: Disk + Drop>(
+    alloc: Global,
+    files: Files<D>,
+) -> (Files<D>, Result<OldBook, KeepFault>) {
+    match connected(alloc, files) {
+        Ok(mut connection) => {
+            let old = OldBook::read(alloc, &mut connection);
+            (closed(connection, false), old)
+        }
+        Err((files, fault)) => (files, Err(fault)),
+    }
+}
+
 /// A disk that holds these bytes, and passes so many calls on before it fails.
 fn disk_of(alloc: Global, bytes: &[u8], kind: Kind, calls: u64) -> Result<Broken, AllocError> {
     let mut file = Memory::new(alloc);
@@ -171,4 +186,13 @@ pub fn done(alloc: Global, image: &Image, plan: Plan, work: Work<'_>) -> Result<
         Ok(answer) => left_of(alloc, files, plan.which, answer),
         Err(unread) => Err(unread),
     }
+}
+
+/// What is left of files that hold what an image says, and the archive of an older layout that is read of them, or why none is.
+pub fn old_of(
+    alloc: Global,
+    image: &Image,
+) -> Result<(Image, Result<OldBook, KeepFault>), Unread> {
+    let (files, old) = old_in::<Broken>(alloc, files_of(alloc, image, SOUND)?);
+    Ok((image_of(alloc, &files)?, old))
 }

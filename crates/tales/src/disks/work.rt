@@ -1,9 +1,10 @@
 //! What is done with a database, over any store: each function that names the store of files takes the prover minutes.
 
 use crate::disks::task::Task;
-use keep::KeepFault;
+use keep::{KeepFault, LATEST};
 use keep_rows::fault_of;
 use keep_tables::{InOrder, TableKeeper};
+use old_book::OldBook;
 use queue::Archive;
 use rows::{Unread, said};
 use rules::Config;
@@ -16,13 +17,26 @@ pub type Pieces = Vec<Vec<u8>>;
 /// What came of work: what was told, or the fault where there was no archive or no database; or why a row can't be read.
 pub type Answer = Result<Result<Pieces, KeepFault>, Unread>;
 
+/// Of what an archive is made.
+#[derive(Clone, Copy)]
+pub enum Making<'a> {
+    /// Of a configuration: it is new, and made at 0.
+    New(&'a [u8]),
+    /// Of what an archive of an older layout holds, under a configuration, with all arrivals as of a moment.
+    Migrated {
+        old: &'a OldBook,
+        config: &'a [u8],
+        moment: u64,
+    },
+}
+
 /// What is done with a database.
 #[derive(Clone, Copy)]
 pub enum Work<'a> {
     /// A task of the archive that is there.
     Open(Task<'a>),
-    /// A task of an archive that is made of this configuration.
-    Make(&'a [u8], Task<'a>),
+    /// A task of an archive that is made.
+    Make(Making<'a>, Task<'a>),
     /// Opens the archive, and copies the log into the database file.
     Reopen,
     /// Runs a list of statements past the archive, and copies the log.
@@ -52,15 +66,29 @@ fn with_archive<S: Alter + Drop>(
     }
 }
 
-/// The keeper of a new archive, made at 0 of a configuration that can be read.
+impl<'a> Making<'a> {
+    /// The text of the configuration.
+    fn config(self) -> &'a [u8] {
+        match self {
+            Making::New(config) | Making::Migrated { config, .. } => config,
+        }
+    }
+}
+
+/// The keeper of an archive that is made, of a configuration that can be read.
 fn made<S: Alter + Drop>(
     alloc: Global,
     connection: Connection<S>,
-    config: &[u8],
+    making: Making<'_>,
 ) -> Result<TableKeeper<S>, (Connection<S>, KeepFault)> {
-    match Config::read(alloc, config) {
-        Ok(config) => TableKeeper::create(alloc, connection, config, 0),
-        Err(_) => Err((connection, KeepFault::OutOfMemory)),
+    let Ok(config) = Config::read(alloc, making.config()) else {
+        return Err((connection, KeepFault::OutOfMemory));
+    };
+    match making {
+        Making::New(_) => TableKeeper::create(alloc, connection, config, 0),
+        Making::Migrated { old, moment, .. } => {
+            migrate::migrate(alloc, connection, old, config, moment.min(LATEST))
+        }
     }
 }
 
@@ -152,7 +180,7 @@ impl Work<'_> {
         let mut connection = connection;
         match self {
             Work::Open(task) => with_archive(alloc, TableKeeper::open(alloc, connection), task),
-            Work::Make(config, task) => with_archive(alloc, made(alloc, connection, config), task),
+            Work::Make(making, task) => with_archive(alloc, made(alloc, connection, making), task),
             Work::Reopen => {
                 with_archive(alloc, TableKeeper::open(alloc, connection), Task::Nothing)
             }

@@ -10,4 +10,5 @@ returns c app whole =
     let six = c.with-command-6.ensures _ _ five c.remove_command.ensures in
     let seven = c.with-command-7.ensures _ _ six c.clean_command.ensures in
     let eight = c.with-command-8.ensures _ _ seven c.batch_command.ensures in
-    c.with.ensures _ _ eight c.configure_command.ensures
+    let nine = c.with-command-9.ensures _ _ eight c.configure_command.ensures in
+    c.with.ensures _ _ nine c.migrate_command.ensures

@@ -1,0 +1,98 @@
+"""All tests of this repository, one after another, as `make test` and CI run them.
+
+First come those that take seconds: whether the pages and the wrong bodies fit the sources, and the tests of the tools. Then
+comes the gate, rt ci, and behind it the tests of the program that it built. Each is run, also where one before it failed. The
+last line is 'N passed, M failed': what the gate counts, and one more for each of the others. The status is 0 where none failed."""
+import os
+import re
+import subprocess
+import sys
+import time
+
+ROOT = os.path.dirname(os.path.dirname(os.path.abspath(__file__)))
+BEFORE = [
+    "checks/pages",
+    "checks/try_wrong_bodies --read",
+    "tests.test_pages",
+    "tests.test_format",
+    "tests.test_using",
+    "tests.test_wrong_bodies",
+    "tests.test_with_sidecars",
+]
+GATE = ["rt", "ci"]
+# The memory that a check takes at most, in bytes, over the four that take the most side by side.
+MEMORY_OF_CHECK = 5_500_000_000
+BEHIND = [
+    "tests.test_database",
+    "tests.test_archives",
+    "tests.test_others",
+    "tests.test_served",
+    "tests.test_pieces",
+    "tests.test_command_lines",
+    "tests.test_layouts",
+    "tests.test_batch",
+    "tests.test_configurations",
+    "tests.test_migrations",
+    "tests.test_long_indices",
+    "tests.test_lines",
+    "tests.test_serving",
+    "tests.test_holders",
+    "tests.test_moments",
+    "tests.test_failing",
+    "tests.test_hostile",
+    "tests.test_soak",
+    "tests.test_using_program",
+    "tests.test_using_proxy",
+    "tests.refuse_growths --lists",
+]
+COUNTS = re.compile(r"(\d+) passed, (\d+) failed$")
+
+
+def is_passed(line):
+    """Runs a tool, which is named by its path or as a module of tests, and answers whether it ended well."""
+    print(f"== {line}", flush=True)
+    name, *words = line.split()
+    module = ["-m"] if name.startswith("tests.") else []
+    return subprocess.run([sys.executable, *module, name, *words], cwd=ROOT, check=False).returncode == 0
+
+
+def free_memory():
+    """How many bytes of memory are free, by what the system says."""
+    with open("/proc/meminfo", encoding="ascii") as file:
+        found = re.search(r"MemAvailable:\s+(\d+) kB", file.read())
+    return 1024 * int(found[1]) if found else 0
+
+
+def environment_of_gate():
+    """The environment that the gate is run in. rt counts more memory for a check than one takes here, and leaves processors idle
+    by that count. Where there is memory for one check on each processor, RT_JOBS says so."""
+    processors = len(os.sched_getaffinity(0))
+    is_enough = free_memory() >= processors * MEMORY_OF_CHECK
+    return {**({"RT_JOBS": str(processors)} if is_enough else {}), **os.environ}
+
+
+def gate():
+    """Runs the gate, says how long it took, and answers how much of it passed and failed."""
+    last, began = "", time.monotonic()
+    with subprocess.Popen(GATE, cwd=ROOT, env=environment_of_gate(), stdout=subprocess.PIPE, text=True, errors="replace") as run:
+        for line in run.stdout:
+            print(line, end="", flush=True)
+            last = line.strip() or last
+    print(f"The gate took {(time.monotonic() - began) / 60:.1f} minutes.", flush=True)
+    found = COUNTS.match(last)
+    passed, failed = (int(it) for it in found.groups()) if found else (0, 1)
+    return passed, failed or int(run.returncode != 0)
+
+
+def main():
+    passed, failed = 0, 0
+    for part in (BEFORE, None, BEHIND):
+        results = [is_passed(it) for it in part] if part else []
+        well, ill = (sum(results), len(results) - sum(results)) if part else gate()
+        passed, failed = passed + well, failed + ill
+    print(f"{passed} passed, {failed} failed")
+    return 1 if failed else 0
+
+
+if __name__ == "__main__":
+    sys.exit(main())

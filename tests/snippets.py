@@ -1,0 +1,282 @@
+"""What is set in on docs/USING.md, and rooms in which tests run it.
+
+Each text has a name here, by a piece that no other has. Tests ask for it by that name, and may put their own addresses and folders
+in place of those of the page. test_using.py looks whether each text has a name that some test asks for."""
+import contextlib
+import os
+import pathlib
+import pty
+import re
+import select
+import shlex
+import shutil
+import signal
+import socket
+import subprocess
+import tempfile
+import textwrap
+import time
+import unittest
+
+from tests.program import PROGRAM
+from uploads import uploads
+
+ROOT = pathlib.Path(__file__).resolve().parent.parent
+
+PIECES = {
+    "configuration": "Codename: box\n",
+    "first commands": "archive init --db box.db",
+    "commands": "archive try PATH..",
+    "curl": "for file in $(cat files)",
+    "dput.cf": "[box]\n",
+    "dput": "dput box ready/",
+    "lists": "/queue http:",
+    "trusted": "deb [trusted=yes]",
+    "promote": "archive promote --db box.db",
+    "promote by HTTP": "/promote/box/lab",
+    "remove": "archive remove --db box.db",
+    "again": "again.changes",
+    "remove by HTTP": "/remove/box/hello",
+    "serve": '--at "$(date +%s)" 127.0.0.1:8080 1000\n',
+    "box.service": "Description=The package archive box\n",
+    "log": "1467436850 PUT ",
+    "queue.service": "Description=One run of the queue of box\n",
+    "queue.timer": "Description=Runs the queue of box each minute\n",
+    "batch": "archive batch --db box.db",
+    "another configuration": "archive configure --db box.db",
+    "clean": "archive clean --db box.db",
+    "clean.service": "Description=One cleaning of box\n",
+    "clean.timer": "Description=Cleans box each day\n",
+    "moment": "last=$(cat moment",
+    "nginx": "proxy_cache_path",
+    "login": "htpasswd -c",
+    "key": "--quick-generate-key",
+    "sign": "#!/bin/sh -e\n",
+    "sign.conf": "ExecStart=/srv/box/sign\n",
+    "signed": "https://archive.example.org/ box main",
+    "cache": "Remap-box:",
+    "cached": "cache.example.org:3142",
+    "mirror": "debmirror --method",
+    "copy": "copy=copies/",
+    "look": 'archive verdicts --db "$copy"',
+    "pack": "VACUUM",
+    "notes": "CREATE TABLE notes",
+    "migrate": "archive migrate --from old.db",
+    "bring over": "sqlite3 old.db .dump",
+    "indexes": "arrivals_by_body ON arrivals (body)",
+}
+
+
+def page():
+    return (ROOT / "docs/USING.md").read_text(encoding="utf-8")
+
+
+def all_snippets():
+    """The texts of the page that are set in by four blanks or more, each without them."""
+    found = re.findall(r"(?:^ {4,}\S.*\n(?:\n(?= {4}))*)+", page(), re.M)
+    return [textwrap.dedent(text) for text in found]
+
+
+def changed(text, changes):
+    """A text with other words in place of some, each of which it has."""
+    for there, here in changes.items():
+        if there not in text:
+            raise ValueError(f"there is no {there} in: {text}")
+        text = text.replace(there, here)
+    return text
+
+
+def snippet(name, changes=()):
+    """The text of this name, with other words in place of some of the page's."""
+    [text] = [it for it in all_snippets() if PIECES[name] in it]
+    return changed(text, dict(changes))
+
+
+def commands_of(unit):
+    """The command lines of a unit's text, as systemd reads them."""
+    return [shlex.split(line.replace("%%", "%")) for line in re.findall(r"^ExecStart=(.*)$", unit, re.M)]
+
+
+def free_port(ports=(0,)):
+    """A port of these that is free. Of 0 it is any."""
+    for port in ports:
+        with contextlib.suppress(OSError), socket.socket() as it:
+            it.bind(("127.0.0.1", port))
+            return it.getsockname()[1]
+    raise OSError("no port is free")
+
+
+def built(folder, package):
+    """Writes what dpkg-buildpackage would of a package, which lists no sidecar: its files to a folder. Answers the path of the .changes."""
+    files = {f"{package.name}_{package.version}_amd64.deb": uploads.deb_of(package)}
+    if package.source:
+        files.update(uploads.source_of(package))
+    files[f"{package.name}_{package.version}_amd64.changes"] = uploads.changes_of(package.name, package.version, files)
+    for name, body in files.items():
+        pathlib.Path(folder, name).write_bytes(body)
+    return f"{folder}/{package.name}_{package.version}_amd64.changes"
+
+
+APT = """Dir "{base}";
+Dir::State::status "{base}/status";
+APT::Architecture "amd64";
+APT::Architectures {{ "amd64"; }};
+APT::Sandbox::User "root";
+Acquire::Retries "1";
+Acquire::https::CAInfo "{certificate}";
+"""
+
+NGINX = """{user}daemon off; pid {folder}/pid; error_log {folder}/errors; events {{}}
+http {{
+access_log off; client_body_temp_path {folder}/body; proxy_temp_path {folder}/proxy; fastcgi_temp_path {folder}/fastcgi;
+uwsgi_temp_path {folder}/uwsgi; scgi_temp_path {folder}/scgi;
+{text}
+}}
+"""
+
+
+def needs(*names):
+    """Skips a test where one of these programs is not there."""
+    missing = [name for name in names if not shutil.which(name)]
+    return unittest.skipIf(missing, f"there is no {', no '.join(missing)}")
+
+
+class Room:
+    """A folder with a home, programs of its own on the path, and what was started in it, which `close` ends."""
+
+    def __init__(self):
+        self.ending = contextlib.ExitStack()
+        self.folder = self.ending.enter_context(tempfile.TemporaryDirectory())
+        for name in ("home", "bin", "work"):
+            os.mkdir(f"{self.folder}/{name}")
+        self.home, self.work = f"{self.folder}/home", f"{self.folder}/work"
+        os.symlink(os.path.abspath(PROGRAM), f"{self.folder}/bin/archive")
+        os.symlink(ROOT / "bin/with_sidecars", f"{self.folder}/bin/with_sidecars")
+        self.variables = {
+            "PATH": f"{self.folder}/bin:{os.environ['PATH']}:/usr/sbin:/sbin",
+            "HOME": self.home,
+            "USER": "ann",
+            "LC_ALL": "C.UTF-8",
+        }
+
+    def close(self):
+        self.ending.close()
+
+    def write(self, name, text, mode=0o644):
+        """Writes a text to a file, which has a path from the folder, and answers the path."""
+        path = pathlib.Path(self.folder, name)
+        path.parent.mkdir(parents=True, exist_ok=True)
+        path.write_text(text, encoding="utf-8")
+        path.chmod(mode)
+        return str(path)
+
+    def run(self, text, cwd=None):
+        """Runs a text by a shell that ends at the first failure. Answers the status, and what was printed on both outputs."""
+        words = {"cwd": cwd or self.work, "env": self.variables, "stdin": subprocess.DEVNULL, "timeout": 120}
+        ran = subprocess.run(["sh", "-ec", text], capture_output=True, text=True, errors="backslashreplace", check=False, **words)
+        return ran.returncode, ran.stdout, ran.stderr
+
+    def read(self, name):
+        """The text of a file, which has a path from the folder."""
+        return pathlib.Path(self.folder, name).read_text(encoding="utf-8", errors="backslashreplace")
+
+    def start(self, words, port=None):
+        """Starts a program, which is ended with the room, and waits until it listens at a port. What it prints goes to the file `told`."""
+        words = [shutil.which(words[0], path=self.variables["PATH"]), *words[1:]]
+        with open(f"{self.folder}/told", "ab") as out:
+            streams = {"stdin": subprocess.DEVNULL, "stdout": out, "stderr": subprocess.STDOUT}
+            process = subprocess.Popen(words, cwd=self.work, env=self.variables, start_new_session=True, **streams)
+        self.ending.callback(self.end, process)
+        end = time.monotonic() + 20
+        while port and not is_open(port):
+            if process.poll() is not None or time.monotonic() > end:
+                raise RuntimeError(f"nothing listens at {port}: {words}: {self.read('told')}")
+            time.sleep(0.01)
+        return process
+
+    def typed(self, text, password):
+        """Runs a text by a shell at a terminal, at which this password is typed wherever one is asked for. Answers the status, and all
+        that was printed."""
+        number, terminal = pty.fork()
+        if not number:
+            os.chdir(self.work)
+            os.execvpe("sh", ["sh", "-ec", text], self.variables)
+        printed, asked = b"", 0
+        with contextlib.suppress(OSError):  # which is how a terminal ends
+            while select.select([terminal], [], [], 60)[0] and (part := os.read(terminal, 1 << 16)):
+                printed += part
+                if len(re.findall(rb"(?i)password[^\n]*: ?", printed)) > asked:
+                    asked += 1
+                    os.write(terminal, f"{password}\n".encode())
+        os.close(terminal)
+        return os.waitstatus_to_exitcode(os.waitpid(number, 0)[1]), printed.decode(errors="backslashreplace")
+
+    def end(self, process):
+        """Ends a program and all that it started."""
+        process.terminate()
+        with contextlib.suppress(subprocess.TimeoutExpired):
+            process.wait(timeout=5)
+        with contextlib.suppress(ProcessLookupError):
+            os.killpg(process.pid, signal.SIGKILL)
+        process.wait()
+
+    def certificate(self):
+        """Makes a certificate for localhost, where there is none, and answers its path and that of its key."""
+        paths = f"{self.folder}/certificate.pem", f"{self.folder}/key.pem"
+        if not os.path.exists(paths[0]):
+            words = ["openssl", "req", "-x509", "-newkey", "rsa:2048", "-nodes", "-days", "2", "-out", paths[0], "-keyout", paths[1]]
+            words += ["-subj", "/CN=localhost", "-addext", "subjectAltName=DNS:localhost"]
+            subprocess.run(words, check=True, capture_output=True, timeout=60)
+        return paths
+
+    def nginx(self, text, port, behind):
+        """Writes the page's text for nginx as a whole configuration, which listens at a port, and has the archive at another, with all
+        its files in the room. Answers its path."""
+        certificate, key = self.certificate()
+        folder = tempfile.mkdtemp(dir=self.folder)
+        text = changed(text, {
+            "/etc/nginx/archive.pem": certificate,
+            "/etc/nginx/archive.key": key,
+            "/etc/nginx/uploaders": f"{self.folder}/uploaders",
+            "/var/cache/nginx/box": f"{folder}/cache",
+            "/srv/box/signed": f"{self.work}/signed",
+            "listen 443 ssl": f"listen 127.0.0.1:{port} ssl",
+            "http://127.0.0.1:8080": f"http://127.0.0.1:{behind}",
+            "archive.example.org": "localhost",
+        })
+        user = "user root; " if os.geteuid() == 0 else ""
+        return self.write(f"{folder}/nginx.conf", NGINX.format(user=user, folder=folder, text=text))
+
+    def apt(self, sources):
+        """Makes an apt of its own, with a sources.list of this text, which apt-get uses from then on."""
+        base = tempfile.mkdtemp(dir=self.folder)
+        for name in ("apt.conf.d", "preferences.d", "trusted.gpg.d", "sources.list.d"):
+            os.makedirs(f"{base}/etc/apt/{name}")
+        for name in ("lib/apt/lists/partial", "cache/apt/archives/partial"):
+            os.makedirs(f"{base}/var/{name}")
+        pathlib.Path(base, "status").touch()
+        pathlib.Path(base, "etc/apt/sources.list.d/box.list").write_text(sources, encoding="utf-8")
+        text = APT.format(base=base, certificate=f"{self.folder}/certificate.pem")
+        pathlib.Path(base, "apt.conf").write_text(text, encoding="utf-8")
+        self.variables["APT_CONFIG"] = f"{base}/apt.conf"
+
+
+def is_open(port):
+    """Whether something listens at a port."""
+    with contextlib.suppress(OSError), socket.create_connection(("127.0.0.1", port), timeout=5) as it:
+        return it.getsockname() != it.getpeername()
+    return False
+
+
+class Case(unittest.TestCase):
+    """A test with a room of its own."""
+
+    def setUp(self):
+        self.room = Room()
+        self.addCleanup(self.room.close)
+
+    def shell(self, text, cwd=None):
+        """Runs a text that ends well and says nothing on standard error. Answers what it prints."""
+        status, printed, told = self.room.run(text, cwd)
+        self.assertEqual((status, told), (0, ""), printed)
+        return printed

@@ -1,0 +1,100 @@
+"""Tests of commands on a database file that another process has. The program is that of program.py."""
+import contextlib
+import os
+import subprocess
+import time
+import unittest
+
+from tests.program import DATA, NAMES, PROGRAM, Lines, Serving, get, rest, seconds_since
+
+# The words of each command behind `--db FILE`, and what it answers where nobody has the file: status, and both outputs.
+COMMANDS = {
+    "init": (["--at", "0", "{folder}/box.conf"], (1, "", "archive: K4\n")),
+    "put": (["--at", "0", f"{DATA}/{NAMES[1]}"], (0, f"again {NAMES[1]}\n", "")),
+    "run": (["--at", "0"], (0, "", "")),
+    "clean": (["--at", "0"], (0, "0\n", "")),
+    "batch": (["--at", "0", os.devnull], (0, "", "")),
+    "copy": (["--at", "0", "box", "box", "hello"], (1, "", "archive: Q7\n")),
+    "promote": (["--at", "0", "box", "box"], (1, "", "archive: Q7\n")),
+    "remove": (["--at", "0", "box", "nosuch"], (1, "", "archive: Q11\n")),
+    "show": (["pool/main/h/hello/hello_1.0-1_amd64.deb"], (0, "abc", "")),
+    "waiting": (["--at", "0"], (0, "", "")),
+    "verdicts": ([], (0, f"accepted {NAMES[0]}\n", "")),
+}
+
+
+@contextlib.contextmanager
+def begun(db, command):
+    """A command that runs. It is ended whatever happens."""
+    words = [word.replace("{folder}", os.path.dirname(db)) for word in COMMANDS[command][0]]
+    process = subprocess.Popen([PROGRAM, command, "--db", db, *words], stdout=subprocess.PIPE, stderr=subprocess.PIPE, text=True)
+    try:
+        yield process
+    finally:
+        process.kill()
+        process.communicate()
+
+
+class Holders(Lines):
+    @contextlib.contextmanager
+    def all_begun(self, db):
+        """All commands, begun at once while another process has the file."""
+        with contextlib.ExitStack() as stack:
+            yield {command: stack.enter_context(begun(db, command)) for command in COMMANDS}
+
+    def results(self, processes):
+        """The end of each command, by its name: status, and both outputs."""
+        printed = {command: it.communicate(timeout=60) for command, it in processes.items()}
+        return {command: (processes[command].returncode, *texts) for command, texts in printed.items()}
+
+    def test_each_command_waits_for_a_file_that_is_let_go(self):
+        db = self.accepted()
+        with Serving(db, 2) as holder:
+            holder.answer(b"")
+            with holder.connected() as held, self.all_begun(db) as processes:
+                time.sleep(3)
+                self.assertEqual([command for command, it in processes.items() if it.poll() is not None], [])
+                held.close()
+                self.assertEqual(holder.ended(), (0, "", ""))
+                self.assertEqual(self.results(processes), {command: result for command, (_, result) in COMMANDS.items()})
+
+    def test_each_command_gives_up_where_it_is_not(self):
+        db = self.accepted()
+        with Serving(db, 2) as holder:
+            holder.answer(b"")
+            start = time.monotonic()
+            with self.all_begun(db) as processes, Serving(db, 1) as serving, self.kept(holder):
+                self.assertEqual(serving.ended(20), (3, "", "archive: K2\n"))
+                self.assertEqual(self.results(processes), dict.fromkeys(COMMANDS, (3, "", "archive: K2\n")))
+                waited = seconds_since(start)
+        self.assertGreaterEqual(waited, 9.5)
+        self.assertLess(waited, 14)
+
+    @contextlib.contextmanager
+    def kept(self, holder):
+        """Keeps a server busy with its last connection, whose client sends a byte and no more."""
+        with holder.connected() as client:
+            client.sendall(b"G")
+            yield
+
+    def test_what_no_process_has_is_not_waited_for(self):
+        db = self.made()
+        for path in (f"{db}.none/a.db", f"{os.path.dirname(db)}/box.conf"):
+            start = time.monotonic()
+            self.assertEqual(self.line(3, "verdicts", path), "archive: K2\n")
+            self.assertLess(seconds_since(start), 5)
+
+    def test_a_server_waits_too(self):
+        db = self.accepted()
+        with Serving(db, 2) as holder:
+            holder.answer(b"")
+            with holder.connected() as held, Serving(db, 1) as serving:
+                client = serving.sent(get("pool/main/h/hello/hello_1.0-1_amd64.deb"))
+                time.sleep(2)
+                held.close()
+                self.assertTrue(rest(client).endswith(b"\r\n\r\nabc"))
+                self.assertEqual(serving.ended(), (0, "", ""))
+
+
+if __name__ == "__main__":
+    unittest.main()

@@ -1,0 +1,57 @@
+"""Tests of docs/USING.md that need no built program: each text that is set in there is one that a test asks for, its units of systemd
+and its text for nginx are right as they stand there. Where systemd-analyze, nginx or openssl is not there, the test says that it was
+skipped. What it shows is run by test_using_program.py and test_using_proxy.py."""
+import os
+import pathlib
+import re
+import shutil
+import subprocess
+import unittest
+
+from tests import snippets
+from tests.snippets import snippet
+
+HERE = pathlib.Path(__file__).resolve().parent
+
+
+class Using(snippets.Case):
+    def passes(self, *words):
+        ran = subprocess.run(words, capture_output=True, text=True, check=False, timeout=60, env={**os.environ, **self.room.variables})
+        self.assertEqual((ran.returncode, ran.stdout), (0, ""), ran.stderr)
+        return ran.stderr
+
+    def test_each_text_that_is_set_in_has_one_name(self):
+        self.assertNotIn("```", snippets.page())
+        for text in snippets.all_snippets():
+            with self.subTest(text):
+                self.assertEqual(len([name for name, piece in snippets.PIECES.items() if piece in text]), 1)
+        for name in snippets.PIECES:
+            with self.subTest(name):
+                self.assertTrue(snippet(name))
+
+    def test_each_name_is_one_that_a_test_asks_for(self):
+        tests = "".join(it.read_text(encoding="utf-8") for it in HERE.glob("test_*.py"))
+        self.assertEqual(set(snippets.PIECES) - set(re.findall(r'snippet\("([^"]+)"', tests)), set())
+
+    @unittest.skipUnless(shutil.which("systemd-analyze"), "there is no systemd-analyze")
+    def test_the_units_are_right(self):
+        # The programs need not be installed here.
+        self.room.write("units/box.service", snippet("box.service", {"/usr/local/bin/archive": "/bin/true"}))
+        self.room.write("units/queue.service", snippet("queue.service"))
+        self.room.write("units/queue.service.d/sign.conf", snippet("sign.conf", {"/srv/box/sign": "/bin/true"}))
+        self.room.write("units/queue.timer", snippet("queue.timer"))
+        self.room.write("units/clean.service", snippet("clean.service"))
+        self.room.write("units/clean.timer", snippet("clean.timer"))
+        self.room.variables["SYSTEMD_UNIT_PATH"] = f"{self.room.folder}/units:"
+        for name in ("box.service", "queue.service", "queue.timer", "clean.service", "clean.timer"):
+            self.assertEqual(self.passes("systemd-analyze", "verify", f"{self.room.folder}/units/{name}"), "")
+
+    @unittest.skipUnless(shutil.which("nginx") and shutil.which("openssl"), "there is no nginx, or no openssl")
+    def test_the_text_for_nginx_is_right(self):
+        """It is taken with other paths for the certificate, the cache and the logins, and with a port that needs no right."""
+        path = self.room.nginx(snippet("nginx"), snippets.free_port(), 8080)
+        self.assertIn("test is successful", self.passes("nginx", "-t", "-c", path))
+
+
+if __name__ == "__main__":
+    unittest.main()

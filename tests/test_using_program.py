@@ -1,0 +1,567 @@
+"""Tests of docs/USING.md with the built program: what is set in there is run by a shell as it stands, with addresses of the test's own,
+and what the page says of copies, of the file and of answers is tried. The program is that of program.py. Where curl, dput, apt-get,
+sqlite3 or dpkg-deb is not there, the test says that it was skipped."""
+import contextlib
+import glob
+import os
+import pathlib
+import re
+import shutil
+import socket
+import subprocess
+import threading
+import time
+import unittest
+
+from tests import snippets
+from tests.program import PROGRAM, mounted, put_of
+from tests.snippets import ROOT, built, commands_of, free_port, needs, snippet
+from tests.test_configurations import arm64_upload
+from uploads import uploads
+
+HELLO = uploads.Package("hello", source=True)
+CHANGES = "hello_1.0-1_amd64.changes"
+PACKAGES = "dists/box/main/binary-amd64/Packages"
+# The seconds of 90 days.
+DAYS = 90 * 86_400
+
+
+@unittest.skipUnless(os.path.exists(PROGRAM), f"there is no program {PROGRAM}")
+class Case(snippets.Case):
+    def made(self, changes=()):
+        """Makes the archive of the page, with other words in its configuration."""
+        self.room.write("work/box.conf", snippet("configuration", changes))
+        self.shell('archive init --db box.db --at "$(date +%s)" box.conf')
+
+    def made_with_days(self):
+        """Makes the archive of the page at the moment 1, with files that count for 90 days."""
+        self.room.write("work/box.conf", snippet("configuration") + "KeepDays: 90\n")
+        self.shell("rm -f box.db*; archive init --db box.db --at 1 box.conf")
+
+    def made_with_lab(self):
+        """Makes the archive of the page with a second suite, lab, that keeps what box keeps."""
+        lab = "\nCodename: lab\nArchitectures: amd64 source\nComponents: main\n"
+        self.room.write("work/box.conf", snippet("configuration") + lab)
+        self.shell("rm -f box.db*; archive init --db box.db --at 1 box.conf")
+
+    def ready(self, package=HELLO, folder="ready"):
+        """Makes the upload of a package, by with_sidecars. Its paths are in the file `files`."""
+        self.shell(f"with_sidecars {built(self.room.folder, package)} {folder} > files")
+
+    def serve(self, *words, port=None):
+        """Serves the archive, at a port that is free where none is named, and answers it."""
+        port = port or free_port()
+        line = ["archive", "serve", "--db", "box.db", "--at", str(int(time.time())), *words, f"127.0.0.1:{port}", "1000"]
+        self.process = self.room.start(line, port=port)
+        return port
+
+    def wait_for(self, pattern):
+        """Waits for what a server writes behind a reply: until this pattern finds it among what programs printed. Answers all of that."""
+        end = time.monotonic() + 60
+        while not re.search(pattern, self.room.read("told")):
+            self.assertLess(time.monotonic(), end, self.room.read("told"))
+            time.sleep(0.05)
+        return self.room.read("told")
+
+    def names(self):
+        return [os.path.basename(path) for path in self.room.read("work/files").split()]
+
+    def fails(self, text):
+        """Runs a text that fails. Answers the status, and all that it prints."""
+        status, printed, told = self.room.run(text)
+        self.assertNotEqual(status, 0, printed + told)
+        return status, printed + told
+
+
+class Commands(Case):
+    @needs("dpkg-deb")
+    def test_an_archive_in_five_minutes(self):
+        self.room.write("work/box.conf", snippet("configuration"))
+        built(self.room.folder, HELLO)
+        printed = self.shell(snippet("first commands"))
+        lines = [f"new {name}" for name in self.names()] + [f"0 {CHANGES}", f"accepted {CHANGES}", "Package: hello"]
+        self.assertEqual(printed.splitlines()[:len(lines)], lines)
+        self.assertEqual(self.names()[-1], CHANGES)
+        self.assertIn("\nFilename: pool/main/h/hello/hello_1.0-1_amd64.deb\n", printed)
+
+    @needs("make", "dpkg-deb")
+    def test_both_programs_are_installed(self):
+        prefix = f"{self.room.folder}/prefix"
+        self.shell(f"make -s install PREFIX={prefix} PROGRAM={os.path.abspath(PROGRAM)}", cwd=ROOT)
+        self.assertEqual(sorted(os.listdir(f"{prefix}/bin")), ["archive", "with_sidecars"])
+        self.assertEqual(self.shell(f"{prefix}/bin/archive compare 1.0 1.1"), "less\n")
+        self.assertIn("with_sidecars FILE.changes FOLDER", self.shell(f"{prefix}/bin/with_sidecars --help"))
+
+    def test_the_commands_are_those_of_the_program(self):
+        listed = set(re.findall(r"^  (\w+)  ", self.shell("archive --help"), re.M)) - {"help"}
+        lines = [line.partition("#")[0].split() for line in snippet("commands").splitlines() if line.startswith("archive ")]
+        self.assertEqual({line[1] for line in lines}, listed)
+        for _, word, *words in lines:
+            told = self.shell(f"archive {word} --help")
+            usage = re.search(r"^Usage: archive \w+(.*)$", told, re.M)[1].replace("[OPTIONS]", "")
+            wanted = " ".join(words).replace("[--moments MOMENTS] [--log] ", "")
+            self.assertEqual(re.sub(r"[<>]", "", usage).replace("...", "..").replace("]..", "..]").split(), wanted.split())
+            for option in re.findall(r"--\w+", " ".join(words)):
+                self.assertIn(option, told)
+
+    @needs("dpkg-deb")
+    def test_a_list_is_done_over_one_opening(self):
+        self.made()
+        self.ready()
+        names = self.names()
+        self.assertEqual(self.shell(snippet("batch")), "".join(f"new {it}\n" for it in names) + f"accepted {CHANGES}\n")
+        piped = snippet("batch", {" > list\narchive": " | archive", '" list': '" -'})
+        self.assertEqual(self.shell(piped), "".join(f"again {it}\n" for it in names))
+
+    def test_a_moment_never_falls(self):
+        now = int(time.time())
+        for last, wanted in ((None, now), (now - 1000, now), (now + 1000, now + 1000)):
+            if last:
+                self.room.write("work/moment", f"{last}\n")
+            printed = self.shell(f'{snippet("moment")}echo "$at"')
+            self.assertEqual(printed, self.room.read("work/moment"))
+            self.assertIn(int(printed) - wanted, range(60))
+
+
+class Rules(Case):
+    """What the page says of configurations, verdicts and copies."""
+
+    def judged(self, package=HELLO, folder="ready"):
+        self.ready(package, folder)
+        self.shell("archive put --db box.db --at 1 $(cat files)")
+        return self.shell("archive run --db box.db --at 1")
+
+    @needs("dpkg-deb")
+    def test_a_misspelt_field_lets_everybody_in(self):
+        others = {"* by Ann <ann@example.org>": "* by Bob <bob@example.org>", "hello by anybody": "hallo by anybody"}
+        for words, verdict in ((others, "refused 3"), ({**others, "Uploaders:": "Uploader:"}, "accepted")):
+            with self.subTest(verdict):
+                self.room = snippets.Room()
+                self.addCleanup(self.room.close)
+                self.made(words)
+                self.assertEqual(self.judged(), f"{verdict} {CHANGES}\n")
+
+    @needs("dpkg-deb")
+    def test_what_is_accepted_need_not_be_shown(self):
+        self.made()
+        for version in ("2.0-1", "1.0-1"):
+            judged = self.judged(uploads.Package("hello", version=version), f"ready{version}")
+            self.assertEqual(judged, f"accepted hello_{version}_amd64.changes\n")
+        shown = self.shell(f"archive show --db box.db {PACKAGES}")
+        self.assertEqual(re.findall("^Version: (.*)$", shown, re.M), ["2.0-1"])
+
+    @needs("dpkg-deb")
+    def test_a_copy_asks_no_rule(self):
+        self.made()
+        lab = "\nCodename: lab\nArchitectures: amd64 source\nComponents: main\nUploaders:\n * by Nobody <nobody@example.org>\n"
+        self.room.write("work/box.conf", snippet("configuration") + lab)
+        self.shell("rm box.db*; archive init --db box.db --at 1 box.conf")
+        self.judged()
+        self.assertEqual(self.shell("archive copy --db box.db --at 1 box lab hello"), "2\n")
+
+    @needs("dpkg-deb")
+    def test_a_whole_suite_is_copied(self):
+        self.made_with_lab()
+        self.judged()
+        self.assertEqual(self.shell(snippet("promote")), "2 hello\n")
+        self.assertEqual(self.shell(snippet("promote")), "0 hello\n")
+        status, printed, told = self.room.run("archive promote --db box.db --at 4000000000 box lab world hello")
+        self.assertEqual((status, printed, told), (1, "0 hello\nrefused Q8 world\n", ""))
+
+    @needs("dpkg-deb")
+    def test_a_package_is_taken_out_and_brought_back(self):
+        self.made()
+        self.judged()
+        self.assertEqual(self.shell(snippet("remove")), "2\n")
+        self.assertEqual(self.shell(f"archive show --db box.db {PACKAGES}"), "")
+        self.assertEqual(self.judged(), "")
+        self.assertEqual(self.shell(f"archive show --db box.db {PACKAGES}"), "")
+        self.assertEqual(self.shell(snippet("again")), "new again.changes\naccepted again.changes\n")
+        self.assertIn("\nVersion: 1.0-1\n", self.shell(f"archive show --db box.db {PACKAGES}"))
+
+    @needs("dpkg-deb")
+    def test_going_back_to_an_older_version(self):
+        self.made()
+        for version in ("0.9-1", "1.0-1"):
+            self.judged(uploads.Package("hello", version=version, source=True), f"ready{version}")
+        self.shell(snippet("remove"))
+        older = {"ready/hello_1.0-1": "ready0.9-1/hello_0.9-1"}
+        self.assertEqual(self.shell(snippet("again", older)), "new again.changes\naccepted again.changes\n")
+        shown = self.shell(f"archive show --db box.db {PACKAGES}")
+        self.assertEqual(re.findall("^Version: (.*)$", shown, re.M), ["0.9-1"])
+
+    @needs("dpkg-deb")
+    def test_what_counts_no_more_is_taken_away(self):
+        self.made_with_days()
+        self.judged()
+        names, shown = self.names(), self.shell(f"archive show --db box.db {PACKAGES}")
+        for moment, count in ((DAYS, 0), (1 + DAYS, len(names)), (1 + DAYS, 0)):
+            self.assertEqual(self.shell(snippet("clean", {'"$(date +%s)"': str(moment)})), f"{count}\n")
+        self.assertEqual(self.shell(f"archive put --db box.db --at {1 + DAYS} $(cat files)"), "".join(f"new {it}\n" for it in names))
+        self.assertEqual(self.shell(f"archive put --db box.db --at {1 + DAYS} $(cat files)"), "".join(f"again {it}\n" for it in names))
+        for word in ("waiting", "run"):
+            self.assertEqual(self.shell(f"archive {word} --db box.db --at {1 + DAYS}"), "")
+        self.assertEqual(self.shell("archive verdicts --db box.db"), f"accepted {CHANGES}\n")
+        self.assertEqual(self.shell(f"archive show --db box.db {PACKAGES}"), shown)
+
+    @needs("dpkg-deb")
+    def test_an_upload_has_to_come_whole_within_the_days(self):
+        self.made_with_days()
+        self.ready()
+        self.shell(f"set -- $(cat files); archive put --db box.db --at 1 $1; shift; archive put --db box.db --at {DAYS} $@")
+        self.assertEqual(self.shell(f"archive waiting --db box.db --at {DAYS}"), f"0 {CHANGES}\n")
+        self.assertEqual(self.shell(f"archive waiting --db box.db --at {1 + DAYS}"), f"1 {CHANGES}\n")
+        self.assertEqual(self.shell(f"archive run --db box.db --at {1 + DAYS}"), "")
+        self.shell(f"set -- $(cat files); archive put --db box.db --at {1 + DAYS} $1")
+        self.assertEqual(self.shell(f"archive run --db box.db --at {1 + DAYS}"), f"accepted {CHANGES}\n")
+
+    @needs("dpkg-deb")
+    def test_a_moment_too_far_ahead_stays(self):
+        self.made()
+        self.ready()
+        self.shell("archive put --db box.db --at 1 $(cat files)")
+        self.shell("archive run --db box.db --at 4102444799")
+        self.assertIn("\nDate: Thu, 31 Dec 2099 23:59:59 UTC\n", self.shell("archive show --db box.db dists/box/Release"))
+        self.assertEqual(self.fails("archive waiting --db box.db --at 4102444800")[0], 2)
+
+
+class Serving(Case):
+    def setUp(self):
+        super().setUp()
+        self.made()
+
+    def done(self, words):
+        """Runs the command of a unit, and answers what it prints."""
+        ran = subprocess.run(words, cwd=self.room.work, env=self.room.variables, capture_output=True, text=True, check=False, timeout=60)
+        self.assertEqual((ran.returncode, ran.stderr), (0, ""))
+        return ran.stdout
+
+    def at(self, port):
+        """The page's address outside of the machine, and that of the test."""
+        return {"archive.example.org:8080": f"127.0.0.1:{port}"}
+
+    def test_it_serves(self):
+        port = free_port()
+        text = snippet("serve", {"127.0.0.1:8080": f"127.0.0.1:{port}"})
+        self.room.start(["sh", "-ec", text], port=port)
+        self.assertIn("Codename: box\n", self.shell(f"curl -sS --fail http://127.0.0.1:{port}/dists/box/Release"))
+
+    @needs("dpkg-deb", "curl")
+    def test_uploading_by_curl(self):
+        self.ready()
+        port = self.serve("--log")
+        text = snippet("curl", self.at(port))
+        self.assertEqual(self.shell(text), "new\n" * len(self.names()))
+        self.check_quick(self.wait_for(f"(?m)(^\\d+ PUT .*\n){{{len(self.names())}}}"))
+        self.assertEqual(self.shell(text), "again\n" * len(self.names()))
+        self.assertEqual(self.shell(snippet("lists", self.at(port))), f"0 {CHANGES}\n")
+        self.shell(f"curl -sS --fail-with-body -X POST http://127.0.0.1:{port}/queue/run")
+        self.assertEqual(self.shell(snippet("lists", self.at(port))), f"accepted {CHANGES}\n")
+        self.check_log(snippet("log"))
+
+    def check_quick(self, log):
+        """Checks that no connection of a log took the second that a client waits which asks first whether it may send."""
+        self.assertLess(max(int(line.split()[5]) for line in log.splitlines()), 1000, log)
+
+    def check_log(self, line):
+        """Checks that the log has such a line as the page's, with other numbers."""
+        self.wait_for("(?m)^" + re.sub(r"(?<= )\\?\d+(?= |$)|^\d+", r"\\d+", re.escape(line.strip()).replace(r"\ ", " ")) + "$")
+
+    @needs("dpkg-deb", "curl")
+    def test_a_refusal_by_curl_tells_the_fault(self):
+        self.ready()
+        self.spoil()
+        text = snippet("curl", self.at(self.serve()))
+        self.room.start(["sh", "-ec", text])
+        self.wait_for("Q3 C4\n")
+
+    def spoil(self):
+        """Has the .changes be of another format, which is refused, and be the one file that is uploaded."""
+        path = pathlib.Path(self.room.work, "ready", CHANGES)
+        path.write_text(snippets.changed(path.read_text(), {"Format: 1.8": "Format: 1.7"}))
+        self.room.write("work/files", f"ready/{CHANGES}\n")
+
+    @needs("dpkg-deb", "dput")
+    def test_uploading_by_dput(self):
+        self.ready()
+        port = self.serve()
+        self.room.write("home/.dput.cf", snippet("dput.cf", self.at(port)))
+        dput = snippet("dput")
+        status, printed, told = self.room.run(dput)
+        self.assertEqual((status, printed.count("done.")), (0, len(self.names())), told)
+        status, printed, told = self.room.run(snippets.changed(dput, {"dput ": "dput --force "}))
+        self.assertEqual((status, printed.count("done.")), (0, len(self.names())), told)
+        self.assertEqual(self.shell(snippet("lists", self.at(port))), f"0 {CHANGES}\n")
+        self.spoil()
+        printed = self.fails(snippets.changed(dput, {"dput ": "dput --force "}))[1]
+        self.assertIn("Upload failed: 422 Unprocessable Entity\n", printed)
+        self.assertNotIn("Q3", printed)
+        self.assertIn("Q3 C4\n", self.fails(snippets.changed(dput, {"dput ": "dput --force --debug "}))[1])
+
+    @needs("dpkg-deb", "apt-get")
+    def test_installing_from_it(self):
+        self.ready()
+        self.shell('archive put --db box.db --at "$(date +%s)" $(cat files); archive run --db box.db --at "$(date +%s)"')
+        self.room.apt(snippet("trusted", self.at(self.serve())))
+        self.shell("apt-get update && apt-get download hello && apt-get source --download-only hello")
+        for name in ("hello_1.0-1_amd64.deb", "hello_1.0-1.dsc", "hello_1.0.orig.tar.gz"):
+            body = pathlib.Path(self.room.work, name).read_bytes()
+            self.assertEqual(body, pathlib.Path(self.room.folder, name).read_bytes())
+
+    @needs("dpkg-deb", "curl")
+    def test_a_package_is_taken_out_by_curl(self):
+        self.ready()
+        self.shell('archive put --db box.db --at "$(date +%s)" $(cat files); archive run --db box.db --at "$(date +%s)"')
+        port = self.serve()
+        self.assertEqual(self.shell(snippet("remove by HTTP", self.at(port))), "2\n")
+        self.assertEqual(self.shell(f"curl -sS --fail http://127.0.0.1:{port}/{PACKAGES}"), "")
+
+    @needs("dpkg-deb", "curl")
+    def test_a_whole_suite_is_copied_by_curl(self):
+        self.made_with_lab()
+        self.ready()
+        self.shell('archive put --db box.db --at "$(date +%s)" $(cat files); archive run --db box.db --at "$(date +%s)"')
+        port = self.serve()
+        self.assertEqual(self.shell(snippet("promote by HTTP", self.at(port))), "2 hello\n")
+        self.assertEqual(self.shell(snippet("promote by HTTP", self.at(port))), "0 hello\n")
+
+    @needs("dpkg-deb", "apt-get")
+    def test_a_release_expires_and_is_renewed(self):
+        self.room.write("work/box.conf", snippet("configuration") + "ValidDays: 7\n")
+        self.shell(f"rm box.db*; archive init --db box.db --at {int(time.time()) - 8 * 86_400} box.conf")
+        address = self.at(self.serve())
+        self.room.apt(snippet("trusted", address))
+        self.assertIn(" is expired ", self.fails("apt-get update")[1])
+        self.room.apt(snippet("trusted", {**address, "trusted=yes": "trusted=yes check-valid-until=no"}))
+        self.assertEqual(self.room.run("apt-get update")[0], 0)
+        self.room.end(self.process)
+        self.ready()
+        self.shell('archive put --db box.db --at "$(date +%s)" $(cat files); archive run --db box.db --at "$(date +%s)"')
+        self.room.apt(snippet("trusted", self.at(self.serve())))
+        self.shell("apt-get update && apt-get download hello")
+
+    def systemctl(self):
+        """A systemctl that ends what serves where it is told to stop it, and notes what it was told."""
+        text = f'#!/bin/sh -e\necho "$*" >> systemctl.log\n[ "$1" = start ] || kill {self.process.pid}\n'
+        self.room.write("bin/systemctl", text, 0o755)
+
+    def updates(self, wanted):
+        """Has apt look once, and checks whether it then gets the package for arm64."""
+        status, _, told = self.room.run("apt-get update")
+        self.assertEqual(status, 0, told)
+        status, _, told = self.room.run("rm -rf got; mkdir got; cd got; apt-get download hello:arm64")
+        self.assertEqual(status == 0, wanted, told)
+
+    @needs("dpkg-deb", "apt-get")
+    def test_apt_sees_another_configuration(self):
+        """Behind one update, where the service is ended, configured and started as the page says."""
+        self.ready()
+        self.shell('archive put --db box.db --at "$(date +%s)" $(cat files); archive run --db box.db --at "$(date +%s)"')
+        port = self.serve()
+        self.room.apt(snippet("trusted", self.at(port)))
+        with open(self.room.variables["APT_CONFIG"], "a", encoding="ascii") as it:
+            it.write('#clear APT::Architectures;\nAPT::Architectures { "amd64"; "arm64"; };\n')
+        self.updates(False)
+        self.systemctl()
+        self.assertEqual(self.shell(snippet("another configuration", {"cd /srv/box\n": "", "runuser -u archive -- ": ""})), "")
+        self.assertEqual(self.room.read("work/systemctl.log"), "stop box\nstart box\n")
+        self.assertEqual(self.room.read("work/old.conf"), snippet("configuration"))
+        self.assertEqual(self.shell("archive configuration --db box.db"), snippet("configuration", {"amd64 source": "amd64 arm64 source"}))
+        for name, body in arm64_upload().items():
+            pathlib.Path(self.room.work, name).write_bytes(body)
+        self.shell('archive put --db box.db --at "$(date +%s)" *_arm64.*; archive run --db box.db --at "$(date +%s)"')
+        self.room.end(self.process)
+        self.serve(port=port)
+        self.updates(True)
+        self.assertEqual(self.room.read("work/got/hello_1.0-1_arm64.deb"), "arm64\n")
+        self.shell("apt-get download hello")
+
+    @needs("dpkg-deb", "curl")
+    def test_the_commands_of_the_units(self):
+        self.ready()
+        port = free_port()
+        address = {"127.0.0.1:8080": f"127.0.0.1:{port}"}
+        [serve] = commands_of(snippet("box.service", {**address, "/usr/local/bin/archive": "archive"}))
+        self.room.start(serve, port=port)
+        self.shell(snippet("curl", self.at(port)))
+        # The moment that the service began with is the least; a greater one in the file is taken up.
+        commands = commands_of(snippet("queue.service", {**address, "date +%%s": f"echo {int(time.time()) + 3600}"}))
+        printed = [self.done(words) for words in commands]
+        self.assertEqual(printed[-1], f"accepted {CHANGES}\n")
+        moment = self.room.read("work/now").strip()
+        self.wait_for(f"(?m)^{moment} POST /queue/run 200 ")
+        [clean] = commands_of(snippet("clean.service", address))
+        self.assertEqual(self.done(clean), "0\n")
+        [moment, run] = commands_of(snippet("queue.service"))
+        self.assertEqual(moment, ["/bin/sh", "-c", "date +%s > now.new && mv now.new now"])
+
+
+class Copies(Case):
+    def setUp(self):
+        super().setUp()
+        self.made()
+
+    def systemctl(self):
+        """A systemctl that knows one word: it sends a signal to what serves."""
+        text = f'#!/bin/sh -e\n[ "$1 $3" = "kill box" ]\nkill -s "${{2#--signal=}}" {self.process.pid}\n'
+        self.room.write("bin/systemctl", text, 0o755)
+
+    def put(self, number):
+        """A request that puts a file of this number."""
+        return put_of(f"file{number}_1.0-1_amd64.deb", b"%d " % number * 30_000)
+
+    def asked(self, port, request):
+        """The status that is answered."""
+        with socket.create_connection(("127.0.0.1", port), timeout=60) as it:
+            it.sendall(request)
+            return int(it.makefile("rb").readline().split()[1])
+
+    @contextlib.contextmanager
+    def putting(self, port):
+        """Puts one file after the other, and lists the numbers of those that were answered."""
+        answered, ended = [], threading.Event()
+
+        def go():
+            while not ended.is_set():
+                self.assertEqual(self.asked(port, self.put(len(answered))), 201)
+                answered.append(len(answered))
+
+        thread = threading.Thread(target=go)
+        thread.start()
+        try:
+            yield answered
+        finally:
+            ended.set()
+            thread.join(60)
+
+    def is_one(self, answered):
+        """Waits until something is answered, and says whether it is."""
+        end = time.monotonic() + 60
+        while not answered and time.monotonic() < end:
+            time.sleep(0.01)
+        return bool(answered)
+
+    def test_a_copy_while_it_serves_opens_and_has_all_that_was_answered(self):
+        port = self.serve()
+        self.systemctl()
+        counts = []
+        with self.putting(port) as answered:
+            self.assertTrue(self.is_one(answered))
+            for number in range(6):
+                time.sleep(0.3)
+                counts.append(len(answered))
+                # Copies of one second need folders of their own.
+                self.shell(snippet("copy", {"$(date +%s)": f"{number}", "sleep 1": "sleep 0.3"}))
+        self.assertGreater(counts[-1], counts[0])
+        for number, count in enumerate(counts):
+            copy = f"copy=copies/{number}; "
+            self.shell(copy + snippet("look"))
+            for last in (0, count - 1):
+                self.room.write(f"file{last}_1.0-1_amd64.deb", f"{last} " * 30_000)
+                put = f'archive put --db "$copy"/box.db --at 4000000000 ../file{last}_1.0-1_amd64.deb'
+                self.assertEqual(self.shell(copy + put), f"again file{last}_1.0-1_amd64.deb\n")
+        print(f"Copies were taken behind {counts} files that were answered, and each had the last one.")
+
+    def test_the_copy_as_it_stands(self):
+        port = self.serve()
+        self.systemctl()
+        self.assertEqual(self.asked(port, self.put(0)), 201)
+        self.shell(snippet("copy") + snippet("look"))
+        self.assertEqual(self.asked(port, self.put(0)), 200)
+        self.assertEqual(len(glob.glob(f"{self.room.work}/copies/*/box.db")), 1)
+
+    def test_a_copy_without_its_log_is_an_older_state(self):
+        port = self.serve()
+        self.assertEqual(self.asked(port, self.put(0)), 201)
+        self.room.end(self.process)
+        self.room.write("file0_1.0-1_amd64.deb", "0 " * 30_000)
+        self.shell("mkdir both alone; cp box.db* both; cp box.db alone")
+        put = "archive put --db {}/box.db --at 4000000000 ../file0_1.0-1_amd64.deb"
+        self.assertEqual(self.shell(put.format("both")), "again file0_1.0-1_amd64.deb\n")
+        self.assertEqual(self.shell(put.format("alone")), "new file0_1.0-1_amd64.deb\n")
+
+    @needs("sqlite3", "dpkg-deb")
+    def test_the_file_is_packed(self):
+        """Behind a cleaning, by the room that it left; what the pool has is there still."""
+        self.made_with_days()
+        self.ready()
+        self.room.write("work/large_1.0-1_amd64.deb", "large" * 200_000)
+        self.shell("archive put --db box.db --at 1 $(cat files) large_1.0-1_amd64.deb && archive run --db box.db --at 1")
+        self.assertEqual(self.shell(f"archive clean --db box.db --at {1 + DAYS}"), f"{len(self.names()) + 1}\n")
+        size = os.path.getsize(f"{self.room.work}/box.db")
+        self.shell(snippet("pack"))
+        self.assertLess(os.path.getsize(f"{self.room.work}/box.db"), size - 900_000)
+        self.assertEqual(self.shell("archive verdicts --db box.db"), f"accepted {CHANGES}\n")
+        self.shell("archive show --db box.db pool/main/h/hello/hello_1.0-1_amd64.deb | cmp - ready/hello_1.0-1_amd64.deb")
+
+    @needs("sqlite3")
+    def test_what_stands_beside_is_passed_over(self):
+        """Until it stands on a table of the archive, or refers to one."""
+        self.shell(snippet("notes") + "sqlite3 box.db ANALYZE")
+        self.assertEqual(self.shell("archive verdicts --db box.db"), "")
+        for added, dropped in (
+            ("CREATE INDEX moments ON arrivals (moment)", "DROP INDEX moments"),
+            ("CREATE TABLE marks (body INTEGER REFERENCES bodies (id))", "DROP TABLE marks"),
+        ):
+            self.shell(f"sqlite3 box.db '{added}'")
+            self.assertEqual(self.fails("archive verdicts --db box.db"), (1, "archive: K4\n"))
+            self.shell(f"sqlite3 box.db '{dropped}'")
+            self.assertEqual(self.shell("archive verdicts --db box.db"), "")
+        self.assertEqual(self.shell("sqlite3 box.db 'SELECT version FROM meta'"), "3\n")
+
+
+class Refusals(Case):
+    """What K2 may be beside another process, and where a full disk shows."""
+
+    def setUp(self):
+        super().setUp()
+        self.made()
+
+    def k2(self, text="archive verdicts --db box.db"):
+        self.assertEqual(self.fails(text), (3, "archive: K2\n"))
+
+    def test_a_second_name(self):
+        self.shell("ln box.db other")
+        self.k2()
+        self.shell("rm other; archive verdicts --db box.db")
+
+    def test_a_journal_of_another_program(self):
+        self.shell("echo journal > box.db-journal")
+        self.k2()
+        self.shell("rm box.db-journal; archive verdicts --db box.db")
+
+    def test_damage(self):
+        path = pathlib.Path(self.room.work, "box.db")
+        body = path.read_bytes()
+        for damaged in (b"not a database " * 1000, body[:len(body) // 2]):
+            path.write_bytes(damaged)
+            self.shell("rm -f box.db-wal")
+            self.k2()
+
+    @unittest.skipUnless(os.geteuid() == 0, "only root can run a command as somebody else")
+    def test_no_right_to_write(self):
+        shutil.copy(PROGRAM, f"{self.room.folder}/copy")
+        os.chmod(self.room.folder, 0o755)
+        for mode, folder in ((0o444, 0o777), (0o666, 0o555)):
+            os.chmod(f"{self.room.work}/box.db", mode)
+            os.chmod(self.room.work, folder)
+            words = [f"{self.room.folder}/copy", "verdicts", "--db", "box.db"]
+            ran = subprocess.run(words, cwd=self.room.work, user=65534, group=65534, capture_output=True, text=True, check=False, timeout=60)
+            self.assertEqual((ran.returncode, ran.stdout, ran.stderr), (3, "", "archive: K2\n"), (mode, folder))
+
+    @unittest.skipUnless(os.geteuid() == 0 and shutil.which("mount"), "only root can mount a file system that fills")
+    def test_a_full_disk(self):
+        with mounted(4_000_000) as folder:
+            if not folder:
+                self.skipTest("no file system can be mounted here")
+            self.shell(f"cp box.db {folder}/; head -c 2000000 /dev/zero > large_1.0-1_amd64.deb")
+            self.shell(f"head -c 3000000 /dev/zero > {folder}/filler")
+            put = f"archive put --db {folder}/box.db --at 4000000000 large_1.0-1_amd64.deb"
+            status, told = self.fails(put)
+            self.assertEqual((status, told), (3, "archive: Q4 K2\n"))
+            self.shell(f"rm {folder}/filler")
+            self.assertEqual(self.shell(put), "new large_1.0-1_amd64.deb\n")
+
+
+if __name__ == "__main__":
+    unittest.main()

@@ -1,0 +1,235 @@
+"""Tests of docs/USING.md with the built program behind nginx: the text for it as it stands in the page, with addresses and folders of the
+test's own; logins, dput over https, the signature beside the archive with apt, and the caches and mirrors of more than one machine. The
+program is that of program.py. Where a tool is not there, the test says that it was skipped."""
+import os
+import pathlib
+import subprocess
+import sys
+import time
+import unittest
+
+from tests import snippets
+from tests.program import PROGRAM
+from tests.snippets import built, free_port, needs, snippet
+from uploads import uploads
+
+HELLO = uploads.Package("hello", source=True)
+DEB = "pool/main/h/hello/hello_1.0-1_amd64.deb"
+PASSWORD = "a secret"
+# apt-cacher-ng takes none above.
+LOW_PORTS = range(20_000, 32_768)
+KEYRING = "/usr/share/keyrings/box.gpg"
+
+
+class Site(snippets.Room):
+    """A served archive with a proxy in front."""
+
+    def __init__(self):
+        super().__init__()
+        self.behind, self.front = free_port(), free_port(LOW_PORTS)
+        self.url = f"https://localhost:{self.front}"
+        self.keyring = f"{self.work}/signed/box.gpg"
+        certificate = self.certificate()[0]
+        self.variables |= {"CURL_CA_BUNDLE": certificate, "SSL_CERT_FILE": certificate, "PERL_LWP_SSL_CA_FILE": certificate}
+        self.write("work/box.conf", snippet("configuration"))
+        self.sure('archive init --db box.db --at "$(date +%s)" box.conf')
+        self.serve()
+        self.start(["nginx", "-c", self.nginx(snippet("nginx"), self.front, self.behind)], port=self.front)
+
+    def sure(self, text):
+        """Runs a text that ends well, and answers what it prints."""
+        status, printed, told = self.run(text)
+        if status:
+            raise RuntimeError(f"{text}: {status} {printed} {told}")
+        return printed
+
+    def serve(self):
+        words = ["archive", "serve", "--db", "box.db", "--at", str(int(time.time())), f"127.0.0.1:{self.behind}", "100000"]
+        self.serving = self.start(words, port=self.behind)
+
+    def upload(self, package):
+        """Has the archive accept a package, behind the proxy."""
+        self.sure(f"with_sidecars {built(self.folder, package)} {package.name} > {package.name}.files")
+        self.sure(f"for file in $(cat {package.name}.files); do curl -sS --fail -H 'Expect:' -T $file http://127.0.0.1:{self.behind}/incoming/; done")
+        return self.queue()
+
+    def queue(self):
+        """Runs the queue."""
+        return self.sure(f"curl -sS --fail-with-body -X POST http://127.0.0.1:{self.behind}/queue/run")
+
+    def log_in(self):
+        """Makes the login of the page."""
+        text = snippet("login", {"/var/cache/nginx": f"{self.folder}/cache", "/etc/nginx": self.folder})
+        return self.typed(text, PASSWORD)
+
+    def sign(self):
+        """Signs the Release by the page's script, with the page's key, which is made where there is none."""
+        if not os.path.exists(self.keyring):
+            self.ending.callback(subprocess.run, ["gpgconf", "--kill", "all"], env=self.variables, check=False)
+            self.sure(snippet("key"))
+            self.write("work/sign", snippet("sign", {"127.0.0.1:8080": f"127.0.0.1:{self.behind}"}), 0o755)
+        return self.sure("./sign")
+
+
+@unittest.skipUnless(os.path.exists(PROGRAM), f"there is no program {PROGRAM}")
+@needs("curl", "dpkg-deb", "nginx", "openssl")
+class Proxy(unittest.TestCase):
+    def setUp(self):
+        self.site = Site()
+        self.addCleanup(self.site.close)
+
+    def status(self, path, words=""):
+        return self.site.sure(f"curl -sS -o /dev/null -w '%{{http_code}}' {words} {self.site.url}/{path}")
+
+    def check_installs(self, sources):
+        """Checks that an apt with this list finds the package, and finds nothing wrong."""
+        self.site.apt(sources)
+        ran = self.site.run("rm -rf got; mkdir got; cd got; apt-get update && apt-get download hello")
+        self.assertEqual((ran[0], ran[2]), (0, ""), ran)
+        self.assertEqual(self.site.read("work/got/hello_1.0-1_amd64.deb"), self.site.read("hello_1.0-1_amd64.deb"))
+
+    @needs("htpasswd", "dput")
+    def test_uploading_with_a_login(self):
+        status, printed = self.site.log_in()
+        self.assertEqual(status, 0, printed)
+        self.site.sure(f"with_sidecars {built(self.site.folder, HELLO)} ready > files")
+        addresses = {"archive.example.org:8080": "127.0.0.1:1", "archive.example.org": f"localhost:{self.site.front}"}
+        self.site.write("home/.dput.cf", snippet("dput.cf", addresses))
+        dput = snippet("dput", {"dput box": "dput box-by-login"})
+        status, printed = self.site.typed(dput, "a wrong one")
+        self.assertEqual((status, printed.count("done.")), (1, 0), printed)
+        self.assertIn("Upload failed as unauthorized", printed)
+        status, printed = self.site.typed(dput, PASSWORD)
+        names = self.site.read("work/files").split()
+        self.assertEqual((status, printed.count("done."), printed.count("Password")), (0, len(names), 1), printed)
+        self.assertEqual(self.status("queue"), "401")
+        login = f"-u 'ann:{PASSWORD}'"
+        self.assertEqual(self.site.sure(f"curl -sS {login} {self.site.url}/queue"), "0 hello_1.0-1_amd64.changes\n")
+        self.site.queue()
+        self.assertEqual(self.site.sure(f"curl -sS {login} {self.site.url}/verdicts"), "accepted hello_1.0-1_amd64.changes\n")
+
+    def test_what_is_not_listed_cannot_be_reached(self):
+        self.site.write("uploaders", f"ann:{{PLAIN}}{PASSWORD}\n")
+        for path, words, wanted in (
+            ("queue/run", "-X POST", "404 405"),
+            ("queue/clean", "-X POST", "404 405"),
+            ("copy/box/box/hello", "-X POST", "404 405"),
+            ("remove/box/hello", "-X POST", "404 405"),
+            ("promote/box/lab", "-X POST", "404 405"),
+            ("queue", "-X POST", "403"),
+            ("incoming/hello_1.0-1_amd64.deb", "-T box.conf", "401"),
+            ("incoming/hello_1.0-1_amd64.deb", "-T box.conf -u ann:guess", "401"),
+            ("verdicts", "", "401"),
+            ("other", "", "404"),
+            ("dists/box/Release", "", "200"),
+            ("dists/box/InRelease", "", "404"),
+        ):
+            with self.subTest(path):
+                self.assertIn(self.status(path, words), wanted.split())
+        self.assertEqual(self.site.sure(f"curl -sS http://127.0.0.1:{self.site.behind}/queue"), "")
+
+    def test_each_way_to_write_a_path(self):
+        """As apt writes it, with two slashes as debmirror does, and with escapes."""
+        self.site.upload(uploads.Package("libc++1", version="1.0~rc1+b2-1"))
+        wanted = pathlib.Path(self.site.folder, "libc++1_1.0~rc1+b2-1_amd64.deb").read_bytes()
+        for name in ("libc++1/libc++1_1.0~rc1+b2-1_amd64.deb", "libc%2b%2b1/libc%2B%2B1_1.0%7erc1%2bb2-1_amd64.deb"):
+            for front in ("pool/", "/pool/", "pool//", "pool/", "dists/../pool/"):
+                path = f"{front}main/libc/{name}"
+                self.site.sure(f"curl -sS --fail --path-as-is -o got {self.site.url}/{path}")
+                self.assertEqual(pathlib.Path(self.site.work, "got").read_bytes(), wanted, path)
+        for path in ("dists/box/Release", "/dists/box/Release", "/dists/box//main/binary-amd64/Packages", "dists/box/main/source/Sources"):
+            self.assertEqual(self.status(path, "--path-as-is"), "200", path)
+
+    def test_the_largest_file_passes(self):
+        body = uploads.deb_of(uploads.Package("large", pad=4_190_000))
+        self.site.write("uploaders", f"ann:{{PLAIN}}{PASSWORD}\n")
+        for size, wanted in ((4_194_304, "201"), (4_194_305, "413")):
+            pathlib.Path(self.site.work, "large.deb").write_bytes(body.ljust(size, b"."))
+            self.assertEqual(self.status("incoming/", f"-u 'ann:{PASSWORD}' -H 'Expect:' -T large.deb"), wanted)
+
+    def test_the_pool_is_handed_out_while_the_archive_is_away(self):
+        self.site.upload(HELLO)
+        # A second proxy holds files to be new for a second, and not for ten minutes.
+        port = free_port()
+        text = snippet("nginx", {"valid 200 10m": "valid 200 1s"})
+        self.site.start(["nginx", "-c", self.site.nginx(text, port, self.site.behind)], port=port)
+        other = f"curl -sS --fail -o other https://localhost:{port}/{DEB}; cmp other ../hello_1.0-1_amd64.deb"
+        self.site.sure(other)
+        self.assertEqual((self.status(DEB), self.status("dists/box/Release")), ("200", "200"))
+        self.site.end(self.site.serving)
+        time.sleep(1.1)
+        self.site.sure(other)
+        self.assertEqual((self.status(DEB), self.status("dists/box/Release")), ("200", "502"))
+        self.site.serve()
+        self.assertEqual(self.status("dists/box/Release"), "200")
+
+    def signed(self):
+        """A site that shows a package, and has signed it."""
+        self.site.upload(HELLO)
+        self.site.sign()
+        return {KEYRING: self.site.keyring, "https://archive.example.org": self.site.url}
+
+    @needs("gpg", "apt-get")
+    def test_a_signed_archive(self):
+        changes = self.signed()
+        self.check_installs(snippet("signed", changes))
+        paths = [f"dists/box/{name}" for name in ("InRelease", "Release", "Release.gpg")]
+        self.assertEqual([self.status(path) for path in (*paths, "box.gpg")], ["200"] * 4)
+        self.site.sure(f"cd signed/dists/box; gpgv --keyring {self.site.keyring} Release.gpg Release")
+        # What is as it was is not signed anew, and what is another is.
+        texts = [self.site.read(f"work/signed/{path}") for path in paths]
+        self.site.sign()
+        self.assertEqual([self.site.read(f"work/signed/{path}") for path in paths], texts)
+        self.site.upload(uploads.Package("another"))
+        self.site.sign()
+        self.check_installs(snippet("signed", changes))
+        self.site.sure("apt-get download another")
+        # Another key is none.
+        self.site.sure("mkdir -m 700 other; GNUPGHOME=$PWD/other gpg -q --batch --passphrase '' --quick-generate-key other default sign never")
+        self.site.sure("GNUPGHOME=$PWD/other gpg -q --export > other.gpg; GNUPGHOME=$PWD/other gpgconf --kill all")
+        self.site.apt(snippet("signed", {**changes, KEYRING: f"{self.site.work}/other.gpg"}))
+        status, _, told = self.site.run("apt-get update")
+        self.assertEqual((status, "NO_PUBKEY" in told), (100, True), told)
+
+    @needs("gpg", "apt-get", "apt-cacher-ng")
+    def test_a_cache_at_a_site(self):
+        changes = self.signed()
+        del changes["https://archive.example.org"]
+        port, folder = free_port(LOW_PORTS), f"{self.site.folder}/cacher"
+        self.site.write("cacher/box.conf", snippet("cache", {"https://archive.example.org": self.site.url}))
+        os.mkdir(f"{folder}/cache")
+        words = ["ForeGround=1", f"Port={port}", "BindAddress=127.0.0.1", f"CacheDir={folder}/cache", f"LogDir={folder}"]
+        words += [f"SocketPath={folder}/socket", f"CAfile={self.site.folder}/certificate.pem", "CApath=", "SupportDir=/usr/lib/apt-cacher-ng"]
+        self.site.start(["apt-cacher-ng", "-c", folder, *words], port=port)
+        sources = snippet("cached", {**changes, "cache.example.org:3142": f"127.0.0.1:{port}"})
+        self.check_installs(sources)
+        # A new release is seen by the next update, and what was fetched is there without the archive.
+        time.sleep(1.1)  # since a file of the same second counts as the same
+        self.site.upload(uploads.Package("another"))
+        self.site.sign()
+        self.check_installs(sources)
+        self.site.sure("apt-get download another")
+        self.site.end(self.site.serving)
+        self.assertEqual(self.site.sure(f"curl -sS --fail -o cached http://127.0.0.1:{port}/box/{DEB}; cmp cached ../hello_1.0-1_amd64.deb"), "")
+
+    @needs("gpg", "apt-get", "debmirror")
+    def test_a_static_mirror(self):
+        changes = self.signed()
+        del changes["https://archive.example.org"]
+        mirror = f"{self.site.folder}/mirror"
+        text = snippet("mirror", {**changes, "archive.example.org": f"localhost:{self.site.front}", "/srv/mirror": mirror})
+        for name in ("hello", "another"):
+            self.site.sure(text)
+            self.assertTrue(os.path.exists(f"{mirror}/pool/main/{name[0]}/{name}/{name}_1.0-1_amd64.deb"))
+            if name == "hello":
+                self.site.upload(uploads.Package("another"))
+                self.site.sign()
+        self.site.end(self.site.serving)
+        port = free_port()
+        self.site.start([sys.executable, "-m", "http.server", "-d", mirror, "-b", "127.0.0.1", str(port)], port=port)
+        self.check_installs(snippet("signed", {**changes, "https://archive.example.org": f"http://127.0.0.1:{port}"}))
+        self.assertTrue(os.path.exists(f"{mirror}/pool/main/h/hello/hello_1.0.orig.tar.gz"))
+
+
+if __name__ == "__main__":
+    unittest.main()

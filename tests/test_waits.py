@@ -1,0 +1,100 @@
+"""Tests of how long `serve` waits for a slow client, which take minutes. They run beside each other. The program is that of
+program.py."""
+import contextlib
+import socket
+import sys
+import threading
+import time
+import unittest
+
+from tests.program import Lines, Serving, get, put, replied, rest, seconds_since
+from uploads import uploads
+
+NOTHING = replied("200 OK", b"")
+
+
+def send_slowly(client, request, pause):
+    """Sends a byte, and one more behind each pause, until the connection ends. Answers nothing."""
+    with contextlib.suppress(OSError):
+        for place in range(len(request)):
+            client.sendall(request[place:place + 1])
+            time.sleep(pause)
+
+
+class Waits(Lines):
+    def held(self, begin, least, most, reply=b""):
+        """A client begins, and another comes behind it, which is answered between so many seconds after the first came."""
+        with Serving(self.made(), 2) as serving, serving.connected() as client:
+            start = time.monotonic()
+            threading.Thread(target=begin, args=(client,), daemon=True).start()
+            time.sleep(0.2)
+            self.assertEqual(serving.answer(get("verdicts")), NOTHING)
+            waited = seconds_since(start)
+            self.assertEqual(rest(client), reply)
+            self.assertEqual(serving.ended(), (0, "", ""))
+        print(f"{self.id().rpartition('.')[2]}: {waited:.2f} s.")
+        self.assertGreaterEqual(waited, least)
+        self.assertLess(waited, most)
+
+    def test_a_head_and_then_silence(self):
+        self.held(lambda client: client.sendall(get("verdicts")[:-1]), 29.9, 32)
+
+    def test_a_part_of_a_body_and_then_silence(self):
+        self.held(lambda client: client.sendall(put("hello_1.0-1_amd64.deb")[:-1]), 29.9, 32)
+
+    def test_a_byte_now_and_then(self):
+        self.held(lambda client: send_slowly(client, get("verdicts"), 25), 119.9, 123)
+
+    def test_many_bytes_slowly(self):
+        self.held(lambda client: send_slowly(client, b"PUT /incoming/a HTTP/1.1\r\nContent-Length: 4000\r\n\r\n" + b"." * 4000, 0.1), 119.9, 123)
+
+    def test_a_reply_that_is_not_read(self):
+        """A file of nearly 4 MiB, of which the system takes a part off the server, and the client nothing."""
+        with Serving(self.accepted_large(), 2) as serving, socket.socket() as client:
+            client.setsockopt(socket.SOL_SOCKET, socket.SO_RCVBUF, 4096)
+            self.connect(client, serving)
+            start = time.monotonic()
+            client.sendall(get("pool/main/l/large/large_1.0-1_amd64.deb"))
+            time.sleep(0.2)
+            self.assertEqual(serving.answer(get("nothing"))[:12], b"HTTP/1.1 404")
+            waited = seconds_since(start)
+            self.assertEqual(serving.ended(), (0, "", ""))
+        print(f"test_a_reply_that_is_not_read: {waited:.2f} s.")
+        self.assertGreaterEqual(waited, 29.9)
+        self.assertLess(waited, 33)
+
+    def connect(self, client, serving):
+        """Connects a client as soon as something listens."""
+        for _ in range(2000):
+            with contextlib.suppress(ConnectionRefusedError):
+                return client.connect(serving.address)
+            time.sleep(0.005)
+        raise ConnectionRefusedError
+
+    def accepted_large(self):
+        """A new database in which a package of nearly 4 MiB is accepted."""
+        db = self.made()
+        paths = uploads.write(f"{db}.large", uploads.upload_of(uploads.LARGE))
+        self.line(0, "put", db, "--at", "0", *paths)
+        self.assertEqual(self.line(0, "run", db, "--at", "0"), "accepted large_1.0-1_amd64.changes\n")
+        return db
+
+
+def all_at_once():
+    """Runs each test in a thread of its own, and answers whether all passed."""
+    tests = list(unittest.defaultTestLoader.loadTestsFromTestCase(Waits))
+    results = [unittest.TestResult() for _ in tests]
+    threads = [threading.Thread(target=test.run, args=(result,)) for test, result in zip(tests, results)]
+    for it in threads:
+        it.start()
+    for it in threads:
+        it.join()
+    for result in results:
+        for test, text in result.failures + result.errors:
+            print(f"{test}\n{text}")
+    print(f"Ran {len(tests)} tests, {sum(not it.wasSuccessful() for it in results)} failed, {sum(len(it.skipped) for it in results)} skipped.")
+    return all(it.wasSuccessful() for it in results)
+
+
+if __name__ == "__main__":
+    sys.exit(0 if all_at_once() else 1)

@@ -1,0 +1,258 @@
+"""Tests of with_sidecars, on uploads that they make with dpkg-deb and dpkg-buildpackage.
+
+Where there is the program of program.py, it takes the uploads.
+"""
+import hashlib
+import os
+import pathlib
+import shutil
+import subprocess
+import sys
+import tempfile
+import unittest
+
+from tests.program import PROGRAM, ROOT
+
+TOOL = f"{ROOT}/bin/with_sidecars"
+
+CONTROL = """Package: {package}
+Version: {version}
+Architecture: all
+Maintainer: Ann <ann@example.org>
+Description: greets
+ It says hello, and then
+ .
+ nothing more.
+"""
+
+HEAD = """Format: 1.8
+Date: Sat, 02 Jul 2016 05:00:00 +0000
+Source: hello
+Binary: {package}
+Architecture: all amd64
+Version: {version}
+Distribution: box
+Urgency: low
+Maintainer: Ann <ann@example.org>
+Description:
+ {package} - greets
+Changes:
+ hello ({version}) box; urgency=low
+ .
+   * First.
+"""
+
+ARMOURED = """-----BEGIN PGP SIGNED MESSAGE-----
+Hash: SHA512
+
+{text}
+-----BEGIN PGP SIGNATURE-----
+
+iHUEARYKAB0WIQ
+-----END PGP SIGNATURE-----
+"""
+
+RULES = """#!/usr/bin/make -f
+build build-arch build-indep clean:
+binary binary-arch binary-indep:
+\tmkdir -p debian/tmp/DEBIAN
+\techo hello-world > debian/tmp/greeting
+\tdpkg-gencontrol -phello
+\tdpkg-deb --root-owner-group --build debian/tmp ..
+"""
+
+SOURCE_CONTROL = """Source: hello
+Section: utils
+Priority: optional
+Maintainer: Ann <ann@example.org>
+Standards-Version: 4.6.2
+
+Package: hello
+Architecture: all
+Description: greets
+"""
+
+CHANGELOG = """hello (1:1.0-1) box; urgency=low
+
+  * First.
+
+ -- Ann <ann@example.org>  Sat, 02 Jul 2016 05:00:00 +0000
+"""
+
+
+def list_of(field, digest, bodies):
+    """A list of a .changes."""
+    place = "utils optional " if field == "Files" else ""
+    lines = [f" {hashlib.new(digest, body).hexdigest()} {len(body)} {place}{name}\n" for name, body in bodies.items()]
+    return f"{field}:\n{''.join(lines)}"
+
+
+def fields_of(text):
+    """The lines of each field, by its name."""
+    fields = {}
+    for line in text.splitlines():
+        if not line.startswith(" "):
+            name = line.partition(":")[0]
+            fields[name] = []
+        fields[name].append(line)
+    return fields
+
+
+def names_in(fields, field):
+    return [line.split()[-1] for line in fields[field][1:]]
+
+
+def run(*words, cwd=None):
+    return subprocess.run(words, cwd=cwd, capture_output=True, text=True, check=False)
+
+
+def with_sidecars(changes, folder):
+    return run(sys.executable, TOOL, changes, folder)
+
+
+@unittest.skipUnless(shutil.which("dpkg-deb"), "dpkg-deb is missing")
+class Uploads(unittest.TestCase):
+    def setUp(self):
+        room = tempfile.TemporaryDirectory()
+        self.addCleanup(room.cleanup)
+        self.room = pathlib.Path(room.name)
+        self.built = self.room / "built"
+        self.ready = self.room / "ready"
+        self.built.mkdir()
+
+    def build(self, package, version):
+        """Builds a package file, and answers its name."""
+        tree = self.room / package
+        (tree / "DEBIAN").mkdir(parents=True)
+        (tree / "DEBIAN/control").write_text(CONTROL.format(package=package, version=version))
+        name = f"{package}_{version.partition(':')[2] or version}_all.deb"
+        run("dpkg-deb", "--root-owner-group", "--build", tree, self.built / name).check_returncode()
+        return name
+
+    def changes(self, package="hello", version="1.0-1", more=(), armoured=False):
+        """Builds a package and its .changes, which lists more files by name."""
+        deb = self.build(package, version)
+        bodies = {name: (self.built / name).read_bytes() for name in [deb, *more]}
+        text = HEAD.format(package=package, version=version)
+        for field, digest in (("Checksums-Sha1", "sha1"), ("Checksums-Sha256", "sha256"), ("Files", "md5")):
+            text += list_of(field, digest, bodies)
+        changes = self.built / "hello_1.0-1_amd64.changes"
+        changes.write_text(ARMOURED.format(text=text) if armoured else text)
+        return changes
+
+    def check_lists(self, paths):
+        """Checks the lists of a written .changes."""
+        fields = fields_of(pathlib.Path(paths[-1]).read_text())
+        bodies = {pathlib.Path(path).name: pathlib.Path(path).read_bytes() for path in paths[:-1]}
+        for field, digest, place in (("Checksums-Sha1", "sha1", 0), ("Checksums-Sha256", "sha256", 0), ("Files", "md5", 2)):
+            self.assertEqual(names_in(fields, field), list(bodies))
+            for line, body in zip(fields[field][1:], bodies.values()):
+                words = line[1:].split(" ")
+                self.assertEqual(words[:2], [hashlib.new(digest, body).hexdigest(), str(len(body))])
+                self.assertEqual(len(words), 3 + place)
+
+    def check_accepted(self, paths, packages):
+        """Checks what the archive shows of an upload, where its program is built."""
+        if not os.path.exists(PROGRAM):
+            self.skipTest(f"there is no program {PROGRAM}")
+        tried = run(PROGRAM, "try", *paths)
+        self.assertEqual((tried.stderr, tried.returncode), ("", 0))
+        self.assertEqual([line for line in tried.stdout.splitlines() if line.startswith("Package:")], packages)
+
+    def test_a_package_gets_its_sidecar(self):
+        changes = self.changes()
+        done = with_sidecars(changes, self.ready)
+        self.assertEqual((done.stderr, done.returncode), ("", 0))
+        names = ["hello_1.0-1_all.deb", "hello_1.0-1_all.control", "hello_1.0-1_amd64.changes"]
+        paths = done.stdout.splitlines()
+        self.assertEqual(paths, [str(self.ready / name) for name in names])
+        self.assertEqual((self.ready / names[1]).read_text(), CONTROL.format(package="hello", version="1.0-1"))
+        old, new = fields_of(changes.read_text()), fields_of((self.ready / names[2]).read_text())
+        self.assertEqual(list(old), list(new))
+        for name in ("Changes", "Description", "Version", "Date"):
+            self.assertEqual(old[name], new[name])
+        self.check_lists(paths)
+        self.check_accepted(paths, ["Package: hello"])
+
+    def test_a_name_has_no_epoch(self):
+        done = with_sidecars(self.changes(version="1:1.0-1"), self.ready)
+        self.assertEqual((done.stderr, done.returncode), ("", 0))
+        self.assertIn("Version: 1:1.0-1\n", (self.ready / "hello_1.0-1_all.control").read_text())
+        self.check_lists(done.stdout.splitlines())
+        self.check_accepted(done.stdout.splitlines(), ["Package: hello"])
+
+    def test_a_signature_and_a_buildinfo_are_left_out(self):
+        (self.built / "hello_1.0-1_amd64.buildinfo").write_text("Format: 1.0\n")
+        done = with_sidecars(self.changes(more=["hello_1.0-1_amd64.buildinfo"], armoured=True), self.ready)
+        self.assertEqual((done.stderr, done.returncode), ("", 0))
+        self.assertFalse((self.ready / "hello_1.0-1_amd64.buildinfo").exists())
+        text = (self.ready / "hello_1.0-1_amd64.changes").read_text()
+        self.assertTrue(text.startswith("Format: 1.8\n"))
+        self.assertNotIn("-----", text)
+        self.check_lists(done.stdout.splitlines())
+        self.check_accepted(done.stdout.splitlines(), ["Package: hello"])
+
+    def test_refusals(self):
+        changes = self.changes()
+        good = changes.read_text()
+        deb = self.built / "hello_1.0-1_all.deb"
+        rows = [
+            (good.replace("Files:", "Fields:"), "with_sidecars: no field Files\n"),
+            (good.replace(f" {deb.stat().st_size} ", " 7 "), f"with_sidecars: {deb.name} is not the file that Checksums-Sha1 lists\n"),
+            (ARMOURED.format(text=good).partition("-----BEGIN PGP SIGNATURE")[0], "with_sidecars: a signature without an end\n"),
+            (good + "\nFormat: 1.8\n", "with_sidecars: not a field of one paragraph: \n"),
+        ]
+        for text, wanted in rows:
+            changes.write_text(text)
+            done = with_sidecars(changes, self.ready)
+            self.assertEqual((done.stdout, done.stderr, done.returncode), ("", wanted, 1))
+        changes.write_text(good)
+        self.assertEqual(with_sidecars(changes, self.built).returncode, 1)
+        self.assertEqual(with_sidecars(self.built / "none.changes", self.ready).returncode, 1)
+        self.assertEqual(run(sys.executable, TOOL).returncode, 2)
+        self.assertFalse(self.ready.exists())
+
+    def test_help(self):
+        done = run(sys.executable, TOOL, "--help")
+        self.assertEqual((done.stderr, done.returncode), ("", 0))
+        self.assertIn("with_sidecars FILE.changes FOLDER\n", done.stdout)
+
+    def test_a_package_under_another_name(self):
+        deb = self.built / self.build("hallo", "1.0-1")
+        deb.rename(self.built / "other_1.0-1_all.deb")
+        done = with_sidecars(self.changes(more=["other_1.0-1_all.deb"]), self.ready)
+        self.assertEqual(done.stderr, "with_sidecars: other_1.0-1_all.deb is not named by its own fields, as hallo_1.0-1_all.deb\n")
+
+    @unittest.skipUnless(shutil.which("dpkg-buildpackage"), "dpkg-buildpackage is missing")
+    def test_what_dpkg_buildpackage_makes(self):
+        debian = self.built / "hello/debian"
+        (debian / "source").mkdir(parents=True)
+        (debian / "source/format").write_text("3.0 (quilt)\n")
+        (debian / "control").write_text(SOURCE_CONTROL)
+        (debian / "changelog").write_text(CHANGELOG)
+        (debian / "rules").write_text(RULES)
+        (debian / "rules").chmod(0o755)
+        (self.built / "hello/greeting").write_text("hello\n")
+        run("tar", "-czf", "hello_1.0.orig.tar.gz", "hello/greeting", cwd=self.built).check_returncode()
+        made = run("dpkg-buildpackage", "--no-sign", "--no-check-builddeps", cwd=self.built / "hello")
+        self.assertEqual(made.returncode, 0, made.stderr)
+        dsc = self.built / "hello_1.0-1.dsc"
+        changes = next(self.built.glob("*.changes"))
+        self.assertIn("buildinfo", changes.read_text())
+        unsigned, text = dsc.read_bytes(), changes.read_text()
+        signed = ARMOURED.format(text=unsigned.decode()).encode()
+        for digest in ("md5", "sha1", "sha256"):
+            text = text.replace(hashlib.new(digest, unsigned).hexdigest(), hashlib.new(digest, signed).hexdigest())
+        for body in (unsigned, signed):
+            dsc.write_bytes(body)
+            if body is signed:
+                changes.write_text(text.replace(f" {len(unsigned)} ", f" {len(signed)} "))
+            done = with_sidecars(changes, self.ready)
+            self.assertEqual((done.stderr, done.returncode), ("", 0))
+            self.assertEqual((self.ready / "hello_1.0-1.dsc").read_bytes(), unsigned)
+            self.check_lists(done.stdout.splitlines())
+        self.check_accepted(done.stdout.splitlines(), ["Package: hello"])
+
+
+if __name__ == "__main__":
+    unittest.main()

@@ -1,0 +1,1 @@
+"""Uploads with real packages, made for tests and for what measures."""
