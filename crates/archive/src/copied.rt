@@ -83,7 +83,10 @@ fn files_of(rt: &HostRuntime, path: &str) -> io::Result<Files<Memory>> {
     let real = fs::canonicalize(rt, path)?;
     let mut file = opened(rt, real.as_str())?;
     lock(rt, &file)?;
-    if !matches!(beside(rt, real.as_str(), "-journal")?.first(), None | Some(0)) {
+    if !matches!(
+        beside(rt, real.as_str(), "-journal")?.first(),
+        None | Some(0)
+    ) {
         return Err(ErrorKind::Unsupported.into());
     }
     let log = beside(rt, real.as_str(), "-wal")?;
