@@ -1,4 +1,3 @@
-mod PairLemmas
 mod PlainLemmas
 mod RowLemmas
 mod ShownLemmas
