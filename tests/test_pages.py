@@ -143,7 +143,7 @@ class Pages(unittest.TestCase):
                 self.assertEqual(len(found), wanted, form)
 
     def test_a_layout_that_no_row_opens_is_refused(self):
-        path = "docs/USING.md"
+        path = "docs/OPERATING.md"
         page, row = self.repository.pages[path], self.row(path, "| 3 |")
         self.assertEqual(self.other(pages.check_layouts, path, without(page, row)), {f"{path}: Upgrading does not say what opens layout 3"})
         self.assertEqual(len(self.other(pages.check_layouts, path, page.replace(row, "| 3 | |"))), 1)
@@ -161,7 +161,7 @@ class Pages(unittest.TestCase):
         self.repository.texts[path] = kept.replace("VERSION: u64 = 3;", "VERSION: u64 = 12345;")
         found = list(pages.check_layouts(self.repository))
         self.repository.texts[path] = kept
-        self.assertEqual(found, ["docs/USING.md: Upgrading does not say what opens layout 12345"])
+        self.assertEqual(found, ["docs/OPERATING.md: Upgrading does not say what opens layout 12345"])
 
     def test_a_version_without_its_section_is_refused(self):
         page = self.repository.pages["CHANGELOG.md"]
