@@ -1,7 +1,7 @@
-"""What is set in on docs/USING.md, and rooms in which tests run it.
+"""What is set in on docs/USING.md and docs/OPERATING.md, and rooms in which tests run it.
 
 Each text has a name here, by a piece that no other has. Tests ask for it by that name, and may put their own addresses and folders
-in place of those of the page. test_using.py looks whether each text has a name that some test asks for."""
+in place of those of the pages. test_using.py looks whether each text has a name that some test asks for."""
 import contextlib
 import os
 import pathlib
@@ -67,13 +67,14 @@ PIECES = {
 }
 
 
-def page():
-    return (ROOT / "docs/USING.md").read_text(encoding="utf-8")
+def pages():
+    """The texts of both pages."""
+    return "".join((ROOT / f"docs/{name}.md").read_text(encoding="utf-8") for name in ("USING", "OPERATING"))
 
 
 def all_snippets():
-    """The texts of the page that are set in by four blanks or more, each without them."""
-    found = re.findall(r"(?:^ {4,}\S.*\n(?:\n(?= {4}))*)+", page(), re.M)
+    """The texts of the pages that are set in by four blanks or more, each without them."""
+    found = re.findall(r"(?:^ {4,}\S.*\n(?:\n(?= {4}))*)+", pages(), re.M)
     return [textwrap.dedent(text) for text in found]
 
 
@@ -87,7 +88,7 @@ def changed(text, changes):
 
 
 def snippet(name, changes=()):
-    """The text of this name, with other words in place of some of the page's."""
+    """The text of this name, with other words in place of some of the pages'."""
     [text] = [it for it in all_snippets() if PIECES[name] in it]
     return changed(text, dict(changes))
 

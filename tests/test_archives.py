@@ -2,7 +2,7 @@
 the layouts 1 and 2, which none had, the statements of older.py; and N.expected tells what it shows: behind each line `$ WORDS`, with the
 words of a command without its database, what that prints, with a line `(no newline)` behind a text without an end. The file of the layout
 that tables::meta::VERSION names has to be there; whoever changes the layout raises the number and adds a file. The archives of older
-layouts are taken through `migrate` first, under the configuration that they have. Then the line of 'Upgrading' in docs/USING.md is run. The
+layouts are taken through `migrate` first, under the configuration that they have. Then the line of 'Upgrading' in docs/OPERATING.md is run. The
 program is that of program.py."""
 import os
 import pathlib

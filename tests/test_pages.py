@@ -104,8 +104,46 @@ class Pages(unittest.TestCase):
         more = page.replace(row, f"{row}\n{row.replace('vers', 'nothing', 1)}")
         self.assertIn(f"{path}: there is no crate nothing", self.other(pages.check_crates, path, more))
 
+    def test_a_crate_of_which_nothing_is_said_is_refused(self):
+        path = "docs/PROVED.md"
+        page = self.repository.pages[path]
+        for crates in (["vers"], ["commands", "archive", "first"]):
+            title = f"### {', '.join(crates)}\n"
+            self.assertEqual(page.count(title), 1)
+            wanted = {f"{path}: the crate {it} is missing" for it in crates}
+            for other in ("", f"{title}\n", f"{title}### nothing\n"):
+                found = self.other(pages.check_crates, path, page.replace(title, other))
+                self.assertEqual(found, wanted | {f"{path}: there is no crate nothing"} if "nothing" in other else wanted)
+
+    def test_a_crate_that_is_not_drawn_is_refused(self):
+        path = "docs/ARCHITECTURE.md"
+        page = self.repository.pages[path]
+        found = self.other(pages.check_crates, path, page.replace("sums    vers", "sums", 1))
+        self.assertEqual(found, {f"{path}: the crate vers is not drawn"})
+
+    def test_a_limit_that_is_elsewhere_is_refused(self):
+        path = "docs/ARCHITECTURE.md"
+        page, row = self.repository.pages[path], self.row(path, "| 256 entries")
+        for there, here, wanted in (
+            ("MOST_FILES", "MOST_SUITES", "MOST_SUITES is in no file of the row: 256 entries of a list of files"),
+            ("lists.rt", "lines.rt", "MOST_FILES is in no file of the row: 256 entries of a list of files"),
+            ("`MOST_FILES`, crates/sums/src/lists.rt", "in sums", "no file is named that decides: 256 entries of a list of files"),
+        ):
+            self.assertEqual(self.other(pages.check_limits, path, page.replace(row, row.replace(there, here))), {f"{path}: {wanted}"})
+        found = self.other(pages.check_limits, path, page.replace("## Limits and numbers", "## Limits"))
+        self.assertEqual(found, {f"{path}: Limits and numbers has no row"})
+
+    def test_a_long_item_is_refused(self):
+        path = "docs/PROVED.md"
+        page = self.repository.pages[path]
+        for form in ("- {}\n", "- a\n  b {}\n", "  - {}\n", "| a | {} |\n"):
+            spare = 60 - len(form.format("").replace("|", "").split()) + form.count("|") // 3
+            for count, wanted in ((spare, 0), (spare + 1, 1)):
+                found = self.other(pages.check_lengths, path, f"{page}\n{form.format(' '.join(['word'] * count))}")
+                self.assertEqual(len(found), wanted, form)
+
     def test_a_layout_that_no_row_opens_is_refused(self):
-        path = "docs/USING.md"
+        path = "docs/OPERATING.md"
         page, row = self.repository.pages[path], self.row(path, "| 3 |")
         self.assertEqual(self.other(pages.check_layouts, path, without(page, row)), {f"{path}: Upgrading does not say what opens layout 3"})
         self.assertEqual(len(self.other(pages.check_layouts, path, page.replace(row, "| 3 | |"))), 1)
@@ -123,7 +161,7 @@ class Pages(unittest.TestCase):
         self.repository.texts[path] = kept.replace("VERSION: u64 = 3;", "VERSION: u64 = 12345;")
         found = list(pages.check_layouts(self.repository))
         self.repository.texts[path] = kept
-        self.assertEqual(found, ["docs/USING.md: Upgrading does not say what opens layout 12345"])
+        self.assertEqual(found, ["docs/OPERATING.md: Upgrading does not say what opens layout 12345"])
 
     def test_a_version_without_its_section_is_refused(self):
         page = self.repository.pages["CHANGELOG.md"]

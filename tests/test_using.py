@@ -1,5 +1,5 @@
-"""Tests of docs/USING.md that need no built program: each text that is set in there is one that a test asks for, its units of systemd
-and its text for nginx are right as they stand there. Where systemd-analyze, nginx or openssl is not there, the test says that it was
+"""Tests of docs/USING.md and docs/OPERATING.md that need no built program: each text that is set in there is one that a test asks for, and
+once in both, the units of systemd and the text for nginx are right as they stand there. Where systemd-analyze, nginx or openssl is not there, the test says that it was
 skipped. What it shows is run by test_using_program.py and test_using_proxy.py."""
 import os
 import pathlib
@@ -21,7 +21,7 @@ class Using(snippets.Case):
         return ran.stderr
 
     def test_each_text_that_is_set_in_has_one_name(self):
-        self.assertNotIn("```", snippets.page())
+        self.assertNotIn("```", snippets.pages())
         for text in snippets.all_snippets():
             with self.subTest(text):
                 self.assertEqual(len([name for name, piece in snippets.PIECES.items() if piece in text]), 1)

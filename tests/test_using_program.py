@@ -1,5 +1,5 @@
-"""Tests of docs/USING.md with the built program: what is set in there is run by a shell as it stands, with addresses of the test's own,
-and what the page says of copies, of the file and of answers is tried. The program is that of program.py. Where curl, dput, apt-get,
+"""Tests of docs/USING.md and docs/OPERATING.md with the built program: what is set in there is run by a shell as it stands, with addresses of
+the test's own, and what the pages say of copies, of the file and of answers is tried. The program is that of program.py. Where curl, dput, apt-get,
 sqlite3 or dpkg-deb is not there, the test says that it was skipped."""
 import contextlib
 import glob

@@ -1,4 +1,4 @@
-"""Tests of docs/USING.md with the built program behind nginx: the text for it as it stands in the page, with addresses and folders of the
+"""Tests of docs/OPERATING.md with the built program behind nginx: the text for it as it stands in the page, with addresses and folders of the
 test's own; logins, dput over https, the signature beside the archive with apt, and the caches and mirrors of more than one machine. The
 program is that of program.py. Where a tool is not there, the test says that it was skipped."""
 import os
