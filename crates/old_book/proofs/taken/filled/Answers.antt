@@ -1,6 +1,7 @@
-use Rattle.std.proofs.Common.{◌≡◌, refl, sym, ap, subst, ◌∙◌}
+use Rattle.std.proofs.Common.{◌≡◌, rules, refl, sym, ap, subst, ◌∙◌}
 use Rattle.sqlite.specs.Effect.{Database}
-use Rattle.sqlite.specs.Held.{Held}
+use Rattle.sqlite.specs.Held.{Held, state}
+use Rattle.sqlite.specs.Steps.{over_memory}
 use Rattle.sqlite.proofs.Callers.{memory_is_clean}
 use Rattle.tables.specs.Rows.{Holds, no_rows}
 use Rattle.tables.specs.Schema.{no_schema}
@@ -27,4 +28,6 @@ returns-clause-held c =
     let written = c.in_ok-write_rows.ensures.ok (memory_is_clean two) made.mode in
     let done = c.in_ok-commit.ensures.ok (memory_is_clean last) in
     let bare : IsBare no_rows = record { bodies = refl; pieces = refl; arrivals = refl; uploads = refl; wants = refl; items = refl; refs = refl; files = refl } in
-    subst (λ (db : Database). Holds db (copied t 0 no_rows)) (sym done.1.now_is) (written.held no_rows bare (made.held none))
+    let held : Holds (state over_memory last).now (copied t 0 no_rows) = subst (λ (db : Database). Holds db (copied t 0 no_rows)) (sym done.1.now_is) (written.held no_rows bare (made.held none)) in
+    let same : last ≡ c.conn-3-1.given.0 = search rules in
+    subst (λ h. Holds (state over_memory h).now (copied t 0 no_rows)) same held
