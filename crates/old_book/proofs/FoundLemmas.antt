@@ -19,7 +19,7 @@ use Rattle.old_book.specs.declared.book.OldBook.{OldBook}
 -- ---- of rows that are shown
 
 pub shown_book : (asked : Asked) (db : Database) (t : Tables) (r : Result (Option OldBook) Error) → AreShown asked db t → IfOk r (λ o. IfSome o (IsBookOf t)) → IfOk r (λ o. IfSome o (IsShownBook asked db))
-shown_book asked db t (Ok (Some old)) shown is = (t, shown, is)
+shown_book asked db t (Ok (Some old)) shown is = record { rows = t; shown = shown; book = is }
 shown_book asked db t (Ok None) shown is = tt
 shown_book asked db t (Err e) shown is = tt
 
@@ -40,12 +40,12 @@ on_err_is (Err e) h = h
 pub first_book : (asked : Asked) (db : Database) (old : OldBook) → asked ≡ first_layout → IsShownBook asked db old → IsOldBookIn db old
 first_book asked db old is h =
     let there : Contains older_layouts asked = subst (Contains older_layouts) (sym is) (0, omega arith, refl) in
-    (h.0, ((asked, there, h.1, h.2.0), h.2.1))
+    (h.rows, (asked, there, h.shown, h.book.archive), h.book.same)
 
 pub second_book : (asked : Asked) (db : Database) (old : OldBook) → asked ≡ second_layout → IsShownBook asked db old → IsOldBookIn db old
 second_book asked db old is h =
     let there : Contains older_layouts asked = subst (Contains older_layouts) (sym is) (1, omega arith, refl) in
-    (h.0, ((asked, there, h.1, h.2.0), h.2.1))
+    (h.rows, (asked, there, h.shown, h.book.archive), h.book.same)
 
 pub no_book : (first second : Asked) (db : Database) → first ≡ first_layout → second ≡ second_layout → KeepsNoneAs first db → KeepsNoneAs second db → IsNoOldArchive db
 no_book first second db one two h k =

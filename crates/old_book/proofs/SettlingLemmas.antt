@@ -38,6 +38,7 @@ settled_wants uploads ids numbers wants are order = λ i. without (λ w. same w.
   where
     same : (id : ℕ) → list_any (λ n. nat_eq n id) numbers ≡ has_judged uploads id
     same id = sym (list_any-IsPermutation (λ n. nat_eq n id) ids numbers order) ∙ ap (list_any (λ n. nat_eq n id)) are ∙ judged_here uploads id
+
 -- a binary search finds a number exactly if it is among these
 pub found_among : (numbers : List ℕ) (id : ℕ) (r : Result ℕ ℕ) → IsNonDecreasing numbers → IsBinarySearchResult (λ y. nat_cmp y id) numbers r → is_ok r ≡ list_any (λ n. nat_eq n id) numbers
 found_among numbers id (Ok i) rise found =

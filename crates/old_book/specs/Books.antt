@@ -8,14 +8,16 @@ use Rattle.old_book.specs.Old.{IsOldArchive, IsOldBook}
 use Rattle.old_book.specs.Settling.{settled, with_configuration}
 use Rattle.old_book.specs.declared.book.OldBook.{OldBook}
 
--- the rows are those of the old archive, and the book has them as those of an archive of today
-abbrev pub IsBookOf : Tables → OldBook → Type 0
-IsBookOf t old = IsOldArchive t old.held.config old.held.judged.items old.held.shelves old.held.dates.items
-    × (tables_with old.rows ≡ with_configuration old.held.config.text (settled t))
+-- The rows are those of the old archive, and the book has them as those of an archive of today.
+pub record IsBookOf (t : Tables) (old : OldBook) : Type 0 where
+  pub archive : IsOldArchive t old.held.config old.held.judged.items old.held.shelves old.held.dates.items
+  pub same : tables_with old.rows ≡ with_configuration old.held.config.text (settled t)
 
--- the queries of the layout show rows of which this is the book
-abbrev pub IsShownBook : Asked → Database → OldBook → Type 0
-IsShownBook asked db old = (t : Tables) × AreShown asked db t × IsBookOf t old
+-- The queries of the layout show rows of which this is the book.
+pub record IsShownBook (asked : Asked) (db : Database) (old : OldBook) : Type 0 where
+  pub rows : Tables
+  pub shown : AreShown asked db rows
+  pub book : IsBookOf rows old
 
 -- the book is that of an old archive in the database
 abbrev pub IsOldBookIn : Database → OldBook → Type 0

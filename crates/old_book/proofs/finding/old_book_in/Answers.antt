@@ -4,7 +4,7 @@ use Rattle.old_book.proofs.RisingLemmas.{if_rising, rising_if}
 use Rattle.old_book.proofs.finding.old_book_in.Goals as goal
 
 pub are_taken-requires : goal.are_taken-requires
-are_taken-requires c = rising_if (tables_with c.args.all) (sym c.is_rising.ensures ∙ c.if-not-is_rising.false)
+are_taken-requires c = record { rising = rising_if (tables_with c.args.all) (sym c.is_rising.ensures ∙ c.if-not-is_rising.false) }
 
 pub returns-then-not-is_rising-clause-none : goal.returns-then-not-is_rising-clause-none
 returns-then-not-is_rising-clause-none c none readable config judged shown dates old =

@@ -1,4 +1,4 @@
-use Rattle.std.proofs.Common.{◌≡◌, rules, IsTrue, refl, sym, ap, subst, ◌∙◌}
+use Rattle.std.proofs.Common.{◌≡◌, rules, refl, sym, ap, subst, ◌∙◌}
 use Rattle.sqlite.specs.Effect.{Database}
 use Rattle.sqlite.specs.Held.{Held, state}
 use Rattle.sqlite.specs.Steps.{over_memory}
@@ -13,8 +13,7 @@ pub returns-clause-open : goal.returns-clause-open
 returns-clause-open c =
     let last = c.commit.new.self.0 in
     let done = c.in_ok-commit.ensures.ok (memory_is_clean last) in
-    let same : last ≡ c.conn-4-1.given.0 = search rules in
-    subst (λ h. IsTrue (state over_memory h).is_open) same done.1.is_open
+    done.1.is_open
 
 pub returns-clause-held : goal.returns-clause-held
 returns-clause-held c =
@@ -30,5 +29,5 @@ returns-clause-held c =
     let done = c.in_ok-commit.ensures.ok (memory_is_clean last) in
     let bare : IsBare no_rows = record { bodies = refl; pieces = refl; arrivals = refl; uploads = refl; wants = refl; items = refl; refs = refl; files = refl } in
     let held : Holds (state over_memory last).now (copied t 0 no_rows) = subst (λ (db : Database). Holds db (copied t 0 no_rows)) (sym done.1.now_is) (written.held no_rows bare (made.held none)) in
-    let same : last ≡ c.conn-4-1.given.0 = search rules in
+    let same : last ≡ c.conn-3-1.given.0 = search rules in
     subst (λ h. Holds (state over_memory h).now (copied t 0 no_rows)) same held
