@@ -18,8 +18,8 @@ use Rattle.migrate.specs.Migrated.{migrated_rows}
 use Rattle.migrate.proofs.WrittenLemmas.{founds_moved}
 use Rattle.migrate.proofs.writing.migrate_inside.Goals as goal
 
-pub write_rows-requires-clause-rising : goal.write_rows-requires-clause-rising
-write_rows-requires-clause-rising g c = subst (λ all. AreRising (tables_with all)) (sym c.rows.ensures.rows) c.rows.ensures.rising
+pub write_rows-requires : goal.write_rows-requires
+write_rows-requires g c = record { rising = subst (λ all. AreRising (tables_with all)) (sym c.rows.ensures.rows) c.rows.ensures.rising }
 
 pub configure_inside-requires-clause-dated : goal.configure_inside-requires-clause-dated
 configure_inside-requires-clause-dated g c =
