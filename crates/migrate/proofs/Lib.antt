@@ -2,4 +2,3 @@ pub mod WrittenLemmas
 pub mod HeldLemmas
 pub mod MadeLemmas
 pub mod OverLemmas
-pub mod RisingLemmas

@@ -1,5 +1,6 @@
 use Rattle.std.proofs.Common.{◌≡◌, ◌≤◌, All, length, arith, sym, ap, subst, ◌∙◌}
 use Rattle.std.proofs.Math.Logic.{∥∥₁_elim}
+use Rattle.std.proofs.Props.{props}
 use Rattle.std.proofs.lemmas.Result.{on_err_weaker}
 use Rattle.sqlite.specs.State.{HasCleanDisk, KeepsCommit}
 use Rattle.sqlite.specs.Held.{state}
@@ -14,17 +15,15 @@ use Rattle.copying.specs.Copying.{AreRising}
 use Rattle.migrating.specs.Migrating.{moved_rows}
 use Rattle.migrating.proofs.AlikeSuites.{alike_length}
 use Rattle.migrate.specs.Migrated.{migrated_rows}
-use Rattle.migrate.proofs.RisingLemmas.{rising_prop}
 use Rattle.migrate.proofs.WrittenLemmas.{founds_moved}
 use Rattle.migrate.proofs.writing.migrate_inside.Goals as goal
 
-pub write_rows-requires-clause-rising : goal.write_rows-requires-clause-rising
-write_rows-requires-clause-rising g c =
-    ∥∥₁_elim c.rows.ensures.rising (rising_prop (tables_with c.rows.result.now)) (λ rise. subst (λ all. AreRising (tables_with all)) (sym c.rows.ensures.rows) rise)
+pub write_rows-requires : goal.write_rows-requires
+write_rows-requires g c = record { rising = subst (λ all. AreRising (tables_with all)) (sym c.rows.ensures.rows) c.rows.ensures.rising }
 
 pub configure_inside-requires-clause-dated : goal.configure_inside-requires-clause-dated
 configure_inside-requires-clause-dated g c =
-    ap length c.dates.ensures.dates ∙ c.dates.ensures.dated ∙ alike_length c.args.old.now.held.config c.args.config.now c.requires.alike
+    ap length c.dates.ensures.dates ∙ ∥∥₁_elim c.rows.ensures.kept (hlevel props) (λ h. h.dated) ∙ alike_length c.args.old.now.held.config c.args.config.now c.requires.alike
 
 pub configure_inside-requires-clause-in_range : goal.configure_inside-requires-clause-in_range
 configure_inside-requires-clause-in_range g c = subst (All (λ d. d ≤ latest)) (sym c.dates.ensures.dates) c.dates.ensures.in_range
