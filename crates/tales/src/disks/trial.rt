@@ -189,10 +189,7 @@ pub fn done(alloc: Global, image: &Image, plan: Plan, work: Work<'_>) -> Result<
 }
 
 /// What is left of files that hold what an image says, and the archive of an older layout that is read of them, or why none is.
-pub fn old_of(
-    alloc: Global,
-    image: &Image,
-) -> Result<(Image, Result<OldBook, KeepFault>), Unread> {
+pub fn old_of(alloc: Global, image: &Image) -> Result<(Image, Result<OldBook, KeepFault>), Unread> {
     let (files, old) = old_in::<Broken>(alloc, files_of(alloc, image, SOUND)?);
     Ok((image_of(alloc, &files)?, old))
 }
