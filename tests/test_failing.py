@@ -10,7 +10,7 @@ import sqlite3
 import tempfile
 import unittest
 
-from tests.program import NAMES, Lines, Serving, get, put, put_of, replied, status_of
+from tests.program import NAMES, Lines, Serving, get, mounted, put, put_of, replied, status_of
 
 NEW = replied("201 Created", b"new\n")
 AGAIN = replied("200 OK", b"again\n")
