@@ -11,7 +11,7 @@ PROGRAM = crates/archive/out/archive
 
 try:
 	@echo 'The stored files of an upload go through an archive in memory, which prints its index. Compiling takes about a minute. Nothing is proved by it: its last line says proved=no.' >&2
-	@cd crates/first && rt try -- data/hello_1.0-1_amd64.changes data/hello_1.0-1_amd64.deb data/hello_1.0-1_amd64.control
+	@cd crates/demo && rt try -- data/hello_1.0-1_amd64.changes data/hello_1.0-1_amd64.deb data/hello_1.0-1_amd64.control
 
 build:
 	cd crates/archive && rt run -- compare 1.0-1 1.0-2

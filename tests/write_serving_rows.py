@@ -1,4 +1,4 @@
-"""Writes the rows of archives that serve for long, into crates/tales/data or the folder that is named.
+"""Writes the rows of archives that serve for long, into crates/test_archives/data or the folder that is named.
 
     python3 -m tests.write_serving_rows [FOLDER]
 
@@ -11,7 +11,7 @@ import sys
 import time
 
 ROOT = os.path.dirname(os.path.dirname(os.path.abspath(__file__)))
-DATA = f"{ROOT}/crates/tales/data"
+DATA = f"{ROOT}/crates/test_archives/data"
 MOMENT = 1467436850
 UPLOADS = 200
 ROUNDS = 100

@@ -4,9 +4,9 @@ ghost use Rattle.std.specs.Prelude.{◌≤◌};
 
 use crate::copied::copied;
 use command_line::CommandLine;
-use commands::{InFile, OpenFault, act};
+use program::{InFile, OpenFault, act};
 use keep::{KeepFault, LATEST};
-use keep_rows::fault_of;
+use tables_changes::fault_of;
 use keep_tables::{InOrder, LAYOUT, TableKeeper, layout_of};
 use old_book::OldBook;
 use rules::Config;

@@ -5,7 +5,7 @@ mod copied;
 mod database;
 
 use crate::database::act_in_file;
-use commands::explain;
+use program::explain;
 use std::io::Write;
 use std::process::ExitCode;
 use std::{env, io};

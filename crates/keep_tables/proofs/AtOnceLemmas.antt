@@ -18,22 +18,22 @@ use Rattle.tables.specs.Bodies.{body_with}
 use Rattle.tables.specs.Rows.{Tables, Holds, tables_in}
 use Rattle.tables.specs.declared.rows.Body.{Body}
 use Rattle.tables.proofs.BookLemmas.{held_tables, is_archive}
-use Rattle.bodies.specs.AtOnce.{HasNoOtherPiece, IsOnePiece, is_new_at_once, with_delivery_at_once}
-use Rattle.bodies.specs.Counting.{arrival_counts}
-use Rattle.bodies.specs.UnderWay.{IsUnderWay}
-use Rattle.bodies.specs.declared.coming.Begun.{Begun}
-use Rattle.kept.specs.Archives.{KeepsArchive, Turns, book_of}
-use Rattle.kept.specs.Coming.{HasComing, with_coming}
-use Rattle.kept.specs.Finished.{finished}
-use Rattle.kept.specs.Kept.{IsKept, book_in, bytes_of, piece_count, pieces_for, pieces_of}
-use Rattle.kept.specs.Making.{number_with, with_bytes, with_delivered}
-use Rattle.kept.specs.Taking.{HasNoOther, listed_in}
-use Rattle.kept.proofs.BodyLemmas.{HasBody, body_found}
-use Rattle.kept.proofs.ComingLemmas.{no_number, none_coming}
-use Rattle.kept.proofs.DeliveredLemmas.{KeepsDelivery, delivered_archive, numbered}
-use Rattle.kept.proofs.FinishedLemmas.{kept_finished}
-use Rattle.kept.proofs.SamePieces.{at_place, behind_place}
-use Rattle.kept.proofs.UnderWayLemmas.{finished_under_way}
+use Rattle.tables_bodies.specs.AtOnce.{HasNoOtherPiece, IsOnePiece, is_new_at_once, with_delivery_at_once}
+use Rattle.tables_bodies.specs.Counting.{arrival_counts}
+use Rattle.tables_bodies.specs.UnderWay.{IsUnderWay}
+use Rattle.tables_bodies.specs.declared.coming.Begun.{Begun}
+use Rattle.tables_meaning.specs.Archives.{KeepsArchive, Turns, book_of}
+use Rattle.tables_meaning.specs.Coming.{HasComing, with_coming}
+use Rattle.tables_meaning.specs.Finished.{finished}
+use Rattle.tables_meaning.specs.Kept.{IsKept, book_in, bytes_of, piece_count, pieces_for, pieces_of}
+use Rattle.tables_meaning.specs.Making.{number_with, with_bytes, with_delivered}
+use Rattle.tables_meaning.specs.Taking.{HasNoOther, listed_in}
+use Rattle.tables_meaning.proofs.BodyLemmas.{HasBody, body_found}
+use Rattle.tables_meaning.proofs.ComingLemmas.{no_number, none_coming}
+use Rattle.tables_meaning.proofs.DeliveredLemmas.{KeepsDelivery, delivered_archive, numbered}
+use Rattle.tables_meaning.proofs.FinishedLemmas.{kept_finished}
+use Rattle.tables_meaning.proofs.SamePieces.{at_place, behind_place}
+use Rattle.tables_meaning.proofs.UnderWayLemmas.{finished_under_way}
 use Rattle.keep_tables.specs.AtOnce.{arrives_at_once}
 use Rattle.keep_tables.proofs.FoundArrivals.{AreApart, bytes_keep, counts_if_some}
 

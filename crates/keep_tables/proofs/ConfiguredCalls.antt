@@ -11,18 +11,18 @@ use Rattle.keep.specs.Configured.{reconfigured}
 use Rattle.keep.specs.declared.change.Judgement.{Judgement}
 use Rattle.tables.proofs.BookLemmas.{held_tables, is_archive}
 use Rattle.tables.specs.Rows.{Holds, Tables, tables_in}
-use Rattle.kept.specs.Archives.{KeepsArchive, KeepsLeft, book_of}
-use Rattle.kept.specs.Coming.{HasComing}
-use Rattle.kept.specs.Configuring.{Reconfigures, with_configured}
-use Rattle.kept.specs.Finished.{finished}
-use Rattle.kept.specs.KeeperLemmas.{left_is}
-use Rattle.kept.specs.Shown.{shown_in}
-use Rattle.kept.proofs.CallLemmas.{shown_here}
-use Rattle.kept.proofs.ComingLemmas.{change_beside, number_by_bodies, whole_rows}
-use Rattle.kept.proofs.ConfiguredRows.{configured_are, reconfigures}
-use Rattle.kept.proofs.FinishedLemmas.{finished_rises, finished_twice}
-use Rattle.kept.proofs.PassingLemmas.{Passes, beside, bodies_left, finished_passes}
-use Rattle.kept.proofs.TurnLemmas.{KeepsComing}
+use Rattle.tables_meaning.specs.Archives.{KeepsArchive, KeepsLeft, book_of}
+use Rattle.tables_meaning.specs.Coming.{HasComing}
+use Rattle.tables_meaning.specs.Configuring.{Reconfigures, with_configured}
+use Rattle.tables_meaning.specs.Finished.{finished}
+use Rattle.tables_meaning.specs.KeeperLemmas.{left_is}
+use Rattle.tables_meaning.specs.Shown.{shown_in}
+use Rattle.tables_meaning.proofs.CallLemmas.{shown_here}
+use Rattle.tables_meaning.proofs.ComingLemmas.{change_beside, number_by_bodies, whole_rows}
+use Rattle.tables_meaning.proofs.ConfiguredRows.{configured_are, reconfigures}
+use Rattle.tables_meaning.proofs.FinishedLemmas.{finished_rises, finished_twice}
+use Rattle.tables_meaning.proofs.PassingLemmas.{Passes, beside, bodies_left, finished_passes}
+use Rattle.tables_meaning.proofs.TurnLemmas.{KeepsComing}
 
 -- ---- the rows
 

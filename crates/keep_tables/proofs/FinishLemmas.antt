@@ -12,12 +12,12 @@ use Rattle.tables.specs.Rows.{Numbered, Rises, Tables, rows_of, without}
 use Rattle.tables.specs.declared.rows.Body.{Body}
 use Rattle.tables.specs.declared.rows.Piece.{Piece}
 use Rattle.tables_read.specs.All.{AreConstrained}
-use Rattle.kept.specs.Finished.{finished, is_of_unfinished, is_unfinished, without_all}
-use Rattle.kept.specs.Kept.{AreReadable, has_body}
-use Rattle.kept.proofs.Searches.{any_parts, any_same, filter_same_on, list_any-filter}
-use Rattle.bodies.proofs.RemovedLemmas.{removed_each, taken_out}
+use Rattle.tables_meaning.specs.Finished.{finished, is_of_unfinished, is_unfinished, without_all}
+use Rattle.tables_meaning.specs.Kept.{AreReadable, has_body}
+use Rattle.tables_meaning.proofs.Searches.{any_parts, any_same, filter_same_on, list_any-filter}
+use Rattle.tables_bodies.proofs.RemovedLemmas.{removed_each, taken_out}
 use Rattle.keep_tables.specs.Finishing.{are_named, is_among, unfinished_ids}
-use Rattle.audit.specs.Whole.{KeepsNone}
+use Rattle.tables_audit.specs.Whole.{KeepsNone}
 
 -- ---- tests and lists
 

@@ -18,15 +18,15 @@ use Rattle.sums.specs.declared.print.Print.{Print}
 use Rattle.rules.specs.Values.{ConfigValue}
 use Rattle.suites.specs.Shelves.{ShelvesValue}
 use Rattle.keep.specs.declared.change.Judgement.{Judgement}
-use Rattle.bodies.specs.Counting.{arrival_counts}
-use Rattle.kept.specs.Archives.{KeepsArchive}
-use Rattle.kept.specs.Cleaning.{counts_row, is_current}
-use Rattle.kept.specs.Coming.{with_ended, with_whole}
-use Rattle.kept.specs.Finished.{finished, without_whole}
-use Rattle.kept.specs.Kept.{pieces_for}
-use Rattle.kept.specs.Making.{with_bytes, with_pieces}
-use Rattle.kept.proofs.BodyLemmas.{only_pieces}
-use Rattle.kept.proofs.Searches.{list_any-map, pairs_of_rows}
+use Rattle.tables_bodies.specs.Counting.{arrival_counts}
+use Rattle.tables_meaning.specs.Archives.{KeepsArchive}
+use Rattle.tables_meaning.specs.Cleaning.{counts_row, is_current}
+use Rattle.tables_meaning.specs.Coming.{with_ended, with_whole}
+use Rattle.tables_meaning.specs.Finished.{finished, without_whole}
+use Rattle.tables_meaning.specs.Kept.{pieces_for}
+use Rattle.tables_meaning.specs.Making.{with_bytes, with_pieces}
+use Rattle.tables_meaning.proofs.BodyLemmas.{only_pieces}
+use Rattle.tables_meaning.proofs.Searches.{list_any-map, pairs_of_rows}
 use Rattle.keep_tables.specs.Moments.{found_current}
 
 abbrev arrivals_of : Tables → Numbered Arrival

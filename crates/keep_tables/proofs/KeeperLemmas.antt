@@ -6,8 +6,8 @@ use Rattle.sqlite.specs.Store.{Ghosts}
 use Rattle.rules.specs.Values.{ConfigValue}
 use Rattle.keep.specs.declared.change.Judgement.{Judgement}
 use Rattle.tables.specs.Rows.{tables_in}
-use Rattle.kept.specs.Archives.{KeepsFinished, book_of}
-use Rattle.kept.specs.Shown.{shown_in}
+use Rattle.tables_meaning.specs.Archives.{KeepsFinished, book_of}
+use Rattle.tables_meaning.specs.Shown.{shown_in}
 use Rattle.keep_tables.specs.Keepers.{config_in_use, table_book}
 use Rattle.keep_tables.specs.declared.keeper.TableKeeper.{TableKeeper}
 

@@ -6,7 +6,7 @@ use Rattle.sqlite.specs.Store.{Ghosts}
 use Rattle.sqlite.specs.Tree.{Trees}
 use Rattle.keep.specs.Book.{Book}
 use Rattle.keep.specs.Keeping.{Stays}
-use Rattle.kept.specs.Archives.{KeepsLeft}
+use Rattle.tables_meaning.specs.Archives.{KeepsLeft}
 use Rattle.keep_tables.specs.Keepers.{table_book}
 use Rattle.keep_tables.specs.declared.keeper.TableKeeper.{TableKeeper}
 

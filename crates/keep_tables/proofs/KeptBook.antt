@@ -4,8 +4,8 @@ use Rattle.std.proofs.Math.Logic.{∥∥₁_map}
 use Rattle.sqlite.specs.State.{HasCleanDisk}
 use Rattle.sqlite.specs.Store.{Ghosts}
 use Rattle.tables.specs.Rows.{tables_in}
-use Rattle.kept.specs.Archives.{KeepsBook}
-use Rattle.kept.specs.Shown.{shown_in}
+use Rattle.tables_meaning.specs.Archives.{KeepsBook}
+use Rattle.tables_meaning.specs.Shown.{shown_in}
 use Rattle.keep_tables.specs.Keepers.{config_in_use, connection_of, table_book}
 use Rattle.keep_tables.specs.declared.keeper.TableKeeper.{TableKeeper}
 

@@ -26,22 +26,22 @@ use Rattle.tables.specs.Uploads.{is_judged as has_place}
 use Rattle.tables.specs.Wants.{is_wanted_by}
 use Rattle.tables.specs.declared.rows.Upload.{Upload}
 use Rattle.tables.specs.declared.rows.Want.{Want}
-use Rattle.kept.specs.Archives.{KeepsArchive, book_of}
-use Rattle.kept.specs.Cleaning.{counts_row, has_ended, is_current, with_current}
-use Rattle.kept.specs.Finished.{finished}
-use Rattle.kept.specs.Kept.{AreArrivals, AreNumbered, AreStored, AreUploads, arrivals_in, book_in, bytes_of}
-use Rattle.kept.specs.Reads.{bytes_with, due_in, missing_in, put_by, row_order, sorted_by, text_in, upload_in, waiting_in, wanting, wanting_rows}
-use Rattle.kept.proofs.BodyLemmas.{are_stored}
-use Rattle.kept.proofs.DeliveredLemmas.{numbered}
-use Rattle.kept.proofs.DueLemmas.{due_are}
-use Rattle.kept.proofs.FinishedLemmas.{body_finished, bytes_with_finished, dues_finished, waiting_finished}
-use Rattle.kept.proofs.LikeLemmas.{stored_like}
-use Rattle.kept.proofs.RowLists.{all_filtered}
-use Rattle.kept.proofs.Searches.{filter_twice, map_same_on}
-use Rattle.kept.proofs.WaitingLemmas.{waiting_list_is}
-use Rattle.kept.proofs.WantingLemmas.{only_one, wanting_unjudged}
-use Rattle.cleaning.proofs.CurrentLemmas.{arrivals_current, arrivals_left}
-use Rattle.cleaning.proofs.CurrentUploads.{uploads_left, wants_left}
+use Rattle.tables_meaning.specs.Archives.{KeepsArchive, book_of}
+use Rattle.tables_meaning.specs.Cleaning.{counts_row, has_ended, is_current, with_current}
+use Rattle.tables_meaning.specs.Finished.{finished}
+use Rattle.tables_meaning.specs.Kept.{AreArrivals, AreNumbered, AreStored, AreUploads, arrivals_in, book_in, bytes_of}
+use Rattle.tables_meaning.specs.Reads.{bytes_with, due_in, missing_in, put_by, row_order, sorted_by, text_in, upload_in, waiting_in, wanting, wanting_rows}
+use Rattle.tables_meaning.proofs.BodyLemmas.{are_stored}
+use Rattle.tables_meaning.proofs.DeliveredLemmas.{numbered}
+use Rattle.tables_meaning.proofs.DueLemmas.{due_are}
+use Rattle.tables_meaning.proofs.FinishedLemmas.{body_finished, bytes_with_finished, dues_finished, waiting_finished}
+use Rattle.tables_meaning.proofs.LikeLemmas.{stored_like}
+use Rattle.tables_meaning.proofs.RowLists.{all_filtered}
+use Rattle.tables_meaning.proofs.Searches.{filter_twice, map_same_on}
+use Rattle.tables_meaning.proofs.WaitingLemmas.{waiting_list_is}
+use Rattle.tables_meaning.proofs.WantingLemmas.{only_one, wanting_unjudged}
+use Rattle.tables_cleaning.proofs.CurrentLemmas.{arrivals_current, arrivals_left}
+use Rattle.tables_cleaning.proofs.CurrentUploads.{uploads_left, wants_left}
 use Rattle.keep_tables.specs.Moments.{due_at, found_current, is_had, missing_at, rows_at, waiting_at}
 use Rattle.keep_tables.proofs.FoundArrivals.{current_if_found}
 

@@ -16,21 +16,21 @@ use Rattle.tables.specs.Rows.{Tables, Holds, IsArchive, Numbered, Rises, rows_of
 use Rattle.tables.specs.Others.{IsArchiveSchema}
 use Rattle.tables.specs.declared.rows.Body.{Body}
 use Rattle.tables.specs.Real.{AreReal, IsRealBody, IsRealPrint}
-use Rattle.kept.specs.Archives.{KeepsArchive, KeepsFinished, book_of}
-use Rattle.kept.specs.Kept.{AreReadable, IsKept, book_in}
-use Rattle.kept.specs.Shown.{shown_in}
-use Rattle.kept.proofs.CallLemmas.{kept_here, shown_here}
-use Rattle.kept.proofs.RealRows.{kept_readable, kept_real}
-use Rattle.kept.proofs.ComingLemmas.{none_coming}
-use Rattle.kept.proofs.FinishedLemmas.{finished_twice, shown_finished}
-use Rattle.kept.proofs.NameLemmas.{config_codenames}
-use Rattle.kept.proofs.ShownLemmas.{shown_is}
-use Rattle.kept.proofs.UnderWayLemmas.{finished_under_way}
-use Rattle.kept.specs.Coming.{HasComing}
-use Rattle.kept.specs.Finished.{AreUnderWay, finished, is_unfinished, without_all}
-use Rattle.kept.specs.Transactions.{IsDone, IsUndone, MayCommit}
+use Rattle.tables_meaning.specs.Archives.{KeepsArchive, KeepsFinished, book_of}
+use Rattle.tables_meaning.specs.Kept.{AreReadable, IsKept, book_in}
+use Rattle.tables_meaning.specs.Shown.{shown_in}
+use Rattle.tables_meaning.proofs.CallLemmas.{kept_here, shown_here}
+use Rattle.tables_meaning.proofs.RealRows.{kept_readable, kept_real}
+use Rattle.tables_meaning.proofs.ComingLemmas.{none_coming}
+use Rattle.tables_meaning.proofs.FinishedLemmas.{finished_twice, shown_finished}
+use Rattle.tables_meaning.proofs.NameLemmas.{config_codenames}
+use Rattle.tables_meaning.proofs.ShownLemmas.{shown_is}
+use Rattle.tables_meaning.proofs.UnderWayLemmas.{finished_under_way}
+use Rattle.tables_meaning.specs.Coming.{HasComing}
+use Rattle.tables_meaning.specs.Finished.{AreUnderWay, finished, is_unfinished, without_all}
+use Rattle.tables_meaning.specs.Transactions.{IsDone, IsUndone, MayCommit}
 use Rattle.keep_tables.specs.Finishing.{unfinished_ids}
-use Rattle.audit.specs.Whole.{KeepsNone, KeepsSome}
+use Rattle.tables_audit.specs.Whole.{KeepsNone, KeepsSome}
 use Rattle.keep_tables.specs.Opened.{HasUnfinished, IsArchiveOf, IsFinished, IsFound, IsNoArchive}
 use Rattle.keep_tables.proofs.FinishLemmas.{finished_as}
 

@@ -14,14 +14,14 @@ use Rattle.keep.specs.declared.change.Change.{Change}
 use Rattle.keep.specs.declared.change.Judgement.{Judgement}
 use Rattle.tables.specs.Rows.{Tables, Holds, tables_in}
 use Rattle.tables.proofs.BookLemmas.{held_tables}
-use Rattle.kept.specs.Amending.{HasAllBodies}
-use Rattle.kept.specs.Archives.{KeepsArchive, book_of}
-use Rattle.kept.specs.Coming.{HasComing}
-use Rattle.kept.specs.Making.{takes_file, with_change}
-use Rattle.kept.specs.Transactions.{IsDone, IsUndone, MayCommit}
-use Rattle.kept.proofs.TurnLemmas.{AmendsBy, KeepsComing, done_amends, done_ends, done_keeps}
-use Rattle.keep_rows.specs.Swept.{needs_sweep, with_made}
-use Rattle.keep_rows.proofs.SparedLemmas.{made_as_needed}
+use Rattle.tables_meaning.specs.Amending.{HasAllBodies}
+use Rattle.tables_meaning.specs.Archives.{KeepsArchive, book_of}
+use Rattle.tables_meaning.specs.Coming.{HasComing}
+use Rattle.tables_meaning.specs.Making.{takes_file, with_change}
+use Rattle.tables_meaning.specs.Transactions.{IsDone, IsUndone, MayCommit}
+use Rattle.tables_meaning.proofs.TurnLemmas.{AmendsBy, KeepsComing, done_amends, done_ends, done_keeps}
+use Rattle.tables_changes.specs.Swept.{needs_sweep, with_made}
+use Rattle.tables_changes.proofs.SparedLemmas.{made_as_needed}
 
 -- what is undone behind a read leaves what was there before
 pub undone_twice : (a b c : State) → IsUndone a b → IsUndone b c → IsUndone a c

@@ -8,18 +8,18 @@ use Rattle.sqlite.specs.State.{State}
 use Rattle.sums.specs.Prints.{Holds}
 use Rattle.sums.specs.declared.print.Printer.{Printer}
 use Rattle.tables.specs.Rows.{Tables, tables_in}
-use Rattle.kept.specs.Archives.{KeepsArchive}
-use Rattle.kept.specs.Coming.{Comes, HasComing, bytes_so_far, coming_number}
-use Rattle.kept.specs.Transactions.{IsUndone}
-use Rattle.kept.proofs.ComingLemmas.{coming_bytes, whole_rows}
-use Rattle.kept.proofs.FinishedLemmas.{finished_rises}
-use Rattle.kept.specs.Finished.{finished}
+use Rattle.tables_meaning.specs.Archives.{KeepsArchive}
+use Rattle.tables_meaning.specs.Coming.{Comes, HasComing, bytes_so_far, coming_number}
+use Rattle.tables_meaning.specs.Transactions.{IsUndone}
+use Rattle.tables_meaning.proofs.ComingLemmas.{coming_bytes, whole_rows}
+use Rattle.tables_meaning.proofs.FinishedLemmas.{finished_rises}
+use Rattle.tables_meaning.specs.Finished.{finished}
 use Rattle.rules.specs.Values.{ConfigValue}
 use Rattle.suites.specs.Shelves.{ShelvesValue}
 use Rattle.keep.specs.Keeping.{IsDeliverable, IsWholeFor, TakesPiece}
 use Rattle.keep.specs.declared.change.Judgement.{Judgement}
-use Rattle.bodies.specs.UnderWay.{IsBegun, IsUnderWay, coming_in}
-use Rattle.bodies.specs.declared.coming.Begun.{Begun}
+use Rattle.tables_bodies.specs.UnderWay.{IsBegun, IsUnderWay, coming_in}
+use Rattle.tables_bodies.specs.declared.coming.Begun.{Begun}
 
 pub coming_set : IsSet (Option (List ℕ))
 coming_set = hlevel props

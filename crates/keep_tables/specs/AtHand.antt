@@ -10,8 +10,8 @@ use Rattle.suites.specs.Shelves.{ShelvesValue}
 use Rattle.texts.specs.Indices.{index_text}
 use Rattle.keep.specs.declared.change.IndexText.{IndexText}
 use Rattle.tables.specs.Rows.{tables_in}
-use Rattle.kept.specs.Shown.{shown_in}
-use Rattle.keep_tables.specs.declared.known.TextPrint.{TextPrint}
+use Rattle.tables_meaning.specs.Shown.{shown_in}
+use Rattle.keep_tables.specs.declared.text_prints.TextPrint.{TextPrint}
 
 -- Where shelves are at hand, they are what the rows show.
 abbrev pub AreAtHand : ConfigValue → Database → Option ShelvesValue → Type 0

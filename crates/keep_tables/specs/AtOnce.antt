@@ -1,7 +1,7 @@
 -- Which bodies arrive in one transaction.
 use Rattle.std.specs.Prelude.{nat_le, Bool, ◌&&◌, ℕ, List, length, Option, is_none}
 use Rattle.std.specs.Option.{option_and_then}
-use Rattle.bodies.specs.declared.coming.Begun.{Begun}
+use Rattle.tables_bodies.specs.declared.coming.Begun.{Begun}
 
 -- A body has a byte and no more than a piece may have, and what was begun, if anything was, has no row.
 abbrev pub arrives_at_once : Option Begun → List ℕ → Bool

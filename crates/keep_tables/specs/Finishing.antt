@@ -3,7 +3,7 @@ use Rattle.std.specs.Prelude.{ℕ, nat_eq, Bool, ◌||◌, List, map, filter}
 use Rattle.std.specs.List.{list_any}
 use Rattle.tables.specs.Rows.{Numbered, Tables, rows_of}
 use Rattle.tables.specs.declared.rows.Body.{Body}
-use Rattle.kept.specs.Finished.{is_unfinished}
+use Rattle.tables_meaning.specs.Finished.{is_unfinished}
 
 -- the numbers of the bodies that are not whole
 abbrev pub unfinished_ids : Numbered Body → List ℕ

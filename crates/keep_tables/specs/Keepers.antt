@@ -5,8 +5,8 @@ use Rattle.sqlite.specs.Store.{Ghosts}
 use Rattle.rules.specs.Values.{ConfigValue}
 use Rattle.keep.specs.Book.{Book}
 use Rattle.tables.specs.Rows.{tables_in}
-use Rattle.kept.specs.Archives.{book_of}
-use Rattle.kept.specs.Shown.{shown_in}
+use Rattle.tables_meaning.specs.Archives.{book_of}
+use Rattle.tables_meaning.specs.Shown.{shown_in}
 use Rattle.keep_tables.specs.declared.keeper.TableKeeper.{TableKeeper}
 
 -- its connection, as it shows

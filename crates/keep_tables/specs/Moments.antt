@@ -10,8 +10,8 @@ use Rattle.tables.specs.Rows.{Numbered, Tables, rows_of}
 use Rattle.tables.specs.Wants.{is_wanted_by}
 use Rattle.tables.specs.declared.rows.Upload.{Upload}
 use Rattle.tables.specs.declared.rows.Want.{Want}
-use Rattle.bodies.specs.Counting.{arrival_counts}
-use Rattle.kept.specs.Reads.{row_order, sorted_by, upload_in, wanting}
+use Rattle.tables_bodies.specs.Counting.{arrival_counts}
+use Rattle.tables_meaning.specs.Reads.{row_order, sorted_by, upload_in, wanting}
 
 -- a body of this print is there, and its arrival under this name counts
 unfoldable pub found_current : Option ℕ → ℕ → Tables → List ℕ → Print → Bool

@@ -5,8 +5,8 @@ use Rattle.sqlite.specs.State.{State}
 use Rattle.rules.specs.Values.{ConfigValue}
 use Rattle.keep.specs.declared.change.Judgement.{Judgement}
 use Rattle.tables.specs.Rows.{Tables, Holds, IsArchive, tables_in}
-use Rattle.kept.specs.Finished.{AreUnderWay, finished, is_unfinished}
-use Rattle.audit.specs.Whole.{KeepsNone, KeepsSome}
+use Rattle.tables_meaning.specs.Finished.{AreUnderWay, finished, is_unfinished}
+use Rattle.tables_audit.specs.Whole.{KeepsNone, KeepsSome}
 use Rattle.keep_tables.specs.Finishing.{unfinished_ids}
 
 -- The database keeps an archive of this configuration, with these judged uploads and these dates, once the bodies that are not

@@ -3,10 +3,10 @@
 ghost use Rattle.std.specs.Prelude.{◌≡◌, [], Some, None, true, false, if◌then◌else◌, option_map};
 ghost use Rattle.std.specs.Option.{option_and_then, option_map_or};
 ghost use Rattle.sums.specs.Prints.{Holds};
-ghost use Rattle.bodies.specs.declared.coming.Begun.{Begun};
+ghost use Rattle.tables_bodies.specs.declared.coming.Begun.{Begun};
 ghost use Rattle.keep_tables.specs.AtOnce.{arrives_at_once};
 
-use bodies::Begun;
+use tables_bodies::Begun;
 use keep::PIECE_SIZE;
 use sums::Printer;
 

@@ -11,14 +11,14 @@ ghost use Rattle.keep.specs.declared.change.Judgement.{Judgement};
 ghost use Rattle.rules.specs.Values.{ConfigValue};
 ghost use Rattle.suites.specs.Shelves.{ShelvesValue};
 ghost use Rattle.tables.specs.Rows.{tables_in};
-ghost use Rattle.kept.specs.Archives.{KeepsArchive, Turns, book_of};
-ghost use Rattle.kept.specs.Coming.{Comes, HasComing};
-ghost use Rattle.kept.specs.Transactions.{IsUndone};
+ghost use Rattle.tables_meaning.specs.Archives.{KeepsArchive, Turns, book_of};
+ghost use Rattle.tables_meaning.specs.Coming.{Comes, HasComing};
+ghost use Rattle.tables_meaning.specs.Transactions.{IsUndone};
 
-use bodies::{Finished, OnePiece, finish_body, remove_all, store_piece, take_one_piece};
+use tables_bodies::{Finished, OnePiece, finish_body, remove_all, store_piece, take_one_piece};
 use sqlite::{Alter, Connection, Error, ErrorCode};
 use std::alloc::Global;
-use tables::serving::serve;
+use tables::probe::probe;
 
 /// Takes the rows of a body away that came so far.
 pub(crate) fn forget_body<S: Alter>(conn: &mut Connection<S>, id: u64) -> Result<(), Error>
@@ -61,7 +61,7 @@ pub(crate) fn clear<S: Alter>(
 {
     match body {
         Some(id) => forget_body(conn, id),
-        None => serve(alloc, conn),
+        None => probe(alloc, conn),
     }
 }
 

@@ -10,21 +10,21 @@ ghost use Rattle.keep.specs.Keeping.{IsSound};
 ghost use Rattle.keep.specs.declared.change.Judgement.{Judgement};
 ghost use Rattle.suites.specs.Shelves.{ShelvesValue};
 ghost use Rattle.tables.specs.Rows.{IsArchive, tables_in};
-ghost use Rattle.kept.specs.Archives.{Amends, KeepsArchive, book_of};
-ghost use Rattle.kept.specs.Changing.{is_within, puts_within};
-ghost use Rattle.kept.specs.Coming.{Comes, HasComing};
-ghost use Rattle.kept.specs.Making.{takes_file};
-ghost use Rattle.kept.specs.Transactions.{IsUndone};
+ghost use Rattle.tables_meaning.specs.Archives.{Amends, KeepsArchive, book_of};
+ghost use Rattle.tables_meaning.specs.Changing.{is_within, puts_within};
+ghost use Rattle.tables_meaning.specs.Coming.{Comes, HasComing};
+ghost use Rattle.tables_meaning.specs.Making.{takes_file};
+ghost use Rattle.tables_meaning.specs.Transactions.{IsUndone};
 
 use keep::{Change, Step};
-use keep_rows::{amend, needs_sweep};
+use tables_changes::{amend, needs_sweep};
 use rules::Config;
 use sqlite::{Alter, Connection, Error, ErrorCode};
 use std::alloc::Global;
 use suites::{Item, ShelfKey};
 
 /// Whether an item stands in one of so many suites.
-#[tactic(auto, unfolding(kept::specs::Changing::is_within))]
+#[tactic(auto, unfolding(tables_meaning::specs::Changing::is_within))]
 fn is_inside(entry: &(ShelfKey, Item), suites: usize) -> bool
     ensures { result ≡ is_within suites entry.now }
 {
@@ -44,7 +44,7 @@ fn are_inside(entries: &[(ShelfKey, Item)], suites: usize) -> bool
 }
 
 /// Whether each item that a step puts stands in one of so many suites.
-#[tactic(auto, unfolding(kept::specs::Changing::puts_within))]
+#[tactic(auto, unfolding(tables_meaning::specs::Changing::puts_within))]
 fn puts_inside(step: &Step, suites: usize) -> bool
     ensures { result ≡ puts_within suites step.now }
 {

@@ -9,11 +9,11 @@ ghost use Rattle.keep.specs.declared.change.Judgement.{Judgement};
 ghost use Rattle.rules.specs.Values.{ConfigValue};
 ghost use Rattle.suites.specs.Shelves.{ShelvesValue};
 ghost use Rattle.tables.specs.Rows.{tables_in};
-ghost use Rattle.kept.specs.Archives.{KeepsArchive, Turns, book_of};
-ghost use Rattle.kept.specs.Coming.{HasComing};
-ghost use Rattle.kept.specs.Transactions.{IsUndone};
+ghost use Rattle.tables_meaning.specs.Archives.{KeepsArchive, Turns, book_of};
+ghost use Rattle.tables_meaning.specs.Coming.{HasComing};
+ghost use Rattle.tables_meaning.specs.Transactions.{IsUndone};
 
-use bodies::clean;
+use tables_bodies::clean;
 use sqlite::{Alter, Connection, Error};
 use std::alloc::Global;
 

@@ -10,12 +10,12 @@ ghost use Rattle.rules.specs.Values.{ConfigValue};
 ghost use Rattle.suites.specs.Moved.{all_stay, moved};
 ghost use Rattle.suites.specs.Shelves.{ShelvesValue};
 ghost use Rattle.tables.specs.Rows.{tables_in};
-ghost use Rattle.kept.specs.Archives.{KeepsArchive};
-ghost use Rattle.kept.specs.Coming.{Comes};
-ghost use Rattle.kept.specs.Configuring.{Reconfigures};
-ghost use Rattle.kept.specs.Transactions.{IsUndone};
+ghost use Rattle.tables_meaning.specs.Archives.{KeepsArchive};
+ghost use Rattle.tables_meaning.specs.Coming.{Comes};
+ghost use Rattle.tables_meaning.specs.Configuring.{Reconfigures};
+ghost use Rattle.tables_meaning.specs.Transactions.{IsUndone};
 
-use keep_rows::configure;
+use tables_changes::configure;
 use rules::Config;
 use sqlite::{Alter, Connection, Error};
 use std::alloc::Global;

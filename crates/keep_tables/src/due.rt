@@ -8,12 +8,12 @@ ghost use Rattle.sqlite.specs.State.{HasCleanDisk, IsUnchanged, Survives};
 ghost use Rattle.suites.specs.Upload.{IsTextOf};
 ghost use Rattle.sums.specs.Prints.{print as print_of_body};
 ghost use Rattle.tables.specs.Rows.{Tables, Holds};
-ghost use Rattle.kept.specs.Reads.{Rests, bytes_with, text_in, upload_in};
-ghost use Rattle.kept.specs.Transactions.{IsUndone};
+ghost use Rattle.tables_meaning.specs.Reads.{Rests, bytes_with, text_in, upload_in};
+ghost use Rattle.tables_meaning.specs.Transactions.{IsUndone};
 ghost use Rattle.keep_tables.specs.Moments.{due_at, rows_at};
 
 use crate::waiting::{missing_of, wanting_in_order};
-use bodies::read_body;
+use tables_bodies::read_body;
 use para::Listed;
 use records::{Changes, RecordFault};
 use sqlite::{Alter, Connection, Error, ErrorCode};

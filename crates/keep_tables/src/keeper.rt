@@ -4,10 +4,10 @@ ghost use Rattle.std.specs.Prelude.{◌≡◌, ◌≤◌, [], All, false, IsTrue
 ghost use Rattle.sqlite.specs.Held.{state};
 ghost use Rattle.sqlite.specs.State.{HasCleanDisk};
 ghost use Rattle.tables.specs.Rows.{tables_in};
-ghost use Rattle.bodies.specs.UnderWay.{IsUnderWay};
-ghost use Rattle.kept.specs.Archives.{KeepsArchive};
-ghost use Rattle.kept.specs.Coming.{HasComing};
-ghost use Rattle.kept.specs.Shown.{shown_in};
+ghost use Rattle.tables_bodies.specs.UnderWay.{IsUnderWay};
+ghost use Rattle.tables_meaning.specs.Archives.{KeepsArchive};
+ghost use Rattle.tables_meaning.specs.Coming.{HasComing};
+ghost use Rattle.tables_meaning.specs.Shown.{shown_in};
 ghost use Rattle.keep_tables.specs.AtHand.{AreAtHand, AreKnown};
 
 use crate::begun::{begun, forget_if, is_coming, is_one_piece, number_of, stop};
@@ -15,17 +15,17 @@ use crate::calls::{clear, deliver_at_once, finish_delivery, forget_body, take_pi
 use crate::changes::make_change;
 use crate::cleanings::clean_up;
 use crate::configurations::take_configuration;
-use crate::current::span_of;
-use crate::known::{TextPrint, known_print, note_print, renew_prints};
+use crate::counting::span_of;
+use crate::text_prints::{TextPrint, known_print, note_print, renew_prints};
 use crate::reads::{
     read_due, read_file, read_kept, read_nothing, read_print, read_text, read_waiting, show,
 };
-use bodies::{Begun, Finished, OnePiece};
+use tables_bodies::{Begun, Finished, OnePiece};
 use keep::{
     Change, Configured, IndexText, Judgement, KeepFault, Keeper, LATEST, PIECE_SIZE, Waiting,
     append_judgements, copied_judgements, dates_after, room_for_judgements,
 };
-use keep_rows::{create, fault_of, is_without_tables, some_take_files};
+use tables_changes::{create, fault_of, is_without_tables, some_take_files};
 use rules::Config;
 use sqlite::{Alter, Connection};
 use std::alloc::Global;
@@ -63,14 +63,14 @@ impl<S: Alter + Drop> TableKeeper<S> {
     ghost use Rattle.keep.specs.Plain.{fresh_book};
     ghost use Rattle.keep.specs.declared.fault.KeepFault.TheVariants.{Tables as NotEmpty};
     ghost use Rattle.tables.specs.Schema.{no_schema};
-    ghost use Rattle.kept.specs.Founding.{MayFound, founded};
-    ghost use Rattle.kept.specs.Transactions.{IsUndone};
+    ghost use Rattle.tables_meaning.specs.Founding.{MayFound, founded};
+    ghost use Rattle.tables_meaning.specs.Transactions.{IsUndone};
 
     /// A new archive of the configuration, in a database that has no table, no index and no view, made at the moment, in
     /// seconds since 1970-01-01 00:00:00 UTC. A fault gives the connection back, and then what was committed is as before. It is
     /// `KeepFault::Tables` exactly where the database has an object already or a transaction is begun. A crash leaves what was
     /// there before or the whole archive.
-    #[tactic(auto, unfolding(kept::specs::Kept::book_in))]
+    #[tactic(auto, unfolding(tables_meaning::specs::Kept::book_in))]
     pub fn create(
         alloc: Global,
         mut connection: Connection<S>,
@@ -160,9 +160,9 @@ impl<S: Alter + Drop> TableKeeper<S> {
 impl<S: Alter + Drop> Keeper for TableKeeper<S> {
     ghost use Rattle.std.specs.Prelude.{true};
     ghost use Rattle.sqlite.specs.Tree.{Trees};
-    ghost use Rattle.bodies.specs.UnderWay.{coming_in};
-    ghost use Rattle.kept.specs.Archives.{KeepsLeft, book_of};
-    ghost use Rattle.kept.specs.KeeperLemmas.{left_is};
+    ghost use Rattle.tables_bodies.specs.UnderWay.{coming_in};
+    ghost use Rattle.tables_meaning.specs.Archives.{KeepsLeft, book_of};
+    ghost use Rattle.tables_meaning.specs.KeeperLemmas.{left_is};
 
     ghost is_clean = { λ k. HasCleanDisk (state S.Store k.conn) };
 
@@ -179,17 +179,17 @@ impl<S: Alter + Drop> Keeper for TableKeeper<S> {
     /// A crash leaves trees that an opening may find, with a book in them or none.
     ghost may_leave = { λ k left. (trees : Trees) × (state S.Store k.conn).may_leave trees × KeepsLeft trees left };
 
-    #[tactic(auto, unfolding(kept::specs::Kept::book_in))]
+    #[tactic(auto, unfolding(tables_meaning::specs::Kept::book_in))]
     fn config(&self) -> &Config {
         &self.config
     }
 
-    #[tactic(auto, unfolding(kept::specs::Kept::book_in))]
+    #[tactic(auto, unfolding(tables_meaning::specs::Kept::book_in))]
     fn dates(&self) -> &[u64] {
         self.dates.as_slice()
     }
 
-    #[tactic(auto, unfolding(kept::specs::Kept::book_in))]
+    #[tactic(auto, unfolding(tables_meaning::specs::Kept::book_in))]
     fn begin(&mut self, alloc: Global) -> Result<(), KeepFault> {
         match clear(alloc, &mut self.conn, number_of(&self.begun)) {
             Ok(()) => {
@@ -203,7 +203,7 @@ impl<S: Alter + Drop> Keeper for TableKeeper<S> {
         }
     }
 
-    #[tactic(auto, unfolding(kept::specs::Kept::book_in))]
+    #[tactic(auto, unfolding(tables_meaning::specs::Kept::book_in))]
     fn piece(&mut self, alloc: Global, bytes: &[u8]) -> Result<(), KeepFault> {
         let _ = alloc;
         let Some(mut begun) = self.begun.take() else {
@@ -228,7 +228,7 @@ impl<S: Alter + Drop> Keeper for TableKeeper<S> {
         }
     }
 
-    #[tactic(auto, unfolding(kept::specs::Kept::book_in))]
+    #[tactic(auto, unfolding(tables_meaning::specs::Kept::book_in))]
     fn finish(&mut self, alloc: Global, name: &str, moment: u64) -> Result<bool, KeepFault> {
         let Some(begun) = self.begun.take() else {
             return Err(KeepFault::Disk);
@@ -262,7 +262,7 @@ impl<S: Alter + Drop> Keeper for TableKeeper<S> {
         }
     }
 
-    #[tactic(auto, unfolding(kept::specs::Kept::book_in))]
+    #[tactic(auto, unfolding(tables_meaning::specs::Kept::book_in))]
     fn abandon(&mut self) -> Result<(), KeepFault> {
         if !is_coming(&self.begun) {
             return Ok(());
@@ -284,7 +284,7 @@ impl<S: Alter + Drop> Keeper for TableKeeper<S> {
     }
 
     /// A body of one piece arrives in one transaction, where no row of another is left.
-    #[tactic(auto, unfolding(kept::specs::Kept::book_in))]
+    #[tactic(auto, unfolding(tables_meaning::specs::Kept::book_in))]
     fn arrive(
         &mut self,
         alloc: Global,
@@ -321,7 +321,7 @@ impl<S: Alter + Drop> Keeper for TableKeeper<S> {
         self.finish(alloc, name, moment)
     }
 
-    #[tactic(auto, unfolding(kept::specs::Kept::book_in))]
+    #[tactic(auto, unfolding(tables_meaning::specs::Kept::book_in))]
     fn complete_uploads(&mut self, alloc: Global, moment: u64) -> Result<Vec<Upload>, KeepFault> {
         let seconds = span_of(&self.config);
         match read_due(alloc, &mut self.conn, seconds, moment) {
@@ -330,7 +330,7 @@ impl<S: Alter + Drop> Keeper for TableKeeper<S> {
         }
     }
 
-    #[tactic(auto, unfolding(kept::specs::Kept::book_in))]
+    #[tactic(auto, unfolding(tables_meaning::specs::Kept::book_in))]
     fn shelves(&mut self, alloc: Global) -> Result<Shelves, KeepFault> {
         let spare = self.spare.take();
         match show(alloc, &mut self.conn, &self.config, spare) {
@@ -339,7 +339,7 @@ impl<S: Alter + Drop> Keeper for TableKeeper<S> {
         }
     }
 
-    #[tactic(auto, unfolding(kept::specs::Kept::book_in))]
+    #[tactic(auto, unfolding(tables_meaning::specs::Kept::book_in))]
     fn apply(&mut self, alloc: Global, change: &Change) -> Result<(), KeepFault> {
         let steps = change.steps.as_slice();
         let dates = dates_after(alloc, &self.dates, steps, change.moment)?;
@@ -365,12 +365,12 @@ impl<S: Alter + Drop> Keeper for TableKeeper<S> {
         }
     }
 
-    #[tactic(auto, unfolding(kept::specs::Kept::book_in))]
+    #[tactic(auto, unfolding(tables_meaning::specs::Kept::book_in))]
     fn hold(&mut self, shelves: Shelves) {
         self.spare = Some(shelves);
     }
 
-    #[tactic(auto, unfolding(kept::specs::Kept::book_in))]
+    #[tactic(auto, unfolding(tables_meaning::specs::Kept::book_in))]
     fn clean(&mut self, alloc: Global, moment: u64) -> Result<u64, KeepFault> {
         let seconds = span_of(&self.config);
         match clean_up(alloc, &mut self.conn, seconds, moment) {
@@ -382,7 +382,7 @@ impl<S: Alter + Drop> Keeper for TableKeeper<S> {
         }
     }
 
-    #[tactic(auto, unfolding(kept::specs::Kept::book_in))]
+    #[tactic(auto, unfolding(tables_meaning::specs::Kept::book_in))]
     fn configure(&mut self, alloc: Global, next: Configured) -> Result<(), KeepFault> {
         let Configured {
             config,
@@ -401,7 +401,7 @@ impl<S: Alter + Drop> Keeper for TableKeeper<S> {
         }
     }
 
-    #[tactic(auto, unfolding(kept::specs::Kept::book_in))]
+    #[tactic(auto, unfolding(tables_meaning::specs::Kept::book_in))]
     fn file(&mut self, alloc: Global, path: &str) -> Result<Option<Vec<u8>>, KeepFault> {
         match read_file(alloc, &mut self.conn, path) {
             Ok(file) => Ok(file),
@@ -409,7 +409,7 @@ impl<S: Alter + Drop> Keeper for TableKeeper<S> {
         }
     }
 
-    #[tactic(auto, unfolding(kept::specs::Kept::book_in))]
+    #[tactic(auto, unfolding(tables_meaning::specs::Kept::book_in))]
     fn text(&mut self, alloc: Global, path: &str) -> Result<Option<Vec<u8>>, KeepFault> {
         match read_text(alloc, &mut self.conn, path) {
             Ok(text) => Ok(text),
@@ -417,7 +417,7 @@ impl<S: Alter + Drop> Keeper for TableKeeper<S> {
         }
     }
 
-    #[tactic(auto, unfolding(kept::specs::Kept::book_in))]
+    #[tactic(auto, unfolding(tables_meaning::specs::Kept::book_in))]
     fn text_print(&mut self, alloc: Global, path: &str) -> Result<Option<Print>, KeepFault> {
         let known = known_print(&self.prints, path);
         match read_print(alloc, &mut self.conn, known, path) {
@@ -429,7 +429,7 @@ impl<S: Alter + Drop> Keeper for TableKeeper<S> {
         }
     }
 
-    #[tactic(auto, unfolding(kept::specs::Kept::book_in))]
+    #[tactic(auto, unfolding(tables_meaning::specs::Kept::book_in))]
     fn keeps_text(&mut self, alloc: Global, text: &IndexText) -> Result<bool, KeepFault> {
         let known = known_print(&self.prints, text.path.as_str());
         match read_kept(alloc, &mut self.conn, known, text) {
@@ -438,7 +438,7 @@ impl<S: Alter + Drop> Keeper for TableKeeper<S> {
         }
     }
 
-    #[tactic(auto, unfolding(kept::specs::Kept::book_in))]
+    #[tactic(auto, unfolding(tables_meaning::specs::Kept::book_in))]
     fn waiting(&mut self, alloc: Global, moment: u64) -> Result<Vec<Waiting>, KeepFault> {
         let seconds = span_of(&self.config);
         match read_waiting(alloc, &mut self.conn, seconds, moment) {
@@ -447,7 +447,7 @@ impl<S: Alter + Drop> Keeper for TableKeeper<S> {
         }
     }
 
-    #[tactic(auto, unfolding(kept::specs::Kept::book_in))]
+    #[tactic(auto, unfolding(tables_meaning::specs::Kept::book_in))]
     fn verdicts(&mut self, alloc: Global) -> Result<Vec<Judgement>, KeepFault> {
         match read_nothing(alloc, &mut self.conn) {
             Ok(()) => Ok(copied_judgements(alloc, &self.judged)?),

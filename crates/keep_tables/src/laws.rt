@@ -6,8 +6,8 @@ ghost use Rattle.rules.specs.Configuration.{config_in};
 ghost use Rattle.rules.specs.Values.{ConfigValue};
 ghost use Rattle.keep.specs.Book.{latest};
 ghost use Rattle.keep.specs.Plain.{fresh_book};
-ghost use Rattle.kept.specs.Founding.{first_dates, founded};
-ghost use Rattle.kept.specs.Kept.{IsKept, book_in};
+ghost use Rattle.tables_meaning.specs.Founding.{first_dates, founded};
+ghost use Rattle.tables_meaning.specs.Kept.{IsKept, book_in};
 
 /// The first rows are those of an archive in which nothing is yet.
 pub fn first_rows()

@@ -4,7 +4,7 @@ ghost use Rattle.std.specs.Prelude.{◌≡◌, IsTrue, Option};
 ghost use Rattle.sqlite.specs.State.{HasCleanDisk};
 ghost use Rattle.sqlite.specs.Tree.{Trees};
 ghost use Rattle.keep.specs.Book.{Book};
-ghost use Rattle.kept.specs.Archives.{KeepsBook, KeepsLeft};
+ghost use Rattle.tables_meaning.specs.Archives.{KeepsBook, KeepsLeft};
 ghost use Rattle.keep_tables.specs.Keepers.{config_in_use, connection_of, table_book};
 ghost use Rattle.keep_tables.specs.declared.keeper.TableKeeper.{TableKeeper};
 

@@ -11,20 +11,20 @@ ghost use Rattle.rules.specs.Values.{ConfigValue};
 ghost use Rattle.sums.specs.Prints.{print as print_of};
 ghost use Rattle.suites.specs.Shelves.{ShelvesValue};
 ghost use Rattle.tables.specs.Rows.{IsArchive};
-ghost use Rattle.kept.specs.Archives.{IsRead, KeepsArchive, book_of};
+ghost use Rattle.tables_meaning.specs.Archives.{IsRead, KeepsArchive, book_of};
 
 use crate::due::due_uploads;
-use crate::known::is_of_another;
-use crate::showing::read_shelves;
+use crate::text_prints::is_of_another;
+use crate::shelves::read_shelves;
 use crate::waiting::waiting_uploads;
-use bodies::file_body;
+use tables_bodies::file_body;
 use keep::{IndexText, Waiting, is_kept, print_of_text};
 use rules::Config;
 use sqlite::{Alter, Connection, Error};
 use std::alloc::Global;
 use suites::{Shelves, Upload};
 use sums::Print;
-use tables::serving::serve;
+use tables::probe::probe;
 use tables::texts::select_text;
 
 /// The uploads that are due at the moment, in the order of judging, where what arrives counts for so many seconds, or for good.
@@ -49,7 +49,7 @@ pub fn read_due<S: Alter>(
 {
     // For the prover alone: outside a transaction the connection has what is committed.
     let _settled = conn.is_autocommit();
-    serve(alloc, conn)?;
+    probe(alloc, conn)?;
     due_uploads(alloc, conn, seconds, moment)
 }
 
@@ -71,7 +71,7 @@ pub fn read_waiting<S: Alter>(
 {
     // For the prover alone: outside a transaction the connection has what is committed.
     let _settled = conn.is_autocommit();
-    serve(alloc, conn)?;
+    probe(alloc, conn)?;
     waiting_uploads(alloc, conn, seconds, moment)
 }
 
@@ -92,7 +92,7 @@ pub fn read_file<S: Alter>(
 {
     // For the prover alone: outside a transaction the connection has what is committed.
     let _settled = conn.is_autocommit();
-    serve(alloc, conn)?;
+    probe(alloc, conn)?;
     file_body(alloc, conn, path)
 }
 
@@ -113,7 +113,7 @@ pub fn read_text<S: Alter>(
 {
     // For the prover alone: outside a transaction the connection has what is committed.
     let _settled = conn.is_autocommit();
-    serve(alloc, conn)?;
+    probe(alloc, conn)?;
     match select_text(alloc, conn, path)? {
         Some(text) => Ok(Some(text.body.into_vec())),
         None => Ok(None),
@@ -137,7 +137,7 @@ fn read_shown<S: Alter>(
 {
     // For the prover alone: outside a transaction the connection has what is committed.
     let _settled = conn.is_autocommit();
-    serve(alloc, conn)?;
+    probe(alloc, conn)?;
     read_shelves(alloc, conn, config)
 }
 
@@ -148,7 +148,7 @@ pub fn read_nothing<S: Alter>(alloc: Global, conn: &mut Connection<S>) -> Result
     ensures read { IsRead (state S.Store conn.old) (state S.Store conn.new) }
     ensures open { HasCleanDisk (state S.Store conn.new) → OnOk result (IsTrue (state S.Store conn.new).is_open) }
 {
-    serve(alloc, conn)
+    probe(alloc, conn)
 }
 
 /// What the suites show: the shelves that are at hand, where the database serves still, or else what its rows show.

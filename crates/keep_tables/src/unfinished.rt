@@ -4,7 +4,7 @@ ghost use Rattle.std.specs.Prelude.{◌≡◌, not, is_some, IfOk};
 ghost use Rattle.std.specs.List.{list_any};
 ghost use Rattle.tables.specs.Rows.{rows_of, without};
 ghost use Rattle.tables_read.specs.All.{tables_with};
-ghost use Rattle.kept.specs.Finished.{finished, is_unfinished};
+ghost use Rattle.tables_meaning.specs.Finished.{finished, is_unfinished};
 ghost use Rattle.keep_tables.specs.Finishing.{are_named, is_among, unfinished_ids};
 
 use std::alloc::{AllocError, Global};

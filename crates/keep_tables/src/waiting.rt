@@ -5,12 +5,12 @@ ghost use Rattle.std.specs.List.{filter_map};
 ghost use Rattle.sqlite.specs.Held.{state};
 ghost use Rattle.sqlite.specs.State.{HasCleanDisk, IsUnchanged, Survives};
 ghost use Rattle.tables.specs.Rows.{Tables, Holds};
-ghost use Rattle.kept.specs.Kept.{sign_in};
-ghost use Rattle.kept.specs.Reads.{Rests, row_order, sign_order, sorted_by, wanting};
-ghost use Rattle.kept.specs.Transactions.{IsUndone};
+ghost use Rattle.tables_meaning.specs.Kept.{sign_in};
+ghost use Rattle.tables_meaning.specs.Reads.{Rests, row_order, sign_order, sorted_by, wanting};
+ghost use Rattle.tables_meaning.specs.Transactions.{IsUndone};
 ghost use Rattle.keep_tables.specs.Moments.{is_had, missing_at, row_at, rows_at, waiting_at};
 
-use crate::current::{counts_still, missing_of_one};
+use crate::counting::{counts_still, missing_of_one};
 use crate::wanting::wanting_uploads;
 use keep::Waiting;
 use sqlite::{Alter, Connection, Error};
@@ -20,7 +20,7 @@ use tables::rows::{Upload, Want};
 use tables::wants::wants_of;
 
 /// The order of judging: by the bytes of the names, then by SHA-256, SHA-1, MD5 and size.
-#[tactic(auto, unfolding(kept::specs::Reads::sign_order))]
+#[tactic(auto, unfolding(tables_meaning::specs::Reads::sign_order))]
 fn judging_order(a: &Upload, b: &Upload) -> Ordering
     ensures { result ≡ sign_order (sign_in a.now) (sign_in b.now) }
 {

@@ -4,8 +4,8 @@ ghost use Rattle.std.specs.Prelude.{◌≡◌, false, IfOk, OnErr};
 ghost use Rattle.sqlite.specs.Held.{state};
 ghost use Rattle.sqlite.specs.State.{HasCleanDisk, IsUnchanged, Survives};
 ghost use Rattle.tables.specs.Rows.{Tables, Holds};
-ghost use Rattle.kept.specs.Reads.{next_wanting_in, wanting};
-ghost use Rattle.kept.specs.Transactions.{IsUndone};
+ghost use Rattle.tables_meaning.specs.Reads.{next_wanting_in, wanting};
+ghost use Rattle.tables_meaning.specs.Transactions.{IsUndone};
 
 use sqlite::{Alter, Connection, Error, ErrorCode};
 use std::alloc::Global;

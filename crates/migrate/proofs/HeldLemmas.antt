@@ -6,15 +6,15 @@ use Rattle.suites.specs.Shelves.{ShelvesValue}
 use Rattle.keep.specs.declared.change.Judgement.{Judgement}
 use Rattle.tables.specs.Rows.{Tables, Holds, tables_in}
 use Rattle.tables.proofs.BookLemmas.{held_tables}
-use Rattle.kept.specs.Archives.{KeepsArchive, book_of}
-use Rattle.kept.specs.Coming.{HasComing}
-use Rattle.kept.specs.Finished.{finished}
-use Rattle.kept.specs.Kept.{IsKept, book_in}
-use Rattle.kept.specs.Shown.{shown_in}
-use Rattle.kept.proofs.CallLemmas.{kept_here, shown_here}
-use Rattle.kept.proofs.ComingLemmas.{none_coming}
-use Rattle.kept.proofs.FinishedLemmas.{kept_finished}
-use Rattle.kept.proofs.UnderWayLemmas.{finished_under_way}
+use Rattle.tables_meaning.specs.Archives.{KeepsArchive, book_of}
+use Rattle.tables_meaning.specs.Coming.{HasComing}
+use Rattle.tables_meaning.specs.Finished.{finished}
+use Rattle.tables_meaning.specs.Kept.{IsKept, book_in}
+use Rattle.tables_meaning.specs.Shown.{shown_in}
+use Rattle.tables_meaning.proofs.CallLemmas.{kept_here, shown_here}
+use Rattle.tables_meaning.proofs.ComingLemmas.{none_coming}
+use Rattle.tables_meaning.proofs.FinishedLemmas.{kept_finished}
+use Rattle.tables_meaning.proofs.UnderWayLemmas.{finished_under_way}
 
 module _ (db : Database) (t : Tables) (config : ConfigValue) (judged : List Judgement) (shown : ShelvesValue) (dates : List ℕ) (held : Holds db t) (kept : IsKept t config judged shown dates) where
   same : tables_in db ≡ t

@@ -10,11 +10,11 @@ use Rattle.keep.specs.declared.change.Judgement.{Judgement}
 use Rattle.tables.specs.Rows.{Holds, Tables, tables_in}
 use Rattle.tables.proofs.BookLemmas.{tables_set}
 use Rattle.tables_read.specs.All.{tables_with}
-use Rattle.kept.specs.Archives.{KeepsArchive, book_of}
-use Rattle.kept.specs.Coming.{HasComing}
-use Rattle.kept.specs.Kept.{IsKept}
-use Rattle.kept.specs.KeeperLemmas.{book_set}
-use Rattle.kept.specs.Shown.{shown_in}
+use Rattle.tables_meaning.specs.Archives.{KeepsArchive, book_of}
+use Rattle.tables_meaning.specs.Coming.{HasComing}
+use Rattle.tables_meaning.specs.Kept.{IsKept}
+use Rattle.tables_meaning.specs.KeeperLemmas.{book_set}
+use Rattle.tables_meaning.specs.Shown.{shown_in}
 use Rattle.old_book.specs.declared.book.OldBook.{OldBook}
 use Rattle.migrating.proofs.MovedArchive.{moved_archive_book, moved_archive_kept}
 use Rattle.migrate.specs.Migrated.{migrated_book, migrated_rows, old_config}

@@ -4,8 +4,8 @@ use Rattle.sqlite.specs.State.{State}
 use Rattle.rules.specs.Values.{ConfigValue}
 use Rattle.suites.specs.Shelves.{ShelvesValue}
 use Rattle.tables.specs.Rows.{Tables, Changes}
-use Rattle.kept.specs.Configuring.{with_configured}
-use Rattle.kept.specs.Founding.{Founds, founded}
+use Rattle.tables_meaning.specs.Configuring.{with_configured}
+use Rattle.tables_meaning.specs.Founding.{Founds, founded}
 use Rattle.copying.specs.Copying.{Copies, copied}
 use Rattle.migrating.specs.Migrating.{moved_rows}
 use Rattle.migrating.proofs.FoundedRows.{founded_bare}

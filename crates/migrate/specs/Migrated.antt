@@ -4,7 +4,7 @@ use Rattle.rules.specs.Values.{ConfigValue}
 use Rattle.keep.specs.Book.{Book}
 use Rattle.tables.specs.Rows.{Tables}
 use Rattle.tables_read.specs.All.{tables_with}
-use Rattle.kept.specs.Kept.{book_in}
+use Rattle.tables_meaning.specs.Kept.{book_in}
 use Rattle.old_book.specs.declared.book.OldBook.{OldBook}
 use Rattle.migrating.specs.Migrating.{moved_book, moved_rows}
 

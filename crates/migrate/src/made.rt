@@ -6,15 +6,15 @@ ghost use Rattle.sqlite.specs.Held.{state};
 ghost use Rattle.keep.specs.Configured.{AreAlike};
 ghost use Rattle.keep.specs.declared.fault.KeepFault.TheVariants.{Configuration as NotAlike, Tables as NotEmpty};
 ghost use Rattle.tables.specs.Schema.{no_schema};
-ghost use Rattle.kept.specs.Founding.{MayFound};
-ghost use Rattle.kept.specs.Transactions.{IsUndone};
+ghost use Rattle.tables_meaning.specs.Founding.{MayFound};
+ghost use Rattle.tables_meaning.specs.Transactions.{IsUndone};
 ghost use Rattle.keep_tables.specs.Keepers.{connection_of, table_book};
 ghost use Rattle.migrate.specs.Migrated.{migrated_book, migrated_rows, old_config};
 
 use crate::alike::are_alike;
 use crate::writing::write_archive;
 use keep::{KeepFault, LATEST, copied_judgements};
-use keep_rows::{fault_of, is_without_tables};
+use tables_changes::{fault_of, is_without_tables};
 use keep_tables::TableKeeper;
 use old_book::OldBook;
 use rules::Config;

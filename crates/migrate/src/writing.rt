@@ -4,13 +4,13 @@ ghost use Rattle.std.specs.Prelude.{◌≡◌, ◌≤◌, false, IsTrue, OnOk, O
 ghost use Rattle.sqlite.specs.State.{HasCleanDisk, KeepsCommit, Survives};
 ghost use Rattle.sqlite.specs.Held.{state};
 ghost use Rattle.keep.specs.Configured.{AreAlike};
-ghost use Rattle.kept.specs.Founding.{Founds, IsFounded, MayFound};
-ghost use Rattle.kept.specs.Transactions.{IsUndone};
+ghost use Rattle.tables_meaning.specs.Founding.{Founds, IsFounded, MayFound};
+ghost use Rattle.tables_meaning.specs.Transactions.{IsUndone};
 ghost use Rattle.migrate.specs.Migrated.{migrated_rows, old_config};
 
 use copying::write_rows;
 use keep::LATEST;
-use keep_rows::{configure_inside, found_inside};
+use tables_changes::{configure_inside, found_inside};
 use old_book::OldBook;
 use rules::Config;
 use sqlite::{Alter, Connection, Error, Transaction};

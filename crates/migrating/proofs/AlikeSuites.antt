@@ -19,10 +19,10 @@ use Rattle.suites.specs.Told.{AreTold, is_kept_by}
 use Rattle.suites.specs.declared.item.Item.{Item}
 use Rattle.suites.specs.declared.key.ShelfKey.{ShelfKey}
 use Rattle.keep.specs.Configured.{AreAlike, without_days}
-use Rattle.kept.specs.Kept.{codename_at}
-use Rattle.kept.specs.Shown.{suite_named}
-use Rattle.kept.proofs.NameLemmas.{config_codenames}
-use Rattle.kept.proofs.ShownLemmas.{suite_back}
+use Rattle.tables_meaning.specs.Kept.{codename_at}
+use Rattle.tables_meaning.specs.Shown.{suite_named}
+use Rattle.tables_meaning.proofs.NameLemmas.{config_codenames}
+use Rattle.tables_meaning.proofs.ShownLemmas.{suite_back}
 
 -- ---- what is read of suites without their days
 

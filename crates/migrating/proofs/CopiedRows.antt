@@ -31,8 +31,8 @@ use Rattle.tables.specs.declared.rows.Piece.{Piece}
 use Rattle.tables.specs.declared.rows.Ref.{Ref}
 use Rattle.tables.specs.declared.rows.Upload.{Upload}
 use Rattle.tables.specs.declared.rows.Want.{Want}
-use Rattle.kept.specs.Kept.{AreArrivals, AreBodies, AreFiles, AreItems, AreUploads, IsKept, arrival_in, arrivals_in, bytes_of, files_in, has_body, is_on, is_used, pieces_for, print_at, shown_row, sign_in, used_in, wants_in}
-use Rattle.kept.proofs.RowLists.{ascending_from_pairs, pairs_from_ascending}
+use Rattle.tables_meaning.specs.Kept.{AreArrivals, AreBodies, AreFiles, AreItems, AreUploads, IsKept, arrival_in, arrivals_in, bytes_of, files_in, has_body, is_on, is_used, pieces_for, print_at, shown_row, sign_in, used_in, wants_in}
+use Rattle.tables_meaning.proofs.RowLists.{ascending_from_pairs, pairs_from_ascending}
 use Rattle.copying.specs.Copying.{anew, arrived_at}
 use Rattle.migrating.proofs.FoundedRows.{meta_for}
 

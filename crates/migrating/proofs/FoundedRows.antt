@@ -6,8 +6,8 @@ use Rattle.texts.specs.Indices.{all_texts}
 use Rattle.tables.specs.Rows.{Tables, Numbered, added, no_rows, with_meta}
 use Rattle.tables.specs.declared.meta.TheConstants.{VERSION}
 use Rattle.tables.specs.declared.rows.Meta.{Meta}
-use Rattle.kept.specs.Founding.{first_date, first_dates, founded, with_first_rows, with_texts}
-use Rattle.kept.proofs.FoundKept.{dates_are, text_row, texts_are}
+use Rattle.tables_meaning.specs.Founding.{first_date, first_dates, founded, with_first_rows, with_texts}
+use Rattle.tables_meaning.proofs.FoundKept.{dates_are, text_row, texts_are}
 use Rattle.copying.specs.Copying.{IsBare}
 
 -- the one row of `meta`

@@ -9,10 +9,10 @@ use Rattle.keep.specs.Configured.{AreAlike, reconfigured}
 use Rattle.keep.specs.declared.change.Judgement.{Judgement}
 use Rattle.tables.specs.Rows.{Numbered, Tables, changed}
 use Rattle.tables.specs.declared.rows.Meta.{Meta}
-use Rattle.kept.specs.Configuring.{new_dates, new_texts, with_configured}
-use Rattle.kept.specs.Founding.{founded}
-use Rattle.kept.specs.Kept.{IsKept, book_in}
-use Rattle.kept.proofs.ConfiguredRows.{configured_are, configured_archive, configured_book}
+use Rattle.tables_meaning.specs.Configuring.{new_dates, new_texts, with_configured}
+use Rattle.tables_meaning.specs.Founding.{founded}
+use Rattle.tables_meaning.specs.Kept.{IsKept, book_in}
+use Rattle.tables_meaning.proofs.ConfiguredRows.{configured_are, configured_archive, configured_book}
 use Rattle.copying.specs.Copying.{copied}
 use Rattle.migrating.specs.Migrating.{moved_book, moved_rows}
 use Rattle.migrating.proofs.AlikeSuites.{alike_length, alike_moved, alike_stays}

@@ -5,8 +5,8 @@ use Rattle.suites.specs.Shelves.{ShelvesValue}
 use Rattle.keep.specs.Book.{Book}
 use Rattle.keep.specs.declared.arrival.Arrival.{Arrival}
 use Rattle.tables.specs.Rows.{Tables}
-use Rattle.kept.specs.Configuring.{with_configured}
-use Rattle.kept.specs.Founding.{founded}
+use Rattle.tables_meaning.specs.Configuring.{with_configured}
+use Rattle.tables_meaning.specs.Founding.{founded}
 use Rattle.copying.specs.Copying.{copied}
 
 -- The rows of an archive of this configuration that shows this, with these dates, made from those of another: its version, its

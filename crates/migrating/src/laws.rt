@@ -11,8 +11,8 @@ ghost use Rattle.keep.specs.Book.{latest};
 ghost use Rattle.keep.specs.Configured.{AreAlike};
 ghost use Rattle.keep.specs.declared.change.Judgement.{Judgement};
 ghost use Rattle.tables.specs.Rows.{Tables};
-ghost use Rattle.kept.specs.Founding.{founded};
-ghost use Rattle.kept.specs.Kept.{IsKept, book_in};
+ghost use Rattle.tables_meaning.specs.Founding.{founded};
+ghost use Rattle.tables_meaning.specs.Kept.{IsKept, book_in};
 ghost use Rattle.migrating.specs.Migrating.{moved_book, moved_rows};
 
 /// The rows that a migration makes of those of an archive are those of an archive of the other configuration, with the same judged uploads, the

@@ -9,9 +9,9 @@ use Rattle.tables.specs.declared.rows.Meta.{Meta}
 use Rattle.tables.specs.declared.rows.Upload.{Upload}
 use Rattle.tables.specs.declared.rows.Want.{Want}
 use Rattle.tables_read.specs.All.{AreConstrained}
-use Rattle.kept.specs.Kept.{AreReadable, IsKept, bytes_of, is_placed, is_used, judged_row}
-use Rattle.audit.specs.Parts.{BodiesFit, UploadsFit}
-use Rattle.audit.specs.Whole.{KeepsNone}
+use Rattle.tables_meaning.specs.Kept.{AreReadable, IsKept, bytes_of, is_placed, is_used, judged_row}
+use Rattle.tables_audit.specs.Parts.{BodiesFit, UploadsFit}
+use Rattle.tables_audit.specs.Whole.{KeepsNone}
 use Rattle.copying.specs.Copying.{AreRising}
 use Rattle.old_book.specs.Old.{HasText, IsOldArchive, KeepsNoOld}
 use Rattle.old_book.specs.Settling.{has_judged, settled, unjudged, unjudged_uploads, with_configuration}

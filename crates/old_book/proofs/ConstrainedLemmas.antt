@@ -3,7 +3,7 @@ use Rattle.std.proofs.Common.{◌≡◌, ◌≢◌, ℕ, ◌+◌, false, List, [
 use Rattle.std.specs.List.{enumerate_from, list_any}
 use Rattle.std.proofs.lemmas.List.Elements.{All-filter, All-map}
 use Rattle.std.proofs.lemmas.List.{get_or-map, length-map}
-use Rattle.kept.proofs.PairLemmas.{pairs_map, pairs_unmap}
+use Rattle.tables_meaning.proofs.PairLemmas.{pairs_map, pairs_unmap}
 use Rattle.sums.proofs.Words.{list_any-map}
 use Rattle.tables.specs.Arrivals.{is_arrival}
 use Rattle.tables.specs.Items.{is_item}

@@ -10,7 +10,7 @@ use Rattle.keep.specs.declared.fault.KeepFault.{KeepFault}
 use Rattle.keep.specs.declared.fault.KeepFault.TheVariants.{Tables as NoArchive}
 use Rattle.tables.specs.Rows.{Fails, Tables}
 use Rattle.tables.proofs.ReadLemmas.{fails_unchanged}
-use Rattle.kept.specs.Kept.{AreReadable}
+use Rattle.tables_meaning.specs.Kept.{AreReadable}
 use Rattle.old_rows.specs.Layouts.{AreShown, Asked, ShowsNone, first_layout, older_layouts, second_layout}
 use Rattle.old_book.specs.Books.{IsBookOf, IsOldBookIn, IsShownBook}
 use Rattle.old_book.specs.Old.{IsNoOldArchive, KeepsNoOld, KeepsNoneAs}

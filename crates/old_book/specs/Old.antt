@@ -7,8 +7,8 @@ use Rattle.keep.specs.declared.change.Judgement.{Judgement}
 use Rattle.tables.specs.Rows.{Numbered, Tables, rows_of}
 use Rattle.tables.specs.declared.meta.TheConstants.{VERSION}
 use Rattle.tables.specs.declared.rows.Meta.{Meta}
-use Rattle.kept.specs.Kept.{AreReadable, IsKept}
-use Rattle.audit.specs.Parts.{UploadsFit}
+use Rattle.tables_meaning.specs.Kept.{AreReadable, IsKept}
+use Rattle.tables_audit.specs.Parts.{UploadsFit}
 use Rattle.copying.specs.Copying.{AreRising}
 use Rattle.old_rows.specs.Layouts.{AreShown, Asked, ShowsNone, older_layouts}
 use Rattle.old_book.specs.Settling.{settled, unjudged, with_configuration}

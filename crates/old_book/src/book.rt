@@ -2,11 +2,11 @@
 
 ghost use Rattle.std.specs.Prelude.{◌≡◌, true};
 ghost use Rattle.copying.specs.Copying.{AreRising};
-ghost use Rattle.kept.specs.Kept.{IsKept};
+ghost use Rattle.tables_meaning.specs.Kept.{IsKept};
 ghost use Rattle.tables_read.specs.All.{tables_with};
 ghost use Rattle.old_book.specs.Rising.{is_rising};
 
-use audit::Held;
+use tables_audit::Held;
 use keep::Judgement;
 use rules::Config;
 use suites::Shelves;

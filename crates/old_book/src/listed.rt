@@ -1,12 +1,12 @@
 //! Whether what uploads want is what they list.
 
 ghost use Rattle.std.specs.Prelude.{◌≡◌, ◌↔◌, [], IsTrue, IfOk, OnOk};
-ghost use Rattle.audit.specs.Parts.{BodiesFit, UploadsFit};
+ghost use Rattle.tables_audit.specs.Parts.{BodiesFit, UploadsFit};
 ghost use Rattle.tables_read.specs.All.{AreConstrained, tables_with};
 ghost use Rattle.old_book.specs.Settling.{unjudged};
 
 use crate::settling::unjudged;
-use audit::judgements_in;
+use tables_audit::judgements_in;
 use std::alloc::{AllocError, Global};
 use std::mem::replace;
 use tables_read::AllRows;

@@ -10,11 +10,11 @@ mod delivery;
 mod drive;
 mod fault;
 mod laws;
-mod once;
+mod promise;
 mod printed;
 mod promotion;
 mod reading;
-mod receipt;
+mod receiving;
 mod removal;
 mod renewal;
 mod report;
@@ -30,5 +30,5 @@ pub use laws::{
     a_stop_in_a_configuration_leaves_a_book, a_stop_leaves_a_book, a_stop_leaves_a_part_of_a_list,
     for_good, lists_are_one_list, nothing_is_an_opening,
 };
-pub use once::drive_anew;
+pub use promise::drive_anew;
 pub use reading::{ReaderFailed, read_some};

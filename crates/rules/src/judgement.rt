@@ -8,7 +8,7 @@ ghost use Rattle.std.specs.Option.{option_map_or};
 ghost use Rattle.rules.specs.Suites.{keeps_architecture, keeps_component, claiming_among, component_of};
 
 use crate::config::Config;
-use crate::lent::{Judged, Judging, Sectioned, Spelled};
+use crate::without_memory::{Judged, Judging, Sectioned, Spelled};
 use crate::suite::{component_of_section, position_of_claiming};
 use crate::verdict::Verdict;
 use records::Changes;

@@ -7,7 +7,7 @@ mod days;
 mod fault;
 mod judgement;
 mod laws;
-mod lent;
+mod without_memory;
 mod names;
 mod paragraph;
 mod suite;

@@ -5,7 +5,7 @@ ghost use Rattle.std.specs.List.{list_all, list_any};
 ghost use Rattle.records.specs.Names.{is_plain_name};
 ghost use Rattle.rules.specs.Paragraphs.{is_listed_architecture};
 
-use crate::lent::Spelled;
+use crate::without_memory::Spelled;
 use para::{Listed, Text};
 use records::{is_architecture, is_plain};
 use std::alloc::{AllocError, Global};

@@ -6,7 +6,7 @@ ghost use Rattle.std.specs.List.{list_any};
 ghost use Rattle.rules.specs.Suites.{claims, claiming_among, keeps_architecture, keeps_component, allows, component_of};
 
 use crate::days::Days;
-use crate::lent::{Judging, Spelled};
+use crate::without_memory::{Judging, Spelled};
 use crate::names::{is_one_of, position_of};
 use crate::uploader::{Rule, lines_allow};
 use para::{Listed, Text};

@@ -8,7 +8,7 @@ ghost use Rattle.records.specs.Names.{is_lower_or_digit, is_package_byte};
 ghost use Rattle.rules.specs.Suites.{fits_source, rule_allows};
 ghost use Rattle.rules.specs.Uploaders.{divided, before_star, is_front, is_pattern, pattern_of, ends_with_blank, is_person, rule_parts, rule_of, is_rule_line, rules_in};
 
-use crate::lent::Allowing;
+use crate::without_memory::Allowing;
 use para::{Listed, Text};
 use records::is_package;
 use std::alloc::{AllocError, Global};

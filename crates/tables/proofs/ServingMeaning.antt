@@ -4,7 +4,7 @@ use Rattle.sqlite_tied.specs.Compute.{everything}
 use Rattle.sqlite.specs.Given.{IsPlain}
 use Rattle.sqlite.specs.Listing.{understood}
 use Rattle.sqlite.specs.Schema.{Schema}
-use Rattle.tables.specs.declared.serving.TheConstants.{SELECT_ONE}
+use Rattle.tables.specs.declared.probe.TheConstants.{SELECT_ONE}
 
 pub select_one_plain : (schema : Schema) → IsPlain (understood schema SELECT_ONE.now)
 unfolding understood everything

@@ -15,7 +15,7 @@ mod read;
 pub mod refs;
 pub mod rows;
 pub mod schema;
-pub mod serving;
+pub mod probe;
 pub mod texts;
 pub mod uploads;
 pub mod wants;

@@ -4,7 +4,7 @@ ghost use Rattle.std.specs.Prelude.{◌≡◌};
 ghost use Rattle.vers.specs.Syntax.{IsVersion, without_epoch};
 ghost use Rattle.vers.specs.Order.{version_cmp};
 
-use crate::cursor::{order_numbers, order_parts};
+use crate::order::{order_numbers, order_parts};
 use crate::parts::{Parts, split_epoch};
 use std::cmp::Ordering;
 

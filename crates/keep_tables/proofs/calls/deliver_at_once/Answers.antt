@@ -1,7 +1,7 @@
 use Rattle.std.proofs.Common.{not, ap, ◌∙◌}
 use Rattle.sqlite.specs.Held.{state}
 use Rattle.sqlite.proofs.StateLemmas.{survives_weaker}
-use Rattle.kept.proofs.TakingLemmas.{both_if, both_on}
+use Rattle.tables_meaning.proofs.TakingLemmas.{both_if, both_on}
 use Rattle.keep_tables.proofs.AtOnceLemmas.{at_once_ends, at_once_new, at_once_turns}
 use Rattle.keep_tables.proofs.calls.deliver_at_once.Goals as goal
 

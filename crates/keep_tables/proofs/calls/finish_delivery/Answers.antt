@@ -1,9 +1,9 @@
 use Rattle.std.proofs.Common.{not, ap, ◌∙◌}
 use Rattle.sqlite.specs.Held.{state}
 use Rattle.sqlite.proofs.StateLemmas.{survives_weaker}
-use Rattle.bodies.specs.Counting.{arrival_counts}
-use Rattle.kept.specs.Coming.{ended_number, with_ended}
-use Rattle.kept.proofs.TakingLemmas.{both_if, both_on, delivery_ends, delivery_new, delivery_turns}
+use Rattle.tables_bodies.specs.Counting.{arrival_counts}
+use Rattle.tables_meaning.specs.Coming.{ended_number, with_ended}
+use Rattle.tables_meaning.proofs.TakingLemmas.{both_if, both_on, delivery_ends, delivery_new, delivery_turns}
 use Rattle.keep.specs.Book.{span}
 use Rattle.keep_tables.proofs.FoundArrivals.{apart_once_ended, counts_if_some}
 use Rattle.keep_tables.proofs.calls.finish_delivery.Goals as goal

@@ -2,7 +2,7 @@ use Rattle.std.proofs.Common.{Some, not, refl, ap, ◌∙◌}
 use Rattle.sqlite.specs.Held.{state}
 use Rattle.sqlite.proofs.StateLemmas.{survives_weaker}
 use Rattle.tables.proofs.TransactionLemmas.{on_ok}
-use Rattle.kept.proofs.TakingLemmas.{removed_all, removed_turns}
+use Rattle.tables_meaning.proofs.TakingLemmas.{removed_all, removed_turns}
 use Rattle.keep_tables.proofs.calls.forget_body.Goals as goal
 
 pub returns-clause-done : goal.returns-clause-done

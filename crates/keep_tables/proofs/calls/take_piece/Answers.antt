@@ -2,9 +2,9 @@ use Rattle.std.proofs.Common.{◌≡◌, ◌+◌, ◌<◌, Result, Ok, Err, OnOk
 use Rattle.sqlite.specs.Held.{state}
 use Rattle.sqlite.specs.State.{Survives}
 use Rattle.sqlite.proofs.StateLemmas.{survives_weaker}
-use Rattle.kept.specs.Coming.{with_next_piece}
-use Rattle.kept.specs.Transactions.{IsDone, MayCommit}
-use Rattle.kept.proofs.TakingLemmas.{both_if, piece_comes, piece_turns}
+use Rattle.tables_meaning.specs.Coming.{with_next_piece}
+use Rattle.tables_meaning.specs.Transactions.{IsDone, MayCommit}
+use Rattle.tables_meaning.proofs.TakingLemmas.{both_if, piece_comes, piece_turns}
 use Rattle.keep_tables.proofs.calls.take_piece.Goals as goal
 
 if_ok : {X E P : Type 0} (r : Result X E) → P → OnOk r P

@@ -1,6 +1,6 @@
 use Rattle.std.proofs.Common.{◌≡◌, drop}
 use Rattle.std.specs.List.{list_all}
-use Rattle.kept.specs.Changing.{is_within}
+use Rattle.tables_meaning.specs.Changing.{is_within}
 use Rattle.keep_tables.proofs.changes.are_inside.Given as goal
 
 -- those that are left decide

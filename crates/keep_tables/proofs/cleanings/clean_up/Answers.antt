@@ -3,8 +3,8 @@ use Rattle.sqlite.specs.Held.{state}
 use Rattle.sqlite.proofs.StateLemmas.{survives_weaker}
 use Rattle.tables.proofs.TransactionLemmas.{on_ok}
 use Rattle.tables.specs.Rows.{Holds, tables_in}
-use Rattle.cleaning.proofs.CleanCalls.{clean_count, clean_turns}
-use Rattle.kept.proofs.TakingLemmas.{both_if}
+use Rattle.tables_cleaning.proofs.CleanCalls.{clean_count, clean_turns}
+use Rattle.tables_meaning.proofs.TakingLemmas.{both_if}
 use Rattle.keep_tables.proofs.cleanings.clean_up.Goals as goal
 
 pub returns-clause-done : goal.returns-clause-done

@@ -3,9 +3,9 @@ use Rattle.std.specs.Option.{option_map}
 use Rattle.sqlite.specs.Held.{state}
 use Rattle.sqlite.specs.State.{HasCleanDisk}
 use Rattle.sqlite.proofs.Callers.{unchanged_then}
-use Rattle.kept.specs.Kept.{bytes_of}
-use Rattle.kept.specs.Reads.{bytes_with}
-use Rattle.kept.proofs.ReadsLemmas.{held_after, survives_after, survives_foreign}
+use Rattle.tables_meaning.specs.Kept.{bytes_of}
+use Rattle.tables_meaning.specs.Reads.{bytes_with}
+use Rattle.tables_meaning.proofs.ReadsLemmas.{held_after, survives_after, survives_foreign}
 use Rattle.keep_tables.proofs.due.body_of.Goals as goal
 
 pub returns-in_err-id-clause-survives : goal.returns-in_err-id-clause-survives

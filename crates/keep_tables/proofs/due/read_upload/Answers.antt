@@ -5,9 +5,9 @@ use Rattle.sqlite.proofs.Callers.{unchanged_then}
 use Rattle.records.specs.Records.{changes_in}
 use Rattle.records.proofs.RecordRead.{changes_of_read}
 use Rattle.suites.specs.Upload.{IsTextOf}
-use Rattle.kept.specs.Reads.{text_in}
-use Rattle.kept.proofs.DueLemmas.{upload_read}
-use Rattle.kept.proofs.ReadsLemmas.{held_after, on_err, survives_after, undone_after}
+use Rattle.tables_meaning.specs.Reads.{text_in}
+use Rattle.tables_meaning.proofs.DueLemmas.{upload_read}
+use Rattle.tables_meaning.proofs.ReadsLemmas.{held_after, on_err, survives_after, undone_after}
 use Rattle.keep_tables.proofs.due.read_upload.Goals as goal
 
 pub new-requires : goal.new-requires

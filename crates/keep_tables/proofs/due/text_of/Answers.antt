@@ -1,8 +1,8 @@
 use Rattle.std.proofs.Common.{◌≡◌, true, false, [], if◌then◌else◌, unwrap_or, ap, sym, ◌∙◌}
 use Rattle.sqlite.specs.Held.{state}
 use Rattle.suites.specs.Upload.{has_text}
-use Rattle.kept.specs.Reads.{bytes_with, text_in}
-use Rattle.kept.proofs.ReadsLemmas.{rests_if_unchanged, rests_itself}
+use Rattle.tables_meaning.specs.Reads.{bytes_with, text_in}
+use Rattle.tables_meaning.proofs.ReadsLemmas.{rests_if_unchanged, rests_itself}
 use Rattle.keep_tables.proofs.due.text_of.Goals as goal
 
 pub returns-then-not-has_text-clause-ok : goal.returns-then-not-has_text-clause-ok

@@ -3,7 +3,7 @@ use Rattle.sqlite.specs.Held.{state}
 use Rattle.sqlite.specs.State.{HasCleanDisk, Survives}
 use Rattle.suites.specs.Upload.{IsTextOf}
 use Rattle.tables.specs.Rows.{Tables, Holds}
-use Rattle.kept.specs.Reads.{Rests, text_in}
+use Rattle.tables_meaning.specs.Reads.{Rests, text_in}
 use Rattle.keep_tables.proofs.due.texts_of.Given as goal
 
 -- the texts so far

@@ -1,4 +1,4 @@
-use Rattle.kept.proofs.FoundKept.{founded_is_kept, founded_book}
+use Rattle.tables_meaning.proofs.FoundKept.{founded_is_kept, founded_book}
 use Rattle.keep_tables.proofs.laws.first_rows.Goals as goal
 
 pub returns-clause-kept : goal.returns-clause-kept

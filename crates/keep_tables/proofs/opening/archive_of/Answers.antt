@@ -6,9 +6,9 @@ use Rattle.tables.proofs.ReadLemmas.{stands}
 use Rattle.tables.specs.Rows.{Holds}
 use Rattle.tables_read.specs.All.{AreConstrained, tables_with}
 use Rattle.tables_read.specs.Keys.{constrained}
-use Rattle.kept.specs.Shown.{shown_in}
+use Rattle.tables_meaning.specs.Shown.{shown_in}
 use Rattle.keep_tables.specs.Finishing.{unfinished_ids}
-use Rattle.audit.proofs.WholeLemmas.{if_some}
+use Rattle.tables_audit.proofs.WholeLemmas.{if_some}
 use Rattle.keep_tables.proofs.OpenLemmas.{archive_here, no_archive, no_rows}
 use Rattle.keep_tables.proofs.opening.archive_of.Goals as goal
 

@@ -1,13 +1,13 @@
 use Rattle.std.proofs.Common.{rules, ◌≡◌, true, false, sym, ap, subst, ◌∙◌}
 use Rattle.std.proofs.lemmas.Bool.{iff_false}
 use Rattle.tables_read.specs.All.{tables_with}
-use Rattle.kept.specs.Finished.{finished}
-use Rattle.kept.specs.Kept.{IsKept}
+use Rattle.tables_meaning.specs.Finished.{finished}
+use Rattle.tables_meaning.specs.Kept.{IsKept}
 use Rattle.keep_tables.specs.Finishing.{are_named, unfinished_ids}
-use Rattle.audit.specs.Whole.{KeepsSome}
+use Rattle.tables_audit.specs.Whole.{KeepsSome}
 use Rattle.keep_tables.proofs.FinishLemmas.{constrained_whole, named_none, readable_whole}
 use Rattle.keep_tables.proofs.OpenLemmas.{found_shown}
-use Rattle.audit.proofs.WholeLemmas.{at_some}
+use Rattle.tables_audit.proofs.WholeLemmas.{at_some}
 use Rattle.keep_tables.proofs.opening.found_in.Goals as goal
 
 pub returns-then-are_named-clause-none : goal.returns-then-are_named-clause-none

@@ -3,8 +3,8 @@ use Rattle.std.proofs.lemmas.Bool.{eqb-true}
 use Rattle.sqlite.specs.State.{HasCleanDisk, Survives}
 use Rattle.sqlite.specs.Held.{state}
 use Rattle.sqlite.proofs.StateLemmas.{survives_weaker}
-use Rattle.kept.specs.Finished.{finished, without_all}
-use Rattle.kept.specs.Transactions.{IsDone, MayCommit}
+use Rattle.tables_meaning.specs.Finished.{finished, without_all}
+use Rattle.tables_meaning.specs.Transactions.{IsDone, MayCommit}
 use Rattle.keep_tables.specs.Opened.{IsFinished}
 use Rattle.keep_tables.proofs.FinishLemmas.{nil_if}
 use Rattle.keep_tables.proofs.KeeperLemmas.{book_over}

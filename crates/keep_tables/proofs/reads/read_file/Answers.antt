@@ -2,36 +2,36 @@ use Rattle.std.proofs.Common.{not, ap, ◌∙◌, arith}
 use Rattle.sqlite.specs.Held.{state}
 use Rattle.sqlite.specs.State.{HasCleanDisk}
 use Rattle.tables.specs.Rows.{tables_in}
-use Rattle.kept.specs.Kept.{book_in}
-use Rattle.kept.proofs.FinishedLemmas.{files_finished}
-use Rattle.kept.proofs.ReadCalls.{open_after, read_after, rows_after, undone_either, if_then, on_then}
+use Rattle.tables_meaning.specs.Kept.{book_in}
+use Rattle.tables_meaning.proofs.FinishedLemmas.{files_finished}
+use Rattle.tables_meaning.proofs.ReadCalls.{open_after, read_after, rows_after, undone_either, if_then, on_then}
 use Rattle.keep_tables.proofs.reads.read_file.Goals as goal
 
 pub returns-clause-read : goal.returns-clause-read
 returns-clause-read g c =
     let old = state g.S.Store c.args.conn.now in
-    let mid = state g.S.Store c.serve.new.conn in
+    let mid = state g.S.Store c.probe.new.conn in
     let new = state g.S.Store c.file_body.new.conn in
     let settled = c.is_autocommit-settled.ensures.settled (c.is_autocommit-settled.ensures.value ∙ ap not c.requires.idle) in
-    read_after old mid new c.in_ok-serve.ensures.ok settled (λ other. other _) c.serve.ensures.survives c.file_body.ensures.survives
+    read_after old mid new c.in_ok-probe.ensures.ok settled (λ other. other _) c.probe.ensures.survives c.file_body.ensures.survives
     (λ clean archive. undone_either mid new c.file_body.result (on_then c.file_body.result (c.file_body.ensures.ok clean _ archive) (λ x h. h.1)) (c.file_body.ensures.err clean _ archive))
 
 pub returns-clause-open : goal.returns-clause-open
 returns-clause-open g c clean is =
     let old = state g.S.Store c.args.conn.now in
-    let mid = state g.S.Store c.serve.new.conn in
+    let mid = state g.S.Store c.probe.new.conn in
     let new = state g.S.Store c.file_body.new.conn in
     let settled = c.is_autocommit-settled.ensures.settled (c.is_autocommit-settled.ensures.value ∙ ap not c.requires.idle) in
     let early : HasCleanDisk mid = omega (arith, c.file_body.ensures.survives.clean, clean) in
-    open_after old mid new c.in_ok-serve.ensures.ok settled c.file_body.result early is (λ archive. on_then c.file_body.result (c.file_body.ensures.ok clean _ archive) (λ x h. h.1))
+    open_after old mid new c.in_ok-probe.ensures.ok settled c.file_body.result early is (λ archive. on_then c.file_body.result (c.file_body.ensures.ok clean _ archive) (λ x h. h.1))
 
 pub returns-clause-file : goal.returns-clause-file
 unfolding book_in
 returns-clause-file g c clean config judged shown dates keeps =
     let old = state g.S.Store c.args.conn.now in
-    let mid = state g.S.Store c.serve.new.conn in
+    let mid = state g.S.Store c.probe.new.conn in
     let new = state g.S.Store c.file_body.new.conn in
     let settled = c.is_autocommit-settled.ensures.settled (c.is_autocommit-settled.ensures.value ∙ ap not c.requires.idle) in
     let early : HasCleanDisk mid = omega (arith, c.file_body.ensures.survives.clean, clean) in
-    let rows = rows_after old mid new c.in_ok-serve.ensures.ok settled early keeps in
+    let rows = rows_after old mid new c.in_ok-probe.ensures.ok settled early keeps in
     if_then c.file_body.result (c.file_body.ensures.ok clean (tables_in old.committed) rows) (λ x h. h.0 ∙ files_finished (tables_in old.committed) keeps.held.rows.bodies.rise keeps.kept.files.bodies c.args.path.now)

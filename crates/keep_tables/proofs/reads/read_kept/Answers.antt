@@ -1,7 +1,7 @@
 use Rattle.std.proofs.Common.{sym, ◌∙◌}
 use Rattle.sqlite.specs.Held.{state}
 use Rattle.keep.specs.Book.{text_at}
-use Rattle.kept.specs.Archives.{book_of}
+use Rattle.tables_meaning.specs.Archives.{book_of}
 use Rattle.keep_tables.proofs.AtHandLemmas.{other_kept}
 use Rattle.keep_tables.proofs.reads.read_kept.Goals as goal
 

@@ -1,7 +1,7 @@
 use Rattle.std.proofs.Common.{sym, ap, ◌∙◌}
 use Rattle.std.specs.Option.{option_map}
 use Rattle.sums.specs.Prints.{print}
-use Rattle.audit.proofs.WholeLemmas.{at_some}
+use Rattle.tables_audit.proofs.WholeLemmas.{at_some}
 use Rattle.keep_tables.proofs.reads.read_print.Goals as goal
 
 pub returns-in_ok-read_nothing-in-Some-clause-print : goal.returns-in_ok-read_nothing-in-Some-clause-print

@@ -1,4 +1,4 @@
-use Rattle.audit.proofs.WholeLemmas.{at_some}
+use Rattle.tables_audit.proofs.WholeLemmas.{at_some}
 use Rattle.keep_tables.proofs.reads.show.Goals as goal
 
 pub returns-in_ok-read_nothing-in-Some-clause-shown : goal.returns-in_ok-read_nothing-in-Some-clause-shown

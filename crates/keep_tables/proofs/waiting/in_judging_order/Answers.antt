@@ -1,7 +1,7 @@
 use Rattle.std.proofs.Common.{rules}
-use Rattle.kept.specs.Reads.{row_order}
-use Rattle.kept.proofs.SignOrder.{row_order_total}
-use Rattle.kept.proofs.SortedLemmas.{sorted_same}
+use Rattle.tables_meaning.specs.Reads.{row_order}
+use Rattle.tables_meaning.proofs.SignOrder.{row_order_total}
+use Rattle.tables_meaning.proofs.SortedLemmas.{sorted_same}
 use Rattle.keep_tables.proofs.waiting.in_judging_order.Goals as goal
 
 pub returns : goal.returns

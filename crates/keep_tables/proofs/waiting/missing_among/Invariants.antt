@@ -2,7 +2,7 @@ use Rattle.std.proofs.Common.{◌≡◌, ◌≤◌, false, not, filter, length, 
 use Rattle.sqlite.specs.Held.{state}
 use Rattle.sqlite.specs.State.{HasCleanDisk, Survives}
 use Rattle.tables.specs.Rows.{Tables, Holds}
-use Rattle.kept.specs.Reads.{Rests}
+use Rattle.tables_meaning.specs.Reads.{Rests}
 use Rattle.keep_tables.specs.Moments.{is_had}
 use Rattle.keep_tables.proofs.waiting.missing_among.Given as goal
 

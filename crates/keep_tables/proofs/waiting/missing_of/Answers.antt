@@ -2,7 +2,7 @@ use Rattle.std.proofs.Common.{length, filter, not, ap, ◌∙◌, arith}
 use Rattle.sqlite.specs.Held.{state}
 use Rattle.sqlite.specs.State.{HasCleanDisk}
 use Rattle.sqlite.proofs.Callers.{unchanged_then}
-use Rattle.kept.proofs.ReadsLemmas.{held_after, on_err, survives_after, survives_foreign, undone_after}
+use Rattle.tables_meaning.proofs.ReadsLemmas.{held_after, on_err, survives_after, survives_foreign, undone_after}
 use Rattle.keep_tables.specs.Moments.{is_had, missing_at}
 use Rattle.keep_tables.proofs.waiting.missing_of.Goals as goal
 

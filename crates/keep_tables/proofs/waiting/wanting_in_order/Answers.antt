@@ -1,5 +1,5 @@
 use Rattle.std.proofs.Common.{ap, ◌∙◌}
-use Rattle.kept.specs.Reads.{row_order, sorted_by}
+use Rattle.tables_meaning.specs.Reads.{row_order, sorted_by}
 use Rattle.keep_tables.specs.Moments.{rows_at}
 use Rattle.keep_tables.proofs.waiting.wanting_in_order.Goals as goal
 

@@ -3,7 +3,7 @@ use Rattle.std.specs.List.{filter_map}
 use Rattle.sqlite.specs.Held.{state}
 use Rattle.sqlite.specs.State.{HasCleanDisk}
 use Rattle.sqlite.proofs.Callers.{unchanged_then}
-use Rattle.kept.proofs.ReadsLemmas.{found_all, found_more, found_none, held_after, on_err, survives_after, undone_after, undone_if_rested}
+use Rattle.tables_meaning.proofs.ReadsLemmas.{found_all, found_more, found_none, held_after, on_err, survives_after, undone_after, undone_if_rested}
 use Rattle.keep_tables.specs.Moments.{row_at}
 use Rattle.keep_tables.proofs.waiting.wanting_still.Goals as goal
 

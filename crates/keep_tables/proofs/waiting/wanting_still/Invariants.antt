@@ -3,7 +3,7 @@ use Rattle.std.specs.List.{filter_map}
 use Rattle.sqlite.specs.Held.{state}
 use Rattle.sqlite.specs.State.{HasCleanDisk, IsUnchanged, Survives}
 use Rattle.tables.specs.Rows.{Tables, Holds}
-use Rattle.kept.specs.Reads.{wanting}
+use Rattle.tables_meaning.specs.Reads.{wanting}
 use Rattle.keep_tables.specs.Moments.{row_at}
 use Rattle.keep_tables.proofs.waiting.wanting_still.Given as goal
 

@@ -4,8 +4,8 @@ use Rattle.sqlite.specs.State.{HasCleanDisk}
 use Rattle.sqlite.proofs.Callers.{unchanged_then}
 use Rattle.tables.specs.Rows.{rows_of}
 use Rattle.tables.specs.Wants.{IsNextWanting}
-use Rattle.kept.proofs.ReadsLemmas.{held_after, survives_after, survives_foreign}
-use Rattle.kept.proofs.WantingLemmas.{next_one, no_next}
+use Rattle.tables_meaning.proofs.ReadsLemmas.{held_after, survives_after, survives_foreign}
+use Rattle.tables_meaning.proofs.WantingLemmas.{next_one, no_next}
 use Rattle.keep_tables.proofs.wanting.next_upload.Goals as goal
 
 pub returns-in_err-id-clause-survives : goal.returns-in_err-id-clause-survives

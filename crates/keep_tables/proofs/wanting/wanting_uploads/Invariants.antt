@@ -2,8 +2,8 @@ use Rattle.std.proofs.Common.{◌≡◌, ◌++◌, false}
 use Rattle.sqlite.specs.Held.{state}
 use Rattle.sqlite.specs.State.{HasCleanDisk, Survives}
 use Rattle.tables.specs.Rows.{Tables, Holds}
-use Rattle.kept.specs.Reads.{Rests, wanting}
-use Rattle.kept.proofs.WantingLemmas.{wanting_behind}
+use Rattle.tables_meaning.specs.Reads.{Rests, wanting}
+use Rattle.tables_meaning.proofs.WantingLemmas.{wanting_behind}
 use Rattle.keep_tables.proofs.wanting.wanting_uploads.Given as goal
 
 -- the uploads so far, and those behind them

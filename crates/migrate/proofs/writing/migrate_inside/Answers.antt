@@ -6,9 +6,9 @@ use Rattle.sqlite.specs.State.{HasCleanDisk, KeepsCommit}
 use Rattle.sqlite.specs.Held.{state}
 use Rattle.tables.proofs.TransactionLemmas.{keeps_then, on_err, on_ok}
 use Rattle.keep.specs.Book.{latest}
-use Rattle.kept.specs.Founding.{Founds}
-use Rattle.kept.proofs.AmendLemmas.{survives_both}
-use Rattle.kept.proofs.FoundLemmas.{keeps_if_founded}
+use Rattle.tables_meaning.specs.Founding.{Founds}
+use Rattle.tables_meaning.proofs.AmendLemmas.{survives_both}
+use Rattle.tables_meaning.proofs.FoundLemmas.{keeps_if_founded}
 use Rattle.tables.proofs.TransactionLemmas.{keeps_if_changed}
 use Rattle.tables_read.specs.All.{tables_with}
 use Rattle.copying.specs.Copying.{AreRising}

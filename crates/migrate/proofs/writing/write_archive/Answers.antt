@@ -7,9 +7,9 @@ use Rattle.sqlite.proofs.Callers.{survives_begin}
 use Rattle.tables.specs.Rows.{Holds}
 use Rattle.tables.specs.Schema.{no_schema}
 use Rattle.tables.proofs.TransactionLemmas.{as_open, commit_failed, inside, on_err, on_ok, undone}
-use Rattle.kept.specs.Founding.{IsFounded, MayFound}
-use Rattle.kept.specs.Transactions.{IsUndone}
-use Rattle.kept.proofs.FoundLemmas.{founds_since, keeps_if_founded, undone_if_err, undone_since}
+use Rattle.tables_meaning.specs.Founding.{IsFounded, MayFound}
+use Rattle.tables_meaning.specs.Transactions.{IsUndone}
+use Rattle.tables_meaning.proofs.FoundLemmas.{founds_since, keeps_if_founded, undone_if_err, undone_since}
 use Rattle.migrate.specs.Migrated.{migrated_rows}
 use Rattle.migrate.proofs.writing.write_archive.Goals as goal
 

@@ -2,7 +2,7 @@ use Rattle.std.proofs.Common.{inl}
 use Rattle.sqlite.specs.Held.{state}
 use Rattle.tables_read.specs.All.{tables_with}
 use Rattle.tables.proofs.ReadLemmas.{fails_unchanged}
-use Rattle.audit.proofs.WholeLemmas.{at_some}
+use Rattle.tables_audit.proofs.WholeLemmas.{at_some}
 use Rattle.old_book.proofs.FoundLemmas.{on_err_is, on_ok_is, shown_book, shown_none}
 use Rattle.old_book.proofs.finding.book_as.Goals as goal
 

@@ -6,7 +6,7 @@ use Rattle.sqlite.specs.State.{HasCleanDisk, IsUnchanged}
 use Rattle.sqlite.proofs.Callers.{unchanged_then}
 use Rattle.sqlite.proofs.StateLemmas.{survives_then}
 use Rattle.tables_read.proofs.StepLemmas.{fails_then}
-use Rattle.audit.proofs.WholeLemmas.{at_some}
+use Rattle.tables_audit.proofs.WholeLemmas.{at_some}
 use Rattle.old_book.specs.Books.{IsShownBook}
 use Rattle.old_book.specs.Old.{KeepsNoneAs}
 use Rattle.old_book.proofs.FoundLemmas.{first_book, no_book, second_book}

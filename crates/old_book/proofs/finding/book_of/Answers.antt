@@ -1,8 +1,8 @@
 use Rattle.std.proofs.Common.{◌≡◌, [], true, true≢false, sym, ap, subst, ◌∙◌}
 use Rattle.tables_read.specs.All.{AreConstrained, tables_with}
-use Rattle.audit.proofs.WholeLemmas.{at_some}
-use Rattle.audit.specs.Parts.{UploadsFit}
-use Rattle.kept.specs.Kept.{IsKept}
+use Rattle.tables_audit.proofs.WholeLemmas.{at_some}
+use Rattle.tables_audit.specs.Parts.{UploadsFit}
+use Rattle.tables_meaning.specs.Kept.{IsKept}
 use Rattle.old_book.specs.Old.{HasText}
 use Rattle.old_book.specs.Settling.{settled, unjudged, with_configuration}
 use Rattle.old_book.proofs.BookLemmas.{bodies_kept, constrained_rows, no_old_archive, old_archive, rising_rows}

@@ -1,6 +1,6 @@
 use Rattle.std.proofs.Common.{◌↔◌, [], IsTrue, sym, ap, subst, ◌∙◌}
 use Rattle.tables_read.specs.All.{tables_with}
-use Rattle.audit.specs.Parts.{UploadsFit}
+use Rattle.tables_audit.specs.Parts.{UploadsFit}
 use Rattle.old_book.specs.Settling.{unjudged, unjudged_uploads}
 use Rattle.old_book.proofs.BookLemmas.{listed_in}
 use Rattle.old_book.proofs.listed.are_listed.Goals as goal

@@ -4,11 +4,11 @@ use Rattle.std.specs.Prelude.{All, ◌≤◌}
 use Rattle.sqlite.specs.Held.{state}
 use Rattle.tables.specs.Schema.{no_schema}
 use Rattle.tables.specs.Rows.{tables_in}
-use Rattle.kept.specs.Archives.{KeepsArchive, book_of}
-use Rattle.kept.specs.Founding.{first_dates}
-use Rattle.kept.specs.Shown.{shown_in}
-use Rattle.kept.proofs.CallLemmas.{kept_here}
-use Rattle.kept.proofs.MakeLemmas.{founded_archive, founded_here, founded_whole}
+use Rattle.tables_meaning.specs.Archives.{KeepsArchive, book_of}
+use Rattle.tables_meaning.specs.Founding.{first_dates}
+use Rattle.tables_meaning.specs.Shown.{shown_in}
+use Rattle.tables_meaning.proofs.CallLemmas.{kept_here}
+use Rattle.tables_meaning.proofs.MakeLemmas.{founded_archive, founded_here, founded_whole}
 use Rattle.keep_tables.proofs.AtHandLemmas.{none_known}
 use Rattle.keep_tables.proofs.keeper.TableKeeper.create.Goals as goal
 

@@ -3,13 +3,13 @@ use Rattle.sqlite.specs.State.{HasCleanDisk, IsUnchanged}
 use Rattle.sqlite.specs.Held.{state}
 use Rattle.sqlite.proofs.StateLemmas.{survives_then}
 use Rattle.tables.specs.Rows.{Stands, tables_in}
-use Rattle.kept.specs.Finished.{finished}
-use Rattle.kept.specs.Shown.{shown_in}
-use Rattle.kept.specs.Transactions.{MayCommit}
+use Rattle.tables_meaning.specs.Finished.{finished}
+use Rattle.tables_meaning.specs.Shown.{shown_in}
+use Rattle.tables_meaning.specs.Transactions.{MayCommit}
 use Rattle.keep_tables.specs.Finishing.{unfinished_ids}
 use Rattle.keep_tables.specs.Opened.{IsArchiveOf, IsNoArchive}
-use Rattle.audit.proofs.WholeLemmas.{if_ok}
-use Rattle.audit.proofs.WholeLemmas.{err_both, if_err, ok_both}
+use Rattle.tables_audit.proofs.WholeLemmas.{if_ok}
+use Rattle.tables_audit.proofs.WholeLemmas.{err_both, if_err, ok_both}
 use Rattle.keep_tables.proofs.OpenLemmas.{book_from, finished_from, found_after, may_from, undone_after, unfinished_from}
 use Rattle.keep_tables.proofs.keeper.TableKeeper.open.Goals as goal
 

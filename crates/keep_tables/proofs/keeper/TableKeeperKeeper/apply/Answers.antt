@@ -7,17 +7,17 @@ use Rattle.suites.specs.Shelves.{ShelvesValue}
 use Rattle.keep.specs.Book.{dates_past, judgements}
 use Rattle.keep.proofs.Staying.{on_err}
 use Rattle.tables.specs.Rows.{tables_in}
-use Rattle.kept.specs.Archives.{KeepsArchive, book_of}
-use Rattle.kept.specs.Kept.{book_in}
-use Rattle.kept.specs.KeeperLemmas.{book_set, left_set, shelves_set}
-use Rattle.kept.specs.Making.{takes_file}
-use Rattle.kept.specs.Shown.{shown_in}
+use Rattle.tables_meaning.specs.Archives.{KeepsArchive, book_of}
+use Rattle.tables_meaning.specs.Kept.{book_in}
+use Rattle.tables_meaning.specs.KeeperLemmas.{book_set, left_set, shelves_set}
+use Rattle.tables_meaning.specs.Making.{takes_file}
+use Rattle.tables_meaning.specs.Shown.{shown_in}
 use Rattle.std.proofs.Props.{props}
 use Rattle.keep_tables.specs.AtHand.{AreAtHand, AreKnown, AreRenewedAtMost}
 use Rattle.keep_tables.proofs.AtHandLemmas.{known_past}
 use Rattle.keep_tables.proofs.AtOnceLemmas.{none_if, none_under}
 use Rattle.keep_tables.proofs.UnderWayLemmas.{changed_under, undone_kept, undone_under}
-use Rattle.kept.proofs.CallLemmas.{amends_turns, done_book, kept_here, shown_here, turn_left}
+use Rattle.tables_meaning.proofs.CallLemmas.{amends_turns, done_book, kept_here, shown_here, turn_left}
 use Rattle.keep_tables.proofs.keeper.TableKeeperKeeper.apply.Goals as goal
 
 -- behind the room that is made the judgements are the same

@@ -4,10 +4,10 @@ use Rattle.std.proofs.Props.{props}
 use Rattle.sqlite.specs.Held.{state}
 use Rattle.sqlite.specs.State.{HasCleanDisk}
 use Rattle.tables.specs.Rows.{tables_in}
-use Rattle.kept.specs.Archives.{KeepsArchive}
-use Rattle.kept.specs.KeeperLemmas.{book_set, left_set}
-use Rattle.kept.specs.Shown.{shown_in}
-use Rattle.kept.proofs.CallLemmas.{done_book, kept_here, turn_left}
+use Rattle.tables_meaning.specs.Archives.{KeepsArchive}
+use Rattle.tables_meaning.specs.KeeperLemmas.{book_set, left_set}
+use Rattle.tables_meaning.specs.Shown.{shown_in}
+use Rattle.tables_meaning.proofs.CallLemmas.{done_book, kept_here, turn_left}
 use Rattle.keep_tables.specs.AtHand.{AreAtHand, AreKnown}
 use Rattle.keep_tables.proofs.AtHandLemmas.{still_at_hand, still_known}
 use Rattle.keep_tables.proofs.AtOnceLemmas.{at_once_tells, none_under}

@@ -2,7 +2,7 @@
 use Rattle.std.proofs.Common.{◌≡◌, ◌++◌, ◌%◌, ◌<◌, List, ℕ, Some, length}
 use Rattle.sqlite.specs.Held.{state}
 use Rattle.tables.specs.Rows.{tables_in}
-use Rattle.bodies.specs.UnderWay.{coming_in}
+use Rattle.tables_bodies.specs.UnderWay.{coming_in}
 use Rattle.keep_tables.proofs.KeeperWords.{StaysIn, clean_in, open_in}
 use Rattle.keep_tables.proofs.keeper.TableKeeperKeeper.arrive.Given as goal
 

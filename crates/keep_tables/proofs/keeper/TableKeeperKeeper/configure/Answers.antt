@@ -4,12 +4,12 @@ use Rattle.std.proofs.Props.{props}
 use Rattle.sqlite.specs.Held.{state}
 use Rattle.sqlite.specs.State.{HasCleanDisk}
 use Rattle.tables.specs.Rows.{tables_in}
-use Rattle.kept.specs.Archives.{KeepsArchive, book_of}
-use Rattle.kept.specs.Configuring.{Reconfigures}
-use Rattle.kept.specs.Kept.{book_in}
-use Rattle.kept.specs.KeeperLemmas.{book_set, left_set}
-use Rattle.kept.specs.Shown.{shown_in}
-use Rattle.kept.proofs.CallLemmas.{kept_here, shown_here}
+use Rattle.tables_meaning.specs.Archives.{KeepsArchive, book_of}
+use Rattle.tables_meaning.specs.Configuring.{Reconfigures}
+use Rattle.tables_meaning.specs.Kept.{book_in}
+use Rattle.tables_meaning.specs.KeeperLemmas.{book_set, left_set}
+use Rattle.tables_meaning.specs.Shown.{shown_in}
+use Rattle.tables_meaning.proofs.CallLemmas.{kept_here, shown_here}
 use Rattle.keep_tables.specs.AtHand.{AreAtHand, AreKnown}
 use Rattle.keep_tables.proofs.AtHandLemmas.{none_known}
 use Rattle.keep_tables.proofs.ConfiguredCalls.{configured_here, configured_left}

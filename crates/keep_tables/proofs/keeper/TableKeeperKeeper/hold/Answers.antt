@@ -1,5 +1,5 @@
 use Rattle.std.proofs.Common.{inl, refl, arith}
-use Rattle.kept.specs.Kept.{book_in}
+use Rattle.tables_meaning.specs.Kept.{book_in}
 use Rattle.keep_tables.proofs.keeper.TableKeeperKeeper.hold.Goals as goal
 
 pub invariant_of-self : goal.invariant_of-self

@@ -4,13 +4,13 @@ use Rattle.std.proofs.Props.{props}
 use Rattle.sqlite.specs.Held.{state}
 use Rattle.sqlite.specs.State.{HasCleanDisk}
 use Rattle.tables.specs.Rows.{tables_in}
-use Rattle.kept.specs.Archives.{KeepsArchive, book_of}
-use Rattle.kept.specs.Coming.{Comes}
-use Rattle.kept.specs.Kept.{book_in}
-use Rattle.kept.specs.KeeperLemmas.{book_set, left_set}
-use Rattle.kept.specs.Shown.{shown_in}
-use Rattle.kept.proofs.CallLemmas.{done_book, kept_here, turn_left}
-use Rattle.bodies.specs.UnderWay.{IsUnderWay, coming_in}
+use Rattle.tables_meaning.specs.Archives.{KeepsArchive, book_of}
+use Rattle.tables_meaning.specs.Coming.{Comes}
+use Rattle.tables_meaning.specs.Kept.{book_in}
+use Rattle.tables_meaning.specs.KeeperLemmas.{book_set, left_set}
+use Rattle.tables_meaning.specs.Shown.{shown_in}
+use Rattle.tables_meaning.proofs.CallLemmas.{done_book, kept_here, turn_left}
+use Rattle.tables_bodies.specs.UnderWay.{IsUnderWay, coming_in}
 use Rattle.keep_tables.specs.AtHand.{AreAtHand, AreKnown}
 use Rattle.keep_tables.proofs.AtHandLemmas.{still_at_hand, still_known}
 use Rattle.keep_tables.proofs.UnderWayLemmas.{coming_set, not_finished, piece_coming, takes, undone_kept, undone_under}

@@ -6,12 +6,12 @@ use Rattle.sqlite.specs.Held.{state}
 use Rattle.sums.specs.Prints.{print as print_of}
 use Rattle.texts.specs.Indices.{index_text}
 use Rattle.tables.specs.Rows.{tables_in}
-use Rattle.kept.specs.Kept.{book_in}
-use Rattle.kept.specs.Shown.{shown_in}
-use Rattle.bodies.specs.UnderWay.{IsUnderWay}
-use Rattle.kept.proofs.KeeperReads.{left_before, same_after, still, still_committed, still_kept, was_archive, was_kept}
+use Rattle.tables_meaning.specs.Kept.{book_in}
+use Rattle.tables_meaning.specs.Shown.{shown_in}
+use Rattle.tables_bodies.specs.UnderWay.{IsUnderWay}
+use Rattle.tables_meaning.proofs.KeeperReads.{left_before, same_after, still, still_committed, still_kept, was_archive, was_kept}
 use Rattle.keep_tables.specs.AtHand.{AreAtHand, AreKnown, is_print_of}
-use Rattle.keep_tables.specs.declared.known.TextPrint.{TextPrint}
+use Rattle.keep_tables.specs.declared.text_prints.TextPrint.{TextPrint}
 use Rattle.keep_tables.proofs.AtHandLemmas.{known_is, noted_known}
 use Rattle.keep_tables.proofs.keeper.TableKeeperKeeper.text_print.Goals as goal
 

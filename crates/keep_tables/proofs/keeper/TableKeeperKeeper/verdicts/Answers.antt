@@ -1,10 +1,10 @@
 use Rattle.std.proofs.Common.{refl}
 use Rattle.sqlite.specs.Held.{state}
-use Rattle.kept.specs.Kept.{book_in}
+use Rattle.tables_meaning.specs.Kept.{book_in}
 use Rattle.tables.specs.Rows.{tables_in}
-use Rattle.bodies.specs.UnderWay.{IsUnderWay}
-use Rattle.kept.proofs.KeeperReads.{left_before, same_after, still, still_kept}
-use Rattle.kept.specs.Shown.{shown_in}
+use Rattle.tables_bodies.specs.UnderWay.{IsUnderWay}
+use Rattle.tables_meaning.proofs.KeeperReads.{left_before, same_after, still, still_kept}
+use Rattle.tables_meaning.specs.Shown.{shown_in}
 use Rattle.keep_tables.specs.AtHand.{AreAtHand, AreKnown}
 use Rattle.keep_tables.proofs.keeper.TableKeeperKeeper.verdicts.Goals as goal
 

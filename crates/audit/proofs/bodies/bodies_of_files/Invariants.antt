@@ -1,7 +1,0 @@
-use Rattle.std.proofs.Common.{◌≡◌, map, take}
-use Rattle.tables.specs.Rows.{rows_of}
-use Rattle.audit.proofs.bodies.bodies_of_files.Given as goal
-
--- the numbers so far
-abbrev pub invariant-loop-row : goal.invariant-loop-row
-invariant-loop-row l = l.numbers.items ≡ map (λ f. f.body) (rows_of (take l.row-index l.files))

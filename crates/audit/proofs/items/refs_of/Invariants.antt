@@ -1,7 +1,0 @@
-use Rattle.std.proofs.Common.{◌≡◌, take}
-use Rattle.audit.specs.Items.{refs_at}
-use Rattle.audit.proofs.items.refs_of.Given as goal
-
--- the rows so far
-abbrev pub invariant-loop-row : goal.invariant-loop-row
-invariant-loop-row l = l.found.items ≡ refs_at (take l.row-index l.refs) l.item

@@ -1,7 +1,0 @@
-use Rattle.std.proofs.Common.{◌≡◌, map, drop}
-use Rattle.audit.specs.Places.{first_at, placed_view}
-use Rattle.audit.proofs.uploads.places.first_at.Given as goal
-
--- what has not been looked at decides
-abbrev pub invariant-loop-one : goal.invariant-loop-one
-invariant-loop-one l = first_at (map placed_view (drop l.one-index l.placed)) l.place ≡ first_at (map placed_view l.placed) l.place

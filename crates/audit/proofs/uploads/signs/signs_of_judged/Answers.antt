@@ -1,7 +1,0 @@
-use Rattle.audit.specs.Signs.{judgement_sign}
-use Rattle.audit.proofs.SignsLemmas.{signs_more}
-use Rattle.audit.proofs.uploads.signs.signs_of_judged.Goals as goal
-
-pub loop-one-preserved : goal.loop-one-preserved
-loop-one-preserved c =
-    signs_more judgement_sign c.loop-one.signs.items c.args.judged.now c.loop-one.one-index c.one-item.result c.sign_of_judgement.result c.loop-one-test.true c.one-item.is c.sign_of_judgement.ensures c.in_ok-push.ensures.items c.loop-one.invariant

@@ -1,7 +1,0 @@
-use Rattle.std.proofs.Common.{◌≡◌, map, take}
-use Rattle.audit.specs.Signs.{judgement_sign, sign_of}
-use Rattle.audit.proofs.uploads.signs.signs_of_judged.Given as goal
-
--- those so far
-abbrev pub invariant-loop-one : goal.invariant-loop-one
-invariant-loop-one l = map sign_of l.signs.items ≡ map judgement_sign (take l.one-index l.judged)

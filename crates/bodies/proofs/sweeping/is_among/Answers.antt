@@ -1,6 +1,0 @@
-use Rattle.std.proofs.Common.{◌∙◌}
-use Rattle.bodies.proofs.UnusedLemmas.{found_among}
-use Rattle.bodies.proofs.sweeping.is_among.Goals as goal
-
-pub returns : goal.returns
-returns c = c.is_ok.ensures.value ∙ found_among c.args.numbers.now c.args.id c.binary_search.result c.requires c.binary_search.ensures.position

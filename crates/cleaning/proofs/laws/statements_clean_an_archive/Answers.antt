@@ -1,5 +1,0 @@
-use Rattle.cleaning.proofs.CleanedRows.{with_cleaned-cleaned}
-use Rattle.cleaning.proofs.laws.statements_clean_an_archive.Goals as goal
-
-pub returns : goal.returns
-returns c = with_cleaned-cleaned

@@ -1,0 +1,42 @@
+-- Connections of clients were served.
+use Rattle.std.proofs.Common.{◌≡◌, ◌≤◌, ℕ, List, [], ◌∷◌, Option, None, length, arith}
+use Rattle.std.proofs.lemmas.List.Elements.{All-cons, All-head, All-nil, All-tail}
+use Rattle.std.specs.Prelude.{All}
+use Rattle.desk.specs.Connections.{IsClientsWithin, visit, visits}
+use Rattle.desk.specs.declared.connection.Connection.{Connection}
+use Rattle.desk.proofs.ConnectionLemmas.{a_turn}
+use Rattle.program.proofs.serving.attended.Goals as goal
+
+module _ {R W : Type 0} (remaining : R → Option (List ℕ)) (contents : W → Option (List ℕ)) where
+  no_more : (olds news : List (Connection R W)) → length (visits remaining contents olds news) ≤ length olds
+  no_more [] news = omega arith
+  no_more (old ∷ olds) [] = omega arith
+  no_more (old ∷ olds) (new ∷ news) = let rest = no_more olds news in omega (arith, rest)
+
+  of_clients : (moment : ℕ) (olds news : List (Connection R W)) → All (λ one. (remaining one.reader ≡ None) × (one.moment ≡ moment)) olds
+      → All (IsClientsWithin moment moment) (visits remaining contents olds news)
+  of_clients moment [] news all = All-nil (IsClientsWithin moment moment)
+  of_clients moment (old ∷ olds) [] all = All-nil (IsClientsWithin moment moment)
+  of_clients moment (old ∷ olds) (new ∷ news) all =
+      let here = All-head (λ one. (remaining one.reader ≡ None) × (one.moment ≡ moment)) old olds all in
+      All-cons (IsClientsWithin moment moment) (visit remaining contents old new) (visits remaining contents olds news)
+      (record { from_first = omega (arith, here.1); to_last = omega (arith, here.1); foreign = here.0 })
+      (of_clients moment olds news (All-tail (λ one. (remaining one.reader ≡ None) × (one.moment ≡ moment)) old olds all))
+
+pub returns-in-Some-Some : goal.returns-in-Some-Some
+returns-in-Some-Some g c = record {
+  served = λ moment all.
+      a_turn g.K.Keeper (length c.args.connections.now) (IsClientsWithin moment moment) c.args.archive.now.keeper c.attend.new.archive.keeper
+      (visits g.R.Read.remaining g.W.Write.contents c.args.connections.now c.attend.new.connections)
+      (no_more g.R.Read.remaining g.W.Write.contents c.args.connections.now c.attend.new.connections)
+      (of_clients g.R.Read.remaining g.W.Write.contents moment c.args.connections.now c.attend.new.connections all) c.attend.ensures.lasts c.attend.ensures.served;
+}
+
+pub returns-in_default : goal.returns-in_default
+returns-in_default g c = record {
+  served = λ moment all.
+      a_turn g.K.Keeper (length c.args.connections.now) (IsClientsWithin moment moment) c.args.archive.now.keeper c.attend.new.archive.keeper
+      (visits g.R.Read.remaining g.W.Write.contents c.args.connections.now c.attend.new.connections)
+      (no_more g.R.Read.remaining g.W.Write.contents c.args.connections.now c.attend.new.connections)
+      (of_clients g.R.Read.remaining g.W.Write.contents moment c.args.connections.now c.attend.new.connections all) c.attend.ensures.lasts c.attend.ensures.served;
+}

@@ -1,0 +1,273 @@
+//! What the program prints of an archive, over any keeper.
+
+ghost use Rattle.std.specs.Prelude.{◌≡◌, ◌≤◌, true, false, OnOk, OnErr, IfErr};
+ghost use Rattle.std.specs.Io.KnownBytes.{Appends};
+ghost use Rattle.keep.specs.Book.{latest};
+ghost use Rattle.keep.specs.Configured.{configured, keeps_shown};
+ghost use Rattle.keep.specs.declared.fault.KeepFault.TheVariants.{Configuration as NotKept};
+ghost use Rattle.queue.specs.Configuring.{Endures, LeavesConfigured};
+ghost use Rattle.queue.specs.Steps.{IsUndone};
+ghost use Rattle.program.specs.declared.fault.Stop.TheVariants.{NoArchive};
+
+use crate::database::{is_of_database, length_of};
+use crate::doing::{body_of, file_name, opened};
+use crate::fault::Stop;
+use crate::shown::Shown;
+use keep::Keeper;
+use queue::{Archive, Arrived, Fault, Promotion, Report};
+use rules::Config;
+use std::alloc::{AllocError, Global};
+use std::io::{self, Write};
+use std::rt::Files;
+
+/// Prints the lines of a report, as they are shown.
+pub fn print_report<W: Write>(report: &Report, out: &mut W) -> io::Result<()> {
+    for line in &report.lines {
+        let line = Shown(line);
+        writeln!(out, "{line}")?;
+    }
+    Ok(())
+}
+
+/// Prints `new NAME`, `again NAME` or `refused FAULT NAME`, with the name as it is shown, and says whether a delivery was taken. Want
+/// of memory and a fault of the keeper end the program instead.
+pub fn print_arrived<'a, W: Write>(
+    arrived: Result<Arrived, Fault>,
+    name: &str,
+    out: &mut W,
+) -> Result<bool, Stop<'a>> {
+    let name = Shown(name);
+    match arrived {
+        Ok(Arrived::New) => writeln!(out, "new {name}")?,
+        Ok(Arrived::Again) => writeln!(out, "again {name}")?,
+        Err(fault @ (Fault::OutOfMemory | Fault::Keeper(_))) => return Err(Stop::Refused(fault)),
+        Err(fault) => {
+            writeln!(out, "refused {fault} {name}")?;
+            return Ok(false);
+        }
+    }
+    Ok(true)
+}
+
+/// Delivers a file, prints a line for it, and says whether it was taken. What is no regular file, as a pipe, has no length
+/// beforehand, and is read whole.
+fn put_file<'a, R: Files + AllocGlobal, K: Keeper, W: Write>(
+    rt: &R,
+    archive: &mut Archive<K>,
+    at: u64,
+    path: &'a str,
+    out: &mut W,
+) -> Result<bool, Stop<'a>> {
+    let name = file_name(path);
+    let arrived = match length_of(rt, path) {
+        Some(size) => {
+            let mut file = opened(rt, path)?;
+            archive.receive(rt.alloc(), name, size, &mut file, at)
+        }
+        None => {
+            let body = body_of(rt, path)?;
+            archive.deliver(rt.alloc(), name, &body, at)
+        }
+    };
+    print_arrived(arrived, name, out)
+}
+
+/// Delivers files at a moment, in seconds since 1970-01-01 00:00:00 UTC, each under the text behind its path's last
+/// slash, and prints a line for each. It goes on behind a file that is refused, and says whether all were taken. Each
+/// file is read while it is delivered. The files of the database itself can't be read.
+pub fn put_files<'a, R: Files + AllocGlobal, K: Keeper, W: Write>(
+    rt: &R,
+    archive: &mut Archive<K>,
+    db: &str,
+    at: u64,
+    paths: &[&'a str],
+    out: &mut W,
+) -> Result<bool, Stop<'a>> {
+    let mut all = true;
+    for path in paths {
+        if is_of_database(rt, db, path)? {
+            return Err(Stop::Unreadable(Shown(path)));
+        }
+        if !put_file(rt, archive, at, path, out)? {
+            all = false;
+        }
+    }
+    Ok(all)
+}
+
+/// Runs the queue at a moment, and prints the lines of the report.
+pub fn run<'a, K: Keeper, W: Write>(
+    alloc: Global,
+    archive: &mut Archive<K>,
+    at: u64,
+    out: &mut W,
+) -> Result<(), Stop<'a>> {
+    let report = archive.run(alloc, at)?;
+    print_report(&report, out)?;
+    Ok(())
+}
+
+/// Whether each source of a promotion was shown.
+fn all_are_copied(promotion: &Promotion) -> bool {
+    for copy in &promotion.copies {
+        if copy.items.is_none() {
+            return false;
+        }
+    }
+    true
+}
+
+/// Copies a source's packages from the suite `from` to the suite `to` at a moment, and prints how many items of `to`
+/// are new.
+pub fn copy<'a, K: Keeper, W: Write>(
+    alloc: Global,
+    archive: &mut Archive<K>,
+    at: u64,
+    from: &str,
+    to: &str,
+    source: &str,
+    out: &mut W,
+) -> Result<(), Stop<'a>> {
+    let items = archive.copy(alloc, from, to, source, at)?;
+    writeln!(out, "{items}")?;
+    Ok(())
+}
+
+/// Names as texts of their own.
+fn owned(alloc: Global, names: &[&str]) -> Result<Vec<String>, AllocError> {
+    let mut texts = Vec::new(alloc);
+    for name in names {
+        texts.push(String::from_str(alloc, name)?)?;
+    }
+    Ok(texts)
+}
+
+/// The sources that are named, if any are, as texts of their own.
+fn owned_sources(
+    alloc: Global,
+    sources: &Option<Vec<&str>>,
+) -> Result<Option<Vec<String>>, AllocError> {
+    match sources {
+        Some(names) => Ok(Some(owned(alloc, names)?)),
+        None => Ok(None),
+    }
+}
+
+/// Copies several sources from the suite `from` to the suite `to` in one change at a moment, and prints a line for each: how
+/// many items of `to` are new, or that it is refused. Says whether none was.
+pub fn promote<'a, K: Keeper, W: Write>(
+    alloc: Global,
+    archive: &mut Archive<K>,
+    at: u64,
+    from: &str,
+    to: &str,
+    sources: &Option<Vec<&'a str>>,
+    out: &mut W,
+) -> Result<bool, Stop<'a>> {
+    let sources = owned_sources(alloc, sources)?;
+    let promotion = archive.promote(alloc, from, to, &sources, at)?;
+    print_report(&promotion.report, out)?;
+    Ok(all_are_copied(&promotion))
+}
+
+/// Removes all items of a package's name from a suite at a moment, and prints how many the suite showed.
+pub fn remove<'a, K: Keeper, W: Write>(
+    alloc: Global,
+    archive: &mut Archive<K>,
+    at: u64,
+    suite: &str,
+    name: &str,
+    out: &mut W,
+) -> Result<(), Stop<'a>> {
+    let items = archive.remove(alloc, suite, name, at)?;
+    writeln!(out, "{items}")?;
+    Ok(())
+}
+
+/// Takes away each arrival that does not count any more at a moment, and prints how many there were.
+pub fn clean<'a, K: Keeper, W: Write>(
+    alloc: Global,
+    archive: &mut Archive<K>,
+    at: u64,
+    out: &mut W,
+) -> Result<(), Stop<'a>> {
+    let count = archive.clean(alloc, at)?;
+    writeln!(out, "{count}")?;
+    Ok(())
+}
+
+/// Prints the bytes of the index or the file of the pool at a path.
+pub fn show<'a, K: Keeper, W: Write>(
+    alloc: Global,
+    archive: &mut Archive<K>,
+    path: &str,
+    out: &mut W,
+) -> Result<(), Stop<'a>> {
+    match archive.fetch(alloc, path)? {
+        Some(body) => {
+            out.write_all(&body)?;
+            Ok(())
+        }
+        None => Err(Stop::NotFound),
+    }
+}
+
+/// Prints a line for each upload that has no verdict.
+pub fn waiting<'a, K: Keeper, W: Write>(
+    alloc: Global,
+    archive: &mut Archive<K>,
+    at: u64,
+    out: &mut W,
+) -> Result<(), Stop<'a>> {
+    let report = archive.waiting(alloc, at)?;
+    print_report(&report, out)?;
+    Ok(())
+}
+
+/// Prints the lines of all runs.
+pub fn verdicts<'a, K: Keeper, W: Write>(
+    alloc: Global,
+    archive: &mut Archive<K>,
+    out: &mut W,
+) -> Result<(), Stop<'a>> {
+    let report = archive.verdicts(alloc)?;
+    print_report(&report, out)?;
+    Ok(())
+}
+
+/// Gives an archive another configuration at a moment, in seconds since 1970-01-01 00:00:00 UTC. It is refused where something that is
+/// shown would not be kept.
+pub fn configure<'a, K: Keeper>(
+    alloc: Global,
+    archive: &mut Archive<K>,
+    config: Config,
+    at: u64,
+) -> Result<(), Stop<'a>>
+    requires in_time { at ≤ latest }
+    ensures endures { Endures K.Keeper archive.old.keeper archive.new.keeper }
+    // Done, all that is shown was kept, and the archive goes on under the configuration.
+    ensures kept { K.is_clean archive.new.keeper → OnOk result (keeps_shown config (K.book archive.old.keeper) ≡ true) }
+    ensures book { K.is_clean archive.new.keeper → OnOk result (K.book archive.new.keeper ≡ configured config at (K.book archive.old.keeper)) }
+    // A refusal leaves the book as it was.
+    ensures err { OnErr result (IsUndone K.Keeper archive.old.keeper archive.new.keeper) }
+    // K5 comes only where something that is shown would not be kept.
+    ensures differs { K.is_clean archive.new.keeper → IfErr result (λ stop. stop ≡ NoArchive NotKept → keeps_shown config (K.book archive.old.keeper) ≡ false) }
+    // A crash leaves what it would have left before, or the configured book.
+    ensures crash { LeavesConfigured K.Keeper archive.old.keeper config at archive.new.keeper }
+{
+    match archive.configure(alloc, config, at) {
+        Ok(()) => Ok(()),
+        Err(fault) => Err(Stop::NoArchive(fault)),
+    }
+}
+
+/// Prints the text of the configuration, byte for byte.
+pub fn configuration<'a, K: Keeper, W: Write>(
+    archive: &Archive<K>,
+    out: &mut W,
+) -> Result<(), Stop<'a>>
+    ensures written { OnOk result (Appends (W.contents out.old) (W.contents out.new) (K.book archive.now.keeper).config.text) }
+{
+    out.write_all(archive.keeper.config().text())?;
+    Ok(())
+}

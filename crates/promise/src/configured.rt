@@ -1,0 +1,93 @@
+//! An archive that a database keeps, another configuration for it, and commands in order behind that.
+
+ghost use Rattle.std.specs.Prelude.{◌≡◌, ◌⊎◌, ◌≤◌, true, false, Option, IsTrue, IfOk, IfErr, IsErrAnd, OnOk, OnErr, map};
+ghost use Rattle.sqlite.specs.Held.{state};
+ghost use Rattle.sqlite.specs.State.{HasCleanDisk};
+ghost use Rattle.keep.specs.Book.{Book};
+ghost use Rattle.keep.specs.Configured.{configured, keeps_shown};
+ghost use Rattle.keep.specs.Keeping.{MayAnswer, MoreFaults};
+ghost use Rattle.keep.specs.declared.fault.KeepFault.TheVariants.{OutOfMemory, Tables as NoArchive, Configuration as NotKept};
+ghost use Rattle.tables.specs.Causes.{MayFail};
+ghost use Rattle.tables_meaning.specs.Archives.{KeepsBook, KeepsFinished};
+ghost use Rattle.tables_meaning.specs.Transactions.{IsUndone};
+ghost use Rattle.keep_tables.specs.Keepers.{config_in_use, connection_of, table_book};
+ghost use Rattle.keep_tables.specs.Opened.{HasUnfinished, IsNoArchive};
+ghost use Rattle.promise.specs.Lists.{GoOn};
+ghost use Rattle.queue.specs.Commands.{call_of, kind_of_command, kind_of_outcome, outcome_of};
+ghost use Rattle.queue.specs.Configuring.{IsLeftConfigured};
+ghost use Rattle.queue.specs.Steps.{IsServedLast};
+
+use crate::commands::make_commands;
+use keep::{KeepFault, Keeper, LATEST};
+use keep_tables::{InOrder, TableKeeper};
+use queue::{
+    Archive, Command, Outcome, a_stop_in_a_configuration_leaves_a_book,
+    a_stop_leaves_a_part_of_a_list,
+};
+use rules::Config;
+use sqlite::Connection;
+use std::alloc::{AllocError, Global};
+
+/// Opens the archive that a database keeps, gives it another configuration from a moment on, in seconds since 1970-01-01 00:00:00 UTC,
+/// and makes commands in order behind that. It gives the archive and the outcome of each command, or in the place of the outcomes an
+/// `Err` where memory is wanting for them, and then no command was made; or the fault for which the configuration was refused:
+/// `KeepFault::Configuration` where something that is shown would not be kept, or one of the keeper, and then the archive is as it was. A
+/// fault of `TableKeeper::open` gives the connection back, and what was committed is as before.
+pub fn drive_configured<S: InOrder + Drop>(
+    alloc: Global,
+    connection: Connection<S>,
+    config: Config,
+    moment: u64,
+    commands: &[Command],
+) -> Result<
+    (
+        Archive<TableKeeper<S>>,
+        Result<Result<Vec<Outcome>, AllocError>, KeepFault>,
+    ),
+    (Connection<S>, KeepFault),
+>
+    requires in_time { moment ≤ LATEST }
+    ensures kinds { IfOk result (λ r. IfOk r.1 (λ made. IfOk made (λ outcomes. map kind_of_outcome outcomes.items ≡ map kind_of_command commands.now))) }
+    // The database kept a book. The configuration is taken only where it keeps all that this book shows, and then the commands go on
+    // behind the configured book, also over a crash; where memory is wanting for the outcomes no command was made, and the connection is
+    // open. Where it is refused the book is as it was, and a crash leaves that book, or the configured one.
+    ensures once { IfOk result (λ r. HasCleanDisk (connection_of r.0.keeper) → (b : Book) × KeepsFinished (state S.Store connection).committed b.config b
+        × IfOk r.1 (λ made. (keeps_shown config b ≡ true)
+        × IfOk made (λ outcomes. GoOn (configured config moment b) (map call_of commands.now) (map outcome_of outcomes.items) r.0.keeper)
+        × OnErr made (IsTrue (connection_of r.0.keeper).is_open × (table_book r.0.keeper ≡ configured config moment b)))
+        × IfErr r.1 (λ fault. (fault ≡ NotKept → keeps_shown config b ≡ false)
+        × (IsTrue (connection_of r.0.keeper).is_open → table_book r.0.keeper ≡ b)
+        × ((left : Option Book) → ⟦<TableKeeper<S> as Keeper>⟧.may_leave r.0.keeper left → IsLeftConfigured config moment b left))) }
+    // A configuration is refused for what is shown, or for a fault of the keeper's own.
+    ensures cause { IfOk result (λ r. IfErr r.1 (λ fault. (fault ≡ NotKept) ⊎ MayAnswer true fault)) }
+    // Where the last is done the connection is open.
+    ensures served { IfOk result (λ r. IfOk r.1 (λ made. IfOk made (λ outcomes. IsServedLast ⟦<TableKeeper<S> as Keeper>⟧ r.0.keeper (map outcome_of outcomes.items)))) }
+    // Only a counted failure shuts the connection.
+    ensures open { IfOk result (λ r. HasCleanDisk (connection_of r.0.keeper) → IsTrue (connection_of r.0.keeper).is_open
+        ⊎ MoreFaults (state S.Store connection).faults (connection_of r.0.keeper).faults) }
+    ensures kept { IfOk result (λ r. HasCleanDisk (connection_of r.0.keeper) → IsTrue (connection_of r.0.keeper).is_open
+        → KeepsBook (connection_of r.0.keeper).committed (config_in_use r.0.keeper) (table_book r.0.keeper)) }
+    ensures given { IfOk result (λ r. HasCleanDisk (connection_of r.0.keeper) → OnOk r.1 (config_in_use r.0.keeper ≡ config)) }
+    // What an opening is refused for.
+    ensures refused { IfErr result (λ e. e.1 ≡ NoArchive → HasCleanDisk (state S.Store e.0) → (connection.in_transaction ≡ true) ⊎ IsNoArchive (state S.Store connection).now) }
+    ensures told { IfErr result (λ e. HasCleanDisk (state S.Store e.0) → (e.1 ≡ NoArchive) ⊎ ((e.1 ≡ OutOfMemory) ⊎ (MayFail (state S.Store connection) (state S.Store e.0) ⊎ HasUnfinished (state S.Store connection).now))) }
+    ensures busy { connection.in_transaction ≡ true → IsErrAnd result (λ e. (e.1 ≡ NoArchive) × (e.0 ≡ connection)) }
+    ensures undone { IfErr result (λ e. HasCleanDisk (state S.Store e.0) → IsUndone (state S.Store connection) (state S.Store e.0)) }
+{
+    // For the prover alone: what a stop in a list leaves, and one in a configuration.
+    a_stop_leaves_a_part_of_a_list::<TableKeeper<S>>();
+    a_stop_in_a_configuration_leaves_a_book::<TableKeeper<S>>();
+    match TableKeeper::open(alloc, connection) {
+        Ok(keeper) => {
+            let mut archive = Archive::new(alloc, keeper);
+            match archive.configure(alloc, config, moment) {
+                Ok(()) => {
+                    let (archive, outcomes) = make_commands(alloc, archive, commands);
+                    Ok((archive, Ok(outcomes)))
+                }
+                Err(fault) => Ok((archive, Err(fault))),
+            }
+        }
+        Err(refused) => Err(refused),
+    }
+}

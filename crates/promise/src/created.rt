@@ -1,0 +1,73 @@
+//! An archive that is made in a database, and commands in order.
+
+ghost use Rattle.std.specs.Prelude.{◌≡◌, ◌≢◌, ◌≤◌, ◌⊎◌, true, Option, IsTrue, IfOk, IfErr, IsErrAnd, OnErr, map};
+ghost use Rattle.sqlite.specs.Held.{state};
+ghost use Rattle.sqlite.specs.State.{HasCleanDisk};
+ghost use Rattle.keep.specs.Book.{Book};
+ghost use Rattle.keep.specs.Keeping.{MoreFaults, NoCollision};
+ghost use Rattle.keep.specs.Plain.{fresh_book};
+ghost use Rattle.keep.specs.declared.fault.KeepFault.TheVariants.{Tables as NotEmpty};
+ghost use Rattle.tables.specs.Schema.{no_schema};
+ghost use Rattle.tables_meaning.specs.Archives.{KeepsBook};
+ghost use Rattle.tables_meaning.specs.Transactions.{IsUndone};
+ghost use Rattle.keep_tables.specs.Keepers.{connection_of, table_book};
+ghost use Rattle.queue.specs.Answers.{IsRun};
+ghost use Rattle.queue.specs.Commands.{call_of, kind_of_command, kind_of_outcome, outcome_of};
+ghost use Rattle.queue.specs.Histories.{bodies_of, opened_with};
+ghost use Rattle.queue.specs.Steps.{IsLeftAlong, IsServedLast};
+
+use crate::commands::make_commands;
+use keep::{KeepFault, Keeper, LATEST};
+use keep_tables::TableKeeper;
+use queue::{Archive, Command, Outcome, a_stop_leaves_a_part_of_a_list};
+use rules::Config;
+use sqlite::{Alter, Connection};
+use std::alloc::{AllocError, Global};
+
+/// Makes an archive of this configuration in a database that has no table, no index and no view, at a moment in seconds since
+/// 1970-01-01 00:00:00 UTC, and then commands in order. It gives the archive and the outcome of each command, or in the place of
+/// the outcomes an `Err` where memory is wanting for them, and then no command was made. A fault is that of `TableKeeper::create`:
+/// it gives the connection back, and what was committed is as before.
+pub fn drive_created<S: Alter + Drop>(
+    alloc: Global,
+    connection: Connection<S>,
+    config: Config,
+    moment: u64,
+    commands: &[Command],
+) -> Result<(Archive<TableKeeper<S>>, Result<Vec<Outcome>, AllocError>), (Connection<S>, KeepFault)>
+    requires in_time { moment ≤ LATEST }
+    ensures kinds { IfOk result (λ r. IfOk r.1 (λ outcomes. map kind_of_outcome outcomes.items ≡ map kind_of_command commands.now)) }
+    // Where the disk returned what was written, and no two of the delivered bodies have one print, each outcome is the answer of
+    // the plain archive at its place, or want of memory or a failure of the disk; and while the connection is open its tables keep
+    // the book that these calls leave.
+    ensures once { IfOk result (λ r. HasCleanDisk (connection_of r.0.keeper) → IfOk r.1 (λ outcomes. NoCollision (bodies_of (map call_of commands.now))
+        → IsRun true (opened_with (fresh_book config moment)) (map call_of commands.now) (map outcome_of outcomes.items) (IsTrue (connection_of r.0.keeper).is_open) (table_book r.0.keeper))) }
+    // Only a counted failure shuts the connection.
+    ensures open { IfOk result (λ r. HasCleanDisk (connection_of r.0.keeper) → IsTrue (connection_of r.0.keeper).is_open
+        ⊎ MoreFaults (state S.Store connection).faults (connection_of r.0.keeper).faults) }
+    ensures kept { IfOk result (λ r. HasCleanDisk (connection_of r.0.keeper) → IsTrue (connection_of r.0.keeper).is_open
+        → KeepsBook (connection_of r.0.keeper).committed config (table_book r.0.keeper)) }
+    // Where memory is wanting for the outcomes no command was made.
+    ensures none { IfOk result (λ r. HasCleanDisk (connection_of r.0.keeper) → OnErr r.1 (table_book r.0.keeper ≡ fresh_book config moment)) }
+    // Where the last is done the connection is open.
+    ensures served { IfOk result (λ r. IfOk r.1 (λ outcomes. IsServedLast ⟦<TableKeeper<S> as Keeper>⟧ r.0.keeper (map outcome_of outcomes.items))) }
+    // A crash during the list or behind it leaves what the archive and the first of the commands leave, none, some or all of them; or that
+    // with the whole command that follows them besides.
+    ensures crash { IfOk result (λ r. HasCleanDisk (connection_of r.0.keeper) → IfOk r.1 (λ outcomes. NoCollision (bodies_of (map call_of commands.now))
+        → (left : Option Book) → ⟦<TableKeeper<S> as Keeper>⟧.may_leave r.0.keeper left
+        → IsLeftAlong (opened_with (fresh_book config moment)) (map call_of commands.now) (map outcome_of outcomes.items) left)) }
+    // What a making is refused for.
+    ensures taken { (connection.in_transaction ≡ true) ⊎ ((state S.Store connection).now.schema ≢ no_schema) → IsErrAnd result (λ e. (e.1 ≡ NotEmpty) × (e.0 ≡ connection)) }
+    ensures free { IfErr result (λ e. e.1 ≡ NotEmpty → (connection.in_transaction ≡ true) ⊎ ((state S.Store connection).now.schema ≢ no_schema)) }
+    ensures undone { IfErr result (λ e. HasCleanDisk (state S.Store e.0) → IsUndone (state S.Store connection) (state S.Store e.0)) }
+{
+    // For the prover alone: what a stop in a list leaves.
+    a_stop_leaves_a_part_of_a_list::<TableKeeper<S>>();
+    match TableKeeper::create(alloc, connection, config, moment) {
+        Ok(keeper) => {
+            let archive = Archive::new(alloc, keeper);
+            Ok(make_commands(alloc, archive, commands))
+        }
+        Err(refused) => Err(refused),
+    }
+}

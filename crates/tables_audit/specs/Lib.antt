@@ -1,0 +1,12 @@
+pub mod Arrivals
+pub mod Bodies
+pub mod Columns
+pub mod Files
+pub mod Items
+pub mod Lookups
+pub mod Parts
+pub mod Places
+pub mod Signs
+pub mod TextRows
+pub mod Uploads
+pub mod Whole

@@ -1,0 +1,68 @@
+//! Whether all that suites show is as its records tell it.
+
+mod binary;
+mod paths;
+mod source;
+
+ghost use Rattle.std.specs.Prelude.{◌≡◌, ◌↔◌, IfOk, IsTrue};
+ghost use Rattle.suites.specs.Told.{AreTold, IsTold, is_kept_by};
+ghost use Rattle.tables_audit.specs.Columns.{StandsTold};
+
+use crate::as_recorded::binary::is_binary;
+use crate::as_recorded::source::is_source;
+use rules::{Config, Suite};
+use std::alloc::{AllocError, Global};
+use suites::{Item, Kind, ShelfKey, Shelves};
+
+/// Whether an item is as its paragraph tells it.
+fn is_told(alloc: Global, item: &Item) -> Result<bool, AllocError>
+    ensures { IfOk result (λ told. IsTrue told ↔ IsTold item.now) }
+{
+    match item.kind {
+        Kind::Source => is_source(alloc, item),
+        Kind::Binary => is_binary(alloc, item),
+    }
+}
+
+/// Whether the suite of a shelf keeps the component and the architecture of an item.
+#[tactic(auto, unfolding(suites::specs::Told::is_kept_by))]
+fn is_kept(suites: &[Suite], key: &ShelfKey, item: &Item) -> bool
+    ensures { result ≡ is_kept_by suites.now (key.now, item.now) }
+{
+    let Some(suite) = suites.get(key.suite) else {
+        return false;
+    };
+    let keeps_component = suite.keeps_component(item.component.as_str());
+    let keeps_architecture = suite.keeps_architecture(item.architecture.as_str());
+    keeps_component && keeps_architecture
+}
+
+/// Whether an item is as its paragraph tells it, on a shelf of a suite that keeps it.
+fn stands_told(
+    alloc: Global,
+    suites: &[Suite],
+    key: &ShelfKey,
+    item: &Item,
+) -> Result<bool, AllocError>
+    ensures { IfOk result (λ told. IsTrue told ↔ StandsTold suites.now (key.now, item.now)) }
+{
+    if !is_kept(suites, key, item) {
+        return Ok(false);
+    }
+    is_told(alloc, item)
+}
+
+/// Whether each item that the suites of a configuration show is as its paragraph tells it: a source has the columns of the
+/// .dsc (Debian Policy 5.4) that its paragraph is, and for its files this and all that it lists; a package has the columns of
+/// its sidecar (5.3), and for its file the package file; and whether the suite where it stands keeps its component and its
+/// architecture.
+pub fn are_told(alloc: Global, config: &Config, shelves: &Shelves) -> Result<bool, AllocError>
+    ensures { IfOk result (λ told. IsTrue told ↔ AreTold config.now.suites shelves.now) }
+{
+    for (key, item) in shelves.items() {
+        if !stands_told(alloc, config.suites(), key, item)? {
+            return Ok(false);
+        }
+    }
+    Ok(true)
+}

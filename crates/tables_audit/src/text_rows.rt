@@ -1,0 +1,258 @@
+//! Whether the rows of `texts` are the texts of the suites.
+
+ghost use Rattle.std.specs.Prelude.{◌≡◌, ◌≢◌, ◌≤◌, ◌<◌, ◌↔◌, ◌∷◌, ◌++◌, List, All, None, length, map, codes, string_bytes, IsTrue, IfOk, IfSome, OnOk};
+ghost use Rattle.tables_meaning.specs.Founding.{from_root, suite_texts_at};
+ghost use Rattle.tables_audit.specs.TextRows.{text_in, texts_in};
+ghost use Rattle.tables.specs.Rows.{rows_of};
+ghost use Rattle.tables_read.specs.All.{tables_with};
+ghost use Rattle.texts.specs.Indices.{PathText, all_texts, suite_path};
+ghost use Rattle.texts.specs.Positions.{release_at};
+ghost use Rattle.texts.specs.Release.{index_of, listed_entry, listed_texts};
+
+use keep::LATEST;
+use para::{Listed, Text};
+use rules::{Config, Suite};
+use std::alloc::{AllocError, Global};
+use suites::Shelves;
+use sums::print_of;
+use tables::rows::IndexText;
+use tables_read::AllRows;
+use texts::{Index, index_path, listed_text, release};
+
+/// The index of a component and an architecture, of the suite at the position.
+fn listed_entry(
+    alloc: Global,
+    shelves: &Shelves,
+    position: usize,
+    component: &str,
+    architecture: &str,
+) -> Result<IndexText, AllocError>
+    ensures { IfOk result (λ x. text_in x ≡ listed_entry shelves.now position component.now architecture.now) }
+{
+    let path = index_path(alloc, component, architecture)?;
+    let body = listed_text(alloc, shelves, position, component, architecture)?;
+    Ok(IndexText {
+        path: Text::from_string(path),
+        body: Listed::from_vec(body),
+    })
+}
+
+/// Appends the indices of a component: each architecture in its order.
+fn push_component(
+    alloc: Global,
+    shelves: &Shelves,
+    position: usize,
+    component: &str,
+    architectures: &[Text],
+    entries: &mut Vec<IndexText>,
+) -> Result<(), AllocError>
+    ensures { OnOk result (map text_in entries.new.items
+        ≡ map text_in entries.old.items ++ map (listed_entry shelves.now position component.now) architectures.now) }
+{
+    for architecture in architectures {
+        let entry = listed_entry(alloc, shelves, position, component, architecture.as_str())?;
+        entries.push(entry)?;
+    }
+    Ok(())
+}
+
+/// The indices of the suite at the position, Release aside: each component in its order.
+fn listed_entries(
+    alloc: Global,
+    shelves: &Shelves,
+    position: usize,
+    suite: &Suite,
+) -> Result<Vec<IndexText>, AllocError>
+    ensures { IfOk result (λ entries. map text_in entries.items ≡ listed_texts suite.now shelves.now position) }
+{
+    let architectures = suite.architectures.as_slice();
+    let mut entries = Vec::new(alloc);
+    for component in suite.components.as_slice() {
+        push_component(
+            alloc,
+            shelves,
+            position,
+            component.as_str(),
+            architectures,
+            &mut entries,
+        )?;
+    }
+    Ok(entries)
+}
+
+/// What Release lists of an index.
+fn index_of(entry: &IndexText) -> Result<Index, AllocError>
+    ensures { IfOk result (λ index. index ≡ index_of (text_in entry.now)) }
+{
+    Ok(Index {
+        path: entry.path.try_clone()?,
+        print: print_of(entry.body.as_slice()),
+    })
+}
+
+/// What Release lists of indices.
+fn indices_of(alloc: Global, entries: &[IndexText]) -> Result<Vec<Index>, AllocError>
+    ensures { IfOk result (λ indices. indices.items ≡ map index_of (map text_in entries.now)) }
+{
+    let mut indices = Vec::new(alloc);
+    for entry in entries {
+        indices.push(index_of(entry)?)?;
+    }
+    Ok(indices)
+}
+
+/// The Release of the suite at the position, whose shown items last changed at the moment, over its other indices.
+fn release_over(
+    alloc: Global,
+    config: &Config,
+    position: usize,
+    moment: u64,
+    entries: &[IndexText],
+) -> Result<IndexText, AllocError>
+    requires suite { position < length config.now.suites }
+    requires moment { moment ≤ LATEST }
+    ensures { IfOk result (λ x. text_in x
+        ≡ (codes "Release", release_at config.now position moment (map index_of (map text_in entries.now)))) }
+{
+    let indices = indices_of(alloc, entries)?;
+    let mut text = Vec::new(alloc);
+    release(alloc, config, position, moment, &indices, &mut text)?;
+    Ok(IndexText {
+        path: Text::new(alloc, "Release")?,
+        body: Listed::from_vec(text),
+    })
+}
+
+/// The whole path of a text in the folder of the suite.
+fn path_in(alloc: Global, suite: &Suite, path: &str) -> Result<String, AllocError>
+    ensures { IfOk result (λ whole. string_bytes whole ≡ suite_path suite.now path.now) }
+{
+    let codename = suite.codename.as_str();
+    format!(in alloc; "dists/{codename}/{path}")
+}
+
+/// Whether a row has a text of the folder of the suite, at its whole path.
+fn is_row_of(
+    alloc: Global,
+    row: &IndexText,
+    suite: &Suite,
+    text: &IndexText,
+) -> Result<bool, AllocError>
+    ensures { IfOk result (λ b. IsTrue b ↔ (text_in row.now ≡ from_root suite.now (text_in text.now))) }
+{
+    if row.body.as_slice() != text.body.as_slice() {
+        return Ok(false);
+    }
+    let path = path_in(alloc, suite, text.path.as_str())?;
+    Ok(row.path.as_str() == path.as_str())
+}
+
+/// The rows behind the first, if that has a text of the folder of the suite.
+fn behind<'a>(
+    alloc: Global,
+    rows: &'a [(u64, IndexText)],
+    suite: &Suite,
+    text: &IndexText,
+) -> Result<Option<&'a [(u64, IndexText)]>, AllocError>
+    ensures some { IfOk result (λ o. IfSome o (λ rest.
+        texts_in rows.now ≡ from_root suite.now (text_in text.now) ∷ texts_in rest.now)) }
+    ensures none { IfOk result (λ o. o ≡ None
+        → (rest : List PathText) → texts_in rows.now ≢ from_root suite.now (text_in text.now) ∷ rest) }
+{
+    let Some((first, rest)) = rows.split_first() else {
+        return Ok(None);
+    };
+    if is_row_of(alloc, &first.1, suite, text)? {
+        return Ok(Some(rest));
+    }
+    Ok(None)
+}
+
+/// The rows behind the first ones, if those have these texts of the folder of the suite.
+fn behind_all<'a>(
+    alloc: Global,
+    rows: &'a [(u64, IndexText)],
+    suite: &Suite,
+    texts: &[IndexText],
+) -> Result<Option<&'a [(u64, IndexText)]>, AllocError>
+    ensures some { IfOk result (λ o. IfSome o (λ rest.
+        texts_in rows.now ≡ map (from_root suite.now) (map text_in texts.now) ++ texts_in rest.now)) }
+    ensures none { IfOk result (λ o. o ≡ None
+        → (rest : List PathText) → texts_in rows.now ≢ map (from_root suite.now) (map text_in texts.now) ++ rest) }
+{
+    let mut left = rows;
+    for text in texts {
+        let Some(rest) = behind(alloc, left, suite, text)? else {
+            return Ok(None);
+        };
+        left = rest;
+    }
+    Ok(Some(left))
+}
+
+/// The rows behind the first ones, if those have the texts of the suite at the position, whose shown items last changed
+/// at the moment: Release, and then the others. No text is made twice.
+fn behind_suite<'a>(
+    alloc: Global,
+    rows: &'a [(u64, IndexText)],
+    config: &Config,
+    shelves: &Shelves,
+    position: usize,
+    moment: u64,
+) -> Result<Option<&'a [(u64, IndexText)]>, AllocError>
+    requires suite { position < length config.now.suites }
+    requires moment { moment ≤ LATEST }
+    ensures some { IfOk result (λ o. IfSome o (λ rest.
+        texts_in rows.now ≡ suite_texts_at config.now shelves.now position moment ++ texts_in rest.now)) }
+    ensures none { IfOk result (λ o. o ≡ None
+        → (rest : List PathText) → texts_in rows.now ≢ suite_texts_at config.now shelves.now position moment ++ rest) }
+{
+    let suite = &config.suites()[position];
+    let entries = listed_entries(alloc, shelves, position, suite)?;
+    let release = release_over(alloc, config, position, moment, &entries)?;
+    let Some(rest) = behind(alloc, rows, suite, &release)? else {
+        return Ok(None);
+    };
+    behind_all(alloc, rest, suite, &entries)
+}
+
+/// Whether rows are the texts of the suites of a configuration, whose shown items last changed at these dates: suite by
+/// suite, in the order of their making.
+fn are_texts(
+    alloc: Global,
+    rows: &[(u64, IndexText)],
+    config: &Config,
+    shelves: &Shelves,
+    dates: &[u64],
+) -> Result<bool, AllocError>
+    requires dated { length dates.now ≡ length config.now.suites }
+    requires in_range { All (λ d. d ≤ LATEST) dates.now }
+    ensures { IfOk result (λ b. IsTrue b ↔ (texts_in rows.now ≡ all_texts config.now shelves.now dates.now)) }
+{
+    let mut left = rows;
+    for position in 0..dates.len() {
+        let moment = dates[position];
+        let Some(rest) = behind_suite(alloc, left, config, shelves, position, moment)? else {
+            return Ok(false);
+        };
+        left = rest;
+    }
+    Ok(left.is_empty())
+}
+
+/// Whether the rows of `texts` are the texts of the suites of a configuration, whose shown items last changed at these
+/// dates.
+pub fn are_texts_of(
+    alloc: Global,
+    all: &AllRows,
+    config: &Config,
+    shelves: &Shelves,
+    dates: &[u64],
+) -> Result<bool, AllocError>
+    requires dated { length dates.now ≡ length config.now.suites }
+    requires in_range { All (λ d. d ≤ LATEST) dates.now }
+    ensures { IfOk result (λ b. IsTrue b ↔ (map (λ x. (x.path, x.body)) (rows_of (tables_with all.now).texts)
+        ≡ all_texts config.now shelves.now dates.now)) }
+{
+    are_texts(alloc, all.texts.as_slice(), config, shelves, dates)
+}

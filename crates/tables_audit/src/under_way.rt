@@ -1,0 +1,76 @@
+//! The pieces of the bodies that are not whole.
+
+ghost use Rattle.std.specs.Prelude.{◌↔◌, ◌<◌, All, filter, IsTrue};
+ghost use Rattle.tables.specs.Pieces.{is_of};
+ghost use Rattle.tables.specs.Rows.{rows_of};
+ghost use Rattle.tables_read.specs.All.{tables_with};
+ghost use Rattle.tables_meaning.specs.Finished.{AreUnderWay};
+ghost use Rattle.tables_audit.specs.Bodies.{AreInPieces, IsBehind, IsInPieces};
+
+use crate::bodies::PIECE_SIZE;
+use crate::pieces::Pieces;
+use tables::rows::{Body, Piece};
+use tables_read::AllRows;
+
+/// Whether the piece may be the next one of a body, behind so many full ones.
+fn is_behind(piece: &Piece, count: u64) -> bool
+    requires { count < 18_446_744_073_709_551_615 }
+    ensures { IsTrue result ↔ IsBehind count piece.now }
+{
+    if piece.number != count + 1 {
+        return false;
+    }
+    let size = piece.bytes.as_slice().len() as u64;
+    size != 0 && size <= PIECE_SIZE
+}
+
+/// Whether the pieces of a body among these rows are those of its bytes: numbered from 1, each full but the last. They are read one
+/// by one and never joined.
+fn are_in_pieces(pieces: &[(u64, Piece)], id: u64) -> bool
+    ensures { IsTrue result ↔ AreInPieces id (filter (is_of id) (rows_of pieces.now)) }
+{
+    let mut count = 0;
+    let mut is_full = true;
+    for row in pieces {
+        if row.1.body == id {
+            if !is_full {
+                return false;
+            }
+            if !is_behind(&row.1, count) {
+                return false;
+            }
+            count += 1;
+            is_full = row.1.bytes.as_slice().len() as u64 == PIECE_SIZE;
+        }
+    }
+    true
+}
+
+/// Whether a body is whole, or its pieces are as those of a whole one.
+fn is_in_pieces(pieces: &Pieces<'_>, row: &(u64, Body)) -> bool
+    ensures { IsTrue result ↔ IsInPieces (tables_with pieces.now.all.now) row.now }
+{
+    if row.1.print.is_some() {
+        return true;
+    }
+    are_in_pieces(pieces.about(row.0), row.0)
+}
+
+/// Whether each of these bodies is whole, or its pieces are as those of a whole one.
+fn are_all_in_pieces(pieces: &Pieces<'_>, rows: &[(u64, Body)]) -> bool
+    ensures { IsTrue result ↔ All (IsInPieces (tables_with pieces.now.all.now)) rows.now }
+{
+    for row in rows {
+        if !is_in_pieces(pieces, row) {
+            return false;
+        }
+    }
+    true
+}
+
+/// Whether the pieces of each body that is not whole are as those of a whole one: numbered from 1, each full but the last.
+pub fn are_under_way(all: &AllRows) -> bool
+    ensures { IsTrue result ↔ AreUnderWay (tables_with all.now) }
+{
+    are_all_in_pieces(&Pieces::new(all), &all.bodies)
+}

@@ -1,0 +1,95 @@
+//! The .changes that arrived and wait for a verdict.
+
+ghost use Rattle.std.specs.Prelude.{◌≡◌, IfOk, map};
+ghost use Rattle.std.specs.List.{filter_map};
+ghost use Rattle.std.specs.Result.{result_ok};
+ghost use Rattle.keep.specs.Book.{is_changes_name};
+ghost use Rattle.records.specs.Records.{changes_in as record_in};
+ghost use Rattle.tables_audit.specs.Uploads.{awaited_view, changes_awaited, found_awaited, has_judgement, printed};
+
+use crate::bodies::bytes_of;
+use crate::pieces::Pieces;
+use crate::uploads::arrived::Arrived;
+use crate::uploads::lookups::Verdicts;
+use crate::uploads::signs::sign_of_arrived;
+use records::{Changes, RecordFault};
+use std::alloc::{AllocError, Global};
+use sums::Print;
+use tables::rows::Arrival;
+
+/// A .changes that waits for a verdict: its arrival, its print, and the record that it is.
+#[derive(Drop)]
+pub struct Awaited<'a> {
+    pub arrival: &'a Arrival,
+    pub print: Print,
+    pub changes: Changes,
+}
+
+/// The record that a text is, or nothing where it is none.
+fn changes_in(alloc: Global, text: &[u8]) -> Result<Option<Changes>, AllocError>
+    ensures { IfOk result (λ changes. changes ≡ result_ok (record_in text.now)) }
+{
+    match Changes::read(alloc, text) {
+        Ok(changes) => Ok(Some(changes)),
+        Err(RecordFault::OutOfMemory) => Err(AllocError),
+        Err(_) => Ok(None),
+    }
+}
+
+/// Whether this is the name of a .changes.
+fn is_changes(name: &str) -> bool
+    ensures { result ≡ is_changes_name name.now }
+{
+    name.as_bytes().ends_with(b".changes")
+}
+
+/// Whether what arrived has a verdict.
+fn is_judged(judged: &Verdicts<'_>, arrived: &Arrived<'_>) -> bool
+    ensures { result ≡ has_judgement judged.now.all.now (printed arrived.now) }
+{
+    let sign = sign_of_arrived(arrived);
+    judged.has(&sign)
+}
+
+/// The record that waits for a verdict, where what arrived is one.
+#[tactic(auto, unfolding(crate::specs::Uploads::changes_awaited, tables_meaning::specs::Kept::bytes_of))]
+fn awaited_changes(
+    alloc: Global,
+    pieces: &Pieces<'_>,
+    judged: &Verdicts<'_>,
+    arrived: &Arrived<'_>,
+) -> Result<Option<Changes>, AllocError>
+    ensures { IfOk result (λ changes. changes ≡ changes_awaited pieces.now.all.now.pieces.items judged.now.all.now (printed arrived.now)) }
+{
+    if !is_changes(arrived.arrival.name.as_str()) {
+        return Ok(None);
+    }
+    if is_judged(judged, arrived) {
+        return Ok(None);
+    }
+    let bytes = bytes_of(alloc, pieces, arrived.arrival.body)?;
+    changes_in(alloc, &bytes)
+}
+
+/// The .changes that wait for a verdict, in the order of their arrival.
+pub fn awaited_among<'a>(
+    alloc: Global,
+    pieces: &Pieces<'_>,
+    judged: &Verdicts<'_>,
+    arrived: &[Arrived<'a>],
+) -> Result<Vec<Awaited<'a>>, AllocError>
+    ensures { IfOk result (λ awaited. map awaited_view awaited.items
+        ≡ filter_map (found_awaited pieces.now.all.now.pieces.items judged.now.all.now) (map printed arrived.now)) }
+{
+    let mut awaited = Vec::new(alloc);
+    for one in arrived {
+        if let Some(changes) = awaited_changes(alloc, pieces, judged, one)? {
+            awaited.push(Awaited {
+                arrival: one.arrival,
+                print: one.print,
+                changes,
+            })?;
+        }
+    }
+    Ok(awaited)
+}

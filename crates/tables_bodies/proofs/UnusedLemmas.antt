@@ -1,0 +1,114 @@
+-- Which bodies nothing uses, and what is left without them.
+use Rattle.std.proofs.Common.{◌≡◌, ℕ, Bool, true, false, not, ◌&&◌, nat_eq, Result, Ok, Err, List, [], ◌∷◌, map, filter, fold, get_or, refl, sym, ap, ◌∙◌, ⊎_elim, arith}
+use Rattle.std.specs.Prelude.{is_ok}
+use Rattle.std.specs.List.{AllByRecursion, list_any}
+use Rattle.std.specs.List.Sorted.{IsBinarySearchResult, IsNonDecreasing, IsPermutation}
+use Rattle.std.specs.Ordering.{nat_cmp}
+use Rattle.std.proofs.lemmas.Bool.{and_right, cases_lt, eq-eqb, eqb-true, ne_eqb, or_left, or_right}
+use Rattle.std.proofs.lemmas.Bool.Decides.{nat_tests}
+use Rattle.std.proofs.lemmas.List.{get_or_default}
+use Rattle.std.proofs.lemmas.List.Folds.{list_any_at, list_any_none}
+use Rattle.std.proofs.lemmas.List.Sorted.{list_any-IsPermutation, searched}
+use Rattle.sqlite_keyed.proofs.ListLemmas.{all_weaker, filter-map}
+use Rattle.tables.specs.Pieces.{is_of}
+use Rattle.tables.specs.Rows.{Numbered, Tables, without}
+use Rattle.tables.specs.declared.rows.Body.{Body}
+use Rattle.tables.specs.declared.rows.Piece.{Piece}
+use Rattle.tables_bodies.specs.Unused.{unused_in}
+use Rattle.tables_bodies.proofs.RemovedLemmas.{removed_each, taken_out}
+use Rattle.tables_meaning.specs.Finished.{without_all}
+use Rattle.tables_meaning.specs.Kept.{is_used, used_in}
+use Rattle.tables_meaning.specs.Sweeping.{swept}
+use Rattle.tables_meaning.proofs.Searches.{any_same, filter_same_on, list_any-filter, list_any-map}
+
+-- ---- numbers in rising order
+
+-- a binary search finds a number exactly if it is among these
+pub found_among : (numbers : List ℕ) (id : ℕ) (r : Result ℕ ℕ) → IsNonDecreasing numbers → IsBinarySearchResult (λ y. nat_cmp y id) numbers r → is_ok r ≡ list_any (λ n. nat_eq n id) numbers
+found_among numbers id (Ok i) rise found =
+    let at = searched numbers id (Ok i) found (λ i j le within. rise i j 0 le within) in
+    sym (list_any_at (λ n. nat_eq n id) numbers i 0 at.0 (eq-eqb (get_or numbers i 0) id at.1))
+found_among numbers id (Err i) rise found =
+    let at = searched numbers id (Err i) found (λ i j le within. rise i j 0 le within) in
+    sym
+    (list_any_none (λ n. nat_eq n id) numbers
+    (λ k d within. ne_eqb (get_or numbers k d) id
+    (λ e.
+    let same = get_or_default numbers k d 0 within in
+    ⊎_elim (λ l. absurd (omega (arith, at.1 k l, e, same))) (λ l. absurd (omega (arith, at.2 k l within, e, same))) (cases_lt k i))))
+
+-- ---- bodies that nothing uses
+
+-- of all bodies, those whose numbers are not among the used ones
+pub unused_are : (t : Tables) (used : List ℕ) → IsPermutation (used_in t) used
+    → filter (λ id. not (list_any (λ n. nat_eq n id) used)) (map (λ x. x.0) t.bodies) ≡ unused_in t
+unfolding is_used
+unused_are t used same =
+    filter-map (λ id. not (list_any (λ n. nat_eq n id) used)) (λ (x : ℕ × Body). x.0) t.bodies
+    ∙ (λ i. map (λ (x : ℕ × Body). x.0) (filter (λ (x : ℕ × Body). not (sym (list_any-IsPermutation (λ n. nat_eq n x.0) (used_in t) used same) i)) t.bodies))
+
+itself : (a : ℕ) → nat_eq a a ≡ true
+itself a = grind (arith, nat_tests)
+
+and_true : (b : Bool) → (b && true) ≡ b
+and_true true = refl
+and_true false = refl
+
+-- a test of a number beside one that it is another
+at_number : (r : ℕ → Bool) (id n : ℕ) → (r n && nat_eq id n) ≡ (r id && nat_eq id n)
+at_number r id n = go (nat_eq id n) refl
+  where
+    go : (b : Bool) → nat_eq id n ≡ b → (r n && b) ≡ (r id && b)
+    go true e = ap (λ m. r m && true) (sym (eqb-true id n e))
+    go false e = and_right (r n) false refl ∙ sym (and_right (r id) false refl)
+
+factored : {X : Type 0} (c : Bool) (p : X → Bool) (xs : List X) → list_any (λ x. c && p x) xs ≡ (c && list_any p xs)
+factored true p xs = refl
+factored false p [] = refl
+factored false p (x ∷ xs) = factored false p xs
+
+-- each number is that of a body
+each_there : (xs : Numbered Body) → AllByRecursion (λ x. list_any (λ y. nat_eq x.0 y.0) xs ≡ true) xs
+each_there [] = tt
+each_there (x ∷ xs) = (
+  or_left (nat_eq x.0 x.0) (list_any (λ y. nat_eq x.0 y.0) xs) (itself x.0),
+  all_weaker (λ y. list_any (λ z. nat_eq y.0 z.0) xs ≡ true) (λ y. list_any (λ z. nat_eq y.0 z.0) (x ∷ xs) ≡ true)
+      (λ y h. or_right (nat_eq y.0 x.0) (list_any (λ z. nat_eq y.0 z.0) xs) h) xs (each_there xs),
+)
+
+-- a number is among those of the bodies that pass a test on it
+among_passing : (r : ℕ → Bool) (id : ℕ) (xs : Numbered Body) → list_any (λ n. nat_eq id n) (map (λ x. x.0) (filter (λ x. r x.0) xs)) ≡ (r id && list_any (λ x. nat_eq id x.0) xs)
+among_passing r id xs =
+    list_any-map (λ n. nat_eq id n) (λ (x : ℕ × Body). x.0) (filter (λ x. r x.0) xs)
+    ∙ list_any-filter (λ x. nat_eq id x.0) (λ x. r x.0) xs
+    ∙ any_same (λ x. r x.0 && nat_eq id x.0) (λ x. r id && nat_eq id x.0) (λ x. at_number r id x.0) xs
+    ∙ factored (r id) (λ x. nat_eq id x.0) xs
+
+module _ (t : Tables) where
+  abbrev unused : ℕ → Bool
+  unused id = not (is_used t id)
+
+  named : AllByRecursion (λ x. not (list_any (λ n. nat_eq x.0 n) (unused_in t)) ≡ not (unused x.0)) t.bodies
+  named =
+      all_weaker (λ x. list_any (λ y. nat_eq x.0 y.0) t.bodies ≡ true) (λ x. not (list_any (λ n. nat_eq x.0 n) (unused_in t)) ≡ not (unused x.0))
+      (λ x there. ap not (among_passing unused x.0 t.bodies ∙ ap (λ b. unused x.0 && b) there ∙ and_true (unused x.0))) t.bodies (each_there t.bodies)
+
+  bodies_left : fold (λ rest n. without (λ x. nat_eq x.0 n) rest) t.bodies (unused_in t) ≡ without (λ x. unused x.0) t.bodies
+  bodies_left =
+      taken_out (λ n (x : ℕ × Body). nat_eq x.0 n) (unused_in t) t.bodies
+      ∙ filter_same_on (λ x. not (list_any (λ n. nat_eq x.0 n) (unused_in t))) (λ x. not (unused x.0)) t.bodies named
+
+  owned : (p : Piece) → list_any (λ n. is_of n p) (unused_in t) ≡ list_any (λ x. unused x.0 && is_of x.0 p) t.bodies
+  owned p =
+      list_any-map (λ n. is_of n p) (λ (x : ℕ × Body). x.0) (filter (λ x. unused x.0) t.bodies)
+      ∙ list_any-filter (λ x. is_of x.0 p) (λ x. unused x.0) t.bodies
+
+  pieces_left : fold (λ rest n. without (λ x. is_of n x.1) rest) t.pieces (unused_in t) ≡ without (λ p. list_any (λ x. unused x.0 && is_of x.0 p.1) t.bodies) t.pieces
+  pieces_left =
+      taken_out (λ n (x : ℕ × Piece). is_of n x.1) (unused_in t) t.pieces
+      ∙ (λ i. without (λ (p : ℕ × Piece). owned p.1 i) t.pieces)
+
+  -- one after another they go as at once
+  pub swept_by_number : without_all (unused_in t) t ≡ swept t
+  unfolding swept
+  swept_by_number = removed_each (unused_in t) t ∙ (λ i. record t { bodies = bodies_left i; pieces = pieces_left i })

@@ -1,0 +1,16 @@
+use Rattle.std.proofs.Common.{arith}
+use Rattle.sqlite.specs.State.{HasCleanDisk}
+use Rattle.sqlite.specs.Held.{state}
+use Rattle.tables.proofs.TransactionLemmas.{on_ok}
+use Rattle.tables_meaning.proofs.AmendLemmas.{makes_if_changed, makes_then}
+use Rattle.tables_bodies.proofs.cleaning.remove_arrival.Goals as goal
+
+pub returns-clause-ok : goal.returns-clause-ok
+returns-clause-ok g c clean inside =
+    let a = state g.S.Store c.args.tx.now.conn.now in
+    let b = state g.S.Store c.delete_arrival.new.tx.conn.now in
+    let d = state g.S.Store c.forget_name.new.tx.conn.now in
+    let early : HasCleanDisk b = omega (arith, c.forget_name.ensures.survives.clean, clean) in
+    let first = c.in_ok-delete_arrival.ensures.ok early inside in
+    let next = rw c.as_str.ensures at (c.forget_name.ensures.ok clean first.shown.mode) in
+    on_ok _ next (λ second. makes_then a b d _ _ (makes_if_changed a b _ first) second)

@@ -1,0 +1,265 @@
+//! Takes away what does not count at a moment: arrivals, what came of them, and then the bodies that nothing uses.
+
+ghost use Rattle.std.specs.Prelude.{◌≡◌, false, filter, fold, if◌then◌else◌, length, not, IsTrue, IfOk, OnOk, OnErr};
+ghost use Rattle.sqlite.specs.State.{HasCleanDisk, IsUnchanged, KeepsCommit, Survives};
+ghost use Rattle.sqlite.specs.Held.{state};
+ghost use Rattle.tables.specs.Arrivals.{without_arrival};
+ghost use Rattle.tables.specs.Inside.{GoesOn};
+ghost use Rattle.tables.specs.Rows.{Tables, Holds, Changes};
+ghost use Rattle.tables.specs.Uploads.{is_judged, without_upload};
+ghost use Rattle.tables.specs.Wants.{with_away, without_wants};
+ghost use Rattle.tables_meaning.specs.Amending.{Makes};
+ghost use Rattle.tables_meaning.specs.Cleaning.{counts_row, ended_rows, with_cleaned, with_gone, without_request};
+ghost use Rattle.tables_meaning.specs.Kept.{print_at};
+ghost use Rattle.tables_meaning.specs.Transactions.{IsDone, IsUndone, MayCommit};
+
+use crate::sweeping::sweep;
+use sqlite::{Alter, Connection, Error, Transaction};
+use std::alloc::Global;
+use sums::Print;
+use tables::arrivals::{all_arrivals_inside, delete_arrival};
+use tables::bodies::body_numbered_inside;
+use tables::rows::{Arrival, Upload};
+use tables::uploads::{delete_upload, upload_of};
+use tables::wants::{delete_wants, mark_away};
+
+/// Whether an arrival counts at a moment, where what arrives counts for so many seconds, or for good.
+#[tactic(auto, unfolding(tables_meaning::specs::Cleaning::counts_row))]
+pub fn counts(span: Option<u64>, moment: u64, arrival: &Arrival) -> bool
+    ensures { result ≡ counts_row span moment arrival.now }
+{
+    let Some(span) = span else {
+        return true;
+    };
+    match moment.checked_sub(arrival.moment) {
+        Some(age) => age < span,
+        None => true,
+    }
+}
+
+/// Keeps of the arrivals those that do not count.
+fn retain_ended(arrivals: &mut Vec<(u64, Arrival)>, span: Option<u64>, moment: u64)
+    ensures { arrivals.new.items ≡ filter (λ x. not (counts_row span moment x.1)) arrivals.old.items }
+{
+    arrivals.retain(|row| !counts(span, moment, &row.1));
+}
+
+/// The arrivals that do not count, with their numbers.
+fn ended_arrivals<S: Alter>(
+    alloc: Global,
+    tx: &mut Transaction<'_, S>,
+    span: Option<u64>,
+    moment: u64,
+) -> Result<Vec<(u64, Arrival)>, Error>
+    ensures same_reference { tx.new.conn.ghost_name ≡ tx.old.conn.ghost_name }
+    ensures ok { HasCleanDisk (state S.Store tx.new.conn.now) → (t : Tables) → Holds (state S.Store tx.old.conn.now).now t
+        → IfOk result (λ ended. (ended.items ≡ ended_rows span moment t) × IsUnchanged (state S.Store tx.old.conn.now) (state S.Store tx.new.conn.now)) }
+    ensures goes_on { HasCleanDisk (state S.Store tx.new.conn.now) → IsTrue (state S.Store tx.old.conn.now).in_transaction
+        → OnOk result (GoesOn (state S.Store tx.old.conn.now) (state S.Store tx.new.conn.now)) }
+    ensures kept { HasCleanDisk (state S.Store tx.new.conn.now) → IsTrue (state S.Store tx.old.conn.now).in_transaction
+        → OnErr result (KeepsCommit (state S.Store tx.old.conn.now) (state S.Store tx.new.conn.now)) }
+    ensures survives { Survives (state S.Store tx.old.conn.now) (state S.Store tx.new.conn.now) (λ _. ⊥) }
+{
+    let mut arrivals = all_arrivals_inside(alloc, tx)?;
+    retain_ended(&mut arrivals, span, moment);
+    Ok(arrivals)
+}
+
+/// The print of a body, where it has one.
+fn print_of_body<S: Alter>(
+    alloc: Global,
+    tx: &mut Transaction<'_, S>,
+    id: u64,
+) -> Result<Option<Print>, Error>
+    ensures same_reference { tx.new.conn.ghost_name ≡ tx.old.conn.ghost_name }
+    ensures ok { HasCleanDisk (state S.Store tx.new.conn.now) → (t : Tables) → Holds (state S.Store tx.old.conn.now).now t
+        → IfOk result (λ print. (print ≡ print_at t id) × IsUnchanged (state S.Store tx.old.conn.now) (state S.Store tx.new.conn.now)) }
+    ensures goes_on { HasCleanDisk (state S.Store tx.new.conn.now) → IsTrue (state S.Store tx.old.conn.now).in_transaction
+        → OnOk result (GoesOn (state S.Store tx.old.conn.now) (state S.Store tx.new.conn.now)) }
+    ensures kept { HasCleanDisk (state S.Store tx.new.conn.now) → IsTrue (state S.Store tx.old.conn.now).in_transaction
+        → OnErr result (KeepsCommit (state S.Store tx.old.conn.now) (state S.Store tx.new.conn.now)) }
+    ensures survives { Survives (state S.Store tx.old.conn.now) (state S.Store tx.new.conn.now) (λ _. ⊥) }
+{
+    let found = body_numbered_inside(alloc, tx, id)?;
+    match found {
+        Some(body) => Ok(body.1.print),
+        None => Ok(None),
+    }
+}
+
+/// Removes an upload with its entries.
+fn remove_upload<S: Alter>(tx: &mut Transaction<'_, S>, id: u64) -> Result<(), Error>
+    ensures same_reference { tx.new.conn.ghost_name ≡ tx.old.conn.ghost_name }
+    ensures ok { HasCleanDisk (state S.Store tx.new.conn.now) → IsTrue (state S.Store tx.old.conn.now).in_transaction
+        → OnOk result (Makes (state S.Store tx.old.conn.now) (state S.Store tx.new.conn.now) (λ t. without_upload id (without_wants id t))) }
+    ensures err { HasCleanDisk (state S.Store tx.new.conn.now) → IsTrue (state S.Store tx.old.conn.now).in_transaction
+        → OnErr result (KeepsCommit (state S.Store tx.old.conn.now) (state S.Store tx.new.conn.now)) }
+    ensures survives { Survives (state S.Store tx.old.conn.now) (state S.Store tx.new.conn.now) (λ _. ⊥) }
+{
+    delete_wants(tx, id)?;
+    delete_upload(tx, id)
+}
+
+/// Removes an upload with its entries, unless it is judged.
+fn remove_unjudged<S: Alter>(
+    tx: &mut Transaction<'_, S>,
+    upload: &(u64, Upload),
+) -> Result<(), Error>
+    ensures same_reference { tx.new.conn.ghost_name ≡ tx.old.conn.ghost_name }
+    ensures ok { HasCleanDisk (state S.Store tx.new.conn.now) → IsTrue (state S.Store tx.old.conn.now).in_transaction
+        → OnOk result (Makes (state S.Store tx.old.conn.now) (state S.Store tx.new.conn.now) (λ t. if is_judged upload.now.1 then t else without_upload upload.now.0 (without_wants upload.now.0 t))) }
+    ensures err { HasCleanDisk (state S.Store tx.new.conn.now) → IsTrue (state S.Store tx.old.conn.now).in_transaction
+        → OnErr result (KeepsCommit (state S.Store tx.old.conn.now) (state S.Store tx.new.conn.now)) }
+    ensures survives { Survives (state S.Store tx.old.conn.now) (state S.Store tx.new.conn.now) (λ _. ⊥) }
+{
+    if upload.1.place.is_some() {
+        return Ok(());
+    }
+    remove_upload(tx, upload.0)
+}
+
+/// Removes the upload of this name and print with its entries, unless it is judged: a judged one stays for good.
+fn remove_request<S: Alter>(
+    alloc: Global,
+    tx: &mut Transaction<'_, S>,
+    name: &str,
+    print: &Print,
+) -> Result<(), Error>
+    ensures same_reference { tx.new.conn.ghost_name ≡ tx.old.conn.ghost_name }
+    ensures ok { HasCleanDisk (state S.Store tx.new.conn.now) → IsTrue (state S.Store tx.old.conn.now).in_transaction
+        → OnOk result (Makes (state S.Store tx.old.conn.now) (state S.Store tx.new.conn.now) (without_request name.now print.now)) }
+    ensures err { HasCleanDisk (state S.Store tx.new.conn.now) → IsTrue (state S.Store tx.old.conn.now).in_transaction
+        → OnErr result (KeepsCommit (state S.Store tx.old.conn.now) (state S.Store tx.new.conn.now)) }
+    ensures survives { Survives (state S.Store tx.old.conn.now) (state S.Store tx.new.conn.now) (λ _. ⊥) }
+{
+    let found = upload_of(alloc, tx, name, print)?;
+    match found {
+        Some(upload) => remove_unjudged(tx, &upload),
+        None => Ok(()),
+    }
+}
+
+/// No body of this name and print is there any more: those that want it wait for it again, and an upload that it was goes.
+fn forget_name<S: Alter>(
+    alloc: Global,
+    tx: &mut Transaction<'_, S>,
+    name: &str,
+    print: &Print,
+) -> Result<(), Error>
+    ensures same_reference { tx.new.conn.ghost_name ≡ tx.old.conn.ghost_name }
+    ensures ok { HasCleanDisk (state S.Store tx.new.conn.now) → IsTrue (state S.Store tx.old.conn.now).in_transaction
+        → OnOk result (Makes (state S.Store tx.old.conn.now) (state S.Store tx.new.conn.now) (λ t. without_request name.now print.now (with_away name.now print.now t))) }
+    ensures err { HasCleanDisk (state S.Store tx.new.conn.now) → IsTrue (state S.Store tx.old.conn.now).in_transaction
+        → OnErr result (KeepsCommit (state S.Store tx.old.conn.now) (state S.Store tx.new.conn.now)) }
+    ensures survives { Survives (state S.Store tx.old.conn.now) (state S.Store tx.new.conn.now) (λ _. ⊥) }
+{
+    mark_away(tx, name, print)?;
+    remove_request(alloc, tx, name, print)
+}
+
+/// Removes an arrival, whose body has this print, with what came of it.
+fn remove_arrival<S: Alter>(
+    alloc: Global,
+    tx: &mut Transaction<'_, S>,
+    arrival: &(u64, Arrival),
+    print: &Print,
+) -> Result<(), Error>
+    ensures same_reference { tx.new.conn.ghost_name ≡ tx.old.conn.ghost_name }
+    ensures ok { HasCleanDisk (state S.Store tx.new.conn.now) → IsTrue (state S.Store tx.old.conn.now).in_transaction
+        → OnOk result (Makes (state S.Store tx.old.conn.now) (state S.Store tx.new.conn.now) (λ t. without_request arrival.now.1.name print.now (with_away arrival.now.1.name print.now (without_arrival arrival.now.0 t)))) }
+    ensures err { HasCleanDisk (state S.Store tx.new.conn.now) → IsTrue (state S.Store tx.old.conn.now).in_transaction
+        → OnErr result (KeepsCommit (state S.Store tx.old.conn.now) (state S.Store tx.new.conn.now)) }
+    ensures survives { Survives (state S.Store tx.old.conn.now) (state S.Store tx.new.conn.now) (λ _. ⊥) }
+{
+    delete_arrival(tx, arrival.0)?;
+    forget_name(alloc, tx, arrival.1.name.as_str(), print)
+}
+
+/// Takes an arrival away with what came of it. One whose body has no print, which cannot be in an archive, stays.
+fn take_away<S: Alter>(
+    alloc: Global,
+    tx: &mut Transaction<'_, S>,
+    arrival: &(u64, Arrival),
+) -> Result<(), Error>
+    ensures same_reference { tx.new.conn.ghost_name ≡ tx.old.conn.ghost_name }
+    ensures ok { HasCleanDisk (state S.Store tx.new.conn.now) → IsTrue (state S.Store tx.old.conn.now).in_transaction
+        → OnOk result (Makes (state S.Store tx.old.conn.now) (state S.Store tx.new.conn.now) (with_gone arrival.now)) }
+    ensures err { HasCleanDisk (state S.Store tx.new.conn.now) → IsTrue (state S.Store tx.old.conn.now).in_transaction
+        → OnErr result (KeepsCommit (state S.Store tx.old.conn.now) (state S.Store tx.new.conn.now)) }
+    ensures survives { Survives (state S.Store tx.old.conn.now) (state S.Store tx.new.conn.now) (λ _. ⊥) }
+{
+    let print = print_of_body(alloc, tx, arrival.1.body)?;
+    match print {
+        Some(print) => remove_arrival(alloc, tx, arrival, &print),
+        None => Ok(()),
+    }
+}
+
+/// Takes these arrivals away with what came of them.
+fn take_all_away<S: Alter>(
+    alloc: Global,
+    tx: &mut Transaction<'_, S>,
+    arrivals: &[(u64, Arrival)],
+) -> Result<(), Error>
+    ensures same_reference { tx.new.conn.ghost_name ≡ tx.old.conn.ghost_name }
+    ensures ok { HasCleanDisk (state S.Store tx.new.conn.now) → IsTrue (state S.Store tx.old.conn.now).in_transaction
+        → OnOk result (Makes (state S.Store tx.old.conn.now) (state S.Store tx.new.conn.now) (λ t. fold (λ now x. with_gone x now) t arrivals.now)) }
+    ensures err { HasCleanDisk (state S.Store tx.new.conn.now) → IsTrue (state S.Store tx.old.conn.now).in_transaction
+        → OnErr result (KeepsCommit (state S.Store tx.old.conn.now) (state S.Store tx.new.conn.now)) }
+    ensures survives { Survives (state S.Store tx.old.conn.now) (state S.Store tx.new.conn.now) (λ _. ⊥) }
+{
+    for arrival in arrivals {
+        take_away(alloc, tx, arrival)?;
+    }
+    Ok(())
+}
+
+/// How many arrivals these are.
+fn count_of(arrivals: &[(u64, Arrival)]) -> u64
+    ensures { result ≡ length arrivals.now }
+{
+    arrivals.len() as u64
+}
+
+/// Takes away what does not count at the moment, inside a transaction. Answers how many arrivals that were.
+fn clean_inside<S: Alter>(
+    alloc: Global,
+    tx: &mut Transaction<'_, S>,
+    span: Option<u64>,
+    moment: u64,
+) -> Result<u64, Error>
+    ensures same_reference { tx.new.conn.ghost_name ≡ tx.old.conn.ghost_name }
+    ensures ok { HasCleanDisk (state S.Store tx.new.conn.now) → IsTrue (state S.Store tx.old.conn.now).in_transaction
+        → IfOk result (λ count. Changes (state S.Store tx.old.conn.now) (state S.Store tx.new.conn.now) (with_cleaned span moment)
+        × ((t : Tables) → Holds (state S.Store tx.old.conn.now).now t → count ≡ length (ended_rows span moment t))) }
+    ensures err { HasCleanDisk (state S.Store tx.new.conn.now) → IsTrue (state S.Store tx.old.conn.now).in_transaction
+        → OnErr result (KeepsCommit (state S.Store tx.old.conn.now) (state S.Store tx.new.conn.now)) }
+    ensures survives { Survives (state S.Store tx.old.conn.now) (state S.Store tx.new.conn.now) (λ _. ⊥) }
+{
+    let ended = ended_arrivals(alloc, tx, span, moment)?;
+    take_all_away(alloc, tx, &ended)?;
+    sweep(alloc, tx)?;
+    Ok(count_of(&ended))
+}
+
+/// Takes away what does not count at the moment, where what arrives counts for so many seconds, or for good: the arrivals, the
+/// uploads without a verdict that were such, and the bodies that nothing uses then. That is done whole or not at all, also over
+/// a crash. Answers how many arrivals that were.
+pub fn clean<S: Alter>(
+    alloc: Global,
+    conn: &mut Connection<S>,
+    span: Option<u64>,
+    moment: u64,
+) -> Result<u64, Error>
+    requires idle { conn.old.in_transaction ≡ false }
+    ensures idle { conn.new.in_transaction ≡ false }
+    ensures done { HasCleanDisk (state S.Store conn.new) → OnOk result (IsDone (state S.Store conn.old) (state S.Store conn.new) (with_cleaned span moment)) }
+    ensures count { HasCleanDisk (state S.Store conn.new) → IfOk result (λ count. (t : Tables) → Holds (state S.Store conn.old).now t → count ≡ length (ended_rows span moment t)) }
+    ensures undone { HasCleanDisk (state S.Store conn.new) → OnErr result (IsUndone (state S.Store conn.old) (state S.Store conn.new)) }
+    ensures crash { Survives (state S.Store conn.old) (state S.Store conn.new) (MayCommit (state S.Store conn.old) (with_cleaned span moment)) }
+{
+    let mut tx = conn.transaction();
+    let count = clean_inside(alloc, &mut tx, span, moment)?;
+    tx.commit()?;
+    Ok(count)
+}

@@ -1,0 +1,82 @@
+//! A body that comes, piece by piece.
+
+ghost use Rattle.std.specs.Prelude.{◌≡◌, None, false, unwrap_or, IsTrue, IfOk, OnOk, OnErr};
+ghost use Rattle.sqlite.specs.State.{HasCleanDisk, KeepsCommit, Survives};
+ghost use Rattle.sqlite.specs.Held.{state};
+ghost use Rattle.tables.specs.Rows.{Tables, Holds, Changes, next_in};
+ghost use Rattle.tables_meaning.specs.Coming.{with_next_piece};
+ghost use Rattle.tables_meaning.specs.Transactions.{IsDone, IsUndone, MayCommit};
+
+use sqlite::{Alter, Connection, Error, Transaction};
+use sums::Printer;
+use tables::bodies::insert_begun;
+use tables::pieces::insert_piece;
+
+/// A body that was begun: its number once a piece is there, how many pieces it has, their print so far, and whether it is still
+/// coming. One that is not goes at the next begin.
+#[derive(Drop)]
+pub struct Begun {
+    pub body: Option<u64>,
+    pub pieces: u64,
+    pub printer: Printer,
+    pub is_coming: bool,
+}
+
+/// Adds a body that is not whole, with this piece of it, and answers its number.
+fn add_first<S: Alter>(tx: &mut Transaction<'_, S>, number: u64, bytes: &[u8]) -> Result<u64, Error>
+    ensures same_reference { tx.new.conn.ghost_name ≡ tx.old.conn.ghost_name }
+    ensures ok { HasCleanDisk (state S.Store tx.new.conn.now) → IsTrue (state S.Store tx.old.conn.now).in_transaction
+        → IfOk result (λ id. Changes (state S.Store tx.old.conn.now) (state S.Store tx.new.conn.now) (with_next_piece None number bytes.now)
+        × ((t : Tables) → Holds (state S.Store tx.old.conn.now).now t → id ≡ next_in t.bodies)) }
+    ensures err { HasCleanDisk (state S.Store tx.new.conn.now) → IsTrue (state S.Store tx.old.conn.now).in_transaction
+        → OnErr result (KeepsCommit (state S.Store tx.old.conn.now) (state S.Store tx.new.conn.now)) }
+    ensures survives { Survives (state S.Store tx.old.conn.now) (state S.Store tx.new.conn.now) (λ _. ⊥) }
+{
+    let id = insert_begun(tx)?;
+    insert_piece(tx, id, number, bytes)?;
+    Ok(id)
+}
+
+/// Adds the next piece of a body, under this number; with the first one comes its row. Answers the number of the body.
+fn add_piece<S: Alter>(
+    tx: &mut Transaction<'_, S>,
+    body: Option<u64>,
+    number: u64,
+    bytes: &[u8],
+) -> Result<u64, Error>
+    ensures same_reference { tx.new.conn.ghost_name ≡ tx.old.conn.ghost_name }
+    ensures ok { HasCleanDisk (state S.Store tx.new.conn.now) → IsTrue (state S.Store tx.old.conn.now).in_transaction
+        → IfOk result (λ id. Changes (state S.Store tx.old.conn.now) (state S.Store tx.new.conn.now) (with_next_piece body number bytes.now)
+        × ((t : Tables) → Holds (state S.Store tx.old.conn.now).now t → id ≡ unwrap_or body (next_in t.bodies))) }
+    ensures err { HasCleanDisk (state S.Store tx.new.conn.now) → IsTrue (state S.Store tx.old.conn.now).in_transaction
+        → OnErr result (KeepsCommit (state S.Store tx.old.conn.now) (state S.Store tx.new.conn.now)) }
+    ensures survives { Survives (state S.Store tx.old.conn.now) (state S.Store tx.new.conn.now) (λ _. ⊥) }
+{
+    match body {
+        Some(id) => {
+            insert_piece(tx, id, number, bytes)?;
+            Ok(id)
+        }
+        None => add_first(tx, number, bytes),
+    }
+}
+
+/// Stores the next piece of a body, under this number, in one transaction. Answers the number of the body.
+pub fn store_piece<S: Alter>(
+    conn: &mut Connection<S>,
+    body: Option<u64>,
+    number: u64,
+    bytes: &[u8],
+) -> Result<u64, Error>
+    requires idle { conn.old.in_transaction ≡ false }
+    ensures idle { conn.new.in_transaction ≡ false }
+    ensures done { HasCleanDisk (state S.Store conn.new) → OnOk result (IsDone (state S.Store conn.old) (state S.Store conn.new) (with_next_piece body number bytes.now)) }
+    ensures answer { HasCleanDisk (state S.Store conn.new) → IfOk result (λ id. (t : Tables) → Holds (state S.Store conn.old).now t → id ≡ unwrap_or body (next_in t.bodies)) }
+    ensures undone { HasCleanDisk (state S.Store conn.new) → OnErr result (IsUndone (state S.Store conn.old) (state S.Store conn.new)) }
+    ensures crash { Survives (state S.Store conn.old) (state S.Store conn.new) (MayCommit (state S.Store conn.old) (with_next_piece body number bytes.now)) }
+{
+    let mut tx = conn.transaction();
+    let id = add_piece(&mut tx, body, number, bytes)?;
+    tx.commit()?;
+    Ok(id)
+}

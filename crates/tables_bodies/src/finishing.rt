@@ -1,0 +1,105 @@
+//! A file of which the whole body came: it arrives under its name.
+
+ghost use Rattle.std.specs.Prelude.{◌≡◌, ◌<◌, false, not, option_map, IsTrue, IfOk, OnOk, OnErr};
+ghost use Rattle.sqlite.specs.State.{HasCleanDisk, KeepsCommit, Survives};
+ghost use Rattle.sqlite.specs.Held.{state};
+ghost use Rattle.tables.specs.Rows.{Tables, Holds, Changes};
+ghost use Rattle.tables_bodies.specs.Counting.{arrival_counts};
+ghost use Rattle.tables_meaning.specs.Coming.{IsNoOther, ended_number, with_ended, with_finished, with_received};
+ghost use Rattle.tables_meaning.specs.Transactions.{IsDone, IsUndone, MayCommit};
+
+use crate::arriving::{Arriving, receive};
+use crate::listing::{entries_of, record_inside};
+use crate::other::refuse_other;
+use crate::whole::store_whole;
+use sqlite::{Alter, Connection, Error, Transaction};
+use std::alloc::Global;
+use sums::{Entry, Print};
+
+/// A file of which the whole body came: its name, the number of its body, none where it has no byte, and of how many pieces that
+/// is, its print, for how many seconds what arrives counts, none where it does so for good, and the moment.
+#[derive(Clone, Copy)]
+pub struct Finished<'a> {
+    pub name: &'a str,
+    pub body: Option<u64>,
+    pub pieces: u64,
+    pub print: Print,
+    pub span: Option<u64>,
+    pub moment: u64,
+}
+
+/// Makes the body of a file whole, and stores the arrival and what the file lists. Answers whether the arrival is new at the
+/// moment.
+fn end_body<S: Alter>(
+    alloc: Global,
+    tx: &mut Transaction<'_, S>,
+    finished: &Finished<'_>,
+    listed: Option<&[Entry]>,
+) -> Result<bool, Error>
+    ensures same_reference { tx.new.conn.ghost_name ≡ tx.old.conn.ghost_name }
+    ensures ok { HasCleanDisk (state S.Store tx.new.conn.now) → IsTrue (state S.Store tx.old.conn.now).in_transaction
+        → IfOk result (λ new. Changes (state S.Store tx.old.conn.now) (state S.Store tx.new.conn.now)
+        (λ t. with_received finished.now.name.now (ended_number finished.now.body finished.now.print t) finished.now.print finished.now.moment
+        (option_map (λ entries. entries.now) listed.entry) (with_ended finished.now.body finished.now.print t))
+        × ((t : Tables) → Holds (state S.Store tx.old.conn.now).now t
+        → new ≡ not (arrival_counts finished.now.span finished.now.moment finished.now.name.now (ended_number finished.now.body finished.now.print t) (with_ended finished.now.body finished.now.print t)))) }
+    ensures err { HasCleanDisk (state S.Store tx.new.conn.now) → IsTrue (state S.Store tx.old.conn.now).in_transaction
+        → OnErr result (KeepsCommit (state S.Store tx.old.conn.now) (state S.Store tx.new.conn.now)) }
+    ensures survives { Survives (state S.Store tx.old.conn.now) (state S.Store tx.new.conn.now) (λ _. ⊥) }
+{
+    let body = store_whole(alloc, tx, finished.body, &finished.print)?;
+    let file = Arriving {
+        name: finished.name,
+        print: finished.print,
+        span: finished.span,
+        moment: finished.moment,
+    };
+    receive(alloc, tx, &file, body, listed)
+}
+
+/// Takes the body that came as one that has arrived, inside a transaction. One whose print is that of another body is refused.
+/// Answers whether the arrival is new.
+fn finish_inside<S: Alter>(
+    alloc: Global,
+    tx: &mut Transaction<'_, S>,
+    finished: &Finished<'_>,
+) -> Result<bool, Error>
+    requires { finished.now.pieces < 18_446_744_073_709_551_615 }
+    ensures same_reference { tx.new.conn.ghost_name ≡ tx.old.conn.ghost_name }
+    ensures ok { HasCleanDisk (state S.Store tx.new.conn.now) → IsTrue (state S.Store tx.old.conn.now).in_transaction
+        → IfOk result (λ new. Changes (state S.Store tx.old.conn.now) (state S.Store tx.new.conn.now) (with_finished finished.now.name.now finished.now.body finished.now.print finished.now.moment)
+        × ((t : Tables) → Holds (state S.Store tx.old.conn.now).now t → IsNoOther finished.now.body finished.now.pieces finished.now.print t
+        × (new ≡ not (arrival_counts finished.now.span finished.now.moment finished.now.name.now (ended_number finished.now.body finished.now.print t) (with_ended finished.now.body finished.now.print t))))) }
+    ensures err { HasCleanDisk (state S.Store tx.new.conn.now) → IsTrue (state S.Store tx.old.conn.now).in_transaction
+        → OnErr result (KeepsCommit (state S.Store tx.old.conn.now) (state S.Store tx.new.conn.now)) }
+    ensures survives { Survives (state S.Store tx.old.conn.now) (state S.Store tx.new.conn.now) (λ _. ⊥) }
+{
+    refuse_other(alloc, tx, finished.body, finished.pieces, &finished.print)?;
+    let found = record_inside(alloc, tx, finished.name, finished.body)?;
+    end_body(alloc, tx, finished, entries_of(&found))
+}
+
+/// Takes the body that came as one that has arrived, in one transaction. Answers whether the arrival is new.
+pub fn finish_body<S: Alter>(
+    alloc: Global,
+    conn: &mut Connection<S>,
+    finished: &Finished<'_>,
+) -> Result<bool, Error>
+    requires idle { conn.old.in_transaction ≡ false }
+    requires counted { finished.now.pieces < 18_446_744_073_709_551_615 }
+    ensures idle { conn.new.in_transaction ≡ false }
+    ensures done { HasCleanDisk (state S.Store conn.new) → OnOk result (IsDone (state S.Store conn.old) (state S.Store conn.new)
+        (with_finished finished.now.name.now finished.now.body finished.now.print finished.now.moment)) }
+    ensures answer { HasCleanDisk (state S.Store conn.new) → IfOk result (λ new. (t : Tables) → Holds (state S.Store conn.old).now t
+        → IsNoOther finished.now.body finished.now.pieces finished.now.print t
+        × (new ≡ not (arrival_counts finished.now.span finished.now.moment finished.now.name.now (ended_number finished.now.body finished.now.print t) (with_ended finished.now.body finished.now.print t)))) }
+    ensures undone { HasCleanDisk (state S.Store conn.new) → OnErr result (IsUndone (state S.Store conn.old) (state S.Store conn.new)) }
+    ensures crash { Survives (state S.Store conn.old) (state S.Store conn.new) (λ trees. MayCommit (state S.Store conn.old)
+        (with_finished finished.now.name.now finished.now.body finished.now.print finished.now.moment) trees
+        × ((t : Tables) → Holds (state S.Store conn.old).now t → IsNoOther finished.now.body finished.now.pieces finished.now.print t)) }
+{
+    let mut tx = conn.transaction();
+    let new = finish_inside(alloc, &mut tx, finished)?;
+    tx.commit()?;
+    Ok(new)
+}

@@ -1,0 +1,101 @@
+//! What a file lists whose body came.
+
+ghost use Rattle.std.specs.Prelude.{◌≡◌, Ok, false, IsTrue, IfOk, OnOk, OnErr, option_map};
+ghost use Rattle.sqlite.specs.State.{HasCleanDisk, IsUnchanged, KeepsCommit, Survives};
+ghost use Rattle.sqlite.specs.Held.{state};
+ghost use Rattle.keep.specs.Book.{is_changes_name};
+ghost use Rattle.records.specs.Records.{changes_in};
+ghost use Rattle.tables.specs.Inside.{GoesOn};
+ghost use Rattle.tables.specs.Rows.{Tables, Holds};
+ghost use Rattle.tables_meaning.specs.Coming.{bytes_so_far};
+ghost use Rattle.tables_meaning.specs.Taking.{listed_in};
+
+use crate::reading::read_body_inside;
+use records::{Changes, RecordFault};
+use sqlite::{Alter, Error, ErrorCode, Transaction};
+use std::alloc::Global;
+use sums::Entry;
+
+/// Whether the name is that of a .changes.
+#[tactic(auto, unfolding(keep::specs::Book::is_changes_name))]
+fn is_changes(name: &str) -> bool
+    ensures { result ≡ is_changes_name name.now }
+{
+    name.as_bytes().ends_with(b".changes")
+}
+
+/// The record of a .changes.
+fn changes_of(alloc: Global, body: &[u8]) -> Result<Changes, Error>
+    ensures { IfOk result (λ c. changes_in body.now ≡ Ok c) }
+{
+    match Changes::read(alloc, body) {
+        Ok(changes) => Ok(changes),
+        Err(RecordFault::OutOfMemory) => Err(Error::SqliteFailure(ErrorCode::OutOfMemory)),
+        Err(_) => Err(Error::SqliteFailure(ErrorCode::DatabaseCorrupt)),
+    }
+}
+
+/// The record that a file of these bytes is, where its name is that of a .changes.
+pub(crate) fn record_of(alloc: Global, name: &str, bytes: &[u8]) -> Result<Option<Changes>, Error>
+    ensures { IfOk result (λ found. option_map (λ c. c.entries) found ≡ listed_in name.now bytes.now) }
+{
+    if !is_changes(name) {
+        return Ok(None);
+    }
+    let changes = changes_of(alloc, bytes)?;
+    Ok(Some(changes))
+}
+
+/// The bytes of the body of this number, none where there is no number.
+fn bytes_inside<S: Alter>(
+    alloc: Global,
+    tx: &mut Transaction<'_, S>,
+    body: Option<u64>,
+) -> Result<Vec<u8>, Error>
+    ensures same_reference { tx.new.conn.ghost_name ≡ tx.old.conn.ghost_name }
+    ensures ok { HasCleanDisk (state S.Store tx.new.conn.now) → IsTrue (state S.Store tx.old.conn.now).is_open → (t : Tables) → Holds (state S.Store tx.old.conn.now).now t
+        → IfOk result (λ bytes. (bytes.items ≡ bytes_so_far t body) × IsUnchanged (state S.Store tx.old.conn.now) (state S.Store tx.new.conn.now)) }
+    ensures goes_on { HasCleanDisk (state S.Store tx.new.conn.now) → IsTrue (state S.Store tx.old.conn.now).in_transaction → IsTrue (state S.Store tx.old.conn.now).is_open
+        → OnOk result (GoesOn (state S.Store tx.old.conn.now) (state S.Store tx.new.conn.now)) }
+    ensures kept { HasCleanDisk (state S.Store tx.new.conn.now) → IsTrue (state S.Store tx.old.conn.now).in_transaction
+        → OnErr result (KeepsCommit (state S.Store tx.old.conn.now) (state S.Store tx.new.conn.now)) }
+    ensures survives { Survives (state S.Store tx.old.conn.now) (state S.Store tx.new.conn.now) (λ _. ⊥) }
+{
+    match body {
+        Some(id) => read_body_inside(alloc, tx, id),
+        None => Ok(Vec::new(alloc)),
+    }
+}
+
+/// The record that a file is, where its name is that of a .changes: its body is read back from its pieces.
+pub(crate) fn record_inside<S: Alter>(
+    alloc: Global,
+    tx: &mut Transaction<'_, S>,
+    name: &str,
+    body: Option<u64>,
+) -> Result<Option<Changes>, Error>
+    ensures same_reference { tx.new.conn.ghost_name ≡ tx.old.conn.ghost_name }
+    ensures ok { HasCleanDisk (state S.Store tx.new.conn.now) → IsTrue (state S.Store tx.old.conn.now).is_open → (t : Tables) → Holds (state S.Store tx.old.conn.now).now t
+        → IfOk result (λ found. (option_map (λ c. c.entries) found ≡ listed_in name.now (bytes_so_far t body)) × IsUnchanged (state S.Store tx.old.conn.now) (state S.Store tx.new.conn.now)) }
+    ensures goes_on { HasCleanDisk (state S.Store tx.new.conn.now) → IsTrue (state S.Store tx.old.conn.now).in_transaction → IsTrue (state S.Store tx.old.conn.now).is_open
+        → OnOk result (GoesOn (state S.Store tx.old.conn.now) (state S.Store tx.new.conn.now)) }
+    ensures kept { HasCleanDisk (state S.Store tx.new.conn.now) → IsTrue (state S.Store tx.old.conn.now).in_transaction → IsTrue (state S.Store tx.old.conn.now).is_open
+        → OnErr result (KeepsCommit (state S.Store tx.old.conn.now) (state S.Store tx.new.conn.now)) }
+    ensures survives { Survives (state S.Store tx.old.conn.now) (state S.Store tx.new.conn.now) (λ _. ⊥) }
+{
+    if !is_changes(name) {
+        return Ok(None);
+    }
+    let bytes = bytes_inside(alloc, tx, body)?;
+    record_of(alloc, name, bytes.as_slice())
+}
+
+/// The entries of a record.
+pub(crate) fn entries_of(found: &Option<Changes>) -> Option<&[Entry]>
+    ensures { option_map (λ entries. entries.now) result ≡ option_map (λ c. c.entries) found.now }
+{
+    match found {
+        Some(changes) => Some(changes.entries()),
+        None => None,
+    }
+}

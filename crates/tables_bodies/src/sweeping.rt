@@ -1,0 +1,107 @@
+//! Takes bodies away that nothing uses.
+
+ghost use Rattle.std.specs.Prelude.{◌≡◌, ◌++◌, filter, nat_eq, not, IsTrue, IfOk, OnOk, OnErr};
+ghost use Rattle.std.specs.List.{list_any};
+ghost use Rattle.std.specs.List.Sorted.{IsNonDecreasing, IsPermutation};
+ghost use Rattle.sqlite.specs.State.{HasCleanDisk, IsUnchanged, KeepsCommit, Survives};
+ghost use Rattle.sqlite.specs.Held.{state};
+ghost use Rattle.tables.specs.Inside.{GoesOn};
+ghost use Rattle.tables.specs.Rows.{Tables, Holds};
+ghost use Rattle.tables_bodies.specs.Unused.{unused_in};
+ghost use Rattle.tables_meaning.specs.Amending.{Makes};
+ghost use Rattle.tables_meaning.specs.Kept.{used_in};
+ghost use Rattle.tables_meaning.specs.Sweeping.{swept};
+
+use crate::removing::remove_bodies;
+use sqlite::{Alter, Error, Transaction};
+use std::alloc::{AllocError, Global};
+use tables::arrivals::arrived_bodies_inside;
+use tables::bodies::body_numbers_inside;
+use tables::files::filed_bodies_inside;
+
+/// These numbers, and the others behind them.
+fn with_others(mut numbers: Vec<u64>, others: &[u64]) -> Result<Vec<u64>, AllocError>
+    ensures { IfOk result (λ all. all.items ≡ numbers.items ++ others.now) }
+{
+    numbers.extend_from_slice(others)?;
+    Ok(numbers)
+}
+
+/// The numbers in rising order.
+fn in_rising_order(mut numbers: Vec<u64>) -> Vec<u64>
+    ensures rise { IsNonDecreasing result.items }
+    ensures same { IsPermutation numbers.items result.items }
+{
+    numbers.sort_unstable();
+    numbers
+}
+
+/// Whether a number is among these, which stand in rising order.
+fn is_among(numbers: &[u64], id: u64) -> bool
+    requires { IsNonDecreasing numbers.now }
+    ensures { result ≡ list_any (λ n. nat_eq n id) numbers.now }
+{
+    numbers.binary_search(&id).is_ok()
+}
+
+/// Those of the numbers that are not among others, which stand in rising order.
+fn without_others(alloc: Global, ids: &[u64], others: &[u64]) -> Result<Vec<u64>, AllocError>
+    requires { IsNonDecreasing others.now }
+    ensures { IfOk result (λ left. left.items ≡ filter (λ id. not (list_any (λ n. nat_eq n id) others.now)) ids.now) }
+{
+    let mut left = Vec::new(alloc);
+    for id in ids {
+        if !is_among(others, *id) {
+            left.push(*id)?;
+        }
+    }
+    Ok(left)
+}
+
+/// The numbers of the bodies that arrivals and files have, in rising order.
+fn used_bodies<S: Alter>(alloc: Global, tx: &mut Transaction<'_, S>) -> Result<Vec<u64>, Error>
+    ensures rise { IfOk result (λ used. IsNonDecreasing used.items) }
+    ensures same_reference { tx.new.conn.ghost_name ≡ tx.old.conn.ghost_name }
+    ensures ok { HasCleanDisk (state S.Store tx.new.conn.now) → (t : Tables) → Holds (state S.Store tx.old.conn.now).now t
+        → IfOk result (λ used. IsPermutation (used_in t) used.items × IsUnchanged (state S.Store tx.old.conn.now) (state S.Store tx.new.conn.now)) }
+    ensures goes_on { HasCleanDisk (state S.Store tx.new.conn.now) → IsTrue (state S.Store tx.old.conn.now).in_transaction
+        → OnOk result (GoesOn (state S.Store tx.old.conn.now) (state S.Store tx.new.conn.now)) }
+    ensures kept { HasCleanDisk (state S.Store tx.new.conn.now) → IsTrue (state S.Store tx.old.conn.now).in_transaction
+        → OnErr result (KeepsCommit (state S.Store tx.old.conn.now) (state S.Store tx.new.conn.now)) }
+    ensures survives { Survives (state S.Store tx.old.conn.now) (state S.Store tx.new.conn.now) (λ _. ⊥) }
+{
+    let arrived = arrived_bodies_inside(alloc, tx)?;
+    let filed = filed_bodies_inside(alloc, tx)?;
+    let used = with_others(arrived, &filed)?;
+    Ok(in_rising_order(used))
+}
+
+/// The numbers of the bodies that no arrival and no file has.
+fn unused_bodies<S: Alter>(alloc: Global, tx: &mut Transaction<'_, S>) -> Result<Vec<u64>, Error>
+    ensures same_reference { tx.new.conn.ghost_name ≡ tx.old.conn.ghost_name }
+    ensures ok { HasCleanDisk (state S.Store tx.new.conn.now) → (t : Tables) → Holds (state S.Store tx.old.conn.now).now t
+        → IfOk result (λ unused. (unused.items ≡ unused_in t) × IsUnchanged (state S.Store tx.old.conn.now) (state S.Store tx.new.conn.now)) }
+    ensures goes_on { HasCleanDisk (state S.Store tx.new.conn.now) → IsTrue (state S.Store tx.old.conn.now).in_transaction
+        → OnOk result (GoesOn (state S.Store tx.old.conn.now) (state S.Store tx.new.conn.now)) }
+    ensures kept { HasCleanDisk (state S.Store tx.new.conn.now) → IsTrue (state S.Store tx.old.conn.now).in_transaction
+        → OnErr result (KeepsCommit (state S.Store tx.old.conn.now) (state S.Store tx.new.conn.now)) }
+    ensures survives { Survives (state S.Store tx.old.conn.now) (state S.Store tx.new.conn.now) (λ _. ⊥) }
+{
+    let all = body_numbers_inside(alloc, tx)?;
+    let used = used_bodies(alloc, tx)?;
+    let unused = without_others(alloc, &all, &used)?;
+    Ok(unused)
+}
+
+/// Removes the bodies that no arrival and no file has, and their pieces.
+pub fn sweep<S: Alter>(alloc: Global, tx: &mut Transaction<'_, S>) -> Result<(), Error>
+    ensures same_reference { tx.new.conn.ghost_name ≡ tx.old.conn.ghost_name }
+    ensures ok { HasCleanDisk (state S.Store tx.new.conn.now) → IsTrue (state S.Store tx.old.conn.now).in_transaction
+        → OnOk result (Makes (state S.Store tx.old.conn.now) (state S.Store tx.new.conn.now) (swept)) }
+    ensures err { HasCleanDisk (state S.Store tx.new.conn.now) → IsTrue (state S.Store tx.old.conn.now).in_transaction
+        → OnErr result (KeepsCommit (state S.Store tx.old.conn.now) (state S.Store tx.new.conn.now)) }
+    ensures survives { Survives (state S.Store tx.old.conn.now) (state S.Store tx.new.conn.now) (λ _. ⊥) }
+{
+    let unused = unused_bodies(alloc, tx)?;
+    remove_bodies(tx, &unused)
+}

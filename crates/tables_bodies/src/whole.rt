@@ -1,0 +1,83 @@
+//! A body that came and is whole.
+
+ghost use Rattle.std.specs.Prelude.{◌≡◌, unwrap_or, IsTrue, IfOk, OnErr};
+ghost use Rattle.sqlite.specs.State.{HasCleanDisk, KeepsCommit, Survives};
+ghost use Rattle.sqlite.specs.Held.{state};
+ghost use Rattle.tables.specs.Rows.{Tables, Holds, Changes, next_in};
+ghost use Rattle.tables_bodies.specs.Known.{without_known};
+ghost use Rattle.tables_meaning.specs.Coming.{ended_number, with_ended, with_new_print};
+
+use crate::removing::remove_body;
+use sqlite::{Alter, Error, Transaction};
+use std::alloc::Global;
+use sums::Print;
+use tables::bodies::{body_with_print_inside, insert_body, set_print};
+
+/// Gives the body that came its print, or takes it away where one of that print is there. Answers the number of the body of this
+/// print.
+pub(crate) fn store_whole<S: Alter>(
+    alloc: Global,
+    tx: &mut Transaction<'_, S>,
+    body: Option<u64>,
+    print: &Print,
+) -> Result<u64, Error>
+    ensures same_reference { tx.new.conn.ghost_name ≡ tx.old.conn.ghost_name }
+    ensures ok { HasCleanDisk (state S.Store tx.new.conn.now) → IsTrue (state S.Store tx.old.conn.now).in_transaction
+        → IfOk result (λ id. Changes (state S.Store tx.old.conn.now) (state S.Store tx.new.conn.now) (with_ended body print.now)
+        × ((t : Tables) → Holds (state S.Store tx.old.conn.now).now t → id ≡ ended_number body print.now t)) }
+    ensures err { HasCleanDisk (state S.Store tx.new.conn.now) → IsTrue (state S.Store tx.old.conn.now).in_transaction
+        → OnErr result (KeepsCommit (state S.Store tx.old.conn.now) (state S.Store tx.new.conn.now)) }
+    ensures survives { Survives (state S.Store tx.old.conn.now) (state S.Store tx.new.conn.now) (λ _. ⊥) }
+{
+    let found = body_with_print_inside(alloc, tx, print)?;
+    match found {
+        Some(stored) => remove_known(tx, body, stored),
+        None => print_body(tx, body, print),
+    }
+}
+
+/// The same where a body of this print is there, under this number: the one that came goes, where it has a row.
+fn remove_known<S: Alter>(
+    tx: &mut Transaction<'_, S>,
+    body: Option<u64>,
+    stored: u64,
+) -> Result<u64, Error>
+    ensures same_reference { tx.new.conn.ghost_name ≡ tx.old.conn.ghost_name }
+    ensures ok { HasCleanDisk (state S.Store tx.new.conn.now) → IsTrue (state S.Store tx.old.conn.now).in_transaction
+        → IsTrue (state S.Store tx.old.conn.now).is_open
+        → IfOk result (λ id. Changes (state S.Store tx.old.conn.now) (state S.Store tx.new.conn.now) (without_known body) × (id ≡ stored)) }
+    ensures err { HasCleanDisk (state S.Store tx.new.conn.now) → IsTrue (state S.Store tx.old.conn.now).in_transaction
+        → OnErr result (KeepsCommit (state S.Store tx.old.conn.now) (state S.Store tx.new.conn.now)) }
+    ensures survives { Survives (state S.Store tx.old.conn.now) (state S.Store tx.new.conn.now) (λ _. ⊥) }
+{
+    match body {
+        Some(id) => {
+            remove_body(tx, id)?;
+            Ok(stored)
+        }
+        None => Ok(stored),
+    }
+}
+
+/// The same where no body of this print is there.
+fn print_body<S: Alter>(
+    tx: &mut Transaction<'_, S>,
+    body: Option<u64>,
+    print: &Print,
+) -> Result<u64, Error>
+    ensures same_reference { tx.new.conn.ghost_name ≡ tx.old.conn.ghost_name }
+    ensures ok { HasCleanDisk (state S.Store tx.new.conn.now) → IsTrue (state S.Store tx.old.conn.now).in_transaction
+        → IfOk result (λ id. Changes (state S.Store tx.old.conn.now) (state S.Store tx.new.conn.now) (with_new_print body print.now)
+        × ((t : Tables) → Holds (state S.Store tx.old.conn.now).now t → id ≡ unwrap_or body (next_in t.bodies))) }
+    ensures err { HasCleanDisk (state S.Store tx.new.conn.now) → IsTrue (state S.Store tx.old.conn.now).in_transaction
+        → OnErr result (KeepsCommit (state S.Store tx.old.conn.now) (state S.Store tx.new.conn.now)) }
+    ensures survives { Survives (state S.Store tx.old.conn.now) (state S.Store tx.new.conn.now) (λ _. ⊥) }
+{
+    match body {
+        Some(id) => {
+            set_print(tx, id, print)?;
+            Ok(id)
+        }
+        None => insert_body(tx, print),
+    }
+}

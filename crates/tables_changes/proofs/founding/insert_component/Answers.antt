@@ -1,0 +1,63 @@
+use Rattle.std.proofs.Common.{◌≡◌, ◌≤◌, ◌<◌, ◌+◌, List, ℕ, length, map, take, get_or, refl, subst, ap, ◌∙◌, arith}
+use Rattle.std.proofs.Math.Seq.{take_all}
+use Rattle.sqlite.specs.Held.{state}
+use Rattle.sqlite.proofs.StateLemmas.{survives_then}
+use Rattle.texts.specs.Release.{listed_entry}
+use Rattle.tables.proofs.TransactionLemmas.{keeps_then, on_err}
+use Rattle.tables_meaning.specs.Founding.{Continues, component_texts, from_root, with_path_text, with_texts}
+use Rattle.tables_meaning.proofs.FoundLemmas.{continues_as, continues_if_changed, continues_none, continues_then, no_texts, survives_none, text_more}
+use Rattle.tables_changes.proofs.founding.insert_component.Goals as goal
+
+pub loop-architecture-init : goal.loop-architecture-init
+loop-architecture-init g c = record {
+  reference = refl;
+  survives = survives_none (state g.S.Store c.args.tx.now.conn.now);
+  added = λ clean inside.
+      let s = state g.S.Store c.args.tx.now.conn.now in
+      continues_as s s (λ t. t) _ no_texts (continues_none s inside);
+}
+
+pub loop-architecture-preserved : goal.loop-architecture-preserved
+loop-architecture-preserved g c =
+    let old = state g.S.Store c.args.tx.now.conn.now in
+    let mid = state g.S.Store c.loop-architecture.tx.conn.now in
+    let new = state g.S.Store c.insert_index.new.tx.conn.now in
+    let all = c.args.suite.now.architectures in
+    let i = c.loop-architecture.architecture-index in
+    let x = c.architecture-item.result in
+    let within : i < length all = omega (arith, ap length c.as_slice-architecture-items.ensures, c.loop-architecture-test.true) in
+    let here : x ≡ get_or all i x = c.architecture-item.is ∙ ap (λ xs. get_or xs i x) c.as_slice-architecture-items.ensures in
+    record {
+      reference = c.insert_index.ensures.same_reference ∙ c.loop-architecture.invariant.reference;
+      survives = survives_then old mid new (λ _. ⊥) (λ _. ⊥) (λ _. ⊥) (λ _ db none. none) (λ _ db none. none) c.loop-architecture.invariant.survives c.insert_index.ensures.survives;
+      added = λ clean inside.
+          let was = c.loop-architecture.invariant.added (omega (arith, c.insert_index.ensures.survives.clean, clean)) inside in
+          let one = rw c.as_str.ensures at (c.in_ok-insert_index.ensures.ok clean was.mode) in
+          let entry = λ (a : List ℕ). from_root c.args.suite.now (listed_entry c.args.shelves.now c.args.position c.args.component.now a) in
+          continues_then old mid new (with_texts (map entry (take i all))) (with_path_text (entry x)) (with_texts (map entry (take (i + 1) all)))
+          (text_more all i x within here entry) was (continues_if_changed mid new (with_path_text (entry x)) one);
+    }
+
+pub returns-in_err-insert_index-clause-err : goal.returns-in_err-insert_index-clause-err
+returns-in_err-insert_index-clause-err g c clean inside =
+    let old = state g.S.Store c.args.tx.now.conn.now in
+    let mid = state g.S.Store c.loop-architecture.tx.conn.now in
+    let new = state g.S.Store c.insert_index.new.tx.conn.now in
+    let was = c.loop-architecture.invariant.added (omega (arith, c.insert_index.ensures.survives.clean, clean)) inside in
+    on_err _ (keeps_then old mid new was.kept (c.in_err-insert_index.ensures.err clean was.mode))
+
+pub returns-in_err-insert_index-clause-survives : goal.returns-in_err-insert_index-clause-survives
+returns-in_err-insert_index-clause-survives g c =
+    let old = state g.S.Store c.args.tx.now.conn.now in
+    let mid = state g.S.Store c.loop-architecture.tx.conn.now in
+    let new = state g.S.Store c.insert_index.new.tx.conn.now in
+    survives_then old mid new (λ _. ⊥) (λ _. ⊥) (λ _. ⊥) (λ _ db none. none) (λ _ db none. none) c.loop-architecture.invariant.survives c.insert_index.ensures.survives
+
+pub returns-clause-ok : goal.returns-clause-ok
+returns-clause-ok g c clean inside =
+    let old = state g.S.Store c.args.tx.now.conn.now in
+    let new = state g.S.Store c.loop-architecture.tx.conn.now in
+    let all = c.args.suite.now.architectures in
+    let i = c.loop-architecture.architecture-index in
+    let past : length all ≤ i = omega (arith, ap length c.as_slice-architecture-items.ensures, c.loop-architecture-test.false) in
+    subst (λ xs. Continues old new (with_texts (component_texts c.args.shelves.now c.args.position c.args.suite.now xs c.args.component.now))) (take_all i all past) (c.loop-architecture.invariant.added clean inside)

@@ -1,0 +1,16 @@
+use Rattle.std.proofs.Common.{◌≡◌, IsTrue, map, take}
+use Rattle.std.specs.List.{zip}
+use Rattle.sqlite.specs.State.{HasCleanDisk, Survives}
+use Rattle.sqlite.specs.Held.{state}
+use Rattle.tables_meaning.specs.Founding.{Continues, with_dates}
+use Rattle.tables_meaning.specs.Kept.{date_row}
+use Rattle.tables_changes.proofs.founding.insert_dates.Given as goal
+
+-- those of the suites so far are added
+abbrev pub invariant-loop-position : goal.invariant-loop-position
+invariant-loop-position g l = record {
+  reference : l.tx.conn.ghost_name ≡ l.fn.tx.conn.ghost_name;
+  survives : Survives (state g.S.Store l.fn.tx.conn.now) (state g.S.Store l.tx.conn.now) (λ _. ⊥);
+  added : HasCleanDisk (state g.S.Store l.tx.conn.now) → IsTrue (state g.S.Store l.fn.tx.conn.now).in_transaction
+      → Continues (state g.S.Store l.fn.tx.conn.now) (state g.S.Store l.tx.conn.now) (with_dates (map date_row (take l.position (zip l.config.suites l.dates))));
+}

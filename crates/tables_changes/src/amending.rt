@@ -1,0 +1,128 @@
+//! A change of an archive, as one transaction.
+
+ghost use Rattle.std.specs.Prelude.{◌≡◌, false, IsTrue, OnOk, OnErr};
+ghost use Rattle.sqlite.specs.State.{HasCleanDisk, KeepsCommit, IsUnchanged, Survives};
+ghost use Rattle.sqlite.specs.Held.{state};
+ghost use Rattle.tables.specs.Rows.{Tables, Holds, Changes};
+ghost use Rattle.tables_meaning.specs.Making.{with_new_dates, with_new_texts, with_written};
+ghost use Rattle.tables_meaning.specs.Amending.{HasAllBodies, Makes};
+ghost use Rattle.tables_meaning.specs.Transactions.{IsDone, IsUndone, MayCommit};
+ghost use Rattle.tables_changes.specs.Swept.{with_made};
+
+mod judging;
+mod pooling;
+mod renewing;
+mod showing;
+mod stepping;
+
+pub use crate::amending::pooling::some_take_files;
+use crate::amending::renewing::{renew_dates, renew_texts};
+use crate::amending::stepping::make_steps;
+use tables_bodies::sweep;
+use keep::Change;
+use rules::Config;
+use sqlite::{Alter, Connection, Error, Transaction};
+use std::alloc::Global;
+
+/// Refuses a connection that an earlier failure of the disk has shut.
+fn confirm_open<S: Alter>(tx: &mut Transaction<'_, S>) -> Result<(), Error>
+    ensures same_reference { tx.new.conn.ghost_name ≡ tx.old.conn.ghost_name }
+    ensures ok { HasCleanDisk (state S.Store tx.new.conn.now) → OnOk result (IsUnchanged (state S.Store tx.old.conn.now) (state S.Store tx.new.conn.now)) }
+    ensures err { HasCleanDisk (state S.Store tx.new.conn.now) → OnErr result (KeepsCommit (state S.Store tx.old.conn.now) (state S.Store tx.new.conn.now)) }
+    ensures survives { Survives (state S.Store tx.old.conn.now) (state S.Store tx.new.conn.now) (λ _. ⊥) }
+{
+    tx.prepare("SELECT 1")?;
+    Ok(())
+}
+
+/// Renews the index texts and the dates that a change renews.
+fn renew<S: Alter>(
+    tx: &mut Transaction<'_, S>,
+    config: &Config,
+    change: &Change,
+) -> Result<(), Error>
+    ensures same_reference { tx.new.conn.ghost_name ≡ tx.old.conn.ghost_name }
+    ensures ok { HasCleanDisk (state S.Store tx.new.conn.now) → IsTrue (state S.Store tx.old.conn.now).in_transaction
+        → OnOk result (Makes (state S.Store tx.old.conn.now) (state S.Store tx.new.conn.now) (λ t. with_new_dates config.now.suites change.now.moment change.now.steps (with_new_texts change.now.texts t))) }
+    ensures err { HasCleanDisk (state S.Store tx.new.conn.now) → IsTrue (state S.Store tx.old.conn.now).in_transaction
+        → OnErr result (KeepsCommit (state S.Store tx.old.conn.now) (state S.Store tx.new.conn.now)) }
+    ensures survives { Survives (state S.Store tx.old.conn.now) (state S.Store tx.new.conn.now) (λ _. ⊥) }
+{
+    let suites = config.suites();
+    let steps = change.steps.as_slice();
+    let texts = change.texts.as_slice();
+    renew_texts(tx, texts)?;
+    renew_dates(tx, suites, change.moment, steps)
+}
+
+/// Writes a change after so many judgements, inside a transaction.
+fn write_inside<S: Alter>(
+    alloc: Global,
+    tx: &mut Transaction<'_, S>,
+    config: &Config,
+    judged: u64,
+    change: &Change,
+) -> Result<(), Error>
+    ensures same_reference { tx.new.conn.ghost_name ≡ tx.old.conn.ghost_name }
+    ensures ok { HasCleanDisk (state S.Store tx.new.conn.now) → IsTrue (state S.Store tx.old.conn.now).in_transaction
+        → OnOk result (Changes (state S.Store tx.old.conn.now) (state S.Store tx.new.conn.now) (with_written config.now judged change.now)) }
+    ensures err { HasCleanDisk (state S.Store tx.new.conn.now) → IsTrue (state S.Store tx.old.conn.now).in_transaction
+        → OnErr result (KeepsCommit (state S.Store tx.old.conn.now) (state S.Store tx.new.conn.now)) }
+    ensures survives { Survives (state S.Store tx.old.conn.now) (state S.Store tx.new.conn.now) (λ _. ⊥) }
+    ensures bodies { HasCleanDisk (state S.Store tx.new.conn.now) → IsTrue (state S.Store tx.old.conn.now).in_transaction
+        → OnOk result ((t : Tables) → Holds (state S.Store tx.old.conn.now).now t → HasAllBodies t change.now.steps) }
+{
+    let suites = config.suites();
+    let steps = change.steps.as_slice();
+    confirm_open(tx)?;
+    make_steps(alloc, tx, suites, judged, steps)?;
+    renew(tx, config, change)
+}
+
+/// Makes a change after so many judgements, inside a transaction. Where it sweeps, bodies that nothing uses then go.
+fn amend_inside<S: Alter>(
+    alloc: Global,
+    tx: &mut Transaction<'_, S>,
+    config: &Config,
+    judged: u64,
+    sweeps: bool,
+    change: &Change,
+) -> Result<(), Error>
+    ensures same_reference { tx.new.conn.ghost_name ≡ tx.old.conn.ghost_name }
+    ensures ok { HasCleanDisk (state S.Store tx.new.conn.now) → IsTrue (state S.Store tx.old.conn.now).in_transaction
+        → OnOk result (Changes (state S.Store tx.old.conn.now) (state S.Store tx.new.conn.now) (with_made sweeps config.now judged change.now)) }
+    ensures err { HasCleanDisk (state S.Store tx.new.conn.now) → IsTrue (state S.Store tx.old.conn.now).in_transaction
+        → OnErr result (KeepsCommit (state S.Store tx.old.conn.now) (state S.Store tx.new.conn.now)) }
+    ensures survives { Survives (state S.Store tx.old.conn.now) (state S.Store tx.new.conn.now) (λ _. ⊥) }
+    ensures bodies { HasCleanDisk (state S.Store tx.new.conn.now) → IsTrue (state S.Store tx.old.conn.now).in_transaction
+        → OnOk result ((t : Tables) → Holds (state S.Store tx.old.conn.now).now t → HasAllBodies t change.now.steps) }
+{
+    write_inside(alloc, tx, config, judged, change)?;
+    if sweeps {
+        return sweep(alloc, tx);
+    }
+    Ok(())
+}
+
+/// Makes a change after so many judgements, whole or not at all, also over a crash. It is refused where a file that it adds
+/// to the pool has no body. Where it sweeps, bodies that nothing uses then go.
+pub fn amend<S: Alter>(
+    alloc: Global,
+    conn: &mut Connection<S>,
+    config: &Config,
+    judged: u64,
+    sweeps: bool,
+    change: &Change,
+) -> Result<(), Error>
+    requires idle { conn.old.in_transaction ≡ false }
+    ensures idle { conn.new.in_transaction ≡ false }
+    ensures done { HasCleanDisk (state S.Store conn.new) → OnOk result (IsDone (state S.Store conn.old) (state S.Store conn.new) (with_made sweeps config.now judged change.now)) }
+    ensures bodies { HasCleanDisk (state S.Store conn.new) → OnOk result ((t : Tables) → Holds (state S.Store conn.old).now t → HasAllBodies t change.now.steps) }
+    ensures undone { HasCleanDisk (state S.Store conn.new) → OnErr result (IsUndone (state S.Store conn.old) (state S.Store conn.new)) }
+    ensures crash { Survives (state S.Store conn.old) (state S.Store conn.new) (λ trees. MayCommit (state S.Store conn.old) (with_made sweeps config.now judged change.now) trees
+        × ((t : Tables) → Holds (state S.Store conn.old).now t → HasAllBodies t change.now.steps)) }
+{
+    let mut tx = conn.transaction();
+    amend_inside(alloc, &mut tx, config, judged, sweeps, change)?;
+    tx.commit()
+}

@@ -1,0 +1,75 @@
+//! The index texts and the dates after a change, as rows.
+
+ghost use Rattle.std.specs.Prelude.{◌≡◌, if◌then◌else◌, IsTrue, OnOk, OnErr};
+ghost use Rattle.sqlite.specs.State.{HasCleanDisk, KeepsCommit, Survives};
+ghost use Rattle.sqlite.specs.Held.{state};
+ghost use Rattle.keep.specs.Scan.{some_touches};
+ghost use Rattle.tables.specs.Dates.{with_new_date};
+ghost use Rattle.tables_meaning.specs.Making.{with_new_dates, with_new_texts};
+ghost use Rattle.tables_meaning.specs.Amending.{Makes};
+
+use keep::{IndexText, Step, some_changes_suite};
+use rules::Suite;
+use sqlite::{Alter, Error, Transaction};
+use tables::dates::update_date;
+use tables::texts::update_text;
+
+/// Replaces the index texts at these paths.
+pub(crate) fn renew_texts<S: Alter>(
+    tx: &mut Transaction<'_, S>,
+    texts: &[IndexText],
+) -> Result<(), Error>
+    ensures same_reference { tx.new.conn.ghost_name ≡ tx.old.conn.ghost_name }
+    ensures ok { HasCleanDisk (state S.Store tx.new.conn.now) → IsTrue (state S.Store tx.old.conn.now).in_transaction
+        → OnOk result (Makes (state S.Store tx.old.conn.now) (state S.Store tx.new.conn.now) (with_new_texts texts.now)) }
+    ensures err { HasCleanDisk (state S.Store tx.new.conn.now) → IsTrue (state S.Store tx.old.conn.now).in_transaction
+        → OnErr result (KeepsCommit (state S.Store tx.old.conn.now) (state S.Store tx.new.conn.now)) }
+    ensures survives { Survives (state S.Store tx.old.conn.now) (state S.Store tx.new.conn.now) (λ _. ⊥) }
+{
+    for text in texts {
+        update_text(tx, text.path.as_str(), text.text.as_slice())?;
+    }
+    Ok(())
+}
+
+/// Sets the date of the suite at a position to the moment, if a step changes what it shows.
+fn renew_date<S: Alter>(
+    tx: &mut Transaction<'_, S>,
+    at: usize,
+    suite: &Suite,
+    moment: u64,
+    steps: &[Step],
+) -> Result<(), Error>
+    ensures same_reference { tx.new.conn.ghost_name ≡ tx.old.conn.ghost_name }
+    ensures ok { HasCleanDisk (state S.Store tx.new.conn.now) → IsTrue (state S.Store tx.old.conn.now).in_transaction
+        → OnOk result (Makes (state S.Store tx.old.conn.now) (state S.Store tx.new.conn.now) (λ t. if some_touches at steps.now then with_new_date suite.now.codename moment t else t)) }
+    ensures err { HasCleanDisk (state S.Store tx.new.conn.now) → IsTrue (state S.Store tx.old.conn.now).in_transaction
+        → OnErr result (KeepsCommit (state S.Store tx.old.conn.now) (state S.Store tx.new.conn.now)) }
+    ensures survives { Survives (state S.Store tx.old.conn.now) (state S.Store tx.new.conn.now) (λ _. ⊥) }
+{
+    if some_changes_suite(steps, at) {
+        update_date(tx, suite.codename.as_str(), moment)
+    } else {
+        Ok(())
+    }
+}
+
+/// Sets the date of each suite that a step changes to the moment.
+pub(crate) fn renew_dates<S: Alter>(
+    tx: &mut Transaction<'_, S>,
+    suites: &[Suite],
+    moment: u64,
+    steps: &[Step],
+) -> Result<(), Error>
+    ensures same_reference { tx.new.conn.ghost_name ≡ tx.old.conn.ghost_name }
+    ensures ok { HasCleanDisk (state S.Store tx.new.conn.now) → IsTrue (state S.Store tx.old.conn.now).in_transaction
+        → OnOk result (Makes (state S.Store tx.old.conn.now) (state S.Store tx.new.conn.now) (with_new_dates suites.now moment steps.now)) }
+    ensures err { HasCleanDisk (state S.Store tx.new.conn.now) → IsTrue (state S.Store tx.old.conn.now).in_transaction
+        → OnErr result (KeepsCommit (state S.Store tx.old.conn.now) (state S.Store tx.new.conn.now)) }
+    ensures survives { Survives (state S.Store tx.old.conn.now) (state S.Store tx.new.conn.now) (λ _. ⊥) }
+{
+    for at in 0..suites.len() {
+        renew_date(tx, at, &suites[at], moment, steps)?;
+    }
+    Ok(())
+}

@@ -1,0 +1,63 @@
+//! Another configuration in the rows of an archive, as one transaction.
+
+ghost use Rattle.std.specs.Prelude.{◌≡◌, ◌≤◌, false, All, length, IsTrue, OnOk, OnErr};
+ghost use Rattle.sqlite.specs.State.{HasCleanDisk, KeepsCommit, Survives};
+ghost use Rattle.sqlite.specs.Held.{state};
+ghost use Rattle.keep.specs.Book.{latest};
+ghost use Rattle.tables.specs.Rows.{Changes};
+ghost use Rattle.tables_meaning.specs.Configuring.{with_configured};
+ghost use Rattle.tables_meaning.specs.Transactions.{IsDone, IsUndone, MayCommit};
+
+use crate::founding::{insert_dates, insert_texts};
+use rules::Config;
+use sqlite::{Alter, Connection, Error, Transaction};
+use std::alloc::Global;
+use suites::Shelves;
+use tables::dates::delete_dates;
+use tables::meta::update_configuration;
+use tables::texts::delete_texts;
+
+/// Writes another configuration inside a transaction: its text, and all texts and dates anew. No other row is touched.
+pub fn configure_inside<S: Alter>(
+    alloc: Global,
+    tx: &mut Transaction<'_, S>,
+    config: &Config,
+    shelves: &Shelves,
+    dates: &[u64],
+) -> Result<(), Error>
+    requires dated { length dates.now ≡ length config.now.suites }
+    requires in_range { All (λ date. date ≤ latest) dates.now }
+    ensures same_reference { tx.new.conn.ghost_name ≡ tx.old.conn.ghost_name }
+    ensures ok { HasCleanDisk (state S.Store tx.new.conn.now) → IsTrue (state S.Store tx.old.conn.now).in_transaction
+        → OnOk result (Changes (state S.Store tx.old.conn.now) (state S.Store tx.new.conn.now) (with_configured config.now shelves.now dates.now)) }
+    ensures err { HasCleanDisk (state S.Store tx.new.conn.now) → IsTrue (state S.Store tx.old.conn.now).in_transaction
+        → OnErr result (KeepsCommit (state S.Store tx.old.conn.now) (state S.Store tx.new.conn.now)) }
+    ensures survives { Survives (state S.Store tx.old.conn.now) (state S.Store tx.new.conn.now) (λ _. ⊥) }
+{
+    update_configuration(tx, config.text())?;
+    delete_texts(tx)?;
+    delete_dates(tx)?;
+    insert_texts(alloc, tx, config, shelves, dates)?;
+    insert_dates(tx, config, dates)
+}
+
+/// Gives the archive of a database another configuration, whole or not at all, also over a crash.
+pub fn configure<S: Alter>(
+    alloc: Global,
+    conn: &mut Connection<S>,
+    config: &Config,
+    shelves: &Shelves,
+    dates: &[u64],
+) -> Result<(), Error>
+    requires idle { conn.old.in_transaction ≡ false }
+    requires dated { length dates.now ≡ length config.now.suites }
+    requires in_range { All (λ date. date ≤ latest) dates.now }
+    ensures idle { conn.new.in_transaction ≡ false }
+    ensures done { HasCleanDisk (state S.Store conn.new) → OnOk result (IsDone (state S.Store conn.old) (state S.Store conn.new) (with_configured config.now shelves.now dates.now)) }
+    ensures undone { HasCleanDisk (state S.Store conn.new) → OnErr result (IsUndone (state S.Store conn.old) (state S.Store conn.new)) }
+    ensures crash { Survives (state S.Store conn.old) (state S.Store conn.new) (MayCommit (state S.Store conn.old) (with_configured config.now shelves.now dates.now)) }
+{
+    let mut tx = conn.transaction();
+    configure_inside(alloc, &mut tx, config, shelves, dates)?;
+    tx.commit()
+}

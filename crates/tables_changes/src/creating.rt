@@ -1,0 +1,45 @@
+//! A new archive in a database.
+
+ghost use Rattle.std.specs.Prelude.{◌≡◌, ◌≤◌, ◌↔◌, false, IsTrue, OnOk, OnErr};
+ghost use Rattle.sqlite.specs.State.{HasCleanDisk, Survives};
+ghost use Rattle.sqlite.specs.Held.{state};
+ghost use Rattle.tables.specs.Schema.{no_schema};
+ghost use Rattle.tables_meaning.specs.Transactions.{IsUndone};
+ghost use Rattle.tables_meaning.specs.Founding.{IsFounded, MayFound, founded};
+
+use crate::founding::found_inside;
+use keep::LATEST;
+use rules::Config;
+use sqlite::{Alter, Connection, Error};
+use std::alloc::Global;
+
+/// Whether the database has no table, no index and no view.
+pub fn is_without_tables<S: Alter>(conn: &Connection<S>) -> bool
+    ensures { IsTrue result ↔ ((state S.Store conn.now).now.schema ≡ no_schema) }
+{
+    let schema = conn.schema();
+    let tables = schema.tables.is_empty();
+    let indexes = schema.indexes.is_empty();
+    let views = schema.views.is_empty();
+    tables && indexes && views
+}
+
+/// Makes an archive of the configuration in a database that has no table, at the moment, in seconds since 1970-01-01
+/// 00:00:00 UTC. Either all of it is there or nothing, also over a crash.
+pub fn create<S: Alter>(
+    alloc: Global,
+    conn: &mut Connection<S>,
+    config: &Config,
+    moment: u64,
+) -> Result<(), Error>
+    requires idle { conn.old.in_transaction ≡ false }
+    requires moment { moment ≤ LATEST }
+    ensures idle { conn.new.in_transaction ≡ false }
+    ensures done { HasCleanDisk (state S.Store conn.new) → OnOk result (IsFounded (state S.Store conn.old) (state S.Store conn.new) (founded config.now moment)) }
+    ensures undone { HasCleanDisk (state S.Store conn.new) → OnErr result (IsUndone (state S.Store conn.old) (state S.Store conn.new)) }
+    ensures crash { Survives (state S.Store conn.old) (state S.Store conn.new) (MayFound (state S.Store conn.old) (founded config.now moment)) }
+{
+    let mut tx = conn.transaction();
+    found_inside(alloc, &mut tx, config, moment)?;
+    tx.commit()
+}

@@ -1,0 +1,20 @@
+//! What a fault of the database is to an archive.
+
+ghost use Rattle.std.specs.Prelude.{◌≡◌, true};
+ghost use Rattle.keep.specs.Keeping.{MayAnswer};
+ghost use Rattle.tables_meaning.specs.Faults.{fault_for};
+
+use keep::KeepFault;
+use sqlite::{Error, ErrorCode};
+
+/// The fault that an error of the database is: want of memory, a size that the database cannot hold, or else a failure of the disk.
+pub fn fault_of(error: Error) -> KeepFault
+    ensures may { MayAnswer true result }
+    ensures which { result ≡ fault_for error }
+{
+    match error {
+        Error::SqliteFailure(ErrorCode::OutOfMemory) => KeepFault::OutOfMemory,
+        Error::SqliteFailure(ErrorCode::TooBig) => KeepFault::Size,
+        _ => KeepFault::Disk,
+    }
+}

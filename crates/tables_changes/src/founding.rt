@@ -1,0 +1,251 @@
+//! The first rows of an archive.
+
+ghost use Rattle.std.specs.Prelude.{◌≡◌, ◌≤◌, ◌<◌, All, length, map, string_bytes, zip, IsTrue, IfOk, OnOk, OnErr};
+ghost use Rattle.sqlite.specs.State.{HasCleanDisk, KeepsCommit, Survives};
+ghost use Rattle.sqlite.specs.Held.{state};
+ghost use Rattle.texts.specs.Indices.{all_texts, suite_path};
+ghost use Rattle.texts.specs.Positions.{indices_at, release_at};
+ghost use Rattle.texts.specs.Release.{listed_entry};
+ghost use Rattle.tables.specs.Rows.{Changes};
+ghost use Rattle.tables_meaning.specs.Founding.{Continues, Founds, component_texts, components_texts, founded, from_root, suite_texts_at, with_dates, with_first_rows, with_path_text, with_texts};
+ghost use Rattle.tables_meaning.specs.Kept.{date_row};
+
+use keep::LATEST;
+use rules::{Config, Suite};
+use sqlite::{Alter, Error, Transaction};
+use std::alloc::{AllocError, Global};
+use suites::Shelves;
+use tables::dates::insert_date;
+use tables::meta::{VERSION, insert_meta};
+use tables::schema::{create_indexes, create_tables};
+use tables::texts::insert_text;
+use texts::{index_path, indices_of, listed_text, release};
+
+/// The whole path of a text in the folder of the suite.
+fn path_in(alloc: Global, suite: &Suite, path: &str) -> Result<String, AllocError>
+    ensures { IfOk result (λ whole. string_bytes whole ≡ suite_path suite.now path.now) }
+{
+    let codename = suite.codename.as_str();
+    format!(in alloc; "dists/{codename}/{path}")
+}
+
+/// The Release of the suite at the position, whose shown items last changed at the moment.
+fn release_of(
+    alloc: Global,
+    config: &Config,
+    shelves: &Shelves,
+    position: usize,
+    moment: u64,
+) -> Result<Vec<u8>, AllocError>
+    requires suite { position < length config.now.suites }
+    requires moment { moment ≤ LATEST }
+    ensures { IfOk result (λ text. text.items ≡ release_at config.now position moment (indices_at config.now shelves.now position)) }
+{
+    let indices = indices_of(alloc, config, shelves, position)?;
+    let mut text = Vec::new(alloc);
+    release(alloc, config, position, moment, &indices, &mut text)?;
+    Ok(text)
+}
+
+/// Adds a text in the folder of the suite.
+fn insert_in_folder<S: Alter>(
+    alloc: Global,
+    tx: &mut Transaction<'_, S>,
+    suite: &Suite,
+    path: &str,
+    text: &[u8],
+) -> Result<(), Error>
+    ensures same_reference { tx.new.conn.ghost_name ≡ tx.old.conn.ghost_name }
+    ensures ok { HasCleanDisk (state S.Store tx.new.conn.now) → IsTrue (state S.Store tx.old.conn.now).in_transaction
+        → OnOk result (Changes (state S.Store tx.old.conn.now) (state S.Store tx.new.conn.now) (with_path_text (from_root suite.now (path.now, text.now)))) }
+    ensures err { HasCleanDisk (state S.Store tx.new.conn.now) → IsTrue (state S.Store tx.old.conn.now).in_transaction
+        → OnErr result (KeepsCommit (state S.Store tx.old.conn.now) (state S.Store tx.new.conn.now)) }
+    ensures survives { Survives (state S.Store tx.old.conn.now) (state S.Store tx.new.conn.now) (λ _. ⊥) }
+{
+    let whole = path_in(alloc, suite, path)?;
+    insert_text(tx, whole.as_str(), text)
+}
+
+/// Adds an index of the suite at the position.
+fn insert_index<S: Alter>(
+    alloc: Global,
+    tx: &mut Transaction<'_, S>,
+    shelves: &Shelves,
+    position: usize,
+    suite: &Suite,
+    component: &str,
+    architecture: &str,
+) -> Result<(), Error>
+    ensures same_reference { tx.new.conn.ghost_name ≡ tx.old.conn.ghost_name }
+    ensures ok { HasCleanDisk (state S.Store tx.new.conn.now) → IsTrue (state S.Store tx.old.conn.now).in_transaction
+        → OnOk result (Changes (state S.Store tx.old.conn.now) (state S.Store tx.new.conn.now) (with_path_text (from_root suite.now (listed_entry shelves.now position component.now architecture.now)))) }
+    ensures err { HasCleanDisk (state S.Store tx.new.conn.now) → IsTrue (state S.Store tx.old.conn.now).in_transaction
+        → OnErr result (KeepsCommit (state S.Store tx.old.conn.now) (state S.Store tx.new.conn.now)) }
+    ensures survives { Survives (state S.Store tx.old.conn.now) (state S.Store tx.new.conn.now) (λ _. ⊥) }
+{
+    let path = index_path(alloc, component, architecture)?;
+    let text = listed_text(alloc, shelves, position, component, architecture)?;
+    insert_in_folder(alloc, tx, suite, path.as_str(), &text)
+}
+
+/// Adds the indices of a component of the suite at the position: each architecture in its order.
+fn insert_component<S: Alter>(
+    alloc: Global,
+    tx: &mut Transaction<'_, S>,
+    shelves: &Shelves,
+    position: usize,
+    suite: &Suite,
+    component: &str,
+) -> Result<(), Error>
+    ensures same_reference { tx.new.conn.ghost_name ≡ tx.old.conn.ghost_name }
+    ensures ok { HasCleanDisk (state S.Store tx.new.conn.now) → IsTrue (state S.Store tx.old.conn.now).in_transaction
+        → OnOk result (Continues (state S.Store tx.old.conn.now) (state S.Store tx.new.conn.now) (with_texts (component_texts shelves.now position suite.now suite.now.architectures component.now))) }
+    ensures err { HasCleanDisk (state S.Store tx.new.conn.now) → IsTrue (state S.Store tx.old.conn.now).in_transaction
+        → OnErr result (KeepsCommit (state S.Store tx.old.conn.now) (state S.Store tx.new.conn.now)) }
+    ensures survives { Survives (state S.Store tx.old.conn.now) (state S.Store tx.new.conn.now) (λ _. ⊥) }
+{
+    for architecture in suite.architectures.as_slice() {
+        insert_index(
+            alloc,
+            tx,
+            shelves,
+            position,
+            suite,
+            component,
+            architecture.as_str(),
+        )?;
+    }
+    Ok(())
+}
+
+/// Adds the indices of the suite at the position, Release aside: each component in its order.
+fn insert_components<S: Alter>(
+    alloc: Global,
+    tx: &mut Transaction<'_, S>,
+    shelves: &Shelves,
+    position: usize,
+    suite: &Suite,
+) -> Result<(), Error>
+    ensures same_reference { tx.new.conn.ghost_name ≡ tx.old.conn.ghost_name }
+    ensures ok { HasCleanDisk (state S.Store tx.new.conn.now) → IsTrue (state S.Store tx.old.conn.now).in_transaction
+        → OnOk result (Continues (state S.Store tx.old.conn.now) (state S.Store tx.new.conn.now) (with_texts (components_texts shelves.now position suite.now suite.now.components))) }
+    ensures err { HasCleanDisk (state S.Store tx.new.conn.now) → IsTrue (state S.Store tx.old.conn.now).in_transaction
+        → OnErr result (KeepsCommit (state S.Store tx.old.conn.now) (state S.Store tx.new.conn.now)) }
+    ensures survives { Survives (state S.Store tx.old.conn.now) (state S.Store tx.new.conn.now) (λ _. ⊥) }
+{
+    for component in suite.components.as_slice() {
+        insert_component(alloc, tx, shelves, position, suite, component.as_str())?;
+    }
+    Ok(())
+}
+
+/// Adds the texts of the suite at the position, whose shown items last changed at the moment: Release, and then the others.
+fn insert_suite<S: Alter>(
+    alloc: Global,
+    tx: &mut Transaction<'_, S>,
+    config: &Config,
+    shelves: &Shelves,
+    position: usize,
+    moment: u64,
+) -> Result<(), Error>
+    requires suite { position < length config.now.suites }
+    requires moment { moment ≤ LATEST }
+    ensures same_reference { tx.new.conn.ghost_name ≡ tx.old.conn.ghost_name }
+    ensures ok { HasCleanDisk (state S.Store tx.new.conn.now) → IsTrue (state S.Store tx.old.conn.now).in_transaction
+        → OnOk result (Continues (state S.Store tx.old.conn.now) (state S.Store tx.new.conn.now) (with_texts (suite_texts_at config.now shelves.now position moment))) }
+    ensures err { HasCleanDisk (state S.Store tx.new.conn.now) → IsTrue (state S.Store tx.old.conn.now).in_transaction
+        → OnErr result (KeepsCommit (state S.Store tx.old.conn.now) (state S.Store tx.new.conn.now)) }
+    ensures survives { Survives (state S.Store tx.old.conn.now) (state S.Store tx.new.conn.now) (λ _. ⊥) }
+{
+    let suite = &config.suites()[position];
+    let text = release_of(alloc, config, shelves, position, moment)?;
+    insert_in_folder(alloc, tx, suite, "Release", &text)?;
+    insert_components(alloc, tx, shelves, position, suite)
+}
+
+/// Adds the texts of the suites, each of which last changed at its date.
+pub fn insert_texts<S: Alter>(
+    alloc: Global,
+    tx: &mut Transaction<'_, S>,
+    config: &Config,
+    shelves: &Shelves,
+    dates: &[u64],
+) -> Result<(), Error>
+    requires dated { length dates.now ≡ length config.now.suites }
+    requires in_range { All (λ date. date ≤ LATEST) dates.now }
+    ensures same_reference { tx.new.conn.ghost_name ≡ tx.old.conn.ghost_name }
+    ensures ok { HasCleanDisk (state S.Store tx.new.conn.now) → IsTrue (state S.Store tx.old.conn.now).in_transaction
+        → OnOk result (Continues (state S.Store tx.old.conn.now) (state S.Store tx.new.conn.now) (with_texts (all_texts config.now shelves.now dates.now))) }
+    ensures err { HasCleanDisk (state S.Store tx.new.conn.now) → IsTrue (state S.Store tx.old.conn.now).in_transaction
+        → OnErr result (KeepsCommit (state S.Store tx.old.conn.now) (state S.Store tx.new.conn.now)) }
+    ensures survives { Survives (state S.Store tx.old.conn.now) (state S.Store tx.new.conn.now) (λ _. ⊥) }
+{
+    for position in 0..dates.len() {
+        insert_suite(alloc, tx, config, shelves, position, dates[position])?;
+    }
+    Ok(())
+}
+
+/// Adds the dates of the suites.
+pub fn insert_dates<S: Alter>(
+    tx: &mut Transaction<'_, S>,
+    config: &Config,
+    dates: &[u64],
+) -> Result<(), Error>
+    requires dated { length dates.now ≡ length config.now.suites }
+    ensures same_reference { tx.new.conn.ghost_name ≡ tx.old.conn.ghost_name }
+    ensures ok { HasCleanDisk (state S.Store tx.new.conn.now) → IsTrue (state S.Store tx.old.conn.now).in_transaction
+        → OnOk result (Continues (state S.Store tx.old.conn.now) (state S.Store tx.new.conn.now) (with_dates (map date_row (zip config.now.suites dates.now)))) }
+    ensures err { HasCleanDisk (state S.Store tx.new.conn.now) → IsTrue (state S.Store tx.old.conn.now).in_transaction
+        → OnErr result (KeepsCommit (state S.Store tx.old.conn.now) (state S.Store tx.new.conn.now)) }
+    ensures survives { Survives (state S.Store tx.old.conn.now) (state S.Store tx.new.conn.now) (λ _. ⊥) }
+{
+    for position in 0..dates.len() {
+        let suite = &config.suites()[position];
+        insert_date(tx, suite.codename.as_str(), dates[position])?;
+    }
+    Ok(())
+}
+
+/// Adds the first rows of an archive: the version and the configuration, the texts, and the dates, the moment for each suite.
+fn insert_first_rows<S: Alter>(
+    alloc: Global,
+    tx: &mut Transaction<'_, S>,
+    config: &Config,
+    moment: u64,
+) -> Result<(), Error>
+    requires { moment ≤ LATEST }
+    ensures same_reference { tx.new.conn.ghost_name ≡ tx.old.conn.ghost_name }
+    ensures ok { HasCleanDisk (state S.Store tx.new.conn.now) → IsTrue (state S.Store tx.old.conn.now).in_transaction
+        → OnOk result (Changes (state S.Store tx.old.conn.now) (state S.Store tx.new.conn.now) (with_first_rows config.now moment)) }
+    ensures err { HasCleanDisk (state S.Store tx.new.conn.now) → IsTrue (state S.Store tx.old.conn.now).in_transaction
+        → OnErr result (KeepsCommit (state S.Store tx.old.conn.now) (state S.Store tx.new.conn.now)) }
+    ensures survives { Survives (state S.Store tx.old.conn.now) (state S.Store tx.new.conn.now) (λ _. ⊥) }
+{
+    let moments = vec![in alloc; moment; config.suites().len()]?;
+    let dates = moments.as_slice();
+    insert_meta(tx, VERSION, config.text())?;
+    let shelves = Shelves::new(alloc);
+    insert_texts(alloc, tx, config, &shelves, dates)?;
+    insert_dates(tx, config, dates)
+}
+
+/// Makes the tables of an archive and its indexes in a database that has no table, and adds the first rows.
+pub fn found_inside<S: Alter>(
+    alloc: Global,
+    tx: &mut Transaction<'_, S>,
+    config: &Config,
+    moment: u64,
+) -> Result<(), Error>
+    requires { moment ≤ LATEST }
+    ensures same_reference { tx.new.conn.ghost_name ≡ tx.old.conn.ghost_name }
+    ensures ok { HasCleanDisk (state S.Store tx.new.conn.now) → IsTrue (state S.Store tx.old.conn.now).in_transaction
+        → OnOk result (Founds (state S.Store tx.old.conn.now) (state S.Store tx.new.conn.now) (founded config.now moment)) }
+    ensures err { HasCleanDisk (state S.Store tx.new.conn.now) → IsTrue (state S.Store tx.old.conn.now).in_transaction
+        → OnErr result (KeepsCommit (state S.Store tx.old.conn.now) (state S.Store tx.new.conn.now)) }
+    ensures survives { Survives (state S.Store tx.old.conn.now) (state S.Store tx.new.conn.now) (λ _. ⊥) }
+{
+    create_tables(tx)?;
+    create_indexes(tx)?;
+    insert_first_rows(alloc, tx, config, moment)
+}

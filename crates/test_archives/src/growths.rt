@@ -1,0 +1,262 @@
+//! Calls of an archive between two marks that are printed. A growth between them may be refused from outside: then the call is refused, or
+//! answers all the same. Where it is refused, the archive is to show what it did, and the call is made again.
+
+use crate::disks::account::difference;
+use crate::disks::task::{Question, Task};
+use crate::disks::work::Pieces;
+use crate::keepers::Places;
+use keep::{KeepFault, Keeper};
+use queue::Archive;
+use test_rows::{Answers, Unread, said, text_of};
+use rules::Config;
+use std::alloc::Global;
+use test_story::{Call, Story};
+
+/// Room for the reply of a request.
+const ROOM: usize = 65_536;
+
+/// A story over keepers of one type, of which calls may be marked.
+#[derive(Drop)]
+pub struct Marked<K: Keeper + Drop, M: Places<K>> {
+    story: Story<K, M>,
+}
+
+/// Where the marks are printed, if they are.
+#[derive(Clone, Copy)]
+pub struct Marks<'a, R> {
+    pub rt: &'a R,
+    pub are_printed: bool,
+}
+
+impl<R: Print + AllocGlobal> Marks<'_, R> {
+    /// Prints a word, if marks are printed.
+    fn print(&self, word: &str) -> Result<(), Unread> {
+        if self.are_printed && println!(self.rt; "{word}").is_err() {
+            return Err(Unread::Failed);
+        }
+        Ok(())
+    }
+
+    /// Growths count from here on.
+    pub fn begin(&self) -> Result<(), Unread> {
+        self.print("begin")
+    }
+
+    /// No growth counts from here on.
+    pub fn end(&self, is_refused: bool) -> Result<(), Unread> {
+        self.print("end")?;
+        self.print(if is_refused { "refused" } else { "at once" })
+    }
+}
+
+/// All that an archive shows.
+fn shown<K: Keeper>(alloc: Global, archive: &mut Archive<K>) -> Result<Pieces, Unread> {
+    let paths = Task::Paths.perform(alloc, archive)?;
+    let question = Question {
+        words: &[],
+        paths: paths.as_slice(),
+        right: &[],
+    };
+    Task::Tell(question).perform(alloc, archive)
+}
+
+/// Where an archive shows something else than it did, what that is.
+fn changed<K: Keeper>(
+    alloc: Global,
+    archive: &mut Archive<K>,
+    before: &[Vec<u8>],
+) -> Result<Option<Vec<u8>>, Unread> {
+    let behind = shown(alloc, archive)?;
+    if behind.as_slice() == before {
+        return Ok(None);
+    }
+    Ok(Some(difference(alloc, behind.as_slice(), before)?))
+}
+
+/// What a call answers that is made again, where the archive shows what it did.
+fn again<K: Keeper>(
+    alloc: Global,
+    archive: &mut Archive<K>,
+    call: &Call,
+    before: &[Vec<u8>],
+) -> Result<Vec<u8>, Unread> {
+    match changed(alloc, archive, before)? {
+        Some(text) => Ok(text),
+        None => {
+            let room = Vec::with_capacity(alloc, ROOM)?;
+            call.make(alloc, archive, room).text(alloc)
+        }
+    }
+}
+
+/// What a call answers, at once or where it is made again.
+fn called<K: Keeper, R: Print + AllocGlobal>(
+    marks: Marks<'_, R>,
+    archive: &mut Archive<K>,
+    words: &[Vec<u8>],
+) -> Result<Vec<u8>, Unread> {
+    let alloc = marks.rt.alloc();
+    let call = Call::read(alloc, words)?;
+    let before = shown(alloc, archive)?;
+    let room = Vec::with_capacity(alloc, ROOM)?;
+    marks.begin()?;
+    let answered = call.make(alloc, archive, room);
+    marks.end(answered.is_refused())?;
+    if answered.is_refused() {
+        return again(alloc, archive, &call, before.as_slice());
+    }
+    answered.text(alloc)
+}
+
+/// A word where a keeper is there, which the story then has, or the fault.
+fn kept<K: Keeper + Drop, M: Places<K>>(
+    alloc: Global,
+    story: &mut Story<K, M>,
+    keeper: Result<K, (M::Place, KeepFault)>,
+    word: &str,
+) -> Result<Vec<u8>, Unread> {
+    match keeper {
+        Ok(keeper) => {
+            story.put(Archive::new(alloc, keeper));
+            said(alloc, word)
+        }
+        Err((_, fault)) => Ok(fault.to_string(alloc)?.into_bytes()),
+    }
+}
+
+/// The configuration of a text.
+pub fn config_of(alloc: Global, text: &[u8]) -> Result<Config, Unread> {
+    match Config::read(alloc, text) {
+        Ok(config) => Ok(config),
+        Err(_) => Err(Unread::BadWords),
+    }
+}
+
+/// Makes an archive again in its place, where memory was wanting.
+fn created_again<K: Keeper + Drop, M: Places<K>>(
+    alloc: Global,
+    made: Result<K, (M::Place, KeepFault)>,
+    config: Config,
+) -> Result<K, (M::Place, KeepFault)> {
+    match made {
+        Ok(keeper) => Ok(keeper),
+        Err((place, KeepFault::OutOfMemory)) => M::create(alloc, place, config),
+        Err((place, fault)) => Err((place, fault)),
+    }
+}
+
+/// Makes an archive in a place, at once or where it is made again.
+fn created_in<K: Keeper + Drop, M: Places<K>, R: Print + AllocGlobal>(
+    marks: Marks<'_, R>,
+    story: &mut Story<K, M>,
+    place: M::Place,
+    config: Config,
+    other: Config,
+) -> Result<Vec<u8>, Unread> {
+    let alloc = marks.rt.alloc();
+    let begun = marks.begin();
+    let made = M::create(alloc, place, config);
+    let ended = marks.end(made.is_err());
+    let made = created_again::<K, M>(alloc, made, other);
+    let answer = kept(alloc, story, made, "made");
+    begun?;
+    ended?;
+    answer
+}
+
+/// `create CONFIG`: makes an archive of a configuration.
+fn created<K: Keeper + Drop, M: Places<K>, R: Print + AllocGlobal>(
+    marks: Marks<'_, R>,
+    story: &mut Story<K, M>,
+    text: &[u8],
+) -> Result<Vec<u8>, Unread> {
+    let alloc = marks.rt.alloc();
+    let config = config_of(alloc, text)?;
+    let other = config_of(alloc, text)?;
+    let place = M::place(alloc)?;
+    created_in(marks, story, place, config, other)
+}
+
+/// Opens an archive again in its place, where memory was wanting.
+fn opened_again<K: Keeper + Drop, M: Places<K>>(
+    alloc: Global,
+    there: Result<K, (M::Place, KeepFault)>,
+) -> Result<K, (M::Place, KeepFault)> {
+    match there {
+        Ok(keeper) => Ok(keeper),
+        Err((place, KeepFault::OutOfMemory)) => M::open(alloc, place),
+        Err((place, fault)) => Err((place, fault)),
+    }
+}
+
+/// Opens an archive, at once or where it is opened again in the same place.
+fn opened<K: Keeper + Drop, M: Places<K>, R: Print + AllocGlobal>(
+    marks: Marks<'_, R>,
+    story: &mut Story<K, M>,
+    archive: Archive<K>,
+) -> Result<Vec<u8>, Unread> {
+    let alloc = marks.rt.alloc();
+    let place = M::leave(archive.into_keeper());
+    let begun = marks.begin();
+    let there = M::open(alloc, place);
+    let ended = marks.end(there.is_err());
+    let there = opened_again::<K, M>(alloc, there);
+    let answer = kept(alloc, story, there, "opened");
+    begun?;
+    ended?;
+    answer
+}
+
+/// What a call answers of the archive that is there, which stays there.
+fn called_of<K: Keeper + Drop, M: Places<K>, R: Print + AllocGlobal>(
+    marks: Marks<'_, R>,
+    story: &mut Story<K, M>,
+    words: &[Vec<u8>],
+) -> Result<Vec<u8>, Unread> {
+    let Some(mut archive) = story.take() else {
+        return Err(Unread::BadWords);
+    };
+    let answer = called(marks, &mut archive, words)?;
+    story.put(archive);
+    Ok(answer)
+}
+
+/// `call CALL`: what a call answers, or its fault; `call create CONFIG` and `call open`: whether an archive is made, or opened again. Behind
+/// `marked` in the place of `call` the marks are printed.
+fn answered<K: Keeper + Drop, M: Places<K>, R: Print + AllocGlobal>(
+    marks: Marks<'_, R>,
+    story: &mut Story<K, M>,
+    words: &[Vec<u8>],
+) -> Result<Vec<u8>, Unread> {
+    let Some((verb, rest)) = words.split_first() else {
+        return Err(Unread::BadWords);
+    };
+    match (text_of(verb)?, rest) {
+        ("create", [config]) => created(marks, story, config.as_slice()),
+        ("open", []) => match story.take() {
+            Some(archive) => opened(marks, story, archive),
+            None => Err(Unread::BadWords),
+        },
+        _ => called_of(marks, story, words),
+    }
+}
+
+impl<K: Keeper + Drop, M: Places<K>, R: Print + AllocGlobal> Answers<R> for Marked<K, M> {
+    fn fresh(_rt: &R) -> Marked<K, M> {
+        Marked {
+            story: Story::new(),
+        }
+    }
+
+    fn answer(&mut self, rt: &R, words: &[Vec<u8>]) -> Result<Vec<u8>, Unread> {
+        let Some((verb, rest)) = words.split_first() else {
+            return Err(Unread::BadWords);
+        };
+        let are_printed = match text_of(verb)? {
+            "call" => false,
+            "marked" => true,
+            _ => return self.story.answered(rt.alloc(), words),
+        };
+        answered(Marks { rt, are_printed }, &mut self.story, rest)
+    }
+}

@@ -1,0 +1,233 @@
+//! Calls of an archive that are read from a row first, then made, and told of last: while one is made nothing grows but what it makes
+//! grow itself.
+
+use crate::configurations::{NotConfigured, configured, told};
+use crate::drives::{add_commands, command_of, outcome_text, outcomes_text};
+use crate::outcomes::printed;
+use crate::readers::Pieces;
+use crate::steps::owned;
+use desk::{DeskFault, Served, answer};
+use keep::Keeper;
+use queue::{Archive, Command, Fault, Outcome};
+use test_rows::{Unread, number_of, text_of};
+use std::alloc::{AllocError, Global};
+
+/// How many bytes come a read.
+const MOST: usize = 4096;
+
+/// How a reply begins that tells of want of memory.
+const NO_MEMORY: &[u8] = b"HTTP/1.1 507 ";
+
+/// A call.
+#[derive(Drop)]
+pub enum Call {
+    /// A command by itself.
+    One(Command),
+    /// A list of commands.
+    List(Vec<Command>),
+    /// A delivery whose body a reader gives.
+    Receive(String, Vec<u8>),
+    /// A request at a moment.
+    Request(u64, Vec<u8>),
+    /// The text of a configuration that the archive gets, and the moment.
+    Configure(u64, Vec<u8>),
+}
+
+/// What a call was answered.
+#[derive(Drop)]
+pub enum Answered {
+    One(Outcome),
+    List(Result<Vec<Outcome>, AllocError>),
+    /// How the request was served, and what was written.
+    Reply(Result<Served, DeskFault>, Vec<u8>),
+    Configured(Result<(), NotConfigured>),
+}
+
+/// Makes a command by itself.
+fn one<K: Keeper>(alloc: Global, archive: &mut Archive<K>, command: &Command) -> Outcome {
+    match command {
+        Command::Deliver { name, body, moment } => {
+            Outcome::Deliver(archive.deliver(alloc, name, body, *moment))
+        }
+        Command::Run { moment } => Outcome::Run(archive.run(alloc, *moment)),
+        Command::Copy {
+            from,
+            to,
+            source,
+            moment,
+        } => Outcome::Copy(archive.copy(alloc, from, to, source, *moment)),
+        Command::Fetch { path } => Outcome::Fetch(archive.fetch(alloc, path)),
+        Command::Waiting { moment } => Outcome::Waiting(archive.waiting(alloc, *moment)),
+        Command::Clean { moment } => Outcome::Clean(archive.clean(alloc, *moment)),
+        Command::Remove {
+            suite,
+            name,
+            moment,
+        } => Outcome::Remove(archive.remove(alloc, suite, name, *moment)),
+        Command::Promote {
+            from,
+            to,
+            sources,
+            moment,
+        } => Outcome::Promote(archive.promote(alloc, from, to, sources, *moment)),
+        Command::Verdicts => Outcome::Verdicts(archive.verdicts(alloc)),
+    }
+}
+
+/// Delivers a body that a reader gives, at 0.
+fn received<K: Keeper>(
+    alloc: Global,
+    archive: &mut Archive<K>,
+    name: &str,
+    body: &[u8],
+) -> Outcome {
+    let mut reader = Pieces {
+        bytes: body,
+        most: MOST,
+        fails: false,
+    };
+    Outcome::Deliver(archive.receive(alloc, name, body.len() as u64, &mut reader, 0))
+}
+
+/// Makes a request, and writes the reply into this room.
+fn replied<K: Keeper>(
+    alloc: Global,
+    archive: &mut Archive<K>,
+    moment: u64,
+    bytes: &[u8],
+    room: Vec<u8>,
+) -> Answered {
+    let mut writer = room;
+    let mut reader = Pieces {
+        bytes,
+        most: MOST,
+        fails: false,
+    };
+    let served = answer(alloc, archive, &mut reader, &mut writer, moment);
+    Answered::Reply(served, writer)
+}
+
+/// A request: its words are a moment and its bytes.
+fn request_of(alloc: Global, words: &[Vec<u8>]) -> Result<Call, Unread> {
+    match words {
+        [moment, bytes] => Ok(Call::Request(
+            number_of(moment)?,
+            Vec::from_slice(alloc, bytes.as_slice())?,
+        )),
+        _ => Err(Unread::BadWords),
+    }
+}
+
+/// A configuration that the archive gets: its words are a moment and a text.
+fn configuration_of(alloc: Global, words: &[Vec<u8>]) -> Result<Call, Unread> {
+    match words {
+        [moment, text] => Ok(Call::Configure(
+            number_of(moment)?,
+            Vec::from_slice(alloc, text.as_slice())?,
+        )),
+        _ => Err(Unread::BadWords),
+    }
+}
+
+/// A delivery whose body a reader gives: its words are a name and a body.
+fn receipt_of(alloc: Global, words: &[Vec<u8>]) -> Result<Call, Unread> {
+    match words {
+        [name, body] => Ok(Call::Receive(
+            owned(alloc, name)?,
+            Vec::from_slice(alloc, body.as_slice())?,
+        )),
+        _ => Err(Unread::BadWords),
+    }
+}
+
+/// The commands of a list.
+fn list_of(alloc: Global, words: &[Vec<u8>]) -> Result<Call, Unread> {
+    let mut commands = Vec::new(alloc);
+    add_commands(alloc, &mut commands, words)?;
+    Ok(Call::List(commands))
+}
+
+impl Call {
+    /// The call of a row: `request MOMENT BYTES`, `receive NAME BODY`, `configure MOMENT CONFIG`, `drive COMMAND ; COMMAND ..`, or a
+    /// command as it stands in such a list.
+    pub fn read(alloc: Global, words: &[Vec<u8>]) -> Result<Call, Unread> {
+        let Some((verb, rest)) = words.split_first() else {
+            return Err(Unread::BadWords);
+        };
+        match text_of(verb)? {
+            "request" => request_of(alloc, rest),
+            "receive" => receipt_of(alloc, rest),
+            "configure" => configuration_of(alloc, rest),
+            "drive" => list_of(alloc, rest),
+            _ => Ok(Call::One(command_of(alloc, words)?)),
+        }
+    }
+
+    /// Makes it. A reply is written into the room.
+    pub fn make<K: Keeper>(
+        &self,
+        alloc: Global,
+        archive: &mut Archive<K>,
+        room: Vec<u8>,
+    ) -> Answered {
+        match self {
+            Call::One(command) => Answered::One(one(alloc, archive, command)),
+            Call::List(commands) => Answered::List(archive.drive(alloc, commands)),
+            Call::Receive(name, body) => Answered::One(received(alloc, archive, name, body)),
+            Call::Request(moment, bytes) => replied(alloc, archive, *moment, bytes, room),
+            Call::Configure(moment, text) => {
+                Answered::Configured(configured(alloc, archive, text, *moment))
+            }
+        }
+    }
+}
+
+/// Whether a command was refused for want of memory.
+fn is_refused(outcome: &Outcome) -> bool {
+    matches!(
+        outcome,
+        Outcome::Deliver(Err(Fault::OutOfMemory))
+            | Outcome::Run(Err(Fault::OutOfMemory))
+            | Outcome::Copy(Err(Fault::OutOfMemory))
+            | Outcome::Fetch(Err(Fault::OutOfMemory))
+            | Outcome::Waiting(Err(Fault::OutOfMemory))
+            | Outcome::Clean(Err(Fault::OutOfMemory))
+            | Outcome::Remove(Err(Fault::OutOfMemory))
+            | Outcome::Promote(Err(Fault::OutOfMemory))
+            | Outcome::Verdicts(Err(Fault::OutOfMemory))
+    )
+}
+
+/// Whether any of these commands was refused for want of memory.
+fn has_refused(outcomes: &[Outcome]) -> bool {
+    for outcome in outcomes {
+        if is_refused(outcome) {
+            return true;
+        }
+    }
+    false
+}
+
+impl Answered {
+    /// Whether the call, or one of its commands, was refused for want of memory.
+    pub fn is_refused(&self) -> bool {
+        match self {
+            Answered::One(outcome) => is_refused(outcome),
+            Answered::List(Ok(outcomes)) => has_refused(outcomes.as_slice()),
+            Answered::List(Err(_)) => true,
+            Answered::Reply(_, written) => written.as_slice().starts_with(NO_MEMORY),
+            Answered::Configured(done) => matches!(done, Err(NotConfigured::OutOfMemory)),
+        }
+    }
+
+    /// What is printed of it.
+    pub fn text(self, alloc: Global) -> Result<Vec<u8>, Unread> {
+        match self {
+            Answered::One(outcome) => outcome_text(alloc, outcome),
+            Answered::List(outcomes) => outcomes_text(alloc, outcomes?),
+            Answered::Reply(Ok(_), written) => Ok(written),
+            Answered::Reply(Err(fault), _) => printed(alloc, &fault),
+            Answered::Configured(done) => told(alloc, done),
+        }
+    }
+}

@@ -1,0 +1,46 @@
+//! Pieces of texts that a row replaces.
+
+use test_rows::{Unread, text_of};
+use std::alloc::Global;
+
+/// Replaces a piece wherever it stands in a text, and says whether it does.
+fn replace_piece(alloc: Global, text: &mut Vec<u8>, piece: &str, by: &str) -> Result<bool, Unread> {
+    let old = text_of(text)?;
+    if !old.contains(piece) {
+        return Ok(false);
+    }
+    *text = old.replace(alloc, piece, by)?.into_bytes();
+    Ok(true)
+}
+
+/// Replaces a piece in each of two texts, one of which has it. The words are what stands there, and what is to stand there.
+fn replace_pair(
+    alloc: Global,
+    name: &mut Vec<u8>,
+    text: &mut Vec<u8>,
+    pair: &[Vec<u8>],
+) -> Result<(), Unread> {
+    let [piece, by] = pair else {
+        return Err(Unread::BadWords);
+    };
+    let (piece, by) = (text_of(piece)?, text_of(by)?);
+    let in_name = replace_piece(alloc, name, piece, by)?;
+    if replace_piece(alloc, text, piece, by)? || in_name {
+        Ok(())
+    } else {
+        Err(Unread::NothingToReplace)
+    }
+}
+
+/// Replaces pieces in a text and in its name: of each two words the first is what stands there, and the second what is to stand there.
+pub fn replace_pieces(
+    alloc: Global,
+    name: &mut Vec<u8>,
+    text: &mut Vec<u8>,
+    words: &[Vec<u8>],
+) -> Result<(), Unread> {
+    for pair in words.chunks(2) {
+        replace_pair(alloc, name, text, pair)?;
+    }
+    Ok(())
+}

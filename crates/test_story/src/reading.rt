@@ -1,0 +1,128 @@
+//! What is read of a connection: what a request asks, or why it is refused.
+
+use crate::readers::Pieces;
+use desk::Desk;
+use desk::head::{Refusal, Wanted, read_wanted};
+use desk::request::{Request, read_request};
+use queue::ReaderFailed;
+use test_rows::Unread;
+use std::alloc::{AllocError, Global};
+use std::fmt::Write;
+
+/// How many bytes come a read.
+const SIZES: [usize; 4] = [1, 2, 7, 1000];
+
+/// Adds `nothing`, the status of a refusal, `asks` for a command, or `H1`.
+fn add_status(text: &mut String, read: &Result<Request, ReaderFailed>) -> Result<(), AllocError> {
+    match read {
+        Ok(Request::Nothing) => text.push_str("nothing"),
+        Ok(Request::Refused(refusal)) => {
+            let status = refusal.status().as_u16();
+            write!(text, "{status}")
+        }
+        Ok(Request::Asks(_)) => text.push_str("asks"),
+        Err(ReaderFailed) => text.push_str("H1"),
+    }
+}
+
+/// What a request is answered, and how many bytes are left.
+fn status_text(
+    alloc: Global,
+    read: &Result<Request, ReaderFailed>,
+    left: usize,
+) -> Result<String, AllocError> {
+    let mut text = String::new(alloc);
+    add_status(&mut text, read)?;
+    write!(text, " {left}")?;
+    Ok(text)
+}
+
+/// The answer to bytes that come at most so many a read, and how many of them are left.
+fn status_at(alloc: Global, bytes: &[u8], most: usize) -> Result<String, AllocError> {
+    let mut reader = Pieces {
+        bytes,
+        most,
+        fails: false,
+    };
+    let read = read_request(alloc, &Desk::new(alloc)?, &mut reader);
+    status_text(alloc, &read, reader.bytes.len())
+}
+
+/// The answer where it is another than the first.
+fn other_status(
+    alloc: Global,
+    bytes: &[u8],
+    most: usize,
+    first: &str,
+) -> Result<Option<Vec<u8>>, AllocError> {
+    let found = status_at(alloc, bytes, most)?;
+    if found.as_str() == first {
+        return Ok(None);
+    }
+    let told = format!(in alloc; "{first}, and {found} by {most}")?;
+    Ok(Some(told.into_bytes()))
+}
+
+/// `status BYTES`: what the head of a request is answered before the archive is called, and how many bytes behind it are left unread,
+/// however many come a read.
+pub fn status(alloc: Global, words: &[Vec<u8>]) -> Result<Vec<u8>, Unread> {
+    let [bytes] = words else {
+        return Err(Unread::BadWords);
+    };
+    let first = status_at(alloc, bytes, 1)?;
+    for most in SIZES {
+        if let Some(other) = other_status(alloc, bytes, most, &first)? {
+            return Ok(other);
+        }
+    }
+    Ok(first.into_bytes())
+}
+
+/// Adds a command with what it is to do.
+fn add_wanted(text: &mut String, wanted: &Wanted) -> Result<(), AllocError> {
+    match wanted {
+        Wanted::Deliver { name, length } => write!(text, "deliver {name:?} {length}"),
+        Wanted::Run => text.push_str("run"),
+        Wanted::Copy { from, to, source } => write!(text, "copy {from:?} {to:?} {source:?}"),
+        Wanted::Fetch { path, is_pool } => {
+            let kind = if *is_pool { "pool" } else { "dists" };
+            write!(text, "fetch {path:?} {kind}")
+        }
+        Wanted::Waiting => text.push_str("waiting"),
+        Wanted::Clean => text.push_str("clean"),
+        Wanted::Verdicts => text.push_str("verdicts"),
+        Wanted::Remove { suite, name } => write!(text, "remove {suite:?} {name:?}"),
+        Wanted::Promote { from, to } => write!(text, "promote {from:?} {to:?}"),
+    }
+}
+
+/// Adds the status of a refusal, and the method that is wanted in place of another.
+fn add_refusal(text: &mut String, refusal: Refusal) -> Result<(), AllocError> {
+    let status = refusal.status().as_u16();
+    match refusal.into_allowed() {
+        Some(method) => {
+            let method = method.as_str();
+            write!(text, "{status} {method}")
+        }
+        None => write!(text, "{status}"),
+    }
+}
+
+/// Adds what was read of a head.
+fn add_read(text: &mut String, read: Result<Wanted, Refusal>) -> Result<(), AllocError> {
+    match read {
+        Ok(wanted) => add_wanted(text, &wanted),
+        Err(refusal) => add_refusal(text, refusal),
+    }
+}
+
+/// `wanted HEAD`: what a head asks for, or why it is refused.
+pub fn wanted(alloc: Global, words: &[Vec<u8>]) -> Result<Vec<u8>, Unread> {
+    let [head] = words else {
+        return Err(Unread::BadWords);
+    };
+    let mut text = String::new(alloc);
+    let desk = Desk::new(alloc)?;
+    add_read(&mut text, read_wanted(alloc, &desk, head))?;
+    Ok(text.into_bytes())
+}

@@ -1,0 +1,173 @@
+//! Deliveries, runs, lists, look-ups, copies, promotions, removals and cleanings.
+
+use crate::delivery::delivery_of;
+use crate::outcomes::{
+    arrived_text, found_text, number_text, promotion_text, refused_text, report_text,
+};
+use keep::Keeper;
+use queue::Archive;
+use test_rows::{Unread, number_of, said, text_of};
+use std::alloc::Global;
+
+/// `deliver NAME [MOMENT] BODY [OLD NEW]..`: `new`, `again`, or the fault.
+pub fn deliver<K: Keeper>(
+    alloc: Global,
+    archive: &mut Archive<K>,
+    words: &[Vec<u8>],
+) -> Result<Vec<u8>, Unread> {
+    let delivery = delivery_of(alloc, words)?;
+    let (name, body) = (delivery.name.as_str(), delivery.body.as_slice());
+    arrived_text(alloc, archive.deliver(alloc, name, body, delivery.moment))
+}
+
+/// `run MOMENT`: the lines of the report.
+pub fn run<K: Keeper>(
+    alloc: Global,
+    archive: &mut Archive<K>,
+    words: &[Vec<u8>],
+) -> Result<Vec<u8>, Unread> {
+    let [moment] = words else {
+        return Err(Unread::BadWords);
+    };
+    report_text(alloc, archive.run(alloc, number_of(moment)?))
+}
+
+/// The moment of a list: 0, where none is given.
+pub fn moment_of(words: &[Vec<u8>]) -> Result<u64, Unread> {
+    match words {
+        [] => Ok(0),
+        [moment] => number_of(moment),
+        _ => Err(Unread::BadWords),
+    }
+}
+
+/// `waiting [MOMENT]`: a line for each upload without a verdict.
+pub fn waiting<K: Keeper>(
+    alloc: Global,
+    archive: &mut Archive<K>,
+    words: &[Vec<u8>],
+) -> Result<Vec<u8>, Unread> {
+    report_text(alloc, archive.waiting(alloc, moment_of(words)?))
+}
+
+/// `verdicts`: a line for each upload with a verdict.
+pub fn verdicts<K: Keeper>(
+    alloc: Global,
+    archive: &mut Archive<K>,
+    words: &[Vec<u8>],
+) -> Result<Vec<u8>, Unread> {
+    if !words.is_empty() {
+        return Err(Unread::BadWords);
+    }
+    report_text(alloc, archive.verdicts(alloc))
+}
+
+/// The path that is asked for.
+pub fn path_of(words: &[Vec<u8>]) -> Result<&str, Unread> {
+    match words {
+        [path] => text_of(path),
+        _ => Err(Unread::BadWords),
+    }
+}
+
+/// `show PATH`: the bytes that stand there, or `nothing`.
+pub fn show<K: Keeper>(
+    alloc: Global,
+    archive: &mut Archive<K>,
+    words: &[Vec<u8>],
+) -> Result<Vec<u8>, Unread> {
+    found_text(alloc, archive.fetch(alloc, path_of(words)?))
+}
+
+/// `has PATH`: whether anything stands there.
+pub fn has<K: Keeper>(
+    alloc: Global,
+    archive: &mut Archive<K>,
+    words: &[Vec<u8>],
+) -> Result<Vec<u8>, Unread> {
+    match archive.fetch(alloc, path_of(words)?) {
+        Ok(Some(_)) => said(alloc, "yes"),
+        Ok(None) => said(alloc, "no"),
+        Err(fault) => refused_text(alloc, fault),
+    }
+}
+
+/// `copy FROM TO SOURCE MOMENT`: how many items are new, or the fault.
+pub fn copy<K: Keeper>(
+    alloc: Global,
+    archive: &mut Archive<K>,
+    words: &[Vec<u8>],
+) -> Result<Vec<u8>, Unread> {
+    let [from, to, source, moment] = words else {
+        return Err(Unread::BadWords);
+    };
+    let (from, to, source) = (text_of(from)?, text_of(to)?, text_of(source)?);
+    number_text(
+        alloc,
+        archive.copy(alloc, from, to, source, number_of(moment)?),
+    )
+}
+
+/// A word that is a text, as a text of its own.
+pub fn owned(alloc: Global, word: &Vec<u8>) -> Result<String, Unread> {
+    Ok(String::from_str(alloc, text_of(word)?)?)
+}
+
+/// Words that are texts, as texts of their own.
+fn all_owned(alloc: Global, words: &[Vec<u8>]) -> Result<Vec<String>, Unread> {
+    let mut texts = Vec::new(alloc);
+    for word in words {
+        texts.push(owned(alloc, word)?)?;
+    }
+    Ok(texts)
+}
+
+/// The sources of a promotion: those that are named, or else all that the suite shows.
+pub fn sources_of(alloc: Global, words: &[Vec<u8>]) -> Result<Option<Vec<String>>, Unread> {
+    match words {
+        [] => Ok(None),
+        sources => Ok(Some(all_owned(alloc, sources)?)),
+    }
+}
+
+/// `promote FROM TO MOMENT [SOURCE..]`: for each source how many items are new, or that it is refused; or the fault.
+pub fn promote<K: Keeper>(
+    alloc: Global,
+    archive: &mut Archive<K>,
+    words: &[Vec<u8>],
+) -> Result<Vec<u8>, Unread> {
+    let [from, to, moment, sources @ ..] = words else {
+        return Err(Unread::BadWords);
+    };
+    let (from, to) = (text_of(from)?, text_of(to)?);
+    let (moment, sources) = (number_of(moment)?, sources_of(alloc, sources)?);
+    promotion_text(alloc, archive.promote(alloc, from, to, &sources, moment))
+}
+
+/// `remove SUITE NAME MOMENT`: how many items of the package the suite showed, or the fault.
+pub fn remove<K: Keeper>(
+    alloc: Global,
+    archive: &mut Archive<K>,
+    words: &[Vec<u8>],
+) -> Result<Vec<u8>, Unread> {
+    let [suite, name, moment] = words else {
+        return Err(Unread::BadWords);
+    };
+    let (suite, name) = (text_of(suite)?, text_of(name)?);
+    number_text(
+        alloc,
+        archive.remove(alloc, suite, name, number_of(moment)?),
+    )
+}
+
+/// `clean MOMENT`: how many arrivals it took away, or the fault.
+pub fn clean<K: Keeper>(
+    alloc: Global,
+    archive: &mut Archive<K>,
+    words: &[Vec<u8>],
+) -> Result<Vec<u8>, Unread> {
+    let [moment] = words else {
+        return Err(Unread::BadWords);
+    };
+    number_text(alloc, archive.clean(alloc, number_of(moment)?))
+}

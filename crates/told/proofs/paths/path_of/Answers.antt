@@ -1,8 +1,0 @@
-use Rattle.std.proofs.Common.{◌∙◌, rules}
-use Rattle.std.proofs.lemmas.Result.{IfOk-weaker}
-use Rattle.told.proofs.ToldLemmas.{path_written}
-use Rattle.told.proofs.paths.path_of.Goals as goal
-
-pub returns : goal.returns
-returns c =
-    IfOk-weaker c.format.result _ _ (λ path wrote. wrote ∙ path_written c.args.item.now c.args.name.now _ (search rules)) c.format.ensures.ok
