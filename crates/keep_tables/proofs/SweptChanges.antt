@@ -20,8 +20,8 @@ use Rattle.tables_meaning.specs.Coming.{HasComing}
 use Rattle.tables_meaning.specs.Making.{takes_file, with_change}
 use Rattle.tables_meaning.specs.Transactions.{IsDone, IsUndone, MayCommit}
 use Rattle.tables_meaning.proofs.TurnLemmas.{AmendsBy, KeepsComing, done_amends, done_ends, done_keeps}
-use Rattle.tables_changes.specs.Swept.{needs_sweep, with_made}
-use Rattle.tables_changes.proofs.SparedLemmas.{made_as_needed}
+use Rattle.tables_bodies.specs.Swept.{needs_sweep, with_made}
+use Rattle.tables_bodies.proofs.SparedLemmas.{made_as_needed}
 
 -- what is undone behind a read leaves what was there before
 pub undone_twice : (a b c : State) → IsUndone a b → IsUndone b c → IsUndone a c

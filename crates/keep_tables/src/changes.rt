@@ -17,7 +17,8 @@ ghost use Rattle.tables_meaning.specs.Making.{takes_file};
 ghost use Rattle.tables_meaning.specs.Transactions.{IsUndone};
 
 use keep::{Change, Step};
-use tables_changes::{amend, needs_sweep};
+use tables_bodies::needs_sweep;
+use tables_changes::amend;
 use rules::Config;
 use sqlite::{Alter, Connection, Error, ErrorCode};
 use std::alloc::Global;

@@ -20,12 +20,13 @@ use crate::text_prints::{TextPrint, known_print, note_print, renew_prints};
 use crate::reads::{
     read_due, read_file, read_kept, read_nothing, read_print, read_text, read_waiting, show,
 };
-use tables_bodies::{Begun, Finished, OnePiece};
+use tables_bodies::{Begun, Finished, OnePiece, some_take_files};
 use keep::{
     Change, Configured, IndexText, Judgement, KeepFault, Keeper, LATEST, PIECE_SIZE, Waiting,
     append_judgements, copied_judgements, dates_after, room_for_judgements,
 };
-use tables_changes::{create, fault_of, is_without_tables, some_take_files};
+use tables_changes::{create, is_without_tables};
+use tables_meaning::fault_of;
 use rules::Config;
 use sqlite::{Alter, Connection};
 use std::alloc::Global;

@@ -24,4 +24,5 @@ mod wanting;
 pub use keeper::TableKeeper;
 pub use meaning::a_keeper_is_its_tables;
 pub use tables::meta::{VERSION as LAYOUT, layout_of};
+pub use tables_meaning::fault_of;
 pub use tables_read::InOrder;

@@ -21,10 +21,10 @@ ghost use Rattle.keep_tables.specs.Opened.{HasUnfinished, IsArchiveOf, IsFinishe
 
 use crate::keeper::TableKeeper;
 use crate::unfinished::{are_named, finished_rows, unfinished_among};
-use tables_audit::{Held, archive_in, are_under_way};
+use tables_audit::{Held, archive_in, are_under_way, is_archive_schema};
 use tables_bodies::remove_all;
 use keep::KeepFault;
-use tables_changes::{fault_of, is_archive_schema};
+use tables_meaning::fault_of;
 use sqlite::{Alter, Connection, Error};
 use std::alloc::{AllocError, Global};
 use tables_read::{AllRows, InOrder, read_all};

@@ -14,7 +14,8 @@ ghost use Rattle.migrate.specs.Migrated.{migrated_book, migrated_rows, old_confi
 use crate::alike::are_alike;
 use crate::writing::write_archive;
 use keep::{KeepFault, LATEST, copied_judgements};
-use tables_changes::{fault_of, is_without_tables};
+use tables_changes::is_without_tables;
+use tables_meaning::fault_of;
 use keep_tables::TableKeeper;
 use old_book::OldBook;
 use rules::Config;

@@ -18,7 +18,7 @@ use crate::rising::is_rising;
 use crate::taken::are_taken;
 use tables_audit::archive_in;
 use keep::KeepFault;
-use tables_changes::fault_of;
+use tables_meaning::fault_of;
 use old_rows::{Asked, first, old_rows, second};
 use sqlite::{Alter, Connection, Error};
 use std::alloc::{AllocError, Global};

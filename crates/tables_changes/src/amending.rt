@@ -7,7 +7,7 @@ ghost use Rattle.tables.specs.Rows.{Tables, Holds, Changes};
 ghost use Rattle.tables_meaning.specs.Making.{with_new_dates, with_new_texts, with_written};
 ghost use Rattle.tables_meaning.specs.Amending.{HasAllBodies, Makes};
 ghost use Rattle.tables_meaning.specs.Transactions.{IsDone, IsUndone, MayCommit};
-ghost use Rattle.tables_changes.specs.Swept.{with_made};
+ghost use Rattle.tables_bodies.specs.Swept.{with_made};
 
 mod judging;
 mod pooling;
@@ -15,7 +15,6 @@ mod renewing;
 mod showing;
 mod stepping;
 
-pub use crate::amending::pooling::some_take_files;
 use crate::amending::renewing::{renew_dates, renew_texts};
 use crate::amending::stepping::make_steps;
 use tables_bodies::sweep;

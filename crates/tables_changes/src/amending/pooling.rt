@@ -1,16 +1,14 @@
 //! The files of the pool after a change, as rows.
 
 ghost use Rattle.std.specs.Prelude.{◌≡◌, fold, is_some, IsTrue, OnOk, OnErr};
-ghost use Rattle.std.specs.List.{list_any};
 ghost use Rattle.sqlite.specs.State.{HasCleanDisk, KeepsCommit, Survives};
 ghost use Rattle.sqlite.specs.Held.{state};
 ghost use Rattle.tables.specs.Bodies.{body_with};
 ghost use Rattle.tables.specs.Files.{without_file};
 ghost use Rattle.tables.specs.Rows.{Tables, Holds};
-ghost use Rattle.tables_meaning.specs.Making.{takes_file, with_pooled};
+ghost use Rattle.tables_meaning.specs.Making.{with_pooled};
 ghost use Rattle.tables_meaning.specs.Amending.{HasBodies, Makes};
 
-use keep::Step;
 use sqlite::{Alter, Error, ErrorCode, Transaction};
 use std::alloc::Global;
 use suites::{Plan, PoolFile};
@@ -94,23 +92,4 @@ pub(crate) fn change_pool<S: Alter>(
     let added = plan.files_added.as_slice();
     remove_files(tx, removed)?;
     add_files(alloc, tx, added)
-}
-
-/// Whether a step takes a file of the pool away.
-fn takes_file(step: &Step) -> bool
-    ensures { result ≡ takes_file step.now }
-{
-    !step.plan.files_removed.as_slice().is_empty()
-}
-
-/// Whether some of the steps takes a file of the pool away.
-pub fn some_take_files(steps: &[Step]) -> bool
-    ensures { result ≡ list_any takes_file steps.now }
-{
-    for step in steps {
-        if takes_file(step) {
-            return true;
-        }
-    }
-    false
 }
