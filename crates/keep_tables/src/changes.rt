@@ -17,12 +17,12 @@ ghost use Rattle.tables_meaning.specs.Making.{takes_file};
 ghost use Rattle.tables_meaning.specs.Transactions.{IsUndone};
 
 use keep::{Change, Step};
-use tables_bodies::needs_sweep;
-use tables_changes::amend;
 use rules::Config;
 use sqlite::{Alter, Connection, Error, ErrorCode};
 use std::alloc::Global;
 use suites::{Item, ShelfKey};
+use tables_bodies::needs_sweep;
+use tables_changes::amend;
 
 /// Whether an item stands in one of so many suites.
 #[tactic(auto, unfolding(tables_meaning::specs::Changing::is_within))]

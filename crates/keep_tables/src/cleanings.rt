@@ -13,9 +13,9 @@ ghost use Rattle.tables_meaning.specs.Archives.{KeepsArchive, Turns, book_of};
 ghost use Rattle.tables_meaning.specs.Coming.{HasComing};
 ghost use Rattle.tables_meaning.specs.Transactions.{IsUndone};
 
-use tables_bodies::clean;
 use sqlite::{Alter, Connection, Error};
 use std::alloc::Global;
+use tables_bodies::clean;
 
 /// Takes each arrival away that does not count at the moment, where what arrives counts for so many seconds, or for good, and
 /// the rows of a body that is coming. Answers how many arrivals that were.

@@ -15,11 +15,11 @@ ghost use Rattle.tables_meaning.specs.Coming.{Comes};
 ghost use Rattle.tables_meaning.specs.Configuring.{Reconfigures};
 ghost use Rattle.tables_meaning.specs.Transactions.{IsUndone};
 
-use tables_changes::configure;
 use rules::Config;
 use sqlite::{Alter, Connection, Error};
 use std::alloc::Global;
 use suites::Shelves;
+use tables_changes::configure;
 
 /// Gives the archive of a database another configuration, with what its suites show and their dates, whole or not at all, also
 /// over a crash.

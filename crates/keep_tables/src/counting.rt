@@ -10,7 +10,6 @@ ghost use Rattle.tables_meaning.specs.Reads.{Rests};
 ghost use Rattle.tables_meaning.specs.Transactions.{IsUndone};
 ghost use Rattle.keep_tables.specs.Moments.{found_current, is_had, still_counts};
 
-use tables_bodies::counts;
 use rules::Config;
 use sqlite::{Alter, Connection, Error};
 use std::alloc::Global;
@@ -18,6 +17,7 @@ use sums::Print;
 use tables::arrivals::arrival_at;
 use tables::bodies::body_with_print;
 use tables::rows::Want;
+use tables_bodies::counts;
 
 /// For how many seconds what arrives counts in an archive of this configuration, or nothing where it does so for good.
 pub(crate) fn span_of(config: &Config) -> Option<u64>

@@ -10,28 +10,30 @@ ghost use Rattle.tables_meaning.specs.Coming.{HasComing};
 ghost use Rattle.tables_meaning.specs.Shown.{shown_in};
 ghost use Rattle.keep_tables.specs.AtHand.{AreAtHand, AreKnown};
 
-use crate::begun::{begun, forget_if, is_coming, is_one_piece, number_of, stop};
-use crate::calls::{clear, deliver_at_once, finish_delivery, forget_body, take_piece};
 use crate::changes::make_change;
 use crate::cleanings::clean_up;
+use crate::coming::{
+    begun, clear, deliver_at_once, finish_delivery, forget_body, forget_if, is_coming,
+    is_one_piece, number_of, stop, take_piece,
+};
 use crate::configurations::take_configuration;
 use crate::counting::span_of;
-use crate::text_prints::{TextPrint, known_print, note_print, renew_prints};
 use crate::reads::{
     read_due, read_file, read_kept, read_nothing, read_print, read_text, read_waiting, show,
 };
-use tables_bodies::{Begun, Finished, OnePiece, some_take_files};
+use crate::text_prints::{TextPrint, known_print, note_print, renew_prints};
 use keep::{
     Change, Configured, IndexText, Judgement, KeepFault, Keeper, LATEST, PIECE_SIZE, Waiting,
     append_judgements, copied_judgements, dates_after, room_for_judgements,
 };
-use tables_changes::{create, is_without_tables};
-use tables_meaning::fault_of;
 use rules::Config;
 use sqlite::{Alter, Connection};
 use std::alloc::Global;
 use suites::{Shelves, Upload};
 use sums::{Print, Printer, print_of};
+use tables_bodies::{Begun, Finished, OnePiece, some_take_files};
+use tables_changes::{create, is_without_tables};
+use tables_meaning::fault_of;
 
 /// A keeper over the tables of a database, which its connection is to. The configuration, the judgements and the dates are
 /// held beside the tables, and between calls what the suites show and the prints of index texts; all else is read from them.

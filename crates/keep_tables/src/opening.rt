@@ -19,14 +19,16 @@ ghost use Rattle.keep_tables.specs.Finishing.{unfinished_ids};
 ghost use Rattle.tables_audit.specs.Whole.{KeepsNone, KeepsSome};
 ghost use Rattle.keep_tables.specs.Opened.{HasUnfinished, IsArchiveOf, IsFinished, IsFound, IsNoArchive};
 
+mod unfinished;
+
 use crate::keeper::TableKeeper;
-use crate::unfinished::{are_named, finished_rows, unfinished_among};
-use tables_audit::{Held, archive_in, are_under_way, is_archive_schema};
-use tables_bodies::remove_all;
+use crate::opening::unfinished::{are_named, finished_rows, unfinished_among};
 use keep::KeepFault;
-use tables_meaning::fault_of;
 use sqlite::{Alter, Connection, Error};
 use std::alloc::{AllocError, Global};
+use tables_audit::{Held, archive_in, are_under_way, is_archive_schema};
+use tables_bodies::remove_all;
+use tables_meaning::fault_of;
 use tables_read::{AllRows, InOrder, read_all};
 
 /// An archive that was found: what a keeper holds of it, and the numbers of the bodies that are not whole.

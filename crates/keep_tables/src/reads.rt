@@ -13,11 +13,9 @@ ghost use Rattle.suites.specs.Shelves.{ShelvesValue};
 ghost use Rattle.tables.specs.Rows.{IsArchive};
 ghost use Rattle.tables_meaning.specs.Archives.{IsRead, KeepsArchive, book_of};
 
-use crate::due::due_uploads;
-use crate::text_prints::is_of_another;
 use crate::shelves::read_shelves;
-use crate::waiting::waiting_uploads;
-use tables_bodies::file_body;
+use crate::text_prints::is_of_another;
+use crate::uploads::{due_uploads, waiting_uploads};
 use keep::{IndexText, Waiting, is_kept, print_of_text};
 use rules::Config;
 use sqlite::{Alter, Connection, Error};
@@ -26,6 +24,7 @@ use suites::{Shelves, Upload};
 use sums::Print;
 use tables::probe::probe;
 use tables::texts::select_text;
+use tables_bodies::file_body;
 
 /// The uploads that are due at the moment, in the order of judging, where what arrives counts for so many seconds, or for good.
 pub fn read_due<S: Alter>(

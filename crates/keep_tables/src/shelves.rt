@@ -9,12 +9,12 @@ ghost use Rattle.tables_meaning.specs.Kept.{AreItems};
 ghost use Rattle.tables_meaning.specs.Transactions.{IsUndone};
 
 use rules::Config;
-use tables_audit::put_row;
 use sqlite::{Alter, Connection, Error};
 use std::alloc::Global;
 use suites::Shelves;
 use tables::items::select_items;
 use tables::refs::refs_of;
+use tables_audit::put_row;
 
 /// What the suites of a configuration show.
 pub fn read_shelves<S: Alter>(

@@ -14,13 +14,13 @@ ghost use Rattle.migrate.specs.Migrated.{migrated_book, migrated_rows, old_confi
 use crate::alike::are_alike;
 use crate::writing::write_archive;
 use keep::{KeepFault, LATEST, copied_judgements};
-use tables_changes::is_without_tables;
-use tables_meaning::fault_of;
 use keep_tables::TableKeeper;
 use old_book::OldBook;
 use rules::Config;
 use sqlite::{Alter, Connection};
 use std::alloc::Global;
+use tables_changes::is_without_tables;
+use tables_meaning::fault_of;
 
 /// Makes the archive of an old book under another configuration, in a database that has no table, no index and no view. What has
 /// arrived has so at the moment, in seconds since 1970-01-01 00:00:00 UTC. The configuration has the same suites in the same order:

@@ -10,11 +10,11 @@ ghost use Rattle.migrate.specs.Migrated.{migrated_rows, old_config};
 
 use copying::write_rows;
 use keep::LATEST;
-use tables_changes::{configure_inside, found_inside};
 use old_book::OldBook;
 use rules::Config;
 use sqlite::{Alter, Connection, Error, Transaction};
 use std::alloc::Global;
+use tables_changes::{configure_inside, found_inside};
 
 /// Makes the tables of an archive and its indexes in a database that has no table, and writes the rows of the old book into them,
 /// each arrival as of the moment, with the configuration, and the texts and the dates under it.

@@ -6,10 +6,10 @@ ghost use Rattle.tables_meaning.specs.Kept.{IsKept};
 ghost use Rattle.tables_read.specs.All.{tables_with};
 ghost use Rattle.old_book.specs.Rising.{is_rising};
 
-use tables_audit::Held;
 use keep::Judgement;
 use rules::Config;
 use suites::Shelves;
+use tables_audit::Held;
 use tables_read::AllRows;
 
 /// The book of an archive of an older layout: its rows as those of an archive of today, each arrival at moment 0, and what a keeper holds

@@ -16,12 +16,12 @@ use crate::listed::are_listed;
 use crate::renewed::{renewed, text_among};
 use crate::rising::is_rising;
 use crate::taken::are_taken;
-use tables_audit::archive_in;
 use keep::KeepFault;
-use tables_meaning::fault_of;
 use old_rows::{Asked, first, old_rows, second};
 use sqlite::{Alter, Connection, Error};
 use std::alloc::{AllocError, Global};
+use tables_audit::archive_in;
+use tables_meaning::fault_of;
 use tables_read::AllRows;
 
 /// The book of the old archive with these rows, of which the keys of today's tables hold, where they are those of one.

@@ -8,9 +8,9 @@ ghost use Rattle.tables_meaning.specs.Shown.{MayStand, PutsRow};
 ghost use Rattle.tables_audit.specs.Items.{AreShown, AreStopped, Joins, MayJoin, are_numbered_from, refs_at};
 
 use crate::keyed::Rows;
+use crate::shelves::put_row;
 use para::Listed;
 use rules::{Config, Suite};
-use crate::shelves::put_row;
 use sqlite::{Error, ErrorCode};
 use std::alloc::{AllocError, Global};
 use suites::Shelves;

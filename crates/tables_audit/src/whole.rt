@@ -9,6 +9,7 @@ ghost use Rattle.tables_audit.specs.Parts.{ArrivalsFit, BodiesFit};
 ghost use Rattle.tables_audit.specs.Whole.{KeepsNone, RestFits, ShownFits};
 
 use crate::arrivals::are_arrivals_deliverable;
+use crate::as_recorded::are_told;
 use crate::bodies::are_bodies_whole;
 use crate::dates::dates_in;
 use crate::files::are_files_of;
@@ -22,7 +23,6 @@ use rules::Config;
 use std::alloc::{AllocError, Global};
 use suites::Shelves;
 use tables_read::AllRows;
-use crate::as_recorded::are_told;
 
 /// What a keeper holds beside the tables: the configuration, the judged uploads in order, for each suite the moment at which
 /// what it shows last changed, and what the suites show.

@@ -17,11 +17,11 @@ mod stepping;
 
 use crate::amending::renewing::{renew_dates, renew_texts};
 use crate::amending::stepping::make_steps;
-use tables_bodies::sweep;
 use keep::Change;
 use rules::Config;
 use sqlite::{Alter, Connection, Error, Transaction};
 use std::alloc::Global;
+use tables_bodies::sweep;
 
 /// Refuses a connection that an earlier failure of the disk has shut.
 fn confirm_open<S: Alter>(tx: &mut Transaction<'_, S>) -> Result<(), Error>
