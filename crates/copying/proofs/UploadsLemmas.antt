@@ -1,6 +1,5 @@
 -- What the statement that adds an upload under its number does.
 use Rattle.std.proofs.Common.{lit≤, ◌≡◌, ℕ, pos, [], ◌∷◌, ◌++◌, Ok, Err, Result, OnOk, refl, Option, Some, None}
-use Rattle.sqlite.specs.Table.{Table}
 use Rattle.sqlite.specs.Order.{Row}
 use Rattle.sqlite.specs.declared.types.Value.TheVariants.{Null, Text}
 use Rattle.sqlite.specs.Cast.{cast, cast_row}
@@ -8,23 +7,18 @@ use Rattle.sqlite.specs.Kind.TheVariants.{Integer}
 use Rattle.sqlite.specs.Values.{bound_value, or_null}
 use Rattle.sqlite.specs.declared.error.Error.{Error}
 use Rattle.sqlite.specs.State.{State, ExecutesInside}
-use Rattle.tables.specs.Schema.{uploads}
-use Rattle.tables.specs.Rows.{whole, print_cells, Changes, full_upload, upload_cells, stored}
+use Rattle.tables.specs.Schema.{uploads_table}
+use Rattle.tables.specs.Rows.{whole, print_cells, Changes, upload_cells, stored}
 use Rattle.tables.specs.declared.rows.Upload.{Upload}
 use Rattle.tables.proofs.CastLemmas.{cast_null, cast_int}
 use Rattle.tables.proofs.InsertLemmas.{puts}
 use Rattle.tables.proofs.HoldsLemmas.{with_uploads}
-use Rattle.tables.proofs.FullLemmas.{Storing, raw, raw_cells, raw_rows, full_rows_as}
+use Rattle.tables.proofs.FullLemmas.{raw, raw_cells, raw_rows, full_rows_as}
+use Rattle.tables.proofs.UploadsLemmas.{storing}
 use Rattle.copying.specs.Placed.{with_upload_at}
 use Rattle.copying.specs.declared.uploads.TheConstants.{INSERT_UPLOAD}
 use Rattle.copying.proofs.Meaning.{insert_upload_terms, insert_upload_is, insert_upload_plain}
 use Rattle.copying.proofs.PlaceLemmas.{places_row, placed_of}
-
-abbrev uploads_table : Table
-uploads_table = record uploads { tree = 7 }
-
-abbrev storing : Storing Upload
-storing = record { cells = upload_cells; full = full_upload; same = λ _. refl; again = λ _ _ _. refl; none = refl }
 
 -- the values of a row, its number aside
 abbrev pub upload_params : Upload → Row

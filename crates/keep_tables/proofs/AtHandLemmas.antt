@@ -23,6 +23,7 @@ use Rattle.tables_meaning.specs.Archives.{KeepsArchive, book_of}
 use Rattle.tables_meaning.specs.Kept.{book_in}
 use Rattle.tables_meaning.specs.Shown.{shown_in}
 use Rattle.tables_meaning.proofs.CallLemmas.{shown_here}
+use Rattle.tables_meaning.proofs.FinishedLemmas.{not_true}
 use Rattle.keep_tables.specs.AtHand.{AreAtHand, AreKnown, AreRenewedAtMost, NotesAtMost, is_of_another, is_print_of, is_renewed}
 use Rattle.keep_tables.specs.declared.text_prints.TextPrint.{TextPrint}
 
@@ -105,10 +106,6 @@ other_kept (Some body) (Some p) text other here = by_case (bytes_eq body text.te
         absurd (no_two (same_print p text.print) ((same_print-Decides p text.print).1 (same_Some p (print_of body) (sym here) ∙ same)) other)
 
 -- ---- what a change renews
-
-not_true : (b : Bool) → not b ≡ true → b ≡ false
-not_true true e = absurd (true≢false (sym e))
-not_true false e = refl
 
 -- what is forgotten first
 pub forgotten : (old new : List TextPrint) (texts : List IndexText) → new ≡ filter (λ p. not (is_renewed texts p.path)) old → AreRenewedAtMost old texts new

@@ -1,5 +1,5 @@
 -- The rows without the bodies that are not whole.
-use Rattle.std.proofs.Common.{◌≡◌, ◌≢◌, ℕ, ◌<◌, None, length, Bool, true, false, not, ◌&&◌, ◌||◌, cond, nat_eq, List, [], ◌∷◌, map, filter, All, IsTrue, refl, sym, ap, subst, ◌∙◌, arith}
+use Rattle.std.proofs.Common.{◌≡◌, ◌≢◌, ℕ, None, length, Bool, true, false, not, ◌&&◌, ◌||◌, cond, nat_eq, List, [], ◌∷◌, map, filter, All, IsTrue, refl, sym, ap, subst, ◌∙◌, arith}
 use Rattle.std.specs.List.{AllByRecursion, list_any}
 use Rattle.std.proofs.lemmas.Bool.{and_right, eqb-true, or_parts}
 use Rattle.std.proofs.lemmas.Bool.Decides.{nat_tests}
@@ -15,29 +15,19 @@ use Rattle.tables_read.specs.All.{AreConstrained}
 use Rattle.tables_meaning.specs.Finished.{finished, is_of_unfinished, is_unfinished, without_all}
 use Rattle.tables_meaning.specs.Kept.{AreReadable, has_body}
 use Rattle.tables_meaning.proofs.Searches.{any_parts, any_same, filter_same_on, list_any-filter}
+use Rattle.tables_meaning.proofs.FinishedLemmas.{has_unfinished, or_false, tells}
+use Rattle.tables_meaning.proofs.SweptFinished.{and_true}
 use Rattle.tables_bodies.proofs.RemovedLemmas.{removed_each, taken_out}
 use Rattle.keep_tables.specs.Finishing.{are_named, is_among, unfinished_ids}
 use Rattle.tables_audit.specs.Whole.{KeepsNone}
 
 -- ---- tests and lists
 
-and_true : (b : Bool) → (b && true) ≡ b
-and_true true = refl
-and_true false = refl
-
-or_false : (b : Bool) → (b || false) ≡ b
-or_false true = refl
-or_false false = refl
-
 pub nil_if : (ids : List ℕ) → length ids ≡ 0 → ids ≡ []
 nil_if [] none = refl
 nil_if (n ∷ ns) none = absurd (omega (arith, none))
 
 -- ---- the numbers of bodies that are not whole
-
--- such a body has this number
-abbrev has_unfinished : Numbered Body → ℕ → Bool
-has_unfinished bodies id = list_any (λ x. nat_eq id x.0 && is_unfinished x) bodies
 
 any_unfinished : (bodies : Numbered Body) (id : ℕ) → has_unfinished bodies id ≡ is_among (unfinished_ids bodies) id
 any_unfinished [] id = refl
@@ -48,29 +38,8 @@ any_unfinished (x ∷ xs) id =
       | false ↦ λ i. and_right (nat_eq id x.0) false refl i || more i
     ]
 
-other_below : (a b : ℕ) → a < b → nat_eq a b ≡ false
-other_below a b below = grind (arith, nat_tests)
-
-other_above : (a b : ℕ) → a < b → nat_eq b a ≡ false
-other_above a b below = grind (arith, nat_tests)
-
-itself : (a : ℕ) → nat_eq a a ≡ true
-itself a = grind (arith, nat_tests)
-
 turned : (a b : ℕ) → nat_eq a b ≡ nat_eq b a
 turned a b = grind (arith, nat_tests)
-
-none_past : (n : ℕ) (xs : Numbered Body) → AllByRecursion (λ y. n < y.0) xs → has_unfinished xs n ≡ false
-none_past n [] h = refl
-none_past n (x ∷ xs) h = rw (other_below n x.0 h.0, none_past n xs h.1) refl
-
--- the number of a body tells whether it is whole
-tells : (xs : Numbered Body) → Rises xs → AllByRecursion (λ y. has_unfinished xs y.0 ≡ is_unfinished y) xs
-tells [] up = tt
-tells (x ∷ xs) up = (
-  rw (itself x.0, none_past x.0 xs up.0) (or_false (is_unfinished x)),
-  all_both (λ y. x.0 < y.0) (λ y. has_unfinished xs y.0 ≡ is_unfinished y) (λ y. has_unfinished (x ∷ xs) y.0 ≡ is_unfinished y) (λ y below is. rw (other_above x.0 y.0 below) is) xs up.0 (tells xs up.1),
-)
 
 -- ---- the rows that are left
 

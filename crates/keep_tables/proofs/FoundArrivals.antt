@@ -27,14 +27,11 @@ use Rattle.tables_meaning.specs.Kept.{pieces_for}
 use Rattle.tables_meaning.specs.Making.{with_bytes, with_pieces}
 use Rattle.tables_meaning.proofs.BodyLemmas.{only_pieces}
 use Rattle.tables_meaning.proofs.Searches.{list_any-map, pairs_of_rows}
+use Rattle.tables_meaning.proofs.FinishedLemmas.{or_false}
 use Rattle.keep_tables.specs.Moments.{found_current}
 
 abbrev arrivals_of : Tables → Numbered Arrival
 arrivals_of t = t.arrivals
-
-or_false : (b : Bool) → (b || false) ≡ b
-or_false true = refl
-or_false false = refl
 
 -- two arrivals of one pair are alike
 alike : (name : List ℕ) (id : ℕ) (a b : Arrival) → is_arrival name id a ≡ true → is_arrival name id b ≡ true → is_arrival a.name a.body b ≡ true

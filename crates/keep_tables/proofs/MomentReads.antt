@@ -1,5 +1,5 @@
 -- What the reads find at a moment is what the book has then.
-use Rattle.std.proofs.Common.{◌≡◌, ℕ, ◌<◌, Bool, true, false, not, ◌&&◌, cond, nat_eq, if◌then◌else◌, List, [], ◌∷◌, map, filter, length, Option, Some, None, option_map, unwrap_or, refl, sym, ap, ap₂, subst, ◌∙◌, true≢false}
+use Rattle.std.proofs.Common.{◌≡◌, ℕ, ◌<◌, Bool, true, false, not, ◌&&◌, cond, nat_eq, if◌then◌else◌, List, [], ◌∷◌, map, filter, length, Option, Some, None, option_map, unwrap_or, refl, sym, ap, ap₂, subst, ◌∙◌}
 use Rattle.std.specs.List.{AllByRecursion, cons_option, filter_map, list_any}
 use Rattle.std.specs.Option.{option_and_then, option_map_or}
 use Rattle.std.specs.Ordering.{is_gt}
@@ -40,6 +40,8 @@ use Rattle.tables_meaning.proofs.RowLists.{all_filtered}
 use Rattle.tables_meaning.proofs.Searches.{filter_twice, map_same_on}
 use Rattle.tables_meaning.proofs.WaitingLemmas.{waiting_list_is}
 use Rattle.tables_meaning.proofs.WantingLemmas.{only_one, wanting_unjudged}
+use Rattle.tables_meaning.proofs.SweptFinished.{and_true}
+use Rattle.tables_meaning.proofs.SweptLemmas.{unset}
 use Rattle.tables_cleaning.proofs.CurrentLemmas.{arrivals_current, arrivals_left}
 use Rattle.tables_cleaning.proofs.CurrentUploads.{uploads_left, wants_left}
 use Rattle.keep_tables.specs.Moments.{due_at, found_current, is_had, missing_at, rows_at, waiting_at}
@@ -70,14 +72,6 @@ all_put P order x (y ∷ ys) is all = elim (is_gt (order x y)) as (λ b. AllByRe
 all_sorted : {X : Type 0} (P : X → Type 0) (order : X → X → Ordering) (xs : List X) → AllByRecursion P xs → AllByRecursion P (sorted_by order xs)
 all_sorted P order [] all = tt
 all_sorted P order (x ∷ xs) all = all_put P order x (sorted_by order xs) all.0 (all_sorted P order xs all.1)
-
-unset : (b : Bool) → not b ≡ true → b ≡ false
-unset true e = absurd (true≢false (sym e))
-unset false e = refl
-
-and_true : (b : Bool) → (b && true) ≡ b
-and_true true = refl
-and_true false = refl
 
 -- of those that are not judged the ones that count are the ones that have not ended
 left_waits : (j c : Bool) → (not j && c) ≡ (not (not j && not c) && not j)

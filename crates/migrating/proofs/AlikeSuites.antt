@@ -1,5 +1,5 @@
 -- Suites that differ in days alone: all that is shown stays, and where it is.
-use Rattle.std.proofs.Common.{◌≡◌, ◌≢◌, ◌<◌, ℕ, zero, suc, ◌+◌, Bool, true, false, not, ◌&&◌, cond, nat_lt, Ok, List, [], ◌∷◌, map, filter_map, Option, Some, None, option_map, length, slice_get, bytes_eq, refl, sym, ap, ◌∙◌, arith}
+use Rattle.std.proofs.Common.{◌≡◌, ◌≢◌, ℕ, ◌+◌, Bool, true, false, not, ◌&&◌, cond, nat_lt, Ok, List, [], ◌∷◌, map, filter_map, Option, Some, None, option_map, length, slice_get, bytes_eq, refl, sym, ap, ◌∙◌}
 use Rattle.std.specs.Prelude.{AllPairs}
 use Rattle.std.specs.List.{AllByRecursion, cons_option, position_or_len}
 use Rattle.std.specs.Option.{option_and_then, option_map_or}
@@ -23,6 +23,7 @@ use Rattle.tables_meaning.specs.Kept.{codename_at}
 use Rattle.tables_meaning.specs.Shown.{suite_named}
 use Rattle.tables_meaning.proofs.NameLemmas.{config_codenames}
 use Rattle.tables_meaning.proofs.ShownLemmas.{suite_back}
+use Rattle.tables_meaning.proofs.ConfiguredItems.{below}
 
 -- ---- what is read of suites without their days
 
@@ -49,11 +50,6 @@ kept_timeless suites e = ap (λ o. option_map_or keeps o false) (slice_get-map w
     by_case (Some s) = refl
 
 -- ---- a suite by its own codename
-
-below : (suites : List Suite) (n : ℕ) (s : Suite) → slice_get suites n ≡ Some s → n < length suites
-below [] n s e = cc
-below (x ∷ xs) zero s e = omega arith
-below (x ∷ xs) (suc n) s e = let more = below xs n s e in omega (arith, more)
 
 module _ (suites : List Suite) (apart : AllPairs (λ s r. s.codename ≢ r.codename) suites) where
   own_place : (n : ℕ) (s : Suite) → slice_get suites n ≡ Some s → place_named suites s.codename ≡ Some n

@@ -1,9 +1,9 @@
 -- What the keys of the tables keep true of rows, of the rows that are copied and of those that are made of them.
-use Rattle.std.proofs.Common.{◌≡◌, ◌≢◌, ℕ, ◌+◌, false, List, [], ◌∷◌, map, nat_eq, All, AllPairs, None, IsTrue, refl, sym, ap, subst, arith}
+use Rattle.std.proofs.Common.{◌≡◌, ◌≢◌, ℕ, ◌+◌, false, List, [], ◌∷◌, map, nat_eq, All, AllPairs, None, IsTrue, refl, sym, ap, subst}
 use Rattle.std.specs.List.{enumerate_from, list_any}
 use Rattle.std.proofs.lemmas.List.Elements.{All-filter, All-map}
-use Rattle.std.proofs.lemmas.List.{get_or-map, length-map}
 use Rattle.tables_meaning.proofs.PairLemmas.{pairs_map, pairs_unmap}
+use Rattle.tables_meaning.proofs.ArrivalLemmas.{all_unmapped}
 use Rattle.sums.proofs.Words.{list_any-map}
 use Rattle.tables.specs.Arrivals.{is_arrival}
 use Rattle.tables.specs.Items.{is_item}
@@ -17,10 +17,6 @@ use Rattle.tables.specs.declared.rows.Want.{Want}
 use Rattle.tables_read.specs.All.{AreConstrained, is_body_there, name_and_print}
 use Rattle.copying.specs.Copying.{anew, arrived_at, copied}
 use Rattle.old_book.specs.Settling.{as_unjudged, settled, unjudged, unjudged_uploads, with_configuration}
-
--- what holds of each image holds of each element
-all_unmapped : {X Y : Type 0} (P : X → Type 0) (f : Y → X) (ys : List Y) → All P (map f ys) → All (λ y. P (f y)) ys
-all_unmapped P f ys h k d lt = subst P (get_or-map f ys k d (f d) lt) (h k (f d) (omega (arith, length-map ys f)))
 
 -- ---- rows numbered anew are the same rows
 

@@ -1,6 +1,4 @@
 -- The rows of all tables, in the pairs in which they are read.
-use Rattle.std.specs.Prelude.{Vec, ℕ}
-use Rattle.std.specs.Global.{Global}
 use Rattle.tables.specs.Rows.{Tables}
 use Rattle.tables.specs.declared.rows.Arrival.{Arrival}
 use Rattle.tables.specs.declared.rows.Body.{Body}
@@ -13,10 +11,7 @@ use Rattle.tables.specs.declared.rows.Piece.{Piece}
 use Rattle.tables.specs.declared.rows.Ref.{Ref}
 use Rattle.tables.specs.declared.rows.Upload.{Upload}
 use Rattle.tables.specs.declared.rows.Want.{Want}
-
--- rows with their rowids, as code holds them
-abbrev pub Held : Type 0 → Type 0
-Held X = Vec (ℕ × X) Global
+use Rattle.tables_read.specs.Pairs.{Held}
 
 abbrev pub Pairs : Type 0
 Pairs = Held Meta × (Held Body × (Held Piece × (Held Arrival × (Held Upload × (Held Want × (Held Item × (Held Ref × (Held File × (Held IndexText × (Held Date))))))))))

@@ -1,6 +1,5 @@
 -- What the statements on arrivals do.
 use Rattle.std.proofs.Common.{lit≤, ◌≡◌, ℕ, pos, [], ◌∷◌, Ok, Err, Result, OnOk, refl, true, List, map, filter, find, drop, Option, sym, ap, ◌∙◌}
-use Rattle.sqlite.specs.Table.{Table}
 use Rattle.sqlite.specs.Order.{Row, column}
 use Rattle.sqlite.specs.Term.{col}
 use Rattle.sqlite.specs.declared.types.Value.TheVariants.{Null, Text}
@@ -17,7 +16,7 @@ use Rattle.tables.proofs.InsertLemmas.{puts}
 use Rattle.tables.proofs.AddLemmas.{adds_row, adds_id}
 use Rattle.tables.proofs.ShownLemmas.{Shows, shown, reads_shown, first_shown}
 use Rattle.std.specs.Prelude.{nat_eq}
-use Rattle.tables.specs.Schema.{arrivals}
+use Rattle.tables.specs.Schema.{arrivals_table}
 use Rattle.tables.specs.Rows.{whole, Tables, Holds, Changes, with_arrival, arrival_cells, arrival_of, nat_of, row_of, rows_of, stored, next_in}
 use Rattle.tables.specs.Arrivals.{is_arrival, with_moment, without_arrival}
 use Rattle.tables.specs.declared.rows.Arrival.{Arrival}
@@ -26,9 +25,6 @@ use Rattle.tables.proofs.ArrivalsMeaning.{insert_arrival_terms, insert_arrival_i
 use Rattle.tables.proofs.HoldsLemmas.{with_arrivals}
 use Rattle.tables.proofs.SelectLemmas.{reads_rows}
 use Rattle.tables.proofs.UpdateLemmas.{updates, updates_rows, deletes, deletes_rows}
-
-abbrev arrivals_table : Table
-arrivals_table = record arrivals { tree = 5 }
 
 arrival_cast : (name : List ℕ) (body : ℕ) (moment : ℕ) → cast_row arrivals_table (Null ∷ (Null ∷ (Text name ∷ whole body ∷ whole moment ∷ []))) ≡ Null ∷ arrival_cells (record { name = name; body = body; moment = moment })
 arrival_cast name body moment = rw (cast_null, cast_int (pos body), cast_int (pos moment))

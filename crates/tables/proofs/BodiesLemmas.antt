@@ -1,6 +1,5 @@
 -- What the statements on bodies do.
 use Rattle.std.proofs.Common.{lit≤, ◌≡◌, ℕ, drop, pos, [], ◌∷◌, Ok, Err, Result, OnOk, nat_eq, refl, true, false, List, map, filter, find, slice_get, Option, Some, None, ap, ◌∙◌, option_map, ◌&&◌}
-use Rattle.sqlite.specs.Table.{Table}
 use Rattle.sqlite.specs.Order.{Row, column}
 use Rattle.sqlite.specs.Term.{col}
 use Rattle.sqlite.specs.declared.types.Value.TheVariants.{Null, Blob}
@@ -16,7 +15,7 @@ use Rattle.sqlite_sql.specs.declared.ops.CompareOp.TheVariants.{Eq}
 use Rattle.sqlite_sql.specs.declared.ops.BinaryOp.TheVariants.{Compare}
 use Rattle.sqlite.specs.Collation.TheVariants.{Binary}
 use Rattle.sums.specs.declared.print.Print.{Print}
-use Rattle.tables.specs.Schema.{bodies}
+use Rattle.tables.specs.Schema.{bodies_table}
 use Rattle.tables.specs.Rows.{whole, print_cells, Numbered, Tables, Holds, Changes, with_body, body_cells, body_of, full_body, nat_of, next_in, row_of, stored}
 use Rattle.tables.specs.Bodies.{has_print, body_with, with_print, without_body}
 use Rattle.tables.specs.Reading.{IsRead, IsReadFirst}
@@ -34,13 +33,10 @@ use Rattle.tables.proofs.EqualLemmas.{whole_test}
 use Rattle.sqlite_sql.specs.Term.{eval_all}
 use Rattle.tables.proofs.UpdateLemmas.{deletes, updates, updates_rows}
 
-abbrev bodies_table : Table
-bodies_table = record bodies { tree = 1 }
-
-abbrev storing : Storing Body
+abbrev pub storing : Storing Body
 storing = record { cells = body_cells; full = full_body; same = λ _. refl; again = λ _ _ _. refl; none = refl }
 
-abbrev whole_body : Print → Body
+abbrev pub whole_body : Print → Body
 whole_body p = record { print = Some p }
 
 body_cast : (p : Print) → cast_row bodies_table (Null ∷ (Null ∷ print_cells p)) ≡ Null ∷ body_cells (whole_body p)
@@ -68,7 +64,7 @@ inserts_body old new p count h =
           adds_id (raw_cells storing) bodies_table _ (raw storing (whole_body p)) (body_cast p) old new (put t was) r.of r.has ∙ ap pos (next_of storing t.bodies r.of r.values),
     )
 
-abbrev begun_body : Body
+abbrev pub begun_body : Body
 begun_body = record { print = None }
 
 begun_cast : cast_row bodies_table (Null ∷ (Null ∷ Null ∷ Null ∷ Null ∷ Null ∷ [])) ≡ Null ∷ body_cells begun_body

@@ -1,6 +1,5 @@
 -- What the statements on items do.
 use Rattle.std.proofs.Common.{lit≤, ◌≡◌, ℕ, pos, [], ◌∷◌, Ok, Err, Result, OnOk, refl, true, false, List, find, Bool, Option, ◌∙◌}
-use Rattle.sqlite.specs.Table.{Table}
 use Rattle.sqlite.specs.Order.{Row}
 use Rattle.sqlite.specs.declared.types.Value.TheVariants.{Null, Text, Blob}
 use Rattle.sqlite.specs.Cast.{cast_row}
@@ -15,7 +14,7 @@ use Rattle.tables.proofs.InsertLemmas.{puts}
 use Rattle.tables.proofs.AddLemmas.{adds_row, adds_id}
 use Rattle.tables.proofs.ShownLemmas.{Shows, shown, reads_shown, first_shown}
 use Rattle.std.specs.Prelude.{nat_eq, bytes_eq, ◌&&◌}
-use Rattle.tables.specs.Schema.{items}
+use Rattle.tables.specs.Schema.{items_table}
 use Rattle.tables.specs.Rows.{whole, Tables, Holds, Changes, with_item, item_cells, item_of, row_of, next_in}
 use Rattle.tables.specs.Items.{is_item, without_item}
 use Rattle.tables.specs.declared.rows.Item.{Item}
@@ -23,9 +22,6 @@ use Rattle.tables.specs.declared.items.TheConstants.{INSERT_ITEM, SELECT_ITEMS, 
 use Rattle.tables.proofs.ItemsMeaning.{insert_item_terms, insert_item_is, insert_item_plain, item_columns, item_is, item_id_is, select_items_is, select_items_plain, select_item_is, select_item_plain, delete_item_columns, delete_item_is, delete_item_plain}
 use Rattle.tables.proofs.HoldsLemmas.{with_items}
 use Rattle.tables.proofs.UpdateLemmas.{deletes, deletes_rows}
-
-abbrev items_table : Table
-items_table = record items { tree = 13 }
 
 abbrev pub item_params : Item → Row
 item_params x = Text x.suite ∷ whole x.kind ∷ Text x.«package» ∷ Text x.architecture ∷ Text x.version ∷ Text x.component ∷ Text x.source ∷ Blob x.paragraph ∷ []

@@ -1,12 +1,11 @@
 -- What the statements on texts do.
 use Rattle.std.proofs.Common.{lit≤, ◌≡◌, ℕ, pos, [], ◌∷◌, Ok, Err, Result, OnOk, refl, false, List, map, filter, find, slice_get, drop, Option, ap, ◌∙◌, true, subst}
-use Rattle.sqlite.specs.Table.{Table}
 use Rattle.sqlite.specs.Order.{Row}
 use Rattle.sqlite.specs.declared.types.Value.TheVariants.{Null, Text, Blob}
 use Rattle.sqlite.specs.Cast.{cast_row}
 use Rattle.sqlite.specs.declared.error.Error.{Error}
 use Rattle.sqlite.specs.State.{State, ExecutesInside, Shown, IsUnchanged}
-use Rattle.tables.specs.Schema.{texts}
+use Rattle.tables.specs.Schema.{texts_table}
 use Rattle.tables.specs.Rows.{whole, Tables, Holds, Changes, with_text, text_cells, text_of, stored, rows_of, HasRows, Numbered}
 use Rattle.tables.specs.Texts.{has_path, with_new_text, without_texts}
 use Rattle.tables.specs.Reading.{IsReadFirst}
@@ -23,9 +22,6 @@ use Rattle.tables.proofs.UpdateLemmas.{updates, updates_rows, deletes, deletes_r
 use Rattle.sqlite_typed.proofs.TestLemmas.{last_term, at_texts}
 use Rattle.std.proofs.lemmas.Map.Text.{is_eq-slice_cmp}
 use Rattle.sqlite_sql.specs.declared.ops.CompareOp.TheVariants.{Eq}
-
-abbrev texts_table : Table
-texts_table = record texts { tree = 19 }
 
 abbrev pub text_params : IndexText → Row
 text_params x = Text x.path ∷ Blob x.body ∷ []

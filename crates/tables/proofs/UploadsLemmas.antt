@@ -1,6 +1,5 @@
 -- What the statements on uploads do.
 use Rattle.std.proofs.Common.{lit≤, ◌≡◌, ℕ, pos, [], ◌∷◌, ◌++◌, Ok, Err, Result, OnOk, refl, List, find, drop, Option, Some, None, ap, ◌∙◌}
-use Rattle.sqlite.specs.Table.{Table}
 use Rattle.sqlite.specs.Order.{Row}
 use Rattle.sqlite.specs.declared.types.Value.TheVariants.{Null, Text}
 use Rattle.sqlite.specs.Cast.{cast_row}
@@ -17,7 +16,7 @@ use Rattle.tables.proofs.AddLemmas.{adds_row, adds_id}
 use Rattle.tables.proofs.ShownLemmas.{Shows, shown}
 use Rattle.std.specs.Prelude.{nat_eq}
 use Rattle.sums.specs.declared.print.Print.{Print}
-use Rattle.tables.specs.Schema.{uploads}
+use Rattle.tables.specs.Schema.{uploads_table}
 use Rattle.tables.specs.Rows.{whole, print_cells, Tables, Holds, Changes, full_upload, with_upload, upload_cells, upload_of, row_of, some_nat, stored, next_in}
 use Rattle.tables.specs.Uploads.{is_upload, with_verdict, without_upload}
 use Rattle.tables.specs.declared.rows.Upload.{Upload}
@@ -28,10 +27,7 @@ use Rattle.tables.proofs.FullLemmas.{Storing, raw, raw_cells, raw_rows, value_in
 use Rattle.sqlite_sql.specs.Term.{eval_all}
 use Rattle.tables.proofs.UpdateLemmas.{deletes, updates, updates_rows}
 
-abbrev uploads_table : Table
-uploads_table = record uploads { tree = 7 }
-
-abbrev storing : Storing Upload
+abbrev pub storing : Storing Upload
 storing = record { cells = upload_cells; full = full_upload; same = λ _. refl; again = λ _ _ _. refl; none = refl }
 
 upload_cast : (name : List ℕ) (print : Print) → cast_row uploads_table (Null ∷ (Null ∷ (Text name ∷ (print_cells print ++ Null ∷ Null ∷ [])))) ≡ Null ∷ upload_cells (record { name = name; print = print; place = None; verdict = None })

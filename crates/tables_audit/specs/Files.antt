@@ -1,7 +1,6 @@
 -- What rows of files say beside a pool.
-use Rattle.std.specs.Prelude.{◌≡◌, ◌≢◌, ℕ, nat_eq, Bool, List, All, find, Option, None, IsTrue}
+use Rattle.std.specs.Prelude.{◌≡◌, ◌≢◌, ℕ, Bool, List, All, None, IsTrue}
 use Rattle.std.specs.List.{list_any}
-use Rattle.std.specs.Option.{option_and_then}
 use Rattle.std.specs.FinMap.{get}
 use Rattle.sums.specs.declared.print.Print.{Print}
 use Rattle.suites.specs.Pool.{PoolWith}
@@ -9,10 +8,7 @@ use Rattle.tables.specs.Files.{is_file_at}
 use Rattle.tables.specs.Rows.{Numbered, rows_of}
 use Rattle.tables.specs.declared.rows.Body.{Body}
 use Rattle.tables.specs.declared.rows.File.{File}
-
--- the print of the body of a number
-abbrev pub print_in : Numbered Body → ℕ → Option Print
-print_in bodies id = option_and_then (λ x. x.1.print) (find (λ x. nat_eq x.0 id) bodies)
+use Rattle.tables_meaning.specs.Kept.{print_in}
 
 -- The body of the file has the print that the pool has at the file's path.
 abbrev pub HasPrint : PoolWith Print → Numbered Body → ℕ × File → Type 0

@@ -22,7 +22,7 @@ use Rattle.tables.specs.declared.rows.Body.{Body}
 use Rattle.tables.specs.declared.rows.Piece.{Piece}
 use Rattle.tables.specs.declared.rows.Upload.{Upload}
 use Rattle.tables.specs.declared.rows.Want.{Want}
-use Rattle.tables_meaning.specs.Kept.{arrivals_in, is_placed, request_in, request_of}
+use Rattle.tables_meaning.specs.Kept.{Request, arrivals_in, is_placed, request_in, request_of}
 use Rattle.tables_audit.specs.declared.uploads.arrived.Arrived.{Arrived}
 use Rattle.tables_audit.specs.declared.uploads.awaited.Awaited.{Awaited}
 
@@ -115,10 +115,6 @@ abbrev pub found_awaited : Numbered Piece → List Judgement → Printed → Opt
 found_awaited pieces judged p = option_map (λ c. (p, c)) (changes_awaited pieces judged p)
 
 -- ---- what they want
-
--- an upload's name and print, and its entries, each with whether it is there
-abbrev pub Request : Type 0
-Request = (List ℕ × Print) × List (List ℕ × Print × Bool)
 
 abbrev pub want_row : Want → List ℕ × Print × Bool
 want_row w = (w.name, w.print, w.here)

@@ -4,8 +4,8 @@ ghost use Rattle.std.specs.Prelude.{◌≡◌, ◌↔◌, ℕ, List, All, IfOk, 
 ghost use Rattle.std.specs.BTreeMap.{get_by_text};
 ghost use Rattle.suites.specs.Shelves.{pool as pool_of};
 ghost use Rattle.tables_read.specs.All.{AreConstrained, tables_with};
-ghost use Rattle.tables_meaning.specs.Kept.{AreFiles};
-ghost use Rattle.tables_audit.specs.Files.{AreThose, HasPrint, is_path, print_in};
+ghost use Rattle.tables_meaning.specs.Kept.{AreFiles, print_in};
+ghost use Rattle.tables_audit.specs.Files.{AreThose, HasPrint, is_path};
 
 use crate::keyed::Rows;
 use std::alloc::{AllocError, Global};

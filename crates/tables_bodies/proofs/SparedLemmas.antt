@@ -328,13 +328,3 @@ module _ (a b c : State) (same : HasCleanDisk b → IsUnchanged a b) (settled : 
       ∥∥₁_elim (archive first s.0.was_open) (hlevel props)
       (λ is. other (tables_in a.committed) (subst (λ db. Holds db (tables_in a.committed)) (sym (s.0.now_is ∙ settled s.0.was_open)) is)))
       one two
-
-pub survives_none : (s : State) → Survives s s (λ _. ⊥)
-survives_none s = record {
-  clean = omega arith;
-  shield = λ h. h;
-  counts = omega arith;
-  limit = refl;
-  closes = λ clean up. inl up;
-  crash = λ clean db h. inl h;
-}

@@ -5,7 +5,6 @@ use Rattle.std.specs.List.{AllByRecursion, list_any}
 use Rattle.std.specs.List.Sorted.{IsBinarySearchResult, IsNonDecreasing, IsPermutation}
 use Rattle.std.specs.Ordering.{nat_cmp}
 use Rattle.std.proofs.lemmas.Bool.{and_right, cases_lt, eq-eqb, eqb-true, ne_eqb, or_left, or_right}
-use Rattle.std.proofs.lemmas.Bool.Decides.{nat_tests}
 use Rattle.std.proofs.lemmas.List.{get_or_default}
 use Rattle.std.proofs.lemmas.List.Folds.{list_any_at, list_any_none}
 use Rattle.std.proofs.lemmas.List.Sorted.{list_any-IsPermutation, searched}
@@ -20,6 +19,8 @@ use Rattle.tables_meaning.specs.Finished.{without_all}
 use Rattle.tables_meaning.specs.Kept.{is_used, used_in}
 use Rattle.tables_meaning.specs.Sweeping.{swept}
 use Rattle.tables_meaning.proofs.Searches.{any_same, filter_same_on, list_any-filter, list_any-map}
+use Rattle.tables_meaning.proofs.SweptFinished.{and_true}
+use Rattle.tables_meaning.proofs.FinishedLemmas.{itself}
 
 -- ---- numbers in rising order
 
@@ -46,13 +47,6 @@ unfolding is_used
 unused_are t used same =
     filter-map (λ id. not (list_any (λ n. nat_eq n id) used)) (λ (x : ℕ × Body). x.0) t.bodies
     ∙ (λ i. map (λ (x : ℕ × Body). x.0) (filter (λ (x : ℕ × Body). not (sym (list_any-IsPermutation (λ n. nat_eq n x.0) (used_in t) used same) i)) t.bodies))
-
-itself : (a : ℕ) → nat_eq a a ≡ true
-itself a = grind (arith, nat_tests)
-
-and_true : (b : Bool) → (b && true) ≡ b
-and_true true = refl
-and_true false = refl
 
 -- a test of a number beside one that it is another
 at_number : (r : ℕ → Bool) (id n : ℕ) → (r n && nat_eq id n) ≡ (r id && nat_eq id n)

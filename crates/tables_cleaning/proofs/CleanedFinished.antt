@@ -20,7 +20,7 @@ use Rattle.tables.specs.declared.rows.Piece.{Piece}
 use Rattle.tables.specs.declared.rows.Upload.{Upload}
 use Rattle.tables_meaning.specs.Cleaning.{cleaned, counts_row, ended_rows, with_cleaned, with_current, with_gone, without_request}
 use Rattle.tables_meaning.specs.Finished.{finished, is_of_unfinished, is_unfinished}
-use Rattle.tables_meaning.specs.Kept.{AreArrivals, AreNumbered, IsKept, arrival_in, arrivals_in, book_in, has_body, print_at}
+use Rattle.tables_meaning.specs.Kept.{AreArrivals, AreNumbered, IsKept, arrival_in, arrivals_in, book_in, has_body, print_at, print_in}
 use Rattle.tables_meaning.specs.Sweeping.{swept}
 use Rattle.tables_meaning.proofs.ArrivalLemmas.{counts_as}
 use Rattle.tables_meaning.proofs.BodyLemmas.{are_stored}
@@ -33,10 +33,6 @@ use Rattle.tables_cleaning.proofs.CleanedArchive.{current_unswept}
 use Rattle.tables_cleaning.proofs.CleanedRows.{gone_current}
 
 -- ---- arrivals go past bodies that are not whole
-
--- the print of the body of a number, of these bodies
-abbrev print_in : Numbered Body → ℕ → Option Print
-print_in bodies id = option_and_then (λ (x : ℕ × Body). x.1.print) (find (λ x. nat_eq x.0 id) bodies)
 
 request_beside : (name : List ℕ) (print : Print) (u : Tables) (bodies : Numbered Body) (pieces : Numbered Piece)
     → without_request name print (beside u bodies pieces) ≡ beside (without_request name print u) bodies pieces

@@ -1,11 +1,11 @@
 -- Which arrivals count at a moment, told by their rows and by their names and prints.
-use Rattle.std.proofs.Common.{◌≡◌, ◌≤◌, ℕ, Bool, true, false, not, ◌&&◌, List, map, filter, All, AllPairs, Contains, Option, Some, None, IsTrue, bytes_eq, nat_eq, refl, sym, ap, subst, ◌∙◌}
+use Rattle.std.proofs.Common.{◌≡◌, ◌≤◌, ℕ, Bool, true, false, not, ◌&&◌, List, map, filter, AllPairs, Contains, Option, Some, None, IsTrue, bytes_eq, nat_eq, refl, sym, ap, subst, ◌∙◌}
 use Rattle.std.specs.List.{list_any}
 use Rattle.std.specs.Option.{option_map_or}
 use Rattle.std.proofs.lemmas.Bool.{and_from, and_parts, and_right, eq-eqb, false≢true}
-use Rattle.std.proofs.lemmas.List.Elements.{All-contains, All-from_recursion, All-same, recursion_from_All}
+use Rattle.std.proofs.lemmas.List.Elements.{All-contains, All-same}
 use Rattle.std.proofs.lemmas.Slice.Eq.{bytes_eq-Decides}
-use Rattle.sqlite_keyed.proofs.ListLemmas.{all-filter, ascending-filter, filter-map, filter_same}
+use Rattle.sqlite_keyed.proofs.ListLemmas.{ascending-filter, filter-map, filter_same}
 use Rattle.sums.specs.Prints.{print as print_of, same_print}
 use Rattle.sums.specs.declared.entries.Entry.{Entry}
 use Rattle.sums.specs.declared.print.Print.{Print}
@@ -23,6 +23,7 @@ use Rattle.tables_meaning.proofs.ArrivalLemmas.{counts_as}
 use Rattle.tables_meaning.proofs.BodyLemmas.{HasBody, any_false, any_same, apart_same, by_number, its_print, list_any-map, of_no_print, same_number}
 use Rattle.tables_meaning.proofs.RowLists.{ascending_from_pairs, pairs_from_ascending}
 use Rattle.tables_meaning.proofs.Searches.{any_weaker, list_any-filter, same_tests}
+use Rattle.tables_meaning.proofs.ChangeLemmas.{some_of}
 
 pub swapped : (a b : Bool) → (a && b) ≡ (b && a)
 swapped true true = refl
@@ -37,9 +38,6 @@ not_not false = refl
 neither_print : (a b : Bool) → ((a && false) && b) ≡ false
 neither_print true b = refl
 neither_print false b = refl
-
-some_of : {X : Type 0} (P : X → Type 0) (some : X → Bool) (xs : List X) → All P xs → All P (filter some xs)
-some_of P some xs all = All-from_recursion P (filter some xs) (all-filter P some xs (recursion_from_All P xs all))
 
 -- the arrival has this name, and its body this print
 abbrev pub bears : Tables → List ℕ → Print → Arrival → Bool

@@ -20,14 +20,15 @@ use Rattle.tables.specs.declared.rows.Arrival.{Arrival}
 use Rattle.tables.specs.declared.rows.Upload.{Upload}
 use Rattle.tables.specs.declared.rows.Want.{Want}
 use Rattle.tables_meaning.specs.Cleaning.{has_ended, is_current, with_current}
-use Rattle.tables_meaning.specs.Kept.{AreArrivals, AreStored, AreUploads, arrival_in, arrivals_in, bytes_of, is_placed, request_of, sign_in, wanted}
+use Rattle.tables_meaning.specs.Kept.{AreArrivals, AreStored, AreUploads, Request, arrival_in, arrivals_in, bytes_of, is_placed, request_of, sign_in, wanted}
 use Rattle.tables_meaning.proofs.ArrivalLemmas.{counts_as}
 use Rattle.tables_meaning.proofs.BodyLemmas.{all_if}
 use Rattle.tables_meaning.proofs.RequestLemmas.{requests, rows_from_uploads, sign_made, uploads_from_rows}
 use Rattle.tables_meaning.proofs.RowLists.{all_filtered, find_kept}
 use Rattle.tables_meaning.proofs.Searches.{filter_twice, list_any-filter}
-use Rattle.tables_meaning.proofs.WantLemmas.{AreRows, Request, Sign, entry_in, is_waiting, request, waits_as, wants_of}
+use Rattle.tables_meaning.proofs.WantLemmas.{AreRows, Sign, entry_in, is_waiting, request, waits_as, wants_of}
 use Rattle.tables_meaning.proofs.WantingLemmas.{only_one}
+use Rattle.tables_meaning.proofs.SweptFinished.{and_true}
 use Rattle.tables_cleaning.proofs.CurrentLemmas.{arrivals_current, bears_itself, own_counts, swapped, there_then}
 
 -- ---- lists
@@ -51,10 +52,6 @@ candidates-filter {X} {Y} f p q (x ∷ xs) h = by_kind (candidates-filter f p q 
 -- two tests, in either order
 filter_turned : {X : Type 0} (p q : X → Bool) (xs : List X) → filter p (filter q xs) ≡ filter q (filter p xs)
 filter_turned p q xs = sym (filter_twice q p xs) ∙ filter_same (λ x. q x && p x) (λ x. p x && q x) (λ x. swapped (q x) (p x)) xs ∙ filter_twice p q xs
-
-and_true : (b : Bool) → (b && true) ≡ b
-and_true true = refl
-and_true false = refl
 
 -- one that waits and has not ended is current
 still : (j c : Bool) → (not (not j && not c) && not j) ≡ (not j && c)

@@ -37,7 +37,7 @@ use Rattle.tables_meaning.proofs.Searches.{list_any-filter}
 -- ---- lists
 
 -- what holds of each image holds of each element
-all_unmapped : {X Y : Type 0} (P : X → Type 0) (f : Y → X) (ys : List Y) → All P (map f ys) → All (λ y. P (f y)) ys
+pub all_unmapped : {X Y : Type 0} (P : X → Type 0) (f : Y → X) (ys : List Y) → All P (map f ys) → All (λ y. P (f y)) ys
 all_unmapped P f ys h k d lt = subst P (get_or-map f ys k d (f d) lt) (h k (f d) (omega (arith, length-map ys f)))
 
 pairs_unmapped : {X Y : Type 0} (R : X → X → Type 0) (f : Y → X) (ys : List Y) → AllPairs R (map f ys) → AllPairs (λ y z. R (f y) (f z)) ys

@@ -1,7 +1,7 @@
 -- The bodies of an archive and their pieces, and what becomes of them when one more is stored.
 use Rattle.std.proofs.Common.{◌≡◌, ◌≢◌, ◌⊎◌, inl, inr, ℕ, zero, suc, ◌+◌, ◌*◌, ◌<◌, Bool, true, false, ◌||◌, cond, List, [], ◌∷◌, ◌++◌, map, filter, find, take, drop, length, get_or, All, AllPairs, Contains, Option, Some, None, is_some, IsTrue, refl, sym, ap, ap₂, subst, subst₂, ◌∙◌, arith}
 use Rattle.std.specs.Prelude.{nat_eq}
-use Rattle.std.specs.List.{AllByRecursion, flat_map, list_any, range_with_len}
+use Rattle.std.specs.List.{flat_map, list_any, range_with_len}
 use Rattle.std.specs.Option.{option_and_then, option_map, option_map_or, option_or}
 use Rattle.std.proofs.lemmas.Bool.{cases_order, eq-eqb, eqb-true, false_from_ne_true, false≢true, ne_eqb, or_cases, or_left, or_right}
 use Rattle.std.proofs.lemmas.Bool.Decides.{Decides-eqb, Decides-like, same_from_decides}
@@ -18,11 +18,12 @@ use Rattle.keep.proofs.Finds.{is_some_of_find, none_of_map}
 use Rattle.keep.proofs.Prints.{same_print-Decides}
 use Rattle.tables.specs.Bodies.{body_with, has_print}
 use Rattle.tables.specs.Pieces.{is_of}
-use Rattle.tables.specs.Rows.{Tables, Numbered, Rises, added, next_from, next_in, rows_of, with_body, with_piece}
+use Rattle.tables.specs.Rows.{Tables, Numbered, Rises, added, next_in, rows_of, with_body, with_piece}
 use Rattle.tables.specs.declared.rows.Arrival.{Arrival}
 use Rattle.tables.specs.declared.rows.Body.{Body}
 use Rattle.tables.specs.declared.rows.File.{File}
 use Rattle.tables.specs.declared.rows.Piece.{Piece}
+use Rattle.tables.proofs.RowLemmas.{below_next}
 use Rattle.tables_meaning.specs.Kept.{AreBodies, AreStored, bytes_of, has_body, is_used, piece_at, piece_count, pieces_for, pieces_of, print_at}
 use Rattle.tables_meaning.specs.Making.{with_bytes, with_pieces}
 
@@ -96,14 +97,6 @@ none_kept p [] h = refl
 none_kept p (x ∷ xs) h = rw (h x (here x xs)) (none_kept p xs (λ y c. h y (there x xs y c)))
 
 -- ---- rows
-
-past : {X : Type 0} (k : ℕ) (xs : Numbered X) → Rises xs → AllByRecursion (λ x. k < x.0) xs → k < next_from (k + 1) xs
-past k [] up all = omega arith
-past k (x ∷ xs) up all = let more = past x.0 xs up.1 up.0 in omega (arith, all.0, more)
-
-below_next : {X : Type 0} (top : ℕ) (xs : Numbered X) → Rises xs → AllByRecursion (λ x. x.0 < next_from top xs) xs
-below_next top [] up = tt
-below_next top (x ∷ xs) up = (past x.0 xs up.1 up.0, below_next (x.0 + 1) xs up.1)
 
 -- the next number is above each
 pub is_below_next : {X : Type 0} (xs : Numbered X) → Rises xs → (x : ℕ × X) → Contains xs x → x.0 < next_in xs

@@ -28,7 +28,7 @@ use Rattle.tables_meaning.proofs.StepLemmas.{stepped_rows, sound_past}
 use Rattle.tables_meaning.proofs.SweptLemmas.{kept_if_swept, kept_if_used, swept_book}
 
 -- what holds of all holds of some
-some_of : {X : Type 0} (P : X → Type 0) (some : X → Bool) (xs : List X) → All P xs → All P (filter some xs)
+pub some_of : {X : Type 0} (P : X → Type 0) (some : X → Bool) (xs : List X) → All P xs → All P (filter some xs)
 some_of P some xs all = All-from_recursion P (filter some xs) (all-filter P some xs (recursion_from_All P xs all))
 
 -- What the tables keep once the change is written.

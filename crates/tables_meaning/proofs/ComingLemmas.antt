@@ -14,6 +14,7 @@ use Rattle.tables.specs.Pieces.{is_of}
 use Rattle.tables.specs.Rows.{Numbered, Rises, Tables, added, changed, next_in, rows_of, with_body, with_piece, without}
 use Rattle.tables.specs.declared.rows.Body.{Body}
 use Rattle.tables.specs.declared.rows.Piece.{Piece}
+use Rattle.tables.proofs.BodiesLemmas.{begun_body}
 use Rattle.tables_meaning.specs.Coming.{HasComing, bytes_so_far, coming_number, ended_number, with_begun, with_coming, with_ended, with_finished, with_next_piece, with_received, with_whole}
 use Rattle.tables_meaning.specs.Finished.{AreUnderWay, finished, is_unfinished, without_whole}
 use Rattle.tables_meaning.specs.Kept.{AreBodies, bytes_of, has_body, piece_at, piece_count, pieces_for, pieces_of}
@@ -21,13 +22,10 @@ use Rattle.tables_meaning.specs.Making.{number_with, with_bytes, with_delivered,
 use Rattle.tables_meaning.specs.Taking.{listed_in}
 use Rattle.tables_meaning.proofs.BodyLemmas.{is_below_next, none_kept, only_pieces, own_pieces, pieces_joined, pieces_of_one, row_of_body, rows_with}
 use Rattle.tables_meaning.proofs.BodySteps.{bytes_new, bytes_there, number_new, number_there}
-use Rattle.tables_meaning.proofs.FinishedLemmas.{bodies_whole, body_finished}
+use Rattle.tables_meaning.proofs.FinishedLemmas.{bodies_whole, body_finished, itself}
 use Rattle.tables_meaning.proofs.PassingLemmas.{Passes, beside, bodies_left, finished_passes, pieces_left}
 use Rattle.tables_meaning.proofs.Searches.{all_of_rows, below_next}
 use Rattle.tables_meaning.proofs.UnderWayLemmas.{whole_under_way}
-
-abbrev begun_body : Body
-begun_body = record { print = None }
 
 -- Finished rows: the rowids of bodies rise, each body is whole, and each piece is one of a body.
 pub record AreWhole (u : Tables) : Type 0 where
@@ -61,9 +59,6 @@ with_last (q ∷ ps) p t = with_last ps p (with_piece q t)
 
 below_other : (a b : ℕ) → a < b → nat_eq a b ≡ false
 below_other a b below = grind (arith, nat_tests)
-
-itself : (a : ℕ) → nat_eq a a ≡ true
-itself a = grind (arith, nat_tests)
 
 owner_below : (u : Tables) → Rises u.bodies → (id : ℕ) → has_body u id ≡ true → id < next_in u.bodies
 owner_below u up id there = let row = row_of_body u id there in let lt = is_below_next u.bodies up row.body row.within in omega (arith, row.number, lt)

@@ -32,7 +32,7 @@ element [] n lt = absurd (omega arith)
 element (s ∷ ss) zero lt = (s, refl)
 element (s ∷ ss) (suc n) lt = element ss n (omega arith)
 
-below : (suites : List Suite) (n : ℕ) (s : Suite) → slice_get suites n ≡ Some s → n < length suites
+pub below : (suites : List Suite) (n : ℕ) (s : Suite) → slice_get suites n ≡ Some s → n < length suites
 below [] n s e = cc
 below (x ∷ xs) zero s e = omega arith
 below (x ∷ xs) (suc n) s e = let more = below xs n s e in omega (arith, more)

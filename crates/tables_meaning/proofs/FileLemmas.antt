@@ -24,12 +24,9 @@ use Rattle.tables.specs.Rows.{Numbered, Rises}
 use Rattle.tables.specs.declared.rows.Body.{Body}
 use Rattle.tables.specs.declared.rows.File.{File}
 use Rattle.tables_meaning.proofs.RowLists.{found_passes, found_holds, none_passes, any_found, find_kept, find_gone, found_by_number}
+use Rattle.tables_meaning.specs.Kept.{print_in}
 
 -- ---- bodies and their prints
-
--- the print of the body of this number
-abbrev pub print_in : Numbered Body → ℕ → Option Print
-print_in bodies id = option_and_then (λ (x : ℕ × Body). x.1.print) (find (λ x. nat_eq x.0 id) bodies)
 
 -- there is a body of this number
 abbrev pub is_body : Numbered Body → ℕ → Bool

@@ -66,7 +66,7 @@ bodies_whole t h =
 pub kept_finished : (t : Tables) → AreBodies t → finished t ≡ t
 kept_finished t h = finished_whole t (bodies_whole t h)
 
-not_true : (b : Bool) → not b ≡ true → b ≡ false
+pub not_true : (b : Bool) → not b ≡ true → b ≡ false
 not_true true e = absurd (true≢false (sym e))
 not_true false e = refl
 
@@ -116,20 +116,20 @@ body_finished p t =
 abbrev pub has_unfinished : Numbered Body → ℕ → Bool
 has_unfinished bodies id = list_any (λ x. nat_eq id x.0 && is_unfinished x) bodies
 
-other_below : (a b : ℕ) → a < b → nat_eq a b ≡ false
+pub other_below : (a b : ℕ) → a < b → nat_eq a b ≡ false
 other_below a b below = grind (arith, nat_tests)
 
-other_above : (a b : ℕ) → a < b → nat_eq b a ≡ false
+pub other_above : (a b : ℕ) → a < b → nat_eq b a ≡ false
 other_above a b below = grind (arith, nat_tests)
 
-itself : (a : ℕ) → nat_eq a a ≡ true
+pub itself : (a : ℕ) → nat_eq a a ≡ true
 itself a = grind (arith, nat_tests)
 
-or_false : (b : Bool) → (b || false) ≡ b
+pub or_false : (b : Bool) → (b || false) ≡ b
 or_false true = refl
 or_false false = refl
 
-none_past : (n : ℕ) (xs : Numbered Body) → AllByRecursion (λ y. n < y.0) xs → has_unfinished xs n ≡ false
+pub none_past : (n : ℕ) (xs : Numbered Body) → AllByRecursion (λ y. n < y.0) xs → has_unfinished xs n ≡ false
 none_past n [] h = refl
 none_past n (x ∷ xs) h = rw (other_below n x.0 h.0, none_past n xs h.1) refl
 

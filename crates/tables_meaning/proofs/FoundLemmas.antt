@@ -1,5 +1,5 @@
 -- The first rows of an archive: how they are added, and that they are those of an archive in which nothing is yet.
-use Rattle.std.proofs.Common.{◌≡◌, ◌<◌, inl, ℕ, zero, suc, ◌+◌, true, IsTrue, Result, Ok, Err, OnErr, List, [], ◌∷◌, ◌++◌, map, codes, length, replicate, take, get_or, Some, slice_get, append_assoc, refl, sym, ap, subst, ◌∙◌, arith}
+use Rattle.std.proofs.Common.{◌≡◌, ◌<◌, ℕ, zero, suc, ◌+◌, true, IsTrue, Result, Ok, Err, OnErr, List, [], ◌∷◌, ◌++◌, map, codes, length, replicate, take, get_or, Some, slice_get, append_assoc, refl, sym, ap, subst, ◌∙◌, arith}
 use Rattle.std.specs.FinMap.{empty}
 use Rattle.std.specs.List.{flat_map, zip}
 use Rattle.std.specs.Option.{option_map_or}
@@ -8,7 +8,7 @@ use Rattle.std.proofs.lemmas.List.Sums.{fold-append}
 use Rattle.std.proofs.lemmas.Grind.{flat_map-append, get_or_default_zero}
 use Rattle.std.proofs.lemmas.Slice.Zip.{get_or-zip, length-zip}
 use Rattle.sqlite.specs.Held.{Held, state}
-use Rattle.sqlite.specs.State.{State, KeepsCommit, Survives}
+use Rattle.sqlite.specs.State.{State, KeepsCommit}
 use Rattle.sqlite.specs.Store.{Ghosts}
 use Rattle.rules.specs.Values.{ConfigValue}
 use Rattle.rules.specs.declared.suite.Suite.{Suite}
@@ -26,16 +26,6 @@ use Rattle.tables_meaning.specs.Transactions.{IsUndone}
 use Rattle.tables_meaning.specs.Founding.{Continues, Founds, component_texts, components_texts, first_date, first_dates, founded, from_root, suite_texts_at, with_dates, with_first_rows, with_path_text, with_texts}
 
 -- ---- statements in a row
-
-pub survives_none : (s : State) → Survives s s (λ _. ⊥)
-survives_none s = record {
-  clean = omega arith;
-  shield = λ h. h;
-  counts = omega arith;
-  limit = refl;
-  closes = λ clean up. inl up;
-  crash = λ clean db h. inl h;
-}
 
 pub continues_none : (s : State) → IsTrue s.in_transaction → Continues s s (λ t. t)
 continues_none s inside = record {

@@ -20,12 +20,12 @@ use Rattle.tables.specs.Wants.{is_wanted_by, without_wants}
 use Rattle.tables.specs.declared.rows.Arrival as rows_arrival
 use Rattle.tables.specs.declared.rows.Upload.{Upload}
 use Rattle.tables.specs.declared.rows.Want.{Want}
-use Rattle.tables_meaning.specs.Kept.{AreNumbered, AreUploads, arrivals_in, bytes_of, is_placed, judged_row, request_of, sign_in}
+use Rattle.tables_meaning.specs.Kept.{AreNumbered, AreUploads, Request, arrivals_in, bytes_of, is_placed, judged_row, request_of, sign_in}
 use Rattle.tables_meaning.specs.Making.{with_judged}
 use Rattle.tables_meaning.proofs.StepLemmas.{rises_changed}
 use Rattle.tables_meaning.proofs.RowLists.{found_passes, found_holds, none_passes, all_filtered}
 use Rattle.tables_meaning.proofs.Searches.{all_both, ascending_with, ascending_both, map_same_on, filter_same_on, filter_twice, list_any-map, any_same, any_weaker, any_is, found_any, some_found}
-use Rattle.tables_meaning.proofs.WantLemmas.{Sign, Request, is_sign, is_sign-Decides, is_sign-turned, entry_in, request, is_waiting, waits_as, AreRows, any_waiting, or_false}
+use Rattle.tables_meaning.proofs.WantLemmas.{Sign, is_sign, is_sign-Decides, is_sign-turned, entry_in, request, is_waiting, waits_as, AreRows, any_waiting, or_false}
 use Rattle.tables_meaning.proofs.RequestLemmas.{requests, rows_from_uploads, uploads_from_rows}
 
 -- ---- the row of one upload

@@ -14,12 +14,12 @@ use Rattle.keep.specs.declared.arrival.Arrival.{Arrival}
 use Rattle.keep.specs.declared.change.Judgement.{Judgement}
 use Rattle.keep.specs.declared.change.Step.{Step}
 use Rattle.tables.specs.Rows.{Rises, Tables, rows_of}
-use Rattle.tables_meaning.specs.Kept.{AreNumbered, AreUploads, arrivals_in, request_of, sign_in}
+use Rattle.tables_meaning.specs.Kept.{AreNumbered, AreUploads, Request, arrivals_in, request_of, sign_in}
 use Rattle.tables_meaning.specs.Planned.{KeepsOthers}
 use Rattle.tables_meaning.specs.Making.{with_judged, with_plan, with_step, with_steps}
 use Rattle.tables_meaning.proofs.PlanLemmas.{plan_keeps}
 use Rattle.tables_meaning.proofs.Searches.{any_same, list_any-filter, list_any-map}
-use Rattle.tables_meaning.proofs.WantLemmas.{Request, Sign, is_sign, is_sign-Decides, is_waiting, request}
+use Rattle.tables_meaning.proofs.WantLemmas.{Sign, is_sign, is_sign-Decides, is_waiting, request}
 use Rattle.tables_meaning.proofs.RequestLemmas.{requests, rows_from_uploads, uploads_from_rows}
 use Rattle.tables_meaning.proofs.JudgedLemmas.{arrivals_judged, judged_if_asked, requests_judged, same_arrivals, uploads_rise}
 

@@ -1,12 +1,11 @@
 -- The uploads that are not judged, as the book has them and as the tables do, in the same order.
-use Rattle.std.proofs.Common.{◌≡◌, ℕ, Bool, true, false, not, if◌then◌else◌, List, [], ◌∷◌, map, filter, refl, ap, sym, ◌∙◌}
+use Rattle.std.proofs.Common.{◌≡◌, true, false, not, if◌then◌else◌, List, [], ◌∷◌, map, filter, refl, ap, sym, ◌∙◌}
 use Rattle.std.specs.Ordering.{is_gt}
 use Rattle.std.specs.declared.cmp.Ordering.{Ordering}
-use Rattle.sums.specs.declared.print.Print.{Print}
 use Rattle.keep.specs.Book.{Book, Candidate, candidates, in_order, is_judged, judging_order, put_in_order, unjudged}
 use Rattle.keep.specs.Keeping.{sign_of}
 use Rattle.tables.specs.Rows.{Rises, Tables}
-use Rattle.tables_meaning.specs.Kept.{AreUploads, arrivals_in, request_in, request_of}
+use Rattle.tables_meaning.specs.Kept.{AreUploads, Request, arrivals_in, request_in, request_of}
 use Rattle.tables_meaning.specs.Reads.{put_by, row_order, sign_order, sorted_by, wanting, wanting_rows}
 use Rattle.tables_meaning.proofs.WantingLemmas.{wanting_unjudged}
 
@@ -37,10 +36,6 @@ in_order-sorted_by (c ∷ cs) = put_in_order-put_by c (in_order cs) ∙ ap (put_
 order_of_signs : (c d : Candidate) → judging_order c d ≡ sign_order (sign_of c) (sign_of d)
 unfolding judging_order sign_order
 order_of_signs c d = refl
-
--- a sign, and the entries with whether they have arrived
-abbrev Request : Type 0
-Request = (List ℕ × Print) × List (List ℕ × Print × Bool)
 
 -- the uploads that are not judged are the same, in the same order, and want the same
 pub unjudged_requests : (t : Tables) (b : Book) → b.arrivals ≡ arrivals_in t → Rises t.uploads → AreUploads t b.judged

@@ -20,9 +20,9 @@ use Rattle.keep.specs.declared.change.Judgement.{Judgement}
 use Rattle.tables.specs.Rows.{Numbered, Tables, rows_of}
 use Rattle.tables.specs.declared.rows.Upload.{Upload}
 use Rattle.tables.specs.declared.rows.Want.{Want}
-use Rattle.tables_meaning.specs.Kept.{AreUploads, arrivals_in, request_of, sign_in, wanted, wants_in}
+use Rattle.tables_meaning.specs.Kept.{AreUploads, Request, arrivals_in, request_of, sign_in, wanted, wants_in}
 use Rattle.tables_meaning.proofs.Searches.{same_tests, all_of_rows, all_in_rows, pairs_of_rows, pairs_in_rows, list_any-map, list_any-filter, any_same, any_weaker}
-use Rattle.tables_meaning.proofs.WantLemmas.{Sign, Request, is_sign, is_sign-Decides, is_sign-turned, AreRows, marked_entry, marked_request, or_false}
+use Rattle.tables_meaning.proofs.WantLemmas.{Sign, is_sign, is_sign-Decides, is_sign-turned, AreRows, marked_entry, marked_request, or_false}
 
 -- ---- the uploads as rows and requests
 

@@ -18,7 +18,7 @@ use Rattle.tables_meaning.proofs.BodyLemmas.{any_same, arrival_has, file_has, us
 use Rattle.tables_meaning.proofs.FinishedLemmas.{has_unfinished, left_whole, tells}
 use Rattle.tables_meaning.proofs.Searches.{any_parts, filter_same_on, filter_twice, list_any-filter}
 
-and_true : (b : Bool) → (b && true) ≡ b
+pub and_true : (b : Bool) → (b && true) ≡ b
 and_true true = refl
 and_true false = refl
 

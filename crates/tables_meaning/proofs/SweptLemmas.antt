@@ -31,7 +31,7 @@ use Rattle.tables_meaning.proofs.RequestLemmas.{requests, rows_from_uploads, upl
 use Rattle.tables_meaning.proofs.RowLists.{all_filtered, any_kept, ascending_from_pairs, find_kept, pairs_from_ascending}
 use Rattle.tables_meaning.proofs.Searches.{all_in_rows, all_of_rows}
 
-unset : (b : Bool) → not b ≡ true → b ≡ false
+pub unset : (b : Bool) → not b ≡ true → b ≡ false
 unset true e = absurd (true≢false (sym e))
 unset false e = refl
 

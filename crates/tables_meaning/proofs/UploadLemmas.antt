@@ -26,11 +26,11 @@ use Rattle.tables.specs.declared.rows.Arrival as rows_arrival
 use Rattle.tables.specs.declared.rows.Piece.{Piece}
 use Rattle.tables.specs.declared.rows.Upload.{Upload}
 use Rattle.tables.specs.declared.rows.Want.{Want}
-use Rattle.tables_meaning.specs.Kept.{AreArrivals, AreBodies, AreNumbered, AreUploads, arrivals_in, arrival_in, bytes_of, has_body, pieces_for, request_of, sign_in, wanted}
+use Rattle.tables_meaning.specs.Kept.{AreArrivals, AreBodies, AreNumbered, AreUploads, arrivals_in, arrival_in, bytes_of, has_body, pieces_for, request_of, sign_in, wanted, Request}
 use Rattle.tables_meaning.specs.Making.{is_here, number_with, with_arrived, with_bytes, with_delivered, with_pieces, with_requested, with_wants}
 use Rattle.tables_meaning.proofs.BodyLemmas.{are_stored, by_number, of_no_print}
 use Rattle.tables_meaning.proofs.Searches.{list_any-map}
-use Rattle.tables_meaning.proofs.WantLemmas.{Sign, Request, is_sign, AreRows, any_row, marked_want, marked_request, with_marked, new_want, new_upload, with_one_more}
+use Rattle.tables_meaning.proofs.WantLemmas.{Sign, is_sign, AreRows, any_row, marked_want, marked_request, with_marked, new_want, new_upload, with_one_more}
 use Rattle.tables_meaning.proofs.RequestLemmas.{judged_by_sign, requests, rows_from_uploads, uploads_from_rows, IsAlone, sign_made, sign_asked, requests_with}
 
 -- ---- the rows that a delivery leaves

@@ -21,7 +21,7 @@ use Rattle.tables.specs.Uploads.{is_judged as has_place}
 use Rattle.tables.specs.Wants.{is_want, is_wanted_by}
 use Rattle.tables.specs.declared.rows.Upload.{Upload}
 use Rattle.tables.specs.declared.rows.Want.{Want}
-use Rattle.tables_meaning.specs.Kept.{is_placed, judged_row, sign_in}
+use Rattle.tables_meaning.specs.Kept.{Request, is_placed, judged_row, sign_in}
 use Rattle.tables_meaning.proofs.Searches.{same_tests, all_from, map_same_on, list_any-map, list_any-filter, any_parts, found_any, slice_any, any_slice, below_next}
 
 -- ---- signs
@@ -29,10 +29,6 @@ use Rattle.tables_meaning.proofs.Searches.{same_tests, all_from, map_same_on, li
 -- a name and a print
 abbrev pub Sign : Type 0
 Sign = List ℕ × Print
-
--- an upload that is not judged: its sign and its entries, each with whether it is there
-abbrev pub Request : Type 0
-Request = (List ℕ × Print) × List (List ℕ × Print × Bool)
 
 -- the second is the first
 abbrev pub is_sign : Sign → Sign → Bool

@@ -29,7 +29,7 @@ use Rattle.tables.specs.Items.{is_item}
 use Rattle.tables.specs.Pieces.{is_of}
 use Rattle.tables.specs.Real.{IsRealPrint}
 use Rattle.tables.specs.Refs.{is_ref_of}
-use Rattle.tables.specs.Rows.{Tables, Rises, rows_of}
+use Rattle.tables.specs.Rows.{Tables, Rises, rows_of, Numbered}
 use Rattle.tables.specs.Uploads.{is_judged as has_place}
 use Rattle.tables.specs.Wants.{is_wanted_by}
 use Rattle.tables.specs.declared.rows.Arrival as rows_arrival
@@ -39,6 +39,7 @@ use Rattle.tables.specs.declared.rows.Piece.{Piece}
 use Rattle.tables.specs.declared.rows.Ref.{Ref}
 use Rattle.tables.specs.declared.rows.Upload.{Upload}
 use Rattle.tables.specs.declared.meta.TheConstants.{VERSION}
+use Rattle.tables.specs.declared.rows.Body.{Body}
 use Rattle.vers.specs.Syntax.{IsVersion}
 
 -- ---- bodies
@@ -69,6 +70,10 @@ pieces_for id bytes = map (λ n. record { body = id; number = n + 1; bytes = pie
 -- there is a body of this number
 unfoldable pub has_body : Tables → ℕ → Bool
 has_body t id = list_any (λ x. nat_eq x.0 id) t.bodies
+
+-- the print of the body of a number among these
+abbrev pub print_in : Numbered Body → ℕ → Option Print
+print_in bodies id = option_and_then (λ x. x.1.print) (find (λ x. nat_eq x.0 id) bodies)
 
 -- the print of a body
 abbrev pub print_at : Tables → ℕ → Option Print
@@ -126,11 +131,15 @@ wants_in t id = map (λ w. (w.name, w.print, w.here)) (filter (is_wanted_by id) 
 abbrev pub wanted : List Arrival → Entry → List ℕ × Print × Bool
 wanted arrivals e = (e.name, e.print, is_there arrivals e)
 
+-- an upload's name and print, and its entries, each with whether it is there
+abbrev pub Request : Type 0
+Request = (List ℕ × Print) × List (List ℕ × Print × Bool)
+
 -- an upload that is not judged, and what it wants
-abbrev pub request_in : Tables → ℕ × Upload → (List ℕ × Print) × List (List ℕ × Print × Bool)
+abbrev pub request_in : Tables → ℕ × Upload → Request
 request_in t x = (sign_in x.1, wants_in t x.0)
 
-abbrev pub request_of : List Arrival → Candidate → (List ℕ × Print) × List (List ℕ × Print × Bool)
+abbrev pub request_of : List Arrival → Candidate → Request
 request_of arrivals c = (sign_of c, map (wanted arrivals) c.changes.entries)
 
 -- the row of a judged upload, at its place in the order of judging, from 1

@@ -2,7 +2,6 @@
 use Rattle.std.proofs.Common.{◌≡◌, ◌≢◌, ℕ, true, false, List, [], ◌∷◌, map, Option, Some, None, refl, sym, ap, subst, ◌∙◌, codes, eqb-true}
 use Rattle.std.proofs.lemmas.Bool.{and_parts, false_from_ne_true}
 use Rattle.sqlite.specs.Effect.{Database, IsDatabase}
-use Rattle.sqlite.specs.Table.{Table}
 use Rattle.sqlite.specs.Values.{or_null}
 use Rattle.sqlite.specs.declared.types.Value.{Value}
 use Rattle.sqlite.specs.declared.types.Value.TheVariants.{Text, Blob}
@@ -20,7 +19,7 @@ use Rattle.tables.specs.Arrivals.{is_arrival}
 use Rattle.tables.specs.Items.{is_item}
 use Rattle.tables.specs.Rows.{Holds, Tables, arrival_cells, body_cells, file_cells, full_body, full_upload, item_cells, piece_cells, ref_cells, stored, upload_cells, want_cells, whole}
 use Rattle.tables.specs.Others.{IsArchiveSchema, Others, others_in, with_others}
-use Rattle.tables.specs.Schema.{arrivals, bodies, files, items, pieces, refers, refs, uploads, wants}
+use Rattle.tables.specs.Schema.{arrivals_table, bodies_table, files_table, items_table, pieces_table, refers, refs_table, uploads_table, wants_table}
 use Rattle.tables.specs.declared.rows.Arrival.{Arrival}
 use Rattle.tables.specs.declared.rows.Body.{Body}
 use Rattle.tables.specs.declared.rows.File.{File}
@@ -30,31 +29,6 @@ use Rattle.tables_read.specs.All.{AreConstrained, name_and_print}
 use Rattle.tables_read.specs.RowKeys.{AreSame, HasNoClash, HasParents, apart, guarded, no_clash_read, owned, parents_read, referred, rows_apart}
 
 -- ---- what the schema has
-
--- the tables with their trees
-abbrev bodies_table : Table
-bodies_table = record bodies { tree = 1 }
-
-abbrev pieces_table : Table
-pieces_table = record pieces { tree = 3 }
-
-abbrev arrivals_table : Table
-arrivals_table = record arrivals { tree = 5 }
-
-abbrev uploads_table : Table
-uploads_table = record uploads { tree = 7 }
-
-abbrev wants_table : Table
-wants_table = record wants { tree = 10 }
-
-abbrev items_table : Table
-items_table = record items { tree = 13 }
-
-abbrev refs_table : Table
-refs_table = record refs { tree = 15 }
-
-abbrev files_table : Table
-files_table = record files { tree = 17 }
 
 -- where the references point: to the tree of a table, by the rowid
 bodies_key : (o : Others) → parent_key (with_others o).tables (refers 1 (codes "bodies")) ≡ Some (1, 0 ∷ [], plain)

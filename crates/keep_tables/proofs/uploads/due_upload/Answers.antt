@@ -2,8 +2,9 @@ use Rattle.std.proofs.Common.{◌≡◌, if◌then◌else◌, nat_eq, None, sym,
 use Rattle.sqlite.specs.Held.{state}
 use Rattle.sqlite.specs.State.{HasCleanDisk}
 use Rattle.sqlite.proofs.Callers.{unchanged_then}
+use Rattle.tables.proofs.ReadLemmas.{on_err}
 use Rattle.tables_meaning.specs.Reads.{upload_in}
-use Rattle.tables_meaning.proofs.ReadsLemmas.{held_after, on_err, survives_after, undone_after}
+use Rattle.tables_meaning.proofs.ReadsLemmas.{held_after, survives_after, undone_after}
 use Rattle.keep_tables.proofs.uploads.due_upload.Goals as goal
 
 pub returns-in_err-missing-clause-survives : goal.returns-in_err-missing-clause-survives

@@ -3,7 +3,8 @@ use Rattle.std.specs.List.{filter_map}
 use Rattle.sqlite.specs.Held.{state}
 use Rattle.sqlite.specs.State.{HasCleanDisk}
 use Rattle.sqlite.proofs.Callers.{unchanged_then}
-use Rattle.tables_meaning.proofs.ReadsLemmas.{found_all, found_more, found_none, held_after, on_err, survives_after, undone_after, undone_if_unchanged}
+use Rattle.tables.proofs.ReadLemmas.{on_err}
+use Rattle.tables_meaning.proofs.ReadsLemmas.{found_all, found_more, found_none, held_after, survives_after, undone_after, undone_if_unchanged}
 use Rattle.keep_tables.specs.Moments.{due_at}
 use Rattle.keep_tables.proofs.uploads.due_uploads.Goals as goal
 

@@ -2,7 +2,8 @@ use Rattle.std.proofs.Common.{length, filter, not, refl, ap, ◌∙◌, arith}
 use Rattle.std.proofs.lemmas.List.{take_all}
 use Rattle.sqlite.specs.Held.{state}
 use Rattle.sqlite.specs.State.{HasCleanDisk}
-use Rattle.tables_meaning.proofs.ReadsLemmas.{held_if_rested, on_err, rests_itself, rests_then, survives_itself, survives_rested, undone_rested}
+use Rattle.tables.proofs.ReadLemmas.{on_err}
+use Rattle.tables_meaning.proofs.ReadsLemmas.{held_if_rested, rests_itself, rests_then, survives_itself, survives_rested, undone_rested}
 use Rattle.keep_tables.specs.Moments.{is_had}
 use Rattle.keep_tables.proofs.MomentLemmas.{counted_more}
 use Rattle.keep_tables.proofs.uploads.missing_among.Goals as goal

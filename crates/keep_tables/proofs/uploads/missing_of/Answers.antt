@@ -2,7 +2,8 @@ use Rattle.std.proofs.Common.{length, filter, not, ap, ◌∙◌, arith}
 use Rattle.sqlite.specs.Held.{state}
 use Rattle.sqlite.specs.State.{HasCleanDisk}
 use Rattle.sqlite.proofs.Callers.{unchanged_then}
-use Rattle.tables_meaning.proofs.ReadsLemmas.{held_after, on_err, survives_after, survives_foreign, undone_after}
+use Rattle.tables.proofs.ReadLemmas.{on_err}
+use Rattle.tables_meaning.proofs.ReadsLemmas.{held_after, survives_after, survives_foreign, undone_after}
 use Rattle.keep_tables.specs.Moments.{is_had, missing_at}
 use Rattle.keep_tables.proofs.uploads.missing_of.Goals as goal
 

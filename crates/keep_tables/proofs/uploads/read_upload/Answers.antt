@@ -4,10 +4,11 @@ use Rattle.sqlite.specs.State.{HasCleanDisk}
 use Rattle.sqlite.proofs.Callers.{unchanged_then}
 use Rattle.records.specs.Records.{changes_in}
 use Rattle.records.proofs.RecordRead.{changes_of_read}
+use Rattle.tables.proofs.ReadLemmas.{on_err}
 use Rattle.suites.specs.Upload.{IsTextOf}
 use Rattle.tables_meaning.specs.Reads.{text_in}
 use Rattle.tables_meaning.proofs.DueLemmas.{upload_read}
-use Rattle.tables_meaning.proofs.ReadsLemmas.{held_after, on_err, survives_after, undone_after}
+use Rattle.tables_meaning.proofs.ReadsLemmas.{held_after, survives_after, undone_after}
 use Rattle.keep_tables.proofs.uploads.read_upload.Goals as goal
 
 pub new-requires : goal.new-requires

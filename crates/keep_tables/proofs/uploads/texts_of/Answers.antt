@@ -3,10 +3,11 @@ use Rattle.std.proofs.lemmas.List.{take_all}
 use Rattle.std.proofs.lemmas.List.Elements.{All-same}
 use Rattle.sqlite.specs.Held.{state}
 use Rattle.sqlite.specs.State.{HasCleanDisk}
+use Rattle.tables.proofs.ReadLemmas.{on_err}
 use Rattle.suites.specs.Upload.{IsTextOf}
 use Rattle.tables_meaning.specs.Reads.{text_in}
 use Rattle.tables_meaning.proofs.DueLemmas.{texts_more}
-use Rattle.tables_meaning.proofs.ReadsLemmas.{count_more, held_if_rested, mapped_more, on_err, rests_itself, rests_then, survives_itself, survives_rested, undone_if_rested, undone_rested}
+use Rattle.tables_meaning.proofs.ReadsLemmas.{count_more, held_if_rested, mapped_more, rests_itself, rests_then, survives_itself, survives_rested, undone_if_rested, undone_rested}
 use Rattle.keep_tables.proofs.uploads.texts_of.Goals as goal
 
 pub loop-entry-init : goal.loop-entry-init

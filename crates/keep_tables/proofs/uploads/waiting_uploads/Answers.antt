@@ -2,7 +2,8 @@ use Rattle.std.proofs.Common.{◌≡◌, ◌++◌, length, map, ap, ◌∙◌, a
 use Rattle.sqlite.specs.Held.{state}
 use Rattle.sqlite.specs.State.{HasCleanDisk}
 use Rattle.sqlite.proofs.Callers.{unchanged_then}
-use Rattle.tables_meaning.proofs.ReadsLemmas.{held_after, made_all, made_more, on_err, survives_after, undone_after, undone_if_unchanged}
+use Rattle.tables.proofs.ReadLemmas.{on_err}
+use Rattle.tables_meaning.proofs.ReadsLemmas.{held_after, made_all, made_more, survives_after, undone_after, undone_if_unchanged}
 use Rattle.keep_tables.specs.Moments.{waiting_at}
 use Rattle.keep_tables.proofs.uploads.waiting_uploads.Goals as goal
 

@@ -4,7 +4,8 @@ use Rattle.sqlite.specs.Held.{state}
 use Rattle.sqlite.specs.State.{HasCleanDisk}
 use Rattle.sqlite.proofs.Callers.{unchanged_then}
 use Rattle.tables.specs.declared.rows.Upload.{Upload}
-use Rattle.tables_meaning.proofs.ReadsLemmas.{held_if_rested, on_err, rests_if_unchanged, rests_itself, rests_then, survives_itself, survives_rested, undone_if_unchanged, undone_rested}
+use Rattle.tables.proofs.ReadLemmas.{on_err}
+use Rattle.tables_meaning.proofs.ReadsLemmas.{held_if_rested, rests_if_unchanged, rests_itself, rests_then, survives_itself, survives_rested, undone_if_unchanged, undone_rested}
 use Rattle.tables_meaning.proofs.WantingLemmas.{all_left, none_left, one_less, wanting_behind}
 use Rattle.keep_tables.proofs.uploads.wanting_uploads.Goals as goal
 

@@ -3,7 +3,8 @@ use Rattle.std.specs.List.{list_all}
 use Rattle.std.proofs.lemmas.List.{drop_all}
 use Rattle.sqlite.specs.Held.{state}
 use Rattle.sqlite.specs.State.{HasCleanDisk}
-use Rattle.tables_meaning.proofs.ReadsLemmas.{held_if_rested, on_err, rests_itself, rests_then, survives_itself, survives_rested, undone_rested}
+use Rattle.tables.proofs.ReadLemmas.{on_err}
+use Rattle.tables_meaning.proofs.ReadsLemmas.{held_if_rested, rests_itself, rests_then, survives_itself, survives_rested, undone_rested}
 use Rattle.tables_bodies.specs.Swept.{have_arrived}
 use Rattle.tables_bodies.proofs.SparedLemmas.{all_fails, all_next}
 use Rattle.tables_bodies.proofs.sparing.have_all_arrived.Goals as goal

@@ -1,9 +1,9 @@
 use Rattle.std.proofs.Common.{not, ap, sym, ◌∙◌, ◌&&◌}
 use Rattle.sqlite.specs.Held.{state}
 use Rattle.tables.specs.Rows.{tables_in}
+use Rattle.tables.proofs.ReadLemmas.{survives_none}
 use Rattle.tables_meaning.proofs.ReadsLemmas.{rests_itself, undone_if_rested}
 use Rattle.tables_bodies.specs.Swept.{have_all_arrived}
-use Rattle.tables_bodies.proofs.SparedLemmas.{survives_none}
 use Rattle.tables_bodies.proofs.sparing.needs_sweep.Goals as goal
 
 pub returns-then-not-takes-clause-unchanged : goal.returns-then-not-takes-clause-unchanged
