@@ -6,7 +6,7 @@ use Rattle.sqlite.specs.declared.error.Error.{Error}
 use Rattle.sqlite.specs.State.{State, ExecutesInside}
 use Rattle.tables.specs.Schema.{items_table}
 use Rattle.tables.specs.Rows.{whole, Changes, item_cells, stored}
-use Rattle.tables.specs.declared.rows.Item.{Item}
+use Rattle.tables.specs.declared.rows.ItemRow.{ItemRow}
 use Rattle.tables.proofs.CastLemmas.{cast_null, cast_int}
 use Rattle.tables.proofs.InsertLemmas.{puts}
 use Rattle.tables.proofs.HoldsLemmas.{with_items}
@@ -16,10 +16,10 @@ use Rattle.copying.specs.declared.items.TheConstants.{INSERT_ITEM}
 use Rattle.copying.proofs.Meaning.{insert_item_terms, insert_item_is, insert_item_plain}
 use Rattle.copying.proofs.PlaceLemmas.{places_row}
 
-item_cast : (id : ℕ) (x : Item) → cast_row items_table (whole id ∷ Null ∷ item_params x) ≡ stored item_cells (id, x)
+item_cast : (id : ℕ) (x : ItemRow) → cast_row items_table (whole id ∷ Null ∷ item_params x) ≡ stored item_cells (id, x)
 item_cast id x = rw (cast_null, cast_int (pos id), cast_int (pos x.kind))
 
-pub inserts_item : (old new : State) (id : ℕ) (x : Item) (r : Result ℕ Error) → ExecutesInside 0 INSERT_ITEM.now (whole id ∷ item_params x) old new r
+pub inserts_item : (old new : State) (id : ℕ) (x : ItemRow) (r : Result ℕ Error) → ExecutesInside 0 INSERT_ITEM.now (whole id ∷ item_params x) old new r
     → OnOk r (Changes old new (with_item_at (id, x)))
 inserts_item old new id x (Ok count) h = record {
   held = λ t was.

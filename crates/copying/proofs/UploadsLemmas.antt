@@ -9,7 +9,7 @@ use Rattle.sqlite.specs.declared.error.Error.{Error}
 use Rattle.sqlite.specs.State.{State, ExecutesInside}
 use Rattle.tables.specs.Schema.{uploads_table}
 use Rattle.tables.specs.Rows.{whole, print_cells, Changes, upload_cells, stored}
-use Rattle.tables.specs.declared.rows.Upload.{Upload}
+use Rattle.tables.specs.declared.rows.UploadRow.{UploadRow}
 use Rattle.tables.proofs.CastLemmas.{cast_null, cast_int}
 use Rattle.tables.proofs.InsertLemmas.{puts}
 use Rattle.tables.proofs.HoldsLemmas.{with_uploads}
@@ -21,7 +21,7 @@ use Rattle.copying.proofs.Meaning.{insert_upload_terms, insert_upload_is, insert
 use Rattle.copying.proofs.PlaceLemmas.{places_row, placed_of}
 
 -- the values of a row, its number aside
-abbrev pub upload_params : Upload → Row
+abbrev pub upload_params : UploadRow → Row
 upload_params u = Text u.name ∷ (print_cells u.print ++ or_null whole u.place ∷ or_null whole u.verdict ∷ [])
 
 -- a number that may be absent, as it is bound and as it is stored
@@ -33,10 +33,10 @@ cast_some : (n : Option ℕ) → cast Integer (or_null whole n) ≡ or_null whol
 cast_some None = cast_null
 cast_some (Some n) = cast_int (pos n)
 
-upload_cast : (id : ℕ) (u : Upload) → cast_row uploads_table (whole id ∷ Null ∷ upload_params u) ≡ stored upload_cells (id, u)
+upload_cast : (id : ℕ) (u : UploadRow) → cast_row uploads_table (whole id ∷ Null ∷ upload_params u) ≡ stored upload_cells (id, u)
 upload_cast id u = rw (cast_null, cast_int (pos id), cast_int (pos u.print.size), cast_some u.place, cast_some u.verdict)
 
-pub inserts_upload : (old new : State) (id : ℕ) (u : Upload) (r : Result ℕ Error) → ExecutesInside 0 INSERT_UPLOAD.now (whole id ∷ upload_params u) old new r
+pub inserts_upload : (old new : State) (id : ℕ) (u : UploadRow) (r : Result ℕ Error) → ExecutesInside 0 INSERT_UPLOAD.now (whole id ∷ upload_params u) old new r
     → OnOk r (Changes old new (with_upload_at (id, u)))
 inserts_upload old new id u (Ok count) h = record {
   held = λ t was.

@@ -9,7 +9,7 @@ ghost use Rattle.copying.specs.Placed.{with_body_at};
 use crate::number::whole;
 use sqlite::{Alter, Error, Transaction, params};
 use sums::Print;
-use tables::rows::Body;
+use tables::rows::BodyRow;
 
 const INSERT_BODY: &str =
     "INSERT INTO bodies (id, size, md5, sha1, sha256) VALUES (?1, ?2, ?3, ?4, ?5)";
@@ -52,7 +52,7 @@ fn insert_begun<S: Alter>(tx: &mut Transaction<'_, S>, id: u64) -> Result<(), Er
 pub(crate) fn insert_body<S: Alter>(
     tx: &mut Transaction<'_, S>,
     id: u64,
-    body: &Body,
+    body: &BodyRow,
 ) -> Result<(), Error>
     ensures same_reference { tx.new.conn.ghost_name ≡ tx.old.conn.ghost_name }
     ensures ok { HasCleanDisk (state S.Store tx.new.conn.now) → IsTrue (state S.Store tx.old.conn.now).in_transaction

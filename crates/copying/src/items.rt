@@ -8,7 +8,7 @@ ghost use Rattle.copying.specs.Placed.{with_item_at};
 
 use crate::number::whole;
 use sqlite::{Alter, Error, Transaction, params};
-use tables::rows::Item;
+use tables::rows::ItemRow;
 
 const INSERT_ITEM: &str =
     "INSERT INTO items (id, suite, kind, package, architecture, version, component, source, paragraph) VALUES (?1, ?2, ?3, ?4, ?5, ?6, ?7, ?8, ?9)";
@@ -17,7 +17,7 @@ const INSERT_ITEM: &str =
 pub(crate) fn insert_item<S: Alter>(
     tx: &mut Transaction<'_, S>,
     id: u64,
-    item: &Item,
+    item: &ItemRow,
 ) -> Result<(), Error>
     ensures same_reference { tx.new.conn.ghost_name ≡ tx.old.conn.ghost_name }
     ensures ok { HasCleanDisk (state S.Store tx.new.conn.now) → IsTrue (state S.Store tx.old.conn.now).in_transaction

@@ -15,12 +15,12 @@ use tables::arrivals::insert_arrival;
 use tables::files::insert_file;
 use tables::pieces::insert_piece;
 use tables::refs::insert_ref;
-use tables::rows::{Arrival, Body, File, Item, Piece, Ref, Upload, Want};
+use tables::rows::{ArrivalRow, BodyRow, File, ItemRow, Piece, Ref, UploadRow, Want};
 use tables::wants::insert_want;
 use tables_read::AllRows;
 
 /// Adds the bodies under their numbers.
-fn write_bodies<S: Alter>(tx: &mut Transaction<'_, S>, all: &[(u64, Body)]) -> Result<(), Error>
+fn write_bodies<S: Alter>(tx: &mut Transaction<'_, S>, all: &[(u64, BodyRow)]) -> Result<(), Error>
     ensures same_reference { tx.new.conn.ghost_name ≡ tx.old.conn.ghost_name }
     ensures ok { HasCleanDisk (state S.Store tx.new.conn.now) → IsTrue (state S.Store tx.old.conn.now).in_transaction
         → OnOk result (Writes (state S.Store tx.old.conn.now) (state S.Store tx.new.conn.now) (each with_body_at all.now)) }
@@ -53,7 +53,7 @@ fn write_pieces<S: Alter>(tx: &mut Transaction<'_, S>, all: &[(u64, Piece)]) -> 
 /// Adds the arrivals, each as of the moment.
 fn write_arrivals<S: Alter>(
     tx: &mut Transaction<'_, S>,
-    all: &[(u64, Arrival)],
+    all: &[(u64, ArrivalRow)],
     moment: u64,
 ) -> Result<(), Error>
     ensures same_reference { tx.new.conn.ghost_name ≡ tx.old.conn.ghost_name }
@@ -70,7 +70,10 @@ fn write_arrivals<S: Alter>(
 }
 
 /// Adds the uploads under their numbers.
-fn write_uploads<S: Alter>(tx: &mut Transaction<'_, S>, all: &[(u64, Upload)]) -> Result<(), Error>
+fn write_uploads<S: Alter>(
+    tx: &mut Transaction<'_, S>,
+    all: &[(u64, UploadRow)],
+) -> Result<(), Error>
     ensures same_reference { tx.new.conn.ghost_name ≡ tx.old.conn.ghost_name }
     ensures ok { HasCleanDisk (state S.Store tx.new.conn.now) → IsTrue (state S.Store tx.old.conn.now).in_transaction
         → OnOk result (Writes (state S.Store tx.old.conn.now) (state S.Store tx.new.conn.now) (each with_upload_at all.now)) }
@@ -101,7 +104,7 @@ fn write_wants<S: Alter>(tx: &mut Transaction<'_, S>, all: &[(u64, Want)]) -> Re
 }
 
 /// Adds the items under their numbers.
-fn write_items<S: Alter>(tx: &mut Transaction<'_, S>, all: &[(u64, Item)]) -> Result<(), Error>
+fn write_items<S: Alter>(tx: &mut Transaction<'_, S>, all: &[(u64, ItemRow)]) -> Result<(), Error>
     ensures same_reference { tx.new.conn.ghost_name ≡ tx.old.conn.ghost_name }
     ensures ok { HasCleanDisk (state S.Store tx.new.conn.now) → IsTrue (state S.Store tx.old.conn.now).in_transaction
         → OnOk result (Writes (state S.Store tx.old.conn.now) (state S.Store tx.new.conn.now) (each with_item_at all.now)) }

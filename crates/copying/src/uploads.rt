@@ -8,7 +8,7 @@ ghost use Rattle.copying.specs.Placed.{with_upload_at};
 
 use crate::number::{some_whole, whole};
 use sqlite::{Alter, Error, Transaction, params};
-use tables::rows::Upload;
+use tables::rows::UploadRow;
 
 const INSERT_UPLOAD: &str =
     "INSERT INTO uploads (id, name, size, md5, sha1, sha256, place, verdict) VALUES (?1, ?2, ?3, ?4, ?5, ?6, ?7, ?8)";
@@ -17,7 +17,7 @@ const INSERT_UPLOAD: &str =
 pub(crate) fn insert_upload<S: Alter>(
     tx: &mut Transaction<'_, S>,
     id: u64,
-    upload: &Upload,
+    upload: &UploadRow,
 ) -> Result<(), Error>
     ensures same_reference { tx.new.conn.ghost_name ≡ tx.old.conn.ghost_name }
     ensures ok { HasCleanDisk (state S.Store tx.new.conn.now) → IsTrue (state S.Store tx.old.conn.now).in_transaction

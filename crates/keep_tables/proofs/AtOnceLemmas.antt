@@ -16,7 +16,7 @@ use Rattle.keep.specs.Keeping.{IsDeliverable}
 use Rattle.keep.specs.declared.change.Judgement.{Judgement}
 use Rattle.tables.specs.Bodies.{body_with}
 use Rattle.tables.specs.Rows.{Tables, Holds, tables_in}
-use Rattle.tables.specs.declared.rows.Body.{Body}
+use Rattle.tables.specs.declared.rows.BodyRow.{BodyRow}
 use Rattle.tables.proofs.BookLemmas.{held_tables, is_archive}
 use Rattle.tables_bodies.specs.AtOnce.{HasNoOtherPiece, IsOnePiece, is_new_at_once, with_delivery_at_once}
 use Rattle.tables_bodies.specs.Counting.{arrival_counts}
@@ -98,7 +98,7 @@ module _ (old : State) (settled : IsTrue old.is_open → old.now ≡ old.committ
       let row : HasBody was.bodies found (print_of bytes) = body_found (print_of bytes) was.bodies found there in
       let its : pieces_of was found ≡ pieces_for found (bytes_of was found) =
       subst (λ n. pieces_of was n ≡ pieces_for n (bytes_of was n)) row.number
-      (All-contains (λ (x : ℕ × Body). pieces_of was x.0 ≡ pieces_for x.0 (bytes_of was x.0)) was.bodies row.body kept_now.bodies.pieces row.within) in
+      (All-contains (λ (x : ℕ × BodyRow). pieces_of was x.0 ≡ pieces_for x.0 (bytes_of was x.0)) was.bodies row.body kept_now.bodies.pieces row.within) in
       only_piece was found bytes (bytes_of was found) its (fits was held_now found (ap (λ p. body_with p was.bodies) printed ∙ there))
 
   module _ (name : List ℕ) (moment : ℕ) (in_time : moment ≤ latest) (deliverable : IsDeliverable name bytes) where

@@ -14,7 +14,7 @@ use Rattle.keep.specs.declared.change.Judgement.{Judgement}
 use Rattle.tables.proofs.BookLemmas.{held_tables, is_archive}
 use Rattle.tables.specs.Rows.{Tables, Holds, IsArchive, Numbered, Rises, rows_of, tables_in, without}
 use Rattle.tables.specs.Others.{IsArchiveSchema}
-use Rattle.tables.specs.declared.rows.Body.{Body}
+use Rattle.tables.specs.declared.rows.BodyRow.{BodyRow}
 use Rattle.tables.specs.Real.{AreReal, IsRealBody, IsRealPrint}
 use Rattle.tables_meaning.specs.Archives.{KeepsArchive, KeepsFinished, book_of}
 use Rattle.tables_meaning.specs.Kept.{AreReadable, IsKept, book_in}
@@ -43,13 +43,13 @@ archive_here db t config judged dates held some under =
     (subst (Holds db) same held, subst (λ u. KeepsSome (finished u) config judged dates) same some, subst AreUnderWay same under)
 
 -- a body without a print can be held
-real_more : (x : ℕ × Body) (bodies : Numbered Body) → (AllByRecursion IsRealBody (rows_of (without is_unfinished bodies)) → AllByRecursion IsRealBody (rows_of bodies))
+real_more : (x : ℕ × BodyRow) (bodies : Numbered BodyRow) → (AllByRecursion IsRealBody (rows_of (without is_unfinished bodies)) → AllByRecursion IsRealBody (rows_of bodies))
     → (print : Option Print) → x.1.print ≡ print
     → AllByRecursion IsRealBody (rows_of (cond (not (not (is_some print))) (x ∷ without is_unfinished bodies) (without is_unfinished bodies))) → AllByRecursion IsRealBody (rows_of (x ∷ bodies))
 real_more x bodies rest None is real = (subst (λ o. IfSome o IsRealPrint) (sym is) tt, rest real)
 real_more x bodies rest (Some p) is real = (real.0, rest real.1)
 
-real_bodies : (bodies : Numbered Body) → AllByRecursion IsRealBody (rows_of (without is_unfinished bodies)) → AllByRecursion IsRealBody (rows_of bodies)
+real_bodies : (bodies : Numbered BodyRow) → AllByRecursion IsRealBody (rows_of (without is_unfinished bodies)) → AllByRecursion IsRealBody (rows_of bodies)
 real_bodies [] real = tt
 real_bodies (x ∷ bodies) real = real_more x bodies (real_bodies bodies) x.1.print refl real
 

@@ -24,7 +24,7 @@ use std::cmp::Ordering;
 use suites::{Upload, has_text};
 use sums::{Entry, Print, print_of};
 use tables::bodies::body_with_print;
-use tables::rows::{Upload as UploadRow, Want};
+use tables::rows::{UploadRow, Want};
 use tables::uploads::upload_numbered;
 use tables::wants::{next_wanting, wants_of};
 use tables_bodies::read_body;

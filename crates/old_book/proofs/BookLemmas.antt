@@ -6,7 +6,7 @@ use Rattle.keep.specs.declared.change.Judgement.{Judgement}
 use Rattle.tables.specs.Rows.{Numbered, Tables, rows_of, without}
 use Rattle.tables.specs.declared.meta.TheConstants.{VERSION}
 use Rattle.tables.specs.declared.rows.Meta.{Meta}
-use Rattle.tables.specs.declared.rows.Upload.{Upload}
+use Rattle.tables.specs.declared.rows.UploadRow.{UploadRow}
 use Rattle.tables.specs.declared.rows.Want.{Want}
 use Rattle.tables_read.specs.All.{AreConstrained}
 use Rattle.tables_meaning.specs.Kept.{AreReadable, IsKept, bytes_of, is_placed, is_used, judged_row}
@@ -20,7 +20,7 @@ use Rattle.old_book.proofs.MetaLemmas.{one_text}
 
 -- ---- as if none had been judged
 
-none_placed : (uploads : Numbered Upload) (place : ℕ) → find (is_placed place) (rows_of (unjudged_uploads uploads)) ≡ None
+none_placed : (uploads : Numbered UploadRow) (place : ℕ) → find (is_placed place) (rows_of (unjudged_uploads uploads)) ≡ None
 none_placed [] place = refl
 none_placed (x ∷ uploads) place = none_placed uploads place
 
@@ -39,7 +39,7 @@ unfolding bytes_of is_used
 bodies_unjudged t h = record { whole = h.whole; pieces = h.pieces; used = h.used }
 
 -- the answer about rows with other uploads is that about the rows as if none had been judged
-pub listed_in : {X : Type 0} (t : Tables) (uploads : Numbered Upload) (items : X → List Judgement) (o : Option X) → uploads ≡ unjudged_uploads t.uploads
+pub listed_in : {X : Type 0} (t : Tables) (uploads : Numbered UploadRow) (items : X → List Judgement) (o : Option X) → uploads ≡ unjudged_uploads t.uploads
     → (AreConstrained (record t { uploads = uploads }) → BodiesFit (record t { uploads = uploads }) → IfSome o (λ x. UploadsFit (record t { uploads = uploads }) (items x)))
     → (AreConstrained (record t { uploads = uploads }) → BodiesFit (record t { uploads = uploads }) → o ≡ None → (judged : List Judgement) → UploadsFit (record t { uploads = uploads }) judged → ⊥)
     → AreConstrained t → BodiesFit t → (IsTrue (is_some o) ↔ UploadsFit (unjudged t) [])

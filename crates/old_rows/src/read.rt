@@ -15,7 +15,9 @@ use crate::shown::shown_rows;
 use crate::texts::AskedFor;
 use sqlite::{Alter, Connection, Error};
 use std::alloc::Global;
-use tables::rows::{Arrival, Body, Date, File, IndexText, Item, Meta, Piece, Ref, Upload, Want};
+use tables::rows::{
+    ArrivalRow, BodyRow, Date, File, ItemRow, Meta, Piece, Ref, TextRow, UploadRow, Want,
+};
 use tables_read::AllRows;
 
 /// Rows that queries show, one query for each table: a pair of the first and the others.
@@ -74,20 +76,20 @@ impl<A: ReadShown, B: ReadShown> ReadShown for (A, B) {
 type Numbered<T> = Vec<(u64, T)>;
 
 type Shown = (
-    Numbered<Item>,
+    Numbered<ItemRow>,
     (
         Numbered<Ref>,
-        (Numbered<File>, (Numbered<IndexText>, Numbered<Date>)),
+        (Numbered<File>, (Numbered<TextRow>, Numbered<Date>)),
     ),
 );
 
-type Judged = (Numbered<Upload>, (Numbered<Want>, Shown));
+type Judged = (Numbered<UploadRow>, (Numbered<Want>, Shown));
 
 type Arrived = (
     Numbered<Meta>,
     (
-        Numbered<Body>,
-        (Numbered<Piece>, (Numbered<Arrival>, Judged)),
+        Numbered<BodyRow>,
+        (Numbered<Piece>, (Numbered<ArrivalRow>, Judged)),
     ),
 );
 

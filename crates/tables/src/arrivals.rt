@@ -10,7 +10,7 @@ ghost use Rattle.tables.specs.Arrivals.{is_arrival, with_moment, without_arrival
 use crate::cells::row_number;
 use crate::number::whole;
 use crate::read::{FromRow, select_first, select_first_inside, select_inside, text_at, whole_at};
-use crate::rows::Arrival;
+use crate::rows::ArrivalRow;
 use sqlite::{Alter, Connection, Error, Row, Transaction, params};
 use std::alloc::Global;
 
@@ -27,11 +27,11 @@ const UPDATE_MOMENT: &str = "UPDATE arrivals SET moment = ?2 WHERE id = ?1";
 
 const DELETE_ARRIVAL: &str = "DELETE FROM arrivals WHERE id = ?1";
 
-impl FromRow for Arrival {
+impl FromRow for ArrivalRow {
     ghost of_row = { arrival_of };
 
-    fn from_row(row: &Row) -> Result<Arrival, Error> {
-        Ok(Arrival {
+    fn from_row(row: &Row) -> Result<ArrivalRow, Error> {
+        Ok(ArrivalRow {
             name: text_at(row, 2)?,
             body: whole_at(row, 3)?,
             moment: whole_at(row, 4)?,
@@ -66,7 +66,7 @@ pub fn arrival_of<S: Alter>(
     tx: &mut Transaction<'_, S>,
     name: &str,
     body: u64,
-) -> Result<Option<(u64, Arrival)>, Error>
+) -> Result<Option<(u64, ArrivalRow)>, Error>
     ensures same_reference { tx.new.conn.ghost_name ≡ tx.old.conn.ghost_name }
     ensures ok { HasCleanDisk (state S.Store tx.new.conn.now) → (t : Tables) → Holds (state S.Store tx.old.conn.now).now t
         → IfOk result (λ found. (found ≡ find (λ x. is_arrival name.now body x.1) t.arrivals) × IsUnchanged (state S.Store tx.old.conn.now) (state S.Store tx.new.conn.now)) }
@@ -88,7 +88,7 @@ pub fn arrival_at<S: Alter>(
     conn: &mut Connection<S>,
     name: &str,
     body: u64,
-) -> Result<Option<(u64, Arrival)>, Error>
+) -> Result<Option<(u64, ArrivalRow)>, Error>
     ensures idle { conn.old.in_transaction ≡ false → conn.new.in_transaction ≡ false }
     ensures ok { HasCleanDisk (state S.Store conn.new) → (t : Tables) → Holds (state S.Store conn.old).now t
         → IfOk result (λ found. (found ≡ find (λ x. is_arrival name.now body x.1) t.arrivals) × IsUnchanged (state S.Store conn.old) (state S.Store conn.new)) }
@@ -104,7 +104,7 @@ pub fn arrival_at<S: Alter>(
 pub fn all_arrivals_inside<S: Alter>(
     alloc: Global,
     tx: &mut Transaction<'_, S>,
-) -> Result<Vec<(u64, Arrival)>, Error>
+) -> Result<Vec<(u64, ArrivalRow)>, Error>
     ensures same_reference { tx.new.conn.ghost_name ≡ tx.old.conn.ghost_name }
     ensures ok { HasCleanDisk (state S.Store tx.new.conn.now) → (t : Tables) → Holds (state S.Store tx.old.conn.now).now t
         → IfOk result (λ all. (all.items ≡ t.arrivals) × IsUnchanged (state S.Store tx.old.conn.now) (state S.Store tx.new.conn.now)) }

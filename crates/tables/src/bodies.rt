@@ -10,7 +10,7 @@ ghost use Rattle.tables.specs.Bodies.{body_with, with_print, without_body};
 use crate::cells::{row_number, some_print_at};
 use crate::number::whole;
 use crate::read::{FromRow, select_first, select_first_inside, select_inside};
-use crate::rows::Body;
+use crate::rows::BodyRow;
 use sqlite::{Alter, Connection, Error, Row, Transaction, params};
 use std::alloc::Global;
 use sums::Print;
@@ -33,11 +33,11 @@ const SELECT_NUMBERS: &str = "SELECT rowid FROM bodies ORDER BY rowid";
 
 const DELETE_BODY: &str = "DELETE FROM bodies WHERE id = ?1";
 
-impl FromRow for Body {
+impl FromRow for BodyRow {
     ghost of_row = { body_of };
 
-    fn from_row(row: &Row) -> Result<Body, Error> {
-        Ok(Body {
+    fn from_row(row: &Row) -> Result<BodyRow, Error> {
+        Ok(BodyRow {
             print: some_print_at(row, 2)?,
         })
     }
@@ -142,7 +142,7 @@ pub fn body_numbered_inside<S: Alter>(
     alloc: Global,
     tx: &mut Transaction<'_, S>,
     id: u64,
-) -> Result<Option<(u64, Body)>, Error>
+) -> Result<Option<(u64, BodyRow)>, Error>
     ensures same_reference { tx.new.conn.ghost_name ≡ tx.old.conn.ghost_name }
     ensures ok { HasCleanDisk (state S.Store tx.new.conn.now) → (t : Tables) → Holds (state S.Store tx.old.conn.now).now t
         → IfOk result (λ found. (found ≡ find (λ x. nat_eq x.0 id) t.bodies) × IsUnchanged (state S.Store tx.old.conn.now) (state S.Store tx.new.conn.now)) }

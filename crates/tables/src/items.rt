@@ -10,7 +10,7 @@ ghost use Rattle.tables.specs.Items.{is_item, without_item};
 use crate::cells::row_number;
 use crate::number::whole;
 use crate::read::{FromRow, bytes_at, select, select_first_inside, text_at, whole_at};
-use crate::rows::Item;
+use crate::rows::ItemRow;
 use sqlite::{Alter, Connection, Error, Row, Transaction, params};
 use std::alloc::Global;
 
@@ -25,11 +25,11 @@ const SELECT_ITEM: &str =
 
 const DELETE_ITEM: &str = "DELETE FROM items WHERE id = ?1";
 
-impl FromRow for Item {
+impl FromRow for ItemRow {
     ghost of_row = { item_of };
 
-    fn from_row(row: &Row) -> Result<Item, Error> {
-        Ok(Item {
+    fn from_row(row: &Row) -> Result<ItemRow, Error> {
+        Ok(ItemRow {
             suite: text_at(row, 2)?,
             kind: whole_at(row, 3)?,
             package: text_at(row, 4)?,
@@ -44,7 +44,7 @@ impl FromRow for Item {
 
 /// Adds an item, and answers its number. It is refused where the suite already shows one under its kind, package and
 /// architecture.
-pub fn insert_item<S: Alter>(tx: &mut Transaction<'_, S>, item: &Item) -> Result<u64, Error>
+pub fn insert_item<S: Alter>(tx: &mut Transaction<'_, S>, item: &ItemRow) -> Result<u64, Error>
     ensures same_reference { tx.new.conn.ghost_name ≡ tx.old.conn.ghost_name }
     ensures ok { HasCleanDisk (state S.Store tx.new.conn.now) → IsTrue (state S.Store tx.old.conn.now).in_transaction
         → IfOk result (λ id. Changes (state S.Store tx.old.conn.now) (state S.Store tx.new.conn.now) (with_item item.now)
@@ -85,7 +85,7 @@ pub fn item_on<S: Alter>(
     kind: u64,
     package: &str,
     architecture: &str,
-) -> Result<Option<(u64, Item)>, Error>
+) -> Result<Option<(u64, ItemRow)>, Error>
     ensures same_reference { tx.new.conn.ghost_name ≡ tx.old.conn.ghost_name }
     ensures ok { HasCleanDisk (state S.Store tx.new.conn.now) → (t : Tables) → Holds (state S.Store tx.old.conn.now).now t
         → IfOk result (λ found. (found ≡ find (λ x. is_item suite.now kind «package».now architecture.now x.1) t.items) × IsUnchanged (state S.Store tx.old.conn.now) (state S.Store tx.new.conn.now)) }
@@ -124,7 +124,7 @@ pub fn delete_item<S: Alter>(tx: &mut Transaction<'_, S>, id: u64) -> Result<(),
 pub fn select_items<S: Alter>(
     alloc: Global,
     conn: &mut Connection<S>,
-) -> Result<Vec<(u64, Item)>, Error>
+) -> Result<Vec<(u64, ItemRow)>, Error>
     ensures idle { conn.old.in_transaction ≡ false → conn.new.in_transaction ≡ false }
     ensures ok { HasCleanDisk (state S.Store conn.new) → (t : Tables) → Holds (state S.Store conn.old).now t
         → IfOk result (λ all. (all.items ≡ t.items) × IsUnchanged (state S.Store conn.old) (state S.Store conn.new)) }

@@ -7,7 +7,7 @@ ghost use Rattle.tables.specs.Rows.{Tables, Holds, Changes, Fails, IsForeign, wi
 ghost use Rattle.tables.specs.Texts.{has_path, with_new_text, without_texts};
 
 use crate::read::{FromRow, bytes_at, select_first, text_at};
-use crate::rows::IndexText;
+use crate::rows::TextRow;
 use sqlite::{Alter, Connection, Error, Row, Transaction, params};
 use std::alloc::Global;
 
@@ -19,11 +19,11 @@ const UPDATE_TEXT: &str = "UPDATE texts SET body = ?2 WHERE path = ?1";
 
 const DELETE_TEXTS: &str = "DELETE FROM texts";
 
-impl FromRow for IndexText {
+impl FromRow for TextRow {
     ghost of_row = { text_of };
 
-    fn from_row(row: &Row) -> Result<IndexText, Error> {
-        Ok(IndexText {
+    fn from_row(row: &Row) -> Result<TextRow, Error> {
+        Ok(TextRow {
             path: text_at(row, 1)?,
             body: bytes_at(row, 2)?,
         })
@@ -52,7 +52,7 @@ pub fn select_text<S: Alter>(
     alloc: Global,
     conn: &mut Connection<S>,
     path: &str,
-) -> Result<Option<IndexText>, Error>
+) -> Result<Option<TextRow>, Error>
     ensures idle { conn.old.in_transaction ≡ false → conn.new.in_transaction ≡ false }
     ensures ok { HasCleanDisk (state S.Store conn.new) → (t : Tables) → Holds (state S.Store conn.old).now t
         → IfOk result (λ found. (found ≡ find (has_path path.now) (rows_of t.texts)) × IsUnchanged (state S.Store conn.old) (state S.Store conn.new)) }

@@ -10,7 +10,7 @@ ghost use Rattle.tables.specs.Uploads.{is_upload, with_verdict, without_upload};
 use crate::cells::{print_at, row_number, some_whole_at};
 use crate::number::whole;
 use crate::read::{FromRow, select_first, select_first_inside, text_at};
-use crate::rows::Upload;
+use crate::rows::UploadRow;
 use sqlite::{Alter, Connection, Error, Row, Transaction, params};
 use std::alloc::Global;
 use sums::Print;
@@ -28,11 +28,11 @@ const UPDATE_VERDICT: &str = "UPDATE uploads SET place = ?2, verdict = ?3 WHERE 
 
 const DELETE_UPLOAD: &str = "DELETE FROM uploads WHERE id = ?1";
 
-impl FromRow for Upload {
+impl FromRow for UploadRow {
     ghost of_row = { upload_of };
 
-    fn from_row(row: &Row) -> Result<Upload, Error> {
-        Ok(Upload {
+    fn from_row(row: &Row) -> Result<UploadRow, Error> {
+        Ok(UploadRow {
             name: text_at(row, 2)?,
             print: print_at(row, 3)?,
             place: some_whole_at(row, 7)?,
@@ -69,7 +69,7 @@ pub fn upload_of<S: Alter>(
     tx: &mut Transaction<'_, S>,
     name: &str,
     print: &Print,
-) -> Result<Option<(u64, Upload)>, Error>
+) -> Result<Option<(u64, UploadRow)>, Error>
     ensures same_reference { tx.new.conn.ghost_name ≡ tx.old.conn.ghost_name }
     ensures ok { HasCleanDisk (state S.Store tx.new.conn.now) → (t : Tables) → Holds (state S.Store tx.old.conn.now).now t
         → IfOk result (λ found. (found ≡ find (λ x. is_upload name.now print.now x.1) t.uploads) × IsUnchanged (state S.Store tx.old.conn.now) (state S.Store tx.new.conn.now)) }
@@ -98,7 +98,7 @@ pub fn upload_numbered<S: Alter>(
     alloc: Global,
     conn: &mut Connection<S>,
     id: u64,
-) -> Result<Option<(u64, Upload)>, Error>
+) -> Result<Option<(u64, UploadRow)>, Error>
     ensures idle { conn.old.in_transaction ≡ false → conn.new.in_transaction ≡ false }
     ensures ok { HasCleanDisk (state S.Store conn.new) → (t : Tables) → Holds (state S.Store conn.old).now t
         → IfOk result (λ found. (found ≡ find (λ x. nat_eq x.0 id) t.uploads) × IsUnchanged (state S.Store conn.old) (state S.Store conn.new)) }

@@ -16,7 +16,7 @@ use keep::LATEST;
 use records::{Changes, RecordFault};
 use std::alloc::{AllocError, Global};
 use sums::is_file_name;
-use tables::rows::Arrival;
+use tables::rows::ArrivalRow;
 use tables_read::AllRows;
 
 /// The most bytes of an arrival.
@@ -88,7 +88,7 @@ fn is_deliverable(
 fn is_arrival_deliverable(
     alloc: Global,
     pieces: &Pieces<'_>,
-    arrival: &Arrival,
+    arrival: &ArrivalRow,
 ) -> Result<bool, AllocError>
     ensures { IfOk result (λ may. IsTrue may ↔ IsArrivalFit (tables_with pieces.now.all.now) arrival.now) }
 {
@@ -102,7 +102,7 @@ fn is_arrival_deliverable(
 fn are_deliverable(
     alloc: Global,
     pieces: &Pieces<'_>,
-    rows: &[(u64, Arrival)],
+    rows: &[(u64, ArrivalRow)],
 ) -> Result<bool, AllocError>
     ensures { IfOk result (λ may. IsTrue may ↔ All (λ x. IsArrivalFit (tables_with pieces.now.all.now) x.1) rows.now) }
 {

@@ -13,7 +13,7 @@ ghost use Rattle.tables_audit.specs.Parts.{BodiesFit};
 use crate::pieces::Pieces;
 use std::alloc::{AllocError, Global};
 use sums::{Print, Printer};
-use tables::rows::{Arrival, Body, File, Piece};
+use tables::rows::{ArrivalRow, BodyRow, File, Piece};
 use tables_read::AllRows;
 
 /// The most bytes that a piece has.
@@ -97,7 +97,7 @@ fn are_pieces_of(pieces: &[(u64, Piece)], id: u64, print: &Print) -> bool
 }
 
 /// The numbers of the bodies of the arrivals.
-fn bodies_of(alloc: Global, arrivals: &[(u64, Arrival)]) -> Result<Vec<u64>, AllocError>
+fn bodies_of(alloc: Global, arrivals: &[(u64, ArrivalRow)]) -> Result<Vec<u64>, AllocError>
     ensures { IfOk result (λ numbers. numbers.items ≡ map (λ a. a.body) (rows_of arrivals.now)) }
 {
     let mut numbers = Vec::new(alloc);
@@ -121,7 +121,7 @@ fn bodies_of_files(alloc: Global, files: &[(u64, File)]) -> Result<Vec<u64>, All
 /// The numbers of the bodies of arrivals and of files, in rising order.
 fn used_in(
     alloc: Global,
-    arrivals: &[(u64, Arrival)],
+    arrivals: &[(u64, ArrivalRow)],
     files: &[(u64, File)],
 ) -> Result<Vec<u64>, AllocError>
     ensures { IfOk result (λ numbers. AreUsed arrivals.now files.now numbers.items) }
@@ -146,7 +146,7 @@ fn is_body_whole(
     alloc: Global,
     pieces: &Pieces<'_>,
     used: &[u64],
-    row: &(u64, Body),
+    row: &(u64, BodyRow),
 ) -> Result<bool, AllocError>
     requires { AreUsed pieces.now.all.now.arrivals.items pieces.now.all.now.files.items used.now }
     ensures { IfOk result (λ fits. IsTrue fits ↔ IsBodyFit (tables_with pieces.now.all.now) row.now) }
@@ -165,7 +165,7 @@ fn are_whole(
     alloc: Global,
     pieces: &Pieces<'_>,
     used: &[u64],
-    rows: &[(u64, Body)],
+    rows: &[(u64, BodyRow)],
 ) -> Result<bool, AllocError>
     requires { AreUsed pieces.now.all.now.arrivals.items pieces.now.all.now.files.items used.now }
     ensures { IfOk result (λ fit. IsTrue fit ↔ All (IsBodyFit (tables_with pieces.now.all.now)) rows.now) }

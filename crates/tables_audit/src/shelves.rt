@@ -14,7 +14,7 @@ use rules::Suite;
 use sqlite::{Error, ErrorCode};
 use std::alloc::{AllocError, Global};
 use suites::{Item, Kind, PoolFile, Shelves};
-use tables::rows::{Item as ItemRow, Ref};
+use tables::rows::{ItemRow, Ref};
 use vers::{Version, VersionFault};
 
 /// The position of the suite with a codename.

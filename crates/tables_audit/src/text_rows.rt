@@ -15,7 +15,7 @@ use rules::{Config, Suite};
 use std::alloc::{AllocError, Global};
 use suites::Shelves;
 use sums::print_of;
-use tables::rows::IndexText;
+use tables::rows::TextRow;
 use tables_read::AllRows;
 use texts::{Index, index_path, listed_text, release};
 
@@ -26,12 +26,12 @@ fn listed_entry(
     position: usize,
     component: &str,
     architecture: &str,
-) -> Result<IndexText, AllocError>
+) -> Result<TextRow, AllocError>
     ensures { IfOk result (λ x. text_in x ≡ listed_entry shelves.now position component.now architecture.now) }
 {
     let path = index_path(alloc, component, architecture)?;
     let body = listed_text(alloc, shelves, position, component, architecture)?;
-    Ok(IndexText {
+    Ok(TextRow {
         path: Text::from_string(path),
         body: Listed::from_vec(body),
     })
@@ -44,7 +44,7 @@ fn push_component(
     position: usize,
     component: &str,
     architectures: &[Text],
-    entries: &mut Vec<IndexText>,
+    entries: &mut Vec<TextRow>,
 ) -> Result<(), AllocError>
     ensures { OnOk result (map text_in entries.new.items
         ≡ map text_in entries.old.items ++ map (listed_entry shelves.now position component.now) architectures.now) }
@@ -62,7 +62,7 @@ fn listed_entries(
     shelves: &Shelves,
     position: usize,
     suite: &Suite,
-) -> Result<Vec<IndexText>, AllocError>
+) -> Result<Vec<TextRow>, AllocError>
     ensures { IfOk result (λ entries. map text_in entries.items ≡ listed_texts suite.now shelves.now position) }
 {
     let architectures = suite.architectures.as_slice();
@@ -81,7 +81,7 @@ fn listed_entries(
 }
 
 /// What Release lists of an index.
-fn index_of(entry: &IndexText) -> Result<Index, AllocError>
+fn index_of(entry: &TextRow) -> Result<Index, AllocError>
     ensures { IfOk result (λ index. index ≡ index_of (text_in entry.now)) }
 {
     Ok(Index {
@@ -91,7 +91,7 @@ fn index_of(entry: &IndexText) -> Result<Index, AllocError>
 }
 
 /// What Release lists of indices.
-fn indices_of(alloc: Global, entries: &[IndexText]) -> Result<Vec<Index>, AllocError>
+fn indices_of(alloc: Global, entries: &[TextRow]) -> Result<Vec<Index>, AllocError>
     ensures { IfOk result (λ indices. indices.items ≡ map index_of (map text_in entries.now)) }
 {
     let mut indices = Vec::new(alloc);
@@ -107,8 +107,8 @@ fn release_over(
     config: &Config,
     position: usize,
     moment: u64,
-    entries: &[IndexText],
-) -> Result<IndexText, AllocError>
+    entries: &[TextRow],
+) -> Result<TextRow, AllocError>
     requires suite { position < length config.now.suites }
     requires moment { moment ≤ LATEST }
     ensures { IfOk result (λ x. text_in x
@@ -117,7 +117,7 @@ fn release_over(
     let indices = indices_of(alloc, entries)?;
     let mut text = Vec::new(alloc);
     release(alloc, config, position, moment, &indices, &mut text)?;
-    Ok(IndexText {
+    Ok(TextRow {
         path: Text::new(alloc, "Release")?,
         body: Listed::from_vec(text),
     })
@@ -134,9 +134,9 @@ fn path_in(alloc: Global, suite: &Suite, path: &str) -> Result<String, AllocErro
 /// Whether a row has a text of the folder of the suite, at its whole path.
 fn is_row_of(
     alloc: Global,
-    row: &IndexText,
+    row: &TextRow,
     suite: &Suite,
-    text: &IndexText,
+    text: &TextRow,
 ) -> Result<bool, AllocError>
     ensures { IfOk result (λ b. IsTrue b ↔ (text_in row.now ≡ from_root suite.now (text_in text.now))) }
 {
@@ -150,10 +150,10 @@ fn is_row_of(
 /// The rows behind the first, if that has a text of the folder of the suite.
 fn behind<'a>(
     alloc: Global,
-    rows: &'a [(u64, IndexText)],
+    rows: &'a [(u64, TextRow)],
     suite: &Suite,
-    text: &IndexText,
-) -> Result<Option<&'a [(u64, IndexText)]>, AllocError>
+    text: &TextRow,
+) -> Result<Option<&'a [(u64, TextRow)]>, AllocError>
     ensures some { IfOk result (λ o. IfSome o (λ rest.
         texts_in rows.now ≡ from_root suite.now (text_in text.now) ∷ texts_in rest.now)) }
     ensures none { IfOk result (λ o. o ≡ None
@@ -171,10 +171,10 @@ fn behind<'a>(
 /// The rows behind the first ones, if those have these texts of the folder of the suite.
 fn behind_all<'a>(
     alloc: Global,
-    rows: &'a [(u64, IndexText)],
+    rows: &'a [(u64, TextRow)],
     suite: &Suite,
-    texts: &[IndexText],
-) -> Result<Option<&'a [(u64, IndexText)]>, AllocError>
+    texts: &[TextRow],
+) -> Result<Option<&'a [(u64, TextRow)]>, AllocError>
     ensures some { IfOk result (λ o. IfSome o (λ rest.
         texts_in rows.now ≡ map (from_root suite.now) (map text_in texts.now) ++ texts_in rest.now)) }
     ensures none { IfOk result (λ o. o ≡ None
@@ -194,12 +194,12 @@ fn behind_all<'a>(
 /// at the moment: Release, and then the others. No text is made twice.
 fn behind_suite<'a>(
     alloc: Global,
-    rows: &'a [(u64, IndexText)],
+    rows: &'a [(u64, TextRow)],
     config: &Config,
     shelves: &Shelves,
     position: usize,
     moment: u64,
-) -> Result<Option<&'a [(u64, IndexText)]>, AllocError>
+) -> Result<Option<&'a [(u64, TextRow)]>, AllocError>
     requires suite { position < length config.now.suites }
     requires moment { moment ≤ LATEST }
     ensures some { IfOk result (λ o. IfSome o (λ rest.
@@ -220,7 +220,7 @@ fn behind_suite<'a>(
 /// suite, in the order of their making.
 fn are_texts(
     alloc: Global,
-    rows: &[(u64, IndexText)],
+    rows: &[(u64, TextRow)],
     config: &Config,
     shelves: &Shelves,
     dates: &[u64],

@@ -9,7 +9,7 @@ ghost use Rattle.tables_audit.specs.Bodies.{AreInPieces, IsBehind, IsInPieces};
 
 use crate::bodies::PIECE_SIZE;
 use crate::pieces::Pieces;
-use tables::rows::{Body, Piece};
+use tables::rows::{BodyRow, Piece};
 use tables_read::AllRows;
 
 /// Whether the piece may be the next one of a body, behind so many full ones.
@@ -47,7 +47,7 @@ fn are_in_pieces(pieces: &[(u64, Piece)], id: u64) -> bool
 }
 
 /// Whether a body is whole, or its pieces are as those of a whole one.
-fn is_in_pieces(pieces: &Pieces<'_>, row: &(u64, Body)) -> bool
+fn is_in_pieces(pieces: &Pieces<'_>, row: &(u64, BodyRow)) -> bool
     ensures { IsTrue result ↔ IsInPieces (tables_with pieces.now.all.now) row.now }
 {
     if row.1.print.is_some() {
@@ -57,7 +57,7 @@ fn is_in_pieces(pieces: &Pieces<'_>, row: &(u64, Body)) -> bool
 }
 
 /// Whether each of these bodies is whole, or its pieces are as those of a whole one.
-fn are_all_in_pieces(pieces: &Pieces<'_>, rows: &[(u64, Body)]) -> bool
+fn are_all_in_pieces(pieces: &Pieces<'_>, rows: &[(u64, BodyRow)]) -> bool
     ensures { IsTrue result ↔ All (IsInPieces (tables_with pieces.now.all.now)) rows.now }
 {
     for row in rows {

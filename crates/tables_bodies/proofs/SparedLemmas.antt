@@ -38,10 +38,10 @@ use Rattle.tables.specs.Pieces.{is_of}
 use Rattle.tables.specs.Refs.{without_refs}
 use Rattle.tables.specs.Rows.{Holds, IsArchive, Numbered, Tables, added, next_in, rows_of, tables_in, with_file, with_item, with_ref, without}
 use Rattle.tables.specs.Texts.{with_new_text}
-use Rattle.tables.specs.declared.rows.Arrival.{Arrival}
-use Rattle.tables.specs.declared.rows.Body.{Body}
+use Rattle.tables.specs.declared.rows.ArrivalRow.{ArrivalRow}
+use Rattle.tables.specs.declared.rows.BodyRow.{BodyRow}
 use Rattle.tables.specs.declared.rows.File.{File}
-use Rattle.tables.specs.declared.rows.Item as row
+use Rattle.tables.specs.declared.rows.ItemRow.{ItemRow}
 use Rattle.tables.specs.declared.rows.Piece.{Piece}
 use Rattle.tables.proofs.BookLemmas.{tables_set}
 use Rattle.tables_meaning.specs.Archives.{KeepsArchive}
@@ -79,9 +79,9 @@ none_pass p (x ∷ xs) none = let parts = or_parts (p x) (list_any p xs) none in
 -- ---- what a change leaves of arrivals and files
 
 -- What holds of arrivals and files and stays so where a file comes, or where a file goes whose path is one of these.
-module _ (Q : Numbered Arrival → Numbered File → Type 0) (May : List ℕ → Type 0)
-    (comes : (arrivals : Numbered Arrival) (files : Numbered File) (f : File) → Q arrivals files → Q arrivals (added files f))
-    (goes : (arrivals : Numbered Arrival) (files : Numbered File) (path : List ℕ) → May path → Q arrivals files → Q arrivals (without (λ x. is_file_at path x.1) files)) where
+module _ (Q : Numbered ArrivalRow → Numbered File → Type 0) (May : List ℕ → Type 0)
+    (comes : (arrivals : Numbered ArrivalRow) (files : Numbered File) (f : File) → Q arrivals files → Q arrivals (added files f))
+    (goes : (arrivals : Numbered ArrivalRow) (files : Numbered File) (path : List ℕ) → May path → Q arrivals files → Q arrivals (without (λ x. is_file_at path x.1) files)) where
   abbrev Stays : (Tables → Tables) → Type 0
   Stays f = (t : Tables) → Q t.arrivals t.files → Q (f t).arrivals (f t).files
 
@@ -93,7 +93,7 @@ module _ (Q : Numbered Arrival → Numbered File → Type 0) (May : List ℕ →
   unfolding without_shown
   stays_dropped suites e t = go (find (is_on suites e.0) t.items)
     where
-      go : (o : Option (ℕ × row.Item)) → Q t.arrivals t.files
+      go : (o : Option (ℕ × ItemRow)) → Q t.arrivals t.files
           → Q (option_map_or (λ x. without_item x.0 (without_refs x.0 t)) o t).arrivals (option_map_or (λ x. without_item x.0 (without_refs x.0 t)) o t).files
       go None = λ h. h
       go (Some x) = λ h. h
@@ -127,7 +127,7 @@ module _ (Q : Numbered Arrival → Numbered File → Type 0) (May : List ℕ →
       (stays_fold (λ now e. without_shown suites e now) (stays_dropped suites) plan.dropped t h)))
 
   stays_judged : (place : ℕ) (j : Judgement) → Stays (with_judged place j)
-  stays_judged place j t h = let same = judged_others place j t in subst (λ (both : Numbered Arrival × Numbered File). Q both.0 both.1) (λ i. (sym same.arrivals i, sym same.files i)) h
+  stays_judged place j t h = let same = judged_others place j t in subst (λ (both : Numbered ArrivalRow × Numbered File). Q both.0 both.1) (λ i. (sym same.arrivals i, sym same.files i)) h
 
   stays_step : (suites : List Suite) (judged : ℕ) (step : Step) → AllByRecursion (λ f. May f.path) step.plan.files_removed → Stays (with_step suites judged step)
   unfolding with_step
@@ -167,10 +167,10 @@ module _ (path : List ℕ) (id : ℕ) where
   abbrev is_it : File → Bool
   is_it f = bytes_eq f.path path && nat_eq f.body id
 
-  abbrev Stands : Numbered Arrival → Numbered File → Type 0
+  abbrev Stands : Numbered ArrivalRow → Numbered File → Type 0
   Stands arrivals files = list_any is_it (rows_of files) ≡ true
 
-  stands_beside : (arrivals : Numbered Arrival) (files : Numbered File) (f : File) → Stands arrivals files → Stands arrivals (added files f)
+  stands_beside : (arrivals : Numbered ArrivalRow) (files : Numbered File) (f : File) → Stands arrivals files → Stands arrivals (added files f)
   stands_beside arrivals files f h =
       ap (list_any is_it) (rows_added files f) ∙ list_any-append is_it (rows_of files) (f ∷ []) ∙ or_left (list_any is_it (rows_of files)) (list_any is_it (f ∷ [])) h
 
@@ -178,7 +178,7 @@ module _ (path : List ℕ) (id : ℕ) where
   other_path other apart f at =
       ap (λ b. b && nat_eq f.body id) (ap (λ p. bytes_eq p path) ((bytes_eq-Decides f.path other).0 at) ∙ apart)
 
-  stands_without : (arrivals : Numbered Arrival) (files : Numbered File) (other : List ℕ) → bytes_eq other path ≡ false → Stands arrivals files → Stands arrivals (without (λ x. is_file_at other x.1) files)
+  stands_without : (arrivals : Numbered ArrivalRow) (files : Numbered File) (other : List ℕ) → bytes_eq other path ≡ false → Stands arrivals files → Stands arrivals (without (λ x. is_file_at other x.1) files)
   stands_without arrivals files other apart h =
       list_any-map is_it (λ x. x.1) (without (λ x. is_file_at other x.1) files)
       ∙ any_kept (λ x. is_it x.1) (λ x. is_file_at other x.1) files (λ x. other_path other apart x.1) (sym (list_any-map is_it (λ x. x.1) files) ∙ h)
@@ -200,7 +200,7 @@ module _ (config : ConfigValue) (judged : ℕ) (change : Change) (t : Tables) (a
       (all_of (λ s. AllByRecursion (λ f. ⊤) s.plan.files_removed) (λ s. all_of (λ f. ⊤) (λ f. tt) s.plan.files_removed) change.steps) t refl
 
   arrived_still : (id : ℕ) → arrival_has t id ≡ true → is_used made id ≡ true
-  arrived_still id e = arrived_used made id (subst (λ l. list_any (λ (a : Arrival). nat_eq a.body id) (rows_of l) ≡ true) (sym arrivals_stay) e)
+  arrived_still id e = arrived_used made id (subst (λ l. list_any (λ (a : ArrivalRow). nat_eq a.body id) (rows_of l) ≡ true) (sym arrivals_stay) e)
 
   -- a file that stays
   filed_still : (x : File) → Contains (rows_of t.files) x → list_any (takes_path x.path) change.steps ≡ false → is_used made x.body ≡ true
@@ -297,7 +297,7 @@ made_as_needed db config prior shown dates keeps whole nothing judged change =
         let used : AllByRecursion (λ x. is_used after x.0 ≡ true) t.bodies =
         all_weaker (λ x. is_used t x.0 ≡ true) (λ x. is_used after x.0 ≡ true) (λ x. used_still config judged change t kept.files.apart arrived x.0) t.bodies
         (recursion_from_All (λ x. is_used t x.0 ≡ true) t.bodies kept.bodies.used) in
-        swept_used after (subst (λ (bodies : Numbered Body). AllByRecursion (λ x. is_used after x.0 ≡ true) bodies) (sym (bodies_left (with_written config judged change) (passes_written config judged change) t)) used)
+        swept_used after (subst (λ (bodies : Numbered BodyRow). AllByRecursion (λ x. is_used after x.0 ≡ true) bodies) (sym (bodies_left (with_written config judged change) (passes_written config judged change) t)) used)
 
 -- ---- a look that the database serves for
 

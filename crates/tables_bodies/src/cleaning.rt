@@ -19,13 +19,13 @@ use std::alloc::Global;
 use sums::Print;
 use tables::arrivals::{all_arrivals_inside, delete_arrival};
 use tables::bodies::body_numbered_inside;
-use tables::rows::{Arrival, Upload};
+use tables::rows::{ArrivalRow, UploadRow};
 use tables::uploads::{delete_upload, upload_of};
 use tables::wants::{delete_wants, mark_away};
 
 /// Whether an arrival counts at a moment, where what arrives counts for so many seconds, or for good.
 #[tactic(auto, unfolding(tables_meaning::specs::Cleaning::counts_row))]
-pub fn counts(span: Option<u64>, moment: u64, arrival: &Arrival) -> bool
+pub fn counts(span: Option<u64>, moment: u64, arrival: &ArrivalRow) -> bool
     ensures { result ≡ counts_row span moment arrival.now }
 {
     let Some(span) = span else {
@@ -38,7 +38,7 @@ pub fn counts(span: Option<u64>, moment: u64, arrival: &Arrival) -> bool
 }
 
 /// Keeps of the arrivals those that do not count.
-fn retain_ended(arrivals: &mut Vec<(u64, Arrival)>, span: Option<u64>, moment: u64)
+fn retain_ended(arrivals: &mut Vec<(u64, ArrivalRow)>, span: Option<u64>, moment: u64)
     ensures { arrivals.new.items ≡ filter (λ x. not (counts_row span moment x.1)) arrivals.old.items }
 {
     arrivals.retain(|row| !counts(span, moment, &row.1));
@@ -50,7 +50,7 @@ fn ended_arrivals<S: Alter>(
     tx: &mut Transaction<'_, S>,
     span: Option<u64>,
     moment: u64,
-) -> Result<Vec<(u64, Arrival)>, Error>
+) -> Result<Vec<(u64, ArrivalRow)>, Error>
     ensures same_reference { tx.new.conn.ghost_name ≡ tx.old.conn.ghost_name }
     ensures ok { HasCleanDisk (state S.Store tx.new.conn.now) → (t : Tables) → Holds (state S.Store tx.old.conn.now).now t
         → IfOk result (λ ended. (ended.items ≡ ended_rows span moment t) × IsUnchanged (state S.Store tx.old.conn.now) (state S.Store tx.new.conn.now)) }
@@ -103,7 +103,7 @@ fn remove_upload<S: Alter>(tx: &mut Transaction<'_, S>, id: u64) -> Result<(), E
 /// Removes an upload with its entries, unless it is judged.
 fn remove_unjudged<S: Alter>(
     tx: &mut Transaction<'_, S>,
-    upload: &(u64, Upload),
+    upload: &(u64, UploadRow),
 ) -> Result<(), Error>
     ensures same_reference { tx.new.conn.ghost_name ≡ tx.old.conn.ghost_name }
     ensures ok { HasCleanDisk (state S.Store tx.new.conn.now) → IsTrue (state S.Store tx.old.conn.now).in_transaction
@@ -161,7 +161,7 @@ fn forget_name<S: Alter>(
 fn remove_arrival<S: Alter>(
     alloc: Global,
     tx: &mut Transaction<'_, S>,
-    arrival: &(u64, Arrival),
+    arrival: &(u64, ArrivalRow),
     print: &Print,
 ) -> Result<(), Error>
     ensures same_reference { tx.new.conn.ghost_name ≡ tx.old.conn.ghost_name }
@@ -179,7 +179,7 @@ fn remove_arrival<S: Alter>(
 fn take_away<S: Alter>(
     alloc: Global,
     tx: &mut Transaction<'_, S>,
-    arrival: &(u64, Arrival),
+    arrival: &(u64, ArrivalRow),
 ) -> Result<(), Error>
     ensures same_reference { tx.new.conn.ghost_name ≡ tx.old.conn.ghost_name }
     ensures ok { HasCleanDisk (state S.Store tx.new.conn.now) → IsTrue (state S.Store tx.old.conn.now).in_transaction
@@ -199,7 +199,7 @@ fn take_away<S: Alter>(
 fn take_all_away<S: Alter>(
     alloc: Global,
     tx: &mut Transaction<'_, S>,
-    arrivals: &[(u64, Arrival)],
+    arrivals: &[(u64, ArrivalRow)],
 ) -> Result<(), Error>
     ensures same_reference { tx.new.conn.ghost_name ≡ tx.old.conn.ghost_name }
     ensures ok { HasCleanDisk (state S.Store tx.new.conn.now) → IsTrue (state S.Store tx.old.conn.now).in_transaction
@@ -215,7 +215,7 @@ fn take_all_away<S: Alter>(
 }
 
 /// How many arrivals these are.
-fn count_of(arrivals: &[(u64, Arrival)]) -> u64
+fn count_of(arrivals: &[(u64, ArrivalRow)]) -> u64
     ensures { result ≡ length arrivals.now }
 {
     arrivals.len() as u64

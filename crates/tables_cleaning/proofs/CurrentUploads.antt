@@ -16,8 +16,8 @@ use Rattle.keep.specs.declared.change.Judgement.{Judgement}
 use Rattle.tables.specs.Rows.{Numbered, Rises, Tables, rows_of, without}
 use Rattle.tables.specs.Uploads.{is_judged as has_place}
 use Rattle.tables.specs.Wants.{is_wanted_by}
-use Rattle.tables.specs.declared.rows.Arrival.{Arrival}
-use Rattle.tables.specs.declared.rows.Upload.{Upload}
+use Rattle.tables.specs.declared.rows.ArrivalRow.{ArrivalRow}
+use Rattle.tables.specs.declared.rows.UploadRow.{UploadRow}
 use Rattle.tables.specs.declared.rows.Want.{Want}
 use Rattle.tables_meaning.specs.Cleaning.{has_ended, is_current, with_current}
 use Rattle.tables_meaning.specs.Kept.{AreArrivals, AreStored, AreUploads, Request, arrival_in, arrivals_in, bytes_of, is_placed, request_of, sign_in, wanted}
@@ -89,7 +89,7 @@ module _ (t : Tables) (seconds : Option ℕ) (moment : ℕ) where
   abbrev cur : List ℕ → Print → Bool
   cur name print = is_current seconds moment t name print
 
-  abbrev ended : Upload → Bool
+  abbrev ended : UploadRow → Bool
   ended u = has_ended seconds moment t u
 
   -- an upload of this number has ended
@@ -147,11 +147,11 @@ module _ (t : Tables) (seconds : Option ℕ) (moment : ℕ) where
       ∙ sym (map-map (fresh_entry keep) entry_in (filter (is_wanted_by id) ws))
 
   -- one that is current has not ended
-  not_ended : (u : Upload) → cur u.name u.print ≡ true → ended u ≡ false
+  not_ended : (u : UploadRow) → cur u.name u.print ≡ true → ended u ≡ false
   not_ended u e = ap (λ c. not (has_place u) && not c) e ∙ and_right (not (has_place u)) false refl
 
   -- one that has ended has no place
-  unplaced : (place : ℕ) (u : Upload) → ended u ≡ true → is_placed place u ≡ false
+  unplaced : (place : ℕ) (u : UploadRow) → ended u ≡ true → is_placed place u ≡ false
   unplaced place u e = go u.place e
     where
       go : (o : Option ℕ) → (not (is_some o) && not (cur u.name u.print)) ≡ true → option_map_or (λ p. nat_eq p place) o false ≡ false
@@ -168,7 +168,7 @@ module _ (t : Tables) (seconds : Option ℕ) (moment : ℕ) where
     abbrev unjudged : Candidate → Bool
     unjudged c = not (is_judged judged c)
 
-    abbrev left : Numbered Upload
+    abbrev left : Numbered UploadRow
     left = without (λ x. ended x.1) t.uploads
 
     abbrev wants : List Want
@@ -185,7 +185,7 @@ module _ (t : Tables) (seconds : Option ℕ) (moment : ℕ) where
         ∙ filter_same (λ x. not (ended x.1) && is_waiting x) (λ x. is_waiting x && cur x.1.name x.1.print) (λ x. still (has_place x.1) (cur x.1.name x.1.print)) t.uploads
         ∙ filter_twice is_waiting (λ x. cur x.1.name x.1.print) t.uploads
 
-    abbrev IsAsked : ℕ × Upload → Type 0
+    abbrev IsAsked : ℕ × UploadRow → Type 0
     IsAsked x = (cur x.1.name x.1.print ≡ keep (request (rows_of t.wants) x).0)
         × (cur x.1.name x.1.print ≡ true → request wants x ≡ fresh keep (request (rows_of t.wants) x))
 
@@ -219,7 +219,7 @@ module _ (t : Tables) (seconds : Option ℕ) (moment : ℕ) where
         all_map IsTold (arrival_in t) (rows_of t.arrivals)
         (recursion_from_All (λ r. IsTold (arrival_in t r)) (rows_of t.arrivals) (all_if (λ r. IsTold (arrival_in t r)) (rows_of t.arrivals) each))
       where
-        each : (r : Arrival) → Contains (rows_of t.arrivals) r → IsTold (arrival_in t r)
+        each : (r : ArrivalRow) → Contains (rows_of t.arrivals) r → IsTold (arrival_in t r)
         each r in_rows c made =
             ap keep (sign_made (arrival_in t r) c made (arrival_in t r) c made)
             ∙ own_counts t stored arrived seconds moment r.name (print_of (bytes_of t r.body)) r in_rows (bears_itself t stored arrived seconds moment r)
@@ -265,7 +265,7 @@ module _ (t : Tables) (seconds : Option ℕ) (moment : ℕ) where
 
     places_then : (n : ℕ) → find (is_placed (n + 1)) (rows_of left) ≡ find (is_placed (n + 1)) (rows_of t.uploads)
     places_then n =
-        ap (find (is_placed (n + 1))) (sym (filter-map (λ u. not (ended u)) (λ (x : ℕ × Upload). x.1) t.uploads))
+        ap (find (is_placed (n + 1))) (sym (filter-map (λ u. not (ended u)) (λ (x : ℕ × UploadRow). x.1) t.uploads))
         ∙ find_kept (is_placed (n + 1)) ended (rows_of t.uploads) (all_of (λ u. ended u ≡ true → is_placed (n + 1) u ≡ false) (unplaced (n + 1)) (rows_of t.uploads))
 
     are_left : AreRows left wants judged (requests some judged)

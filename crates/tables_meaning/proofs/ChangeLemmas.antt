@@ -8,8 +8,8 @@ use Rattle.rules.specs.Values.{ConfigValue}
 use Rattle.suites.specs.Shelves.{ShelvesValue}
 use Rattle.tables.specs.Bodies.{body_with}
 use Rattle.tables.specs.Rows.{Numbered, Tables, rows_of}
-use Rattle.tables.specs.declared.rows.Arrival.{Arrival}
-use Rattle.tables.specs.declared.rows.Body.{Body}
+use Rattle.tables.specs.declared.rows.ArrivalRow.{ArrivalRow}
+use Rattle.tables.specs.declared.rows.BodyRow.{BodyRow}
 use Rattle.keep.specs.Book.{Book, at_moment, counts, current, dates_past, judgements, latest, shown_past, span}
 use Rattle.keep.specs.Keeping.{AreSteps, IsDeliverable, IsSound}
 use Rattle.keep.specs.declared.change.Change.{Change}
@@ -77,14 +77,14 @@ kept_after t config judged shown dates change kept written = by (list_any takes_
     made : Tables
     made = with_written config (length judged) change t
 
-    still_used : list_any takes_file change.steps ≡ false → (x : ℕ × Body) → IsTrue (is_used t x.0) → IsTrue (is_used made x.0)
+    still_used : list_any takes_file change.steps ≡ false → (x : ℕ × BodyRow) → IsTrue (is_used t x.0) → IsTrue (is_used made x.0)
     still_used none x used =
-        used_on t made x.0 (λ e. subst (λ l. list_any (λ (a : Arrival). nat_eq a.body x.0) (rows_of l) ≡ true) (sym written.keeps.arrivals) e)
+        used_on t made x.0 (λ e. subst (λ l. list_any (λ (a : ArrivalRow). nat_eq a.body x.0) (rows_of l) ≡ true) (sym written.keeps.arrivals) e)
         (remains_written config (length judged) change none t x.0) used
 
     used : list_any takes_file change.steps ≡ false → All (λ x. IsTrue (is_used made x.0)) made.bodies
     used none =
-        subst (λ (bodies : Numbered Body). All (λ x. IsTrue (is_used made x.0)) bodies) (sym written.keeps.bodies)
+        subst (λ (bodies : Numbered BodyRow). All (λ x. IsTrue (is_used made x.0)) bodies) (sym written.keeps.bodies)
         (All-weaker (λ x. IsTrue (is_used t x.0)) (λ x. IsTrue (is_used made x.0)) (still_used none) t.bodies kept.bodies.used)
 
     by : (b : Bool) → list_any takes_file change.steps ≡ b → KeepsChange t (if b then swept made else made) config judged shown dates change

@@ -15,7 +15,7 @@ use Rattle.sqlite.specs.Effect.{Database}
 use Rattle.tables.specs.Arrivals.{is_arrival}
 use Rattle.tables.specs.Bodies.{body_with}
 use Rattle.tables.specs.Rows.{Tables, Holds, next_in, with_body}
-use Rattle.tables.specs.declared.rows.Arrival as rows_arrival
+use Rattle.tables.specs.declared.rows.ArrivalRow.{ArrivalRow}
 use Rattle.tables.specs.declared.rows.Piece.{Piece}
 use Rattle.tables_meaning.specs.Cleaning.{counts_row}
 use Rattle.tables_meaning.specs.Kept.{AreNumbered, IsKept, book_in, bytes_of, pieces_for}
@@ -63,6 +63,6 @@ delivered_archive t config judged shown dates name bytes moment listed up h in_t
       kept = delivered.kept;
       book = delivered.book;
       known = λ seconds at.
-          ap (list_any (λ (x : ℕ × rows_arrival.Arrival). is_arrival name (number_with (print_of bytes) (with_bytes (print_of bytes) bytes t)) x.1 && counts_row seconds at x.1)) (arrivals_beside t bytes)
+          ap (list_any (λ (x : ℕ × ArrivalRow). is_arrival name (number_with (print_of bytes) (with_bytes (print_of bytes) bytes t)) x.1 && counts_row seconds at x.1)) (arrivals_beside t bytes)
           ∙ (delivered_bodies t up h.bodies h.arrivals name bytes moment in_time deliverable same listed).known seconds at;
     }

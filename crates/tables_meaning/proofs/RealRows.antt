@@ -12,7 +12,7 @@ use Rattle.texts.specs.Indices.{PathText, all_texts}
 use Rattle.keep.specs.declared.change.Judgement.{Judgement}
 use Rattle.tables.specs.Real.{AreReal, IsRealDate, IsRealText}
 use Rattle.tables.specs.Rows.{Tables, rows_of}
-use Rattle.tables.specs.declared.rows.IndexText.{IndexText}
+use Rattle.tables.specs.declared.rows.TextRow.{TextRow}
 use Rattle.tables_meaning.specs.Kept.{AreReadable, IsKept, date_row}
 use Rattle.tables_meaning.proofs.AsciiLemmas.{AreAscii, ascii-IsUtf8}
 use Rattle.tables_meaning.proofs.AsciiPaths.{config_ascii, texts_ascii}
@@ -25,7 +25,7 @@ module _ (t : Tables) (config : ConfigValue) (shown : ShelvesValue) (dates : Lis
   real_texts are = all_from IsRealText (rows_of t.texts) (λ x at.
       ascii-IsUtf8 x.path (all_at (λ (e : PathText). AreAscii e.0) (all_texts config shown dates) (x.path, x.body)
       (All-from_recursion (λ (e : PathText). AreAscii e.0) (all_texts config shown dates) (texts_ascii shown 0 config.suites dates (config_ascii config read)))
-      (subst (λ es. Contains es (x.path, x.body)) are (contains_map (λ (y : IndexText). (y.path, y.body)) x (rows_of t.texts) at))))
+      (subst (λ es. Contains es (x.path, x.body)) are (contains_map (λ (y : TextRow). (y.path, y.body)) x (rows_of t.texts) at))))
 
   real_dates : rows_of t.dates ≡ map date_row (zip config.suites dates) → All IsRealDate (rows_of t.dates)
   real_dates are = all_from IsRealDate (rows_of t.dates) (λ d at.

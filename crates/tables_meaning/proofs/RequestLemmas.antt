@@ -18,7 +18,7 @@ use Rattle.keep.specs.Keeping.{sign_of, sign_on}
 use Rattle.keep.specs.declared.arrival.Arrival.{Arrival}
 use Rattle.keep.specs.declared.change.Judgement.{Judgement}
 use Rattle.tables.specs.Rows.{Numbered, Tables, rows_of}
-use Rattle.tables.specs.declared.rows.Upload.{Upload}
+use Rattle.tables.specs.declared.rows.UploadRow.{UploadRow}
 use Rattle.tables.specs.declared.rows.Want.{Want}
 use Rattle.tables_meaning.specs.Kept.{AreUploads, Request, arrivals_in, request_of, sign_in, wanted, wants_in}
 use Rattle.tables_meaning.proofs.Searches.{same_tests, all_of_rows, all_in_rows, pairs_of_rows, pairs_in_rows, list_any-map, list_any-filter, any_same, any_weaker}
@@ -44,7 +44,7 @@ rows_from_uploads t judged are = record {
 
 -- tables that have rows of this form
 pub record HasRowsOf (t : Tables) (judged : List Judgement) : Type 0 where
-  pub uploads : Numbered Upload
+  pub uploads : Numbered UploadRow
   pub wants : List Want
   pub asked : List Request
   pub are : AreRows uploads wants judged asked

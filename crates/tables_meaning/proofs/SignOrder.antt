@@ -8,7 +8,7 @@ use Rattle.std.specs.Ordering.{ordering_then}
 use Rattle.suites.specs.KeyLemmas.{text_order_total, text_order-IsAntisymmetric}
 use Rattle.tables_meaning.specs.Kept.{sign_in}
 use Rattle.tables_meaning.specs.Reads.{row_order, sign_order}
-use Rattle.tables.specs.declared.rows.Upload.{Upload}
+use Rattle.tables.specs.declared.rows.UploadRow.{UploadRow}
 use Rattle.tables_meaning.proofs.WantLemmas.{Sign}
 
 pub sign_order_total : IsTotalOrder sign_order
@@ -47,4 +47,4 @@ sign_order-IsAntisymmetric a b e =
 
 -- so is that of uploads
 pub row_order_total : IsTotalOrder row_order
-row_order_total = on_total (λ (x : ℕ × Upload). sign_in x.1) sign_order_total
+row_order_total = on_total (λ (x : ℕ × UploadRow). sign_in x.1) sign_order_total

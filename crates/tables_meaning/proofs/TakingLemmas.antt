@@ -17,8 +17,8 @@ use Rattle.sums.specs.declared.print.Print.{Print}
 use Rattle.tables.specs.Arrivals.{is_arrival}
 use Rattle.tables.specs.Bodies.{body_with}
 use Rattle.tables.specs.Rows.{Tables, Changes, Holds, next_in, tables_in}
-use Rattle.tables.specs.declared.rows.Arrival as rows_arrival
-use Rattle.tables.specs.declared.rows.Body.{Body}
+use Rattle.tables.specs.declared.rows.ArrivalRow.{ArrivalRow}
+use Rattle.tables.specs.declared.rows.BodyRow.{BodyRow}
 use Rattle.tables.proofs.BookLemmas.{held_tables, is_archive}
 use Rattle.tables_meaning.specs.Archives.{KeepsArchive, Turns, book_of}
 use Rattle.tables_meaning.specs.Cleaning.{counts_row}
@@ -174,7 +174,7 @@ module _ (old : State) (settled : IsTrue old.is_open → old.now ≡ old.committ
       its_pieces =
           sym (pieces_finished was keeps.held.rows.bodies.rise found here)
           ∙ subst (λ n. pieces_of left n ≡ pieces_for n (bytes_of left n)) row.number
-          (All-contains (λ (x : ℕ × Body). pieces_of left x.0 ≡ pieces_for x.0 (bytes_of left x.0)) left.bodies row.body keeps.kept.bodies.pieces row.within)
+          (All-contains (λ (x : ℕ × BodyRow). pieces_of left x.0 ≡ pieces_for x.0 (bytes_of left x.0)) left.bodies row.body keeps.kept.bodies.pieces row.within)
 
       by : (o : Option ℕ) → body ≡ o → IsSameAs o count found was → bytes_of left found ≡ bytes
       by None none same = no_bytes was found (bytes_of left found) its_pieces same ∙ sym (no_number bytes left (sym comes.number ∙ none))
@@ -235,5 +235,5 @@ module _ (old : State) (settled : IsTrue old.is_open → old.now ≡ old.committ
         let rows : with_ended body print was ≡ with_bytes (print_of bytes) bytes left =
         (λ i. with_ended (comes.number i) (printed i) (comes.coming.rows i)) ∙ ended_stored bytes left (print_of bytes) whole twice in
         answer was held_now
-        ∙ (λ i. not (list_any (λ (x : ℕ × rows_arrival.Arrival). is_arrival name (number i) x.1 && counts_row (span config) moment x.1) (rows i).arrivals))
+        ∙ (λ i. not (list_any (λ (x : ℕ × ArrivalRow). is_arrival name (number i) x.1 && counts_row (span config) moment x.1) (rows i).arrivals))
         ∙ ap not (keeps_delivery.known (span config) moment)

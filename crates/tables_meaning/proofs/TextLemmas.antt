@@ -20,7 +20,7 @@ use Rattle.sums.proofs.Members.{all_at, contains_map, from_map, here, no_member,
 use Rattle.tables.specs.Dates.{with_new_date}
 use Rattle.tables.specs.Rows.{Numbered, Tables, changed, rows_of}
 use Rattle.tables.specs.Texts.{has_path, with_new_text}
-use Rattle.tables.specs.declared.rows.IndexText as rows_text
+use Rattle.tables.specs.declared.rows.TextRow.{TextRow}
 use Rattle.texts.specs.Indices.{PathText, all_texts, folder_texts, index_text, suite_path, suite_texts, text_at, texts_from}
 use Rattle.texts.specs.Release.{index_path, listed_entry, listed_texts}
 use Rattle.texts.proofs.Found.{text_at-found, text_at-other}
@@ -113,7 +113,7 @@ same_paths shown others suite (s ∷ ss) (d ∷ ds) (m ∷ ms) e =
 
 -- ---- rows of texts
 
-abbrev pub entry_of : rows_text.IndexText → PathText
+abbrev pub entry_of : TextRow → PathText
 entry_of x = (x.path, x.body)
 
 -- what a text that is written makes of the text at a path, and what several make of it in turn
@@ -127,15 +127,15 @@ rewritten (x ∷ xs) path body = rewritten xs path (if bytes_eq path x.path then
 abbrev all_written : List IndexText → PathText → PathText
 all_written texts e = (e.0, rewritten texts e.0 e.1)
 
-abbrev set_body : List ℕ → rows_text.IndexText → rows_text.IndexText
+abbrev set_body : List ℕ → TextRow → TextRow
 set_body body r = record r { body = body }
 
-row_written : (x : IndexText) (n : ℕ) (r : rows_text.IndexText) (b : Bool) (rest : Numbered rows_text.IndexText)
+row_written : (x : IndexText) (n : ℕ) (r : TextRow) (b : Bool) (rest : Numbered TextRow)
     → map entry_of (rows_of ((if b then (n, set_body x.text r) else (n, r)) ∷ rest)) ≡ (r.path, if b then x.text else r.body) ∷ map entry_of (rows_of rest)
 row_written x n r true rest = refl
 row_written x n r false rest = refl
 
-rows_written : (x : IndexText) (rows : Numbered rows_text.IndexText)
+rows_written : (x : IndexText) (rows : Numbered TextRow)
     → map entry_of (rows_of (changed (λ r. has_path x.path r.1) (set_body x.text) rows)) ≡ map (written x) (map entry_of (rows_of rows))
 rows_written x [] = refl
 rows_written x (r ∷ rs) =

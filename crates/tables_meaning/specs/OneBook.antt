@@ -22,10 +22,10 @@ use Rattle.suites.proofs.FileMembers.{entry_shown}
 use Rattle.sums.proofs.Members.{all_at}
 use Rattle.tables.specs.Rows.{Tables}
 use Rattle.tables.specs.declared.rows.Date.{Date}
-use Rattle.tables.specs.declared.rows.Item.{Item}
+use Rattle.tables.specs.declared.rows.ItemRow.{ItemRow}
 use Rattle.tables.specs.declared.rows.Meta.{Meta}
 use Rattle.tables.specs.declared.rows.Ref.{Ref}
-use Rattle.tables.specs.declared.rows.Upload.{Upload}
+use Rattle.tables.specs.declared.rows.UploadRow.{UploadRow}
 use Rattle.tables_meaning.specs.Kept.{AreItems, AreUploads, IsKept, book_in, date_row, is_on, item_row, judged_row, refs_for, shown_row}
 
 -- ---- lists and what may be absent
@@ -86,9 +86,9 @@ same_verdict v w e = sym (number_back v) ∙ ap verdict_at e ∙ number_back w
 
 same_judgement : (n : ℕ) (a b : Judgement) → judged_row n a ≡ judged_row n b → a ≡ b
 same_judgement n a b e =
-    let name : a.name ≡ b.name = ap (λ (u : Upload). u.name) e in
-    let print : a.print ≡ b.print = ap (λ (u : Upload). u.print) e in
-    let verdict : a.verdict ≡ b.verdict = same_verdict a.verdict b.verdict (same_Some _ _ (ap (λ (u : Upload). u.verdict) e)) in
+    let name : a.name ≡ b.name = ap (λ (u : UploadRow). u.name) e in
+    let print : a.print ≡ b.print = ap (λ (u : UploadRow). u.print) e in
+    let verdict : a.verdict ≡ b.verdict = same_verdict a.verdict b.verdict (same_Some _ _ (ap (λ (u : UploadRow). u.verdict) e)) in
     λ i. record { name = name i; print = print i; verdict = verdict i }
 
 pub same_judged : (t : Tables) (judged others : List Judgement) → AreUploads t judged → AreUploads t others → judged ≡ others
@@ -117,15 +117,15 @@ same_item : (suites : List Suite) (key : ShelfKey) (id : ℕ) (x y : shelf.Item)
 unfolding refs_for
 same_item suites key id x y own other e =
     let keys : (standing key.suite x).0 ≡ (standing key.suite y).0 = sym (ap (λ (p : ShelfKey × shelf.Item). p.0) own) ∙ ap (λ (p : ShelfKey × shelf.Item). p.0) other in
-    let row : item_row suites (key, x) ≡ item_row suites (key, y) = ap (λ (p : Item × List Ref). p.0) e in
+    let row : item_row suites (key, x) ≡ item_row suites (key, y) = ap (λ (p : ItemRow × List Ref). p.0) e in
     let kind : x.kind ≡ y.kind = ap (λ (k : ShelfKey). k.kind) keys in
     let name : x.«package» ≡ y.«package» = ap (λ (k : ShelfKey). k.«package») keys in
     let architecture : x.architecture ≡ y.architecture = ap (λ (k : ShelfKey). k.architecture) keys in
-    let version : x.version ≡ y.version = ap (λ (r : Item). r.version) row in
-    let component : x.component ≡ y.component = ap (λ (r : Item). r.component) row in
-    let source : x.source ≡ y.source = ap (λ (r : Item). r.source) row in
-    let paragraph : x.paragraph ≡ y.paragraph = ap (λ (r : Item). r.paragraph) row in
-    let files : x.files ≡ y.files = same_files id 1 x.files y.files (ap (λ (p : Item × List Ref). p.1) e) in
+    let version : x.version ≡ y.version = ap (λ (r : ItemRow). r.version) row in
+    let component : x.component ≡ y.component = ap (λ (r : ItemRow). r.component) row in
+    let source : x.source ≡ y.source = ap (λ (r : ItemRow). r.source) row in
+    let paragraph : x.paragraph ≡ y.paragraph = ap (λ (r : ItemRow). r.paragraph) row in
+    let files : x.files ≡ y.files = same_files id 1 x.files y.files (ap (λ (p : ItemRow × List Ref). p.1) e) in
     λ i. record {
       kind = kind i;
       «package» = name i;
@@ -151,10 +151,10 @@ not_within suites shown key within beyond = by_case (get shown key) refl
 
 module _ (t : Tables) (suites : List Suite) (shown others : ShelvesValue) (h : AreItems t suites shown) (k : AreItems t suites others)
     (home : All IsAtHome (entries shown)) (others_home : All IsAtHome (entries others)) (key : ShelfKey) where
-  same_within : key.suite < length suites → (o : Option (ℕ × Item)) → find (is_on suites key) t.items ≡ o → get shown key ≡ get others key
+  same_within : key.suite < length suites → (o : Option (ℕ × ItemRow)) → find (is_on suites key) t.items ≡ o → get shown key ≡ get others key
   same_within below None e = nothing _ (get shown key) e (h.all key below) ∙ sym (nothing _ (get others key) e (k.all key below))
   same_within below (Some x) e =
-      let as_row : Option (ℕ × Item) → ShelvesValue → Option (Item × List Ref) = λ o m. option_and_then (λ (y : ℕ × Item). option_map (shown_row suites key y.0) (get m key)) o in
+      let as_row : Option (ℕ × ItemRow) → ShelvesValue → Option (ItemRow × List Ref) = λ o m. option_and_then (λ (y : ℕ × ItemRow). option_map (shown_row suites key y.0) (get m key)) o in
       let same : option_map (shown_row suites key x.0) (get shown key) ≡ option_map (shown_row suites key x.0) (get others key) =
       sym (ap (λ o. as_row o shown) e) ∙ sym (h.are key below) ∙ k.are key below ∙ ap (λ o. as_row o others) e in
       same_option (shown_row suites key x.0) (get shown key) (get others key)

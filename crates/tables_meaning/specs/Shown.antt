@@ -17,7 +17,7 @@ use Rattle.suites.specs.declared.key.Kind.{Kind}
 use Rattle.suites.specs.declared.key.Kind.TheVariants.{Source, Binary}
 use Rattle.suites.specs.declared.key.ShelfKey.{ShelfKey}
 use Rattle.tables.specs.Rows.{Numbered, Tables}
-use Rattle.tables.specs.declared.rows.Item.{Item}
+use Rattle.tables.specs.declared.rows.ItemRow.{ItemRow}
 use Rattle.tables.specs.declared.rows.Ref.{Ref}
 use Rattle.tables_meaning.specs.Kept.{IsReadable, refs_in}
 
@@ -34,7 +34,7 @@ abbrev pub file_in : Ref → PoolFile
 file_in r = record { path = r.path; print = r.print }
 
 -- the item of a row, of this kind and with these files
-abbrev pub item_with : Kind → Item → List Ref → shelf.Item
+abbrev pub item_with : Kind → ItemRow → List Ref → shelf.Item
 item_with kind x refs = record {
   kind = kind;
   «package» = x.«package»;
@@ -47,11 +47,11 @@ item_with kind x refs = record {
 }
 
 -- what a row with these files shows: its item on its shelf; one of no suite or of no kind shows nothing
-unfoldable pub entry_with : List Suite → Item → List Ref → Option (ShelfKey × shelf.Item)
+unfoldable pub entry_with : List Suite → ItemRow → List Ref → Option (ShelfKey × shelf.Item)
 entry_with suites x refs = option_and_then (λ suite. option_map (λ kind. standing suite (item_with kind x refs)) (kind_numbered x.kind)) (suite_named suites x.suite)
 
 -- what a row of the tables shows
-abbrev pub entry_in : List Suite → Tables → ℕ × Item → Option (ShelfKey × shelf.Item)
+abbrev pub entry_in : List Suite → Tables → ℕ × ItemRow → Option (ShelfKey × shelf.Item)
 entry_in suites t x = entry_with suites x.1 (refs_in t x.0)
 
 -- what all rows show
@@ -80,7 +80,7 @@ pub record IsPut (old new : ShelvesValue) (e : ShelfKey × shelf.Item) : Type 0 
   pub made : new ≡ insert old e.0 e.1
 
 -- what a row with these files shows comes to its shelf
-pub record PutsRow (suites : List Suite) (x : Item) (refs : List Ref) (old new : ShelvesValue) : Type 0 where
+pub record PutsRow (suites : List Suite) (x : ItemRow) (refs : List Ref) (old new : ShelvesValue) : Type 0 where
   pub entry : ShelfKey × shelf.Item
   pub is : entry_with suites x refs ≡ Some entry
   pub put : IsPut old new entry
@@ -91,12 +91,12 @@ pub record MayBePut (old : ShelvesValue) (e : ShelfKey × shelf.Item) : Type 0 w
   pub fits : list_any (may_not_join (pool old) e.1.files) e.1.files ≡ false
 
 -- What a row with these files shows may come to its shelf.
-pub record MayStand (suites : List Suite) (x : Item) (refs : List Ref) (old : ShelvesValue) : Type 0 where
+pub record MayStand (suites : List Suite) (x : ItemRow) (refs : List Ref) (old : ShelvesValue) : Type 0 where
   pub readable : IsReadable x
   pub entry : ShelfKey × shelf.Item
   pub is : entry_with suites x refs ≡ Some entry
   pub may : MayBePut old entry
 
 -- The shelves so far show all but what is left: with the rows that are left they show what all rows show.
-abbrev pub AreLeft : List Suite → Tables → ShelvesValue → Numbered Item → Type 0
+abbrev pub AreLeft : List Suite → Tables → ShelvesValue → Numbered ItemRow → Type 0
 AreLeft suites t so_far left = (key : ShelfKey) → option_or (get so_far key) (keyed.find key_order key (filter_map (entry_in suites t) left)) ≡ get (shown_in suites t) key

@@ -19,7 +19,9 @@ use crate::stored::Stored;
 use crate::table::table;
 use sqlite::{Connection, Error};
 use std::alloc::Global;
-use tables::rows::{Arrival, Body, Date, File, IndexText, Item, Meta, Piece, Ref, Upload, Want};
+use tables::rows::{
+    ArrivalRow, BodyRow, Date, File, ItemRow, Meta, Piece, Ref, TextRow, UploadRow, Want,
+};
 
 /// Tables that are read one after another: a pair of the first and the others.
 trait Read: Sized + Drop {
@@ -67,14 +69,14 @@ type Numbered<T> = Vec<(u64, T)>;
 
 type Arrived = (
     Numbered<Meta>,
-    (Numbered<Body>, (Numbered<Piece>, Numbered<Arrival>)),
+    (Numbered<BodyRow>, (Numbered<Piece>, Numbered<ArrivalRow>)),
 );
 
-type Judged = (Numbered<Upload>, Numbered<Want>);
+type Judged = (Numbered<UploadRow>, Numbered<Want>);
 
 type Shown = (
-    (Numbered<Item>, (Numbered<Ref>, Numbered<File>)),
-    (Numbered<IndexText>, Numbered<Date>),
+    (Numbered<ItemRow>, (Numbered<Ref>, Numbered<File>)),
+    (Numbered<TextRow>, Numbered<Date>),
 );
 
 /// The rows of the pairs in which they are read.

@@ -8,11 +8,11 @@ ghost use Rattle.tables_meaning.specs.Finished.{finished, is_unfinished};
 ghost use Rattle.keep_tables.specs.Finishing.{are_named, is_among, unfinished_ids};
 
 use std::alloc::{AllocError, Global};
-use tables::rows::{Arrival, Body, File, Piece};
+use tables::rows::{ArrivalRow, BodyRow, File, Piece};
 use tables_read::AllRows;
 
 /// The numbers of the bodies that have no print.
-pub fn unfinished_among(alloc: Global, bodies: &[(u64, Body)]) -> Result<Vec<u64>, AllocError>
+pub fn unfinished_among(alloc: Global, bodies: &[(u64, BodyRow)]) -> Result<Vec<u64>, AllocError>
     ensures { IfOk result (λ ids. ids.items ≡ unfinished_ids bodies.now) }
 {
     let mut ids = Vec::new(alloc);
@@ -37,7 +37,7 @@ fn is_among(ids: &[u64], id: u64) -> bool
 }
 
 /// Whether some arrival is one of these bodies.
-fn arrivals_name(arrivals: &[(u64, Arrival)], ids: &[u64]) -> bool
+fn arrivals_name(arrivals: &[(u64, ArrivalRow)], ids: &[u64]) -> bool
     ensures { result ≡ list_any (λ a. is_among ids.now a.body) (rows_of arrivals.now) }
 {
     for row in arrivals {
@@ -70,7 +70,7 @@ pub fn are_named(all: &AllRows, ids: &[u64]) -> bool
 }
 
 /// Takes out the bodies that have no print.
-fn retain_whole(bodies: &mut Vec<(u64, Body)>)
+fn retain_whole(bodies: &mut Vec<(u64, BodyRow)>)
     ensures { bodies.new.items ≡ without is_unfinished bodies.old.items }
 {
     bodies.retain(|row| row.1.print.is_some());

@@ -15,12 +15,12 @@ use crate::uploads::signs::sign_of_arrived;
 use records::{Changes, RecordFault};
 use std::alloc::{AllocError, Global};
 use sums::Print;
-use tables::rows::Arrival;
+use tables::rows::ArrivalRow;
 
 /// A .changes that waits for a verdict: its arrival, its print, and the record that it is.
 #[derive(Drop)]
 pub struct Awaited<'a> {
-    pub arrival: &'a Arrival,
+    pub arrival: &'a ArrivalRow,
     pub print: Print,
     pub changes: Changes,
 }

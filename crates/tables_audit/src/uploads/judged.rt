@@ -13,7 +13,7 @@ use crate::uploads::places::{Placed, by_place, upload_at};
 use keep::Judgement;
 use rules::Verdict;
 use std::alloc::{AllocError, Global};
-use tables::rows::Upload;
+use tables::rows::UploadRow;
 
 /// All verdicts.
 const VERDICTS: [Verdict; 10] = [
@@ -30,7 +30,7 @@ const VERDICTS: [Verdict; 10] = [
 ];
 
 /// Whether an upload without a place has no verdict, and one with a place has not the place 0.
-fn is_placed_well(upload: &Upload) -> bool
+fn is_placed_well(upload: &UploadRow) -> bool
     ensures { MatchBool result (IsPlacedWell upload.now) (IsPlacedWell upload.now → ⊥) }
 {
     match upload.place {
@@ -40,7 +40,7 @@ fn is_placed_well(upload: &Upload) -> bool
 }
 
 /// Whether each upload without a place has no verdict, and none has the place 0.
-pub fn are_placed(uploads: &[(u64, Upload)]) -> bool
+pub fn are_placed(uploads: &[(u64, UploadRow)]) -> bool
     ensures { MatchBool result (All IsPlacedWell (rows_of uploads.now)) (All IsPlacedWell (rows_of uploads.now) → ⊥) }
 {
     for (_, upload) in uploads {
@@ -62,7 +62,7 @@ fn later(last: u64, place: Option<u64>) -> u64
 }
 
 /// The last place that an upload has, 0 where none has one.
-pub fn last_place(uploads: &[(u64, Upload)]) -> u64
+pub fn last_place(uploads: &[(u64, UploadRow)]) -> u64
     ensures { result ≡ last_of uploads.now }
 {
     let mut last = 0;
@@ -94,7 +94,7 @@ fn verdict_numbered(number: u64) -> Option<Verdict>
 
 /// The judgement that a row tells, where it has the number of a verdict.
 #[tactic(auto, unfolding(crate::specs::Uploads::judgement_in))]
-fn judgement_of(upload: &Upload) -> Result<Option<Judgement>, AllocError>
+fn judgement_of(upload: &UploadRow) -> Result<Option<Judgement>, AllocError>
     ensures { IfOk result (λ judgement. judgement ≡ judgement_in upload.now) }
 {
     let Some(number) = upload.verdict else {
@@ -123,7 +123,7 @@ fn judgement_at(placed: &Rows<'_, Placed<'_>>, place: u64) -> Result<Option<Judg
 /// The judgements at the places from 1 to a last one, where each of them has one.
 pub fn judged_until(
     alloc: Global,
-    uploads: &[(u64, Upload)],
+    uploads: &[(u64, UploadRow)],
     last: u64,
 ) -> Result<Option<Vec<Judgement>>, AllocError>
     ensures some { IfOk result (λ o. IfSome o (λ judged. map Some judged.items ≡ map (judged_at uploads.now) (range_with_len 1 last))) }

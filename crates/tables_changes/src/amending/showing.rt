@@ -18,7 +18,7 @@ use std::alloc::{AllocError, Global};
 use suites::{Item, Kind, Plan, PoolFile, ShelfKey};
 use tables::items::{delete_item, insert_item, item_on};
 use tables::refs::{delete_refs, insert_ref};
-use tables::rows;
+use tables::rows::ItemRow;
 
 /// The codename of the suite at a position, empty beyond the last.
 fn codename(suites: &[Suite], at: usize) -> &str
@@ -107,12 +107,12 @@ fn item_row(
     alloc: Global,
     suites: &[Suite],
     entry: &(ShelfKey, Item),
-) -> Result<rows::Item, AllocError>
+) -> Result<ItemRow, AllocError>
     ensures { IfOk result (λ row. row ≡ item_row suites.now entry.now) }
 {
     let key = &entry.0;
     let item = &entry.1;
-    Ok(rows::Item {
+    Ok(ItemRow {
         suite: Text::new(alloc, codename(suites, key.suite))?,
         kind: kind_number(key.kind),
         package: key.package.try_clone()?,

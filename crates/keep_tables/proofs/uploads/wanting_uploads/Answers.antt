@@ -3,7 +3,7 @@ use Rattle.std.proofs.lemmas.List.{append-nil, append_assoc}
 use Rattle.sqlite.specs.Held.{state}
 use Rattle.sqlite.specs.State.{HasCleanDisk}
 use Rattle.sqlite.proofs.Callers.{unchanged_then}
-use Rattle.tables.specs.declared.rows.Upload.{Upload}
+use Rattle.tables.specs.declared.rows.UploadRow.{UploadRow}
 use Rattle.tables.proofs.ReadLemmas.{on_err}
 use Rattle.tables_meaning.proofs.ReadsLemmas.{held_if_rested, rests_if_unchanged, rests_itself, rests_then, survives_itself, survives_rested, undone_if_unchanged, undone_rested}
 use Rattle.tables_meaning.proofs.WantingLemmas.{all_left, none_left, one_less, wanting_behind}
@@ -69,7 +69,7 @@ loop-preserved g c =
           let early : HasCleanDisk mid = omega (arith, c.next_upload.ensures.survives.clean, clean) in
           let before = c.loop.invariant.read early t was in
           let read = c.in_ok-id.ensures.ok clean t (held_if_rested old mid before.1 t was) in
-          let one : ℕ × Upload = (c.in-Some.id, c.in-Some.upload) in
+          let one : ℕ × UploadRow = (c.in-Some.id, c.in-Some.upload) in
           let rest = wanting_behind t (Some c.in-Some.id) in (
             ap (λ us. us ++ rest) c.in_ok-push.ensures.items ∙ append_assoc c.loop.uploads.items (one ∷ []) rest
                 ∙ ap (λ us. c.loop.uploads.items ++ us) (sym (one_less t c.loop.after one was.rows.uploads.rise (sym read.0 ∙ c.in-Some.is))) ∙ before.0,

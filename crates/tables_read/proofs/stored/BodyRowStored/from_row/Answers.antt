@@ -3,7 +3,7 @@ use Rattle.sums.specs.declared.print.Print.{Print}
 use Rattle.tables.specs.Real.{IsRealPrint}
 use Rattle.tables_read.specs.Layouts.{body_seen}
 use Rattle.tables_read.specs.Reading.{Agree}
-use Rattle.tables_read.proofs.stored.BodyStored.from_row.Goals as goal
+use Rattle.tables_read.proofs.stored.BodyRowStored.from_row.Goals as goal
 
 pub returns-in-None-clause-none : goal.returns-in-None-clause-none
 returns-in-None-clause-none c e x real spelled = go x.print real spelled
