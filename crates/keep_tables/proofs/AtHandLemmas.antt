@@ -19,7 +19,7 @@ use Rattle.keep.specs.declared.change.Change.{Change}
 use Rattle.keep.specs.declared.change.IndexText.{IndexText}
 use Rattle.keep.specs.declared.change.Judgement.{Judgement}
 use Rattle.tables.specs.Rows.{tables_in}
-use Rattle.tables_meaning.specs.Archives.{KeepsArchive, book_of}
+use Rattle.tables_meaning.specs.Archives.{KeepsArchive, book_in_database}
 use Rattle.tables_meaning.specs.Kept.{book_in}
 use Rattle.tables_meaning.specs.Shown.{shown_in}
 use Rattle.tables_meaning.proofs.CallLemmas.{shown_here}
@@ -141,7 +141,7 @@ known_amended book change old new renewed notes known p at =
     ]
 
 pub known_past : (db : Database) (config : ConfigValue) (judged : List Judgement) (shown : ShelvesValue) (dates : List ℕ) (change : Change) (old new : List TextPrint)
-    → AreRenewed (book_of db config judged shown dates) (amended (book_of db config judged shown dates) change) change.texts → AreRenewedAtMost old change.texts new
+    → AreRenewed (book_in_database db config judged shown dates) (amended (book_in_database db config judged shown dates) change) change.texts → AreRenewedAtMost old change.texts new
     → AreKnown config shown dates old → AreKnown config (shown_past shown change.steps) (dates_past change.moment dates change.steps) new
 unfolding book_in
-known_past db config judged shown dates change old new renewed notes known = known_amended (book_of db config judged shown dates) change old new renewed notes known
+known_past db config judged shown dates change old new renewed notes known = known_amended (book_in_database db config judged shown dates) change old new renewed notes known

@@ -26,7 +26,7 @@ use Rattle.tables.specs.Uploads.{is_judged as has_place}
 use Rattle.tables.specs.Wants.{is_wanted_by}
 use Rattle.tables.specs.declared.rows.UploadRow.{UploadRow}
 use Rattle.tables.specs.declared.rows.Want.{Want}
-use Rattle.tables_meaning.specs.Archives.{KeepsArchive, book_of}
+use Rattle.tables_meaning.specs.Archives.{KeepsArchive, book_in_database}
 use Rattle.tables_meaning.specs.Cleaning.{counts_row, has_ended, is_current, with_current}
 use Rattle.tables_meaning.specs.Finished.{finished}
 use Rattle.tables_meaning.specs.Kept.{AreArrivals, AreNumbered, AreStored, AreUploads, arrivals_in, book_in, bytes_of}
@@ -278,7 +278,7 @@ module _ (db : Database) (config : ConfigValue) (judged : List Judgement) (shown
   rows = tables_in db
 
   abbrev book_then : ℕ → Book
-  book_then moment = at_moment moment (book_of db config judged shown dates)
+  book_then moment = at_moment moment (book_in_database db config judged shown dates)
 
   rise : AreNumbered rows
   rise = numbered db rows keeps.held

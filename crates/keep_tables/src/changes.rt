@@ -10,7 +10,7 @@ ghost use Rattle.keep.specs.Keeping.{IsSound};
 ghost use Rattle.keep.specs.declared.change.Judgement.{Judgement};
 ghost use Rattle.suites.specs.Shelves.{ShelvesValue};
 ghost use Rattle.tables.specs.Rows.{IsArchive, tables_in};
-ghost use Rattle.tables_meaning.specs.Archives.{Amends, KeepsArchive, book_of};
+ghost use Rattle.tables_meaning.specs.Archives.{Amends, KeepsArchive, book_in_database};
 ghost use Rattle.tables_meaning.specs.Changing.{is_within, puts_within};
 ghost use Rattle.tables_meaning.specs.Coming.{Comes, HasComing};
 ghost use Rattle.tables_meaning.specs.Making.{takes_file};
@@ -83,12 +83,12 @@ pub(crate) fn make_change<S: Alter>(
     ensures open { HasCleanDisk (state S.Store conn.new) → OnOk result (IsTrue (state S.Store conn.old).is_open × IsTrue (state S.Store conn.new).is_open) }
     ensures done { HasCleanDisk (state S.Store conn.new) → (before : List Judgement) (shown : ShelvesValue) (dates : List ℕ)
         → KeepsArchive (state S.Store conn.old).committed config.now before shown dates → length before ≡ judged
-        → IsSound (book_of (state S.Store conn.old).committed config.now before shown dates) change.now
+        → IsSound (book_in_database (state S.Store conn.old).committed config.now before shown dates) change.now
         → OnOk result (Amends (state S.Store conn.old).committed (state S.Store conn.new).committed config.now before shown dates change.now) }
     // Where it takes a file away nothing is coming any more, and else what is coming stays so.
     ensures ends { HasCleanDisk (state S.Store conn.new) → list_any takes_file change.now.steps ≡ true → (before : List Judgement) (shown : ShelvesValue) (dates : List ℕ)
         → KeepsArchive (state S.Store conn.old).committed config.now before shown dates → length before ≡ judged
-        → IsSound (book_of (state S.Store conn.old).committed config.now before shown dates) change.now
+        → IsSound (book_in_database (state S.Store conn.old).committed config.now before shown dates) change.now
         → OnOk result (HasComing (tables_in (state S.Store conn.new).committed) []) }
     ensures beside { HasCleanDisk (state S.Store conn.new) → list_any takes_file change.now.steps ≡ false → (before : List Judgement) (shown : ShelvesValue) (dates : List ℕ)
         → KeepsArchive (state S.Store conn.old).committed config.now before shown dates
@@ -97,7 +97,7 @@ pub(crate) fn make_change<S: Alter>(
     ensures crash { Survives (state S.Store conn.old) (state S.Store conn.new) (λ trees. (db : Database) × (trees ≡ db.trees) × IsTrue (state S.Store conn.old).is_open
         × ((before : List Judgement) (shown : ShelvesValue) (dates : List ℕ)
         → KeepsArchive (state S.Store conn.old).committed config.now before shown dates → length before ≡ judged
-        → IsSound (book_of (state S.Store conn.old).committed config.now before shown dates) change.now
+        → IsSound (book_in_database (state S.Store conn.old).committed config.now before shown dates) change.now
         → Amends (state S.Store conn.old).committed db config.now before shown dates change.now)) }
 {
     let steps = change.steps.as_slice();

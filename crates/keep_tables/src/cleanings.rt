@@ -9,7 +9,7 @@ ghost use Rattle.keep.specs.declared.change.Judgement.{Judgement};
 ghost use Rattle.rules.specs.Values.{ConfigValue};
 ghost use Rattle.suites.specs.Shelves.{ShelvesValue};
 ghost use Rattle.tables.specs.Rows.{tables_in};
-ghost use Rattle.tables_meaning.specs.Archives.{KeepsArchive, Turns, book_of};
+ghost use Rattle.tables_meaning.specs.Archives.{KeepsArchive, Turns, book_in_database};
 ghost use Rattle.tables_meaning.specs.Coming.{HasComing};
 ghost use Rattle.tables_meaning.specs.Transactions.{IsUndone};
 
@@ -35,7 +35,7 @@ pub(crate) fn clean_up<S: Alter>(
         × HasComing (tables_in (state S.Store conn.new).committed) []) }
     ensures count { HasCleanDisk (state S.Store conn.new) → (config : ConfigValue) (judged : List Judgement) (shown : ShelvesValue) (dates : List ℕ)
         → KeepsArchive (state S.Store conn.old).committed config judged shown dates → seconds ≡ span config
-        → IfOk result (λ count. count ≡ length (ended (span config) moment (book_of (state S.Store conn.old).committed config judged shown dates).arrivals)) }
+        → IfOk result (λ count. count ≡ length (ended (span config) moment (book_in_database (state S.Store conn.old).committed config judged shown dates).arrivals)) }
     ensures undone { HasCleanDisk (state S.Store conn.new) → OnErr result (IsUndone (state S.Store conn.old) (state S.Store conn.new)) }
     ensures crash { Survives (state S.Store conn.old) (state S.Store conn.new) (λ trees. (db : Database) × (trees ≡ db.trees) × IsTrue (state S.Store conn.old).is_open
         × ((config : ConfigValue) (judged : List Judgement) (shown : ShelvesValue) (dates : List ℕ)

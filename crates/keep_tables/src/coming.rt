@@ -12,7 +12,7 @@ ghost use Rattle.keep.specs.Book.{at_moment, has_arrival, latest, span, with_del
 ghost use Rattle.keep.specs.Keeping.{IsDeliverable};
 ghost use Rattle.keep.specs.declared.change.Judgement.{Judgement};
 ghost use Rattle.tables.specs.Rows.{tables_in};
-ghost use Rattle.tables_meaning.specs.Archives.{KeepsArchive, Turns, book_of};
+ghost use Rattle.tables_meaning.specs.Archives.{KeepsArchive, Turns, book_in_database};
 ghost use Rattle.tables_meaning.specs.Coming.{Comes, HasComing};
 ghost use Rattle.tables_meaning.specs.Transactions.{IsUndone};
 ghost use Rattle.tables_bodies.specs.declared.coming.Begun.{Begun};
@@ -183,7 +183,7 @@ pub(crate) fn finish_delivery<S: Alter>(
     ensures new { HasCleanDisk (state S.Store conn.new) → (config : ConfigValue) (judged : List Judgement) (shown : ShelvesValue) (dates : List ℕ) (body : List ℕ)
         → KeepsArchive (state S.Store conn.old).committed config judged shown dates → Comes (tables_in (state S.Store conn.old).committed) finished.now.body finished.now.pieces body
         → finished.now.print ≡ print_of body → IsDeliverable finished.now.name.now body → finished.now.span ≡ span config
-        → IfOk result (λ new. new ≡ not (has_arrival (at_moment finished.now.moment (book_of (state S.Store conn.old).committed config judged shown dates)).arrivals (record { name = finished.now.name.now; body = body; moment = finished.now.moment }))) }
+        → IfOk result (λ new. new ≡ not (has_arrival (at_moment finished.now.moment (book_in_database (state S.Store conn.old).committed config judged shown dates)).arrivals (record { name = finished.now.name.now; body = body; moment = finished.now.moment }))) }
     ensures undone { HasCleanDisk (state S.Store conn.new) → OnErr result (IsUndone (state S.Store conn.old) (state S.Store conn.new)) }
     ensures crash { Survives (state S.Store conn.old) (state S.Store conn.new) (λ trees. (db : Database) × (trees ≡ db.trees) × IsTrue (state S.Store conn.old).is_open
         × ((config : ConfigValue) (judged : List Judgement) (shown : ShelvesValue) (dates : List ℕ) (body : List ℕ)
@@ -222,7 +222,7 @@ pub(crate) fn deliver_at_once<S: Alter>(
     ensures new { HasCleanDisk (state S.Store conn.new) → (config : ConfigValue) (judged : List Judgement) (shown : ShelvesValue) (dates : List ℕ)
         → KeepsArchive (state S.Store conn.old).committed config judged shown dates → HasComing (tables_in (state S.Store conn.old).committed) []
         → IsDeliverable file.now.name.now file.now.bytes.now → file.now.span ≡ span config
-        → IfOk result (λ new. new ≡ not (has_arrival (at_moment file.now.moment (book_of (state S.Store conn.old).committed config judged shown dates)).arrivals (record { name = file.now.name.now; body = file.now.bytes.now; moment = file.now.moment }))) }
+        → IfOk result (λ new. new ≡ not (has_arrival (at_moment file.now.moment (book_in_database (state S.Store conn.old).committed config judged shown dates)).arrivals (record { name = file.now.name.now; body = file.now.bytes.now; moment = file.now.moment }))) }
     ensures undone { HasCleanDisk (state S.Store conn.new) → OnErr result (IsUndone (state S.Store conn.old) (state S.Store conn.new)) }
     ensures crash { Survives (state S.Store conn.old) (state S.Store conn.new) (λ trees. (db : Database) × (trees ≡ db.trees) × IsTrue (state S.Store conn.old).is_open
         × ((config : ConfigValue) (judged : List Judgement) (shown : ShelvesValue) (dates : List ℕ)

@@ -164,7 +164,7 @@ impl<S: Alter + Drop> Keeper for TableKeeper<S> {
     ghost use Rattle.std.specs.Prelude.{true};
     ghost use Rattle.sqlite.specs.Tree.{Trees};
     ghost use Rattle.tables_bodies.specs.UnderWay.{coming_in};
-    ghost use Rattle.tables_meaning.specs.Archives.{KeepsLeft, book_of};
+    ghost use Rattle.tables_meaning.specs.Archives.{KeepsLeft, book_in_database};
     ghost use Rattle.tables_meaning.specs.KeeperLemmas.{left_is};
 
     ghost is_clean = { λ k. HasCleanDisk (state S.Store k.conn) };
@@ -173,7 +173,7 @@ impl<S: Alter + Drop> Keeper for TableKeeper<S> {
 
     ghost faults = { λ k. (state S.Store k.conn).faults };
 
-    ghost book = { λ k. book_of (state S.Store k.conn).committed k.config k.judged.items (shown_in k.config.suites (tables_in (state S.Store k.conn).committed)) k.dates.items };
+    ghost book = { λ k. book_in_database (state S.Store k.conn).committed k.config k.judged.items (shown_in k.config.suites (tables_in (state S.Store k.conn).committed)) k.dates.items };
 
     ghost coming = { λ k. coming_in (tables_in (state S.Store k.conn).committed) k.begun };
 

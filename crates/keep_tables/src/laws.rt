@@ -9,7 +9,7 @@ ghost use Rattle.rules.specs.Values.{ConfigValue};
 ghost use Rattle.keep.specs.Book.{latest, Book};
 ghost use Rattle.keep.specs.Plain.{fresh_book};
 ghost use Rattle.tables_meaning.specs.Founding.{first_dates, founded};
-ghost use Rattle.tables_meaning.specs.Kept.{IsKept, book_in};
+ghost use Rattle.tables_meaning.specs.Kept.{IsBook, book_in};
 ghost use Rattle.tables_meaning.specs.Archives.{KeepsBook, KeepsLeft};
 ghost use Rattle.keep_tables.specs.Keepers.{config_in_use, connection_of, table_book};
 ghost use Rattle.keep_tables.specs.declared.keeper.TableKeeper.{TableKeeper};
@@ -20,7 +20,7 @@ use sqlite::Alter;
 
 /// The first rows are those of an archive in which nothing is yet.
 pub fn first_rows()
-    ensures kept { (config : ConfigValue) (moment : ℕ) → config_in config.text ≡ Ok config → moment ≤ latest → IsKept (founded config moment) config [] empty (first_dates config moment) }
+    ensures kept { (config : ConfigValue) (moment : ℕ) → config_in config.text ≡ Ok config → moment ≤ latest → IsBook (founded config moment) config [] empty (first_dates config moment) }
     ensures book { (config : ConfigValue) (moment : ℕ) → book_in config [] empty (first_dates config moment) (founded config moment) ≡ fresh_book config moment }
 {}
 

@@ -11,7 +11,7 @@ ghost use Rattle.rules.specs.Values.{ConfigValue};
 ghost use Rattle.sums.specs.Prints.{print as print_of};
 ghost use Rattle.suites.specs.Shelves.{ShelvesValue};
 ghost use Rattle.tables.specs.Rows.{IsArchive};
-ghost use Rattle.tables_meaning.specs.Archives.{IsRead, KeepsArchive, book_of};
+ghost use Rattle.tables_meaning.specs.Archives.{IsRead, KeepsArchive, book_in_database};
 
 use crate::shelves::read_shelves;
 use crate::text_prints::is_of_another;
@@ -40,11 +40,11 @@ pub fn read_due<S: Alter>(
         → OnOk result (IsTrue (state S.Store conn.new).is_open) }
     ensures uploads { HasCleanDisk (state S.Store conn.new) → (config : ConfigValue) (judged : List Judgement) (shown : ShelvesValue) (dates : List ℕ)
         → KeepsArchive (state S.Store conn.old).committed config judged shown dates → seconds ≡ span config
-        → IfOk result (λ uploads. uploads.items ≡ map (upload_of (at_moment moment (book_of (state S.Store conn.old).committed config judged shown dates)).arrivals) (due (at_moment moment (book_of (state S.Store conn.old).committed config judged shown dates)))) }
+        → IfOk result (λ uploads. uploads.items ≡ map (upload_of (at_moment moment (book_in_database (state S.Store conn.old).committed config judged shown dates)).arrivals) (due (at_moment moment (book_in_database (state S.Store conn.old).committed config judged shown dates)))) }
     // By their names and prints.
     ensures signs { HasCleanDisk (state S.Store conn.new) → (config : ConfigValue) (judged : List Judgement) (shown : ShelvesValue) (dates : List ℕ)
         → KeepsArchive (state S.Store conn.old).committed config judged shown dates → seconds ≡ span config
-        → IfOk result (λ uploads. map (λ u. (u.name, u.print)) uploads.items ≡ map sign_of (due (at_moment moment (book_of (state S.Store conn.old).committed config judged shown dates)))) }
+        → IfOk result (λ uploads. map (λ u. (u.name, u.print)) uploads.items ≡ map sign_of (due (at_moment moment (book_in_database (state S.Store conn.old).committed config judged shown dates)))) }
 {
     // For the prover alone: outside a transaction the connection has what is committed.
     let _settled = conn.is_autocommit();
@@ -66,7 +66,7 @@ pub fn read_waiting<S: Alter>(
         → OnOk result (IsTrue (state S.Store conn.new).is_open) }
     ensures waiting { HasCleanDisk (state S.Store conn.new) → (config : ConfigValue) (judged : List Judgement) (shown : ShelvesValue) (dates : List ℕ)
         → KeepsArchive (state S.Store conn.old).committed config judged shown dates → seconds ≡ span config
-        → IfOk result (λ all. all.items ≡ waiting_list (at_moment moment (book_of (state S.Store conn.old).committed config judged shown dates))) }
+        → IfOk result (λ all. all.items ≡ waiting_list (at_moment moment (book_in_database (state S.Store conn.old).committed config judged shown dates))) }
 {
     // For the prover alone: outside a transaction the connection has what is committed.
     let _settled = conn.is_autocommit();
@@ -87,7 +87,7 @@ pub fn read_file<S: Alter>(
         → OnOk result (IsTrue (state S.Store conn.new).is_open) }
     ensures file { HasCleanDisk (state S.Store conn.new) → (config : ConfigValue) (judged : List Judgement) (shown : ShelvesValue) (dates : List ℕ)
         → KeepsArchive (state S.Store conn.old).committed config judged shown dates
-        → IfOk result (λ file. option_map (λ body. body.items) file ≡ (book_of (state S.Store conn.old).committed config judged shown dates).files path.now) }
+        → IfOk result (λ file. option_map (λ body. body.items) file ≡ (book_in_database (state S.Store conn.old).committed config judged shown dates).files path.now) }
 {
     // For the prover alone: outside a transaction the connection has what is committed.
     let _settled = conn.is_autocommit();
@@ -108,7 +108,7 @@ pub fn read_text<S: Alter>(
         → OnOk result (IsTrue (state S.Store conn.new).is_open) }
     ensures text { HasCleanDisk (state S.Store conn.new) → (config : ConfigValue) (judged : List Judgement) (shown : ShelvesValue) (dates : List ℕ)
         → KeepsArchive (state S.Store conn.old).committed config judged shown dates
-        → IfOk result (λ text. option_map (λ body. body.items) text ≡ text_at (book_of (state S.Store conn.old).committed config judged shown dates) path.now) }
+        → IfOk result (λ text. option_map (λ body. body.items) text ≡ text_at (book_in_database (state S.Store conn.old).committed config judged shown dates) path.now) }
 {
     // For the prover alone: outside a transaction the connection has what is committed.
     let _settled = conn.is_autocommit();
@@ -190,8 +190,8 @@ pub fn read_print<S: Alter>(
         → OnOk result (IsTrue (state S.Store conn.new).is_open) }
     ensures print { HasCleanDisk (state S.Store conn.new) → (config : ConfigValue) (judged : List Judgement) (shown : ShelvesValue) (dates : List ℕ)
         → KeepsArchive (state S.Store conn.old).committed config judged shown dates
-        → IfSome known (λ p. option_map print_of (text_at (book_of (state S.Store conn.old).committed config judged shown dates) path.now) ≡ Some p)
-        → IfOk result (λ found. found ≡ option_map print_of (text_at (book_of (state S.Store conn.old).committed config judged shown dates) path.now)) }
+        → IfSome known (λ p. option_map print_of (text_at (book_in_database (state S.Store conn.old).committed config judged shown dates) path.now) ≡ Some p)
+        → IfOk result (λ found. found ≡ option_map print_of (text_at (book_in_database (state S.Store conn.old).committed config judged shown dates) path.now)) }
 {
     match known {
         Some(print) => {
@@ -220,8 +220,8 @@ pub fn read_kept<S: Alter>(
         → OnOk result (IsTrue (state S.Store conn.new).is_open) }
     ensures kept { HasCleanDisk (state S.Store conn.new) → (config : ConfigValue) (judged : List Judgement) (shown : ShelvesValue) (dates : List ℕ)
         → KeepsArchive (state S.Store conn.old).committed config judged shown dates
-        → IfSome known (λ p. option_map print_of (text_at (book_of (state S.Store conn.old).committed config judged shown dates) text.now.path) ≡ Some p)
-        → IfOk result (λ kept. kept ≡ is_kept (text_at (book_of (state S.Store conn.old).committed config judged shown dates) text.now.path) text.now.text) }
+        → IfSome known (λ p. option_map print_of (text_at (book_in_database (state S.Store conn.old).committed config judged shown dates) text.now.path) ≡ Some p)
+        → IfOk result (λ kept. kept ≡ is_kept (text_at (book_in_database (state S.Store conn.old).committed config judged shown dates) text.now.path) text.now.text) }
 {
     if is_of_another(known, text) {
         read_nothing(alloc, conn)?;

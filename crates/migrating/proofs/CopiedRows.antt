@@ -31,7 +31,7 @@ use Rattle.tables.specs.declared.rows.Piece.{Piece}
 use Rattle.tables.specs.declared.rows.Ref.{Ref}
 use Rattle.tables.specs.declared.rows.UploadRow.{UploadRow}
 use Rattle.tables.specs.declared.rows.Want.{Want}
-use Rattle.tables_meaning.specs.Kept.{AreArrivals, AreBodies, AreFiles, AreItems, AreUploads, IsKept, arrival_in, arrivals_in, bytes_of, files_in, has_body, is_on, is_used, pieces_for, print_at, shown_row, sign_in, used_in, wants_in}
+use Rattle.tables_meaning.specs.Kept.{AreArrivals, AreBodies, AreFiles, AreItems, AreUploads, IsBook, arrival_in, arrivals_in, bytes_of, files_in, has_body, is_on, is_used, pieces_for, print_at, shown_row, sign_in, used_in, wants_in}
 use Rattle.tables_meaning.proofs.RowLists.{ascending_from_pairs, pairs_from_ascending}
 use Rattle.copying.specs.Copying.{anew, arrived_at}
 use Rattle.migrating.proofs.FoundedRows.{meta_for}
@@ -184,8 +184,8 @@ module _ (t : Tables) (moment : ℕ) (text : List ℕ) where
   }
 
 -- THE ARCHIVE, copied.
-pub copied_kept : (t : Tables) (config : ConfigValue) (judged : List Judgement) (shown : ShelvesValue) (dates : List ℕ) (moment : ℕ) → IsKept t config judged shown dates → moment ≤ latest
-    → IsKept (copy t moment config.text) config judged shown dates
+pub copied_kept : (t : Tables) (config : ConfigValue) (judged : List Judgement) (shown : ShelvesValue) (dates : List ℕ) (moment : ℕ) → IsBook t config judged shown dates → moment ≤ latest
+    → IsBook (copy t moment config.text) config judged shown dates
 copied_kept t config judged shown dates moment kept early = record {
   meta = refl;
   read = kept.read;

@@ -47,7 +47,7 @@ use Rattle.tables.proofs.BookLemmas.{tables_set}
 use Rattle.tables_meaning.specs.Archives.{KeepsArchive}
 use Rattle.tables_meaning.specs.Coming.{HasComing, with_coming}
 use Rattle.tables_meaning.specs.Finished.{finished}
-use Rattle.tables_meaning.specs.Kept.{IsKept, is_on, is_used, item_row, refs_for}
+use Rattle.tables_meaning.specs.Kept.{IsBook, is_on, is_used, item_row, refs_for}
 use Rattle.tables_meaning.specs.Making.{judged_by, takes_file, with_change, with_judged, with_new_dates, with_new_texts, with_plan, with_pooled, with_shown, with_step, with_steps, with_written, without_shown}
 use Rattle.tables_meaning.specs.Reads.{Rests}
 use Rattle.tables_meaning.specs.Sweeping.{swept}
@@ -293,7 +293,7 @@ made_as_needed db config prior shown dates keeps whole nothing judged change =
     stays free arrived =
         let t : Tables = tables_in db in
         let after : Tables = with_written config judged change t in
-        let kept : IsKept t config prior shown dates = subst (λ u. IsKept u config prior shown dates) (all_finished t (nothing free)) keeps.kept in
+        let kept : IsBook t config prior shown dates = subst (λ u. IsBook u config prior shown dates) (all_finished t (nothing free)) keeps.kept in
         let used : AllByRecursion (λ x. is_used after x.0 ≡ true) t.bodies =
         all_weaker (λ x. is_used t x.0 ≡ true) (λ x. is_used after x.0 ≡ true) (λ x. used_still config judged change t kept.files.apart arrived x.0) t.bodies
         (recursion_from_All (λ x. is_used t x.0 ≡ true) t.bodies kept.bodies.used) in

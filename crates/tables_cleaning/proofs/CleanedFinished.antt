@@ -20,7 +20,7 @@ use Rattle.tables.specs.declared.rows.Piece.{Piece}
 use Rattle.tables.specs.declared.rows.UploadRow.{UploadRow}
 use Rattle.tables_meaning.specs.Cleaning.{cleaned, counts_row, ended_rows, with_cleaned, with_current, with_gone, without_request}
 use Rattle.tables_meaning.specs.Finished.{finished, is_of_unfinished, is_unfinished}
-use Rattle.tables_meaning.specs.Kept.{AreArrivals, AreNumbered, IsKept, arrival_in, arrivals_in, book_in, has_body, print_at, print_in}
+use Rattle.tables_meaning.specs.Kept.{AreArrivals, AreNumbered, IsBook, arrival_in, arrivals_in, book_in, has_body, print_at, print_in}
 use Rattle.tables_meaning.specs.Sweeping.{swept}
 use Rattle.tables_meaning.proofs.ArrivalLemmas.{counts_as}
 use Rattle.tables_meaning.proofs.BodyLemmas.{are_stored}
@@ -85,7 +85,7 @@ all_beside (x ∷ gone) u bodies pieces h =
 
 -- ---- the rows after a cleaning
 
-module _ (t : Tables) (config : ConfigValue) (judged : List Judgement) (shown : ShelvesValue) (dates : List ℕ) (up : AreNumbered t) (kept : IsKept (finished t) config judged shown dates) (moment : ℕ) where
+module _ (t : Tables) (config : ConfigValue) (judged : List Judgement) (shown : ShelvesValue) (dates : List ℕ) (up : AreNumbered t) (kept : IsBook (finished t) config judged shown dates) (moment : ℕ) where
   abbrev seconds : Option ℕ
   seconds = span config
 

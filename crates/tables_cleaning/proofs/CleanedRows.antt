@@ -20,7 +20,7 @@ use Rattle.tables.specs.declared.rows.ArrivalRow.{ArrivalRow}
 use Rattle.tables.specs.declared.rows.UploadRow.{UploadRow}
 use Rattle.tables.specs.declared.rows.Want.{Want}
 use Rattle.tables_meaning.specs.Cleaning.{cleaned, counts_row, ended_rows, has_ended, is_current, with_cleaned, with_current, with_gone}
-use Rattle.tables_meaning.specs.Kept.{AreArrivals, AreNumbered, AreStored, AreUploads, IsKept, arrival_in, arrivals_in, bytes_of, has_body, print_at, request_of, sign_in, wanted}
+use Rattle.tables_meaning.specs.Kept.{AreArrivals, AreNumbered, AreStored, AreUploads, IsBook, arrival_in, arrivals_in, bytes_of, has_body, print_at, request_of, sign_in, wanted}
 use Rattle.tables_meaning.specs.Sweeping.{swept}
 use Rattle.tables_meaning.proofs.AmendedLemmas.{print_is}
 use Rattle.tables_meaning.proofs.BodyLemmas.{all_if, any_same as any_alike, are_stored, list_any-map}
@@ -228,7 +228,7 @@ module _ (t : Tables) (stored : AreStored t) (arrived : AreArrivals t) (seconds 
           ∙ (λ i. record t { arrivals = without_passing (λ x. ended x.1) t.arrivals arrivals_up i; uploads = same_uploads i; wants = same_wants i })
 
 -- THE STATEMENTS of a cleaning leave what it leaves at once.
-pub with_cleaned-cleaned : (t : Tables) (config : ConfigValue) (judged : List Judgement) (shown : ShelvesValue) (dates : List ℕ) (moment : ℕ) → AreNumbered t → IsKept t config judged shown dates
+pub with_cleaned-cleaned : (t : Tables) (config : ConfigValue) (judged : List Judgement) (shown : ShelvesValue) (dates : List ℕ) (moment : ℕ) → AreNumbered t → IsBook t config judged shown dates
     → with_cleaned (span config) moment t ≡ cleaned (span config) moment t
 unfolding with_cleaned cleaned
 with_cleaned-cleaned t config judged shown dates moment numbered kept =

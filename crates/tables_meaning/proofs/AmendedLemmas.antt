@@ -35,7 +35,7 @@ use Rattle.tables.specs.declared.rows.File.{File}
 use Rattle.tables.specs.declared.rows.TextRow.{TextRow}
 use Rattle.tables.specs.declared.rows.Piece.{Piece}
 use Rattle.texts.specs.Indices.{all_texts}
-use Rattle.tables_meaning.specs.Kept.{AreArrivals, AreFiles, AreItems, AreSigned, AreStored, AreUploads, IsKept, arrival_in, arrivals_in, book_in, bytes_of, date_row, files_in, has_body, print_at, wants_in}
+use Rattle.tables_meaning.specs.Kept.{AreArrivals, AreFiles, AreItems, AreSigned, AreStored, AreUploads, IsBook, arrival_in, arrivals_in, book_in, bytes_of, date_row, files_in, has_body, print_at, wants_in}
 use Rattle.tables_meaning.specs.Making.{with_new_dates, with_new_texts}
 use Rattle.tables_meaning.proofs.BodyLemmas.{are_stored}
 use Rattle.tables_meaning.proofs.DateLemmas.{in_range_past, length_past, renewed_dates}
@@ -185,7 +185,7 @@ module _ (t new : Tables) (keeps : KeepsBodies t new) where
 
 -- THE BOOK that the tables keep after a change is the amended one, where it had each body.
 pub amended_book : (t new : Tables) (config : ConfigValue) (judged : List Judgement) (shown : ShelvesValue) (dates : List ℕ) (change : Change)
-    → IsKept t config judged shown dates → KeepsBodies t new → AreFiles new (shown_past shown change.steps) → HasEachBody (book_in config judged shown dates t) change
+    → IsBook t config judged shown dates → KeepsBodies t new → AreFiles new (shown_past shown change.steps) → HasEachBody (book_in config judged shown dates t) change
     → book_in config (judged ++ judgements change.steps) (shown_past shown change.steps) (dates_past change.moment dates change.steps) new ≡ amended (book_in config judged shown dates t) change
 unfolding book_in amended
 amended_book t new config judged shown dates change kept keeps files has =
@@ -213,7 +213,7 @@ pub record AreTextsAndDates (t : Tables) (config : ConfigValue) (shown : Shelves
 -- The rows of texts and of dates after a change are those of what it leaves. The rows before it are those of the tables, or
 -- of tables that have the same texts and dates.
 pub renewed_rows : (t now : Tables) (config : ConfigValue) (judged : List Judgement) (shown : ShelvesValue) (dates : List ℕ) (change : Change)
-    → IsKept t config judged shown dates → now.texts ≡ t.texts → now.dates ≡ t.dates → change.moment ≤ latest → config_in config.text ≡ Ok config
+    → IsBook t config judged shown dates → now.texts ≡ t.texts → now.dates ≡ t.dates → change.moment ≤ latest → config_in config.text ≡ Ok config
     → AreRenewed (book_in config judged shown dates t) (amended (book_in config judged shown dates t) change) change.texts
     → AreTextsAndDates (with_new_dates config.suites change.moment change.steps (with_new_texts change.texts now)) config (shown_past shown change.steps) (dates_past change.moment dates change.steps)
 renewed_rows t now config judged shown dates change kept same_texts same_dates small read renewed = record {
@@ -339,7 +339,7 @@ pub record IsWritten (t new : Tables) (config : ConfigValue) (judged : List Judg
 
 -- THE ARCHIVE after the steps of a change, once its texts and dates are written.
 pub amended_archive : (t now : Tables) (config : ConfigValue) (judged : List Judgement) (shown : ShelvesValue) (dates : List ℕ) (change : Change)
-    → IsKept t config judged shown dates → AreStepped t now config (judged ++ judgements change.steps) (shown_past shown change.steps)
+    → IsBook t config judged shown dates → AreStepped t now config (judged ++ judgements change.steps) (shown_past shown change.steps)
     → change.moment ≤ latest → config_in config.text ≡ Ok config
     → AreRenewed (book_in config judged shown dates t) (amended (book_in config judged shown dates t) change) change.texts
     → IsWritten t (with_new_dates config.suites change.moment change.steps (with_new_texts change.texts now)) config judged shown dates change

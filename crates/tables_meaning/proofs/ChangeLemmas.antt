@@ -14,7 +14,7 @@ use Rattle.keep.specs.Book.{Book, at_moment, counts, current, dates_past, judgem
 use Rattle.keep.specs.Keeping.{AreSteps, IsDeliverable, IsSound}
 use Rattle.keep.specs.declared.change.Change.{Change}
 use Rattle.keep.specs.declared.change.Judgement.{Judgement}
-use Rattle.tables_meaning.specs.Kept.{AreNumbered, IsKept, arrivals_in, book_in, is_used}
+use Rattle.tables_meaning.specs.Kept.{AreNumbered, IsBook, arrivals_in, book_in, is_used}
 use Rattle.tables_meaning.specs.Making.{takes_file, with_change, with_steps, with_written}
 use Rattle.tables_meaning.specs.Planned.{IsStepped, KeepsChange}
 use Rattle.tables_meaning.specs.Sweeping.{swept}
@@ -33,7 +33,7 @@ some_of P some xs all = All-from_recursion P (filter some xs) (all-filter P some
 
 -- What the tables keep once the change is written.
 pub written_after : (t : Tables) (config : ConfigValue) (judged : List Judgement) (shown : ShelvesValue) (dates : List ℕ) (change : Change)
-    → IsKept t config judged shown dates → AreNumbered t → config_in config.text ≡ Ok config
+    → IsBook t config judged shown dates → AreNumbered t → config_in config.text ≡ Ok config
     → IsSound (book_in config judged shown dates t) change → change.moment ≤ latest
     → All (λ s. All (λ e. e.0.suite < length config.suites) s.plan.put) change.steps
     → All (λ s. All (λ f. IsTrue (is_some (body_with f.print t.bodies))) s.plan.files_added) change.steps
@@ -69,7 +69,7 @@ written_after t config judged shown dates change kept numbered read sound small 
     }) small read sound.texts
 
 pub kept_after : (t : Tables) (config : ConfigValue) (judged : List Judgement) (shown : ShelvesValue) (dates : List ℕ) (change : Change)
-    → IsKept t config judged shown dates → IsWritten t (with_written config (length judged) change t) config judged shown dates change
+    → IsBook t config judged shown dates → IsWritten t (with_written config (length judged) change t) config judged shown dates change
     → KeepsChange t (with_change config (length judged) change t) config judged shown dates change
 unfolding with_change
 kept_after t config judged shown dates change kept written = by (list_any takes_file change.steps) refl

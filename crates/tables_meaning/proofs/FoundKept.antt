@@ -22,7 +22,7 @@ use Rattle.tables.specs.declared.rows.Date.{Date}
 use Rattle.tables.specs.declared.rows.TextRow.{TextRow}
 use Rattle.tables.specs.declared.rows.Meta.{Meta}
 use Rattle.tables.specs.declared.meta.TheConstants.{VERSION}
-use Rattle.tables_meaning.specs.Kept.{AreArrivals, AreBodies, AreFiles, AreItems, AreUploads, IsKept, arrivals_in, book_in, files_in}
+use Rattle.tables_meaning.specs.Kept.{AreArrivals, AreBodies, AreFiles, AreItems, AreUploads, IsBook, arrivals_in, book_in, files_in}
 use Rattle.tables_meaning.specs.Founding.{first_date, first_dates, founded, with_dates, with_first_rows, with_path_text, with_texts}
 use Rattle.tables_meaning.proofs.FoundLemmas.{map_twice, one_date}
 
@@ -143,7 +143,7 @@ nothing_sound : AreSound empty
 nothing_sound = record { at_home = rw (entries-empty key_order shelf.Item) (All-nil IsAtHome); agreed = rw (entries-empty key_order shelf.Item) (λ path a b x y. absurd (omega (arith, x.1))) }
 
 first_kept : (config : ConfigValue) (moment : ℕ) → config_in config.text ≡ Ok config → moment ≤ latest
-    → IsKept (first_rows ((1, first_meta config) ∷ []) (first_texted config moment) (first_dated config moment)) config [] empty (first_dates config moment)
+    → IsBook (first_rows ((1, first_meta config) ∷ []) (first_texted config moment) (first_dated config moment)) config [] empty (first_dates config moment)
 first_kept config moment read early = record {
   meta = refl;
   read = read;
@@ -164,8 +164,8 @@ first_kept config moment read early = record {
 }
 
 -- the rows of a new archive are those of one in which nothing is yet
-pub founded_is_kept : (config : ConfigValue) (moment : ℕ) → config_in config.text ≡ Ok config → moment ≤ latest → IsKept (founded config moment) config [] empty (first_dates config moment)
-founded_is_kept config moment read early = subst (λ t. IsKept t config [] empty (first_dates config moment)) (sym (founded_are config moment)) (first_kept config moment read early)
+pub founded_is_kept : (config : ConfigValue) (moment : ℕ) → config_in config.text ≡ Ok config → moment ≤ latest → IsBook (founded config moment) config [] empty (first_dates config moment)
+founded_is_kept config moment read early = subst (λ t. IsBook t config [] empty (first_dates config moment)) (sym (founded_are config moment)) (first_kept config moment read early)
 
 -- and so is its book
 pub founded_book : (config : ConfigValue) (moment : ℕ) → book_in config [] empty (first_dates config moment) (founded config moment) ≡ fresh_book config moment

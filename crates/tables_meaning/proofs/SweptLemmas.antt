@@ -23,7 +23,7 @@ use Rattle.tables.specs.declared.rows.BodyRow.{BodyRow}
 use Rattle.tables.specs.declared.rows.File.{File}
 use Rattle.tables.specs.declared.rows.Piece.{Piece}
 use Rattle.tables.specs.declared.meta.TheConstants.{VERSION}
-use Rattle.tables_meaning.specs.Kept.{AreArrivals, AreBodies, AreFiles, AreItems, AreSigned, AreStored, AreUploads, IsKept, arrival_in, arrivals_in, book_in, bytes_of, date_row, files_in, has_body, is_used, pieces_for, pieces_of, print_at}
+use Rattle.tables_meaning.specs.Kept.{AreArrivals, AreBodies, AreFiles, AreItems, AreSigned, AreStored, AreUploads, IsBook, arrival_in, arrivals_in, book_in, bytes_of, date_row, files_in, has_body, is_used, pieces_for, pieces_of, print_at}
 use Rattle.tables_meaning.specs.Sweeping.{swept}
 use Rattle.tables_meaning.proofs.BodyLemmas.{all_if, found, its_arrival, its_file, map_alike, row_of_body}
 use Rattle.tables_meaning.proofs.LikeLemmas.{items_like}
@@ -228,7 +228,7 @@ pub record IsUnswept (t : Tables) (config : ConfigValue) (judged : List Judgemen
 
 module _ (t : Tables) (config : ConfigValue) (judged : List Judgement) (shown : ShelvesValue) (dates : List ℕ) where
   -- where each body is used the rows are those of an archive
-  pub kept_if_used : IsUnswept t config judged shown dates → All (λ x. IsTrue (is_used t x.0)) t.bodies → IsKept t config judged shown dates
+  pub kept_if_used : IsUnswept t config judged shown dates → All (λ x. IsTrue (is_used t x.0)) t.bodies → IsBook t config judged shown dates
   kept_if_used h used = record {
     meta = h.meta;
     read = h.read;
@@ -247,7 +247,7 @@ module _ (t : Tables) (config : ConfigValue) (judged : List Judgement) (shown : 
   }
 
   -- and else they are once the unused ones are away
-  pub kept_if_swept : IsUnswept t config judged shown dates → IsKept (swept t) config judged shown dates
+  pub kept_if_swept : IsUnswept t config judged shown dates → IsBook (swept t) config judged shown dates
   unfolding swept
   kept_if_swept h = record {
     meta = h.meta;

@@ -251,7 +251,7 @@ date_row d = record { suite = d.0.codename; moment = d.1 }
 -- The rows are those of an archive of this configuration, with these judged uploads in order, this shown, and these dates.
 -- The configuration is what its text spells, each item stands on its own shelf and is as its records tell it, and the judged
 -- uploads may have been delivered.
-pub record IsKept (t : Tables) (config : ConfigValue) (judged : List Judgement) (shown : ShelvesValue) (dates : List ℕ) : Type 0 where
+pub record IsBook (t : Tables) (config : ConfigValue) (judged : List Judgement) (shown : ShelvesValue) (dates : List ℕ) : Type 0 where
   pub meta : rows_of t.meta ≡ record { version = VERSION; configuration = config.text } ∷ []
   pub read : config_in config.text ≡ Ok config
   pub sound : AreSound shown

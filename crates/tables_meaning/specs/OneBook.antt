@@ -26,7 +26,7 @@ use Rattle.tables.specs.declared.rows.ItemRow.{ItemRow}
 use Rattle.tables.specs.declared.rows.Meta.{Meta}
 use Rattle.tables.specs.declared.rows.Ref.{Ref}
 use Rattle.tables.specs.declared.rows.UploadRow.{UploadRow}
-use Rattle.tables_meaning.specs.Kept.{AreItems, AreUploads, IsKept, book_in, date_row, is_on, item_row, judged_row, refs_for, shown_row}
+use Rattle.tables_meaning.specs.Kept.{AreItems, AreUploads, IsBook, book_in, date_row, is_on, item_row, judged_row, refs_for, shown_row}
 
 -- ---- lists and what may be absent
 
@@ -187,12 +187,12 @@ same_dates (s ∷ ss) (d ∷ ds) (c ∷ cs) m n e =
 
 -- tables are those of one configuration text
 pub one_text : (t : Tables) (config other : ConfigValue) (judged judged_too : List Judgement) (shown shown_too : ShelvesValue) (dates dates_too : List ℕ)
-    → IsKept t config judged shown dates → IsKept t other judged_too shown_too dates_too → config.text ≡ other.text
+    → IsBook t config judged shown dates → IsBook t other judged_too shown_too dates_too → config.text ≡ other.text
 one_text t config other judged judged_too shown shown_too dates dates_too h k = ap (λ (m : Meta). m.configuration) (first_same _ _ _ _ (sym h.meta ∙ k.meta))
 
 -- Tables keep one archive of a configuration, where each item stands on its own shelf.
 pub one_archive : (t : Tables) (config : ConfigValue) (judged judged_too : List Judgement) (shown shown_too : ShelvesValue) (dates dates_too : List ℕ)
-    → IsKept t config judged shown dates → IsKept t config judged_too shown_too dates_too → All IsAtHome (entries shown) → All IsAtHome (entries shown_too)
+    → IsBook t config judged shown dates → IsBook t config judged_too shown_too dates_too → All IsAtHome (entries shown) → All IsAtHome (entries shown_too)
     → (judged ≡ judged_too) × (shown ≡ shown_too) × (dates ≡ dates_too)
 one_archive t config judged judged_too shown shown_too dates dates_too h k home home_too = (
   same_judged t judged judged_too h.uploads k.uploads,
@@ -206,10 +206,10 @@ one_configuration config other h k e = let both : Ok config ≡ Ok other = sym h
 
 -- Tables keep one book, where the configurations are those of their texts and each item stands on its own shelf.
 pub one_book : (t : Tables) (config config_too : ConfigValue) (judged judged_too : List Judgement) (shown shown_too : ShelvesValue) (dates dates_too : List ℕ)
-    → IsKept t config judged shown dates → IsKept t config_too judged_too shown_too dates_too → config_in config.text ≡ Ok config → config_in config_too.text ≡ Ok config_too
+    → IsBook t config judged shown dates → IsBook t config_too judged_too shown_too dates_too → config_in config.text ≡ Ok config → config_in config_too.text ≡ Ok config_too
     → All IsAtHome (entries shown) → All IsAtHome (entries shown_too)
     → book_in config judged shown dates t ≡ book_in config_too judged_too shown_too dates_too t
 one_book t config config_too judged judged_too shown shown_too dates dates_too h k read read_too home home_too =
     let one : config_too ≡ config = one_configuration config_too config read_too read (one_text t config_too config judged_too judged shown_too shown dates_too dates k h) in
-    let parts = one_archive t config judged judged_too shown shown_too dates dates_too h (subst (λ (c : ConfigValue). IsKept t c judged_too shown_too dates_too) one k) home home_too in
+    let parts = one_archive t config judged judged_too shown shown_too dates dates_too h (subst (λ (c : ConfigValue). IsBook t c judged_too shown_too dates_too) one k) home home_too in
     λ i. book_in (sym one i) (parts.0 i) (parts.1 i) (parts.2 i) t
