@@ -18,7 +18,7 @@ use std::alloc::{AllocError, Global};
 use suites::{Item, Kind, Plan, PoolFile, ShelfKey};
 use tables::items::{delete_item, insert_item, item_on};
 use tables::refs::{delete_refs, insert_ref};
-use tables::rows::ItemRow;
+use tables::rows::{ItemRow, Ref};
 
 /// The codename of the suite at a position, empty beyond the last.
 fn codename(suites: &[Suite], at: usize) -> &str
@@ -139,7 +139,7 @@ fn put_file<S: Alter>(
     ensures survives { Survives (state S.Store tx.old.conn.now) (state S.Store tx.new.conn.now) (λ _. ⊥) }
 {
     let path = file.path.try_clone()?;
-    let reference = rows::Ref {
+    let reference = Ref {
         item: id,
         number,
         path,
