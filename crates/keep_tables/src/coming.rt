@@ -1,22 +1,15 @@
 //! A body that comes: the one that was begun last, and a keeper's calls on it over the connection alone.
 
-ghost use Rattle.std.specs.Prelude.{◌≡◌, [], Some, None, true, false, if◌then◌else◌, option_map, ◌≤◌, ◌<◌, ◌+◌, ◌%◌, ◌++◌, ℕ, List, Option, length, not, IsTrue, IfOk, OnOk, OnErr};
+ghost use Rattle.std.specs.Prelude.{◌≡◌, [], Some, None, true, false, option_map, ◌≤◌, ◌<◌, ◌+◌, ◌%◌, ◌++◌, Option, length, not, IfOk, OnOk};
 ghost use Rattle.std.specs.Option.{option_and_then, option_map_or};
-ghost use Rattle.sqlite.specs.Effect.{Database};
-ghost use Rattle.sqlite.specs.Held.{state};
-ghost use Rattle.sqlite.specs.State.{HasCleanDisk, Survives};
 ghost use Rattle.sums.specs.Prints.{Holds, print as print_of};
-ghost use Rattle.rules.specs.Values.{ConfigValue};
-ghost use Rattle.suites.specs.Shelves.{ShelvesValue};
-ghost use Rattle.keep.specs.Book.{at_moment, has_arrival, latest, span, with_delivery};
-ghost use Rattle.keep.specs.Keeping.{IsDeliverable};
-ghost use Rattle.keep.specs.declared.change.Judgement.{Judgement};
+ghost use Rattle.keep.specs.Book.{latest, span};
 ghost use Rattle.tables.specs.Rows.{tables_in};
-ghost use Rattle.tables_meaning.specs.Archives.{KeepsArchive, Turns, book_in_database};
 ghost use Rattle.tables_meaning.specs.Coming.{Comes, HasComing};
-ghost use Rattle.tables_meaning.specs.Transactions.{IsUndone};
 ghost use Rattle.tables_bodies.specs.declared.coming.Begun.{Begun};
 ghost use Rattle.keep_tables.specs.AtOnce.{arrives_at_once};
+ghost use Rattle.tables.specs.Calls.{OnCleanDisk};
+ghost use Rattle.tables_meaning.specs.Calls.{BookStays, CommitsOnly, Delivers, OverOnePiece, OverWhole, StaysOpen, Undoes, WithComing, WithPieces, has_delivery};
 
 use keep::PIECE_SIZE;
 use sqlite::{Alter, Connection, Error, ErrorCode};
@@ -92,16 +85,11 @@ pub(crate) fn is_one_piece(begun: &Option<Begun>, body: &[u8]) -> bool
 pub(crate) fn forget_body<S: Alter>(conn: &mut Connection<S>, id: u64) -> Result<(), Error>
     requires idle { conn.old.in_transaction ≡ false }
     ensures idle { conn.new.in_transaction ≡ false }
-    ensures open { HasCleanDisk (state S.Store conn.new) → OnOk result (IsTrue (state S.Store conn.old).is_open × IsTrue (state S.Store conn.new).is_open) }
-    ensures done { HasCleanDisk (state S.Store conn.new) → (config : ConfigValue) (judged : List Judgement) (shown : ShelvesValue) (dates : List ℕ) (count : ℕ) (bytes : List ℕ)
-        → KeepsArchive (state S.Store conn.old).committed config judged shown dates → Comes (tables_in (state S.Store conn.old).committed) (Some id) count bytes
-        → OnOk result (Turns (state S.Store conn.old).committed (state S.Store conn.new).committed config judged shown dates judged shown dates (λ b. b)
-        × HasComing (tables_in (state S.Store conn.new).committed) []) }
-    ensures undone { HasCleanDisk (state S.Store conn.new) → OnErr result (IsUndone (state S.Store conn.old) (state S.Store conn.new)) }
-    ensures crash { Survives (state S.Store conn.old) (state S.Store conn.new) (λ trees. (db : Database) × (trees ≡ db.trees) × IsTrue (state S.Store conn.old).is_open
-        × ((config : ConfigValue) (judged : List Judgement) (shown : ShelvesValue) (dates : List ℕ) (count : ℕ) (bytes : List ℕ)
-        → KeepsArchive (state S.Store conn.old).committed config judged shown dates → Comes (tables_in (state S.Store conn.old).committed) (Some id) count bytes
-        → Turns (state S.Store conn.old).committed db config judged shown dates judged shown dates (λ b. b))) }
+    ensures open { StaysOpen S.Store conn.old conn.new result }
+    ensures done { OnCleanDisk S.Store conn.old conn.new (λ old new. WithPieces old.committed (Some id) (λ config judged shown dates count bytes. OnOk result (BookStays old.committed new.committed config judged shown dates
+        × HasComing (tables_in new.committed) []))) }
+    ensures undone { Undoes S.Store conn.old conn.new result }
+    ensures crash { CommitsOnly S.Store conn.old conn.new (λ old db. WithPieces old.committed (Some id) (λ config judged shown dates count bytes. BookStays old.committed db config judged shown dates)) }
 {
     // For the prover alone: outside a transaction the connection has what is committed.
     let _idle = conn.is_autocommit();
@@ -116,16 +104,11 @@ pub(crate) fn clear<S: Alter>(
 ) -> Result<(), Error>
     requires idle { conn.old.in_transaction ≡ false }
     ensures idle { conn.new.in_transaction ≡ false }
-    ensures open { HasCleanDisk (state S.Store conn.new) → OnOk result (IsTrue (state S.Store conn.old).is_open × IsTrue (state S.Store conn.new).is_open) }
-    ensures done { HasCleanDisk (state S.Store conn.new) → (config : ConfigValue) (judged : List Judgement) (shown : ShelvesValue) (dates : List ℕ) (count : ℕ) (bytes : List ℕ)
-        → KeepsArchive (state S.Store conn.old).committed config judged shown dates → Comes (tables_in (state S.Store conn.old).committed) body count bytes
-        → OnOk result (Turns (state S.Store conn.old).committed (state S.Store conn.new).committed config judged shown dates judged shown dates (λ b. b)
-        × HasComing (tables_in (state S.Store conn.new).committed) []) }
-    ensures undone { HasCleanDisk (state S.Store conn.new) → OnErr result (IsUndone (state S.Store conn.old) (state S.Store conn.new)) }
-    ensures crash { Survives (state S.Store conn.old) (state S.Store conn.new) (λ trees. (db : Database) × (trees ≡ db.trees) × IsTrue (state S.Store conn.old).is_open
-        × ((config : ConfigValue) (judged : List Judgement) (shown : ShelvesValue) (dates : List ℕ) (count : ℕ) (bytes : List ℕ)
-        → KeepsArchive (state S.Store conn.old).committed config judged shown dates → Comes (tables_in (state S.Store conn.old).committed) body count bytes
-        → Turns (state S.Store conn.old).committed db config judged shown dates judged shown dates (λ b. b))) }
+    ensures open { StaysOpen S.Store conn.old conn.new result }
+    ensures done { OnCleanDisk S.Store conn.old conn.new (λ old new. WithPieces old.committed body (λ config judged shown dates count bytes. OnOk result (BookStays old.committed new.committed config judged shown dates
+        × HasComing (tables_in new.committed) []))) }
+    ensures undone { Undoes S.Store conn.old conn.new result }
+    ensures crash { CommitsOnly S.Store conn.old conn.new (λ old db. WithPieces old.committed body (λ config judged shown dates count bytes. BookStays old.committed db config judged shown dates)) }
 {
     match body {
         Some(id) => forget_body(conn, id),
@@ -142,19 +125,14 @@ pub(crate) fn take_piece<S: Alter>(
 ) -> Result<u64, Error>
     requires idle { conn.old.in_transaction ≡ false }
     ensures idle { conn.new.in_transaction ≡ false }
-    ensures open { HasCleanDisk (state S.Store conn.new) → OnOk result (IsTrue (state S.Store conn.old).is_open × IsTrue (state S.Store conn.new).is_open) }
-    ensures done { HasCleanDisk (state S.Store conn.new) → (config : ConfigValue) (judged : List Judgement) (shown : ShelvesValue) (dates : List ℕ) (so_far : List ℕ)
-        → KeepsArchive (state S.Store conn.old).committed config judged shown dates → Comes (tables_in (state S.Store conn.old).committed) body count so_far
-        → length so_far % 65536 ≡ 0 → 0 < length bytes.now → length bytes.now ≤ 65536
-        → IfOk result (λ id. Turns (state S.Store conn.old).committed (state S.Store conn.new).committed config judged shown dates judged shown dates (λ b. b)
-        × Comes (tables_in (state S.Store conn.new).committed) (Some id) (count + 1) (so_far ++ bytes.now)) }
+    ensures open { StaysOpen S.Store conn.old conn.new result }
+    ensures done { OnCleanDisk S.Store conn.old conn.new (λ old new. WithComing old.committed body count (λ config judged shown dates so_far. length so_far % 65536 ≡ 0
+        → 0 < length bytes.now → length bytes.now ≤ 65536 → IfOk result (λ id. BookStays old.committed new.committed config judged shown dates
+        × Comes (tables_in new.committed) (Some id) (count + 1) (so_far ++ bytes.now)))) }
     ensures counted { OnOk result (count < 18_446_744_073_709_551_615) }
-    ensures undone { HasCleanDisk (state S.Store conn.new) → OnErr result (IsUndone (state S.Store conn.old) (state S.Store conn.new)) }
-    ensures crash { Survives (state S.Store conn.old) (state S.Store conn.new) (λ trees. (db : Database) × (trees ≡ db.trees) × IsTrue (state S.Store conn.old).is_open
-        × ((config : ConfigValue) (judged : List Judgement) (shown : ShelvesValue) (dates : List ℕ) (so_far : List ℕ)
-        → KeepsArchive (state S.Store conn.old).committed config judged shown dates → Comes (tables_in (state S.Store conn.old).committed) body count so_far
-        → length so_far % 65536 ≡ 0 → 0 < length bytes.now → length bytes.now ≤ 65536
-        → Turns (state S.Store conn.old).committed db config judged shown dates judged shown dates (λ b. b))) }
+    ensures undone { Undoes S.Store conn.old conn.new result }
+    ensures crash { CommitsOnly S.Store conn.old conn.new (λ old db. WithComing old.committed body count (λ config judged shown dates so_far. length so_far % 65536 ≡ 0
+        → 0 < length bytes.now → length bytes.now ≤ 65536 → BookStays old.committed db config judged shown dates)) }
 {
     // For the prover alone: outside a transaction the connection has what is committed.
     let _idle = conn.is_autocommit();
@@ -173,24 +151,13 @@ pub(crate) fn finish_delivery<S: Alter>(
     requires idle { conn.old.in_transaction ≡ false }
     requires in_time { finished.now.moment ≤ latest }
     ensures idle { conn.new.in_transaction ≡ false }
-    ensures open { HasCleanDisk (state S.Store conn.new) → OnOk result (IsTrue (state S.Store conn.old).is_open × IsTrue (state S.Store conn.new).is_open) }
-    ensures done { HasCleanDisk (state S.Store conn.new) → (config : ConfigValue) (judged : List Judgement) (shown : ShelvesValue) (dates : List ℕ) (body : List ℕ)
-        → KeepsArchive (state S.Store conn.old).committed config judged shown dates → Comes (tables_in (state S.Store conn.old).committed) finished.now.body finished.now.pieces body
-        → finished.now.print ≡ print_of body → IsDeliverable finished.now.name.now body
-        → OnOk result (Turns (state S.Store conn.old).committed (state S.Store conn.new).committed config judged shown dates judged shown dates
-        (λ b. with_delivery b (record { name = finished.now.name.now; body = body; moment = finished.now.moment }))
-        × HasComing (tables_in (state S.Store conn.new).committed) []) }
-    ensures new { HasCleanDisk (state S.Store conn.new) → (config : ConfigValue) (judged : List Judgement) (shown : ShelvesValue) (dates : List ℕ) (body : List ℕ)
-        → KeepsArchive (state S.Store conn.old).committed config judged shown dates → Comes (tables_in (state S.Store conn.old).committed) finished.now.body finished.now.pieces body
-        → finished.now.print ≡ print_of body → IsDeliverable finished.now.name.now body → finished.now.span ≡ span config
-        → IfOk result (λ new. new ≡ not (has_arrival (at_moment finished.now.moment (book_in_database (state S.Store conn.old).committed config judged shown dates)).arrivals (record { name = finished.now.name.now; body = body; moment = finished.now.moment }))) }
-    ensures undone { HasCleanDisk (state S.Store conn.new) → OnErr result (IsUndone (state S.Store conn.old) (state S.Store conn.new)) }
-    ensures crash { Survives (state S.Store conn.old) (state S.Store conn.new) (λ trees. (db : Database) × (trees ≡ db.trees) × IsTrue (state S.Store conn.old).is_open
-        × ((config : ConfigValue) (judged : List Judgement) (shown : ShelvesValue) (dates : List ℕ) (body : List ℕ)
-        → KeepsArchive (state S.Store conn.old).committed config judged shown dates → Comes (tables_in (state S.Store conn.old).committed) finished.now.body finished.now.pieces body
-        → finished.now.print ≡ print_of body → IsDeliverable finished.now.name.now body
-        → Turns (state S.Store conn.old).committed db config judged shown dates judged shown dates
-        (λ b. with_delivery b (record { name = finished.now.name.now; body = body; moment = finished.now.moment })))) }
+    ensures open { StaysOpen S.Store conn.old conn.new result }
+    ensures done { OnCleanDisk S.Store conn.old conn.new (λ old new. OverWhole old.committed finished.now.body finished.now.pieces finished.now.print finished.now.name.now (λ config judged shown dates body. OnOk result (Delivers old.committed new.committed config judged shown dates (record { name = finished.now.name.now; body = body; moment = finished.now.moment })
+        × HasComing (tables_in new.committed) []))) }
+    ensures new { OnCleanDisk S.Store conn.old conn.new (λ old new. OverWhole old.committed finished.now.body finished.now.pieces finished.now.print finished.now.name.now (λ config judged shown dates body. finished.now.span ≡ span config
+        → IfOk result (λ new. new ≡ not (has_delivery old.committed config judged shown dates (record { name = finished.now.name.now; body = body; moment = finished.now.moment }))))) }
+    ensures undone { Undoes S.Store conn.old conn.new result }
+    ensures crash { CommitsOnly S.Store conn.old conn.new (λ old db. OverWhole old.committed finished.now.body finished.now.pieces finished.now.print finished.now.name.now (λ config judged shown dates body. Delivers old.committed db config judged shown dates (record { name = finished.now.name.now; body = body; moment = finished.now.moment }))) }
 {
     // For the prover alone: outside a transaction the connection has what is committed.
     let _idle = conn.is_autocommit();
@@ -212,24 +179,13 @@ pub(crate) fn deliver_at_once<S: Alter>(
     requires one_piece { (0 < length file.now.bytes.now) × (length file.now.bytes.now ≤ 65536) }
     requires printed { file.now.print ≡ print_of file.now.bytes.now }
     ensures idle { conn.new.in_transaction ≡ false }
-    ensures open { HasCleanDisk (state S.Store conn.new) → OnOk result (IsTrue (state S.Store conn.old).is_open × IsTrue (state S.Store conn.new).is_open) }
-    ensures done { HasCleanDisk (state S.Store conn.new) → (config : ConfigValue) (judged : List Judgement) (shown : ShelvesValue) (dates : List ℕ)
-        → KeepsArchive (state S.Store conn.old).committed config judged shown dates → HasComing (tables_in (state S.Store conn.old).committed) []
-        → IsDeliverable file.now.name.now file.now.bytes.now
-        → OnOk result (Turns (state S.Store conn.old).committed (state S.Store conn.new).committed config judged shown dates judged shown dates
-        (λ b. with_delivery b (record { name = file.now.name.now; body = file.now.bytes.now; moment = file.now.moment }))
-        × HasComing (tables_in (state S.Store conn.new).committed) []) }
-    ensures new { HasCleanDisk (state S.Store conn.new) → (config : ConfigValue) (judged : List Judgement) (shown : ShelvesValue) (dates : List ℕ)
-        → KeepsArchive (state S.Store conn.old).committed config judged shown dates → HasComing (tables_in (state S.Store conn.old).committed) []
-        → IsDeliverable file.now.name.now file.now.bytes.now → file.now.span ≡ span config
-        → IfOk result (λ new. new ≡ not (has_arrival (at_moment file.now.moment (book_in_database (state S.Store conn.old).committed config judged shown dates)).arrivals (record { name = file.now.name.now; body = file.now.bytes.now; moment = file.now.moment }))) }
-    ensures undone { HasCleanDisk (state S.Store conn.new) → OnErr result (IsUndone (state S.Store conn.old) (state S.Store conn.new)) }
-    ensures crash { Survives (state S.Store conn.old) (state S.Store conn.new) (λ trees. (db : Database) × (trees ≡ db.trees) × IsTrue (state S.Store conn.old).is_open
-        × ((config : ConfigValue) (judged : List Judgement) (shown : ShelvesValue) (dates : List ℕ)
-        → KeepsArchive (state S.Store conn.old).committed config judged shown dates → HasComing (tables_in (state S.Store conn.old).committed) []
-        → IsDeliverable file.now.name.now file.now.bytes.now
-        → Turns (state S.Store conn.old).committed db config judged shown dates judged shown dates
-        (λ b. with_delivery b (record { name = file.now.name.now; body = file.now.bytes.now; moment = file.now.moment })))) }
+    ensures open { StaysOpen S.Store conn.old conn.new result }
+    ensures done { OnCleanDisk S.Store conn.old conn.new (λ old new. OverOnePiece old.committed file.now.name.now file.now.bytes.now (λ config judged shown dates. OnOk result (Delivers old.committed new.committed config judged shown dates (record { name = file.now.name.now; body = file.now.bytes.now; moment = file.now.moment })
+        × HasComing (tables_in new.committed) []))) }
+    ensures new { OnCleanDisk S.Store conn.old conn.new (λ old new. OverOnePiece old.committed file.now.name.now file.now.bytes.now (λ config judged shown dates. file.now.span ≡ span config
+        → IfOk result (λ new. new ≡ not (has_delivery old.committed config judged shown dates (record { name = file.now.name.now; body = file.now.bytes.now; moment = file.now.moment }))))) }
+    ensures undone { Undoes S.Store conn.old conn.new result }
+    ensures crash { CommitsOnly S.Store conn.old conn.new (λ old db. OverOnePiece old.committed file.now.name.now file.now.bytes.now (λ config judged shown dates. Delivers old.committed db config judged shown dates (record { name = file.now.name.now; body = file.now.bytes.now; moment = file.now.moment }))) }
 {
     // For the prover alone: outside a transaction the connection has what is committed.
     let _idle = conn.is_autocommit();

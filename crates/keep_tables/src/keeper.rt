@@ -9,6 +9,8 @@ ghost use Rattle.tables_meaning.specs.Archives.{KeepsArchive};
 ghost use Rattle.tables_meaning.specs.Coming.{HasComing};
 ghost use Rattle.tables_meaning.specs.Shown.{shown_in};
 ghost use Rattle.keep_tables.specs.AtHand.{AreAtHand, AreKnown};
+ghost use Rattle.tables_meaning.specs.Calls.{WhileOpen};
+ghost use Rattle.keep_tables.specs.Calls.{GivesBack, RefusesOnlyTaken, RefusesTaken};
 
 use crate::changes::make_change;
 use crate::cleanings::clean_up;
@@ -83,9 +85,9 @@ impl<S: Alter + Drop> TableKeeper<S> {
         requires { moment ≤ LATEST }
         ensures made { IfOk result (λ keeper. HasCleanDisk (state S.Store keeper.conn) → ⟦<TableKeeper<S> as Keeper>⟧.is_open keeper
             × (⟦<TableKeeper<S> as Keeper>⟧.book keeper ≡ fresh_book config moment)) }
-        ensures taken { (connection.in_transaction ≡ true) ⊎ ((state S.Store connection).now.schema ≢ no_schema) → IsErrAnd result (λ e. (e.1 ≡ NotEmpty) × (e.0 ≡ connection)) }
-        ensures free { IfErr result (λ e. e.1 ≡ NotEmpty → (connection.in_transaction ≡ true) ⊎ ((state S.Store connection).now.schema ≢ no_schema)) }
-        ensures undone { IfErr result (λ e. HasCleanDisk (state S.Store e.0) → IsUndone (state S.Store connection) (state S.Store e.0)) }
+        ensures taken { RefusesTaken S.Store connection result }
+        ensures free { RefusesOnlyTaken S.Store connection result }
+        ensures undone { GivesBack S.Store connection result }
         ensures crash { IfOk result (λ keeper. Survives (state S.Store connection) (state S.Store keeper.conn) (MayFound (state S.Store connection) (founded config moment))) }
         ensures crash_undone { IfErr result (λ e. Survives (state S.Store connection) (state S.Store e.0) (MayFound (state S.Store connection) (founded config moment))) }
     {
@@ -126,10 +128,9 @@ impl<S: Alter + Drop> TableKeeper<S> {
     ) -> TableKeeper<S>
         requires idle { connection.in_transaction ≡ false }
         requires in_range { ∥ All (λ date. date ≤ LATEST) dates.items ∥₁ }
-        requires kept { HasCleanDisk (state S.Store connection) → IsTrue (state S.Store connection).is_open
-            → ∥ KeepsArchive (state S.Store connection).committed config judged.items (shown_in config.suites (tables_in (state S.Store connection).committed)) dates.items ∥₁ }
-        requires whole { HasCleanDisk (state S.Store connection) → IsTrue (state S.Store connection).is_open → HasComing (tables_in (state S.Store connection).committed) [] }
-        requires shown { HasCleanDisk (state S.Store connection) → IsTrue (state S.Store connection).is_open → AreAtHand config (state S.Store connection).committed spare }
+        requires kept { WhileOpen S.Store connection (λ now. ∥ KeepsArchive now.committed config judged.items (shown_in config.suites (tables_in now.committed)) dates.items ∥₁) }
+        requires whole { WhileOpen S.Store connection (λ now. HasComing (tables_in now.committed) []) }
+        requires shown { WhileOpen S.Store connection (λ now. AreAtHand config now.committed spare) }
         ensures { (result.conn ≡ connection) × (result.config ≡ config) × (result.judged ≡ judged) × (result.dates ≡ dates) }
     {
         TableKeeper {

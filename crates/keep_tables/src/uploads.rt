@@ -1,18 +1,17 @@
 //! The uploads that are not judged, found one by one and put in the order of judging: what they wait for, and those that are due, of
 //! which each entry has arrived.
 
-ghost use Rattle.std.specs.Prelude.{◌≡◌, false, IfOk, OnErr, length, filter, map, not, OnOk, zip, All, Ok, Some};
+ghost use Rattle.std.specs.Prelude.{◌≡◌, false, IfOk, length, filter, map, not, OnOk, zip, All, Ok, Some};
 ghost use Rattle.std.specs.List.{filter_map};
-ghost use Rattle.sqlite.specs.Held.{state};
-ghost use Rattle.sqlite.specs.State.{HasCleanDisk, IsUnchanged, Survives};
+ghost use Rattle.sqlite.specs.State.{IsUnchanged};
 ghost use Rattle.sums.specs.Prints.{print as print_of_body};
 ghost use Rattle.records.specs.Records.{changes_in};
 ghost use Rattle.suites.specs.Upload.{IsTextOf};
-ghost use Rattle.tables.specs.Rows.{Tables, Holds};
-ghost use Rattle.tables_meaning.specs.Reads.{next_wanting_in, wanting, Rests, row_order, sign_order, sorted_by, bytes_with, text_in, upload_in};
-ghost use Rattle.tables_meaning.specs.Transactions.{IsUndone};
+ghost use Rattle.tables_meaning.specs.Reads.{next_wanting_in, wanting, row_order, sign_order, sorted_by, bytes_with, text_in, upload_in};
 ghost use Rattle.tables_meaning.specs.Kept.{sign_in};
 ghost use Rattle.keep_tables.specs.Moments.{is_had, missing_at, row_at, rows_at, waiting_at, due_at};
+ghost use Rattle.tables.specs.Calls.{CommitsNoRows, OverRows, Reads};
+ghost use Rattle.tables_meaning.specs.Calls.{ReadUndone, ReadsAtRest};
 
 use crate::counting::{counts_still, missing_of_one};
 use keep::Waiting;
@@ -37,11 +36,9 @@ fn next_upload<S: Alter>(
     after: Option<u64>,
 ) -> Result<Option<(u64, UploadRow)>, Error>
     ensures idle { conn.old.in_transaction ≡ false → conn.new.in_transaction ≡ false }
-    ensures ok { HasCleanDisk (state S.Store conn.new) → (t : Tables) → Holds (state S.Store conn.old).now t
-        → IfOk result (λ next. (next ≡ next_wanting_in t after) × IsUnchanged (state S.Store conn.old) (state S.Store conn.new)) }
-    ensures err { HasCleanDisk (state S.Store conn.new) → (t : Tables) → Holds (state S.Store conn.old).now t
-        → OnErr result (IsUndone (state S.Store conn.old) (state S.Store conn.new)) }
-    ensures survives { Survives (state S.Store conn.old) (state S.Store conn.new) (λ _. (t : Tables) → ¬ Holds (state S.Store conn.old).now t) }
+    ensures ok { Reads S.Store conn.old conn.new result (λ t next. next ≡ next_wanting_in t after) }
+    ensures err { ReadUndone S.Store conn.old conn.new result }
+    ensures survives { CommitsNoRows S.Store conn.old conn.new }
 {
     let Some(id) = next_wanting(alloc, conn, after)? else {
         return Ok(None);
@@ -58,11 +55,9 @@ pub(crate) fn wanting_uploads<S: Alter>(
     conn: &mut Connection<S>,
 ) -> Result<Vec<(u64, UploadRow)>, Error>
     ensures idle { conn.old.in_transaction ≡ false → conn.new.in_transaction ≡ false }
-    ensures ok { HasCleanDisk (state S.Store conn.new) → (t : Tables) → Holds (state S.Store conn.old).now t
-        → IfOk result (λ all. (all.items ≡ wanting t) × IsUnchanged (state S.Store conn.old) (state S.Store conn.new)) }
-    ensures err { HasCleanDisk (state S.Store conn.new) → (t : Tables) → Holds (state S.Store conn.old).now t
-        → OnErr result (IsUndone (state S.Store conn.old) (state S.Store conn.new)) }
-    ensures survives { Survives (state S.Store conn.old) (state S.Store conn.new) (λ _. (t : Tables) → ¬ Holds (state S.Store conn.old).now t) }
+    ensures ok { Reads S.Store conn.old conn.new result (λ t all. all.items ≡ wanting t) }
+    ensures err { ReadUndone S.Store conn.old conn.new result }
+    ensures survives { CommitsNoRows S.Store conn.old conn.new }
 {
     let mut uploads = Vec::new(alloc);
     let mut after = None;
@@ -109,11 +104,9 @@ fn row_if_still<S: Alter>(
     moment: u64,
 ) -> Result<Option<(u64, UploadRow)>, Error>
     ensures idle { conn.old.in_transaction ≡ false → conn.new.in_transaction ≡ false }
-    ensures ok { HasCleanDisk (state S.Store conn.new) → (t : Tables) → Holds (state S.Store conn.old).now t
-        → IfOk result (λ row. (row ≡ row_at span moment t (id, upload)) × Rests (state S.Store conn.old) (state S.Store conn.new)) }
-    ensures err { HasCleanDisk (state S.Store conn.new) → (t : Tables) → Holds (state S.Store conn.old).now t
-        → OnErr result (IsUndone (state S.Store conn.old) (state S.Store conn.new)) }
-    ensures survives { Survives (state S.Store conn.old) (state S.Store conn.new) (λ _. (t : Tables) → ¬ Holds (state S.Store conn.old).now t) }
+    ensures ok { ReadsAtRest S.Store conn.old conn.new result (λ t row. row ≡ row_at span moment t (id, upload)) }
+    ensures err { ReadUndone S.Store conn.old conn.new result }
+    ensures survives { CommitsNoRows S.Store conn.old conn.new }
 {
     let still = counts_still(
         alloc,
@@ -138,11 +131,9 @@ fn wanting_still<S: Alter>(
     moment: u64,
 ) -> Result<Vec<(u64, UploadRow)>, Error>
     ensures idle { conn.old.in_transaction ≡ false → conn.new.in_transaction ≡ false }
-    ensures ok { HasCleanDisk (state S.Store conn.new) → (t : Tables) → Holds (state S.Store conn.old).now t
-        → IfOk result (λ rows. (rows.items ≡ filter_map (row_at span moment t) (wanting t)) × IsUnchanged (state S.Store conn.old) (state S.Store conn.new)) }
-    ensures err { HasCleanDisk (state S.Store conn.new) → (t : Tables) → Holds (state S.Store conn.old).now t
-        → OnErr result (IsUndone (state S.Store conn.old) (state S.Store conn.new)) }
-    ensures survives { Survives (state S.Store conn.old) (state S.Store conn.new) (λ _. (t : Tables) → ¬ Holds (state S.Store conn.old).now t) }
+    ensures ok { Reads S.Store conn.old conn.new result (λ t rows. rows.items ≡ filter_map (row_at span moment t) (wanting t)) }
+    ensures err { ReadUndone S.Store conn.old conn.new result }
+    ensures survives { CommitsNoRows S.Store conn.old conn.new }
 {
     let mut rows = Vec::new(alloc);
     for (id, upload) in wanting_uploads(alloc, conn)? {
@@ -162,11 +153,9 @@ pub(crate) fn wanting_in_order<S: Alter>(
     moment: u64,
 ) -> Result<Vec<(u64, UploadRow)>, Error>
     ensures idle { conn.old.in_transaction ≡ false → conn.new.in_transaction ≡ false }
-    ensures ok { HasCleanDisk (state S.Store conn.new) → (t : Tables) → Holds (state S.Store conn.old).now t
-        → IfOk result (λ all. (all.items ≡ rows_at span moment t) × IsUnchanged (state S.Store conn.old) (state S.Store conn.new)) }
-    ensures err { HasCleanDisk (state S.Store conn.new) → (t : Tables) → Holds (state S.Store conn.old).now t
-        → OnErr result (IsUndone (state S.Store conn.old) (state S.Store conn.new)) }
-    ensures survives { Survives (state S.Store conn.old) (state S.Store conn.new) (λ _. (t : Tables) → ¬ Holds (state S.Store conn.old).now t) }
+    ensures ok { Reads S.Store conn.old conn.new result (λ t all. all.items ≡ rows_at span moment t) }
+    ensures err { ReadUndone S.Store conn.old conn.new result }
+    ensures survives { CommitsNoRows S.Store conn.old conn.new }
 {
     let rows = wanting_still(alloc, conn, span, moment)?;
     let sorted = in_judging_order(rows)?;
@@ -182,11 +171,9 @@ fn missing_among<S: Alter>(
     moment: u64,
 ) -> Result<usize, Error>
     ensures idle { conn.old.in_transaction ≡ false → conn.new.in_transaction ≡ false }
-    ensures ok { HasCleanDisk (state S.Store conn.new) → (t : Tables) → Holds (state S.Store conn.old).now t
-        → IfOk result (λ count. (count ≡ length (filter (λ w. not (is_had span moment t w)) wants.now)) × Rests (state S.Store conn.old) (state S.Store conn.new)) }
-    ensures err { HasCleanDisk (state S.Store conn.new) → (t : Tables) → Holds (state S.Store conn.old).now t
-        → OnErr result (IsUndone (state S.Store conn.old) (state S.Store conn.new)) }
-    ensures survives { Survives (state S.Store conn.old) (state S.Store conn.new) (λ _. (t : Tables) → ¬ Holds (state S.Store conn.old).now t) }
+    ensures ok { ReadsAtRest S.Store conn.old conn.new result (λ t count. count ≡ length (filter (λ w. not (is_had span moment t w)) wants.now)) }
+    ensures err { ReadUndone S.Store conn.old conn.new result }
+    ensures survives { CommitsNoRows S.Store conn.old conn.new }
 {
     let mut count = 0;
     for want in wants {
@@ -205,11 +192,9 @@ pub(crate) fn missing_of<S: Alter>(
     moment: u64,
 ) -> Result<usize, Error>
     ensures idle { conn.old.in_transaction ≡ false → conn.new.in_transaction ≡ false }
-    ensures ok { HasCleanDisk (state S.Store conn.new) → (t : Tables) → Holds (state S.Store conn.old).now t
-        → IfOk result (λ count. (count ≡ missing_at span moment t upload) × IsUnchanged (state S.Store conn.old) (state S.Store conn.new)) }
-    ensures err { HasCleanDisk (state S.Store conn.new) → (t : Tables) → Holds (state S.Store conn.old).now t
-        → OnErr result (IsUndone (state S.Store conn.old) (state S.Store conn.new)) }
-    ensures survives { Survives (state S.Store conn.old) (state S.Store conn.new) (λ _. (t : Tables) → ¬ Holds (state S.Store conn.old).now t) }
+    ensures ok { Reads S.Store conn.old conn.new result (λ t count. count ≡ missing_at span moment t upload) }
+    ensures err { ReadUndone S.Store conn.old conn.new result }
+    ensures survives { CommitsNoRows S.Store conn.old conn.new }
 {
     let wants = wants_of(alloc, conn, upload)?;
     let missing = missing_among(alloc, conn, &wants, span, moment)?;
@@ -225,13 +210,10 @@ pub fn waiting_uploads<S: Alter>(
     moment: u64,
 ) -> Result<Vec<Waiting>, Error>
     ensures idle { conn.old.in_transaction ≡ false → conn.new.in_transaction ≡ false }
-    ensures ok { HasCleanDisk (state S.Store conn.new) → (t : Tables) → Holds (state S.Store conn.old).now t
-        → IfOk result (λ all. all.items ≡ map (waiting_at span moment t) (rows_at span moment t)) }
-    ensures unchanged { HasCleanDisk (state S.Store conn.new) → (t : Tables) → Holds (state S.Store conn.old).now t
-        → OnOk result (IsUnchanged (state S.Store conn.old) (state S.Store conn.new)) }
-    ensures err { HasCleanDisk (state S.Store conn.new) → (t : Tables) → Holds (state S.Store conn.old).now t
-        → OnErr result (IsUndone (state S.Store conn.old) (state S.Store conn.new)) }
-    ensures survives { Survives (state S.Store conn.old) (state S.Store conn.new) (λ _. (t : Tables) → ¬ Holds (state S.Store conn.old).now t) }
+    ensures ok { OverRows S.Store conn.old conn.new (λ t old new. IfOk result (λ all. all.items ≡ map (waiting_at span moment t) (rows_at span moment t))) }
+    ensures unchanged { OverRows S.Store conn.old conn.new (λ t old new. OnOk result (IsUnchanged old new)) }
+    ensures err { ReadUndone S.Store conn.old conn.new result }
+    ensures survives { CommitsNoRows S.Store conn.old conn.new }
 {
     let mut waiting = Vec::new(alloc);
     for (id, upload) in wanting_in_order(alloc, conn, span, moment)? {
@@ -252,11 +234,9 @@ fn body_of<S: Alter>(
 ) -> Result<Vec<u8>, Error>
     ensures printed { IfOk result (λ body. print_of_body body.items ≡ print.now) }
     ensures idle { conn.old.in_transaction ≡ false → conn.new.in_transaction ≡ false }
-    ensures ok { HasCleanDisk (state S.Store conn.new) → (t : Tables) → Holds (state S.Store conn.old).now t
-        → IfOk result (λ body. (bytes_with t print.now ≡ Some body.items) × IsUnchanged (state S.Store conn.old) (state S.Store conn.new)) }
-    ensures err { HasCleanDisk (state S.Store conn.new) → (t : Tables) → Holds (state S.Store conn.old).now t
-        → OnErr result (IsUndone (state S.Store conn.old) (state S.Store conn.new)) }
-    ensures survives { Survives (state S.Store conn.old) (state S.Store conn.new) (λ _. (t : Tables) → ¬ Holds (state S.Store conn.old).now t) }
+    ensures ok { Reads S.Store conn.old conn.new result (λ t body. bytes_with t print.now ≡ Some body.items) }
+    ensures err { ReadUndone S.Store conn.old conn.new result }
+    ensures survives { CommitsNoRows S.Store conn.old conn.new }
 {
     let Some(id) = body_with_print(alloc, conn, print)? else {
         return Err(Error::SqliteFailure(ErrorCode::DatabaseCorrupt));
@@ -276,11 +256,9 @@ fn text_of<S: Alter>(
 ) -> Result<Listed<u8>, Error>
     ensures kept { IfOk result (λ text. IsTextOf (entry.now, text)) }
     ensures idle { conn.old.in_transaction ≡ false → conn.new.in_transaction ≡ false }
-    ensures ok { HasCleanDisk (state S.Store conn.new) → (t : Tables) → Holds (state S.Store conn.old).now t
-        → IfOk result (λ text. (text ≡ text_in t entry.now) × Rests (state S.Store conn.old) (state S.Store conn.new)) }
-    ensures err { HasCleanDisk (state S.Store conn.new) → (t : Tables) → Holds (state S.Store conn.old).now t
-        → OnErr result (IsUndone (state S.Store conn.old) (state S.Store conn.new)) }
-    ensures survives { Survives (state S.Store conn.old) (state S.Store conn.new) (λ _. (t : Tables) → ¬ Holds (state S.Store conn.old).now t) }
+    ensures ok { ReadsAtRest S.Store conn.old conn.new result (λ t text. text ≡ text_in t entry.now) }
+    ensures err { ReadUndone S.Store conn.old conn.new result }
+    ensures survives { CommitsNoRows S.Store conn.old conn.new }
 {
     if !has_text(entry.name.as_str()) {
         return Ok(Listed::from_vec(Vec::new(alloc)));
@@ -297,11 +275,9 @@ fn texts_of<S: Alter>(
     ensures count { IfOk result (λ texts. length texts.items ≡ length entries.now) }
     ensures kept { IfOk result (λ texts. All IsTextOf (zip entries.now texts.items)) }
     ensures idle { conn.old.in_transaction ≡ false → conn.new.in_transaction ≡ false }
-    ensures ok { HasCleanDisk (state S.Store conn.new) → (t : Tables) → Holds (state S.Store conn.old).now t
-        → IfOk result (λ texts. (texts.items ≡ map (text_in t) entries.now) × Rests (state S.Store conn.old) (state S.Store conn.new)) }
-    ensures err { HasCleanDisk (state S.Store conn.new) → (t : Tables) → Holds (state S.Store conn.old).now t
-        → OnErr result (IsUndone (state S.Store conn.old) (state S.Store conn.new)) }
-    ensures survives { Survives (state S.Store conn.old) (state S.Store conn.new) (λ _. (t : Tables) → ¬ Holds (state S.Store conn.old).now t) }
+    ensures ok { ReadsAtRest S.Store conn.old conn.new result (λ t texts. texts.items ≡ map (text_in t) entries.now) }
+    ensures err { ReadUndone S.Store conn.old conn.new result }
+    ensures survives { CommitsNoRows S.Store conn.old conn.new }
 {
     let mut texts = Vec::new(alloc);
     for entry in entries {
@@ -328,11 +304,9 @@ fn read_upload<S: Alter>(
     upload: UploadRow,
 ) -> Result<Upload, Error>
     ensures idle { conn.old.in_transaction ≡ false → conn.new.in_transaction ≡ false }
-    ensures ok { HasCleanDisk (state S.Store conn.new) → (t : Tables) → Holds (state S.Store conn.old).now t
-        → IfOk result (λ read. (upload_in t upload ≡ Some read) × IsUnchanged (state S.Store conn.old) (state S.Store conn.new)) }
-    ensures err { HasCleanDisk (state S.Store conn.new) → (t : Tables) → Holds (state S.Store conn.old).now t
-        → OnErr result (IsUndone (state S.Store conn.old) (state S.Store conn.new)) }
-    ensures survives { Survives (state S.Store conn.old) (state S.Store conn.new) (λ _. (t : Tables) → ¬ Holds (state S.Store conn.old).now t) }
+    ensures ok { Reads S.Store conn.old conn.new result (λ t read. upload_in t upload ≡ Some read) }
+    ensures err { ReadUndone S.Store conn.old conn.new result }
+    ensures survives { CommitsNoRows S.Store conn.old conn.new }
 {
     let body = body_of(alloc, conn, &upload.print)?;
     let changes = read_changes(alloc, &body)?;
@@ -350,11 +324,9 @@ fn due_upload<S: Alter>(
     moment: u64,
 ) -> Result<Option<Upload>, Error>
     ensures idle { conn.old.in_transaction ≡ false → conn.new.in_transaction ≡ false }
-    ensures ok { HasCleanDisk (state S.Store conn.new) → (t : Tables) → Holds (state S.Store conn.old).now t
-        → IfOk result (λ found. (found ≡ due_at span moment t (id, upload)) × IsUnchanged (state S.Store conn.old) (state S.Store conn.new)) }
-    ensures err { HasCleanDisk (state S.Store conn.new) → (t : Tables) → Holds (state S.Store conn.old).now t
-        → OnErr result (IsUndone (state S.Store conn.old) (state S.Store conn.new)) }
-    ensures survives { Survives (state S.Store conn.old) (state S.Store conn.new) (λ _. (t : Tables) → ¬ Holds (state S.Store conn.old).now t) }
+    ensures ok { Reads S.Store conn.old conn.new result (λ t found. found ≡ due_at span moment t (id, upload)) }
+    ensures err { ReadUndone S.Store conn.old conn.new result }
+    ensures survives { CommitsNoRows S.Store conn.old conn.new }
 {
     let missing = missing_of(alloc, conn, id, span, moment)?;
     if missing > 0 {
@@ -373,13 +345,10 @@ pub fn due_uploads<S: Alter>(
     moment: u64,
 ) -> Result<Vec<Upload>, Error>
     ensures idle { conn.old.in_transaction ≡ false → conn.new.in_transaction ≡ false }
-    ensures ok { HasCleanDisk (state S.Store conn.new) → (t : Tables) → Holds (state S.Store conn.old).now t
-        → IfOk result (λ uploads. uploads.items ≡ filter_map (due_at span moment t) (rows_at span moment t)) }
-    ensures unchanged { HasCleanDisk (state S.Store conn.new) → (t : Tables) → Holds (state S.Store conn.old).now t
-        → OnOk result (IsUnchanged (state S.Store conn.old) (state S.Store conn.new)) }
-    ensures err { HasCleanDisk (state S.Store conn.new) → (t : Tables) → Holds (state S.Store conn.old).now t
-        → OnErr result (IsUndone (state S.Store conn.old) (state S.Store conn.new)) }
-    ensures survives { Survives (state S.Store conn.old) (state S.Store conn.new) (λ _. (t : Tables) → ¬ Holds (state S.Store conn.old).now t) }
+    ensures ok { OverRows S.Store conn.old conn.new (λ t old new. IfOk result (λ uploads. uploads.items ≡ filter_map (due_at span moment t) (rows_at span moment t))) }
+    ensures unchanged { OverRows S.Store conn.old conn.new (λ t old new. OnOk result (IsUnchanged old new)) }
+    ensures err { ReadUndone S.Store conn.old conn.new result }
+    ensures survives { CommitsNoRows S.Store conn.old conn.new }
 {
     let mut uploads = Vec::new(alloc);
     for (id, upload) in wanting_in_order(alloc, conn, span, moment)? {

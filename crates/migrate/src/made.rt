@@ -1,15 +1,15 @@
 //! The archive that a migration makes.
 
-ghost use Rattle.std.specs.Prelude.{◌≡◌, ◌≢◌, ◌≤◌, ◌⊎◌, true, false, IsTrue, IfOk, IfErr, IsErrAnd};
+ghost use Rattle.std.specs.Prelude.{◌≡◌, ◌≤◌, false, IsTrue, IfOk, IfErr, IsErrAnd};
 ghost use Rattle.sqlite.specs.State.{HasCleanDisk, Survives};
 ghost use Rattle.sqlite.specs.Held.{state};
 ghost use Rattle.keep.specs.Configured.{AreAlike};
-ghost use Rattle.keep.specs.declared.fault.KeepFault.TheVariants.{Configuration as NotAlike, Tables as NotEmpty};
+ghost use Rattle.keep.specs.declared.fault.KeepFault.TheVariants.{Configuration as NotAlike};
 ghost use Rattle.tables.specs.Schema.{no_schema};
 ghost use Rattle.tables_meaning.specs.Founding.{MayFound};
-ghost use Rattle.tables_meaning.specs.Transactions.{IsUndone};
 ghost use Rattle.keep_tables.specs.Keepers.{connection_of, table_book};
 ghost use Rattle.migrate.specs.Migrated.{migrated_book, migrated_rows, old_config};
+ghost use Rattle.keep_tables.specs.Calls.{GivesBack, RefusesOnlyTaken, RefusesTaken};
 
 use crate::alike::are_alike;
 use crate::writing::write_archive;
@@ -36,13 +36,13 @@ pub fn migrate<S: Alter + Drop>(
 ) -> Result<TableKeeper<S>, (Connection<S>, KeepFault)>
     requires { moment ≤ LATEST }
     ensures made { IfOk result (λ keeper. HasCleanDisk (connection_of keeper) → IsTrue (connection_of keeper).is_open × (table_book keeper ≡ migrated_book old.now config moment)) }
-    ensures taken { (to.in_transaction ≡ true) ⊎ ((state S.Store to).now.schema ≢ no_schema) → IsErrAnd result (λ e. (e.1 ≡ NotEmpty) × (e.0 ≡ to)) }
-    ensures free { IfErr result (λ e. e.1 ≡ NotEmpty → (to.in_transaction ≡ true) ⊎ ((state S.Store to).now.schema ≢ no_schema)) }
+    ensures taken { RefusesTaken S.Store to result }
+    ensures free { RefusesOnlyTaken S.Store to result }
     ensures unlike { to.in_transaction ≡ false → (state S.Store to).now.schema ≡ no_schema → ¬ AreAlike (old_config old.now) config
         → IsErrAnd result (λ e. (e.1 ≡ NotAlike) × (e.0 ≡ to)) }
     ensures differs { IfErr result (λ e. e.1 ≡ NotAlike → ¬ AreAlike (old_config old.now) config × (e.0 ≡ to)) }
     ensures alike { IfOk result (λ _. AreAlike (old_config old.now) config) }
-    ensures undone { IfErr result (λ e. HasCleanDisk (state S.Store e.0) → IsUndone (state S.Store to) (state S.Store e.0)) }
+    ensures undone { GivesBack S.Store to result }
     ensures crash { IfOk result (λ keeper. Survives (state S.Store to) (connection_of keeper) (MayFound (state S.Store to) (migrated_rows old.now config moment))) }
     ensures crash_undone { IfErr result (λ e. Survives (state S.Store to) (state S.Store e.0) (MayFound (state S.Store to) (migrated_rows old.now config moment))) }
 {

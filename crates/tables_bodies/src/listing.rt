@@ -1,7 +1,7 @@
 //! What a file lists whose body came.
 
-ghost use Rattle.std.specs.Prelude.{◌≡◌, Ok, false, IsTrue, IfOk, OnOk, OnErr, option_map};
-ghost use Rattle.sqlite.specs.State.{HasCleanDisk, IsUnchanged, KeepsCommit, Survives};
+ghost use Rattle.std.specs.Prelude.{◌≡◌, Ok, IsTrue, IfOk, OnOk, OnErr, option_map};
+ghost use Rattle.sqlite.specs.State.{HasCleanDisk, IsUnchanged, KeepsCommit};
 ghost use Rattle.sqlite.specs.Held.{state};
 ghost use Rattle.keep.specs.Book.{is_changes_name};
 ghost use Rattle.records.specs.Records.{changes_in};
@@ -9,6 +9,7 @@ ghost use Rattle.tables.specs.Inside.{GoesOn};
 ghost use Rattle.tables.specs.Rows.{Tables, Holds};
 ghost use Rattle.tables_meaning.specs.Coming.{bytes_so_far};
 ghost use Rattle.tables_meaning.specs.Taking.{listed_in};
+ghost use Rattle.tables.specs.Calls.{CommitsNothing, Inside, IsSame, KeepsCommitted};
 
 use crate::reading::read_body_inside;
 use records::{Changes, RecordFault};
@@ -52,14 +53,12 @@ fn bytes_inside<S: Alter>(
     tx: &mut Transaction<'_, S>,
     body: Option<u64>,
 ) -> Result<Vec<u8>, Error>
-    ensures same_reference { tx.new.conn.ghost_name ≡ tx.old.conn.ghost_name }
+    ensures same_reference { IsSame tx.old tx.new }
     ensures ok { HasCleanDisk (state S.Store tx.new.conn.now) → IsTrue (state S.Store tx.old.conn.now).is_open → (t : Tables) → Holds (state S.Store tx.old.conn.now).now t
         → IfOk result (λ bytes. (bytes.items ≡ bytes_so_far t body) × IsUnchanged (state S.Store tx.old.conn.now) (state S.Store tx.new.conn.now)) }
-    ensures goes_on { HasCleanDisk (state S.Store tx.new.conn.now) → IsTrue (state S.Store tx.old.conn.now).in_transaction → IsTrue (state S.Store tx.old.conn.now).is_open
-        → OnOk result (GoesOn (state S.Store tx.old.conn.now) (state S.Store tx.new.conn.now)) }
-    ensures kept { HasCleanDisk (state S.Store tx.new.conn.now) → IsTrue (state S.Store tx.old.conn.now).in_transaction
-        → OnErr result (KeepsCommit (state S.Store tx.old.conn.now) (state S.Store tx.new.conn.now)) }
-    ensures survives { Survives (state S.Store tx.old.conn.now) (state S.Store tx.new.conn.now) (λ _. ⊥) }
+    ensures goes_on { Inside S.Store tx.old tx.new (λ old new. IsTrue old.is_open → OnOk result (GoesOn old new)) }
+    ensures kept { KeepsCommitted S.Store tx.old tx.new result }
+    ensures survives { CommitsNothing S.Store tx.old tx.new }
 {
     match body {
         Some(id) => read_body_inside(alloc, tx, id),
@@ -74,14 +73,12 @@ pub(crate) fn record_inside<S: Alter>(
     name: &str,
     body: Option<u64>,
 ) -> Result<Option<Changes>, Error>
-    ensures same_reference { tx.new.conn.ghost_name ≡ tx.old.conn.ghost_name }
+    ensures same_reference { IsSame tx.old tx.new }
     ensures ok { HasCleanDisk (state S.Store tx.new.conn.now) → IsTrue (state S.Store tx.old.conn.now).is_open → (t : Tables) → Holds (state S.Store tx.old.conn.now).now t
         → IfOk result (λ found. (option_map (λ c. c.entries) found ≡ listed_in name.now (bytes_so_far t body)) × IsUnchanged (state S.Store tx.old.conn.now) (state S.Store tx.new.conn.now)) }
-    ensures goes_on { HasCleanDisk (state S.Store tx.new.conn.now) → IsTrue (state S.Store tx.old.conn.now).in_transaction → IsTrue (state S.Store tx.old.conn.now).is_open
-        → OnOk result (GoesOn (state S.Store tx.old.conn.now) (state S.Store tx.new.conn.now)) }
-    ensures kept { HasCleanDisk (state S.Store tx.new.conn.now) → IsTrue (state S.Store tx.old.conn.now).in_transaction → IsTrue (state S.Store tx.old.conn.now).is_open
-        → OnErr result (KeepsCommit (state S.Store tx.old.conn.now) (state S.Store tx.new.conn.now)) }
-    ensures survives { Survives (state S.Store tx.old.conn.now) (state S.Store tx.new.conn.now) (λ _. ⊥) }
+    ensures goes_on { Inside S.Store tx.old tx.new (λ old new. IsTrue old.is_open → OnOk result (GoesOn old new)) }
+    ensures kept { Inside S.Store tx.old tx.new (λ old new. IsTrue old.is_open → OnErr result (KeepsCommit old new)) }
+    ensures survives { CommitsNothing S.Store tx.old tx.new }
 {
     if !is_changes(name) {
         return Ok(None);

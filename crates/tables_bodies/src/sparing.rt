@@ -1,19 +1,16 @@
 //! Whether a change may leave bodies that nothing uses.
 
-ghost use Rattle.std.specs.Prelude.{◌≡◌, false, List, ℕ, IsTrue, IfOk, OnErr};
+ghost use Rattle.std.specs.Prelude.{◌≡◌, false, IsTrue, IfOk};
 ghost use Rattle.std.specs.List.{list_any};
 ghost use Rattle.sqlite.specs.Held.{state};
-ghost use Rattle.sqlite.specs.State.{HasCleanDisk, IsUnchanged, Survives};
-ghost use Rattle.rules.specs.Values.{ConfigValue};
-ghost use Rattle.suites.specs.Shelves.{ShelvesValue};
+ghost use Rattle.sqlite.specs.State.{HasCleanDisk};
 ghost use Rattle.texts.specs.Stanzas.{file_name};
-ghost use Rattle.keep.specs.declared.change.Judgement.{Judgement};
-ghost use Rattle.tables.specs.Rows.{Tables, Holds, IsArchive, tables_in};
-ghost use Rattle.tables_meaning.specs.Archives.{KeepsArchive};
+ghost use Rattle.tables.specs.Rows.{IsArchive, tables_in};
 ghost use Rattle.tables_meaning.specs.Making.{takes_file};
-ghost use Rattle.tables_meaning.specs.Reads.{Rests};
 ghost use Rattle.tables_meaning.specs.Transactions.{IsUndone};
 ghost use Rattle.tables_bodies.specs.Swept.{has_arrived, has_arrived_under, have_all_arrived, have_arrived, needs_sweep};
+ghost use Rattle.tables.specs.Calls.{CommitsNoRows, NeverCommits, OnCleanDisk, Reads};
+ghost use Rattle.tables_meaning.specs.Calls.{ReadUndone, ReadsAtRest, WithBook};
 
 use keep::Step;
 use sqlite::{Alter, Connection, Error};
@@ -60,11 +57,9 @@ fn has_arrived_under<S: Alter>(
     body: u64,
 ) -> Result<bool, Error>
     ensures idle { conn.old.in_transaction ≡ false → conn.new.in_transaction ≡ false }
-    ensures ok { HasCleanDisk (state S.Store conn.new) → (t : Tables) → Holds (state S.Store conn.old).now t
-        → IfOk result (λ arrived. (arrived ≡ has_arrived_under t path.now body) × IsUnchanged (state S.Store conn.old) (state S.Store conn.new)) }
-    ensures err { HasCleanDisk (state S.Store conn.new) → (t : Tables) → Holds (state S.Store conn.old).now t
-        → OnErr result (IsUndone (state S.Store conn.old) (state S.Store conn.new)) }
-    ensures survives { Survives (state S.Store conn.old) (state S.Store conn.new) (λ _. (t : Tables) → ¬ Holds (state S.Store conn.old).now t) }
+    ensures ok { Reads S.Store conn.old conn.new result (λ t arrived. arrived ≡ has_arrived_under t path.now body) }
+    ensures err { ReadUndone S.Store conn.old conn.new result }
+    ensures survives { CommitsNoRows S.Store conn.old conn.new }
 {
     let name = file_name(path);
     let found = arrival_at(alloc, conn, name, body)?;
@@ -74,11 +69,9 @@ fn has_arrived_under<S: Alter>(
 /// Whether the body of the file at a path has arrived under the file's name, where there is such a file.
 fn has_arrived<S: Alter>(alloc: Global, conn: &mut Connection<S>, path: &str) -> Result<bool, Error>
     ensures idle { conn.old.in_transaction ≡ false → conn.new.in_transaction ≡ false }
-    ensures ok { HasCleanDisk (state S.Store conn.new) → (t : Tables) → Holds (state S.Store conn.old).now t
-        → IfOk result (λ arrived. (arrived ≡ has_arrived t path.now) × IsUnchanged (state S.Store conn.old) (state S.Store conn.new)) }
-    ensures err { HasCleanDisk (state S.Store conn.new) → (t : Tables) → Holds (state S.Store conn.old).now t
-        → OnErr result (IsUndone (state S.Store conn.old) (state S.Store conn.new)) }
-    ensures survives { Survives (state S.Store conn.old) (state S.Store conn.new) (λ _. (t : Tables) → ¬ Holds (state S.Store conn.old).now t) }
+    ensures ok { Reads S.Store conn.old conn.new result (λ t arrived. arrived ≡ has_arrived t path.now) }
+    ensures err { ReadUndone S.Store conn.old conn.new result }
+    ensures survives { CommitsNoRows S.Store conn.old conn.new }
 {
     let Some(file) = file_at(alloc, conn, path)? else {
         return Ok(true);
@@ -93,11 +86,9 @@ fn have_arrived<S: Alter>(
     files: &[PoolFile],
 ) -> Result<bool, Error>
     ensures idle { conn.old.in_transaction ≡ false → conn.new.in_transaction ≡ false }
-    ensures ok { HasCleanDisk (state S.Store conn.new) → (t : Tables) → Holds (state S.Store conn.old).now t
-        → IfOk result (λ arrived. (arrived ≡ have_arrived t files.now) × Rests (state S.Store conn.old) (state S.Store conn.new)) }
-    ensures err { HasCleanDisk (state S.Store conn.new) → (t : Tables) → Holds (state S.Store conn.old).now t
-        → OnErr result (IsUndone (state S.Store conn.old) (state S.Store conn.new)) }
-    ensures survives { Survives (state S.Store conn.old) (state S.Store conn.new) (λ _. (t : Tables) → ¬ Holds (state S.Store conn.old).now t) }
+    ensures ok { ReadsAtRest S.Store conn.old conn.new result (λ t arrived. arrived ≡ have_arrived t files.now) }
+    ensures err { ReadUndone S.Store conn.old conn.new result }
+    ensures survives { CommitsNoRows S.Store conn.old conn.new }
 {
     for file in files {
         let arrived = has_arrived(alloc, conn, file.path.as_str())?;
@@ -115,11 +106,9 @@ fn have_all_arrived<S: Alter>(
     steps: &[Step],
 ) -> Result<bool, Error>
     ensures idle { conn.old.in_transaction ≡ false → conn.new.in_transaction ≡ false }
-    ensures ok { HasCleanDisk (state S.Store conn.new) → (t : Tables) → Holds (state S.Store conn.old).now t
-        → IfOk result (λ arrived. (arrived ≡ have_all_arrived t steps.now) × Rests (state S.Store conn.old) (state S.Store conn.new)) }
-    ensures err { HasCleanDisk (state S.Store conn.new) → (t : Tables) → Holds (state S.Store conn.old).now t
-        → OnErr result (IsUndone (state S.Store conn.old) (state S.Store conn.new)) }
-    ensures survives { Survives (state S.Store conn.old) (state S.Store conn.new) (λ _. (t : Tables) → ¬ Holds (state S.Store conn.old).now t) }
+    ensures ok { ReadsAtRest S.Store conn.old conn.new result (λ t arrived. arrived ≡ have_all_arrived t steps.now) }
+    ensures err { ReadUndone S.Store conn.old conn.new result }
+    ensures survives { CommitsNoRows S.Store conn.old conn.new }
 {
     for step in steps {
         let arrived = have_arrived(alloc, conn, step.plan.files_removed.as_slice())?;
@@ -135,11 +124,9 @@ fn look<S: Alter>(alloc: Global, conn: &mut Connection<S>, steps: &[Step]) -> Re
     requires idle { conn.old.in_transaction ≡ false }
     requires archive { HasCleanDisk (state S.Store conn.old) → IsTrue (state S.Store conn.old).is_open → ∥ IsArchive (state S.Store conn.old).committed ∥₁ }
     ensures idle { conn.new.in_transaction ≡ false }
-    ensures unchanged { HasCleanDisk (state S.Store conn.new) → IsUndone (state S.Store conn.old) (state S.Store conn.new) }
-    ensures arrived { HasCleanDisk (state S.Store conn.new) → (config : ConfigValue) (judged : List Judgement) (shown : ShelvesValue) (dates : List ℕ)
-        → KeepsArchive (state S.Store conn.old).committed config judged shown dates
-        → IfOk result (λ arrived. arrived ≡ have_all_arrived (tables_in (state S.Store conn.old).committed) steps.now) }
-    ensures survives { Survives (state S.Store conn.old) (state S.Store conn.new) (λ _. ⊥) }
+    ensures unchanged { OnCleanDisk S.Store conn.old conn.new (λ old new. IsUndone old new) }
+    ensures arrived { OnCleanDisk S.Store conn.old conn.new (λ old new. WithBook old.committed (λ config judged shown dates. IfOk result (λ arrived. arrived ≡ have_all_arrived (tables_in old.committed) steps.now))) }
+    ensures survives { NeverCommits S.Store conn.old conn.new }
 {
     // For the prover alone: outside a transaction the connection has what is committed.
     let _settled = conn.is_autocommit();
@@ -159,11 +146,9 @@ pub fn needs_sweep<S: Alter>(
     requires idle { conn.old.in_transaction ≡ false }
     requires archive { HasCleanDisk (state S.Store conn.old) → IsTrue (state S.Store conn.old).is_open → ∥ IsArchive (state S.Store conn.old).committed ∥₁ }
     ensures idle { conn.new.in_transaction ≡ false }
-    ensures unchanged { HasCleanDisk (state S.Store conn.new) → IsUndone (state S.Store conn.old) (state S.Store conn.new) }
-    ensures sweeps { HasCleanDisk (state S.Store conn.new) → (config : ConfigValue) (judged : List Judgement) (shown : ShelvesValue) (dates : List ℕ)
-        → KeepsArchive (state S.Store conn.old).committed config judged shown dates
-        → IfOk result (λ sweeps. sweeps ≡ needs_sweep (tables_in (state S.Store conn.old).committed) whole steps.now) }
-    ensures survives { Survives (state S.Store conn.old) (state S.Store conn.new) (λ _. ⊥) }
+    ensures unchanged { OnCleanDisk S.Store conn.old conn.new (λ old new. IsUndone old new) }
+    ensures sweeps { OnCleanDisk S.Store conn.old conn.new (λ old new. WithBook old.committed (λ config judged shown dates. IfOk result (λ sweeps. sweeps ≡ needs_sweep (tables_in old.committed) whole steps.now))) }
+    ensures survives { NeverCommits S.Store conn.old conn.new }
 {
     let takes = some_take_files(steps);
     if !takes {
