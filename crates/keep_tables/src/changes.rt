@@ -1,4 +1,6 @@
 //! A change of an archive: one that would put an item into no suite is refused.
+//!
+//! A change that puts an item into no suite, or a file without a body into the pool, is refused as a failure of the disk.
 
 ghost use Rattle.std.specs.Prelude.{◌≡◌, ◌≤◌, [], ℕ, List, true, false, IsTrue, OnOk};
 ghost use Rattle.std.specs.List.{list_all, list_any};

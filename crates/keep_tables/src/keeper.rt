@@ -1,4 +1,9 @@
 //! The keeper over the tables of a database.
+//!
+//! Configuration, judgements and dates are held in memory beside the tables, since a program reads them at each call.
+//!
+//! If a transaction was begun on a connection, making and opening answer K4 and hand the connection back as it was. So they ask nothing of
+//! a caller: a clause that asks for it would have to be met by each.
 
 ghost use Rattle.std.specs.Prelude.{◌≡◌, ◌≤◌, [], All, false, IsTrue};
 ghost use Rattle.sqlite.specs.Held.{state};

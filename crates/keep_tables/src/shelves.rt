@@ -1,4 +1,8 @@
 //! What the suites show, read from the rows of items and of their files.
+//!
+//! An opening and each change (`hold`) leave with the keeper what the suites show, and the next call that asks for that takes it out. If
+//! there is none, as after a refusal, it is read from the tables: shelves are made of rows by plans, and rows that no archive has are
+//! refused.
 
 ghost use Rattle.std.specs.Prelude.{◌≡◌, false, IfOk, OnOk};
 ghost use Rattle.sqlite.specs.State.{IsUnchanged};

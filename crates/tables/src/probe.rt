@@ -1,4 +1,7 @@
 //! Whether a database serves still.
+//!
+//! Each read of the keeper first asks the database for nothing of its own (`SELECT 1`). That is answered by each database that serves,
+//! whatever it holds: the other reads say something of an archive's tables alone.
 
 ghost use Rattle.std.specs.Prelude.{◌≡◌, false, OnOk, OnErr};
 ghost use Rattle.sqlite.specs.State.{IsUnchanged};

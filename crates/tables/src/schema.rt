@@ -1,4 +1,17 @@
 //! The tables, and how they and the two indexes of bodies are made.
+//!
+//! `bodies` has the print for a second key, `arrivals` name and body. By the first a body is found that is there, and by both no body is
+//! stored twice and no pair arrives twice. An arrival names its print by its body alone.
+//!
+//! When the print of a body is written, or a body goes, SQL looks for rows that refer to it. By the indexes `arrivals_by_body` and
+//! `files_by_body` it finds them, and looks through no other row. They are no part of the layout. They are the archive's by name, table and
+//! column, and may be missing: an archive that was made without them opens, and so does one that lost them, and is slower there. One of
+//! these names with another column, or a unique one, is somebody else's index on the archive's table.
+//!
+//! What is put on a table of the archive does not leave it alone: a unique index may refuse a row, a reference that a row goes, a trigger
+//! may do anything, and an index that takes any rows costs each write.
+//!
+//! A view is passed over, also one of the archive's tables: a table is looked for before a view, and a view changes nothing.
 
 ghost use Rattle.std.specs.Prelude.{◌≡◌, ◌<◌, IfErr, OnOk};
 ghost use Rattle.tables.specs.Causes.{IsCaused};

@@ -1,4 +1,11 @@
 //! The entries of the uploads, and whether their bodies have arrived.
+//!
+//! `wants` has a second key, of name, print and upload. Its primary key implies it already: it is there as the index by which an arrival
+//! finds who waits for it. A row is looked up by a print's four columns together.
+//!
+//! SQLite finds rows whose place is NULL, or is not, by reading `uploads` to its end. So the uploads without a verdict are found through
+//! `wants`, by its key, one after the other: each of them has entries here, since a .changes lists a file at least, and no judged one has.
+//! A run and a waiting list look at as many uploads as wait, however many were judged.
 
 ghost use Rattle.std.specs.Prelude.{◌≡◌, filter, false};
 ghost use Rattle.tables.specs.Rows.{with_want, want_of, rows_of};

@@ -1,4 +1,7 @@
 //! Whether all that suites show is as its records tell it.
+//!
+//! Items have to be as their records tell them: that is part of what the rows of an archive are. So a change has to keep it (`told` of
+//! `IsSound`), and an opening reads each paragraph as a .dsc or a sidecar again.
 
 mod binary;
 mod paths;

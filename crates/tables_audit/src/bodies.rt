@@ -1,4 +1,6 @@
 //! The bodies of an archive and their pieces.
+//!
+//! A body has to be an arrival's, or that of a file of the pool.
 
 ghost use Rattle.std.specs.Prelude.{◌≡◌, ◌↔◌, ◌≤◌, All, filter, length, map, min, nat_eq, IsTrue, IfOk};
 ghost use Rattle.std.specs.List.{list_any};

@@ -1,4 +1,7 @@
 //! Whether the judged uploads may have been delivered.
+//!
+//! A judged upload may be there without an arrival of its .changes, since cleanings take arrivals away. Its row then has the name of a
+//! .changes that may be delivered, and at most 1,048,576 bytes.
 
 ghost use Rattle.std.specs.Prelude.{◌≡◌, ◌↔◌, IsTrue, length};
 ghost use Rattle.tables.specs.Real.{IsRealPrint};

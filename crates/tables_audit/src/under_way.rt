@@ -1,4 +1,8 @@
 //! The pieces of the bodies that are not whole.
+//!
+//! A body without a print is one whose delivery was cut short. An opening takes it away with its pieces, but only once the rest has passed
+//! as an archive. If an arrival or a file of the pool names it, or its pieces are not those of a body, numbered from 1 and of 65,536 bytes
+//! but the last, the database is no archive.
 
 ghost use Rattle.std.specs.Prelude.{◌↔◌, ◌<◌, All, filter, IsTrue};
 ghost use Rattle.tables.specs.Pieces.{is_of};

@@ -1,4 +1,10 @@
 //! A file whose body is one piece: it comes and arrives in one transaction.
+//!
+//! A file of at most 65,536 bytes takes one commit: its row, its piece, its print and what arrives. If the rows of a body that was cut
+//! short are left, they go in a commit of their own first, and the piece and the end are then two. A file without a byte takes one.
+//!
+//! The body is looked for by its print first. If one of that print is there it has to be one piece of the same bytes, and no row of a body
+//! is added.
 
 ghost use Rattle.std.specs.Prelude.{◌≡◌, ◌<◌, ◌≤◌, false, length, IfOk, OnOk};
 ghost use Rattle.sqlite.specs.State.{Survives};

@@ -1,4 +1,7 @@
 //! Takes away what does not count at a moment: arrivals, what came of them, and then the bodies that nothing uses.
+//!
+//! A cleaning that takes nothing is a transaction as any other. To read first what ended would spare that a commit, and cost each other
+//! cleaning the reading.
 
 ghost use Rattle.std.specs.Prelude.{◌≡◌, false, filter, fold, length, not, IfOk, OnOk};
 ghost use Rattle.sqlite.specs.State.{Survives};

@@ -1,4 +1,12 @@
 //! A body that comes, piece by piece.
+//!
+//! A body that comes in pieces is stored before it is known whether it is there. Its row is written with its first piece, and no row
+//! before. Each piece is a commit, and the end one more.
+//!
+//! If a piece or the end is refused, the rows stay that came before. No book has them, and nothing names them: they go when the next body
+//! begins, by their number, or at the next opening. To take them away at once would be another transaction in a call that has one. After a
+//! reader that ended or failed they are taken away at once (`abandon`); if that fails they stay likewise, and the reader's fault is
+//! reported.
 
 ghost use Rattle.std.specs.Prelude.{◌≡◌, None, false, unwrap_or, IfOk, OnOk};
 ghost use Rattle.sqlite.specs.State.{Survives};

@@ -1,4 +1,8 @@
 //! What a file lists whose body came.
+//!
+//! A delivery reads its .changes once more after the check of the delivery: from its bytes if they come at once, else back from its pieces.
+//! It has passed that check. So besides memory only a disk which returns other bytes can have it refused here, and that is reported as a
+//! failure of the disk.
 
 ghost use Rattle.std.specs.Prelude.{◌≡◌, Ok, IsTrue, IfOk, OnOk, OnErr, option_map};
 ghost use Rattle.sqlite.specs.State.{HasCleanDisk, IsUnchanged, KeepsCommit};

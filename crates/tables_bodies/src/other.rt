@@ -1,4 +1,7 @@
 //! Two bodies of one print: the one that came and the one that is stored are compared piece by piece.
+//!
+//! A body whose print is that of a stored body of other bytes is refused as a failure of the disk. So what is kept needs no premise on
+//! prints.
 
 ghost use Rattle.std.specs.Prelude.{◌≡◌, ◌<◌, true, false, None, Some, option_map, OnOk};
 ghost use Rattle.sqlite.specs.State.{IsUnchanged};

@@ -1,4 +1,8 @@
 //! Takes bodies away that are not whole, with their pieces.
+//!
+//! That a body goes is a commit, which needs some room. So over a full disk each delivery after the file that did not fit may be refused
+//! until there is room (Q4, 507), also a small one and one of what is there; and so may an opening (K2), also for a command that only
+//! reads. An archive that is open answers reads as before.
 
 ghost use Rattle.std.specs.Prelude.{◌≡◌, ◌≢◌, [], false, IsTrue, OnOk};
 ghost use Rattle.sqlite.specs.State.{Survives};

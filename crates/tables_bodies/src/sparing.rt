@@ -1,4 +1,8 @@
 //! Whether a change may leave bodies that nothing uses.
+//!
+//! Only the body of a file that leaves the pool can become one that nothing uses, and mostly its arrival is still there. So a change looks
+//! first, for each of these files, for an arrival of its body under its name (`needs_sweep`). If each has one and no body is coming, none
+//! is swept.
 
 ghost use Rattle.std.specs.Prelude.{◌≡◌, false, IsTrue, IfOk};
 ghost use Rattle.std.specs.List.{list_any};

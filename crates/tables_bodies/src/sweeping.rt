@@ -1,4 +1,7 @@
 //! Takes bodies away that nothing uses.
+//!
+//! A change that takes files out of the pool may leave bodies that nothing uses. They go with it, for which the numbers of all bodies,
+//! arrivals and files are read.
 
 ghost use Rattle.std.specs.Prelude.{◌≡◌, ◌++◌, filter, nat_eq, not, IfOk, OnOk};
 ghost use Rattle.std.specs.List.{list_any};

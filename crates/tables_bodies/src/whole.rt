@@ -1,4 +1,6 @@
 //! A body that came and is whole.
+//!
+//! If a body of the same print is there, the two are compared piece by piece, and the new one is taken away.
 
 ghost use Rattle.std.specs.Prelude.{◌≡◌, unwrap_or, IsTrue, IfOk};
 ghost use Rattle.tables.specs.Rows.{Changes, next_in};
