@@ -107,7 +107,8 @@ class Pages(unittest.TestCase):
     def test_a_crate_of_which_nothing_is_said_is_refused(self):
         path = "docs/PROVED.md"
         page = self.repository.pages[path]
-        for crates in (["vers"], ["commands", "archive", "first"]):
+        several = re.search(r"^### (\w+, .*)$", page, re.M)[1]
+        for crates in (["vers"], several.split(", ")):
             title = f"### {', '.join(crates)}\n"
             self.assertEqual(page.count(title), 1)
             wanted = {f"{path}: the crate {it} is missing" for it in crates}
