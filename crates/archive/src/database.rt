@@ -25,7 +25,7 @@ use crate::copied::copied;
 use command_line::CommandLine;
 use program::{InFile, OpenFault, act};
 use keep::{KeepFault, LATEST};
-use tables_changes::fault_of;
+use keep_tables::fault_of;
 use keep_tables::{InOrder, LAYOUT, TableKeeper, layout_of};
 use old_book::OldBook;
 use rules::Config;

@@ -1,18 +1,15 @@
 //! What is done with a database, over any store: each function that names the store of files takes the prover minutes.
 
-use crate::disks::task::Task;
 use keep::{KeepFault, LATEST};
-use tables_changes::fault_of;
 use keep_tables::{InOrder, TableKeeper};
 use old_book::OldBook;
 use queue::Archive;
-use test_rows::{Unread, said};
 use rules::Config;
 use sqlite::{Alter, Connection};
 use std::alloc::Global;
-
-/// What was told, piece by piece.
-pub type Pieces = Vec<Vec<u8>>;
+use keep_tables::fault_of;
+use test_rows::{Unread, said};
+use test_story::{Pieces, Task};
 
 /// What came of work: what was told, or the fault where there was no archive or no database; or why a row can't be read.
 pub type Answer = Result<Result<Pieces, KeepFault>, Unread>;

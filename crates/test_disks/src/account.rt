@@ -1,14 +1,6 @@
 //! What an archive told, beside what it was to tell.
 
-use std::alloc::{AllocError, Global};
-
-/// The answer of an archive whose disk failed, and its beginning where behind it stands how many bytes a reader has left.
-const REFUSED: &[u8] = b"Q4 K2";
-
-const REFUSED_BESIDE: &[u8] = b"Q4 K2 ";
-
-/// The answer where it was to take another configuration.
-const REFUSED_ALONE: &[u8] = b"K2";
+use test_story::is_refusal;
 
 /// How the piece begins that is the configuration.
 const CONFIGURATION: &[u8] = b"configuration:\n";
@@ -36,28 +28,6 @@ fn parts(pieces: &[Vec<u8>]) -> Told<'_> {
             behind: &[],
         },
     }
-}
-
-/// Whether a text has a line.
-fn has_line(text: &[u8], line: &[u8]) -> bool {
-    text.split(|byte| *byte == b'\n').any(|other| other == line)
-}
-
-/// Whether a line says that the disk failed.
-pub fn is_refused_line(line: &[u8]) -> bool {
-    line == REFUSED || line == REFUSED_ALONE || line.starts_with(REFUSED_BESIDE)
-}
-
-/// Whether an answer is the right one, but all of it or some was refused since the disk failed.
-pub fn is_refusal(answer: &[u8], right: &[u8]) -> bool {
-    for line in answer.split(|byte| *byte == b'\n') {
-        if !is_refused_line(line) && !has_line(right, line) {
-            return false;
-        }
-    }
-    answer
-        .split(|byte| *byte == b'\n')
-        .any(|line| is_refused_line(line))
 }
 
 /// Whether a piece is an answer of which all was refused, or shows that what stands at its path was.
@@ -107,35 +77,4 @@ pub fn is_like(found: &[Vec<u8>], wanted: &[Vec<u8>]) -> bool {
     let is_before = are_like(found.before, wanted.before);
     let is_behind = are_like(found.behind, wanted.before);
     is_before && is_behind
-}
-
-/// The last piece.
-fn last_of(pieces: &[Vec<u8>]) -> &[u8] {
-    match pieces.last() {
-        Some(piece) => piece.as_slice(),
-        None => b"nothing",
-    }
-}
-
-/// The first two pieces that differ, or the last ones.
-fn differing<'a>(found: &'a [Vec<u8>], wanted: &'a [Vec<u8>]) -> (&'a [u8], &'a [u8]) {
-    for (found, wanted) in found.iter().zip(wanted) {
-        if found.as_slice() != wanted.as_slice() {
-            return (found.as_slice(), wanted.as_slice());
-        }
-    }
-    (last_of(found), last_of(wanted))
-}
-
-/// Says where what was told is not what it was to be.
-pub fn difference(
-    alloc: Global,
-    found: &[Vec<u8>],
-    wanted: &[Vec<u8>],
-) -> Result<Vec<u8>, AllocError> {
-    let (found, wanted) = differing(found, wanted);
-    let mut text = Vec::from_slice(alloc, found)?;
-    text.extend_from_slice(b" in the place of ")?;
-    text.extend_from_slice(wanted)?;
-    Ok(text)
 }

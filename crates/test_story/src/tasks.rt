@@ -1,15 +1,17 @@
 //! What is done with an archive, over any keeper, and all that it shows.
 
-use crate::disks::account::is_refusal;
-use crate::disks::named::paths_in;
-use crate::disks::work::Pieces;
+use crate::named::paths_in;
+use crate::refusals::is_refusal;
+use crate::telling::asked;
 use keep::Keeper;
 use queue::Archive;
-use test_rows::{Unread, text_of};
 use rules::Config;
 use std::alloc::{AllocError, Global};
 use std::slice::from_ref;
-use test_story::asked;
+use test_rows::{Unread, text_of};
+
+/// What was told, piece by piece.
+pub type Pieces = Vec<Vec<u8>>;
 
 /// A question to an archive.
 #[derive(Clone, Copy)]

@@ -1,11 +1,11 @@
 //! Databases that are no archive, or no databases.
 
-use crate::disks::image::Image;
-use crate::disks::task::Task;
-use crate::disks::trial::{SOUND, done};
-use crate::disks::work::{Work, word_or_fault};
-use test_rows::{Unread, number_of, said, text_of};
+use crate::image::Image;
+use crate::trial::{SOUND, done};
+use crate::work::{Work, word_or_fault};
 use std::alloc::Global;
+use test_rows::{Unread, number_of, said, text_of};
+use test_story::Task;
 
 /// What an opening makes of files: `open`, or its fault, with a word where it has changed the database file then. It may begin a
 /// log.

@@ -1,16 +1,17 @@
 //! Work with a database in two files in memory, of which one may stop, fail or be full. What is before it and behind it are plain
 //! bytes, so that few functions name a disk, and fewer the store of files.
 
-use crate::disks::failing::{Failing, Kind};
-use crate::disks::image::Image;
-use crate::disks::work::{Answer, Pieces, Work};
+use crate::failing::{Failing, Kind};
+use crate::image::Image;
+use crate::work::{Answer, Work};
 use keep::KeepFault;
-use tables_changes::fault_of;
 use old_book::OldBook;
-use test_rows::Unread;
 use sqlite::{Connection, FileStore, Files, Options};
 use sqlite_disk::{Crash, Disk, Memory};
 use std::alloc::{AllocError, Global};
+use keep_tables::fault_of;
+use test_rows::Unread;
+use test_story::Pieces;
 
 /// A disk in memory that may fail.
 type Broken = Failing<Memory>;

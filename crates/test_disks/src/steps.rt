@@ -1,14 +1,14 @@
 //! Steps of a story, and what files tell of one.
 
-use crate::disks::image::Image;
-use crate::disks::task::{Question, Task};
-use crate::disks::trial::{SOUND, done};
-use crate::disks::work::{Making, Pieces, Work, told_fault};
+use crate::image::Image;
+use crate::trial::{SOUND, done};
+use crate::work::{Making, Work, told_fault};
 use keep::{KeepFault, LATEST};
 use old_book::OldBook;
-use test_rows::{Unread, number_of, text_of};
 use rules::Config;
 use std::alloc::Global;
+use test_rows::{Unread, number_of, text_of};
+use test_story::{Pieces, Question, Task};
 
 /// A step of a story: a question to the archive that is there, or none where it is opened or made alone.
 #[derive(Clone, Copy)]

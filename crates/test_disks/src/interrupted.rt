@@ -1,15 +1,15 @@
 //! A step that is done while a disk stops, fails or is full.
 
-use crate::disks::account::{are_refused, difference, is_answer, is_like, is_refused_line};
-use crate::disks::failing::Kind;
-use crate::disks::image::Image;
-use crate::disks::steps::{Step, paths_of, told_of};
-use crate::disks::task::{Task, add_paths};
-use crate::disks::trial::{Left, Plan, SOUND, done};
-use crate::disks::work::{Pieces, Work, told_fault};
+use crate::account::{are_refused, is_answer, is_like};
+use crate::failing::Kind;
+use crate::image::Image;
+use crate::steps::{Step, paths_of, told_of};
+use crate::trial::{Left, Plan, SOUND, done};
+use crate::work::{Work, told_fault};
 use keep::KeepFault;
-use test_rows::{Unread, said};
 use std::alloc::Global;
+use test_rows::{Unread, said};
+use test_story::{Pieces, Task, add_paths, difference, is_refused_line};
 
 /// More calls than any step here makes of a file.
 const MOST_CALLS: u64 = 4000;

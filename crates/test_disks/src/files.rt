@@ -1,17 +1,17 @@
 //! An archive in files in memory, and what is asked of it.
 
-use crate::disks::failing::Kind;
-use crate::disks::image::Image;
-use crate::disks::interrupted::interrupted;
-use crate::disks::steps::{Step, paths_of};
-use crate::disks::tampered::{changed, front, opening, opening_of, tampered, without_end};
-use crate::disks::task::{Question, Task};
-use crate::disks::trial::{Plan, SOUND, Which, done, old_of};
-use crate::disks::work::{Pieces, Work, told_fault, word_or_fault};
+use crate::failing::Kind;
+use crate::image::Image;
+use crate::interrupted::interrupted;
+use crate::steps::{Step, paths_of};
+use crate::tampered::{changed, front, opening, opening_of, tampered, without_end};
+use crate::trial::{Plan, SOUND, Which, done, old_of};
+use crate::work::{Work, told_fault, word_or_fault};
 use keep::KeepFault;
 use old_book::OldBook;
-use test_rows::{Answers, Unread, said, text_of};
 use std::alloc::Global;
+use test_rows::{Answers, Unread, said, text_of};
+use test_story::{Pieces, Question, Task};
 
 /// The files of an archive, which is opened for each step.
 #[derive(Drop)]
