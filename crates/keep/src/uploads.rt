@@ -1,17 +1,17 @@
-//! The plain keeper's lists, gone over from nothing at each call.
+//! The uploads of the plain keeper's arrivals that have no verdict, in the order of judging.
 
-ghost use Rattle.std.specs.Prelude.{◌≡◌, ◌≤◌, true, ◌++◌, [], ◌∷◌, length, List, map, filter, find, take, drop, not, is_some, option_copied, IfOk, OnOk, if◌then◌else◌};
-ghost use Rattle.std.specs.List.{list_all, list_any};
+ghost use Rattle.std.specs.Prelude.{◌≡◌, ◌≤◌, true, ◌++◌, [], ◌∷◌, length, List, map, filter, take, drop, not, IfOk, OnOk, if◌then◌else◌};
+ghost use Rattle.std.specs.List.{list_all};
 ghost use Rattle.std.specs.Option.{option_map};
 ghost use Rattle.std.specs.Ordering.{is_gt};
 ghost use Rattle.std.specs.Result.{result_ok};
 ghost use Rattle.records.specs.Records.{changes_in as record_in};
 ghost use Rattle.suites.specs.Upload.{has_text as keeps_text};
-ghost use Rattle.keep.specs.Book.{body_for, candidate_of, ended, is_changes_name, is_complete, is_there as has_come, judging_order as order_of, put_in_order, upload_of as upload_at};
+ghost use Rattle.keep.specs.Book.{body_for, candidate_of, candidate_order, is_changes_name, is_complete, is_there as has_come, judging_order as order_of, put_in_order, upload_of as upload_at};
 ghost use Rattle.keep.specs.declared.arrival.Arrival.{Arrival as ArrivalValue};
-ghost use Rattle.keep.specs.Scan.{candidate_view, counted, has_judgement, is_arrival_of, marked, unjudged_in, waiting_of};
+ghost use Rattle.keep.specs.Scan.{candidate_view, counted, has_judgement, unjudged_in, waiting_of};
 
-use crate::arrival::{Arrival, Counting};
+use crate::arrival::{Arrival, Counting, current_arrival, has_current};
 use crate::candidate::Candidate;
 use crate::change::{Judgement, Waiting};
 use para::Listed;
@@ -26,97 +26,6 @@ pub fn copied(alloc: Global, bytes: &[u8]) -> Result<Listed<u8>, AllocError>
     ensures { IfOk result (λ copy. copy ≡ bytes.now) }
 {
     Ok(Listed::from_vec(Vec::from_slice(alloc, bytes)?))
-}
-
-/// Whether the arrival has this name and a body of this print.
-fn is_of(arrival: &Arrival, name: &str, print: Print) -> bool
-    ensures { result ≡ is_arrival_of name.now print arrival.now }
-{
-    if arrival.name.as_str() != name {
-        return false;
-    }
-    arrival.body.print() == print
-}
-
-/// Whether a body of this print has arrived under this name, also where it counts no more.
-pub fn has_arrival(arrivals: &[Arrival], name: &str, print: Print) -> bool
-    ensures { result ≡ list_any (is_arrival_of name.now print) arrivals.now }
-{
-    for arrival in arrivals {
-        if is_of(arrival, name, print) {
-            return true;
-        }
-    }
-    false
-}
-
-/// The first arrival that counts, of this name with a body of this print.
-#[tactic(auto, unfolding(crate::specs::Book::current))]
-fn current_arrival<'a>(
-    arrivals: &'a [Arrival],
-    counting: Counting,
-    name: &str,
-    print: Print,
-) -> Option<&'a Arrival>
-    ensures { option_copied result ≡ find (is_arrival_of name.now print) (counted counting arrivals.now) }
-{
-    for arrival in arrivals {
-        if !counting.counts(arrival) {
-            continue;
-        }
-        if is_of(arrival, name, print) {
-            return Some(arrival);
-        }
-    }
-    None
-}
-
-/// Whether an arrival that counts is of this name with a body of this print.
-pub fn has_current(arrivals: &[Arrival], counting: Counting, name: &str, print: Print) -> bool
-    ensures { result ≡ list_any (is_arrival_of name.now print) (counted counting arrivals.now) }
-{
-    current_arrival(arrivals, counting, name, print).is_some()
-}
-
-/// Gives the arrival this moment, where it is of this name and print and its own moment is less.
-fn mark(arrival: &mut Arrival, name: &str, print: Print, moment: u64)
-    ensures { arrival.new ≡ marked name.now print moment arrival.old }
-{
-    if is_of(arrival, name, print) {
-        if arrival.moment < moment {
-            arrival.moment = moment;
-        }
-    }
-}
-
-/// Gives the arrivals of this name and print this moment, where theirs is less.
-pub fn mark_all(arrivals: &mut [Arrival], name: &str, print: Print, moment: u64)
-    ensures { arrivals.new ≡ map (marked name.now print moment) arrivals.old }
-{
-    for index in 0..arrivals.len() {
-        mark(&mut arrivals[index], name, print, moment);
-    }
-}
-
-/// How many of the arrivals do not count.
-#[tactic(auto, unfolding(crate::specs::Book::ended))]
-fn ended_count(arrivals: &[Arrival], counting: Counting) -> u64
-    ensures { result ≡ length (ended counting.span counting.moment arrivals.now) }
-{
-    arrivals
-        .iter()
-        .filter(|arrival| !counting.counts(arrival))
-        .count() as u64
-}
-
-/// Takes away the arrivals that do not count, and says how many there were.
-pub fn remove_ended(arrivals: &mut Vec<Arrival>, counting: Counting) -> u64
-    ensures count { result ≡ length (ended counting.span counting.moment arrivals.old.items) }
-    ensures left { arrivals.new.items ≡ counted counting arrivals.old.items }
-{
-    let count = ended_count(arrivals, counting);
-    arrivals.retain(|arrival| counting.counts(arrival));
-    count
 }
 
 /// Whether a body of the listed file has arrived and counts.
@@ -207,20 +116,30 @@ fn read_candidate(alloc: Global, arrival: &Arrival) -> Result<Option<Candidate<'
     }
 }
 
-/// The order of judging: by the bytes of the names, then by SHA-256, SHA-1, MD5 and size.
+/// The order of judging, of two uploads by the names and the prints of their .changes: by the bytes of the names, then by
+/// SHA-256, SHA-1, MD5 and size.
 #[tactic(auto, unfolding(crate::specs::Book::judging_order))]
-fn judging_order(a: &Candidate<'_>, b: &Candidate<'_>) -> Ordering
-    ensures { result ≡ order_of (candidate_view a.now) (candidate_view b.now) }
+pub fn judging_order(name: &str, print: &Print, other_name: &str, other_print: &Print) -> Ordering
+    ensures { result ≡ order_of (name.now, print.now) (other_name.now, other_print.now) }
+{
+    name.cmp(other_name)
+        .then(print.sha256.cmp(&other_print.sha256))
+        .then(print.sha1.cmp(&other_print.sha1))
+        .then(print.md5.cmp(&other_print.md5))
+        .then(print.size.cmp(&other_print.size))
+}
+
+/// The same of two .changes that arrived.
+fn candidate_order(a: &Candidate<'_>, b: &Candidate<'_>) -> Ordering
+    ensures { result ≡ candidate_order (candidate_view a.now) (candidate_view b.now) }
 {
     let (first, second) = (a.arrival.body.print(), b.arrival.body.print());
-    a.arrival
-        .name
-        .as_str()
-        .cmp(b.arrival.name.as_str())
-        .then(first.sha256.cmp(&second.sha256))
-        .then(first.sha1.cmp(&second.sha1))
-        .then(first.md5.cmp(&second.md5))
-        .then(first.size.cmp(&second.size))
+    judging_order(
+        a.arrival.name.as_str(),
+        &first,
+        b.arrival.name.as_str(),
+        &second,
+    )
 }
 
 /// Where another .changes stands among these, which are in order: before those that tie with it.
@@ -230,7 +149,7 @@ fn place(found: &[Candidate<'_>], other: &Candidate<'_>) -> usize
         ≡ map candidate_view (take result found.now) ++ candidate_view other.now ∷ map candidate_view (drop result found.now) }
 {
     for (index, one) in found.iter().enumerate() {
-        if !judging_order(other, one).is_gt() {
+        if !candidate_order(other, one).is_gt() {
             return index;
         }
     }

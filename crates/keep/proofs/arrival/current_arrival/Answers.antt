@@ -1,7 +1,7 @@
 use Rattle.std.proofs.Common.{sym, ◌∙◌}
 use Rattle.keep.specs.Scan.{is_arrival_of}
 use Rattle.keep.proofs.Searches.{is_found, is_other, passed_over}
-use Rattle.keep.proofs.scan.current_arrival.Goals as goal
+use Rattle.keep.proofs.arrival.current_arrival.Goals as goal
 
 pub loop-arrival-preserved-then-not-counts : goal.loop-arrival-preserved-then-not-counts
 loop-arrival-preserved-then-not-counts c =

@@ -1,7 +1,7 @@
 use Rattle.std.proofs.Common.{◌≡◌, drop}
 use Rattle.std.specs.List.{list_any}
 use Rattle.keep.specs.Scan.{is_arrival_of}
-use Rattle.keep.proofs.scan.has_arrival.Given as goal
+use Rattle.keep.proofs.arrival.has_arrival.Given as goal
 
 abbrev pub invariant-loop-arrival : goal.invariant-loop-arrival
 invariant-loop-arrival l =

@@ -1,7 +1,7 @@
 use Rattle.std.proofs.Common.{rules}
 use Rattle.std.proofs.lemmas.Fn.{filter_same}
 use Rattle.keep.specs.Book.{current}
-use Rattle.keep.proofs.scan.remove_ended.Goals as goal
+use Rattle.keep.proofs.arrival.remove_ended.Goals as goal
 
 pub returns-clause-left : goal.returns-clause-left
 unfolding current

@@ -5,7 +5,7 @@ use Rattle.keep.specs.Book.{put_in_order}
 use Rattle.keep.specs.Scan.{candidate_view, counted, unjudged_in}
 use Rattle.keep.proofs.Moments.{current_more, current_passed}
 use Rattle.keep.proofs.Unjudged.{unjudged_other, unjudged_passed, unjudged_more, with_candidate}
-use Rattle.keep.proofs.scan.add_unjudged.Goals as goal
+use Rattle.keep.proofs.uploads.add_unjudged.Goals as goal
 
 pub returns-then-not-counts : goal.returns-then-not-counts
 returns-then-not-counts c = λ rest so_far.

@@ -4,7 +4,7 @@ use Rattle.std.specs.List.{list_all}
 use Rattle.keep.specs.Book.{is_complete, is_there, upload_of}
 use Rattle.keep.specs.Scan.{candidate_view, counted}
 use Rattle.keep.proofs.Kept.{kept_more, left_more}
-use Rattle.keep.proofs.scan.complete_uploads.Goals as goal
+use Rattle.keep.proofs.uploads.complete_uploads.Goals as goal
 
 pub upload_of-requires : goal.upload_of-requires
 unfolding is_complete

@@ -1,7 +1,7 @@
 use Rattle.std.proofs.Common.{◌≡◌, map, filter}
 use Rattle.keep.specs.Book.{is_complete, upload_of}
 use Rattle.keep.specs.Scan.{candidate_view, counted}
-use Rattle.keep.proofs.scan.complete_uploads.Given as goal
+use Rattle.keep.proofs.uploads.complete_uploads.Given as goal
 
 abbrev pub invariant-loop-candidate : goal.invariant-loop-candidate
 invariant-loop-candidate l =

@@ -1,6 +1,6 @@
 use Rattle.std.proofs.Common.{◌≡◌, drop}
 use Rattle.keep.specs.Scan.{has_judgement}
-use Rattle.keep.proofs.scan.is_judged.Given as goal
+use Rattle.keep.proofs.uploads.is_judged.Given as goal
 
 abbrev pub invariant-loop-one : goal.invariant-loop-one
 invariant-loop-one l =

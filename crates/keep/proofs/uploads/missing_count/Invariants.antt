@@ -1,7 +1,7 @@
 use Rattle.std.proofs.Common.{◌≡◌, ◌≤◌, not, filter, length, take}
 use Rattle.keep.specs.Book.{is_there}
 use Rattle.keep.specs.Scan.{counted}
-use Rattle.keep.proofs.scan.missing_count.Given as goal
+use Rattle.keep.proofs.uploads.missing_count.Given as goal
 
 abbrev pub invariant-loop-entry : goal.invariant-loop-entry
 invariant-loop-entry l = record {

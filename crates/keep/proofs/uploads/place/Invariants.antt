@@ -1,7 +1,7 @@
 use Rattle.std.proofs.Common.{◌≡◌, ◌++◌, map, take, drop}
 use Rattle.keep.specs.Book.{put_in_order}
 use Rattle.keep.specs.Scan.{candidate_view}
-use Rattle.keep.proofs.scan.place.Given as goal
+use Rattle.keep.proofs.uploads.place.Given as goal
 
 abbrev pub invariant-loop-index : goal.invariant-loop-index
 invariant-loop-index l =

@@ -2,7 +2,7 @@ use Rattle.std.proofs.Common.{◌≡◌, ℕ, ◌<◌, ◌+◌, ◌-◌, ◌∷�
 use Rattle.std.proofs.lemmas.List.{drop_more}
 use Rattle.keep.specs.Scan.{counted, unjudged_in}
 use Rattle.keep.specs.declared.arrival.Arrival.{Arrival}
-use Rattle.keep.proofs.scan.unjudged.Goals as goal
+use Rattle.keep.proofs.uploads.unjudged.Goals as goal
 
 -- the arrivals from one place earlier on
 earlier : (arrivals : List Arrival) (left : ℕ) (a : Arrival) → 0 < left → left - 1 < length arrivals → a ≡ get_or arrivals (left - 1) a

@@ -1,6 +1,6 @@
 use Rattle.std.proofs.Common.{◌≡◌, ◌≤◌, length, map, drop}
 use Rattle.keep.specs.Scan.{candidate_view, counted, unjudged_in}
-use Rattle.keep.proofs.scan.unjudged.Given as goal
+use Rattle.keep.proofs.uploads.unjudged.Given as goal
 
 abbrev pub invariant-loop-left : goal.invariant-loop-left
 invariant-loop-left l = record {

@@ -3,7 +3,7 @@ use Rattle.std.proofs.lemmas.List.{map-append, take_more}
 use Rattle.keep.specs.Book.{is_there, missing}
 use Rattle.keep.specs.Scan.{candidate_view, counted, waiting_of}
 use Rattle.keep.specs.declared.change.Waiting.{Waiting}
-use Rattle.keep.proofs.scan.waiting_uploads.Goals as goal
+use Rattle.keep.proofs.uploads.waiting_uploads.Goals as goal
 
 pub loop-candidate-preserved : goal.loop-candidate-preserved
 unfolding missing

@@ -1,6 +1,6 @@
 use Rattle.std.proofs.Common.{◌≡◌, map, take}
 use Rattle.keep.specs.Scan.{candidate_view, counted, waiting_of}
-use Rattle.keep.proofs.scan.waiting_uploads.Given as goal
+use Rattle.keep.proofs.uploads.waiting_uploads.Given as goal
 
 abbrev pub invariant-loop-candidate : goal.invariant-loop-candidate
 invariant-loop-candidate l =
