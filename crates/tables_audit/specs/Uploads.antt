@@ -11,7 +11,8 @@ use Rattle.rules.specs.declared.verdict.Verdict.TheVariants as verdict
 use Rattle.sums.specs.declared.entries.Entry.{Entry}
 use Rattle.sums.specs.declared.print.Print.{Print}
 use Rattle.sums.specs.Prints.{same_print}
-use Rattle.keep.specs.Book.{candidates, is_changes_name, is_judged}
+use Rattle.keep.specs.Book.{candidates, is_judged}
+use Rattle.sums.specs.FileNames.{is_changes_name}
 use Rattle.keep.specs.declared.change.Judgement.{Judgement}
 use Rattle.tables.specs.Pieces.{is_of}
 use Rattle.tables.specs.Rows.{Numbered, Tables, rows_of}

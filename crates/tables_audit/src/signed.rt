@@ -7,9 +7,8 @@ ghost use Rattle.std.specs.Prelude.{◌≡◌, ◌↔◌, IsTrue, length};
 ghost use Rattle.tables.specs.Real.{IsRealPrint};
 ghost use Rattle.tables_meaning.specs.Kept.{AreSigned, IsSigned};
 
-use crate::arrivals::is_changes_name;
 use keep::Judgement;
-use sums::{Print, is_file_name};
+use sums::{Print, is_changes_name, is_file_name};
 
 /// The most bytes of a .changes.
 const MOST_CHANGES: u64 = 1_048_576;

@@ -16,7 +16,8 @@ use Rattle.sums.specs.Prints.{print as print_of, same_print}
 use Rattle.sums.specs.declared.entries.Entry.{Entry}
 use Rattle.sums.specs.declared.print.Print.{Print}
 use Rattle.suites.specs.Upload.{UploadValue, has_text}
-use Rattle.keep.specs.Book.{Book, Candidate, body_for, candidate_of, candidates, due, in_order, is_body_of, is_changes_name, is_complete, is_judged, is_there, judging_order, missing, put_in_order, unjudged, upload_of}
+use Rattle.keep.specs.Book.{Book, Candidate, body_for, candidate_of, candidates, due, in_order, is_body_of, is_complete, is_judged, is_there, judging_order, missing, put_in_order, unjudged, upload_of}
+use Rattle.sums.specs.FileNames.{is_changes_name}
 use Rattle.keep.specs.declared.arrival.Arrival.{Arrival}
 use Rattle.keep.proofs.Prints.{same_print-Decides}
 use Rattle.tables.specs.Bodies.{body_with, has_print}
