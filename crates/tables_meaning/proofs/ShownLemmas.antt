@@ -21,7 +21,7 @@ use Rattle.sums.specs.Prints.{same_print}
 use Rattle.sums.specs.declared.print.Print.{Print}
 use Rattle.suites.specs.Admission.{MayJoin}
 use Rattle.suites.specs.Items.{IsAtHome, standing}
-use Rattle.suites.specs.Keys.{key_order, kind_number}
+use Rattle.suites.specs.Keys.{key_order, kind_number, kind_numbered}
 use Rattle.suites.specs.KeyLemmas.{key_order_total, key_order-IsAntisymmetric}
 use Rattle.suites.specs.Pool.{AreAgreed, files_of, pair_of}
 use Rattle.suites.specs.Shelves.{AreSound, ShelvesValue, pool}
@@ -40,7 +40,8 @@ use Rattle.tables.specs.declared.rows.ItemRow.{ItemRow}
 use Rattle.tables.specs.declared.rows.Ref.{Ref}
 use Rattle.tables_meaning.specs.Kept.{AreItems, codename_at, is_on, item_row, refs_for, refs_in, shown_row}
 use Rattle.tables_meaning.specs.Kept as kept
-use Rattle.tables_meaning.specs.Shown.{AreLeft, IsPut, MayBePut, MayStand, PutsRow, clash, entry_in, entry_with, file_in, is_taken, item_with, kind_numbered, may_not_join, shown_in, suite_named}
+use Rattle.tables_meaning.specs.Shown.{AreLeft, IsPut, MayBePut, MayStand, PutsRow, clash, entry_in, entry_with, file_in, is_taken, item_with, may_not_join, shown_in}
+use Rattle.rules.specs.Suites.{suite_named}
 
 -- ---- rows and the keys of shelves
 
