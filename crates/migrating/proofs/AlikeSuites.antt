@@ -20,7 +20,7 @@ use Rattle.suites.specs.declared.item.Item.{Item}
 use Rattle.suites.specs.declared.key.ShelfKey.{ShelfKey}
 use Rattle.keep.specs.Configured.{AreAlike, without_days}
 use Rattle.tables_meaning.specs.Kept.{codename_at}
-use Rattle.tables_meaning.proofs.NameLemmas.{config_codenames}
+use Rattle.texts.proofs.Paths.{config_codenames}
 use Rattle.tables_meaning.proofs.ShownLemmas.{suite_back}
 use Rattle.tables_meaning.proofs.ConfiguredItems.{below}
 

@@ -12,8 +12,8 @@ use Rattle.suites.specs.Shelves.{ShelvesValue}
 use Rattle.sums.proofs.Members.{all_at, all_from, from_map, here, no_member, pairs_head, pairs_tail, there}
 use Rattle.texts.specs.Indices.{PathText, suite_path, suite_texts, texts_from}
 use Rattle.texts.specs.Release.{index_path}
-use Rattle.tables_meaning.proofs.NameLemmas.{AreNamed, CodenamesDiffer, IsNamed, config_named, folders, index_or_release, index_paths}
-use Rattle.tables_meaning.proofs.PairLemmas.{in_flat, pairs_append, pairs_flat, pairs_map, pairs_none, pairs_unmap}
+use Rattle.texts.proofs.Paths.{AreNamed, CodenamesDiffer, IsNamed, config_named, folders, index_or_release, index_paths}
+use Rattle.texts.proofs.Pairs.{in_flat, pairs_append, pairs_flat, pairs_map, pairs_none, pairs_unmap}
 use Rattle.tables_meaning.proofs.TextLemmas.{HasPathsApart, folder_paths, paths_of, suite_paths}
 
 abbrev Differ : List ℕ → List ℕ → Type 0
