@@ -24,7 +24,7 @@ use Rattle.tables_meaning.specs.Kept.{AreArrivals, AreBodies, AreFiles, AreItems
 use Rattle.texts.proofs.Paths.{config_codenames}
 use Rattle.tables_meaning.proofs.ConfiguredItems.{items_moved}
 use Rattle.tables_meaning.proofs.FoundKept.{dates_are, rows_all, same_dates, same_pairs, text_row, texts_are}
-use Rattle.tables_meaning.proofs.FoundLemmas.{map_twice}
+use Rattle.texts.proofs.Walk.{map_twice}
 use Rattle.tables_meaning.proofs.UnderWayLemmas.{like_under_way}
 
 -- only three tables have other rows

@@ -34,6 +34,7 @@ use Rattle.suites.proofs.EntryLemmas.{same_keys}
 use Rattle.suites.proofs.FileMembers.{entry_shown}
 use Rattle.suites.proofs.PoolLookups.{get-pool_of}
 use Rattle.suites.proofs.Prints.{same_print-equal}
+use Rattle.suites.proofs.MovedLemmas.{bytes_same}
 use Rattle.tables.specs.Items.{is_item}
 use Rattle.tables.specs.Rows.{Numbered, Tables}
 use Rattle.tables.specs.declared.rows.ItemRow.{ItemRow}
@@ -44,9 +45,6 @@ use Rattle.tables_meaning.specs.Shown.{AreLeft, IsPut, MayBePut, MayStand, PutsR
 use Rattle.rules.specs.Suites.{suite_named}
 
 -- ---- rows and the keys of shelves
-
-bytes_same : (xs ys : List ℕ) → bytes_eq xs ys ≡ true → xs ≡ ys
-bytes_same xs ys e = (bytes_eq-Decides xs ys).0 e
 
 bytes_equal : (xs ys : List ℕ) → xs ≡ ys → bytes_eq xs ys ≡ true
 bytes_equal xs ys e = (bytes_eq-Decides xs ys).1 e

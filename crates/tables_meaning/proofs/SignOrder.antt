@@ -1,11 +1,8 @@
 -- The order of judging is total, and only the same name and print tie.
-use Rattle.std.proofs.Common.{◌≡◌, ℕ, refl}
-use Rattle.std.specs.declared.cmp.Ordering.{Ordering}
-use Rattle.std.specs.declared.cmp.Ordering.TheVariants.{Less, Equal, Greater}
+use Rattle.std.proofs.Common.{◌≡◌, ℕ}
 use Rattle.std.specs.Cmp.{IsTotalOrder, nat_cmp_total, on_total, then_total}
 use Rattle.std.specs.FinMap.{IsAntisymmetric, nat_cmp-IsAntisymmetric}
-use Rattle.std.specs.Ordering.{ordering_then}
-use Rattle.suites.specs.KeyLemmas.{text_order_total, text_order-IsAntisymmetric}
+use Rattle.suites.specs.KeyLemmas.{text_order_total, text_order-IsAntisymmetric, first_tied, second_tied}
 use Rattle.tables_meaning.specs.Kept.{sign_in}
 use Rattle.tables_meaning.specs.Reads.{row_order}
 use Rattle.keep.specs.Book.{judging_order}
@@ -19,16 +16,6 @@ judging_order_total =
     (then_total (on_total (λ (s : Sign). s.1.sha256) text_order_total)
     (then_total (on_total (λ (s : Sign). s.1.sha1) text_order_total)
     (then_total (on_total (λ (s : Sign). s.1.md5) text_order_total) (on_total (λ (s : Sign). s.1.size) nat_cmp_total))))
-
-first_tied : (a b : Ordering) → ordering_then a b ≡ Equal → a ≡ Equal
-first_tied Less b e = e
-first_tied Equal b e = refl
-first_tied Greater b e = e
-
-second_tied : (a b : Ordering) → ordering_then a b ≡ Equal → b ≡ Equal
-second_tied Less b e = cc
-second_tied Equal b e = e
-second_tied Greater b e = cc
 
 same_sign : (a b : Sign) → a.0 ≡ b.0 → a.1.sha256 ≡ b.1.sha256 → a.1.sha1 ≡ b.1.sha1 → a.1.md5 ≡ b.1.md5 → a.1.size ≡ b.1.size → a ≡ b
 same_sign a b n s t m z = λ i. (n i, record { size = z i; md5 = m i; sha1 = t i; sha256 = s i })
