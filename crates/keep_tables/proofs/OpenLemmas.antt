@@ -23,7 +23,7 @@ use Rattle.tables_meaning.proofs.CallLemmas.{kept_here, shown_here}
 use Rattle.tables_meaning.proofs.RealRows.{kept_readable, kept_real}
 use Rattle.tables_meaning.proofs.ComingLemmas.{none_coming}
 use Rattle.tables_meaning.proofs.FinishedLemmas.{finished_twice, shown_finished}
-use Rattle.tables_meaning.proofs.NameLemmas.{config_codenames}
+use Rattle.texts.proofs.Paths.{config_codenames}
 use Rattle.tables_meaning.proofs.ShownLemmas.{shown_is}
 use Rattle.tables_meaning.proofs.UnderWayLemmas.{finished_under_way}
 use Rattle.tables_meaning.specs.Coming.{HasComing}

@@ -5,7 +5,7 @@ use Rattle.sqlite.specs.Held.{Held, state}
 use Rattle.sqlite.specs.State.{HasCleanDisk}
 use Rattle.keep.specs.Keeping.{MoreFaults}
 use Rattle.keep.specs.declared.fault.KeepFault.{KeepFault}
-use Rattle.keep.specs.declared.fault.KeepFault.TheVariants.{OutOfMemory, Tables as NoArchive}
+use Rattle.keep.specs.declared.fault.KeepFault.TheVariants.{NoArchive, OutOfMemory}
 use Rattle.rules.specs.Values.{ConfigValue}
 use Rattle.tables.specs.Causes.{MayFail}
 use Rattle.tables.specs.Schema.{no_schema}

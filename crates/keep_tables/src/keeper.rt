@@ -71,14 +71,13 @@ impl<S: Alter + Drop> TableKeeper<S> {
     ghost use Rattle.std.specs.Prelude.{◌≢◌, ◌⊎◌, true, IfOk, IfErr, IsErrAnd};
     ghost use Rattle.sqlite.specs.State.{Survives};
     ghost use Rattle.keep.specs.Plain.{fresh_book};
-    ghost use Rattle.keep.specs.declared.fault.KeepFault.TheVariants.{Tables as NotEmpty};
     ghost use Rattle.tables.specs.Schema.{no_schema};
     ghost use Rattle.tables_meaning.specs.Founding.{MayFound, founded};
     ghost use Rattle.tables_meaning.specs.Transactions.{IsUndone};
 
     /// A new archive of the configuration, in a database that has no table, no index and no view, made at the moment, in
     /// seconds since 1970-01-01 00:00:00 UTC. A fault gives the connection back, and then what was committed is as before. It is
-    /// `KeepFault::Tables` exactly where the database has an object already or a transaction is begun. A crash leaves what was
+    /// `KeepFault::NoArchive` exactly where the database has an object already or a transaction is begun. A crash leaves what was
     /// there before or the whole archive.
     #[tactic(auto, unfolding(tables_meaning::specs::Kept::book_in))]
     pub fn create(
@@ -99,7 +98,7 @@ impl<S: Alter + Drop> TableKeeper<S> {
         let free = connection.is_autocommit();
         let empty = is_without_tables(&connection);
         if !free || !empty {
-            return Err((connection, KeepFault::Tables));
+            return Err((connection, KeepFault::NoArchive));
         }
         let Ok(dates) = vec![in alloc; moment; config.suites().len()] else {
             return Err((connection, KeepFault::OutOfMemory));

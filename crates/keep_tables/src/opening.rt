@@ -3,7 +3,7 @@
 ghost use Rattle.std.specs.Prelude.{◌≡◌, ◌≢◌, [], None, true, false, IfOk, IfErr, IfSome, OnErr};
 ghost use Rattle.sqlite.specs.State.{HasCleanDisk, IsUnchanged, Survives};
 ghost use Rattle.sqlite.specs.Held.{state};
-ghost use Rattle.keep.specs.declared.fault.KeepFault.TheVariants.{Tables as NoArchive};
+ghost use Rattle.keep.specs.declared.fault.KeepFault.TheVariants.{NoArchive};
 ghost use Rattle.tables.specs.Causes.{IsCaused};
 ghost use Rattle.tables.specs.Rows.{Fails, Rises, Stands, tables_in};
 ghost use Rattle.tables.specs.Others.{IsArchiveSchema};
@@ -155,7 +155,7 @@ fn keeper_of<S: Alter + Drop>(
 impl<S: InOrder + Drop> TableKeeper<S> {
     /// The keeper over the tables of a database that keeps an archive, without the bodies that are not whole: an opening
     /// takes these away, with their pieces. A fault gives the connection back, and what was committed is as before. The
-    /// fault is `KeepFault::Tables` only where a transaction is begun or the database keeps no archive; another comes only
+    /// fault is `KeepFault::NoArchive` only where a transaction is begun or the database keeps no archive; another comes only
     /// where memory is wanting, the store fails meanwhile, the connection was shut or may take only so many steps, or some
     /// body is not whole. A crash leaves what was there, or that without these bodies.
     pub fn open(
@@ -173,11 +173,11 @@ impl<S: InOrder + Drop> TableKeeper<S> {
         ensures crash_undone { IfErr result (λ e. Survives (state S.Store connection) (state S.Store e.0) (MayCommit (state S.Store connection) finished)) }
     {
         if !connection.is_autocommit() {
-            return Err((connection, KeepFault::Tables));
+            return Err((connection, KeepFault::NoArchive));
         }
         match find_archive(alloc, &mut connection) {
             Ok(Some(found)) => keeper_of(alloc, connection, found),
-            Ok(None) => Err((connection, KeepFault::Tables)),
+            Ok(None) => Err((connection, KeepFault::NoArchive)),
             Err(error) => Err((connection, fault_of(error))),
         }
     }

@@ -7,14 +7,15 @@ ghost use Rattle.sqlite.specs.State.{IsUnchanged};
 ghost use Rattle.sums.specs.Prints.{print as print_of_body};
 ghost use Rattle.records.specs.Records.{changes_in};
 ghost use Rattle.suites.specs.Upload.{IsTextOf};
-ghost use Rattle.tables_meaning.specs.Reads.{next_wanting_in, wanting, row_order, sign_order, sorted_by, bytes_with, text_in, upload_in};
+ghost use Rattle.keep.specs.Book.{judging_order};
+ghost use Rattle.tables_meaning.specs.Reads.{next_wanting_in, wanting, row_order, sorted_by, bytes_with, text_in, upload_in};
 ghost use Rattle.tables_meaning.specs.Kept.{sign_in};
 ghost use Rattle.keep_tables.specs.Moments.{is_had, missing_at, row_at, rows_at, waiting_at, due_at};
 ghost use Rattle.tables.specs.Calls.{CommitsNoRows, OverRows, Reads};
 ghost use Rattle.tables_meaning.specs.Calls.{ReadUndone, ReadsAtRest};
 
 use crate::counting::{counts_still, missing_of_one};
-use keep::Waiting;
+use keep::{Waiting, judging_order};
 use para::Listed;
 use records::{Changes, RecordFault};
 use sqlite::{Alter, Connection, Error, ErrorCode};
@@ -73,24 +74,17 @@ pub(crate) fn wanting_uploads<S: Alter>(
 }
 
 /// The order of judging: by the bytes of the names, then by SHA-256, SHA-1, MD5 and size.
-#[tactic(auto, unfolding(tables_meaning::specs::Reads::sign_order))]
-fn judging_order(a: &UploadRow, b: &UploadRow) -> Ordering
-    ensures { result ≡ sign_order (sign_in a.now) (sign_in b.now) }
+fn row_order(a: &UploadRow, b: &UploadRow) -> Ordering
+    ensures { result ≡ judging_order (sign_in a.now) (sign_in b.now) }
 {
-    a.name
-        .as_str()
-        .cmp(b.name.as_str())
-        .then(a.print.sha256.cmp(&b.print.sha256))
-        .then(a.print.sha1.cmp(&b.print.sha1))
-        .then(a.print.md5.cmp(&b.print.md5))
-        .then(a.print.size.cmp(&b.print.size))
+    judging_order(a.name.as_str(), &a.print, b.name.as_str(), &b.print)
 }
 
 /// The uploads in the order of judging, those that tie as they stand.
 fn in_judging_order(mut uploads: Vec<(u64, UploadRow)>) -> Result<Vec<(u64, UploadRow)>, AllocError>
     ensures { IfOk result (λ sorted. sorted.items ≡ sorted_by row_order uploads.items) }
 {
-    uploads.sort_by(|a, b| judging_order(&a.1, &b.1))?;
+    uploads.sort_by(|a, b| row_order(&a.1, &b.1))?;
     Ok(uploads)
 }
 

@@ -25,7 +25,7 @@ use tables_meaning::fault_of;
 /// Makes the archive of an old book under another configuration, in a database that has no table, no index and no view. What has
 /// arrived has so at the moment, in seconds since 1970-01-01 00:00:00 UTC. The configuration has the same suites in the same order:
 /// only KeepDays and ValidDays may differ. A fault gives the connection back, and then what was committed is as before. It is
-/// `KeepFault::Tables` exactly where the database has an object already or a transaction is begun, and else
+/// `KeepFault::NoArchive` exactly where the database has an object already or a transaction is begun, and else
 /// `KeepFault::Configuration` exactly where the suites differ. A crash leaves what was there before or the whole archive.
 pub fn migrate<S: Alter + Drop>(
     alloc: Global,
@@ -49,7 +49,7 @@ pub fn migrate<S: Alter + Drop>(
     let free = to.is_autocommit();
     let empty = is_without_tables(&to);
     if !free || !empty {
-        return Err((to, KeepFault::Tables));
+        return Err((to, KeepFault::NoArchive));
     }
     if !are_alike(old.config(), &config) {
         return Err((to, KeepFault::Configuration));

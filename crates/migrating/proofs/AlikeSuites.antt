@@ -9,7 +9,7 @@ use Rattle.std.proofs.lemmas.List.Elements.{All-weaker, recursion_from_All}
 use Rattle.std.proofs.lemmas.Option.{slice_get-map}
 use Rattle.sqlite_keyed.proofs.ListLemmas.{test_from_all}
 use Rattle.rules.specs.Configuration.{config_in}
-use Rattle.rules.specs.Suites.{keeps_architecture, keeps_component}
+use Rattle.rules.specs.Suites.{keeps_architecture, keeps_component, suite_named}
 use Rattle.rules.specs.Values.{ConfigValue}
 use Rattle.rules.specs.declared.suite.Suite.{Suite}
 use Rattle.suites.specs.KeyLemmas.{key_order_total, key_order-IsAntisymmetric}
@@ -20,8 +20,7 @@ use Rattle.suites.specs.declared.item.Item.{Item}
 use Rattle.suites.specs.declared.key.ShelfKey.{ShelfKey}
 use Rattle.keep.specs.Configured.{AreAlike, without_days}
 use Rattle.tables_meaning.specs.Kept.{codename_at}
-use Rattle.tables_meaning.specs.Shown.{suite_named}
-use Rattle.tables_meaning.proofs.NameLemmas.{config_codenames}
+use Rattle.texts.proofs.Paths.{config_codenames}
 use Rattle.tables_meaning.proofs.ShownLemmas.{suite_back}
 use Rattle.tables_meaning.proofs.ConfiguredItems.{below}
 

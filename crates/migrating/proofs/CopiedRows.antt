@@ -5,11 +5,12 @@ use Rattle.std.specs.List.{cons_option, enumerate_from, flat_map, list_any}
 use Rattle.std.specs.Option.{option_and_then}
 use Rattle.std.specs.FinMap.{get}
 use Rattle.std.proofs.lemmas.List.Elements.{All-map, All-weaker}
-use Rattle.sqlite_keyed.proofs.ListLemmas.{ascending-map, map-map}
+use Rattle.sqlite_keyed.proofs.ListLemmas.{map-map}
 use Rattle.rules.specs.Values.{ConfigValue}
 use Rattle.rules.specs.declared.suite.Suite.{Suite}
 use Rattle.sums.specs.Prints.{print as print_of}
 use Rattle.sums.specs.declared.entries.Entry.{Entry}
+use Rattle.sums.proofs.Reading.{pairs_map}
 use Rattle.suites.specs.Shelves.{ShelvesValue, pool}
 use Rattle.suites.specs.declared.key.ShelfKey.{ShelfKey}
 use Rattle.keep.specs.Book.{Candidate, candidate_of, candidates, is_body_of, is_judged, is_there, latest}
@@ -32,7 +33,6 @@ use Rattle.tables.specs.declared.rows.Ref.{Ref}
 use Rattle.tables.specs.declared.rows.UploadRow.{UploadRow}
 use Rattle.tables.specs.declared.rows.Want.{Want}
 use Rattle.tables_meaning.specs.Kept.{AreArrivals, AreBodies, AreFiles, AreItems, AreUploads, IsBook, arrival_in, arrivals_in, bytes_of, files_in, has_body, is_on, is_used, pieces_for, print_at, shown_row, sign_in, used_in, wants_in}
-use Rattle.tables_meaning.proofs.RowLists.{ascending_from_pairs, pairs_from_ascending}
 use Rattle.copying.specs.Copying.{anew, arrived_at}
 use Rattle.migrating.proofs.FoundedRows.{meta_for}
 
@@ -41,9 +41,6 @@ use Rattle.migrating.proofs.FoundedRows.{meta_for}
 rows_anew : {X : Type 0} (n : ℕ) (xs : List X) → map (λ x. x.1) (enumerate_from n xs) ≡ xs
 rows_anew n [] = refl
 rows_anew n (x ∷ xs) = ap (λ ys. x ∷ ys) (rows_anew (n + 1) xs)
-
-pairs_map : {X Y : Type 0} (R : Y → Y → Type 0) (f : X → Y) (xs : List X) → AllPairs (λ a b. R (f a) (f b)) xs → AllPairs R (map f xs)
-pairs_map R f xs h = pairs_from_ascending R (map f xs) (ascending-map R f xs (ascending_from_pairs (λ a b. R (f a) (f b)) xs h))
 
 -- ---- arrivals as of a moment
 

@@ -7,7 +7,7 @@ use Rattle.sqlite.specs.State.{State, IsUnchanged}
 use Rattle.sqlite.specs.declared.error.Error.{Error}
 use Rattle.keep.specs.Keeping.{MayAnswer}
 use Rattle.keep.specs.declared.fault.KeepFault.{KeepFault}
-use Rattle.keep.specs.declared.fault.KeepFault.TheVariants.{Tables as NoArchive}
+use Rattle.keep.specs.declared.fault.KeepFault.TheVariants.{NoArchive}
 use Rattle.tables.specs.Rows.{Fails, Tables}
 use Rattle.tables.proofs.ReadLemmas.{fails_unchanged}
 use Rattle.tables_meaning.specs.Kept.{AreReadable}

@@ -96,12 +96,12 @@ fn book_in<S: Alter>(alloc: Global, from: &mut Connection<S>) -> Result<Option<O
 
 impl OldBook {
     ghost use Rattle.std.specs.Prelude.{◌⊎◌, true, IfErr};
-    ghost use Rattle.keep.specs.declared.fault.KeepFault.TheVariants.{Tables as NoArchive};
+    ghost use Rattle.keep.specs.declared.fault.KeepFault.TheVariants.{NoArchive};
     ghost use Rattle.tables.specs.Rows.{Stands, Tables};
     ghost use Rattle.old_book.specs.Old.{IsOldBook};
     ghost use Rattle.old_book.specs.Settling.{settled, with_configuration};
 
-    /// The book of an archive of an older layout, from its database. The fault is `KeepFault::Tables` only where a transaction is begun or
+    /// The book of an archive of an older layout, from its database. The fault is `KeepFault::NoArchive` only where a transaction is begun or
     /// the queries of no older layout show rows that keep one. The database is as before.
     pub fn read<S: Alter>(alloc: Global, from: &mut Connection<S>) -> Result<OldBook, KeepFault>
         ensures read { IfOk result (λ old. HasCleanDisk (state S.Store from.new) → (t : Tables) × IsOldBook (state S.Store from.old).now t old.held.config old.held.judged.items old.held.shelves old.held.dates.items
@@ -114,11 +114,11 @@ impl OldBook {
         ensures survives { NeverCommits S.Store from.old from.new }
     {
         if !from.is_autocommit() {
-            return Err(KeepFault::Tables);
+            return Err(KeepFault::NoArchive);
         }
         match book_in(alloc, from) {
             Ok(Some(old)) => Ok(old),
-            Ok(None) => Err(KeepFault::Tables),
+            Ok(None) => Err(KeepFault::NoArchive),
             Err(error) => Err(fault_of(error)),
         }
     }

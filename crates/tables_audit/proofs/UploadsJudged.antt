@@ -7,34 +7,15 @@ use Rattle.std.proofs.lemmas.List.{length-map}
 use Rattle.std.proofs.lemmas.List.Elements.{All-from_recursion, recursion_from_All}
 use Rattle.std.proofs.lemmas.List.FromFn.{length-map-range_with_len}
 use Rattle.std.proofs.lemmas.Option.{slice_get-get_or, slice_get_past, slice_get_within}
-use Rattle.rules.specs.Verdicts.{number_of}
+use Rattle.rules.proofs.VerdictNumbers.{known, number_is}
+use Rattle.rules.specs.Verdicts.{verdict_numbered}
 use Rattle.rules.specs.declared.verdict.Verdict.{Verdict}
-use Rattle.rules.specs.declared.verdict.Verdict.TheVariants as verdict
 use Rattle.keep.specs.declared.change.Judgement.{Judgement}
 use Rattle.tables.specs.Rows.{Numbered, rows_of}
 use Rattle.tables.specs.declared.rows.UploadRow.{UploadRow}
 use Rattle.tables_meaning.specs.Kept.{is_placed, judged_row}
-use Rattle.tables_audit.specs.Uploads.{all_verdicts, judged_at, judgement_in, last_of, later, verdict_numbered}
+use Rattle.tables_audit.specs.Uploads.{judged_at, judgement_in, last_of, later}
 use Rattle.tables_audit.proofs.UploadsLists.{found_passes, from_slices, none_among, none_passes, same_somes, slice_get-map, slice_get-range}
-
--- ---- verdicts and their numbers
-
-pub known : (v : Verdict) → verdict_numbered (number_of v) ≡ Some v
-unfolding verdict_numbered
-known verdict.Accepted = refl
-known verdict.Unclaimed = refl
-known verdict.ForeignArchitecture = refl
-known verdict.NotAllowed = refl
-known verdict.ForeignComponent = refl
-known verdict.BadListing = refl
-known verdict.BadDsc = refl
-known verdict.BadSidecar = refl
-known verdict.NotInPool = refl
-known verdict.OtherContents = refl
-
-pub number_is : (n : ℕ) (v : Verdict) → verdict_numbered n ≡ Some v → n ≡ number_of v
-unfolding verdict_numbered
-number_is n v e = sym ((Decides-eqb (number_of v) n).0 (found_passes (λ w. nat_eq (number_of w) n) all_verdicts v e))
 
 -- ---- a row and its judgement
 

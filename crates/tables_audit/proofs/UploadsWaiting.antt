@@ -11,7 +11,8 @@ use Rattle.records.specs.Values.{ChangesValue}
 use Rattle.sums.specs.Prints.{print as print_of}
 use Rattle.sums.specs.declared.entries.Entry.{Entry}
 use Rattle.sums.specs.declared.print.Print.{Print}
-use Rattle.keep.specs.Book.{Candidate, candidate_of, candidates, is_body_of, is_changes_name, is_judged, is_there}
+use Rattle.keep.specs.Book.{Candidate, candidate_of, candidates, is_body_of, is_judged, is_there}
+use Rattle.sums.specs.FileNames.{is_changes_name}
 use Rattle.keep.specs.declared.change.Judgement.{Judgement}
 use Rattle.tables.specs.Rows.{Numbered, Tables, rows_of}
 use Rattle.tables.specs.Uploads.{is_judged as has_place}

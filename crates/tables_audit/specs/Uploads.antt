@@ -1,17 +1,16 @@
 -- The words of the functions on uploads.
-use Rattle.std.specs.Prelude.{◌≡◌, ◌≢◌, ℕ, nat_eq, nat_lt, Bool, ◌&&◌, not, if◌then◌else◌, List, [], ◌∷◌, map, filter, find, fold, bytes_eq, All, IsTrue, Option, Some, None, option_map}
+use Rattle.std.specs.Prelude.{◌≡◌, ◌≢◌, ℕ, nat_eq, nat_lt, Bool, ◌&&◌, not, if◌then◌else◌, List, map, filter, find, fold, bytes_eq, All, IsTrue, Option, Some, None, option_map}
 use Rattle.std.specs.List.{list_any, flat_map}
 use Rattle.std.specs.Option.{option_and_then}
 use Rattle.std.specs.Result.{result_ok}
 use Rattle.records.specs.Records.{changes_in}
 use Rattle.records.specs.Values.{ChangesValue}
-use Rattle.rules.specs.Verdicts.{number_of}
-use Rattle.rules.specs.declared.verdict.Verdict.{Verdict}
-use Rattle.rules.specs.declared.verdict.Verdict.TheVariants as verdict
+use Rattle.rules.specs.Verdicts.{verdict_numbered}
 use Rattle.sums.specs.declared.entries.Entry.{Entry}
 use Rattle.sums.specs.declared.print.Print.{Print}
 use Rattle.sums.specs.Prints.{same_print}
-use Rattle.keep.specs.Book.{candidates, is_changes_name, is_judged}
+use Rattle.keep.specs.Book.{candidates, is_judged}
+use Rattle.sums.specs.FileNames.{is_changes_name}
 use Rattle.keep.specs.declared.change.Judgement.{Judgement}
 use Rattle.tables.specs.Pieces.{is_of}
 use Rattle.tables.specs.Rows.{Numbered, Tables, rows_of}
@@ -32,15 +31,6 @@ use Rattle.tables_audit.specs.declared.uploads.awaited.Awaited.{Awaited}
 pub record IsPlacedWell (u : UploadRow) : Type 0 where
   pub unjudged : u.place ≡ None → u.verdict ≡ None
   pub from_one : u.place ≢ Some 0
-
-abbrev pub all_verdicts : List Verdict
-all_verdicts =
-    verdict.Accepted ∷ verdict.Unclaimed ∷ verdict.ForeignArchitecture ∷ verdict.NotAllowed ∷ verdict.ForeignComponent
-    ∷ verdict.BadListing ∷ verdict.BadDsc ∷ verdict.BadSidecar ∷ verdict.NotInPool ∷ verdict.OtherContents ∷ []
-
--- the verdict with a number
-unfoldable pub verdict_numbered : ℕ → Option Verdict
-verdict_numbered n = find (λ v. nat_eq (number_of v) n) all_verdicts
 
 -- the judgement that a row tells
 unfoldable pub judgement_in : UploadRow → Option Judgement

@@ -13,13 +13,11 @@ ghost use Rattle.tables_audit.specs.Bodies.{ArePieces, AreUsed, IsBodyFit, IsNex
 ghost use Rattle.tables_audit.specs.Parts.{BodiesFit};
 
 use crate::pieces::Pieces;
+use keep::PIECE_SIZE;
 use std::alloc::{AllocError, Global};
 use sums::{Print, Printer};
 use tables::rows::{ArrivalRow, BodyRow, File, Piece};
 use tables_read::AllRows;
-
-/// The most bytes that a piece has.
-pub const PIECE_SIZE: u64 = 65536;
 
 /// How many bytes the pieces of a body have, or the most that can be counted.
 fn count_of_bytes(pieces: &[(u64, Piece)], id: u64) -> usize
@@ -71,11 +69,11 @@ fn is_next(piece: &Piece, size: u64, whole: u64) -> bool
     if size == whole {
         return false;
     }
-    if piece.number != size / PIECE_SIZE + 1 {
+    if piece.number != size / PIECE_SIZE as u64 + 1 {
         return false;
     }
     let left = whole - size;
-    piece.bytes.as_slice().len() as u64 == left.min(PIECE_SIZE)
+    piece.bytes.as_slice().len() as u64 == left.min(PIECE_SIZE as u64)
 }
 
 /// Whether the pieces of a body among these rows are those of its bytes, and this is the print of these bytes. They are

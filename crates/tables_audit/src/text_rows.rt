@@ -1,11 +1,11 @@
 //! Whether the rows of `texts` are the texts of the suites.
 
-ghost use Rattle.std.specs.Prelude.{◌≡◌, ◌≢◌, ◌≤◌, ◌<◌, ◌↔◌, ◌∷◌, ◌++◌, List, All, None, length, map, codes, string_bytes, IsTrue, IfOk, IfSome, OnOk};
+ghost use Rattle.std.specs.Prelude.{◌≡◌, ◌≢◌, ◌≤◌, ◌<◌, ◌↔◌, ◌∷◌, ◌++◌, List, All, None, length, map, codes, IsTrue, IfOk, IfSome, OnOk};
 ghost use Rattle.tables_meaning.specs.Founding.{from_root, suite_texts_at};
 ghost use Rattle.tables_audit.specs.TextRows.{text_in, texts_in};
 ghost use Rattle.tables.specs.Rows.{rows_of};
 ghost use Rattle.tables_read.specs.All.{tables_with};
-ghost use Rattle.texts.specs.Indices.{PathText, all_texts, suite_path};
+ghost use Rattle.texts.specs.Indices.{PathText, all_texts};
 ghost use Rattle.texts.specs.Positions.{release_at};
 ghost use Rattle.texts.specs.Release.{index_of, listed_entry, listed_texts};
 
@@ -17,7 +17,7 @@ use suites::Shelves;
 use sums::print_of;
 use tables::rows::TextRow;
 use tables_read::AllRows;
-use texts::{Index, index_path, listed_text, release};
+use texts::{Index, index_path, listed_text, path_in, release};
 
 /// The index of a component and an architecture, of the suite at the position.
 fn listed_entry(
@@ -123,14 +123,6 @@ fn release_over(
     })
 }
 
-/// The whole path of a text in the folder of the suite.
-fn path_in(alloc: Global, suite: &Suite, path: &str) -> Result<String, AllocError>
-    ensures { IfOk result (λ whole. string_bytes whole ≡ suite_path suite.now path.now) }
-{
-    let codename = suite.codename.as_str();
-    format!(in alloc; "dists/{codename}/{path}")
-}
-
 /// Whether a row has a text of the folder of the suite, at its whole path.
 fn is_row_of(
     alloc: Global,
@@ -143,7 +135,7 @@ fn is_row_of(
     if row.body.as_slice() != text.body.as_slice() {
         return Ok(false);
     }
-    let path = path_in(alloc, suite, text.path.as_str())?;
+    let path = path_in(alloc, suite.codename.as_str(), text.path.as_str())?;
     Ok(row.path.as_str() == path.as_str())
 }
 

@@ -11,8 +11,8 @@ ghost use Rattle.tables_read.specs.All.{tables_with};
 ghost use Rattle.tables_meaning.specs.Finished.{AreUnderWay};
 ghost use Rattle.tables_audit.specs.Bodies.{AreInPieces, IsBehind, IsInPieces};
 
-use crate::bodies::PIECE_SIZE;
 use crate::pieces::Pieces;
+use keep::PIECE_SIZE;
 use tables::rows::{BodyRow, Piece};
 use tables_read::AllRows;
 
@@ -25,7 +25,7 @@ fn is_behind(piece: &Piece, count: u64) -> bool
         return false;
     }
     let size = piece.bytes.as_slice().len() as u64;
-    size != 0 && size <= PIECE_SIZE
+    size != 0 && size <= PIECE_SIZE as u64
 }
 
 /// Whether the pieces of a body among these rows are those of its bytes: numbered from 1, each full but the last. They are read one
@@ -44,7 +44,7 @@ fn are_in_pieces(pieces: &[(u64, Piece)], id: u64) -> bool
                 return false;
             }
             count += 1;
-            is_full = row.1.bytes.as_slice().len() as u64 == PIECE_SIZE;
+            is_full = row.1.bytes.as_slice().len() as u64 == PIECE_SIZE as u64;
         }
     }
     true

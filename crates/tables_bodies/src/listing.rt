@@ -7,7 +7,6 @@
 ghost use Rattle.std.specs.Prelude.{◌≡◌, Ok, IsTrue, IfOk, OnOk, OnErr, option_map};
 ghost use Rattle.sqlite.specs.State.{HasCleanDisk, IsUnchanged, KeepsCommit};
 ghost use Rattle.sqlite.specs.Held.{state};
-ghost use Rattle.keep.specs.Book.{is_changes_name};
 ghost use Rattle.records.specs.Records.{changes_in};
 ghost use Rattle.tables.specs.Inside.{GoesOn};
 ghost use Rattle.tables.specs.Rows.{Tables, Holds};
@@ -19,15 +18,7 @@ use crate::reading::read_body_inside;
 use records::{Changes, RecordFault};
 use sqlite::{Alter, Error, ErrorCode, Transaction};
 use std::alloc::Global;
-use sums::Entry;
-
-/// Whether the name is that of a .changes.
-#[tactic(auto, unfolding(keep::specs::Book::is_changes_name))]
-fn is_changes(name: &str) -> bool
-    ensures { result ≡ is_changes_name name.now }
-{
-    name.as_bytes().ends_with(b".changes")
-}
+use sums::{Entry, is_changes_name};
 
 /// The record of a .changes.
 fn changes_of(alloc: Global, body: &[u8]) -> Result<Changes, Error>
@@ -44,7 +35,7 @@ fn changes_of(alloc: Global, body: &[u8]) -> Result<Changes, Error>
 pub(crate) fn record_of(alloc: Global, name: &str, bytes: &[u8]) -> Result<Option<Changes>, Error>
     ensures { IfOk result (λ found. option_map (λ c. c.entries) found ≡ listed_in name.now bytes.now) }
 {
-    if !is_changes(name) {
+    if !is_changes_name(name) {
         return Ok(None);
     }
     let changes = changes_of(alloc, bytes)?;
@@ -84,7 +75,7 @@ pub(crate) fn record_inside<S: Alter>(
     ensures kept { Inside S.Store tx.old tx.new (λ old new. IsTrue old.is_open → OnErr result (KeepsCommit old new)) }
     ensures survives { CommitsNothing S.Store tx.old tx.new }
 {
-    if !is_changes(name) {
+    if !is_changes_name(name) {
         return Ok(None);
     }
     let bytes = bytes_inside(alloc, tx, body)?;

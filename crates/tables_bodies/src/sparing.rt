@@ -8,7 +8,6 @@ ghost use Rattle.std.specs.Prelude.{◌≡◌, false, IsTrue, IfOk};
 ghost use Rattle.std.specs.List.{list_any};
 ghost use Rattle.sqlite.specs.Held.{state};
 ghost use Rattle.sqlite.specs.State.{HasCleanDisk};
-ghost use Rattle.texts.specs.Stanzas.{file_name};
 ghost use Rattle.tables.specs.Rows.{IsArchive, tables_in};
 ghost use Rattle.tables_meaning.specs.Making.{takes_file};
 ghost use Rattle.tables_meaning.specs.Transactions.{IsUndone};
@@ -23,6 +22,7 @@ use suites::PoolFile;
 use tables::arrivals::arrival_at;
 use tables::files::file_at;
 use tables::probe::probe;
+use texts::file_name;
 
 /// Whether a step takes a file of the pool away.
 fn takes_file(step: &Step) -> bool
@@ -41,16 +41,6 @@ pub fn some_take_files(steps: &[Step]) -> bool
         }
     }
     false
-}
-
-/// What follows the last slash of a path.
-fn file_name(path: &str) -> &str
-    ensures { result.now ≡ file_name path.now }
-{
-    match path.rsplit_once('/') {
-        Some((_, name)) => name,
-        None => path,
-    }
 }
 
 /// Whether a body has arrived under the name at the end of a path.

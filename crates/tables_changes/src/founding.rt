@@ -1,7 +1,7 @@
 //! The first rows of an archive.
 
-ghost use Rattle.std.specs.Prelude.{◌≡◌, ◌≤◌, ◌<◌, All, length, map, string_bytes, zip, IfOk, OnOk};
-ghost use Rattle.texts.specs.Indices.{all_texts, suite_path};
+ghost use Rattle.std.specs.Prelude.{◌≡◌, ◌≤◌, ◌<◌, All, length, map, zip, IfOk, OnOk};
+ghost use Rattle.texts.specs.Indices.{all_texts};
 ghost use Rattle.texts.specs.Positions.{indices_at, release_at};
 ghost use Rattle.texts.specs.Release.{listed_entry};
 ghost use Rattle.tables_meaning.specs.Founding.{Continues, Founds, component_texts, components_texts, founded, from_root, suite_texts_at, with_dates, with_first_rows, with_path_text, with_texts};
@@ -17,15 +17,7 @@ use tables::dates::insert_date;
 use tables::meta::{VERSION, insert_meta};
 use tables::schema::{create_indexes, create_tables};
 use tables::texts::insert_text;
-use texts::{index_path, indices_of, listed_text, release};
-
-/// The whole path of a text in the folder of the suite.
-fn path_in(alloc: Global, suite: &Suite, path: &str) -> Result<String, AllocError>
-    ensures { IfOk result (λ whole. string_bytes whole ≡ suite_path suite.now path.now) }
-{
-    let codename = suite.codename.as_str();
-    format!(in alloc; "dists/{codename}/{path}")
-}
+use texts::{index_path, indices_of, listed_text, path_in, release};
 
 /// The Release of the suite at the position, whose shown items last changed at the moment.
 fn release_of(
@@ -58,7 +50,7 @@ fn insert_in_folder<S: Alter>(
     ensures err { KeepsCommitted S.Store tx.old tx.new result }
     ensures survives { CommitsNothing S.Store tx.old tx.new }
 {
-    let whole = path_in(alloc, suite, path)?;
+    let whole = path_in(alloc, suite.codename.as_str(), path)?;
     insert_text(tx, whole.as_str(), text)
 }
 

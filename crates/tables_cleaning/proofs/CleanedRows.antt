@@ -23,7 +23,8 @@ use Rattle.tables_meaning.specs.Cleaning.{cleaned, counts_row, ended_rows, has_e
 use Rattle.tables_meaning.specs.Kept.{AreArrivals, AreNumbered, AreStored, AreUploads, IsBook, arrival_in, arrivals_in, bytes_of, has_body, print_at, request_of, sign_in, wanted}
 use Rattle.tables_meaning.specs.Sweeping.{swept}
 use Rattle.tables_meaning.proofs.AmendedLemmas.{print_is}
-use Rattle.tables_meaning.proofs.BodyLemmas.{all_if, any_same as any_alike, are_stored, list_any-map}
+use Rattle.tables_meaning.proofs.BodyLemmas.{all_if, are_stored, list_any-map}
+use Rattle.keep.proofs.Arrivals.{any_same as any_alike}
 use Rattle.tables_meaning.proofs.RequestLemmas.{requests, rows_from_uploads, sign_at, sign_made}
 use Rattle.tables_meaning.proofs.Searches.{all_of_rows, any_same, any_weaker, filter_same_on, filter_twice, list_any-filter, map_same_on, same_tests}
 use Rattle.tables_meaning.proofs.WantLemmas.{AreRows, any_waiting, entry_in, is_sign, is_sign-Decides, is_sign-turned, is_waiting, request, waits_as, wants_of}

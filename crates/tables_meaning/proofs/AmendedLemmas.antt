@@ -39,7 +39,7 @@ use Rattle.tables_meaning.specs.Kept.{AreArrivals, AreFiles, AreItems, AreSigned
 use Rattle.tables_meaning.specs.Making.{with_new_dates, with_new_texts}
 use Rattle.tables_meaning.proofs.BodyLemmas.{are_stored}
 use Rattle.tables_meaning.proofs.DateLemmas.{in_range_past, length_past, renewed_dates}
-use Rattle.tables_meaning.proofs.NameLemmas.{config_codenames}
+use Rattle.texts.proofs.Paths.{config_codenames}
 use Rattle.tables_meaning.proofs.PathLemmas.{config_paths}
 use Rattle.tables_meaning.proofs.RowLists.{found_passes}
 use Rattle.tables_meaning.proofs.SweptLemmas.{IsUnswept}

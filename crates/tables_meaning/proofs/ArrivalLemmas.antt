@@ -31,7 +31,8 @@ use Rattle.tables.specs.declared.rows.Want.{Want}
 use Rattle.tables_meaning.specs.Cleaning.{counts_row}
 use Rattle.tables_meaning.specs.Kept.{AreArrivals, AreBodies, AreNumbered, AreStored, arrival_in, arrivals_in, bytes_of, has_body, is_used, print_at}
 use Rattle.tables_meaning.specs.Making.{is_here, number_with, with_arrived, with_bytes, with_delivered, with_requested, with_wants}
-use Rattle.tables_meaning.proofs.BodyLemmas.{HasBody, Stores, all_if, any_false, any_same, any_with, apart_same, are_stored, arrived_used, body_found, by_number, found, has_body_if, its_print, list_any-map, map_alike, none_found, of_no_print, row_of_found, rows_added, same_number, same_row, stores, used_on}
+use Rattle.tables_meaning.proofs.BodyLemmas.{HasBody, Stores, all_if, any_false, any_with, apart_same, are_stored, arrived_used, body_found, by_number, found, has_body_if, its_print, list_any-map, map_alike, none_found, of_no_print, row_of_found, rows_added, same_number, same_row, stores, used_on}
+use Rattle.keep.proofs.Arrivals.{any_same}
 use Rattle.tables_meaning.proofs.Searches.{list_any-filter}
 
 -- ---- lists

@@ -15,7 +15,7 @@ use Rattle.tables_meaning.specs.Archives.{Amends, KeepsArchive, KeepsLeft, Turns
 use Rattle.tables_meaning.specs.KeeperLemmas.{left_is}
 use Rattle.tables_meaning.specs.Shown.{shown_in}
 use Rattle.tables_meaning.specs.Transactions.{IsUndone}
-use Rattle.tables_meaning.proofs.NameLemmas.{config_codenames}
+use Rattle.texts.proofs.Paths.{config_codenames}
 use Rattle.tables_meaning.specs.Finished.{finished}
 use Rattle.tables_meaning.proofs.FinishedLemmas.{shown_finished}
 use Rattle.tables_meaning.proofs.ShownLemmas.{shown_is}

@@ -21,7 +21,7 @@ use Rattle.tables_meaning.specs.Sweeping.{swept}
 use Rattle.tables_meaning.proofs.AmendedLemmas.{IsWritten, amended_archive}
 use Rattle.tables_meaning.proofs.BodyLemmas.{are_stored, used_on}
 use Rattle.tables_meaning.proofs.JudgedSteps.{judged_steps}
-use Rattle.tables_meaning.proofs.NameLemmas.{config_codenames}
+use Rattle.texts.proofs.Paths.{config_codenames}
 use Rattle.tables_meaning.proofs.RemainingFiles.{remains_written}
 use Rattle.tables_meaning.proofs.SignedLemmas.{signed_after}
 use Rattle.tables_meaning.proofs.StepLemmas.{stepped_rows, sound_past}

@@ -18,7 +18,7 @@ use Rattle.tables.specs.Items.{is_item}
 use Rattle.tables.specs.Rows.{Tables}
 use Rattle.tables.specs.declared.rows.ItemRow.{ItemRow}
 use Rattle.tables_meaning.specs.Kept.{AreItems, codename_at, is_on, refs_for, shown_in, shown_row}
-use Rattle.tables_meaning.specs.Shown.{suite_named}
+use Rattle.rules.specs.Suites.{suite_named}
 use Rattle.tables_meaning.proofs.Searches.{some_found}
 use Rattle.tables_meaning.proofs.ShownLemmas.{item_parts, named_suite, suite_back}
 

@@ -21,10 +21,10 @@ use Rattle.tables_meaning.specs.Configuring.{Reconfigures, new_dates, new_texts,
 use Rattle.tables_meaning.specs.Finished.{AreUnderWay, finished}
 use Rattle.tables_meaning.specs.Founding.{with_texts}
 use Rattle.tables_meaning.specs.Kept.{AreArrivals, AreBodies, AreFiles, AreItems, AreUploads, IsBook, arrivals_in, book_in, bytes_of, date_row, files_in, has_body, is_used, wants_in}
-use Rattle.tables_meaning.proofs.NameLemmas.{config_codenames}
+use Rattle.texts.proofs.Paths.{config_codenames}
 use Rattle.tables_meaning.proofs.ConfiguredItems.{items_moved}
 use Rattle.tables_meaning.proofs.FoundKept.{dates_are, rows_all, same_dates, same_pairs, text_row, texts_are}
-use Rattle.tables_meaning.proofs.FoundLemmas.{map_twice}
+use Rattle.texts.proofs.Walk.{map_twice}
 use Rattle.tables_meaning.proofs.UnderWayLemmas.{like_under_way}
 
 -- only three tables have other rows

@@ -16,7 +16,8 @@ use Rattle.sums.specs.Prints.{print as print_of, same_print}
 use Rattle.sums.specs.declared.entries.Entry.{Entry}
 use Rattle.sums.specs.declared.print.Print.{Print}
 use Rattle.suites.specs.Upload.{UploadValue, has_text}
-use Rattle.keep.specs.Book.{Book, Candidate, body_for, candidate_of, candidates, due, in_order, is_body_of, is_changes_name, is_complete, is_judged, is_there, judging_order, missing, put_in_order, unjudged, upload_of}
+use Rattle.keep.specs.Book.{Book, Candidate, body_for, candidate_of, candidate_order, candidates, due, in_order, is_body_of, is_complete, is_judged, is_there, missing, put_in_order, unjudged, upload_of}
+use Rattle.sums.specs.FileNames.{is_changes_name}
 use Rattle.keep.specs.declared.arrival.Arrival.{Arrival}
 use Rattle.keep.proofs.Prints.{same_print-Decides}
 use Rattle.tables.specs.Bodies.{body_with, has_print}
@@ -237,7 +238,7 @@ all_filter P p (x ∷ xs) h = elim (p x) as (λ b. AllByRecursion P (cond b (x �
 
 all_put : (P : Candidate → Type 0) (c : Candidate) (cs : List Candidate) → P c → AllByRecursion P cs → AllByRecursion P (put_in_order c cs)
 all_put P c [] h hs = (h, tt)
-all_put P c (d ∷ ds) h hs = elim (is_gt (judging_order c d)) as (λ b. AllByRecursion P (if b then d ∷ put_in_order c ds else c ∷ d ∷ ds)) [
+all_put P c (d ∷ ds) h hs = elim (is_gt (candidate_order c d)) as (λ b. AllByRecursion P (if b then d ∷ put_in_order c ds else c ∷ d ∷ ds)) [
   | true ↦ (hs.0, all_put P c ds h hs.1)
   | false ↦ (h, hs)
 ]

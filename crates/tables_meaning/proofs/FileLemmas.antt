@@ -18,6 +18,7 @@ use Rattle.suites.specs.KeyLemmas.{text_order_total, text_order-IsAntisymmetric}
 use Rattle.suites.specs.Pool.{PoolWith}
 use Rattle.suites.proofs.EntryLemmas.{same_keys}
 use Rattle.suites.proofs.Prints.{same_print-equal}
+use Rattle.suites.proofs.MovedLemmas.{bytes_same}
 use Rattle.tables.specs.Bodies.{body_with, has_print}
 use Rattle.tables.specs.Files.{is_file_at}
 use Rattle.tables.specs.Rows.{Numbered, Rises}
@@ -73,9 +74,6 @@ path_tie q path = same_keys text_order-IsAntisymmetric q path
 
 path_itself : (q path : List ℕ) → q ≡ path → eq_by_cmp text_order q path ≡ true
 path_itself q path e = subst (λ p. eq_by_cmp text_order q p ≡ true) e ((eq_by_cmp_equiv text_order_total).refl q)
-
-bytes_same : (xs ys : List ℕ) → bytes_eq xs ys ≡ true → xs ≡ ys
-bytes_same xs ys e = (bytes_eq-Decides xs ys).0 e
 
 bytes_equal : (xs ys : List ℕ) → xs ≡ ys → bytes_eq xs ys ≡ true
 bytes_equal xs ys e = (bytes_eq-Decides xs ys).1 e

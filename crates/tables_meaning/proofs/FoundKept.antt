@@ -8,10 +8,9 @@ use Rattle.rules.specs.Values.{ConfigValue}
 use Rattle.suites.proofs.SharedLemmas.{entries-empty}
 use Rattle.suites.proofs.ToldLemmas.{told_empty}
 use Rattle.suites.specs.Items.{IsAtHome}
-use Rattle.suites.specs.Shelves.{AreSound}
+use Rattle.suites.specs.Shelves.{AreSound, pool}
 use Rattle.suites.specs.Keys.{key_order, text_order}
 use Rattle.suites.specs.Pool.{files_of, pool_of}
-use Rattle.suites.specs.Shelves.{pool}
 use Rattle.suites.specs.declared.item.Item as shelf
 use Rattle.suites.specs.declared.key.ShelfKey.{ShelfKey}
 use Rattle.texts.specs.Indices.{PathText, all_texts}
@@ -24,7 +23,8 @@ use Rattle.tables.specs.declared.rows.Meta.{Meta}
 use Rattle.tables.specs.declared.meta.TheConstants.{VERSION}
 use Rattle.tables_meaning.specs.Kept.{AreArrivals, AreBodies, AreFiles, AreItems, AreUploads, IsBook, arrivals_in, book_in, files_in}
 use Rattle.tables_meaning.specs.Founding.{first_date, first_dates, founded, with_dates, with_first_rows, with_path_text, with_texts}
-use Rattle.tables_meaning.proofs.FoundLemmas.{map_twice, one_date}
+use Rattle.tables_meaning.proofs.FoundLemmas.{one_date}
+use Rattle.texts.proofs.Walk.{map_twice}
 
 -- ---- rows one after another
 

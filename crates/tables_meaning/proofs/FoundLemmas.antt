@@ -16,6 +16,7 @@ use Rattle.suites.specs.Shelves.{ShelvesValue}
 use Rattle.texts.specs.Indices.{PathText, all_texts, folder_texts, suite_texts, texts_from}
 use Rattle.texts.specs.Positions.{indices_at, release_at}
 use Rattle.texts.specs.Release.{indices_of, listed_entry, listed_texts, release_text}
+use Rattle.texts.proofs.Walk.{map_twice}
 use Rattle.tables.specs.Rows.{Tables, Holds, Changes, no_rows, with_date, with_meta}
 use Rattle.tables.specs.Schema.{no_schema}
 use Rattle.tables.specs.declared.rows.Date.{Date}
@@ -137,10 +138,6 @@ suite_date_more suites dates i s within dated is =
     date_more (zip suites dates) i (s, get_or dates i 0) (omega (arith, length-zip suites dates, within, dated)) (next_date suites dates i s within dated is) date_row
 
 -- ---- the texts of a suite
-
-pub map_twice : {A B C : Type 0} (f : B → C) (g : A → B) (xs : List A) → map f (map g xs) ≡ map (λ x. f (g x)) xs
-map_twice f g [] = refl
-map_twice f g (x ∷ xs) = ap (λ ys. f (g x) ∷ ys) (map_twice f g xs)
 
 of_components : (shelves : ShelvesValue) (position : ℕ) (s : Suite) (architectures components : List (List ℕ))
     → map (from_root s) (flat_map (λ c. map (listed_entry shelves position c) architectures) components) ≡ flat_map (component_texts shelves position s architectures) components

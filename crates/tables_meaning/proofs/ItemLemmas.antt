@@ -15,13 +15,12 @@ use Rattle.sqlite_keyed.specs.Lists.{delete_where}
 use Rattle.sqlite_keyed.proofs.ListLemmas.{all_weaker, all-filter, all-append, all-map, ascending-filter, ascending-append, filter-filter, filter_all, filter_none}
 use Rattle.rules.specs.declared.suite.Suite.{Suite}
 use Rattle.suites.specs.Keys.{key_order, kind_number}
-use Rattle.suites.specs.KeyLemmas.{key_order_total, key_order-IsAntisymmetric}
+use Rattle.suites.specs.KeyLemmas.{key_order_total, key_order-IsAntisymmetric, same_kind}
 use Rattle.suites.specs.Shelves.{ShelvesValue}
 use Rattle.suites.specs.declared.item.Item as shelf
-use Rattle.suites.specs.declared.key.Kind.{Kind}
-use Rattle.suites.specs.declared.key.Kind.TheVariants.{Source, Binary}
 use Rattle.suites.specs.declared.key.ShelfKey.{ShelfKey}
 use Rattle.suites.proofs.EntryLemmas.{same_keys}
+use Rattle.suites.proofs.MovedLemmas.{bytes_same}
 use Rattle.tables.specs.Items.{is_item}
 use Rattle.tables.specs.Refs.{is_ref_of}
 use Rattle.tables.specs.Rows.{Numbered, Rises, added, next_in}
@@ -32,15 +31,6 @@ use Rattle.tables_meaning.specs.Kept.{codename_at, item_row, refs_for, is_on, sh
 use Rattle.tables_meaning.proofs.RowLists.{found_passes, found_holds, none_passes, only_one, find_kept, find_gone, any_kept, all_filtered, number_is, below_last}
 
 -- ---- rows and the keys of shelves
-
-same_kind : (a b : Kind) → kind_number a ≡ kind_number b → a ≡ b
-same_kind Source Source e = refl
-same_kind Source Binary e = absurd (omega (arith, e))
-same_kind Binary Source e = absurd (omega (arith, e))
-same_kind Binary Binary e = refl
-
-bytes_same : (xs ys : List ℕ) → bytes_eq xs ys ≡ true → xs ≡ ys
-bytes_same xs ys e = (bytes_eq-Decides xs ys).0 e
 
 bytes_equal : (xs ys : List ℕ) → xs ≡ ys → bytes_eq xs ys ≡ true
 bytes_equal xs ys e = (bytes_eq-Decides xs ys).1 e

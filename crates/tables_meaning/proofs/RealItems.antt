@@ -43,8 +43,8 @@ use Rattle.tables_meaning.specs.Kept as kept
 use Rattle.tables_meaning.proofs.AsciiItems.{IsPlainItem, shown_plain, sliced}
 use Rattle.tables_meaning.proofs.AsciiLemmas.{AreAscii, ascii-IsUtf8, version_ascii}
 use Rattle.tables_meaning.proofs.BodyLemmas.{apart_same, found, none_found, row_of_body}
-use Rattle.tables_meaning.proofs.NameLemmas.{HasNames}
-use Rattle.tables_meaning.proofs.PairLemmas.{pairs_unmap}
+use Rattle.texts.proofs.Paths.{HasNames}
+use Rattle.texts.proofs.Pairs.{pairs_unmap}
 use Rattle.tables_meaning.proofs.Searches.{all_in_rows}
 use Rattle.tables_meaning.proofs.ShownLemmas.{item_from, item_parts}
 use Rattle.tables_meaning.proofs.SignedLemmas.{real_print}

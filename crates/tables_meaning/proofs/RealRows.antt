@@ -16,7 +16,7 @@ use Rattle.tables.specs.declared.rows.TextRow.{TextRow}
 use Rattle.tables_meaning.specs.Kept.{AreReadable, IsBook, date_row}
 use Rattle.tables_meaning.proofs.AsciiLemmas.{AreAscii, ascii-IsUtf8}
 use Rattle.tables_meaning.proofs.AsciiPaths.{config_ascii, texts_ascii}
-use Rattle.tables_meaning.proofs.NameLemmas.{HasNames}
+use Rattle.texts.proofs.Paths.{HasNames}
 use Rattle.tables_meaning.proofs.RealItems.{readable_items, real_files, real_items, real_refs}
 use Rattle.tables_meaning.proofs.RealUploads.{real_arrivals, real_bodies, real_uploads, real_wants}
 

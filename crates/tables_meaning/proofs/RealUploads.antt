@@ -13,13 +13,13 @@ use Rattle.records.specs.Values.{ChangesValue}
 use Rattle.records.specs.declared.fault.RecordFault.{RecordFault}
 use Rattle.sums.proofs.Booleans.{denied}
 use Rattle.sums.proofs.Members.{all_at, all_from, any_some, contains_map, from_map}
-use Rattle.sums.specs.Lines.{is_file_name}
+use Rattle.sums.specs.FileNames.{is_file_name, is_changes_name}
 use Rattle.sums.specs.Lists.{IsFile}
 use Rattle.sums.specs.Prints.{print as print_of}
 use Rattle.sums.specs.declared.entries.Entry.{Entry}
 use Rattle.sums.specs.declared.entries.ListKind.TheVariants.{Changes}
 use Rattle.suites.proofs.ListMembers.{from_filter, to_filter}
-use Rattle.keep.specs.Book.{Candidate, candidate_of, candidates, is_changes_name, is_judged, latest}
+use Rattle.keep.specs.Book.{Candidate, candidate_of, candidates, is_judged, latest}
 use Rattle.keep.specs.Keeping.{IsDeliverable}
 use Rattle.keep.specs.declared.arrival.Arrival.{Arrival}
 use Rattle.keep.specs.declared.change.Judgement.{Judgement}

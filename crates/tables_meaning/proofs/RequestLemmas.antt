@@ -13,7 +13,8 @@ use Rattle.records.specs.Records.{changes_in}
 use Rattle.records.specs.Values.{ChangesValue}
 use Rattle.sums.specs.Prints.{print as print_of, same_print}
 use Rattle.sums.specs.declared.entries.Entry.{Entry}
-use Rattle.keep.specs.Book.{Candidate, at_latest, candidate_of, candidates, has_arrival, is_body_of, is_changes_name, is_judged, is_same_pair, is_there, with_arrival}
+use Rattle.keep.specs.Book.{Candidate, at_latest, candidate_of, candidates, has_arrival, is_body_of, is_judged, is_same_pair, is_there, with_arrival}
+use Rattle.sums.specs.FileNames.{is_changes_name}
 use Rattle.keep.specs.Keeping.{sign_of, sign_on}
 use Rattle.keep.specs.declared.arrival.Arrival.{Arrival}
 use Rattle.keep.specs.declared.change.Judgement.{Judgement}

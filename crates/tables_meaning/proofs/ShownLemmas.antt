@@ -21,7 +21,7 @@ use Rattle.sums.specs.Prints.{same_print}
 use Rattle.sums.specs.declared.print.Print.{Print}
 use Rattle.suites.specs.Admission.{MayJoin}
 use Rattle.suites.specs.Items.{IsAtHome, standing}
-use Rattle.suites.specs.Keys.{key_order, kind_number}
+use Rattle.suites.specs.Keys.{key_order, kind_number, kind_numbered}
 use Rattle.suites.specs.KeyLemmas.{key_order_total, key_order-IsAntisymmetric}
 use Rattle.suites.specs.Pool.{AreAgreed, files_of, pair_of}
 use Rattle.suites.specs.Shelves.{AreSound, ShelvesValue, pool}
@@ -34,18 +34,17 @@ use Rattle.suites.proofs.EntryLemmas.{same_keys}
 use Rattle.suites.proofs.FileMembers.{entry_shown}
 use Rattle.suites.proofs.PoolLookups.{get-pool_of}
 use Rattle.suites.proofs.Prints.{same_print-equal}
+use Rattle.suites.proofs.MovedLemmas.{bytes_same}
 use Rattle.tables.specs.Items.{is_item}
 use Rattle.tables.specs.Rows.{Numbered, Tables}
 use Rattle.tables.specs.declared.rows.ItemRow.{ItemRow}
 use Rattle.tables.specs.declared.rows.Ref.{Ref}
 use Rattle.tables_meaning.specs.Kept.{AreItems, codename_at, is_on, item_row, refs_for, refs_in, shown_row}
 use Rattle.tables_meaning.specs.Kept as kept
-use Rattle.tables_meaning.specs.Shown.{AreLeft, IsPut, MayBePut, MayStand, PutsRow, clash, entry_in, entry_with, file_in, is_taken, item_with, kind_numbered, may_not_join, shown_in, suite_named}
+use Rattle.tables_meaning.specs.Shown.{AreLeft, IsPut, MayBePut, MayStand, PutsRow, clash, entry_in, entry_with, file_in, is_taken, item_with, may_not_join, shown_in}
+use Rattle.rules.specs.Suites.{suite_named}
 
 -- ---- rows and the keys of shelves
-
-bytes_same : (xs ys : List ℕ) → bytes_eq xs ys ≡ true → xs ≡ ys
-bytes_same xs ys e = (bytes_eq-Decides xs ys).0 e
 
 bytes_equal : (xs ys : List ℕ) → xs ≡ ys → bytes_eq xs ys ≡ true
 bytes_equal xs ys e = (bytes_eq-Decides xs ys).1 e

@@ -14,7 +14,8 @@ use Rattle.tables.specs.declared.rows.Piece.{Piece}
 use Rattle.tables_meaning.specs.Finished.{finished, is_of_unfinished, is_unfinished}
 use Rattle.tables_meaning.specs.Kept.{AreArrivals, has_body, is_used}
 use Rattle.tables_meaning.specs.Sweeping.{swept}
-use Rattle.tables_meaning.proofs.BodyLemmas.{any_same, arrival_has, file_has, used_by}
+use Rattle.tables_meaning.proofs.BodyLemmas.{arrival_has, file_has, used_by}
+use Rattle.keep.proofs.Arrivals.{any_same}
 use Rattle.tables_meaning.proofs.FinishedLemmas.{has_unfinished, left_whole, tells}
 use Rattle.tables_meaning.proofs.Searches.{any_parts, filter_same_on, filter_twice, list_any-filter}
 

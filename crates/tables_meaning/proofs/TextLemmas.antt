@@ -23,6 +23,7 @@ use Rattle.tables.specs.Texts.{has_path, with_new_text}
 use Rattle.tables.specs.declared.rows.TextRow.{TextRow}
 use Rattle.texts.specs.Indices.{PathText, all_texts, folder_texts, index_text, suite_path, suite_texts, text_at, texts_from}
 use Rattle.texts.specs.Release.{index_path, listed_entry, listed_texts}
+use Rattle.texts.proofs.Apart.{PathsDiffer, found_of_apart, not_equal}
 use Rattle.texts.proofs.Found.{text_at-found, text_at-other}
 use Rattle.tables_meaning.specs.Kept.{book_in}
 use Rattle.tables_meaning.specs.Making.{with_new_dates, with_new_texts}
@@ -30,28 +31,9 @@ use Rattle.tables_meaning.specs.OneBook.{first_same, rest_same}
 
 -- ---- texts by their paths
 
-abbrev pub PathsDiffer : PathText → PathText → Type 0
-PathsDiffer d e = d.0 ≢ e.0
-
 -- No two texts of the configuration stand at one path, whatever its suites show and whenever that last changed.
 abbrev pub HasPathsApart : ConfigValue → Type 0
 HasPathsApart config = (shown : ShelvesValue) (dates : List ℕ) → AllPairs PathsDiffer (all_texts config shown dates)
-
-pub not_equal : (a b : List ℕ) → a ≢ b → bytes_eq a b ≡ false
-not_equal a b h = by_case (bytes_eq a b) refl
-  where
-    by_case : (t : Bool) → bytes_eq a b ≡ t → t ≡ false
-    by_case true e = absurd (h ((bytes_eq-Decides a b).0 e))
-    by_case false e = refl
-
--- a text whose path no other has is found there
-found_apart : (es : List PathText) (e : PathText) → AllPairs PathsDiffer es → Contains es e → text_at e.0 es ≡ Some e.1
-found_apart [] e h at = no_member e at
-found_apart (d ∷ es) e h at = elim (which d e es at) [
-  | inl is ↦ text_at-found e.0 d es ((bytes_eq-Decides d.0 e.0).1 (ap (λ (x : PathText). x.0) is)) ∙ ap (λ (x : PathText). Some x.1) is
-  | inr later ↦ text_at-other e.0 d es (not_equal d.0 e.0 (all_at (PathsDiffer d) es e (pairs_head PathsDiffer d es h) later))
-      ∙ found_apart es e (pairs_tail PathsDiffer d es h) later
-]
 
 abbrev pub paths_of : List PathText → List (List ℕ)
 paths_of = map (λ e. e.0)
@@ -211,7 +193,7 @@ module _ (t : Tables) (config : ConfigValue) (judged : List Judgement) (shown : 
           ∙ (all_at (λ (y : IndexText). (book_text (amended (book_in config judged shown dates t) change) y.path ≡ Some y.text) × (book_text (book_in config judged shown dates t) y.path ≢ Some y.text)) change.texts x renewed.named listed).0)
           (elim (renewed.rest e.0) [
             | inl listed ↦ inl listed
-            | inr same ↦ inr (sym (new_is e.0) ∙ sym same ∙ old_is e.0 ∙ found_apart old_texts e (apart shown dates) at)
+            | inr same ↦ inr (sym (new_is e.0) ∙ sym same ∙ old_is e.0 ∙ found_of_apart old_texts e (apart shown dates) at)
           ]),
     )
 

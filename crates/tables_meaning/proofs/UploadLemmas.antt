@@ -12,7 +12,8 @@ use Rattle.records.specs.Values.{ChangesValue}
 use Rattle.sums.specs.Prints.{print as print_of, same_print}
 use Rattle.sums.specs.declared.entries.Entry.{Entry}
 use Rattle.sums.specs.declared.print.Print.{Print}
-use Rattle.keep.specs.Book.{Candidate, candidate_of, has_arrival, is_changes_name, is_judged, is_there, with_arrival}
+use Rattle.keep.specs.Book.{Candidate, candidate_of, has_arrival, is_judged, is_there, with_arrival}
+use Rattle.sums.specs.FileNames.{is_changes_name}
 use Rattle.keep.specs.Keeping.{sign_on}
 use Rattle.keep.specs.declared.arrival.Arrival.{Arrival}
 use Rattle.keep.specs.declared.change.Judgement.{Judgement}

@@ -53,12 +53,12 @@ module _ (db : Database) where
   -- and whatever bytes of a body have come, in so many pieces
   abbrev pub WithComing : Option ℕ → ℕ → (ConfigValue → List Judgement → ShelvesValue → List ℕ → List ℕ → Type 0) → Type 0
   WithComing body count P = (config : ConfigValue) (judged : List Judgement) (shown : ShelvesValue) (dates : List ℕ) (bytes : List ℕ)
-    → KeepsArchive db config judged shown dates → Comes (tables_in db) body count bytes → P config judged shown dates bytes
+      → KeepsArchive db config judged shown dates → Comes (tables_in db) body count bytes → P config judged shown dates bytes
 
   -- and whatever pieces of a body have come, however many
   abbrev pub WithPieces : Option ℕ → (ConfigValue → List Judgement → ShelvesValue → List ℕ → ℕ → List ℕ → Type 0) → Type 0
   WithPieces body P = (config : ConfigValue) (judged : List Judgement) (shown : ShelvesValue) (dates : List ℕ) (count : ℕ) (bytes : List ℕ)
-    → KeepsArchive db config judged shown dates → Comes (tables_in db) body count bytes → P config judged shown dates count bytes
+      → KeepsArchive db config judged shown dates → Comes (tables_in db) body count bytes → P config judged shown dates count bytes
 
 -- from the one database to the other such a delivery is made, and nothing else
 abbrev pub Delivers : Database → Database → ConfigValue → List Judgement → ShelvesValue → List ℕ → Arrival → Type 0
@@ -75,22 +75,22 @@ StaysComing before after = (body : Option ℕ) (count : ℕ) (bytes : List ℕ) 
 -- whatever archive of this configuration the database keeps, after so many judgements, for which the change is sound
 abbrev pub OverSound : Database → ConfigValue → ℕ → Change → (List Judgement → ShelvesValue → List ℕ → Type 0) → Type 0
 OverSound db config judged change P = (before : List Judgement) (shown : ShelvesValue) (dates : List ℕ)
-  → KeepsArchive db config before shown dates → length before ≡ judged → IsSound (book_in_database db config before shown dates) change → P before shown dates
+    → KeepsArchive db config before shown dates → length before ≡ judged → IsSound (book_in_database db config before shown dates) change → P before shown dates
 
 -- whatever archive the database keeps that shows these shelves under the other configuration, and stays whole under it
 abbrev pub OverMoved : Database → ShelvesValue → ConfigValue → (ConfigValue → List Judgement → ShelvesValue → List ℕ → Type 0) → Type 0
 OverMoved db shelves config P = (before : ConfigValue) (judged : List Judgement) (shown : ShelvesValue) (was : List ℕ)
-  → KeepsArchive db before judged shown was → shelves ≡ moved before.suites config.suites shown → all_stay before.suites config.suites shown ≡ true → P before judged shown was
+    → KeepsArchive db before judged shown was → shelves ≡ moved before.suites config.suites shown → all_stay before.suites config.suites shown ≡ true → P before judged shown was
 
 -- whatever bytes of a body have come whose print is this, if they may be delivered under this name
 abbrev pub OverWhole : Database → Option ℕ → ℕ → Print → List ℕ → (ConfigValue → List Judgement → ShelvesValue → List ℕ → List ℕ → Type 0) → Type 0
 OverWhole db body count print name P = (config : ConfigValue) (judged : List Judgement) (shown : ShelvesValue) (dates : List ℕ) (bytes : List ℕ)
-  → KeepsArchive db config judged shown dates → Comes (tables_in db) body count bytes → print ≡ print_of bytes → IsDeliverable name bytes → P config judged shown dates bytes
+    → KeepsArchive db config judged shown dates → Comes (tables_in db) body count bytes → print ≡ print_of bytes → IsDeliverable name bytes → P config judged shown dates bytes
 
 -- whatever archive the database keeps, if nothing is coming and these bytes may be delivered under this name
 abbrev pub OverOnePiece : Database → List ℕ → List ℕ → (ConfigValue → List Judgement → ShelvesValue → List ℕ → Type 0) → Type 0
 OverOnePiece db name bytes P = (config : ConfigValue) (judged : List Judgement) (shown : ShelvesValue) (dates : List ℕ)
-  → KeepsArchive db config judged shown dates → HasComing (tables_in db) [] → IsDeliverable name bytes → P config judged shown dates
+    → KeepsArchive db config judged shown dates → HasComing (tables_in db) [] → IsDeliverable name bytes → P config judged shown dates
 
 -- whether the archive of the database has such a delivery at its moment
 abbrev pub has_delivery : Database → ConfigValue → List Judgement → ShelvesValue → List ℕ → Arrival → Bool

@@ -9,7 +9,7 @@ use Rattle.rules.specs.Values.{ConfigValue}
 use Rattle.rules.specs.Verdicts.{number_of}
 use Rattle.rules.specs.declared.suite.Suite.{Suite}
 use Rattle.records.specs.Records.{changes_limit}
-use Rattle.sums.specs.Lines.{is_file_name}
+use Rattle.sums.specs.FileNames.{is_file_name, is_changes_name}
 use Rattle.sums.specs.Prints.{print as print_of}
 use Rattle.sums.specs.declared.entries.Entry.{Entry}
 use Rattle.sums.specs.declared.print.Print.{Print}
@@ -19,7 +19,7 @@ use Rattle.suites.specs.Told.{AreTold}
 use Rattle.suites.specs.declared.item.Item as shelf
 use Rattle.suites.specs.declared.key.ShelfKey.{ShelfKey}
 use Rattle.texts.specs.Indices.{all_texts}
-use Rattle.keep.specs.Book.{Book, Candidate, candidates, is_changes_name, is_judged, is_there, latest}
+use Rattle.keep.specs.Book.{Book, Candidate, candidates, is_judged, is_there, latest}
 use Rattle.keep.specs.Keeping.{IsDeliverable, sign_of}
 use Rattle.keep.specs.declared.arrival.Arrival.{Arrival}
 use Rattle.keep.specs.declared.change.Judgement.{Judgement}

@@ -1,5 +1,5 @@
 -- Tables keep one archive.
-use Rattle.std.proofs.Common.{◌≡◌, ◌<◌, ℕ, zero, suc, ◌+◌, true, List, [], ◌∷◌, length, map, slice_get, find, Option, Some, None, Ok, refl, sym, ap, subst, ◌∙◌, arith, inl, inr}
+use Rattle.std.proofs.Common.{◌≡◌, ◌<◌, ℕ, suc, ◌+◌, true, List, [], ◌∷◌, length, map, slice_get, find, Option, Some, None, Ok, refl, sym, ap, subst, ◌∙◌, arith, inl, inr}
 use Rattle.std.proofs.lemmas.Bool.{cases_lt}
 use Rattle.std.proofs.lemmas.Option.{same_Some}
 use Rattle.std.specs.FinMap.{get, entries, same_map}
@@ -8,10 +8,8 @@ use Rattle.std.specs.Option.{option_and_then, option_map}
 use Rattle.keep.specs.declared.change.Judgement.{Judgement}
 use Rattle.rules.specs.Configuration.{config_in}
 use Rattle.rules.specs.Values.{ConfigValue}
-use Rattle.rules.specs.Verdicts.{number_of}
+use Rattle.rules.proofs.VerdictNumbers.{same_verdict}
 use Rattle.rules.specs.declared.suite.Suite.{Suite}
-use Rattle.rules.specs.declared.verdict.Verdict.{Verdict}
-use Rattle.rules.specs.declared.verdict.Verdict.TheVariants as verdict
 use Rattle.suites.specs.Items.{IsAtHome, standing}
 use Rattle.suites.specs.KeyLemmas.{key_order_total, key_order-IsAntisymmetric}
 use Rattle.suites.specs.Shelves.{ShelvesValue}
@@ -54,35 +52,6 @@ same_option f (Some x) None one e = cc
 same_option f (Some x) (Some y) one e = ap Some (one x y refl refl (same_Some (f x) (f y) e))
 
 -- ---- judged uploads
-
--- the verdict of a number
-abbrev verdict_at : ℕ → Verdict
-verdict_at zero = verdict.Accepted
-verdict_at (suc zero) = verdict.Unclaimed
-verdict_at (suc (suc zero)) = verdict.ForeignArchitecture
-verdict_at (suc (suc (suc zero))) = verdict.NotAllowed
-verdict_at (suc (suc (suc (suc zero)))) = verdict.ForeignComponent
-verdict_at (suc (suc (suc (suc (suc zero))))) = verdict.BadListing
-verdict_at (suc (suc (suc (suc (suc (suc zero)))))) = verdict.BadDsc
-verdict_at (suc (suc (suc (suc (suc (suc (suc zero))))))) = verdict.BadSidecar
-verdict_at (suc (suc (suc (suc (suc (suc (suc (suc zero)))))))) = verdict.NotInPool
-verdict_at (suc (suc (suc (suc (suc (suc (suc (suc (suc n))))))))) = verdict.OtherContents
-
-number_back : (v : Verdict) → verdict_at (number_of v) ≡ v
-number_back verdict.Accepted = refl
-number_back verdict.Unclaimed = refl
-number_back verdict.ForeignArchitecture = refl
-number_back verdict.NotAllowed = refl
-number_back verdict.ForeignComponent = refl
-number_back verdict.BadListing = refl
-number_back verdict.BadDsc = refl
-number_back verdict.BadSidecar = refl
-number_back verdict.NotInPool = refl
-number_back verdict.OtherContents = refl
-
--- verdicts of one number are one
-pub same_verdict : (v w : Verdict) → number_of v ≡ number_of w → v ≡ w
-same_verdict v w e = sym (number_back v) ∙ ap verdict_at e ∙ number_back w
 
 same_judgement : (n : ℕ) (a b : Judgement) → judged_row n a ≡ judged_row n b → a ≡ b
 same_judgement n a b e =

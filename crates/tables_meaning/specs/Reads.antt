@@ -2,7 +2,7 @@
 use Rattle.std.specs.Prelude.{IsTrue, ℕ, nat_eq, not, if◌then◌else◌, List, [], ◌∷◌, map, filter, find, length, Option, None, option_map, unwrap_or}
 use Rattle.std.specs.List.{list_any}
 use Rattle.std.specs.Option.{option_and_then}
-use Rattle.std.specs.Ordering.{ordering_then, nat_cmp, is_gt}
+use Rattle.std.specs.Ordering.{is_gt}
 use Rattle.std.specs.Result.{result_ok}
 use Rattle.std.specs.declared.cmp.Ordering.{Ordering}
 use Rattle.records.specs.Records.{changes_in}
@@ -10,8 +10,8 @@ use Rattle.records.specs.Values.{ChangesValue}
 use Rattle.sqlite.specs.State.{State, IsUnchanged}
 use Rattle.sums.specs.declared.entries.Entry.{Entry}
 use Rattle.sums.specs.declared.print.Print.{Print}
-use Rattle.suites.specs.Keys.{text_order}
 use Rattle.suites.specs.Upload.{UploadValue, has_text}
+use Rattle.keep.specs.Book.{judging_order}
 use Rattle.keep.specs.declared.change.Waiting.{Waiting}
 use Rattle.tables.specs.Bodies.{body_with}
 use Rattle.tables.specs.Rows.{Tables, Numbered, Stands, rows_of}
@@ -20,15 +20,6 @@ use Rattle.tables.specs.declared.rows.UploadRow.{UploadRow}
 use Rattle.tables_meaning.specs.Kept.{bytes_of, sign_in}
 
 -- ---- the order of judging
-
--- by the bytes of the name, then by SHA-256, SHA-1, MD5 and size
-unfoldable pub sign_order : List ℕ × Print → List ℕ × Print → Ordering
-sign_order a b =
-    ordering_then (text_order a.0 b.0)
-    (ordering_then (text_order a.1.sha256 b.1.sha256)
-    (ordering_then (text_order a.1.sha1 b.1.sha1)
-    (ordering_then (text_order a.1.md5 b.1.md5)
-    (nat_cmp a.1.size b.1.size))))
 
 -- the list with one more in its place, before those that tie with it
 abbrev pub put_by : {X : Type 0} → (X → X → Ordering) → X → List X → List X
@@ -41,7 +32,7 @@ sorted_by order (x ∷ xs) = put_by order x (sorted_by order xs)
 
 -- the order of two uploads with their numbers
 abbrev pub row_order : ℕ × UploadRow → ℕ × UploadRow → Ordering
-row_order x y = sign_order (sign_in x.1) (sign_in y.1)
+row_order x y = judging_order (sign_in x.1) (sign_in y.1)
 
 -- the uploads that want something
 unfoldable pub wanting : Tables → Numbered UploadRow

@@ -1,33 +1,25 @@
 -- What the rows of items and of their files show.
-use Rattle.std.specs.Prelude.{◌≡◌, ℕ, nat_eq, bytes_eq, Bool, ◌&&◌, ◌||◌, not, false, if◌then◌else◌, List, map, position, Option, Some, None, option_map}
+use Rattle.std.specs.Prelude.{◌≡◌, ℕ, bytes_eq, Bool, ◌&&◌, ◌||◌, not, false, List, map, Option, Some, None, option_map}
 use Rattle.std.specs.List.{filter_map, list_any}
 use Rattle.std.specs.Option.{option_and_then, option_map_or, option_or}
 use Rattle.std.specs.FinMap.{from_entries, get, insert}
 use Rattle.std.specs.FinMap as keyed
+use Rattle.rules.specs.Suites.{suite_named}
 use Rattle.rules.specs.declared.suite.Suite.{Suite}
 use Rattle.sums.specs.Prints.{same_print}
 use Rattle.sums.specs.declared.print.Print.{Print}
 use Rattle.suites.specs.Items.{standing}
-use Rattle.suites.specs.Keys.{key_order}
+use Rattle.suites.specs.Keys.{key_order, kind_numbered}
 use Rattle.suites.specs.Pool.{PoolWith}
 use Rattle.suites.specs.Shelves.{ShelvesValue, pool}
 use Rattle.suites.specs.declared.item.Item as shelf
 use Rattle.suites.specs.declared.item.PoolFile.{PoolFile}
 use Rattle.suites.specs.declared.key.Kind.{Kind}
-use Rattle.suites.specs.declared.key.Kind.TheVariants.{Source, Binary}
 use Rattle.suites.specs.declared.key.ShelfKey.{ShelfKey}
 use Rattle.tables.specs.Rows.{Numbered, Tables}
 use Rattle.tables.specs.declared.rows.ItemRow.{ItemRow}
 use Rattle.tables.specs.declared.rows.Ref.{Ref}
 use Rattle.tables_meaning.specs.Kept.{IsReadable, refs_in}
-
--- the position of the suite with a codename
-unfoldable pub suite_named : List Suite → List ℕ → Option ℕ
-suite_named suites name = position (λ s. bytes_eq s.codename name) suites
-
--- the kind with a number
-unfoldable pub kind_numbered : ℕ → Option Kind
-kind_numbered n = if nat_eq n 0 then Some Source else if nat_eq n 1 then Some Binary else None
 
 -- the file of a row
 abbrev pub file_in : Ref → PoolFile

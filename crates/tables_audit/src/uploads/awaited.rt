@@ -3,7 +3,6 @@
 ghost use Rattle.std.specs.Prelude.{◌≡◌, IfOk, map};
 ghost use Rattle.std.specs.List.{filter_map};
 ghost use Rattle.std.specs.Result.{result_ok};
-ghost use Rattle.keep.specs.Book.{is_changes_name};
 ghost use Rattle.records.specs.Records.{changes_in as record_in};
 ghost use Rattle.tables_audit.specs.Uploads.{awaited_view, changes_awaited, found_awaited, has_judgement, printed};
 
@@ -14,7 +13,7 @@ use crate::uploads::lookups::Verdicts;
 use crate::uploads::signs::sign_of_arrived;
 use records::{Changes, RecordFault};
 use std::alloc::{AllocError, Global};
-use sums::Print;
+use sums::{Print, is_changes_name};
 use tables::rows::ArrivalRow;
 
 /// A .changes that waits for a verdict: its arrival, its print, and the record that it is.
@@ -36,13 +35,6 @@ fn changes_in(alloc: Global, text: &[u8]) -> Result<Option<Changes>, AllocError>
     }
 }
 
-/// Whether this is the name of a .changes.
-fn is_changes(name: &str) -> bool
-    ensures { result ≡ is_changes_name name.now }
-{
-    name.as_bytes().ends_with(b".changes")
-}
-
 /// Whether what arrived has a verdict.
 fn is_judged(judged: &Verdicts<'_>, arrived: &Arrived<'_>) -> bool
     ensures { result ≡ has_judgement judged.now.all.now (printed arrived.now) }
@@ -61,7 +53,7 @@ fn awaited_changes(
 ) -> Result<Option<Changes>, AllocError>
     ensures { IfOk result (λ changes. changes ≡ changes_awaited pieces.now.all.now.pieces.items judged.now.all.now (printed arrived.now)) }
 {
-    if !is_changes(arrived.arrival.name.as_str()) {
+    if !is_changes_name(arrived.arrival.name.as_str()) {
         return Ok(None);
     }
     if is_judged(judged, arrived) {

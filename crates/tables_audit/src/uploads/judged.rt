@@ -1,12 +1,11 @@
 //! The judged uploads, in the order of their places.
 
-ghost use Rattle.std.specs.Prelude.{◌≡◌, Some, None, All, Contains, MatchBool, IfOk, IfSome, find, map, nat_eq};
+ghost use Rattle.std.specs.Prelude.{◌≡◌, Some, None, All, Contains, MatchBool, IfOk, IfSome, map};
 ghost use Rattle.std.specs.List.{range_with_len};
 ghost use Rattle.std.specs.Option.{option_and_then};
-ghost use Rattle.rules.specs.Verdicts.{number_of};
 ghost use Rattle.tables.specs.Rows.{rows_of};
 ghost use Rattle.tables_audit.specs.Places.{first_at, placed_view};
-ghost use Rattle.tables_audit.specs.Uploads.{IsPlacedWell, judged_at, judgement_in, last_of, later as later_of, verdict_numbered as verdict_of_number};
+ghost use Rattle.tables_audit.specs.Uploads.{IsPlacedWell, judged_at, judgement_in, last_of, later as later_of};
 
 use crate::keyed::Rows;
 use crate::uploads::places::{Placed, by_place, upload_at};
@@ -14,20 +13,6 @@ use keep::Judgement;
 use rules::Verdict;
 use std::alloc::{AllocError, Global};
 use tables::rows::UploadRow;
-
-/// All verdicts.
-const VERDICTS: [Verdict; 10] = [
-    Verdict::Accepted,
-    Verdict::Unclaimed,
-    Verdict::ForeignArchitecture,
-    Verdict::NotAllowed,
-    Verdict::ForeignComponent,
-    Verdict::BadListing,
-    Verdict::BadDsc,
-    Verdict::BadSidecar,
-    Verdict::NotInPool,
-    Verdict::OtherContents,
-];
 
 /// Whether an upload without a place has no verdict, and one with a place has not the place 0.
 fn is_placed_well(upload: &UploadRow) -> bool
@@ -72,26 +57,6 @@ pub fn last_place(uploads: &[(u64, UploadRow)]) -> u64
     last
 }
 
-/// The verdict with a number, among some.
-fn verdict_among(verdicts: &[Verdict], number: u64) -> Option<Verdict>
-    ensures { result ≡ find (λ v. nat_eq (number_of v) number) verdicts.now }
-{
-    for verdict in verdicts {
-        if u64::from(verdict.number()) == number {
-            return Some(*verdict);
-        }
-    }
-    None
-}
-
-/// The verdict with a number, 0 to 9.
-#[tactic(auto, unfolding(crate::specs::Uploads::verdict_numbered))]
-fn verdict_numbered(number: u64) -> Option<Verdict>
-    ensures { result ≡ verdict_of_number number }
-{
-    verdict_among(&VERDICTS, number)
-}
-
 /// The judgement that a row tells, where it has the number of a verdict.
 #[tactic(auto, unfolding(crate::specs::Uploads::judgement_in))]
 fn judgement_of(upload: &UploadRow) -> Result<Option<Judgement>, AllocError>
@@ -100,7 +65,7 @@ fn judgement_of(upload: &UploadRow) -> Result<Option<Judgement>, AllocError>
     let Some(number) = upload.verdict else {
         return Ok(None);
     };
-    let Some(verdict) = verdict_numbered(number) else {
+    let Some(verdict) = Verdict::with_number(number) else {
         return Ok(None);
     };
     Ok(Some(Judgement {

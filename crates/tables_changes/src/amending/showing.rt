@@ -1,7 +1,6 @@
 //! What the suites show after a change, as rows.
 
 ghost use Rattle.std.specs.Prelude.{◌≡◌, fold, IfOk, OnOk};
-ghost use Rattle.suites.specs.Keys.{kind_number};
 ghost use Rattle.tables.specs.Items.{without_item};
 ghost use Rattle.tables.specs.Refs.{without_refs};
 ghost use Rattle.tables.specs.Rows.{with_ref};
@@ -14,7 +13,7 @@ use para::{Listed, Text};
 use rules::Suite;
 use sqlite::{Alter, Error, Transaction};
 use std::alloc::{AllocError, Global};
-use suites::{Item, Kind, Plan, PoolFile, ShelfKey};
+use suites::{Item, Plan, PoolFile, ShelfKey};
 use tables::items::{delete_item, insert_item, item_on};
 use tables::refs::{delete_refs, insert_ref};
 use tables::rows::{ItemRow, Ref};
@@ -26,16 +25,6 @@ fn codename(suites: &[Suite], at: usize) -> &str
     match suites.get(at) {
         Some(suite) => suite.codename.as_str(),
         None => "",
-    }
-}
-
-/// The number of a kind in the order of kinds.
-fn kind_number(kind: Kind) -> u64
-    ensures { result ≡ kind_number kind }
-{
-    match kind {
-        Kind::Source => 0,
-        Kind::Binary => 1,
     }
 }
 
@@ -67,7 +56,7 @@ fn take_down<S: Alter>(
         alloc,
         tx,
         codename(suites, key.suite),
-        kind_number(key.kind),
+        key.kind.number(),
         key.package.as_str(),
         key.architecture.as_str(),
     )?;
@@ -107,7 +96,7 @@ fn item_row(
     let item = &entry.1;
     Ok(ItemRow {
         suite: Text::new(alloc, codename(suites, key.suite))?,
-        kind: kind_number(key.kind),
+        kind: key.kind.number(),
         package: key.package.try_clone()?,
         architecture: key.architecture.try_clone()?,
         version: Text::new(alloc, item.version.text())?,
