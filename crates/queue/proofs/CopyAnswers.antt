@@ -14,10 +14,9 @@ use Rattle.suites.specs.Told.{AreTold}
 use Rattle.suites.specs.declared.plan.Plan.{Plan}
 use Rattle.suites.proofs.ToldLemmas.{told_after_copy}
 use Rattle.keep.specs.Book.{Book, amended, at_moment, due, judgements, latest, shown_past}
-use Rattle.keep.specs.Keeping.{Apart, AreRenewed, AreSteps, HasBodies, HasEachBody, IsSound, NoCollision, sign_of, sign_on}
-use Rattle.keep.specs.declared.change.Change.{Change}
-use Rattle.keep.specs.declared.change.IndexText.{IndexText}
+use Rattle.keep.specs.Keeping.{AreSteps, HasEachBody, sign_of, sign_on}
 use Rattle.keep.specs.declared.change.Step.{Step}
+use Rattle.queue.specs.Amending.{IsPlanned, OnceAmended, steps_at}
 use Rattle.queue.specs.Answers.{IsAnswer, IsFaithful, IsKept, IsStep, answer, is_free_copy, is_refused}
 use Rattle.queue.specs.Archives.{Stands, archive, book_from, book_of, is_shown_of, shown_by_print, shown_in, suite_named}
 use Rattle.queue.specs.Copies.{AreSuites, IsCopy, copy_fault, is_item_of, shows_source, source_fault, suites_fault}
@@ -25,12 +24,10 @@ use Rattle.queue.specs.Deliveries.{or_else}
 use Rattle.queue.specs.Histories.{Copying, Count, History, followed}
 use Rattle.queue.specs.declared.fault.Fault.{Fault}
 use Rattle.queue.specs.declared.fault.Fault.TheVariants.{Moment, UnknownSuite, SameSuite, NothingToCopy}
+use Rattle.queue.proofs.Amended.{left_amended, said_amended}
 use Rattle.queue.proofs.Kept.{IsSame}
-use Rattle.queue.proofs.Known.{apart_with_empty, known}
-use Rattle.queue.proofs.RunAnswers.{without_texts}
 use Rattle.queue.proofs.SimulationCopies.{copy_has, copy_step, copy_step_of, shown_of-printed}
-use Rattle.queue.proofs.SimulationRun.{steps_at}
-use Rattle.queue.proofs.StepAnswers.{refused_step, stands_answered}
+use Rattle.queue.proofs.StepAnswers.{refused_step}
 
 -- ---- the fault
 
@@ -149,14 +146,14 @@ may_copy old config from to moment f t is_config in_time suites =
 -- ---- a copy that is done
 
 -- the step of a copy, on what is shown
-pub copy_steps : (old now : Book) (config : ConfigValue) (shelves : ShelvesValue) (f t : ℕ) (source : List ℕ) (plan : Plan) (made : List Step)
+copy_steps : (old now : Book) (config : ConfigValue) (shelves : ShelvesValue) (f t : ℕ) (source : List ℕ) (plan : Plan) (made : List Step)
     → now ≡ old → shelves ≡ old.shown → made ≡ copy_step_of plan ∷ [] → IsCopy config shelves f t source plan → AreSteps now.shown made
 copy_steps old now config shelves f t source plan made same is_shown is_steps copy =
     let after = plans.after_copy config shelves f t source in
     subst (AreSteps now.shown) (sym is_steps) ((after, subst (λ s. plans.IsStep s after plan) (is_shown ∙ ap (λ (b : Book). b.shown) (sym same)) copy.step), tt)
 
 -- what it leaves shown
-pub copy_past : (old now : Book) (shelves after : ShelvesValue) (plan : Plan) (made : List Step)
+copy_past : (old now : Book) (shelves after : ShelvesValue) (plan : Plan) (made : List Step)
     → now ≡ old → shelves ≡ old.shown → made ≡ copy_step_of plan ∷ [] → after ≡ plans.applied shelves plan → after ≡ shown_past now.shown made
 copy_past old now shelves after plan made same is_shown is_steps is =
     is ∙ ap (λ (m : ShelvesValue). plans.applied m plan) (is_shown ∙ ap (λ (b : Book). b.shown) (sym same)) ∙ ap (shown_past now.shown) (sym is_steps)
@@ -175,59 +172,47 @@ copy_told now config shelves f t source plan made is_config is_shown is_steps co
     let here = copy_on now config shelves f t source plan is_config is_shown copy in
     subst (AreTold now.config.suites) (here.step.items.made ∙ ap (shown_past now.shown) (sym is_steps)) (told_after_copy now.config now.shown f t source told)
 
--- the change of a copy is sound
-pub sound_copy : (moment : ℕ) (old now : Book) (config : ConfigValue) (shelves : ShelvesValue) (f t : ℕ) (source : List ℕ) (plan : Plan) (made : List Step) (texts : List IndexText)
-    → now ≡ old → config ≡ now.config → shelves ≡ old.shown → made ≡ copy_step_of plan ∷ [] → IsCopy config shelves f t source plan
-    → AreRenewed now (amended now (record { moment = moment; steps = made; texts = texts })) texts
-    → IsSound now (record { moment = moment; steps = made; texts = texts })
-sound_copy moment old now config shelves f t source plan made texts same is_config is_shown is_steps copy renewed = record {
+-- the step of a copy is planned
+pub planned_copy : (moment : ℕ) (old now : Book) (config : ConfigValue) (shelves after : ShelvesValue) (f t : ℕ) (source : List ℕ) (plan : Plan) (made : List Step)
+    → now ≡ old → config ≡ now.config → shelves ≡ old.shown → made ≡ copy_step_of plan ∷ [] → IsCopy config shelves f t source plan → after ≡ plans.applied shelves plan
+    → IsPlanned now moment made after
+planned_copy moment old now config shelves after f t source plan made same is_config is_shown is_steps copy is = record {
   plans = copy_steps old now config shelves f t source plan made same is_shown is_steps copy;
   judged = subst (λ xs. map sign_on (judgements xs) ≡ map sign_of (take (length (judgements xs)) (due (at_moment moment now)))) (sym is_steps) refl;
-  texts = renewed;
   told = copy_told now config shelves f t source plan made is_config (is_shown ∙ ap (λ (b : Book). b.shown) (sym same)) is_steps copy;
+  shown = copy_past old now shelves after plan made same is_shown is_steps is;
 }
 
 -- A copy, where what the keeper says holds for all bodies without collision.
-module _ (may_fail : Bool) (h : History) (from to source : List ℕ) (moment f t : ℕ) (old now : Book) (config : ConfigValue) (shelves : ShelvesValue) (plan : Plan) (made : List Step) (texts : List IndexText)
+module _ (may_fail : Bool) (h : History) (from to source : List ℕ) (moment f t : ℕ) (old now : Book) (config : ConfigValue) (shelves : ShelvesValue) (plan : Plan) (made : List Step)
     (stands : Stands old h) (faithful : IsFaithful h (Copying from to source moment ∷ [])) (in_time : moment ≤ latest)
     (same : now ≡ old) (is_shown : shelves ≡ old.shown) (is_steps : made ≡ copy_step_of plan ∷ [])
     (suites : AreSuites old.config from to f t) (is_config : config ≡ now.config) (copied : IsCopy config shelves f t source plan) where
-  abbrev change : Change
-  change = record { moment = moment; steps = made; texts = texts }
-
-  all_apart : NoCollision ([] ∷ faithful.bodies)
-  all_apart = apart_with_empty faithful.bodies faithful.apart
-
-  have_now : HasBodies ([] ∷ faithful.bodies) now
-  have_now = subst (HasBodies ([] ∷ faithful.bodies)) (sym (same ∙ stands)) (known h (Copying from to source moment ∷ []) faithful)
-
   copy : IsCopy old.config old.shown f t source plan
   copy = copy_on old config shelves f t source plan (is_config ∙ ap (λ (b : Book). b.config) same) is_shown copied
 
   -- the book has a body for each file that the pool then has
-  has : HasEachBody now change
+  has : HasEachBody old (steps_at moment made)
   has =
-      subst (λ (b : Book). HasEachBody b change) (sym same)
-      (subst (λ (xs : List Step). HasEachBody old (steps_at moment xs)) (sym is_steps)
-      (copy_has h from to source moment f t old plan stands faithful copy.sound copy.step))
+      subst (λ (xs : List Step). HasEachBody old (steps_at moment xs)) (sym is_steps)
+      (copy_has h from to source moment f t old plan stands faithful copy.sound copy.step)
+
+  does : (is_open : Type 0) (new : Book) → new ≡ amended old (steps_at moment made) → IsStep may_fail h (Copying from to source moment) (Ok (Count (length plan.put))) is_open new
+  unfolding shows_source is_item_of
+  does is_open new is =
+      copy_step may_fail h from to source moment f t is_open old new plan stands faithful (le-ltb latest moment in_time) copy.sound suites.from_named suites.to_named suites.other copy.shows copy.step
+      (is ∙ ap (λ xs. amended old (steps_at moment xs)) is_steps)
 
   -- one that is done
-  pub done_copy : (is_open : Type 0) (new : Book) (items : ℕ) → Apart now (HasEachBody now change → new ≡ amended now change) → items ≡ length plan.put
+  pub done_copy : (is_open : Type 0) (new : Book) (items : ℕ) → OnceAmended now moment made (λ book. new ≡ book) → items ≡ length plan.put
       → IsStep may_fail h (Copying from to source moment) (Ok (Count items)) is_open new
-  unfolding shows_source is_item_of
   done_copy is_open new items is count =
-      let is_new : new ≡ amended old (steps_at moment (copy_step_of plan ∷ [])) =
-      is ([] ∷ faithful.bodies) all_apart have_now has
-      ∙ ap (λ b. amended b change) same
-      ∙ without_texts old moment made texts
-      ∙ ap (λ xs. amended old (steps_at moment xs)) is_steps in
       subst (λ n. IsStep may_fail h (Copying from to source moment) (Ok (Count n)) is_open new) (sym count)
-      (copy_step may_fail h from to source moment f t is_open old new plan stands faithful (le-ltb latest moment in_time) copy.sound suites.from_named suites.to_named suites.other copy.shows copy.step is_new)
+      (does is_open new (said_amended h (Copying from to source moment) moment old now made stands faithful same has (λ book. new ≡ book) is))
 
   -- what a crash leaves that has all of it
-  pub left_copy : (left : Option Book) → Apart now (HasEachBody now change → left ≡ Some (amended now change))
+  pub left_copy : (left : Option Book) → OnceAmended now moment made (λ book. left ≡ Some book)
       → left ≡ Some (book_of (followed h (Copying from to source moment) (answer h (Copying from to source moment))))
   left_copy left is =
-      is ([] ∷ faithful.bodies) all_apart have_now has
-      ∙ ap Some (stands_answered may_fail h (Copying from to source moment) (Count (length plan.put)) (amended now change)
-      (done_copy ⊤ (amended now change) (length plan.put) (λ bodies apart have each. refl) refl))
+      left_amended h (Copying from to source moment) moment old now made stands faithful same has may_fail (Count (length plan.put)) left is
+      (does ⊤ (amended old (steps_at moment made)) refl)

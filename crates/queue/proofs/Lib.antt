@@ -19,6 +19,7 @@ pub mod Simulation
 pub mod SimulationFiles
 pub mod RunJudged
 pub mod SimulationRun
+pub mod Amended
 pub mod RunAnswers
 pub mod CopyShown
 pub mod DatesCounts

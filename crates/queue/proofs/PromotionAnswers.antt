@@ -7,11 +7,10 @@ use Rattle.rules.specs.Values.{ConfigValue}
 use Rattle.suites.specs.Shelves.{AreSound, ShelvesValue}
 use Rattle.suites.specs.Told.{AreTold}
 use Rattle.keep.specs.Book.{Book, amended, at_moment, due, judgements, latest, shown_past}
-use Rattle.keep.specs.Keeping.{Apart, AreRenewed, AreSteps, HasBodies, HasEachBody, IsSound, NoCollision, sign_of, sign_on}
-use Rattle.keep.specs.declared.change.Change.{Change}
-use Rattle.keep.specs.declared.change.IndexText.{IndexText}
+use Rattle.keep.specs.Keeping.{AreSteps, HasEachBody, sign_of, sign_on}
 use Rattle.keep.specs.declared.change.Judgement.{Judgement}
 use Rattle.keep.specs.declared.change.Step.{Step}
+use Rattle.queue.specs.Amending.{IsPlanned, OnceAmended, steps_at}
 use Rattle.queue.specs.Answers.{IsAnswer, IsFaithful, IsKept, IsStep, answer, is_refused}
 use Rattle.queue.specs.Archives.{Stands, book_of, suite_named}
 use Rattle.queue.specs.Copies.{AreSuites, suites_fault}
@@ -19,13 +18,11 @@ use Rattle.queue.specs.Histories.{Copies, History, Promoting, followed}
 use Rattle.queue.specs.Promotions.{AreCopied, after_copies, copies_on, promotion_fault, sources_from}
 use Rattle.queue.specs.declared.fault.Fault.{Fault}
 use Rattle.queue.specs.declared.fault.Fault.TheVariants.{Moment, UnknownSuite, SameSuite}
+use Rattle.queue.proofs.Amended.{left_amended, said_amended}
 use Rattle.queue.proofs.Kept.{IsSame}
-use Rattle.queue.proofs.Known.{apart_with_empty, known}
 use Rattle.queue.proofs.PromotionSteps.{copies_are_steps, copies_judge_none, past_copies}
-use Rattle.queue.proofs.RunAnswers.{without_texts}
 use Rattle.queue.proofs.SimulationPromotions.{promotion_has, promotion_step}
-use Rattle.queue.proofs.SimulationRun.{steps_at}
-use Rattle.queue.proofs.StepAnswers.{refused_step, stands_answered}
+use Rattle.queue.proofs.StepAnswers.{refused_step}
 
 -- ---- the fault
 
@@ -104,13 +101,13 @@ free_promotion h old config from to sources moment f t is_open kept is_config in
 -- ---- a promotion that is done
 
 -- its steps, on what is shown
-pub promotion_steps : (old now : Book) (config : ConfigValue) (shelves : ShelvesValue) (f t : ℕ) (sources : List (List ℕ)) (steps given : List Step)
+promotion_steps : (old now : Book) (config : ConfigValue) (shelves : ShelvesValue) (f t : ℕ) (sources : List (List ℕ)) (steps given : List Step)
     → now ≡ old → shelves ≡ old.shown → given ≡ steps → AreCopied config f t shelves sources steps → AreSteps now.shown given
 promotion_steps old now config shelves f t sources steps given same is_shown is_given copied =
     subst (λ m. AreSteps m given) (is_shown ∙ ap (λ (b : Book). b.shown) (sym same)) (subst (AreSteps shelves) (sym is_given) (copies_are_steps config f t shelves sources steps copied))
 
 -- what they leave shown
-pub promotion_past : (old now : Book) (config : ConfigValue) (shelves after : ShelvesValue) (f t : ℕ) (sources : List (List ℕ)) (steps given : List Step)
+promotion_past : (old now : Book) (config : ConfigValue) (shelves after : ShelvesValue) (f t : ℕ) (sources : List (List ℕ)) (steps given : List Step)
     → now ≡ old → shelves ≡ old.shown → given ≡ steps → AreCopied config f t shelves sources steps → after ≡ after_copies config f t shelves sources → after ≡ shown_past now.shown given
 promotion_past old now config shelves after f t sources steps given same is_shown is_given copied is =
     is ∙ past_copies config f t shelves sources steps copied
@@ -138,35 +135,26 @@ promotion_told now config shelves f t sources steps made is_config is_shown is_s
     (subst (λ (s : ShelvesValue). AreTold config.suites s → AreTold config.suites (shown_past s made)) is_shown
     (λ told. subst (AreTold config.suites) (past_copies config f t shelves sources steps copied ∙ ap (shown_past shelves) (sym is_steps)) (stays told)))
 
--- the change of a promotion is sound
-pub sound_promotion : (moment : ℕ) (old now : Book) (config : ConfigValue) (shelves : ShelvesValue) (f t : ℕ) (sources : List (List ℕ)) (steps made : List Step) (texts : List IndexText)
+-- the steps of a promotion are planned
+pub planned_promotion : (moment : ℕ) (old now : Book) (config : ConfigValue) (shelves after : ShelvesValue) (f t : ℕ) (sources : List (List ℕ)) (steps made : List Step)
     → now ≡ old → config ≡ now.config → shelves ≡ old.shown → made ≡ steps → AreCopied config f t shelves sources steps → StaysCopied config shelves f t sources
-    → AreRenewed now (amended now (record { moment = moment; steps = made; texts = texts })) texts
-    → IsSound now (record { moment = moment; steps = made; texts = texts })
-sound_promotion moment old now config shelves f t sources steps made texts same is_config is_shown is_steps copied stays renewed =
+    → after ≡ after_copies config f t shelves sources
+    → IsPlanned now moment made after
+planned_promotion moment old now config shelves after f t sources steps made same is_config is_shown is_steps copied stays is =
     let none : judgements made ≡ [] = ap judgements is_steps ∙ copies_judge_none config f t shelves sources steps copied in
     record {
       plans = promotion_steps old now config shelves f t sources steps made same is_shown is_steps copied;
       judged = subst (λ (js : List Judgement). map sign_on js ≡ map sign_of (take (length js) (due (at_moment moment now)))) (sym none) refl;
-      texts = renewed;
       told = promotion_told now config shelves f t sources steps made is_config (is_shown ∙ ap (λ (b : Book). b.shown) (sym same)) is_steps copied stays;
+      shown = promotion_past old now config shelves after f t sources steps made same is_shown is_steps copied is;
     }
 
 -- A promotion, where what the keeper says holds for all bodies without collision.
-module _ (may_fail : Bool) (h : History) (from to : List ℕ) (sources : Option (List (List ℕ))) (moment f t : ℕ) (old now : Book) (config : ConfigValue) (shelves : ShelvesValue) (names : List (List ℕ)) (steps made : List Step) (texts : List IndexText)
+module _ (may_fail : Bool) (h : History) (from to : List ℕ) (sources : Option (List (List ℕ))) (moment f t : ℕ) (old now : Book) (config : ConfigValue) (shelves : ShelvesValue) (names : List (List ℕ)) (steps made : List Step)
     (stands : Stands old h) (faithful : IsFaithful h (Promoting from to sources moment ∷ [])) (in_time : moment ≤ latest)
     (same : now ≡ old) (is_shown : shelves ≡ old.shown) (is_steps : made ≡ steps)
     (suites : AreSuites old.config from to f t) (is_config : config ≡ now.config) (is_names : names ≡ sources_from shelves f sources)
     (sound : AreSound shelves) (copied : AreCopied config f t shelves names steps) where
-  abbrev change : Change
-  change = record { moment = moment; steps = made; texts = texts }
-
-  all_apart : NoCollision ([] ∷ faithful.bodies)
-  all_apart = apart_with_empty faithful.bodies faithful.apart
-
-  have_now : HasBodies ([] ∷ faithful.bodies) now
-  have_now = subst (HasBodies ([] ∷ faithful.bodies)) (sym (same ∙ stands)) (known h (Promoting from to sources moment ∷ []) faithful)
-
   is_config_old : config ≡ old.config
   is_config_old = is_config ∙ ap (λ (b : Book). b.config) same
 
@@ -184,28 +172,27 @@ module _ (may_fail : Bool) (h : History) (from to : List ℕ) (sources : Option 
       ∙ ap (λ (s : ShelvesValue). copies_on old.config f t s (sources_from s f sources) steps) is_shown
 
   -- the book has a body for each file that the pool then has
-  has : HasEachBody now change
+  has : HasEachBody old (steps_at moment made)
   has =
-      subst (λ (b : Book). HasEachBody b change) (sym same)
-      (subst (λ (xs : List Step). HasEachBody old (steps_at moment xs)) (sym is_steps)
-      (promotion_has h from to sources moment f t old steps stands faithful sound_here copied_here))
+      subst (λ (xs : List Step). HasEachBody old (steps_at moment xs)) (sym is_steps)
+      (promotion_has h from to sources moment f t old steps stands faithful sound_here copied_here)
+
+  does : (is_open : Type 0) (new : Book) → new ≡ amended old (steps_at moment made)
+      → IsStep may_fail h (Promoting from to sources moment) (Ok (Copies (copies_on old.config f t old.shown (sources_from old.shown f sources) steps))) is_open new
+  does is_open new is =
+      promotion_step may_fail h from to sources moment f t is_open old new steps stands faithful (le-ltb latest moment in_time) sound_here suites.from_named suites.to_named suites.other copied_here
+      (is ∙ ap (λ xs. amended old (steps_at moment xs)) is_steps)
 
   -- one that is done
-  pub done_promotion : (is_open : Type 0) (new : Book) (copies : List (List ℕ × Option ℕ)) → Apart now (HasEachBody now change → new ≡ amended now change) → copies ≡ copies_on config f t shelves names steps
+  pub done_promotion : (is_open : Type 0) (new : Book) (copies : List (List ℕ × Option ℕ)) → OnceAmended now moment made (λ book. new ≡ book) → copies ≡ copies_on config f t shelves names steps
       → IsStep may_fail h (Promoting from to sources moment) (Ok (Copies copies)) is_open new
   done_promotion is_open new copies is are =
-      let is_new : new ≡ amended old (steps_at moment steps) =
-      is ([] ∷ faithful.bodies) all_apart have_now has
-      ∙ ap (λ b. amended b change) same
-      ∙ without_texts old moment made texts
-      ∙ ap (λ xs. amended old (steps_at moment xs)) is_steps in
       subst (λ (cs : List (List ℕ × Option ℕ)). IsStep may_fail h (Promoting from to sources moment) (Ok (Copies cs)) is_open new) (sym (are ∙ answers_here))
-      (promotion_step may_fail h from to sources moment f t is_open old new steps stands faithful (le-ltb latest moment in_time) sound_here suites.from_named suites.to_named suites.other copied_here is_new)
+      (does is_open new (said_amended h (Promoting from to sources moment) moment old now made stands faithful same has (λ book. new ≡ book) is))
 
   -- what a crash leaves that has all of it
-  pub left_promotion : (left : Option Book) → Apart now (HasEachBody now change → left ≡ Some (amended now change))
+  pub left_promotion : (left : Option Book) → OnceAmended now moment made (λ book. left ≡ Some book)
       → left ≡ Some (book_of (followed h (Promoting from to sources moment) (answer h (Promoting from to sources moment))))
   left_promotion left is =
-      is ([] ∷ faithful.bodies) all_apart have_now has
-      ∙ ap Some (stands_answered may_fail h (Promoting from to sources moment) (Copies (copies_on config f t shelves names steps)) (amended now change)
-      (done_promotion ⊤ (amended now change) (copies_on config f t shelves names steps) (λ bodies apart have each. refl) refl))
+      left_amended h (Promoting from to sources moment) moment old now made stands faithful same has may_fail (Copies (copies_on old.config f t old.shown (sources_from old.shown f sources) steps)) left is
+      (does ⊤ (amended old (steps_at moment made)) refl)

@@ -13,10 +13,9 @@ use Rattle.suites.specs.Told.{AreTold}
 use Rattle.suites.specs.declared.plan.Plan.{Plan}
 use Rattle.suites.proofs.RemovalLemmas.{told_after_removal}
 use Rattle.keep.specs.Book.{Book, amended, at_moment, due, judgements, latest, shown_past}
-use Rattle.keep.specs.Keeping.{Apart, AreRenewed, AreSteps, HasBodies, HasEachBody, IsSound, NoCollision, sign_of, sign_on}
-use Rattle.keep.specs.declared.change.Change.{Change}
-use Rattle.keep.specs.declared.change.IndexText.{IndexText}
+use Rattle.keep.specs.Keeping.{AreSteps, HasEachBody, sign_of, sign_on}
 use Rattle.keep.specs.declared.change.Step.{Step}
+use Rattle.queue.specs.Amending.{IsPlanned, OnceAmended, steps_at}
 use Rattle.queue.specs.Answers.{IsAnswer, IsFaithful, IsKept, IsStep, answer, is_free_removal, is_refused}
 use Rattle.queue.specs.Archives.{Stands, archive, book_from, book_of, shown_by_print, shown_in, suite_named}
 use Rattle.queue.specs.Deliveries.{or_else}
@@ -24,12 +23,10 @@ use Rattle.queue.specs.Histories.{Removing, Count, History, followed}
 use Rattle.queue.specs.Removals.{IsRemoval, package_fault, removal_fault, shows_package, suite_fault}
 use Rattle.queue.specs.declared.fault.Fault.{Fault}
 use Rattle.queue.specs.declared.fault.Fault.TheVariants.{Moment, UnknownSuite, NothingToRemove}
+use Rattle.queue.proofs.Amended.{left_amended, said_amended}
 use Rattle.queue.proofs.Kept.{IsSame}
-use Rattle.queue.proofs.Known.{apart_with_empty, known}
-use Rattle.queue.proofs.RunAnswers.{without_texts}
 use Rattle.queue.proofs.SimulationRemovals.{removal_has, removal_step, removal_step_of, shows-printed}
-use Rattle.queue.proofs.SimulationRun.{steps_at}
-use Rattle.queue.proofs.StepAnswers.{refused_step, stands_answered}
+use Rattle.queue.proofs.StepAnswers.{refused_step}
 
 -- ---- the fault
 
@@ -131,14 +128,14 @@ may_remove old config suite moment place is_config in_time named =
 -- ---- a removal that is done
 
 -- the step of a removal, on what is shown
-pub removal_steps : (old now : Book) (shelves : ShelvesValue) (place : ℕ) (name : List ℕ) (plan : Plan) (made : List Step)
+removal_steps : (old now : Book) (shelves : ShelvesValue) (place : ℕ) (name : List ℕ) (plan : Plan) (made : List Step)
     → now ≡ old → shelves ≡ old.shown → made ≡ removal_step_of plan ∷ [] → IsRemoval shelves place name plan → AreSteps now.shown made
 removal_steps old now shelves place name plan made same is_shown is_steps removal =
     let after = plans.after_removal shelves place name in
     subst (AreSteps now.shown) (sym is_steps) ((after, subst (λ s. plans.IsStep s after plan) (is_shown ∙ ap (λ (b : Book). b.shown) (sym same)) removal.step), tt)
 
 -- what it leaves shown
-pub removal_past : (old now : Book) (shelves after : ShelvesValue) (plan : Plan) (made : List Step)
+removal_past : (old now : Book) (shelves after : ShelvesValue) (plan : Plan) (made : List Step)
     → now ≡ old → shelves ≡ old.shown → made ≡ removal_step_of plan ∷ [] → after ≡ plans.applied shelves plan → after ≡ shown_past now.shown made
 removal_past old now shelves after plan made same is_shown is_steps is =
     is ∙ ap (λ (m : ShelvesValue). plans.applied m plan) (is_shown ∙ ap (λ (b : Book). b.shown) (sym same)) ∙ ap (shown_past now.shown) (sym is_steps)
@@ -155,59 +152,47 @@ removal_told now shelves place name plan made is_shown is_steps removal told =
     let here = removal_on now shelves place name plan is_shown removal in
     subst (AreTold now.config.suites) (here.step.items.made ∙ ap (shown_past now.shown) (sym is_steps)) (told_after_removal now.shown place name now.config.suites told)
 
--- the change of a removal is sound
-pub sound_removal : (moment : ℕ) (old now : Book) (shelves : ShelvesValue) (place : ℕ) (name : List ℕ) (plan : Plan) (made : List Step) (texts : List IndexText)
-    → now ≡ old → shelves ≡ old.shown → made ≡ removal_step_of plan ∷ [] → IsRemoval shelves place name plan
-    → AreRenewed now (amended now (record { moment = moment; steps = made; texts = texts })) texts
-    → IsSound now (record { moment = moment; steps = made; texts = texts })
-sound_removal moment old now shelves place name plan made texts same is_shown is_steps removal renewed = record {
+-- the step of a removal is planned
+pub planned_removal : (moment : ℕ) (old now : Book) (shelves after : ShelvesValue) (place : ℕ) (name : List ℕ) (plan : Plan) (made : List Step)
+    → now ≡ old → shelves ≡ old.shown → made ≡ removal_step_of plan ∷ [] → IsRemoval shelves place name plan → after ≡ plans.applied shelves plan
+    → IsPlanned now moment made after
+planned_removal moment old now shelves after place name plan made same is_shown is_steps removal is = record {
   plans = removal_steps old now shelves place name plan made same is_shown is_steps removal;
   judged = subst (λ xs. map sign_on (judgements xs) ≡ map sign_of (take (length (judgements xs)) (due (at_moment moment now)))) (sym is_steps) refl;
-  texts = renewed;
   told = removal_told now shelves place name plan made (is_shown ∙ ap (λ (b : Book). b.shown) (sym same)) is_steps removal;
+  shown = removal_past old now shelves after plan made same is_shown is_steps is;
 }
 
 -- A removal, where what the keeper says holds for all bodies without collision.
-module _ (may_fail : Bool) (h : History) (suite name : List ℕ) (moment place : ℕ) (old now : Book) (shelves : ShelvesValue) (plan : Plan) (made : List Step) (texts : List IndexText)
+module _ (may_fail : Bool) (h : History) (suite name : List ℕ) (moment place : ℕ) (old now : Book) (shelves : ShelvesValue) (plan : Plan) (made : List Step)
     (stands : Stands old h) (faithful : IsFaithful h (Removing suite name moment ∷ [])) (in_time : moment ≤ latest)
     (same : now ≡ old) (is_shown : shelves ≡ old.shown) (is_steps : made ≡ removal_step_of plan ∷ [])
     (named : suite_named old.config suite ≡ Some place) (taken : IsRemoval shelves place name plan) where
-  abbrev change : Change
-  change = record { moment = moment; steps = made; texts = texts }
-
-  all_apart : NoCollision ([] ∷ faithful.bodies)
-  all_apart = apart_with_empty faithful.bodies faithful.apart
-
-  have_now : HasBodies ([] ∷ faithful.bodies) now
-  have_now = subst (HasBodies ([] ∷ faithful.bodies)) (sym (same ∙ stands)) (known h (Removing suite name moment ∷ []) faithful)
-
   removal : IsRemoval old.shown place name plan
   removal = removal_on old shelves place name plan is_shown taken
 
   -- the book has a body for each file that the pool then has
-  has : HasEachBody now change
+  has : HasEachBody old (steps_at moment made)
   has =
-      subst (λ (b : Book). HasEachBody b change) (sym same)
-      (subst (λ (xs : List Step). HasEachBody old (steps_at moment xs)) (sym is_steps)
-      (removal_has h suite name moment place old plan stands faithful removal.sound removal.step removal.put removal.dropped))
+      subst (λ (xs : List Step). HasEachBody old (steps_at moment xs)) (sym is_steps)
+      (removal_has h suite name moment place old plan stands faithful removal.sound removal.step removal.put removal.dropped)
+
+  does : (is_open : Type 0) (new : Book) → new ≡ amended old (steps_at moment made) → IsStep may_fail h (Removing suite name moment) (Ok (Count (length plan.dropped))) is_open new
+  unfolding shows_package
+  does is_open new is =
+      removal_step may_fail h suite name moment place is_open old new plan stands faithful (le-ltb latest moment in_time) removal.sound named removal.shows removal.step removal.put removal.dropped
+      (is ∙ ap (λ xs. amended old (steps_at moment xs)) is_steps)
 
   -- one that is done
-  pub done_removal : (is_open : Type 0) (new : Book) (items : ℕ) → Apart now (HasEachBody now change → new ≡ amended now change) → items ≡ length plan.dropped
+  pub done_removal : (is_open : Type 0) (new : Book) (items : ℕ) → OnceAmended now moment made (λ book. new ≡ book) → items ≡ length plan.dropped
       → IsStep may_fail h (Removing suite name moment) (Ok (Count items)) is_open new
-  unfolding shows_package
   done_removal is_open new items is count =
-      let is_new : new ≡ amended old (steps_at moment (removal_step_of plan ∷ [])) =
-      is ([] ∷ faithful.bodies) all_apart have_now has
-      ∙ ap (λ b. amended b change) same
-      ∙ without_texts old moment made texts
-      ∙ ap (λ xs. amended old (steps_at moment xs)) is_steps in
       subst (λ n. IsStep may_fail h (Removing suite name moment) (Ok (Count n)) is_open new) (sym count)
-      (removal_step may_fail h suite name moment place is_open old new plan stands faithful (le-ltb latest moment in_time) removal.sound named removal.shows removal.step removal.put removal.dropped is_new)
+      (does is_open new (said_amended h (Removing suite name moment) moment old now made stands faithful same has (λ book. new ≡ book) is))
 
   -- what a crash leaves that has all of it
-  pub left_removal : (left : Option Book) → Apart now (HasEachBody now change → left ≡ Some (amended now change))
+  pub left_removal : (left : Option Book) → OnceAmended now moment made (λ book. left ≡ Some book)
       → left ≡ Some (book_of (followed h (Removing suite name moment) (answer h (Removing suite name moment))))
   left_removal left is =
-      is ([] ∷ faithful.bodies) all_apart have_now has
-      ∙ ap Some (stands_answered may_fail h (Removing suite name moment) (Count (length plan.dropped)) (amended now change)
-      (done_removal ⊤ (amended now change) (length plan.dropped) (λ bodies apart have each. refl) refl))
+      left_amended h (Removing suite name moment) moment old now made stands faithful same has may_fail (Count (length plan.dropped)) left is
+      (does ⊤ (amended old (steps_at moment made)) refl)

@@ -7,11 +7,11 @@ use Rattle.suites.specs.Shelves.{ShelvesValue}
 use Rattle.suites.specs.Told.{AreTold}
 use Rattle.suites.specs.Upload.{UploadValue}
 use Rattle.sums.specs.declared.print.Print.{Print}
-use Rattle.keep.specs.Book.{Book, Candidate, amended, at_moment, due, judgements, shown_past}
-use Rattle.keep.specs.Keeping.{AreRenewed, AreSteps, IsSound, sign_of, sign_on}
-use Rattle.keep.specs.declared.change.IndexText.{IndexText}
+use Rattle.keep.specs.Book.{Book, Candidate, at_moment, due, judgements, shown_past}
+use Rattle.keep.specs.Keeping.{AreSteps, sign_of, sign_on}
 use Rattle.keep.specs.declared.change.Judgement.{Judgement}
 use Rattle.keep.specs.declared.change.Step.{Step}
+use Rattle.queue.specs.Amending.{IsPlanned}
 use Rattle.queue.specs.Judging.{AreJudged, IsJudged, after_uploads, judgement_on}
 
 -- one more upload, judged on what the others leave
@@ -30,7 +30,7 @@ sign_in u = (u.name, u.print)
 first_judged : (step : Step) (steps : List Step) (j : Judgement) → step.judgement ≡ Some j → judgements (step ∷ steps) ≡ j ∷ judgements steps
 first_judged step steps j is = ap (λ o. cons_option o (judgements steps)) is
 
-pub steps_are : (config : ConfigValue) (shelves : ShelvesValue) (us : List UploadValue) (steps : List Step) → AreJudged config shelves us steps → AreSteps shelves steps
+steps_are : (config : ConfigValue) (shelves : ShelvesValue) (us : List UploadValue) (steps : List Step) → AreJudged config shelves us steps → AreSteps shelves steps
 steps_are config shelves [] [] are = tt
 steps_are config shelves [] (s ∷ ss) are = absurd are
 steps_are config shelves (u ∷ us) [] are = absurd are
@@ -54,7 +54,7 @@ take_all [] = refl
 take_all (x ∷ xs) = ap (λ rest. x ∷ rest) (take_all xs)
 
 -- what the steps leave shown is what the uploads leave
-pub past_uploads : (config : ConfigValue) (shelves : ShelvesValue) (us : List UploadValue) (steps : List Step) → AreJudged config shelves us steps → after_uploads config shelves us ≡ shown_past shelves steps
+past_uploads : (config : ConfigValue) (shelves : ShelvesValue) (us : List UploadValue) (steps : List Step) → AreJudged config shelves us steps → after_uploads config shelves us ≡ shown_past shelves steps
 past_uploads config shelves [] [] are = refl
 past_uploads config shelves [] (s ∷ ss) are = absurd are
 past_uploads config shelves (u ∷ us) [] are = absurd are
@@ -65,18 +65,18 @@ past_uploads config shelves (u ∷ us) (s ∷ ss) are =
 abbrev pub StaysTold : ConfigValue → ShelvesValue → List UploadValue → Type 0
 StaysTold config shelves us = AreTold config.suites shelves → AreTold config.suites (after_uploads config shelves us)
 
--- a change of all uploads that are due at its moment is sound
-pub is_sound : (book : Book) (moment : ℕ) (us : List UploadValue) (steps : List Step) (texts : List IndexText) → AreJudged book.config book.shown us steps
-    → map sign_in us ≡ map sign_of (due (at_moment moment book)) → AreRenewed book (amended book (record { moment = moment; steps = steps; texts = texts })) texts
+-- steps that judge all uploads that are due at a moment are planned
+pub is_planned : (book : Book) (moment : ℕ) (us : List UploadValue) (steps : List Step) (shelves : ShelvesValue) → AreJudged book.config book.shown us steps
+    → map sign_in us ≡ map sign_of (due (at_moment moment book)) → shelves ≡ after_uploads book.config book.shown us
     → StaysTold book.config book.shown us
-    → IsSound book (record { moment = moment; steps = steps; texts = texts })
-is_sound book moment us steps texts are signs renewed stays =
+    → IsPlanned book moment steps shelves
+is_planned book moment us steps shelves are signs is stays =
     let cs : List Candidate = due (at_moment moment book) in
     let all : map sign_on (judgements steps) ≡ map sign_of cs = signs_are book.config book.shown us steps are ∙ signs in
     let count : length (judgements steps) ≡ length cs = sym (map_length sign_on (judgements steps)) ∙ ap length all ∙ map_length sign_of cs in
     record {
       plans = steps_are book.config book.shown us steps are;
       judged = all ∙ ap (map sign_of) (sym (ap (λ n. take n cs) count ∙ take_all cs));
-      texts = renewed;
       told = λ told. subst (AreTold book.config.suites) (past_uploads book.config book.shown us steps are) (stays told);
+      shown = is ∙ past_uploads book.config book.shown us steps are;
     }

@@ -18,6 +18,7 @@ use Rattle.suites.specs.Shelves.{AreSound, ShelvesValue, shown, shown_after, ver
 use Rattle.suites.specs.declared.item.Item.{Item}
 use Rattle.suites.specs.declared.key.ShelfKey.{ShelfKey}
 use Rattle.suites.specs.declared.plan.Plan.{Plan}
+use Rattle.queue.specs.Amending.{steps_at}
 use Rattle.queue.specs.Answers.{IsFaithful, IsStep, answer, count_of_new}
 use Rattle.queue.specs.Archives.{BodyItem, PlainArchive, Stands, acted, acts_of, archive, book_from, book_of, copied, is_kept_by, is_shown_of, items_copied, printed, shown_by_print, shown_in, suite_named, version_with, with_admitted}
 use Rattle.queue.specs.Histories.{Copying, Count, History, arrivals_after, arrived, followed}
@@ -30,7 +31,7 @@ use Rattle.queue.proofs.Known.{archive_has, faithful_knows, has_empty, known, wi
 use Rattle.queue.proofs.ShownPrints.{entries-shown_by_print, get-shown_by_print, printed_item}
 use Rattle.queue.proofs.Simulation.{AreSimulated, dates-with_items, shown-with_items}
 use Rattle.queue.proofs.SimulationFiles.{AreFrom, AreStored, amended-simulated, bodies-simulated, more_stored, shown_stored}
-use Rattle.queue.proofs.SimulationRun.{made_of, steps_at}
+use Rattle.queue.proofs.SimulationRun.{made_of}
 use Rattle.queue.proofs.Steps.{book_of-followed}
 
 -- ---- the items

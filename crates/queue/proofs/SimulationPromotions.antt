@@ -16,6 +16,7 @@ use Rattle.suites.specs.Pool.{AreAgreed, files_of}
 use Rattle.suites.specs.Shelves.{AreSound, ShelvesValue}
 use Rattle.suites.specs.declared.item.Item.{Item}
 use Rattle.suites.specs.declared.key.ShelfKey.{ShelfKey}
+use Rattle.queue.specs.Amending.{steps_at}
 use Rattle.queue.specs.Answers.{IsFaithful, IsStep, answer, copies_in, new_items}
 use Rattle.queue.specs.Archives.{BodyItem, PlainArchive, Stands, acted, acts_of, archive, book_from, book_of, copied, copied_all, each_once, is_shown_of, items_copied, printed, shown_by_print, shown_in, sources_in, sources_shown, suite_named, with_admitted}
 use Rattle.queue.specs.Copies.{is_item_of, shows_source}
@@ -29,7 +30,7 @@ use Rattle.queue.proofs.Simulation.{AreSimulated, dates-with_items}
 use Rattle.queue.proofs.SimulationCopies.{copied-count, copied_member, shown-copied, shown_of-printed}
 use Rattle.queue.proofs.SimulationFiles.{AreFrom, AreStored, amended-simulated, bodies-simulated, more_stored, shown_stored}
 use Rattle.queue.proofs.SimulationRemovals.{filter-map}
-use Rattle.queue.proofs.SimulationRun.{made_of, steps_at}
+use Rattle.queue.proofs.SimulationRun.{made_of}
 use Rattle.queue.proofs.Steps.{book_of-followed}
 
 -- ---- source packages

@@ -22,6 +22,7 @@ use Rattle.suites.specs.declared.key.ShelfKey.{ShelfKey}
 use Rattle.suites.specs.declared.plan.Plan.{Plan}
 use Rattle.suites.proofs.RemovalLemmas as removals
 use Rattle.suites.proofs.RemovalLemmas.{is_left}
+use Rattle.queue.specs.Amending.{steps_at}
 use Rattle.queue.specs.Answers.{IsFaithful, IsStep, answer, count_of_shown}
 use Rattle.queue.specs.Archives.{BodyItem, PlainArchive, Stands, acted, acts_of, archive, book_from, book_of, has_more, is_changed, printed, removed, shown_by_print, shown_in, suite_named, version_with, with_admitted}
 use Rattle.queue.specs.Histories.{Removing, Count, History, arrivals_after, arrived, followed}
@@ -35,7 +36,7 @@ use Rattle.queue.proofs.Lists.{all_from_contained, list_any-map}
 use Rattle.queue.proofs.ShownPrints.{entries-shown_by_print}
 use Rattle.queue.proofs.Simulation.{AreSimulated}
 use Rattle.queue.proofs.SimulationFiles.{AreFrom, AreStored, amended-simulated, bodies-simulated, shown_stored}
-use Rattle.queue.proofs.SimulationRun.{made_of, steps_at}
+use Rattle.queue.proofs.SimulationRun.{made_of}
 use Rattle.queue.proofs.Steps.{book_of-followed}
 
 -- ---- the items

@@ -9,7 +9,6 @@ use Rattle.std.proofs.lemmas.Option.{same_Some}
 use Rattle.keep.specs.Book.{Book, Candidate, amended, at_moment, candidate_of, candidates, due, in_order, is_changes_name, is_complete, judgements, judging_order, latest, put_in_order, span, upload_of}
 use Rattle.keep.specs.Keeping.{HasEachBody, NoCollision}
 use Rattle.keep.specs.declared.arrival.Arrival.{Arrival}
-use Rattle.keep.specs.declared.change.Change.{Change}
 use Rattle.keep.specs.declared.change.Step.{Step}
 use Rattle.keep.proofs.Moments.{current-part}
 use Rattle.records.specs.Records.{changes_in}
@@ -20,9 +19,10 @@ use Rattle.suites.specs.Items.{Admitted, FileWith}
 use Rattle.suites.specs.Pool.{AreAgreed, files_of}
 use Rattle.suites.specs.Shelves.{AreSound}
 use Rattle.suites.specs.Upload.{UploadValue}
+use Rattle.queue.specs.Amending.{steps_at}
 use Rattle.queue.specs.Answers.{IsFaithful, IsStep, answer, new_lines, report_line}
 use Rattle.queue.specs.Archives.{PlainArchive, Stands, Whole, WholeUpload, acted, acts_of, archive, book_from, book_of, shown_by_print, shown_in, whole_of}
-use Rattle.queue.specs.Histories.{Call, History, Lines, QueueRun, Reply, arrivals_after, arrived, counting, due_after, followed, waiting_after, was_judged}
+use Rattle.queue.specs.Histories.{History, Lines, QueueRun, arrivals_after, arrived, counting, due_after, followed, waiting_after, was_judged}
 use Rattle.queue.specs.Histories as histories
 use Rattle.queue.specs.Judging.{AreJudged}
 use Rattle.queue.proofs.Contents.{AreMadeOf}
@@ -128,10 +128,6 @@ uploads_of arrivals (c ∷ cs) = ap (λ rest. upload_of arrivals c ∷ rest) (up
 -- what the acts of the run leave
 abbrev pub after_run : ConfigValue → ℕ → List Arrival → List Candidate → PlainArchive → PlainArchive
 after_run config moment arrivals cs a = fold (acted config) a (map (λ c. Whole (whole_of arrivals c) moment) cs)
-
--- the change that steps are, whatever texts it names
-abbrev pub steps_at : ℕ → List Step → Change
-steps_at moment steps = record { moment = moment; steps = steps; texts = [] }
 
 -- Of the arrivals, `now` are those that count at the moment.
 module _ (bodies : List (List ℕ)) (apart : NoCollision bodies) (config : ConfigValue) (moment : ℕ) (arrivals now : List Arrival) (among : AreAmong now arrivals)

@@ -5,6 +5,7 @@ pub mod Histories
 pub mod Archives
 pub mod Copies
 pub mod Removals
+pub mod Amending
 pub mod Answers
 pub mod Promotions
 pub mod Steps

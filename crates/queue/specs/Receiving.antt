@@ -9,7 +9,7 @@ use Rattle.queue.specs.Archives.{book_of}
 use Rattle.queue.specs.Commands.{stored}
 use Rattle.queue.specs.Deliveries.{IsOfDisk, delivery_fault, most_bytes}
 use Rattle.queue.specs.Histories.{Delivery, History, followed}
-use Rattle.queue.specs.Steps.{Does}
+use Rattle.queue.specs.Steps.{Does, Leaves}
 use Rattle.queue.specs.declared.command.Arrived.{Arrived}
 use Rattle.queue.specs.declared.fault.Fault.{Fault}
 use Rattle.queue.specs.declared.fault.Fault.TheVariants.{OutOfMemory, Keeper, Ended, ReaderFailed}
@@ -79,6 +79,15 @@ pub record IsLeft (gave gives : Option (List ℕ)) (n : ℕ) (old : Book) (left 
   pub body : List ℕ
   pub gave_it : Gave gave gives n body
   pub arrives : ApartWith old body (left ≡ Some (with_delivery old (record { name = name; body = body; moment = moment })))
+
+module _ {K : Type 0} (g : Ghosts K) (before after : K) (gave gives : Option (List ℕ)) (n : ℕ) (name : List ℕ) (moment : ℕ) where
+  -- The keeper then has the body that the reader gave, and it is new or not.
+  abbrev pub Arrives : Bool → Type 0
+  Arrives new = HasArrived gave gives n (g.is_clean after) (g.book before) (g.book after) name moment new
+
+  -- A crash leaves what it would have left before, the book, or that with the body that the reader gave.
+  abbrev pub LeavesArrived : Type 0
+  LeavesArrived = Leaves g before after (λ left. (left ≡ Some (g.book before)) ⊎ IsLeft gave gives n (g.book before) left name moment)
 
 -- ---- the delivery
 

@@ -16,12 +16,19 @@ IsLeftAlong h (call ∷ calls) (outcome ∷ outcomes) left =
 IsLeftAlong h calls outcomes left = left ≡ Some (book_of h)
 
 module _ {K : Type 0} (g : Ghosts K) (old : K) where
-  -- what each call leaves of the archive's keeper, and what one leaves that changes nothing
+  -- what each call leaves of the archive's keeper, what one leaves that changes nothing, and what one that writes nothing that counts
   abbrev pub Lasts : K → Type 0
   Lasts new = keeping.Lasts g.is_clean g.is_open g.faults g.book old new
 
   abbrev pub Reads : K → Type 0
   Reads new = keeping.Reads g.is_clean g.is_open g.faults g.book g.may_leave old new
+
+  abbrev pub Stays : K → Type 0
+  Stays new = keeping.Stays g.is_clean g.is_open g.faults g.book g.may_leave old new
+
+  -- A crash leaves what it would have left before, or all that a call that writes does.
+  abbrev pub Leaves : K → (Option Book → Type 0) → Type 0
+  Leaves new Whole = keeping.Leaves g.is_clean g.is_open g.may_leave old new Whole
 
   -- The call, with this outcome, is a step behind each history whose book is kept: the outcome is the answer of its plain
   -- archive, and what the longer history leaves is kept then.

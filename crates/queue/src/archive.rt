@@ -9,6 +9,7 @@
 //! stops are said of what follows from either (`LeavesCall`).
 
 ghost use Rattle.std.specs.Prelude.{◌≡◌, ◌⊎◌, ◌<◌, ◌≤◌, ⊤, true, Some, None, Err, IfOk, IfErr, OnOk, OnErr, false, map};
+ghost use Rattle.queue.specs.Amending.{IsPlanned, OnceAmended};
 ghost use Rattle.queue.specs.Answers.{copy_line, is_free_copy, is_free_removal};
 ghost use Rattle.queue.specs.Commands.{stored, reported, counted, found, copies_of, lines_of, names_given, promoted};
 ghost use Rattle.queue.specs.Copies.{copy_fault};
@@ -21,7 +22,7 @@ ghost use Rattle.keep.specs.Configured.{configured, keeps_shown};
 ghost use Rattle.keep.specs.Keeping.{MayAnswer};
 ghost use Rattle.keep.specs.declared.fault.KeepFault.TheVariants.{Configuration};
 ghost use Rattle.queue.specs.Configuring.{Configures, Endures, LeavesConfigured};
-ghost use Rattle.queue.specs.Steps.{Does, IsServed, IsUndone, Lasts, LeavesDelivery, LeavesStep, Reads};
+ghost use Rattle.queue.specs.Steps.{Does, IsServed, IsUndone, Lasts, Leaves, LeavesDelivery, LeavesStep, Reads};
 
 use crate::command::{Arrived, Promotion, Report};
 use crate::configuring::configured;
@@ -34,10 +35,11 @@ use crate::removal::{place_of, removal_plan};
 use crate::renewal::renewed_texts;
 use crate::report::{verdict_lines, waiting_lines};
 use crate::run::{judged_steps, report_lines};
-use keep::{Change, KeepFault, Keeper, LATEST};
+use keep::{Change, KeepFault, Keeper, LATEST, Step};
 use para::Listed;
 use rules::Config;
 use std::alloc::Global;
+use suites::Shelves;
 
 /// An archive, over the keeper that keeps it between calls.
 #[derive(Drop)]
@@ -96,6 +98,42 @@ impl<K: Keeper> Archive<K> {
         }
     }
 
+    /// Makes steps, which leave these shelves, in one change at a moment, with the index texts that they make other than before.
+    fn amend(
+        &mut self,
+        alloc: Global,
+        steps: Listed<Step>,
+        shelves: Shelves,
+        moment: u64,
+    ) -> Result<(), KeepFault>
+        requires in_time { moment ≤ latest }
+        requires planned { K.is_clean self.now.keeper → K.is_open self.now.keeper → IsPlanned (K.book self.now.keeper) moment steps shelves }
+        ensures lasts { Lasts K.Keeper self.old.keeper self.new.keeper }
+        ensures served { K.is_clean self.new.keeper → OnOk result (K.is_open self.new.keeper) }
+        ensures ok { K.is_clean self.new.keeper → OnOk result (OnceAmended (K.book self.old.keeper) moment steps (λ book. K.book self.new.keeper ≡ book)) }
+        ensures err { OnErr result (IsUndone K.Keeper self.old.keeper self.new.keeper) }
+        ensures cause { IfErr result (MayAnswer K.may_fail) }
+        // A crash leaves what it would have left before, or all that the steps do.
+        ensures crash { Leaves K.Keeper self.old.keeper self.new.keeper (λ left. OnceAmended (K.book self.old.keeper) moment steps (λ book. left ≡ Some book)) }
+    {
+        let texts = renewed_texts(
+            alloc,
+            &mut self.keeper,
+            &mut self.printed,
+            &shelves,
+            steps.as_slice(),
+            moment,
+        )?;
+        let change = Change {
+            moment,
+            steps,
+            texts: Listed::from_vec(texts),
+        };
+        self.keeper.apply(alloc, &change)?;
+        self.keeper.hold(shelves);
+        Ok(())
+    }
+
     /// Judges each upload that has no verdict and is complete in what counts at a moment, in seconds since 1970-01-01 00:00:00
     /// UTC, and reports a line for each. Refused for a moment after 2099. Where it is refused and the keeper is open no upload
     /// was judged.
@@ -123,21 +161,7 @@ impl<K: Keeper> Archive<K> {
         let mut shelves = self.keeper.shelves(alloc)?;
         let steps = judged_steps(alloc, self.keeper.config(), &mut shelves, &uploads)?;
         let lines = report_lines(alloc, &steps)?;
-        let texts = renewed_texts(
-            alloc,
-            &mut self.keeper,
-            &mut self.printed,
-            &shelves,
-            &steps,
-            moment,
-        )?;
-        let change = Change {
-            moment,
-            steps: Listed::from_vec(steps),
-            texts: Listed::from_vec(texts),
-        };
-        self.keeper.apply(alloc, &change)?;
-        self.keeper.hold(shelves);
+        self.amend(alloc, Listed::from_vec(steps), shelves, moment)?;
         Ok(Report { lines })
     }
 
@@ -175,21 +199,7 @@ impl<K: Keeper> Archive<K> {
         let plan = copy_plan(alloc, self.keeper.config(), &shelves, from, to, source)?;
         let items = plan.put.as_slice().len() as u64;
         let steps = only_step(alloc, &mut shelves, plan)?;
-        let texts = renewed_texts(
-            alloc,
-            &mut self.keeper,
-            &mut self.printed,
-            &shelves,
-            steps.as_slice(),
-            moment,
-        )?;
-        let change = Change {
-            moment,
-            steps,
-            texts: Listed::from_vec(texts),
-        };
-        self.keeper.apply(alloc, &change)?;
-        self.keeper.hold(shelves);
+        self.amend(alloc, steps, shelves, moment)?;
         Ok(items)
     }
 
@@ -238,21 +248,7 @@ impl<K: Keeper> Archive<K> {
             &groups,
         )?;
         let lines = copy_lines(alloc, &copies)?;
-        let texts = renewed_texts(
-            alloc,
-            &mut self.keeper,
-            &mut self.printed,
-            &shelves,
-            &made,
-            moment,
-        )?;
-        let change = Change {
-            moment,
-            steps: Listed::from_vec(made),
-            texts: Listed::from_vec(texts),
-        };
-        self.keeper.apply(alloc, &change)?;
-        self.keeper.hold(shelves);
+        self.amend(alloc, Listed::from_vec(made), shelves, moment)?;
         Ok(Promotion {
             copies,
             report: Report { lines },
@@ -292,21 +288,7 @@ impl<K: Keeper> Archive<K> {
         let plan = removal_plan(alloc, self.keeper.config(), &shelves, place, name)?;
         let count = plan.dropped.as_slice().len() as u64;
         let steps = only_step(alloc, &mut shelves, plan)?;
-        let texts = renewed_texts(
-            alloc,
-            &mut self.keeper,
-            &mut self.printed,
-            &shelves,
-            steps.as_slice(),
-            moment,
-        )?;
-        let change = Change {
-            moment,
-            steps,
-            texts: Listed::from_vec(texts),
-        };
-        self.keeper.apply(alloc, &change)?;
-        self.keeper.hold(shelves);
+        self.amend(alloc, steps, shelves, moment)?;
         Ok(count)
     }
 

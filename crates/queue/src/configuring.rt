@@ -10,9 +10,10 @@ ghost use Rattle.std.specs.Prelude.{◌≡◌, ◌⊎◌, ◌≤◌, ◌<◌, Al
 ghost use Rattle.std.specs.Option.{option_and_then};
 ghost use Rattle.keep.specs.Book.{latest};
 ghost use Rattle.keep.specs.Configured.{IsConfiguration, date_under, dates_under, keeps_shown, shown_under};
-ghost use Rattle.keep.specs.Keeping.{MayAnswer, Reads};
+ghost use Rattle.keep.specs.Keeping.{MayAnswer};
 ghost use Rattle.keep.specs.declared.fault.KeepFault.TheVariants.{Configuration};
 ghost use Rattle.rules.specs.declared.suite.Suite.{Suite as SuiteValue};
+ghost use Rattle.queue.specs.Steps.{Reads};
 ghost use Rattle.std.specs.FinMap.{values};
 ghost use Rattle.suites.specs.Moved.{place_named as place_named_in};
 ghost use Rattle.suites.specs.Pool.{AreAgreed, files_of};
@@ -89,7 +90,7 @@ fn date_under<K: Keeper>(
 ) -> Result<u64, KeepFault>
     requires suite { position < length config.now.suites }
     requires in_time { moment ≤ latest }
-    ensures reads { Reads K.is_clean K.is_open K.faults K.book K.may_leave keeper.old keeper.new }
+    ensures reads { Reads K.Keeper keeper.old keeper.new }
     ensures served { K.is_clean keeper.new → K.is_open keeper.old → OnOk result (K.is_open keeper.new) }
     ensures date { K.is_clean keeper.new → IfOk result (λ date. (s : SuiteValue) → slice_get config.now.suites position ≡ Some s
         → date ≡ date_under (K.book keeper.old) shelves.now moment (position, s)) }
@@ -119,7 +120,7 @@ fn dates_under<K: Keeper>(
     moment: u64,
 ) -> Result<Vec<u64>, KeepFault>
     requires in_time { moment ≤ latest }
-    ensures reads { Reads K.is_clean K.is_open K.faults K.book K.may_leave keeper.old keeper.new }
+    ensures reads { Reads K.Keeper keeper.old keeper.new }
     ensures served { K.is_clean keeper.new → K.is_open keeper.old → OnOk result (K.is_open keeper.new) }
     ensures dates { K.is_clean keeper.new → K.is_open keeper.old → IfOk result (λ dates. dates.items ≡ dates_under config.now shelves.now moment (K.book keeper.old)) }
     ensures dated { IfOk result (λ dates. length dates.items ≡ length config.now.suites) }
@@ -143,7 +144,7 @@ pub(crate) fn configured<K: Keeper>(
     moment: u64,
 ) -> Result<Configured, KeepFault>
     requires in_time { moment ≤ latest }
-    ensures reads { Reads K.is_clean K.is_open K.faults K.book K.may_leave keeper.old keeper.new }
+    ensures reads { Reads K.Keeper keeper.old keeper.new }
     ensures served { K.is_clean keeper.new → OnOk result (K.is_open keeper.new) }
     ensures config { IfOk result (λ next. next.config ≡ config) }
     ensures sound { K.is_clean keeper.new → IfOk result (λ next. IsConfiguration (K.book keeper.old) config next.shelves) }

@@ -6,12 +6,13 @@
 ghost use Rattle.std.specs.Prelude.{◌≡◌, ◌≤◌, ◌<◌, ◌++◌, Bool, List, ℕ, IfOk, IfErr, OnOk, is_some, length, map, slice_get, Some, [], option_map, unwrap_or, string_bytes, if◌then◌else◌};
 ghost use Rattle.std.specs.List.{flat_map, list_any};
 ghost use Rattle.keep.specs.Book.{amended, latest, shown_past, text_at};
-ghost use Rattle.keep.specs.Keeping.{AreRenewed, AreSteps, MayAnswer, Reads};
+ghost use Rattle.keep.specs.Keeping.{AreRenewed, AreSteps, MayAnswer};
 ghost use Rattle.keep.specs.declared.change.Change.{Change};
 ghost use Rattle.rules.specs.declared.suite.Suite.{Suite as SuiteValue};
 ghost use Rattle.sums.specs.Prints.{print};
 ghost use Rattle.texts.specs.Positions.{release_at};
 ghost use Rattle.texts.specs.Release.{index_of};
+ghost use Rattle.queue.specs.Steps.{Reads};
 ghost use Rattle.queue.specs.Renewal.{changes_index, folder_of, index_after, index_with, is_listed, path_in, place_at, place_path, place_text, places_in, print_kept, renewed_at, renewed_folder, renewed_from, renewed_index, renewed_suite, some_changes_index, text_after};
 
 use crate::printed::{PrintedText, print_next};
@@ -160,7 +161,7 @@ fn push_renewed<K: Keeper>(
     text: IndexText,
     texts: &mut Vec<IndexText>,
 ) -> Result<(), KeepFault>
-    ensures reads { Reads K.is_clean K.is_open K.faults K.book K.may_leave keeper.old keeper.new }
+    ensures reads { Reads K.Keeper keeper.old keeper.new }
     ensures served { K.is_clean keeper.new → OnOk result (K.is_open keeper.new) }
     ensures texts { K.is_clean keeper.new → OnOk result (texts.new.items ≡ texts.old.items ++ renewed_at (text_at (K.book keeper.old) text.path) text.path text.text) }
     ensures cause { IfErr result (MayAnswer K.may_fail) }
@@ -178,7 +179,7 @@ fn index_kept<K: Keeper>(
     path: String,
     whole: String,
 ) -> Result<Index, KeepFault>
-    ensures reads { Reads K.is_clean K.is_open K.faults K.book K.may_leave keeper.old keeper.new }
+    ensures reads { Reads K.Keeper keeper.old keeper.new }
     ensures served { K.is_clean keeper.new → OnOk result (K.is_open keeper.new) }
     ensures index { K.is_clean keeper.new → IfOk result (λ index. index ≡ index_with (string_bytes path) (print_kept (text_at (K.book keeper.old) (string_bytes whole)))) }
     ensures cause { IfErr result (MayAnswer K.may_fail) }
@@ -190,33 +191,47 @@ fn index_kept<K: Keeper>(
     })
 }
 
-/// The index of a suite's place after the steps, which leave the shelves; its text is appended where it is other than the
-/// kept one. Where no step changes the index it is the kept one.
+/// What index texts are renewed for: steps, the shelves that they leave, and the moment at which they are made, in seconds since
+/// 1970-01-01 00:00:00 UTC.
+#[derive(Clone, Copy)]
+struct Amendment<'a> {
+    shelves: &'a Shelves,
+    steps: &'a [Step],
+    moment: u64,
+}
+
+/// The index of a suite's place after an amendment; its text is appended where it is other than the
+/// kept one. Where no step of it changes the index it is the kept one.
 #[tactic(auto, unfolding(crate::specs::Renewal::text_after, crate::specs::Renewal::renewed_index))]
 fn renew_index<K: Keeper>(
     alloc: Global,
     keeper: &mut K,
     printed: &mut Vec<PrintedText>,
-    shelves: &Shelves,
-    steps: &[Step],
+    amendment: &Amendment<'_>,
     folder: &Folder,
     place: &Place,
     texts: &mut Vec<IndexText>,
 ) -> Result<Index, KeepFault>
-    ensures reads { Reads K.is_clean K.is_open K.faults K.book K.may_leave keeper.old keeper.new }
+    ensures reads { Reads K.Keeper keeper.old keeper.new }
     ensures served { K.is_clean keeper.new → OnOk result (K.is_open keeper.new) }
-    ensures index { K.is_clean keeper.new → IfOk result (λ index. index ≡ index_after (text_at (K.book keeper.old)) shelves.now steps.now folder.now place.now) }
-    ensures texts { K.is_clean keeper.new → OnOk result (texts.new.items ≡ texts.old.items ++ renewed_index (text_at (K.book keeper.old)) shelves.now steps.now folder.now place.now) }
+    ensures index { K.is_clean keeper.new → IfOk result (λ index. index ≡ index_after (text_at (K.book keeper.old)) amendment.now.shelves.now amendment.now.steps.now folder.now place.now) }
+    ensures texts { K.is_clean keeper.new → OnOk result (texts.new.items ≡ texts.old.items ++ renewed_index (text_at (K.book keeper.old)) amendment.now.shelves.now amendment.now.steps.now folder.now place.now) }
     ensures cause { IfErr result (MayAnswer K.may_fail) }
 {
     let component = place.component.as_str();
     let architecture = place.architecture.as_str();
     let path = index_path(alloc, component, architecture)?;
     let whole = path_in(alloc, folder, path.as_str())?;
-    if !some_changes_index(steps, folder.suite, place) {
+    if !some_changes_index(amendment.steps, folder.suite, place) {
         return index_kept(alloc, keeper, path, whole);
     }
-    let text = listed_text(alloc, shelves, folder.suite, component, architecture)?;
+    let text = listed_text(
+        alloc,
+        amendment.shelves,
+        folder.suite,
+        component,
+        architecture,
+    )?;
     let print = print_next(alloc, printed, whole.as_str(), &text)?;
     let text = IndexText::with_print(whole, text, print);
     push_renewed(alloc, keeper, text, texts)?;
@@ -226,62 +241,59 @@ fn renew_index<K: Keeper>(
     })
 }
 
-/// The indices of a suite after the steps, which leave the shelves; those of their texts that are other than the kept ones
+/// The indices of a suite after an amendment; those of their texts that are other than the kept ones
 /// are appended.
 fn renew_indices<K: Keeper>(
     alloc: Global,
     keeper: &mut K,
     printed: &mut Vec<PrintedText>,
-    shelves: &Shelves,
-    steps: &[Step],
+    amendment: &Amendment<'_>,
     folder: &Folder,
     texts: &mut Vec<IndexText>,
 ) -> Result<Vec<Index>, KeepFault>
-    ensures reads { Reads K.is_clean K.is_open K.faults K.book K.may_leave keeper.old keeper.new }
+    ensures reads { Reads K.Keeper keeper.old keeper.new }
     ensures served { K.is_clean keeper.new → K.is_open keeper.old → OnOk result (K.is_open keeper.new) }
-    ensures indices { K.is_clean keeper.new → IfOk result (λ indices. indices.items ≡ map (index_after (text_at (K.book keeper.old)) shelves.now steps.now folder.now) folder.now.places) }
-    ensures texts { K.is_clean keeper.new → OnOk result (texts.new.items ≡ texts.old.items ++ flat_map (renewed_index (text_at (K.book keeper.old)) shelves.now steps.now folder.now) folder.now.places) }
+    ensures indices { K.is_clean keeper.new → IfOk result (λ indices. indices.items ≡ map (index_after (text_at (K.book keeper.old)) amendment.now.shelves.now amendment.now.steps.now folder.now) folder.now.places) }
+    ensures texts { K.is_clean keeper.new → OnOk result (texts.new.items ≡ texts.old.items ++ flat_map (renewed_index (text_at (K.book keeper.old)) amendment.now.shelves.now amendment.now.steps.now folder.now) folder.now.places) }
     ensures cause { IfErr result (MayAnswer K.may_fail) }
 {
     let mut indices = Vec::new(alloc);
     for place in folder.places.as_slice() {
-        let index = renew_index(alloc, keeper, printed, shelves, steps, folder, place, texts)?;
+        let index = renew_index(alloc, keeper, printed, amendment, folder, place, texts)?;
         indices.push(index)?;
     }
     Ok(indices)
 }
 
-/// Appends the texts of a suite that the steps make other than the kept ones: those of its indices, and Release with the
+/// Appends the texts of a suite that an amendment makes other than the kept ones: those of its indices, and Release with its
 /// moment as its date. A suite without a Release has none.
 #[tactic(auto, unfolding(crate::specs::Renewal::renewed_folder))]
 fn renew_folder<K: Keeper>(
     alloc: Global,
     keeper: &mut K,
     printed: &mut Vec<PrintedText>,
-    shelves: &Shelves,
-    steps: &[Step],
-    moment: u64,
+    amendment: &Amendment<'_>,
     folder: &Folder,
     texts: &mut Vec<IndexText>,
 ) -> Result<(), KeepFault>
-    requires moment { moment ≤ latest }
+    requires moment { amendment.now.moment ≤ latest }
     requires suite { folder.now.suite < length (K.book keeper.now).config.suites }
-    ensures reads { Reads K.is_clean K.is_open K.faults K.book K.may_leave keeper.old keeper.new }
+    ensures reads { Reads K.Keeper keeper.old keeper.new }
     ensures served { K.is_clean keeper.new → OnOk result (K.is_open keeper.new) }
-    ensures texts { K.is_clean keeper.new → OnOk result (texts.new.items ≡ texts.old.items ++ renewed_folder (text_at (K.book keeper.old)) shelves.now steps.now folder.now (release_at (K.book keeper.old).config folder.now.suite moment)) }
+    ensures texts { K.is_clean keeper.new → OnOk result (texts.new.items ≡ texts.old.items ++ renewed_folder (text_at (K.book keeper.old)) amendment.now.shelves.now amendment.now.steps.now folder.now (release_at (K.book keeper.old).config folder.now.suite amendment.now.moment)) }
     ensures cause { IfErr result (MayAnswer K.may_fail) }
 {
     let path = path_in(alloc, folder, "Release")?;
     if keeper.text(alloc, path.as_str())?.is_none() {
         return Ok(());
     }
-    let indices = renew_indices(alloc, keeper, printed, shelves, steps, folder, texts)?;
+    let indices = renew_indices(alloc, keeper, printed, amendment, folder, texts)?;
     let mut text = Vec::new(alloc);
     release(
         alloc,
         keeper.config(),
         folder.suite,
-        moment,
+        amendment.moment,
         &indices,
         &mut text,
     )?;
@@ -293,47 +305,39 @@ fn renew_suite<K: Keeper>(
     alloc: Global,
     keeper: &mut K,
     printed: &mut Vec<PrintedText>,
-    shelves: &Shelves,
-    steps: &[Step],
-    moment: u64,
+    amendment: &Amendment<'_>,
     suite: usize,
     texts: &mut Vec<IndexText>,
 ) -> Result<(), KeepFault>
-    requires moment { moment ≤ latest }
+    requires moment { amendment.now.moment ≤ latest }
     requires suite { suite < length (K.book keeper.now).config.suites }
-    ensures reads { Reads K.is_clean K.is_open K.faults K.book K.may_leave keeper.old keeper.new }
+    ensures reads { Reads K.Keeper keeper.old keeper.new }
     ensures served { K.is_clean keeper.new → OnOk result (K.is_open keeper.new) }
     ensures texts { K.is_clean keeper.new → OnOk result ((s : SuiteValue) → slice_get (K.book keeper.old).config.suites suite ≡ Some s
-        → texts.new.items ≡ texts.old.items ++ renewed_suite (text_at (K.book keeper.old)) shelves.now steps.now moment suite s) }
+        → texts.new.items ≡ texts.old.items ++ renewed_suite (text_at (K.book keeper.old)) amendment.now.shelves.now amendment.now.steps.now amendment.now.moment suite s) }
     ensures cause { IfErr result (MayAnswer K.may_fail) }
 {
     let folder = folder_of(alloc, suite, &keeper.config().suites()[suite])?;
-    renew_folder(
-        alloc, keeper, printed, shelves, steps, moment, &folder, texts,
-    )
+    renew_folder(alloc, keeper, printed, amendment, &folder, texts)
 }
 
-/// The texts of the suites that a step touches, where they are other than the kept ones.
+/// The texts of the suites that a step of an amendment touches, where they are other than the kept ones.
 fn renewed_suites<K: Keeper>(
     alloc: Global,
     keeper: &mut K,
     printed: &mut Vec<PrintedText>,
-    shelves: &Shelves,
-    steps: &[Step],
-    moment: u64,
+    amendment: &Amendment<'_>,
 ) -> Result<Vec<IndexText>, KeepFault>
-    requires { moment ≤ latest }
-    ensures reads { Reads K.is_clean K.is_open K.faults K.book K.may_leave keeper.old keeper.new }
+    requires { amendment.now.moment ≤ latest }
+    ensures reads { Reads K.Keeper keeper.old keeper.new }
     ensures served { K.is_clean keeper.new → K.is_open keeper.old → OnOk result (K.is_open keeper.new) }
-    ensures texts { K.is_clean keeper.new → IfOk result (λ texts. texts.items ≡ renewed_from (text_at (K.book keeper.old)) shelves.now steps.now moment 0 (K.book keeper.old).config.suites) }
+    ensures texts { K.is_clean keeper.new → IfOk result (λ texts. texts.items ≡ renewed_from (text_at (K.book keeper.old)) amendment.now.shelves.now amendment.now.steps.now amendment.now.moment 0 (K.book keeper.old).config.suites) }
     ensures cause { IfErr result (MayAnswer K.may_fail) }
 {
     let mut texts = Vec::new(alloc);
     for suite in 0..keeper.config().suites().len() {
-        if some_changes_suite(steps, suite) {
-            renew_suite(
-                alloc, keeper, printed, shelves, steps, moment, suite, &mut texts,
-            )?;
+        if some_changes_suite(amendment.steps, suite) {
+            renew_suite(alloc, keeper, printed, amendment, suite, &mut texts)?;
         }
     }
     Ok(texts)
@@ -352,7 +356,7 @@ pub fn renewed_texts<K: Keeper>(
     moment: u64,
 ) -> Result<Vec<IndexText>, KeepFault>
     requires { moment ≤ latest }
-    ensures reads { Reads K.is_clean K.is_open K.faults K.book K.may_leave keeper.old keeper.new }
+    ensures reads { Reads K.Keeper keeper.old keeper.new }
     ensures served { K.is_clean keeper.new → K.is_open keeper.old → OnOk result (K.is_open keeper.new) }
     ensures renewed { K.is_clean keeper.new → IfOk result (λ texts. (change : Change) → change.moment ≡ moment → change.steps ≡ steps.now
         → AreSteps (K.book keeper.old).shown steps.now → shelves.now ≡ shown_past (K.book keeper.old).shown steps.now
@@ -361,5 +365,10 @@ pub fn renewed_texts<K: Keeper>(
 {
     // A configuration that was read has no two indices at one path.
     let _ = keeper.config().text();
-    renewed_suites(alloc, keeper, printed, shelves, steps, moment)
+    let amendment = Amendment {
+        shelves,
+        steps,
+        moment,
+    };
+    renewed_suites(alloc, keeper, printed, &amendment)
 }

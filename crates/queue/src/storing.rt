@@ -1,11 +1,11 @@
 //! A body that is read and stored piece by piece.
 
-ghost use Rattle.std.specs.Prelude.{◌≡◌, ◌≤◌, ◌++◌, ◌⊎◌, [], List, ℕ, Option, Some, min, length, IfOk, IfErr, OnOk, OnErr};
+ghost use Rattle.std.specs.Prelude.{◌≡◌, ◌≤◌, ◌++◌, [], List, ℕ, Some, min, length, IfOk, IfErr, OnOk, OnErr};
 ghost use Rattle.std.specs.Io.KnownBytes.{Consumes};
 ghost use Rattle.std.specs.Option.{option_map};
-ghost use Rattle.keep.specs.Book.{Book, latest};
-ghost use Rattle.keep.specs.Keeping.{Lasts, Stays};
-ghost use Rattle.queue.specs.Receiving.{Gave, HasArrived, HasRead, IsLeft, MayBeKept, MayTake};
+ghost use Rattle.keep.specs.Book.{latest};
+ghost use Rattle.queue.specs.Receiving.{Arrives, Gave, HasRead, LeavesArrived, MayBeKept, MayTake};
+ghost use Rattle.queue.specs.Steps.{Lasts, Stays};
 
 use crate::fault::Fault;
 use crate::reading::{collect, fill};
@@ -21,7 +21,7 @@ pub fn store_piece<K: Keeper, R: Read>(
     buffer: &mut [u8],
 ) -> Result<(), Fault>
     requires begun { K.is_clean keeper.old → K.is_open keeper.old → MayTake (K.coming keeper.old) (length buffer.old) }
-    ensures stays { Stays K.is_clean K.is_open K.faults K.book K.may_leave keeper.old keeper.new }
+    ensures stays { Stays K.Keeper keeper.old keeper.new }
     ensures same { length buffer.new ≡ length buffer.old }
     ensures served { K.is_clean keeper.new → OnOk result (K.is_open keeper.new) }
     ensures read { OnOk result (Consumes (R.remaining reader.old) (R.remaining reader.new) buffer.new) }
@@ -54,7 +54,7 @@ pub fn store_pieces<K: Keeper, R: Read>(
 ) -> Result<(), Fault>
     requires begun { K.is_clean keeper.old → K.coming keeper.old ≡ Some [] }
     requires room { length buffer.old ≡ min whole 65536 }
-    ensures stays { Stays K.is_clean K.is_open K.faults K.book K.may_leave keeper.old keeper.new }
+    ensures stays { Stays K.Keeper keeper.old keeper.new }
     ensures served { K.is_clean keeper.new → K.is_open keeper.old → OnOk result (K.is_open keeper.new) }
     ensures taken { OnOk result ((body : List ℕ) × Gave (R.remaining reader.old) (R.remaining reader.new) whole body × (K.is_clean keeper.new → K.coming keeper.new ≡ Some body)) }
     ensures refused { IfErr result (HasRead K.may_fail (R.remaining reader.old) (R.remaining reader.new) whole) }
@@ -79,13 +79,12 @@ fn store_whole<K: Keeper, R: Read>(
 ) -> Result<bool, Fault>
     requires in_time { moment ≤ latest }
     requires may_be_kept { MayBeKept name.now whole }
-    ensures lasts { Lasts K.is_clean K.is_open K.faults K.book keeper.old keeper.new }
+    ensures lasts { Lasts K.Keeper keeper.old keeper.new }
     ensures served { K.is_clean keeper.new → OnOk result (K.is_open keeper.new) }
-    ensures stored { IfOk result (HasArrived (R.remaining reader.old) (R.remaining reader.new) whole (K.is_clean keeper.new) (K.book keeper.old) (K.book keeper.new) name.now moment) }
+    ensures stored { IfOk result (Arrives K.Keeper keeper.old keeper.new (R.remaining reader.old) (R.remaining reader.new) whole name.now moment) }
     ensures refused { IfErr result (HasRead K.may_fail (R.remaining reader.old) (R.remaining reader.new) whole) }
     ensures same { K.is_clean keeper.new → K.is_open keeper.new → OnErr result (K.book keeper.new ≡ K.book keeper.old) }
-    ensures crash { K.is_clean keeper.new → (left : Option Book) → K.may_leave keeper.new left → K.may_leave keeper.old left
-        ⊎ (K.is_open keeper.old × ((left ≡ Some (K.book keeper.old)) ⊎ IsLeft (R.remaining reader.old) (R.remaining reader.new) whole (K.book keeper.old) left name.now moment)) }
+    ensures crash { LeavesArrived K.Keeper keeper.old keeper.new (R.remaining reader.old) (R.remaining reader.new) whole name.now moment }
 {
     let body = collect(alloc, reader, whole)?;
     Ok(keeper.arrive(alloc, name, body.as_slice(), moment)?)
@@ -102,13 +101,12 @@ fn store_in_pieces<K: Keeper, R: Read>(
 ) -> Result<bool, Fault>
     requires in_time { moment ≤ latest }
     requires may_be_kept { MayBeKept name.now whole }
-    ensures lasts { Lasts K.is_clean K.is_open K.faults K.book keeper.old keeper.new }
+    ensures lasts { Lasts K.Keeper keeper.old keeper.new }
     ensures served { K.is_clean keeper.new → OnOk result (K.is_open keeper.new) }
-    ensures stored { IfOk result (HasArrived (R.remaining reader.old) (R.remaining reader.new) whole (K.is_clean keeper.new) (K.book keeper.old) (K.book keeper.new) name.now moment) }
+    ensures stored { IfOk result (Arrives K.Keeper keeper.old keeper.new (R.remaining reader.old) (R.remaining reader.new) whole name.now moment) }
     ensures refused { IfErr result (HasRead K.may_fail (R.remaining reader.old) (R.remaining reader.new) whole) }
     ensures same { K.is_clean keeper.new → K.is_open keeper.new → OnErr result (K.book keeper.new ≡ K.book keeper.old) }
-    ensures crash { K.is_clean keeper.new → (left : Option Book) → K.may_leave keeper.new left → K.may_leave keeper.old left
-        ⊎ (K.is_open keeper.old × ((left ≡ Some (K.book keeper.old)) ⊎ IsLeft (R.remaining reader.old) (R.remaining reader.new) whole (K.book keeper.old) left name.now moment)) }
+    ensures crash { LeavesArrived K.Keeper keeper.old keeper.new (R.remaining reader.old) (R.remaining reader.new) whole name.now moment }
 {
     let Ok(mut buffer) = vec![in alloc; 0u8; whole.min(PIECE_SIZE)] else {
         return Err(Fault::OutOfMemory);
@@ -130,13 +128,12 @@ pub fn store<K: Keeper, R: Read>(
 ) -> Result<bool, Fault>
     requires in_time { moment ≤ latest }
     requires may_be_kept { MayBeKept name.now whole }
-    ensures lasts { Lasts K.is_clean K.is_open K.faults K.book keeper.old keeper.new }
+    ensures lasts { Lasts K.Keeper keeper.old keeper.new }
     ensures served { K.is_clean keeper.new → OnOk result (K.is_open keeper.new) }
-    ensures stored { IfOk result (HasArrived (R.remaining reader.old) (R.remaining reader.new) whole (K.is_clean keeper.new) (K.book keeper.old) (K.book keeper.new) name.now moment) }
+    ensures stored { IfOk result (Arrives K.Keeper keeper.old keeper.new (R.remaining reader.old) (R.remaining reader.new) whole name.now moment) }
     ensures refused { IfErr result (HasRead K.may_fail (R.remaining reader.old) (R.remaining reader.new) whole) }
     ensures same { K.is_clean keeper.new → K.is_open keeper.new → OnErr result (K.book keeper.new ≡ K.book keeper.old) }
-    ensures crash { K.is_clean keeper.new → (left : Option Book) → K.may_leave keeper.new left → K.may_leave keeper.old left
-        ⊎ (K.is_open keeper.old × ((left ≡ Some (K.book keeper.old)) ⊎ IsLeft (R.remaining reader.old) (R.remaining reader.new) whole (K.book keeper.old) left name.now moment)) }
+    ensures crash { LeavesArrived K.Keeper keeper.old keeper.new (R.remaining reader.old) (R.remaining reader.new) whole name.now moment }
 {
     if whole <= PIECE_SIZE {
         return store_whole(alloc, keeper, name, whole, reader, moment);

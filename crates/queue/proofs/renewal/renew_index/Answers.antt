@@ -16,7 +16,7 @@ returns-then-not-some_changes_index-clause-index g c clean =
     let path = string_bytes c.in_ok-path.path in
     let whole = string_bytes c.in_ok-whole.whole in
     IfOk-weaker c.index_kept.result _ _ (λ index is.
-    is ∙ kept_index old c.args.shelves.now c.args.steps.now c.args.folder.now c.args.place.now path whole (old whole) (print_kept (old whole))
+    is ∙ kept_index old c.args.amendment.now.shelves.now c.args.amendment.now.steps.now c.args.folder.now c.args.place.now path whole (old whole) (print_kept (old whole))
     (c.in_ok-path.ensures ∙ ap (λ n. index_path n c.as_str-architecture.result.now) c.as_str-component.ensures ∙ ap (index_path c.args.place.now.component) c.as_str-architecture.ensures)
     (c.in_ok-whole.ensures ∙ ap (path_in c.args.folder.now) c.as_str.ensures.value)
     refl
@@ -29,5 +29,5 @@ returns-then-not-some_changes_index-clause-texts g c clean =
     let texts = c.args.texts.now.items in
     on_ok c.index_kept.result
     (sym (append-nil texts)
-    ∙ ap (λ more. texts ++ more) (sym (kept_texts (text_at (g.K.Keeper.book c.args.keeper.now)) c.args.shelves.now c.args.steps.now c.args.folder.now c.args.place.now
+    ∙ ap (λ more. texts ++ more) (sym (kept_texts (text_at (g.K.Keeper.book c.args.keeper.now)) c.args.amendment.now.shelves.now c.args.amendment.now.steps.now c.args.folder.now c.args.place.now
     (sym c.some_changes_index.ensures ∙ c.if-not-some_changes_index.true))))

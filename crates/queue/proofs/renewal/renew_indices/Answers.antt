@@ -22,13 +22,13 @@ loop-place-preserved g c =
       reads = reads_more c.loop-place.invariant.reads one.reads;
       served = λ clean up. one.served clean;
       indices = λ clean.
-          mapped_more (index_after (text_at (k.book before)) c.args.shelves.now c.args.steps.now c.args.folder.now) places i c.place-item.result
+          mapped_more (index_after (text_at (k.book before)) c.args.amendment.now.shelves.now c.args.amendment.now.steps.now c.args.folder.now) places i c.place-item.result
           c.loop-place.indices.items _ c.in_ok-index.index inside here
           c.in_ok-push.ensures.items (c.loop-place.invariant.indices (one.reads.lasts.clean clean))
-          (one.index clean ∙ ap (λ (b : Book). index_after (text_at b) c.args.shelves.now c.args.steps.now c.args.folder.now c.place-item.result) (same clean));
+          (one.index clean ∙ ap (λ (b : Book). index_after (text_at b) c.args.amendment.now.shelves.now c.args.amendment.now.steps.now c.args.folder.now c.place-item.result) (same clean));
       texts = λ clean.
-          gathered_more (renewed_index (text_at (k.book before)) c.args.shelves.now c.args.steps.now c.args.folder.now) places i c.place-item.result
+          gathered_more (renewed_index (text_at (k.book before)) c.args.amendment.now.shelves.now c.args.amendment.now.steps.now c.args.folder.now) places i c.place-item.result
           c.args.texts.now.items c.loop-place.texts.items c.renew_index.new.texts.items inside here
-          (one.texts clean ∙ ap (λ (b : Book). c.loop-place.texts.items ++ renewed_index (text_at b) c.args.shelves.now c.args.steps.now c.args.folder.now c.place-item.result) (same clean))
+          (one.texts clean ∙ ap (λ (b : Book). c.loop-place.texts.items ++ renewed_index (text_at b) c.args.amendment.now.shelves.now c.args.amendment.now.steps.now c.args.folder.now c.place-item.result) (same clean))
           (c.loop-place.invariant.texts (one.reads.lasts.clean clean));
     }

@@ -12,6 +12,6 @@ invariant-loop-place g l =
     record {
       reads : Reads k.is_clean k.is_open k.faults k.book k.may_leave before l.keeper;
       served : k.is_clean l.keeper → k.is_open before → k.is_open l.keeper;
-      indices : k.is_clean l.keeper → l.indices.items ≡ map (index_after (text_at (k.book before)) l.shelves l.steps l.folder) (take l.place-index l.folder.places);
-      texts : k.is_clean l.keeper → l.texts.items ≡ l.fn.texts.items ++ flat_map (renewed_index (text_at (k.book before)) l.shelves l.steps l.folder) (take l.place-index l.folder.places);
+      indices : k.is_clean l.keeper → l.indices.items ≡ map (index_after (text_at (k.book before)) l.amendment.shelves.now l.amendment.steps.now l.folder) (take l.place-index l.folder.places);
+      texts : k.is_clean l.keeper → l.texts.items ≡ l.fn.texts.items ++ flat_map (renewed_index (text_at (k.book before)) l.amendment.shelves.now l.amendment.steps.now l.folder) (take l.place-index l.folder.places);
     }

@@ -16,5 +16,5 @@ returns-clause-texts g c clean =
     let at : slice_get suites c.args.suite ≡ Some suite =
     slice_get_read suites (length suites) c.args.suite suite refl c.requires.suite (c.index-suites-suite.is ∙ ap (λ (ss : List Suite). get_or ss c.args.suite suite) all) in
     on_ok_weaker c.renew_folder.result (λ more s here. more ∙ ap (λ texts. c.args.texts.now.items ++ texts)
-    (of_suite (text_at book) c.args.shelves.now c.args.steps.now c.args.moment book.config c.args.suite c.in_ok-folder.folder s suite c.in_ok-folder.ensures at here))
+    (of_suite (text_at book) c.args.amendment.now.shelves.now c.args.amendment.now.steps.now c.args.amendment.now.moment book.config c.args.suite c.in_ok-folder.folder s suite c.in_ok-folder.ensures at here))
     (c.renew_folder.ensures.texts clean)

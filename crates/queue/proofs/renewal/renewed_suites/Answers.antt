@@ -28,11 +28,11 @@ loop-suite-preserved g c =
             reads = reads_more c.loop-suite.invariant.reads one.reads;
             served = λ clean up. one.served clean;
             texts = λ clean.
-                touched_suite (text_at (k.book before)) c.args.shelves.now c.args.steps.now c.args.moment suites i inside there.0
+                touched_suite (text_at (k.book before)) c.args.amendment.now.shelves.now c.args.amendment.now.steps.now c.args.amendment.now.moment suites i inside there.0
                 c.loop-suite.texts.items w.renew_suite.new.texts.items there.1
                 (sym c.some_changes_suite.ensures ∙ w.if-some_changes_suite.true)
                 (one.texts clean there.0 (ap (λ (b : Book). slice_get b.config.suites i) (same clean) ∙ there.1)
-                ∙ ap (λ (b : Book). c.loop-suite.texts.items ++ renewed_suite (text_at b) c.args.shelves.now c.args.steps.now c.args.moment i there.0) (same clean))
+                ∙ ap (λ (b : Book). c.loop-suite.texts.items ++ renewed_suite (text_at b) c.args.amendment.now.shelves.now c.args.amendment.now.steps.now c.args.amendment.now.moment i there.0) (same clean))
                 (c.loop-suite.invariant.texts (one.reads.lasts.clean clean));
           })
       | else-some_changes_suite w ↦
@@ -40,7 +40,7 @@ loop-suite-preserved g c =
             reads = c.loop-suite.invariant.reads;
             served = c.loop-suite.invariant.served;
             texts = λ clean.
-                untouched_suite (text_at (k.book before)) c.args.shelves.now c.args.steps.now c.args.moment suites i inside there.0
+                untouched_suite (text_at (k.book before)) c.args.amendment.now.shelves.now c.args.amendment.now.steps.now c.args.amendment.now.moment suites i inside there.0
                 c.loop-suite.texts.items there.1
                 (sym c.some_changes_suite.ensures ∙ w.if-some_changes_suite.false)
                 (c.loop-suite.invariant.texts clean);
@@ -57,5 +57,5 @@ returns-clause-texts g c clean =
     let all : c.suites-suite-end.result.now ≡ suites = c.suites-suite-end.ensures ∙ ap (λ (v : ConfigValue). v.suites) c.config.ensures in
     let past : length suites ≤ i = omega (arith, ap length all, c.loop-suite-test.false) in
     sym (append-nil c.loop-suite.texts.items)
-    ∙ ap (λ (ss : List Suite). c.loop-suite.texts.items ++ renewed_from (text_at (k.book before)) c.args.shelves.now c.args.steps.now c.args.moment i ss) (sym (drop_all i suites past))
+    ∙ ap (λ (ss : List Suite). c.loop-suite.texts.items ++ renewed_from (text_at (k.book before)) c.args.amendment.now.shelves.now c.args.amendment.now.steps.now c.args.amendment.now.moment i ss) (sym (drop_all i suites past))
     ∙ c.loop-suite.invariant.texts clean

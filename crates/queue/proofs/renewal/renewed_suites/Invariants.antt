@@ -12,5 +12,5 @@ invariant-loop-suite g l =
     record {
       reads : Reads k.is_clean k.is_open k.faults k.book k.may_leave before l.keeper;
       served : k.is_clean l.keeper → k.is_open before → k.is_open l.keeper;
-      texts : k.is_clean l.keeper → l.texts.items ++ renewed_from (text_at (k.book before)) l.shelves l.steps l.moment l.suite (drop l.suite suites) ≡ renewed_from (text_at (k.book before)) l.shelves l.steps l.moment 0 suites;
+      texts : k.is_clean l.keeper → l.texts.items ++ renewed_from (text_at (k.book before)) l.amendment.shelves.now l.amendment.steps.now l.amendment.moment l.suite (drop l.suite suites) ≡ renewed_from (text_at (k.book before)) l.amendment.shelves.now l.amendment.steps.now l.amendment.moment 0 suites;
     }

@@ -7,8 +7,8 @@ use Rattle.queue.specs.Archives.{book_of}
 use Rattle.queue.specs.Copies.{AreSuites, copy_fault}
 use Rattle.queue.specs.Histories.{Copying}
 use Rattle.queue.specs.declared.fault.Fault.TheVariants.{Moment}
-use Rattle.queue.proofs.CopyAnswers.{done_copy, free_copy, late_fault, left_copy, may_copy, named_fault, named_in, copy_past, copy_steps, named_place, no_fault, nothing_fault, refused_copy, sound_copy}
-use Rattle.queue.proofs.RunAnswers.{renewed_change}
+use Rattle.queue.proofs.Amended.{left_past}
+use Rattle.queue.proofs.CopyAnswers.{done_copy, free_copy, late_fault, left_copy, may_copy, named_fault, named_in, named_place, no_fault, nothing_fault, planned_copy, refused_copy}
 use Rattle.queue.proofs.Kept.{same_by, same_past, untouched}
 use Rattle.queue.proofs.StepAnswers.{keeper_step, keepers_own, memory_own, memory_step}
 use Rattle.queue.proofs.archive.Archive.copy.Goals as goal
@@ -88,86 +88,38 @@ returns-in_err-steps-clause-step g c h kept faithful clean =
 pub only_step-requires : goal.only_step-requires
 only_step-requires g c = (plans.after_copy c.config-2.result.now c.in_ok-shelves.shelves c.in_ok-from.from c.in_ok-from.to c.args.source.now, c.in_ok-plan.ensures.plan.step)
 
-pub returns-in_err-texts-clause-step : goal.returns-in_err-texts-clause-step
-returns-in_err-texts-clause-step g c h kept faithful clean =
-    let p = err_from_is_err_and c.from_residual-in_err-texts.result c.from_residual-in_err-texts.ensures.1 in
-    let reads = c.in_err-texts.ensures.reads in
-    let read = same_by c.in_ok-shelves.ensures.reads.lasts (reads.lasts.clean clean) c.in_ok-shelves.ensures.reads.same in
-    rw p.1 (keeper_step g.K.Keeper.may_fail h (Copying c.args.from.now c.args.to.now c.args.source.now c.args.moment) c.in_err-texts.field-0.0 p.0 _ _ _ _ p.2 kept
-    (same_past read (same_by reads.lasts clean reads.same)) c.in_err-texts.ensures.cause
+pub amend-requires-clause-planned : goal.amend-requires-clause-planned
+amend-requires-clause-planned g c clean up =
+    planned_copy c.args.moment (g.K.Keeper.book c.args.self.now.keeper) (g.K.Keeper.book c.shelves.new.self) c.config-2.result.now c.in_ok-shelves.shelves c.only_step.new.shelves c.in_ok-from.from c.in_ok-from.to
+    c.args.source.now c.in_ok-plan.plan c.in_ok-steps.steps
+    (c.in_ok-shelves.ensures.reads.same clean up) c.config-2.ensures (c.in_ok-shelves.ensures.shelves clean) c.in_ok-steps.ensures.steps c.in_ok-plan.ensures.plan c.in_ok-steps.ensures.shelves
+
+pub returns-in_err-amend-clause-step : goal.returns-in_err-amend-clause-step
+returns-in_err-amend-clause-step g c h kept faithful clean =
+    let p = err_from_is_err_and c.from_residual-in_err-amend.result c.from_residual-in_err-amend.ensures.1 in
+    let read = same_by c.in_ok-shelves.ensures.reads.lasts (c.in_err-amend.ensures.lasts.clean clean) c.in_ok-shelves.ensures.reads.same in
+    rw p.1 (keeper_step g.K.Keeper.may_fail h (Copying c.args.from.now c.args.to.now c.args.source.now c.args.moment) c.in_err-amend.field-0.0 p.0 _ _ _ _ p.2 kept
+    (same_past read (same_by c.in_err-amend.ensures.lasts clean c.in_err-amend.ensures.err)) c.in_err-amend.ensures.cause
     (free_copy h (g.K.Keeper.book c.args.self.now.keeper) c.config.result.now c.args.from.now c.args.to.now c.args.source.now c.args.moment c.in_ok-from.from c.in_ok-from.to
     _ kept c.config.ensures c.if-moment-gt-LATEST.false c.in_ok-from.ensures.suites))
-
-pub apply-requires-clause-sound : goal.apply-requires-clause-sound
-apply-requires-clause-sound g c clean up =
-    let reads = c.in_ok-texts.ensures.reads in
-    let clean_then = reads.lasts.clean clean in
-    let up_then = reads.lasts.was_open clean up in
-    let old = g.K.Keeper.book c.args.self.now.keeper in
-    let then = g.K.Keeper.book c.shelves.new.self in
-    let now = g.K.Keeper.book c.renewed_texts.new.keeper in
-    let same = c.in_ok-shelves.ensures.reads.same clean_then up_then in
-    let is_shown = c.in_ok-shelves.ensures.shelves clean_then in
-    let is_given = c.as_slice-2.ensures ∙ c.in_ok-steps.ensures.steps in
-    sound_copy c.args.moment old now c.config-2.result.now c.in_ok-shelves.shelves c.in_ok-from.from c.in_ok-from.to
-    c.args.source.now c.in_ok-plan.plan c.in_ok-steps.steps c.from_vec.result
-    (reads.same clean up ∙ same) (c.config-2.ensures ∙ sym reads.lasts.config) is_shown c.in_ok-steps.ensures.steps c.in_ok-plan.ensures.plan
-    (renewed_change c.args.moment then now c.only_step.new.shelves c.as_slice-2.result.now c.in_ok-steps.steps c.in_ok-texts.texts.items c.from_vec.result
-    (reads.same clean up) (sym c.as_slice-2.ensures) c.from_vec.ensures
-    (c.in_ok-texts.ensures.renewed clean)
-    (copy_steps old then c.config-2.result.now c.in_ok-shelves.shelves c.in_ok-from.from c.in_ok-from.to c.args.source.now c.in_ok-plan.plan c.as_slice-2.result.now same is_shown is_given c.in_ok-plan.ensures.plan)
-    (copy_past old then c.in_ok-shelves.shelves c.only_step.new.shelves c.in_ok-plan.plan c.as_slice-2.result.now same is_shown is_given c.in_ok-steps.ensures.shelves))
-
-pub returns-in_err-apply-clause-step : goal.returns-in_err-apply-clause-step
-returns-in_err-apply-clause-step g c h kept faithful clean =
-    let p = err_from_is_err_and c.from_residual-in_err-apply.result c.from_residual-in_err-apply.ensures.1 in
-    let reads = c.in_ok-texts.ensures.reads in
-    let clean_now = c.in_err-apply.ensures.lasts.clean clean in
-    let read = same_past (same_by c.in_ok-shelves.ensures.reads.lasts (reads.lasts.clean clean_now) c.in_ok-shelves.ensures.reads.same) (same_by reads.lasts clean_now reads.same) in
-    rw p.1 (keeper_step g.K.Keeper.may_fail h (Copying c.args.from.now c.args.to.now c.args.source.now c.args.moment) c.in_err-apply.field-0.0 p.0 _ _ _ _ p.2 kept
-    (same_past read (same_by c.in_err-apply.ensures.lasts clean c.in_err-apply.ensures.err)) c.in_err-apply.ensures.cause
-    (free_copy h (g.K.Keeper.book c.args.self.now.keeper) c.config.result.now c.args.from.now c.args.to.now c.args.source.now c.args.moment c.in_ok-from.from c.in_ok-from.to
-    _ kept c.config.ensures c.if-moment-gt-LATEST.false c.in_ok-from.ensures.suites))
-
--- the shelves show what the change leaves
-pub hold-requires : goal.hold-requires
-hold-requires g c = record {
-  shown = λ clean up.
-      let reads = c.in_ok-texts.ensures.reads in
-      let clean_now = c.in_ok-apply.ensures.lasts.clean clean in
-      let up_now = c.in_ok-apply.ensures.lasts.was_open clean up in
-      let clean_then = reads.lasts.clean clean_now in
-      let up_then = reads.lasts.was_open clean_now up_now in
-      copy_past (g.K.Keeper.book c.args.self.now.keeper) (g.K.Keeper.book c.renewed_texts.new.keeper) c.in_ok-shelves.shelves c.only_step.new.shelves c.in_ok-plan.plan c.in_ok-steps.steps
-      (reads.same clean_now up_now ∙ c.in_ok-shelves.ensures.reads.same clean_then up_then) (c.in_ok-shelves.ensures.shelves clean_then) c.in_ok-steps.ensures.steps c.in_ok-steps.ensures.shelves
-      ∙ sym (c.in_ok-apply.ensures.shown clean);
-}
-
-pub returns-clause-served : goal.returns-clause-served
-returns-clause-served g c clean = c.hold.ensures.served clean (c.in_ok-apply.ensures.served (c.hold.ensures.reads.lasts.clean clean))
 
 pub returns-clause-step : goal.returns-clause-step
 returns-clause-step g c h kept faithful clean =
-    let reads = c.in_ok-texts.ensures.reads in
-    let held = c.hold.ensures.reads in
-    let clean_made = held.lasts.clean clean in
-    let up_made = c.in_ok-apply.ensures.served clean_made in
-    let clean_now = c.in_ok-apply.ensures.lasts.clean clean_made in
-    let up_now = c.in_ok-apply.ensures.lasts.was_open clean_made up_made in
-    let clean_then = reads.lasts.clean clean_now in
-    let up_then = reads.lasts.was_open clean_now up_now in
+    let up = c.in_ok-amend.ensures.served clean in
+    let clean_then = c.in_ok-amend.ensures.lasts.clean clean in
+    let up_then = c.in_ok-amend.ensures.lasts.was_open clean up in
     done_copy g.K.Keeper.may_fail h c.args.from.now c.args.to.now c.args.source.now c.args.moment c.in_ok-from.from c.in_ok-from.to
-    (g.K.Keeper.book c.args.self.now.keeper) (g.K.Keeper.book c.renewed_texts.new.keeper) c.config-2.result.now c.in_ok-shelves.shelves c.in_ok-plan.plan c.in_ok-steps.steps c.from_vec.result
+    (g.K.Keeper.book c.args.self.now.keeper) (g.K.Keeper.book c.shelves.new.self) c.config-2.result.now c.in_ok-shelves.shelves c.in_ok-plan.plan c.in_ok-steps.steps
     (kept.stands (c.in_ok-shelves.ensures.reads.lasts.was_open clean_then up_then)) faithful c.if-moment-gt-LATEST.false
-    (reads.same clean_now up_now ∙ c.in_ok-shelves.ensures.reads.same clean_then up_then) (c.in_ok-shelves.ensures.shelves clean_then) c.in_ok-steps.ensures.steps
+    (c.in_ok-shelves.ensures.reads.same clean_then up_then) (c.in_ok-shelves.ensures.shelves clean_then) c.in_ok-steps.ensures.steps
     (subst (λ config. AreSuites config c.args.from.now c.args.to.now c.in_ok-from.from c.in_ok-from.to) c.config.ensures c.in_ok-from.ensures.suites)
-    (c.config-2.ensures ∙ sym reads.lasts.config) c.in_ok-plan.ensures.plan
-    _ (g.K.Keeper.book c.hold.new.self) _ (λ bodies apart has each. held.same clean (c.hold.ensures.served clean up_made) ∙ c.in_ok-apply.ensures.ok clean_made bodies apart has each) (ap length c.as_slice.ensures)
+    c.config-2.ensures c.in_ok-plan.ensures.plan
+    _ (g.K.Keeper.book c.amend.new.self.keeper) _ (c.in_ok-amend.ensures.ok clean) (ap length c.as_slice.ensures)
 
 pub returns-clause-done : goal.returns-clause-done
 returns-clause-done g c clean =
     no_fault (g.K.Keeper.book c.args.self.now.keeper) c.config.result.now c.in_ok-shelves.shelves c.args.from.now c.args.to.now c.args.source.now c.args.moment c.in_ok-from.from c.in_ok-from.to
-    c.if-moment-gt-LATEST.false c.config.ensures (c.in_ok-shelves.ensures.shelves (c.in_ok-texts.ensures.reads.lasts.clean (c.in_ok-apply.ensures.lasts.clean (c.hold.ensures.reads.lasts.clean clean)))) c.in_ok-from.ensures.suites c.in_ok-plan.ensures.plan.shows
+    c.if-moment-gt-LATEST.false c.config.ensures (c.in_ok-shelves.ensures.shelves (c.in_ok-amend.ensures.lasts.clean clean)) c.in_ok-from.ensures.suites c.in_ok-plan.ensures.plan.shows
 
 pub returns-in_err-shelves-clause-refused : goal.returns-in_err-shelves-clause-refused
 returns-in_err-shelves-clause-refused g c clean =
@@ -181,17 +133,10 @@ returns-in_err-steps-clause-refused g c clean =
     let p = err_from_is_err_and c.from_residual-in_err-steps.result c.from_residual-in_err-steps.ensures.1 in
     rw p.1 (inr (memory_own g.K.Keeper.may_fail (is_free_copy (g.K.Keeper.book c.args.self.now.keeper).config c.args.from.now c.args.to.now c.args.moment ≡ true) p.0 p.2))
 
-pub returns-in_err-texts-clause-refused : goal.returns-in_err-texts-clause-refused
-returns-in_err-texts-clause-refused g c clean =
-    let p = err_from_is_err_and c.from_residual-in_err-texts.result c.from_residual-in_err-texts.ensures.1 in
-    rw p.1 (inr (keepers_own g.K.Keeper.may_fail (is_free_copy (g.K.Keeper.book c.args.self.now.keeper).config c.args.from.now c.args.to.now c.args.moment ≡ true) c.in_err-texts.field-0.0 p.0 p.2 c.in_err-texts.ensures.cause
-    (may_copy (g.K.Keeper.book c.args.self.now.keeper) c.config.result.now c.args.from.now c.args.to.now c.args.moment c.in_ok-from.from c.in_ok-from.to
-    c.config.ensures c.if-moment-gt-LATEST.false c.in_ok-from.ensures.suites)))
-
-pub returns-in_err-apply-clause-refused : goal.returns-in_err-apply-clause-refused
-returns-in_err-apply-clause-refused g c clean =
-    let p = err_from_is_err_and c.from_residual-in_err-apply.result c.from_residual-in_err-apply.ensures.1 in
-    rw p.1 (inr (keepers_own g.K.Keeper.may_fail (is_free_copy (g.K.Keeper.book c.args.self.now.keeper).config c.args.from.now c.args.to.now c.args.moment ≡ true) c.in_err-apply.field-0.0 p.0 p.2 c.in_err-apply.ensures.cause
+pub returns-in_err-amend-clause-refused : goal.returns-in_err-amend-clause-refused
+returns-in_err-amend-clause-refused g c clean =
+    let p = err_from_is_err_and c.from_residual-in_err-amend.result c.from_residual-in_err-amend.ensures.1 in
+    rw p.1 (inr (keepers_own g.K.Keeper.may_fail (is_free_copy (g.K.Keeper.book c.args.self.now.keeper).config c.args.from.now c.args.to.now c.args.moment ≡ true) c.in_err-amend.field-0.0 p.0 p.2 c.in_err-amend.ensures.cause
     (may_copy (g.K.Keeper.book c.args.self.now.keeper) c.config.result.now c.args.from.now c.args.to.now c.args.moment c.in_ok-from.from c.in_ok-from.to
     c.config.ensures c.if-moment-gt-LATEST.false c.in_ok-from.ensures.suites)))
 
@@ -210,44 +155,24 @@ returns-in_err-plan-clause-crash g c h kept faithful clean left may = inl (c.in_
 pub returns-in_err-steps-clause-crash : goal.returns-in_err-steps-clause-crash
 returns-in_err-steps-clause-crash g c h kept faithful clean left may = inl (c.in_ok-shelves.ensures.reads.crash clean left may)
 
-pub returns-in_err-texts-clause-crash : goal.returns-in_err-texts-clause-crash
-returns-in_err-texts-clause-crash g c h kept faithful clean left may =
-    let reads = c.in_err-texts.ensures.reads in
-    inl (c.in_ok-shelves.ensures.reads.crash (reads.lasts.clean clean) left (reads.crash clean left may))
-
-pub returns-in_err-apply-clause-crash : goal.returns-in_err-apply-clause-crash
-returns-in_err-apply-clause-crash g c h kept faithful clean left may =
-    let reads = c.in_ok-texts.ensures.reads in
-    let clean_now = c.in_err-apply.ensures.lasts.clean clean in
-    let clean_then = reads.lasts.clean clean_now in
-    elim (c.in_err-apply.ensures.crash clean left may) [
-      | inl before ↦ inl (c.in_ok-shelves.ensures.reads.crash clean_then left (reads.crash clean_now left before))
-      | inr made ↦
-          let up_then = reads.lasts.was_open clean_now made.0 in
-          inr (left_copy g.K.Keeper.may_fail h c.args.from.now c.args.to.now c.args.source.now c.args.moment c.in_ok-from.from c.in_ok-from.to
-          (g.K.Keeper.book c.args.self.now.keeper) (g.K.Keeper.book c.renewed_texts.new.keeper) c.config-2.result.now c.in_ok-shelves.shelves c.in_ok-plan.plan c.in_ok-steps.steps c.from_vec.result
-          (kept.stands (c.in_ok-shelves.ensures.reads.lasts.was_open clean_then up_then)) faithful c.if-moment-gt-LATEST.false
-          (reads.same clean_now made.0 ∙ c.in_ok-shelves.ensures.reads.same clean_then up_then) (c.in_ok-shelves.ensures.shelves clean_then) c.in_ok-steps.ensures.steps
-          (subst (λ config. AreSuites config c.args.from.now c.args.to.now c.in_ok-from.from c.in_ok-from.to) c.config.ensures c.in_ok-from.ensures.suites)
-          (c.config-2.ensures ∙ sym reads.lasts.config) c.in_ok-plan.ensures.plan
-          left made.1)
-    ]
+pub returns-in_err-amend-clause-crash : goal.returns-in_err-amend-clause-crash
+returns-in_err-amend-clause-crash g c h kept faithful clean left may =
+    left_past c.in_ok-shelves.ensures.reads c.in_err-amend.ensures.lasts _ c.in_err-amend.ensures.crash clean left may _ (λ clean_then up_then made.
+    left_copy g.K.Keeper.may_fail h c.args.from.now c.args.to.now c.args.source.now c.args.moment c.in_ok-from.from c.in_ok-from.to
+    (g.K.Keeper.book c.args.self.now.keeper) (g.K.Keeper.book c.shelves.new.self) c.config-2.result.now c.in_ok-shelves.shelves c.in_ok-plan.plan c.in_ok-steps.steps
+    (kept.stands (c.in_ok-shelves.ensures.reads.lasts.was_open clean_then up_then)) faithful c.if-moment-gt-LATEST.false
+    (c.in_ok-shelves.ensures.reads.same clean_then up_then) (c.in_ok-shelves.ensures.shelves clean_then) c.in_ok-steps.ensures.steps
+    (subst (λ config. AreSuites config c.args.from.now c.args.to.now c.in_ok-from.from c.in_ok-from.to) c.config.ensures c.in_ok-from.ensures.suites)
+    c.config-2.ensures c.in_ok-plan.ensures.plan
+    left made)
 
 pub returns-clause-crash : goal.returns-clause-crash
 returns-clause-crash g c h kept faithful clean left may =
-    let reads = c.in_ok-texts.ensures.reads in
-    let clean_made = c.hold.ensures.reads.lasts.clean clean in
-    let clean_now = c.in_ok-apply.ensures.lasts.clean clean_made in
-    let clean_then = reads.lasts.clean clean_now in
-    elim (c.in_ok-apply.ensures.crash clean_made left (c.hold.ensures.reads.crash clean left may)) [
-      | inl before ↦ inl (c.in_ok-shelves.ensures.reads.crash clean_then left (reads.crash clean_now left before))
-      | inr made ↦
-          let up_then = reads.lasts.was_open clean_now made.0 in
-          inr (left_copy g.K.Keeper.may_fail h c.args.from.now c.args.to.now c.args.source.now c.args.moment c.in_ok-from.from c.in_ok-from.to
-          (g.K.Keeper.book c.args.self.now.keeper) (g.K.Keeper.book c.renewed_texts.new.keeper) c.config-2.result.now c.in_ok-shelves.shelves c.in_ok-plan.plan c.in_ok-steps.steps c.from_vec.result
-          (kept.stands (c.in_ok-shelves.ensures.reads.lasts.was_open clean_then up_then)) faithful c.if-moment-gt-LATEST.false
-          (reads.same clean_now made.0 ∙ c.in_ok-shelves.ensures.reads.same clean_then up_then) (c.in_ok-shelves.ensures.shelves clean_then) c.in_ok-steps.ensures.steps
-          (subst (λ config. AreSuites config c.args.from.now c.args.to.now c.in_ok-from.from c.in_ok-from.to) c.config.ensures c.in_ok-from.ensures.suites)
-          (c.config-2.ensures ∙ sym reads.lasts.config) c.in_ok-plan.ensures.plan
-          left made.1)
-    ]
+    left_past c.in_ok-shelves.ensures.reads c.in_ok-amend.ensures.lasts _ c.in_ok-amend.ensures.crash clean left may _ (λ clean_then up_then made.
+    left_copy g.K.Keeper.may_fail h c.args.from.now c.args.to.now c.args.source.now c.args.moment c.in_ok-from.from c.in_ok-from.to
+    (g.K.Keeper.book c.args.self.now.keeper) (g.K.Keeper.book c.shelves.new.self) c.config-2.result.now c.in_ok-shelves.shelves c.in_ok-plan.plan c.in_ok-steps.steps
+    (kept.stands (c.in_ok-shelves.ensures.reads.lasts.was_open clean_then up_then)) faithful c.if-moment-gt-LATEST.false
+    (c.in_ok-shelves.ensures.reads.same clean_then up_then) (c.in_ok-shelves.ensures.shelves clean_then) c.in_ok-steps.ensures.steps
+    (subst (λ config. AreSuites config c.args.from.now c.args.to.now c.in_ok-from.from c.in_ok-from.to) c.config.ensures c.in_ok-from.ensures.suites)
+    c.config-2.ensures c.in_ok-plan.ensures.plan
+    left made)

@@ -1,0 +1,24 @@
+-- A change that an archive makes: what is asked of its steps, and what is said of the book then.
+use Rattle.std.specs.Prelude.{◌≡◌, ℕ, List, [], map, take, length}
+use Rattle.suites.specs.Shelves.{ShelvesValue}
+use Rattle.suites.specs.Told.{AreTold}
+use Rattle.keep.specs.Book.{Book, amended, at_moment, due, judgements, shown_past}
+use Rattle.keep.specs.Keeping.{Apart, AreSteps, HasEachBody, sign_of, sign_on}
+use Rattle.keep.specs.declared.change.Change.{Change}
+use Rattle.keep.specs.declared.change.Step.{Step}
+
+-- Each plan is made for what those before it leave, the judged uploads are the first of those that are due at the moment, all that
+-- is shown is told by its records where it was before, and the shelves are what is shown then.
+pub record IsPlanned (book : Book) (moment : ℕ) (steps : List Step) (shelves : ShelvesValue) : Type 0 where
+  pub plans : AreSteps book.shown steps
+  pub judged : map sign_on (judgements steps) ≡ map sign_of (take (length (judgements steps)) (due (at_moment moment book)))
+  pub told : AreTold book.config.suites book.shown → AreTold book.config.suites (shown_past book.shown steps)
+  pub shown : shelves ≡ shown_past book.shown steps
+
+-- The change that steps are, whatever index texts it names: what a book is after it does not hang on them.
+abbrev pub steps_at : ℕ → List Step → Change
+steps_at moment steps = record { moment = moment; steps = steps; texts = [] }
+
+-- This is said of what a book is after the steps, where it has each body and no two bodies have one print.
+abbrev pub OnceAmended : Book → ℕ → List Step → (Book → Type 0) → Type 0
+OnceAmended book moment steps Says = Apart book (HasEachBody book (steps_at moment steps) → Says (amended book (steps_at moment steps)))
