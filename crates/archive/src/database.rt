@@ -23,11 +23,10 @@ ghost use Rattle.std.specs.Prelude.{◌≤◌};
 
 use crate::copied::copied;
 use command_line::CommandLine;
-use program::{InFile, OpenFault, act};
 use keep::{KeepFault, LATEST};
-use keep_tables::fault_of;
-use keep_tables::{InOrder, LAYOUT, TableKeeper, layout_of};
+use keep_tables::{InOrder, LAYOUT, TableKeeper, fault_of, layout_of};
 use old_book::OldBook;
+use program::{InFile, OpenFault, act};
 use rules::Config;
 use sqlite::{Alter, Connection, FileFrom, FileStore, Files, Options, Wary};
 use sqlite_disk::Disk;

@@ -56,7 +56,7 @@ module _ {S : Type 0} (store : Ghosts S) (old new : Transaction S) where
   -- and answers this of the rows before
   abbrev pub WritesAnd : {T E : Type 0} → Result T E → (Tables → Tables) → (T → Tables → Type 0) → Type 0
   WritesAnd result change Answers = HasCleanDisk (state store new.conn.now) → IsTrue (state store old.conn.now).in_transaction
-    → IfOk result (λ x. Changes (state store old.conn.now) (state store new.conn.now) change × ((t : Tables) → Holds (state store old.conn.now).now t → Answers x t))
+      → IfOk result (λ x. Changes (state store old.conn.now) (state store new.conn.now) change × ((t : Tables) → Holds (state store old.conn.now).now t → Answers x t))
 
   -- after an error the transaction is as it was, or is undone
   abbrev pub FailsInside : {T E : Type 0} → Result T E → Type 0

@@ -5,11 +5,11 @@ use crate::failing::{Failing, Kind};
 use crate::image::Image;
 use crate::work::{Answer, Work};
 use keep::KeepFault;
+use keep_tables::fault_of;
 use old_book::OldBook;
 use sqlite::{Connection, FileStore, Files, Options};
 use sqlite_disk::{Crash, Disk, Memory};
 use std::alloc::{AllocError, Global};
-use keep_tables::fault_of;
 use test_rows::Unread;
 use test_story::Pieces;
 

@@ -1,13 +1,12 @@
 //! What is done with a database, over any store: each function that names the store of files takes the prover minutes.
 
 use keep::{KeepFault, LATEST};
-use keep_tables::{InOrder, TableKeeper};
+use keep_tables::{InOrder, TableKeeper, fault_of};
 use old_book::OldBook;
 use queue::Archive;
 use rules::Config;
 use sqlite::{Alter, Connection};
 use std::alloc::Global;
-use keep_tables::fault_of;
 use test_rows::{Unread, said};
 use test_story::{Pieces, Task};
 
