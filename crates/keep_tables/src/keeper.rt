@@ -68,12 +68,10 @@ pub struct TableKeeper<S: Alter + Drop> {
 }
 
 impl<S: Alter + Drop> TableKeeper<S> {
-    ghost use Rattle.std.specs.Prelude.{◌≢◌, ◌⊎◌, true, IfOk, IfErr, IsErrAnd};
+    ghost use Rattle.std.specs.Prelude.{true, IfOk, IfErr};
     ghost use Rattle.sqlite.specs.State.{Survives};
     ghost use Rattle.keep.specs.Plain.{fresh_book};
-    ghost use Rattle.tables.specs.Schema.{no_schema};
     ghost use Rattle.tables_meaning.specs.Founding.{MayFound, founded};
-    ghost use Rattle.tables_meaning.specs.Transactions.{IsUndone};
 
     /// A new archive of the configuration, in a database that has no table, no index and no view, made at the moment, in
     /// seconds since 1970-01-01 00:00:00 UTC. A fault gives the connection back, and then what was committed is as before. It is

@@ -1,5 +1,5 @@
 -- From rows that are shown to the book of an old archive.
-use Rattle.std.proofs.Common.{◌≡◌, ◌↔◌, ℕ, Bool, true, false, find, List, [], ◌∷◌, Option, Some, None, is_some, IfSome, IsTrue, refl, sym, ap, subst, ◌∙◌}
+use Rattle.std.proofs.Common.{◌≡◌, ◌↔◌, ℕ, true, false, find, List, [], ◌∷◌, Option, Some, None, is_some, IfSome, IsTrue, refl, sym, ap, subst, ◌∙◌}
 use Rattle.rules.specs.Values.{ConfigValue}
 use Rattle.suites.specs.Shelves.{ShelvesValue}
 use Rattle.keep.specs.declared.change.Judgement.{Judgement}

@@ -6,7 +6,6 @@ use Rattle.texts.proofs.Pairs.{pairs_map, pairs_unmap}
 use Rattle.tables_meaning.proofs.ArrivalLemmas.{all_unmapped}
 use Rattle.sums.proofs.Words.{list_any-map}
 use Rattle.tables.specs.Arrivals.{is_arrival}
-use Rattle.tables.specs.Items.{is_item}
 use Rattle.tables.specs.Rows.{Numbered, Tables, rows_of, without}
 use Rattle.tables.specs.declared.rows.ArrivalRow.{ArrivalRow}
 use Rattle.tables.specs.declared.rows.File.{File}

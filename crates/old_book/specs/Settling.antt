@@ -1,5 +1,5 @@
 -- From the rows that are shown to those of an archive of today.
-use Rattle.std.specs.Prelude.{ℕ, nat_eq, Bool, ◌&&◌, not, List, [], ◌∷◌, map, filter, None}
+use Rattle.std.specs.Prelude.{ℕ, nat_eq, Bool, ◌&&◌, List, [], ◌∷◌, map, filter, None}
 use Rattle.std.specs.List.{list_any}
 use Rattle.tables.specs.Rows.{Numbered, Tables, without}
 use Rattle.tables.specs.Uploads.{is_judged as has_place}

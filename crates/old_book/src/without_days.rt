@@ -5,7 +5,7 @@ ghost use Rattle.std.specs.List.{flat_map};
 ghost use Rattle.std.specs.Option.{option_map};
 ghost use Rattle.para.specs.declared.fault.ParaFault.TheVariants.{OutOfMemory};
 ghost use Rattle.para.specs.Field.{field_value, field_values};
-ghost use Rattle.para.specs.Printing.{field_text, paragraph_text};
+ghost use Rattle.para.specs.Printing.{paragraph_text};
 ghost use Rattle.old_book.specs.Text.{is_days_field, other_fields, other_text, without_days};
 
 use para::{Field, ParaFault, Paragraph, read_many, write_field};

@@ -7,7 +7,7 @@ use Rattle.sqlite.specs.Effect.{Database}
 use Rattle.sqlite.specs.Tree.{Trees}
 use Rattle.rules.specs.Values.{ConfigValue}
 use Rattle.keep.specs.Book.{Book}
-use Rattle.tables.specs.Rows.{HoldsRows, IsArchive, Tables, tables_in, tables_of}
+use Rattle.tables.specs.Rows.{HoldsRows, IsArchive, Tables, tables_of}
 use Rattle.tables.specs.Others.{IsArchiveSchema}
 use Rattle.tables_meaning.specs.Archives.{KeepsBook, KeepsFinished, KeepsLeft}
 use Rattle.tables_meaning.specs.Finished.{AreUnderWay, finished}

@@ -33,7 +33,7 @@ use Rattle.tables.specs.Rows.{Numbered, Tables, rows_of}
 use Rattle.tables.specs.declared.rows.ItemRow.{ItemRow}
 use Rattle.tables.specs.declared.rows.Ref.{Ref}
 use Rattle.tables_read.specs.All.{AreConstrained}
-use Rattle.tables_meaning.specs.Kept.{AreItems, AreReadable, IsReadable, codename_at, is_on, item_row, refs_for, refs_in, shown_row}
+use Rattle.tables_meaning.specs.Kept.{AreItems, AreReadable, IsReadable, codename_at, is_on, refs_for, refs_in, shown_row}
 use Rattle.tables_meaning.specs.Kept as kept
 use Rattle.tables_meaning.specs.Shown.{clash, entry_in, file_in, is_taken, item_with, may_not_join, shown_in}
 use Rattle.tables_meaning.proofs.ShownLemmas.{entry_on, find_beyond, find_shown, item_from, item_parts, on_entry, shown_is}

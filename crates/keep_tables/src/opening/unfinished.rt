@@ -1,6 +1,6 @@
 //! Bodies that are not whole, among the rows.
 
-ghost use Rattle.std.specs.Prelude.{◌≡◌, not, is_some, IfOk};
+ghost use Rattle.std.specs.Prelude.{◌≡◌, is_some, IfOk};
 ghost use Rattle.std.specs.List.{list_any};
 ghost use Rattle.tables.specs.Rows.{rows_of, without};
 ghost use Rattle.tables_read.specs.All.{tables_with};

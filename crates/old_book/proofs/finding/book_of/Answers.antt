@@ -1,5 +1,5 @@
 use Rattle.std.proofs.Common.{◌≡◌, [], true, true≢false, sym, ap, subst, ◌∙◌}
-use Rattle.tables_read.specs.All.{AreConstrained, tables_with}
+use Rattle.tables_read.specs.All.{tables_with}
 use Rattle.tables_audit.proofs.WholeLemmas.{at_some}
 use Rattle.tables_audit.specs.Parts.{UploadsFit}
 use Rattle.tables_meaning.specs.Kept.{IsBook}
