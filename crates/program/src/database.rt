@@ -23,6 +23,13 @@ pub enum OpenFault {
     Later(u64),
 }
 
+/// The database file whose archive is asked, and the moment at which it is, in seconds since 1970-01-01 00:00:00 UTC.
+#[derive(Clone, Copy)]
+pub struct Opening<'o> {
+    pub db: &'o str,
+    pub at: u64,
+}
+
 /// What opens, makes and closes the keepers of archives in database files. Only what implements it names a store of files, since each
 /// function that does takes the prover long.
 pub trait InFile<K> {
