@@ -14,7 +14,8 @@ use Rattle.records.specs.Values.{ChangesValue}
 use Rattle.rules.specs.Values.{ConfigValue}
 use Rattle.sums.specs.Prints.{print as print_of, same_print}
 use Rattle.sums.specs.declared.print.Print.{Print}
-use Rattle.keep.specs.Book.{Book, Candidate, at_moment, candidate_of, candidates, due, in_order, is_changes_name, is_complete, is_judged, judging_order, put_in_order, unjudged, upload_of}
+use Rattle.keep.specs.Book.{Book, Candidate, at_moment, candidate_of, candidates, due, in_order, is_complete, is_judged, candidate_order, put_in_order, unjudged, upload_of}
+use Rattle.sums.specs.FileNames.{is_changes_name}
 use Rattle.keep.specs.Keeping.{NoCollision}
 use Rattle.keep.specs.declared.arrival.Arrival.{Arrival}
 use Rattle.queue.specs.Before.{before_each, before_each-push}
@@ -143,7 +144,7 @@ any-in_order t (c ∷ cs) = any-put (in_order cs) ∙ ap (λ b. t c || b) (any-i
 
     any-put : (ds : List Candidate) → list_any t (put_in_order c ds) ≡ (t c || list_any t ds)
     any-put [] = refl
-    any-put (d ∷ ds) = placed (is_gt (judging_order c d)) (any-put ds)
+    any-put (d ∷ ds) = placed (is_gt (candidate_order c d)) (any-put ds)
       where
         placed : (b : Bool) → list_any t (put_in_order c ds) ≡ (t c || list_any t ds) → list_any t (cond b (d ∷ put_in_order c ds) (c ∷ d ∷ ds)) ≡ (t c || (t d || list_any t ds))
         placed true rest = ap (λ x. t d || x) rest ∙ swapped (t d) (t c) (list_any t ds)

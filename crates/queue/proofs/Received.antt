@@ -11,8 +11,8 @@ use Rattle.records.specs.Records.{changes_in}
 use Rattle.records.specs.Values.{ChangesValue}
 use Rattle.records.specs.declared.fault.RecordFault.{RecordFault}
 use Rattle.records.specs.declared.fault.RecordFault.TheVariants as record_faults
-use Rattle.sums.specs.Lines.{is_file_name}
-use Rattle.keep.specs.Book.{Book, is_changes_name, latest}
+use Rattle.sums.specs.FileNames.{is_file_name, is_changes_name}
+use Rattle.keep.specs.Book.{Book, latest}
 use Rattle.keep.specs.declared.keeper.Keeper.{Ghosts}
 use Rattle.queue.specs.Answers.{IsFaithful, IsKept, IsStep, answer}
 use Rattle.queue.specs.Archives.{book_of}

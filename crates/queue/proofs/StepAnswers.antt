@@ -6,11 +6,11 @@ use Rattle.std.proofs.lemmas.Simd.{map-map}
 use Rattle.std.proofs.lemmas.Bool.{lt-ltb, le-ltb, ltb-false}
 use Rattle.std.proofs.lemmas.Grind.{flat_map-append}
 use Rattle.std.proofs.lemmas.List.Elements.{Contains-append_right}
-use Rattle.sums.specs.Lines.{is_file_name}
+use Rattle.sums.specs.FileNames.{is_file_name, is_changes_name}
 use Rattle.records.specs.Records.{changes_in}
 use Rattle.records.specs.Values.{ChangesValue}
 use Rattle.records.specs.declared.fault.RecordFault.{RecordFault}
-use Rattle.keep.specs.Book.{Book, at_moment, ended, has_arrival, is_changes_name, latest, span, text_at, unjudged, waiting_list, with_delivery}
+use Rattle.keep.specs.Book.{Book, at_moment, ended, has_arrival, latest, span, text_at, unjudged, waiting_list, with_delivery}
 use Rattle.keep.specs.Keeping.{HasBodies, IsDeliverable, MayAnswer, NoCollision}
 use Rattle.keep.specs.declared.arrival.Arrival.{Arrival}
 use Rattle.keep.specs.declared.change.Judgement.{Judgement}
@@ -48,7 +48,7 @@ allowed : (may_fail : Bool) (h : History) (call : Call) (fault : KeepFault) → 
 allowed may_fail h call keep_faults.OutOfMemory may free = tt
 allowed may_fail h call keep_faults.Disk may free = (may, tt, free)
 allowed may_fail h call keep_faults.Size may free = (may, tt, free)
-allowed may_fail h call keep_faults.Tables may free = absurd may
+allowed may_fail h call keep_faults.NoArchive may free = absurd may
 allowed may_fail h call keep_faults.Configuration may free = absurd may
 
 -- where a keeper refuses, the archive's fault may stand in the answer's place
@@ -67,7 +67,7 @@ keepers_of : (may_fail : Bool) (free : Type 0) (fault : KeepFault) → MayAnswer
 keepers_of may_fail free keep_faults.OutOfMemory may here = tt
 keepers_of may_fail free keep_faults.Disk may here = (may, tt, here)
 keepers_of may_fail free keep_faults.Size may here = (may, tt, here)
-keepers_of may_fail free keep_faults.Tables may here = absurd may
+keepers_of may_fail free keep_faults.NoArchive may here = absurd may
 keepers_of may_fail free keep_faults.Configuration may here = absurd may
 
 -- what a keeper refuses is a refusal of its own, and so is want of memory

@@ -1,7 +1,7 @@
 -- Which deliveries are refused, whatever the archive holds.
 use Rattle.std.specs.Prelude.{ℕ, Bool, IsTrue, ⊤, not, nat_lt, if◌then◌else◌, List, length, Option, Some, None, Result, Ok, Err}
-use Rattle.sums.specs.Lines.{is_file_name}
-use Rattle.keep.specs.Book.{is_changes_name, latest}
+use Rattle.sums.specs.FileNames.{is_file_name, is_changes_name}
+use Rattle.keep.specs.Book.{latest}
 use Rattle.keep.specs.declared.fault.KeepFault.{KeepFault}
 use Rattle.keep.specs.declared.fault.KeepFault.TheVariants as keep_faults
 use Rattle.records.specs.Records.{changes_in}

@@ -1,7 +1,7 @@
 //! Which deliveries are refused, whatever the archive holds.
 
 ghost use Rattle.std.specs.Prelude.{◌≡◌, ◌⊎◌, ◌≤◌, Some, None, MatchResult, OnOk};
-ghost use Rattle.keep.specs.Book.{is_changes_name};
+ghost use Rattle.sums.specs.FileNames.{is_changes_name};
 ghost use Rattle.queue.specs.Deliveries.{delivery_fault, record_fault};
 
 use crate::fault::Fault;
@@ -14,7 +14,7 @@ use sums::is_file_name;
 const MOST_BYTES: usize = 4_194_304;
 
 /// Whether a file of this name has to be a .changes.
-#[tactic(auto, unfolding(keep::specs::Book::is_changes_name))]
+#[tactic(auto, unfolding(sums::specs::FileNames::is_changes_name))]
 pub fn is_changes_name(name: &str) -> bool
     ensures { result ≡ is_changes_name name.now }
 {

@@ -7,12 +7,11 @@
 
 ghost use Rattle.std.specs.Prelude.{◌≡◌, ◌<◌, ◌≤◌, ℕ, List, Some, true, length, IsErrAnd, OnErr};
 ghost use Rattle.std.specs.Io.KnownBytes.{Keeps};
-ghost use Rattle.keep.specs.Book.{is_changes_name as is_changes_name_of};
+ghost use Rattle.sums.specs.FileNames.{is_changes_name as is_changes_name_of, is_file_name as is_file_name_of};
 ghost use Rattle.queue.specs.Commands.{is_new, stored};
 ghost use Rattle.queue.specs.Deliveries.{delivery_fault, most_bytes};
 ghost use Rattle.queue.specs.Receiving.{IsReceived, LeavesReceived};
 ghost use Rattle.queue.specs.Steps.{IsServed, IsUndone, Lasts};
-ghost use Rattle.sums.specs.Lines.{is_file_name as is_file_name_of};
 
 use crate::archive::Archive;
 use crate::command::Arrived;
