@@ -1,10 +1,10 @@
 //! Another configuration, as it is handed to a keeper.
 
 ghost use Rattle.std.specs.Prelude.{◌≡◌, ◌≤◌, All, length};
+ghost use Rattle.texts.specs.Calendar.{latest};
 
 use rules::Config;
 use suites::Shelves;
-use texts::LATEST;
 
 /// Another configuration; what the suites show under it, each at its position there; and the date of each suite, in the order of the
 /// configuration, in seconds since 1970-01-01 00:00:00 UTC.
@@ -14,5 +14,5 @@ pub struct Configured {
     pub shelves: Shelves,
     pub dates: Vec<u64>,
     ghost dated: { length dates.items ≡ length config.suites },
-    ghost in_range: { ∥ All (λ date. date ≤ LATEST) dates.items ∥₁ },
+    ghost in_range: { ∥ All (λ date. date ≤ latest) dates.items ∥₁ },
 }

@@ -3,6 +3,7 @@
 //! Index texts follow from the book, and are no field of it. Files are a field, since bodies outlive arrivals: a cleaning leaves the pool.
 
 ghost use Rattle.std.specs.Prelude.{◌≤◌, All, IfOk};
+ghost use Rattle.texts.specs.Calendar.{latest};
 
 use crate::arrival::{Arrival, Body, Counting, has_arrival, has_current, mark_all, remove_ended};
 use crate::change::{Change, Judgement, Waiting};
@@ -34,7 +35,7 @@ pub struct PlainKeeper {
     dates: Vec<u64>,
     /// The bytes so far of the body that is coming, where one was begun.
     coming: Option<Vec<u8>>,
-    ghost in_range: { ∥ All (λ date. date ≤ LATEST) dates.items ∥₁ },
+    ghost in_range: { ∥ All (λ date. date ≤ latest) dates.items ∥₁ },
 }
 
 impl PlainKeeper {
