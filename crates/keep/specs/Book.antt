@@ -18,6 +18,7 @@ use Rattle.suites.specs.Pool.{AreAgreed, files_of}
 use Rattle.suites.specs.Shelves.{ShelvesValue, pool}
 use Rattle.suites.specs.Upload.{UploadValue, has_text}
 use Rattle.suites.specs.declared.plan.Plan.{Plan}
+use Rattle.texts.specs.Calendar.{latest as last_moment}
 use Rattle.texts.specs.Indices.{index_text}
 use Rattle.keep.specs.declared.arrival.Arrival.{Arrival}
 use Rattle.keep.specs.declared.change.Judgement.{Judgement}
@@ -38,7 +39,7 @@ pub record Book : Type 0 where
 
 -- the last moment that may be handed in, 2099-12-31 23:59:59 UTC
 abbrev pub latest : ℕ
-latest = 4102444799
+latest = last_moment
 
 -- ---- arrivals
 
@@ -126,19 +127,24 @@ is_complete arrivals c = list_all (is_there arrivals) c.changes.entries
 unfoldable pub is_judged : List Judgement → Candidate → Bool
 is_judged judged c = list_any (λ j. bytes_eq j.name c.name && same_print j.print (print_of c.body)) judged
 
--- The order of judging: by the bytes of the name of the .changes, then by its SHA-256, SHA-1, MD5 and size.
-unfoldable pub judging_order : Candidate → Candidate → Ordering
+-- The order of judging, of uploads by the name and the print of their .changes: by the bytes of the names, then by SHA-256, SHA-1,
+-- MD5 and size.
+unfoldable pub judging_order : List ℕ × Print → List ℕ × Print → Ordering
 judging_order a b =
-    ordering_then (text_order a.name b.name)
-    (ordering_then (text_order (print_of a.body).sha256 (print_of b.body).sha256)
-    (ordering_then (text_order (print_of a.body).sha1 (print_of b.body).sha1)
-    (ordering_then (text_order (print_of a.body).md5 (print_of b.body).md5)
-    (nat_cmp (print_of a.body).size (print_of b.body).size))))
+    ordering_then (text_order a.0 b.0)
+    (ordering_then (text_order a.1.sha256 b.1.sha256)
+    (ordering_then (text_order a.1.sha1 b.1.sha1)
+    (ordering_then (text_order a.1.md5 b.1.md5)
+    (nat_cmp a.1.size b.1.size))))
+
+-- the same of the .changes that arrived
+abbrev pub candidate_order : Candidate → Candidate → Ordering
+candidate_order c d = judging_order (c.name, print_of c.body) (d.name, print_of d.body)
 
 -- the list with one more in its place, before those that tie with it
 abbrev pub put_in_order : Candidate → List Candidate → List Candidate
 put_in_order c [] = c ∷ []
-put_in_order c (d ∷ ds) = if is_gt (judging_order c d) then d ∷ put_in_order c ds else c ∷ d ∷ ds
+put_in_order c (d ∷ ds) = if is_gt (candidate_order c d) then d ∷ put_in_order c ds else c ∷ d ∷ ds
 
 abbrev pub in_order : List Candidate → List Candidate
 in_order [] = []

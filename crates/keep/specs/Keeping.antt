@@ -16,7 +16,7 @@ use Rattle.keep.specs.declared.change.Change.{Change}
 use Rattle.keep.specs.declared.change.IndexText.{IndexText}
 use Rattle.keep.specs.declared.change.Judgement.{Judgement}
 use Rattle.keep.specs.declared.fault.KeepFault.{KeepFault}
-use Rattle.keep.specs.declared.fault.KeepFault.TheVariants.{OutOfMemory, Disk, Size, Tables, Configuration}
+use Rattle.keep.specs.declared.fault.KeepFault.TheVariants.{OutOfMemory, Disk, Size, NoArchive, Configuration}
 
 -- Of these bodies no two have the same print.
 abbrev pub NoCollision : List (List ℕ) → Type 0
@@ -115,7 +115,7 @@ abbrev pub MayAnswer : Bool → KeepFault → Type 0
 MayAnswer may_fail OutOfMemory = ⊤
 MayAnswer may_fail Disk = IsTrue may_fail
 MayAnswer may_fail Size = IsTrue may_fail
-MayAnswer may_fail Tables = ⊥
+MayAnswer may_fail NoArchive = ⊥
 MayAnswer may_fail Configuration = ⊥
 
 -- A body was begun, of whole pieces so far, and these bytes can be its next piece.

@@ -4,6 +4,7 @@ ghost use Rattle.std.specs.Prelude.{◌≡◌, ◌≤◌, All, length};
 
 use rules::Config;
 use suites::Shelves;
+use texts::LATEST;
 
 /// Another configuration; what the suites show under it, each at its position there; and the date of each suite, in the order of the
 /// configuration, in seconds since 1970-01-01 00:00:00 UTC.
@@ -13,5 +14,5 @@ pub struct Configured {
     pub shelves: Shelves,
     pub dates: Vec<u64>,
     ghost dated: { length dates.items ≡ length config.suites },
-    ghost in_range: { ∥ All (λ date. date ≤ 4_102_444_799) dates.items ∥₁ },
+    ghost in_range: { ∥ All (λ date. date ≤ LATEST) dates.items ∥₁ },
 }

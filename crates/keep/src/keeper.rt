@@ -16,9 +16,6 @@ use std::alloc::Global;
 use suites::{Shelves, Upload};
 use sums::Print;
 
-/// The last moment that may be handed in: 2099-12-31 23:59:59 UTC.
-pub const LATEST: u64 = 4_102_444_799;
-
 /// The most bytes of a piece of a body. Each piece of a body but its last has as many.
 pub const PIECE_SIZE: usize = 65_536;
 

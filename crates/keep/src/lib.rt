@@ -10,16 +10,18 @@ mod keeper;
 mod plain;
 mod pool;
 mod printing;
-mod scan;
 mod steps;
+mod uploads;
 
 pub use arrival::{Arrival, Body};
 pub use change::{Change, IndexText, Judgement, Step, Waiting};
 pub use configured::Configured;
 pub use fault::KeepFault;
-pub use keeper::{Keeper, LATEST, PIECE_SIZE};
+pub use keeper::{Keeper, PIECE_SIZE};
 pub use plain::PlainKeeper;
 pub use printing::{is_kept, print_of_text};
 pub use steps::{
     append_judgements, copied_judgements, dates_after, room_for_judgements, some_changes_suite,
 };
+pub use texts::LATEST;
+pub use uploads::judging_order;

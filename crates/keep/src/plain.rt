@@ -2,25 +2,23 @@
 
 ghost use Rattle.std.specs.Prelude.{◌≤◌, All, IfOk};
 
-use crate::arrival::{Arrival, Body, Counting};
+use crate::arrival::{Arrival, Body, Counting, has_arrival, has_current, mark_all, remove_ended};
 use crate::change::{Change, Judgement, Waiting};
 use crate::configured::Configured;
 use crate::fault::KeepFault;
-use crate::keeper::{Keeper, LATEST};
+use crate::keeper::Keeper;
 use crate::pool::{PoolBody, body_at_path, pool_bodies};
 use crate::printing::print_of_text;
-use crate::scan::{
-    complete_uploads, has_arrival, has_current, mark_all, remove_ended, waiting_uploads,
-};
 use crate::steps::{
     append_judgements, copied_judgements, dates_after, room_for_judgements, shelves_after,
 };
+use crate::uploads::{complete_uploads, waiting_uploads};
 use para::Text;
 use rules::Config;
 use std::alloc::Global;
 use suites::{Shelves, Upload};
 use sums::{Print, print_of};
-use texts::index_text;
+use texts::{LATEST, index_text};
 
 /// A plain keeper. It refuses a call for want of memory alone.
 #[derive(Drop)]
@@ -34,7 +32,7 @@ pub struct PlainKeeper {
     dates: Vec<u64>,
     /// The bytes so far of the body that is coming, where one was begun.
     coming: Option<Vec<u8>>,
-    ghost in_range: { ∥ All (λ date. date ≤ 4_102_444_799) dates.items ∥₁ },
+    ghost in_range: { ∥ All (λ date. date ≤ LATEST) dates.items ∥₁ },
 }
 
 impl PlainKeeper {

@@ -6,9 +6,9 @@ ghost use Rattle.keep.specs.Keeping.{AreSteps};
 ghost use Rattle.keep.specs.Scan.{is_put_in, some_touches};
 
 use crate::change::{Judgement, Step};
-use crate::keeper::LATEST;
 use std::alloc::{AllocError, Global};
 use suites::{Item, ShelfKey, Shelves};
+use texts::LATEST;
 
 /// Another copy of a judgement.
 fn copied_judgement(one: &Judgement) -> Result<Judgement, AllocError>
@@ -126,8 +126,8 @@ pub fn dates_after(
     moment: u64,
 ) -> Result<Vec<u64>, AllocError>
     requires moment { moment ≤ LATEST }
-    requires dates { All (λ date. date ≤ 4_102_444_799) dates.now }
-    ensures in_range { IfOk result (λ after. All (λ date. date ≤ 4_102_444_799) after.items) }
+    requires dates { All (λ date. date ≤ LATEST) dates.now }
+    ensures in_range { IfOk result (λ after. All (λ date. date ≤ LATEST) after.items) }
     ensures after { IfOk result (λ after. after.items ≡ dates_past moment dates.now steps.now) }
 {
     let mut after = Vec::new(alloc);

@@ -27,41 +27,41 @@ pub at_ok : {V E : Type 0} (test : V → Bool) (v : V) (r : Result V E) → r �
 at_ok test v r e h = ap (λ r. match_ok r test) (sym e) ∙ h
 
 -- the .dsc is of another source or version, or of another name
-abbrev is_other_dsc : ChangesValue → List ℕ → DscValue → Bool
+abbrev pub is_other_dsc : ChangesValue → List ℕ → DscValue → Bool
 is_other_dsc c name d =
     not (bytes_eq d.source c.source) || not (bytes_eq d.version c.version)
     || not (bytes_eq name (dsc_file d))
 
-abbrev lists_part : DscValue → Bool
+abbrev pub lists_part : DscValue → Bool
 lists_part d = list_any (λ e. is_package_part e.name) d.entries
 
-abbrev lists_sources : ChangesValue → DscValue → Bool
+abbrev pub lists_sources : ChangesValue → DscValue → Bool
 lists_sources c d = list_all (has_entry d.entries) (filter (λ e. not (is_package_part e.name)) c.entries)
 
-plain_entries : (c : ChangesValue) (name : List ℕ) (d : DscValue) → differs_from_dsc c name d ≡ false → lists_part d ≡ false
+pub plain_entries : (c : ChangesValue) (name : List ℕ) (d : DscValue) → differs_from_dsc c name d ≡ false → lists_part d ≡ false
 unfolding differs_from_dsc
 plain_entries c name d h =
     (neither (is_other_dsc c name d) (lists_part d) (neither (is_other_dsc c name d || lists_part d) (not (lists_sources c d)) h).0).1
 
-source_entries : (c : ChangesValue) (name : List ℕ) (d : DscValue) → differs_from_dsc c name d ≡ false → lists_sources c d ≡ true
+pub source_entries : (c : ChangesValue) (name : List ℕ) (d : DscValue) → differs_from_dsc c name d ≡ false → lists_sources c d ≡ true
 unfolding differs_from_dsc
 source_entries c name d h =
     passed (lists_sources c d) (neither (is_other_dsc c name d || lists_part d) (not (lists_sources c d)) h).1
 
 -- an entry of the list with that name and print
-print_found : (e f : Entry) (entries : List Entry) (found : Option Entry) → entry_named e.name entries ≡ found → AllPairs (λ a b. a.name ≢ b.name) entries → Contains entries f → e.name ≡ f.name
+pub print_found : (e f : Entry) (entries : List Entry) (found : Option Entry) → entry_named e.name entries ≡ found → AllPairs (λ a b. a.name ≢ b.name) entries → Contains entries f → e.name ≡ f.name
     → option_map_or (λ g. same_print g.print e.print) found false ≡ true → e.print ≡ f.print
 print_found e f entries None found names listed same h = cc
 print_found e f entries (Some g) found names listed same h =
     let n = entry_named-Contains e.name entries g found in
     sym (same_print-equal g.print e.print h) ∙ ap (λ x. x.print) (by_name (λ x. x.name) entries g f names n.0 listed (n.1 ∙ same))
 
-has_entry-print : (e f : Entry) (entries : List Entry) → AllPairs (λ a b. a.name ≢ b.name) entries → Contains entries f → e.name ≡ f.name → has_entry entries e ≡ true → e.print ≡ f.print
+pub has_entry-print : (e f : Entry) (entries : List Entry) → AllPairs (λ a b. a.name ≢ b.name) entries → Contains entries f → e.name ≡ f.name → has_entry entries e ≡ true → e.print ≡ f.print
 unfolding has_entry
 has_entry-print e f entries names listed same h = print_found e f entries (entry_named e.name entries) refl names listed same h
 
 -- a file that both list has one print
-both_listed : (c : ChangesValue) (name : List ℕ) (d : DscValue) (e f : Entry) → differs_from_dsc c name d ≡ false → AllPairs (λ a b. a.name ≢ b.name) d.entries
+pub both_listed : (c : ChangesValue) (name : List ℕ) (d : DscValue) (e f : Entry) → differs_from_dsc c name d ≡ false → AllPairs (λ a b. a.name ≢ b.name) d.entries
     → Contains c.entries e → Contains d.entries f → e.name ≡ f.name → e.print ≡ f.print
 both_listed c name d e f h names p q same =
     let plain : is_package_part f.name ≡ false = any_false (λ (e : Entry). is_package_part e.name) d.entries f (plain_entries c name d h) q in

@@ -17,7 +17,7 @@ pub from_filter : {X : Type 0} (p : X → Bool) (y : X) (xs : List X) → Contai
 from_filter p y [] h = no_member y h
 from_filter p y (x ∷ xs) h = kept_or_not p x y xs (p x) refl h (from_filter p y xs)
 
-kept : {X : Type 0} (p : X → Bool) (x y : X) (xs : List X) (b : Bool) → p x ≡ b → p y ≡ true → Contains (x ∷ xs) y
+pub kept : {X : Type 0} (p : X → Bool) (x y : X) (xs : List X) (b : Bool) → p x ≡ b → p y ≡ true → Contains (x ∷ xs) y
     → (Contains xs y → Contains (filter p xs) y) → Contains (cond b (x ∷ filter p xs) (filter p xs)) y
 kept p x y xs true t e h more = elim (which x y xs h) [
   | inl same ↦ subst (λ z. Contains (x ∷ filter p xs) z) same (here x (filter p xs))

@@ -26,7 +26,7 @@ use Rattle.suites.proofs.EntryLemmas.{and_left, and_right, tied_behind}
 use Rattle.suites.proofs.FileMembers.{files_contain, found_member, item_of_file, shown_entry, value_shown}
 use Rattle.suites.proofs.MovedLemmas.{from_filter_map, key_of, one_shelf}
 
-claims_own : (s : Suite) → claims s.codename s ≡ true
+pub claims_own : (s : Suite) → claims s.codename s ≡ true
 unfolding claims
 claims_own s = any_true (bytes_eq s.codename) (distributions s) s.codename (here s.codename (option_to_list s.suite ++ s.also_accept_for)) ((bytes_eq-Decides s.codename s.codename).1 refl)
 

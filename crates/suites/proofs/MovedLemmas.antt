@@ -51,7 +51,7 @@ to_filter_map {X} {Y} f x y (z ∷ xs) h e = by_case (f z) refl (λ r. to_filter
 
 -- ---- suites by their codenames
 
-bytes_same : (xs ys : List ℕ) → bytes_eq xs ys ≡ true → xs ≡ ys
+pub bytes_same : (xs ys : List ℕ) → bytes_eq xs ys ≡ true → xs ≡ ys
 bytes_same xs ys e = (bytes_eq-Decides xs ys).0 e
 
 -- the suite of a position, and the one that has its codename

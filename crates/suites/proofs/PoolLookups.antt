@@ -13,7 +13,7 @@ use Rattle.suites.specs.Keys.{text_order}
 use Rattle.suites.specs.KeyLemmas.{text_order_total, text_order-IsAntisymmetric}
 use Rattle.suites.specs.Pool.{AreAgreed, pool_of}
 
-tie : (o : Ordering) → is_eq o ≡ true → o ≡ Equal
+pub tie : (o : Ordering) → is_eq o ≡ true → o ≡ Equal
 tie Less h = cc
 tie Equal h = refl
 tie Greater h = cc

@@ -7,7 +7,7 @@ use Rattle.sums.proofs.Booleans.{both}
 use Rattle.sums.specs.Prints.{same_print}
 use Rattle.sums.specs.declared.print.Print.{Print}
 
-equal_fields : (a b : Print) → a.size ≡ b.size → a.md5 ≡ b.md5 → a.sha1 ≡ b.sha1 → a.sha256 ≡ b.sha256 → a ≡ b
+pub equal_fields : (a b : Print) → a.size ≡ b.size → a.md5 ≡ b.md5 → a.sha1 ≡ b.sha1 → a.sha256 ≡ b.sha256 → a ≡ b
 equal_fields a b size md5 sha1 sha256 = λ i. record { size = size i; md5 = md5 i; sha1 = sha1 i; sha256 = sha256 i }
 
 pub same_print-equal : (a b : Print) → same_print a b ≡ true → a ≡ b

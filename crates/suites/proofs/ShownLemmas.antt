@@ -16,7 +16,8 @@ use Rattle.suites.specs.Keys.{key_order}
 use Rattle.suites.specs.Shelves.{ShelvesWith, is_at_least, is_above, covers, beats, shown, shown_after, is_covered, with_admitted}
 use Rattle.suites.specs.declared.key.ShelfKey.{ShelfKey}
 use Rattle.suites.specs.KeyLemmas.{key_order_total, key_order-IsAntisymmetric}
-use Rattle.suites.proofs.HeldLemmas.{IsRanking, held-push, held_behind-settled, clear-none, Settled, settled-held_behind, any_beats, or_left, or_first, or_second, or_none, append_nil, by_pushes}
+use Rattle.std.proofs.lemmas.Bool.{or_left}
+use Rattle.suites.proofs.HeldLemmas.{IsRanking, held-push, held_behind-settled, clear-none, Settled, settled-held_behind, any_beats, or_first, or_second, or_none, append_nil, by_pushes}
 
 and_first : (a b : Bool) → (a && b) ≡ true → a ≡ true
 and_first true b e = refl
@@ -98,7 +99,7 @@ at_least-trans u v w p q =
 flipped : (a b : ShelfKey) (t : Bool) → same a b ≡ t → same b a ≡ t
 flipped a b t e = same_laws.symm b a ∙ e
 
-true_from_T : (b : Bool) → T b → b ≡ true
+pub true_from_T : (b : Bool) → T b → b ≡ true
 true_from_T true h = refl
 true_from_T false h = absurd h
 

@@ -9,6 +9,7 @@ use Rattle.std.specs.List.{slice_range}
 use Rattle.std.specs.Str.{IsCharBoundary}
 use Rattle.records.specs.Values.{DscValue, SidecarValue}
 use Rattle.vers.specs.Syntax.{without_epoch}
+use Rattle.suites.specs.Told.{deb_file}
 use Rattle.suites.specs.Verdict.{dsc_file, sidecar_file}
 use Rattle.suites.specs.Pool.{front_of, is_continuation, prefix_of, directory_of, pool_path}
 
@@ -55,6 +56,10 @@ path_written component prefix source file e = rw e (simp append_assoc)
 pub dsc_written : (d : DscValue) (source version : List ℕ) → source ≡ d.source → version ≡ without_epoch d.version
     → source ++ (codes "_" ++ (version ++ codes ".dsc")) ≡ dsc_file d
 dsc_written d source version named dated = rw (named, dated) (simp append_assoc)
+
+pub deb_written : (s : SidecarValue) (name version architecture : List ℕ) → name ≡ s.name → version ≡ without_epoch s.version → architecture ≡ s.architecture
+    → name ++ (codes "_" ++ (version ++ (codes "_" ++ (architecture ++ codes ".deb")))) ≡ deb_file s
+deb_written s name version architecture named dated built = rw (named, dated, built) (simp append_assoc)
 
 pub sidecar_written : (s : SidecarValue) (name version architecture : List ℕ) → name ≡ s.name → version ≡ without_epoch s.version → architecture ≡ s.architecture
     → name ++ (codes "_" ++ (version ++ (codes "_" ++ (architecture ++ codes ".control")))) ≡ sidecar_file s

@@ -15,15 +15,30 @@ pub enum Kind {
 }
 
 impl Kind {
-    ghost use Rattle.suites.specs.Keys.{kind_number};
+    ghost use Rattle.suites.specs.Keys.{kind_number, kind_numbered};
 
-    fn number(self) -> u8
+    /// The number of the kind: sources stand before packages.
+    pub fn number(self) -> u64
         ensures { result ≡ kind_number self }
     {
         match self {
             Kind::Source => 0,
             Kind::Binary => 1,
         }
+    }
+
+    /// The kind with a number.
+    #[tactic(auto, unfolding(crate::specs::Keys::kind_numbered))]
+    pub fn with_number(number: u64) -> Option<Kind>
+        ensures { result ≡ kind_numbered number }
+    {
+        if number == 0 {
+            return Some(Kind::Source);
+        }
+        if number == 1 {
+            return Some(Kind::Binary);
+        }
+        None
     }
 }
 

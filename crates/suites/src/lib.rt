@@ -26,5 +26,6 @@ pub use paths::directory;
 pub use plan::{Plan, Reference};
 pub use removal_plan::plan_remove;
 pub use shelves::{SharedFile, Shelves};
+pub use source::{deb_name, dsc_name};
 pub use upload::{Upload, has_text};
 pub use upload_plan::plan_upload;

@@ -2,6 +2,7 @@
 
 ghost use Rattle.std.specs.Prelude.{◌≡◌, ◌||◌, not, filter, string_bytes, IfOk};
 ghost use Rattle.std.specs.List.{list_any, list_all};
+ghost use Rattle.suites.specs.Told.{deb_file};
 ghost use Rattle.suites.specs.Verdict.{is_package_part as is_package_part_name, has_entry, dsc_file, sidecar_file, differs_from_dsc, differs_from_sidecar, is_same_package};
 
 use crate::listing::{has_architecture, is_package_part, lists};
@@ -32,8 +33,8 @@ fn has_source_files(entries: &[Entry], listed: &[Entry]) -> bool
     entries.iter().all(|entry| is_known(listed, entry))
 }
 
-/// The name that the .dsc has by its own fields, `SOURCE_VERSION.dsc`, with the version without its epoch.
-fn dsc_name(alloc: Global, dsc: &Dsc) -> Result<String, AllocError>
+/// The name that a .dsc has by its own fields, `SOURCE_VERSION.dsc`, with the version without its epoch.
+pub fn dsc_name(alloc: Global, dsc: &Dsc) -> Result<String, AllocError>
     ensures { IfOk result (λ text. string_bytes text ≡ dsc_file dsc.now) }
 {
     let source = dsc.source();
@@ -70,6 +71,17 @@ fn sidecar_name(alloc: Global, sidecar: &Sidecar) -> Result<String, AllocError>
     let version = sidecar.version().without_epoch();
     let architecture = sidecar.architecture();
     format!(in alloc; "{package}_{version}_{architecture}.control")
+}
+
+/// The name that a package file has by the fields of its sidecar, `PACKAGE_VERSION_ARCHITECTURE.deb`, with the version
+/// without its epoch.
+pub fn deb_name(alloc: Global, sidecar: &Sidecar) -> Result<String, AllocError>
+    ensures { IfOk result (λ text. string_bytes text ≡ deb_file sidecar.now) }
+{
+    let package = sidecar.package();
+    let version = sidecar.version().without_epoch();
+    let architecture = sidecar.architecture();
+    format!(in alloc; "{package}_{version}_{architecture}.deb")
 }
 
 /// Whether a sidecar of this name is none that the .changes may have: another source, an architecture that the .changes

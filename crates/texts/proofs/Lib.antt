@@ -5,3 +5,7 @@ pub mod Joined
 pub mod Found
 pub mod Fixtures
 pub mod Days
+pub mod Walk
+pub mod Pairs
+pub mod Paths
+pub mod Apart

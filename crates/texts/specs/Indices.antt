@@ -9,9 +9,13 @@ use Rattle.texts.specs.Release.{release_text, indices_of, listed_texts}
 abbrev pub PathText : Type 0
 PathText = List ℕ × List ℕ
 
+-- the path of a file in the folder of the suite with a codename
+abbrev pub path_in : List ℕ → List ℕ → List ℕ
+path_in codename path = codes "dists/" ++ codename ++ codes "/" ++ path
+
 -- the path of a file in the folder of a suite
 abbrev pub suite_path : Suite → List ℕ → List ℕ
-suite_path s path = codes "dists/" ++ s.codename ++ codes "/" ++ path
+suite_path s path = path_in s.codename path
 
 -- the texts of the suite at a position, whose shown items last changed at the date, by their paths from its folder:
 -- Release, and then the others

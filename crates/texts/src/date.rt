@@ -9,6 +9,9 @@ use jiff::civil::DateTime;
 use jiff::tz::Offset;
 use std::alloc::{AllocError, Global};
 
+/// The last moment that may be handed in, 2099-12-31 23:59:59 UTC.
+pub const LATEST: u64 = 4_102_444_799;
+
 /// What a clock at UTC shows that many seconds after 1970-01-01 00:00:00 UTC.
 fn civil_time(moment: u64) -> DateTime
     requires { moment ≤ 4_417_804_799 }

@@ -1,16 +1,17 @@
 //! The indices of a suite, their paths and their texts.
 
-ghost use Rattle.std.specs.Prelude.{◌≡◌, ◌≤◌, ◌<◌, ◌++◌, All, IfOk, OnOk, List, length, map, codes, bytes_eq, option_map, string_bytes};
-ghost use Rattle.std.specs.List.{flat_map};
-ghost use Rattle.texts.specs.Positions.{components_at, architectures_at, component_at, architecture_at, indices_at};
-ghost use Rattle.texts.specs.Release.{index_path, index_of, listed_text, listed_entry, listed_texts, indices_of, release_text};
+ghost use Rattle.std.specs.Prelude.{◌≡◌, ◌≤◌, ◌<◌, ◌++◌, All, IfOk, length, map, codes, bytes_eq, option_map, string_bytes};
+ghost use Rattle.texts.specs.Places.{place_entry, place_path, place_text, places_in};
+ghost use Rattle.texts.specs.Positions.{indices_at};
+ghost use Rattle.texts.specs.Release.{index_path, index_of, listed_text, indices_of, release_text};
 ghost use Rattle.texts.specs.Indices.{text_at, folder_texts, suite_texts, index_text};
 
 use crate::binary_index::push_packages;
-use crate::position::{architecture_name, component_name};
+use crate::date::LATEST;
+use crate::places::{Place, places_of};
 use crate::source_index::push_sources;
 use crate::suite_release::release_text;
-use para::Text;
+use para::{Listed, Text};
 use rules::{Config, Suite};
 use std::alloc::{AllocError, Global};
 use suites::Shelves;
@@ -56,34 +57,17 @@ pub fn listed_text(
     Ok(text)
 }
 
-/// The text of an index other than Release, by its positions in the configuration.
-pub fn rendered_index(
-    alloc: Global,
-    config: &Config,
-    shelves: &Shelves,
-    suite: usize,
-    component: usize,
-    architecture: usize,
-) -> Result<Vec<u8>, AllocError>
-    requires component { component < length (components_at config.now suite) }
-    requires architecture { architecture < length (architectures_at config.now suite) }
-    ensures { IfOk result (λ text. text.items ≡ listed_text shelves.now suite (component_at config.now suite component) (architecture_at config.now suite architecture)) }
-{
-    let component = component_name(config, suite, component);
-    let architecture = architecture_name(config, suite, architecture);
-    listed_text(alloc, shelves, suite, component, architecture)
-}
-
-/// The index of a component and an architecture, of the suite at a position.
+/// The index at a place of the suite at a position.
 fn index_for(
     alloc: Global,
     shelves: &Shelves,
     suite: usize,
-    component: &str,
-    architecture: &str,
+    place: &Place,
 ) -> Result<Index, AllocError>
-    ensures { IfOk result (λ index. index ≡ index_of (listed_entry shelves.now suite component.now architecture.now)) }
+    ensures { IfOk result (λ index. index ≡ index_of (place_entry shelves.now suite place.now)) }
 {
+    let component = place.component.as_str();
+    let architecture = place.architecture.as_str();
     let text = listed_text(alloc, shelves, suite, component, architecture)?;
     let path = index_path(alloc, component, architecture)?;
     Ok(Index {
@@ -92,21 +76,31 @@ fn index_for(
     })
 }
 
-/// Appends the indices of a component.
-fn push_component(
+/// The indices at these places.
+fn indices_for(
     alloc: Global,
     shelves: &Shelves,
     suite: usize,
-    component: &str,
-    architectures: &[Text],
-    indices: &mut Vec<Index>,
-) -> Result<(), AllocError>
-    ensures { OnOk result (indices.new.items ≡ indices.old.items ++ map index_of (map (listed_entry shelves.now suite component.now) architectures.now)) }
+    places: &[Place],
+) -> Result<Vec<Index>, AllocError>
+    ensures { IfOk result (λ indices. indices.items ≡ map (λ p. index_of (place_entry shelves.now suite p)) places.now) }
 {
-    for architecture in architectures {
-        indices.push(index_for(alloc, shelves, suite, component, architecture.as_str())?)?;
+    let mut indices = Vec::new(alloc);
+    for place in places {
+        indices.push(index_for(alloc, shelves, suite, place)?)?;
     }
-    Ok(())
+    Ok(indices)
+}
+
+/// The places of the indices of a suite.
+fn suite_places(alloc: Global, suite: &Suite) -> Result<Listed<Place>, AllocError>
+    ensures { IfOk result (λ places. places ≡ places_in suite.now.components suite.now.architectures) }
+{
+    places_of(
+        alloc,
+        suite.components.as_slice(),
+        suite.architectures.as_slice(),
+    )
 }
 
 /// The indices that the Release of a suite lists; it is the suite at the position.
@@ -118,19 +112,8 @@ fn listed_indices(
 ) -> Result<Vec<Index>, AllocError>
     ensures { IfOk result (λ indices. indices.items ≡ indices_of suite.now shelves.now position) }
 {
-    let architectures = suite.architectures.as_slice();
-    let mut indices = Vec::new(alloc);
-    for component in suite.components.as_slice() {
-        push_component(
-            alloc,
-            shelves,
-            position,
-            component.as_str(),
-            architectures,
-            &mut indices,
-        )?;
-    }
-    Ok(indices)
+    let places = suite_places(alloc, suite)?;
+    indices_for(alloc, shelves, position, places.as_slice())
 }
 
 /// The indices that the Release of a suite lists: for each component in its order, each architecture in its order.
@@ -146,55 +129,45 @@ pub fn indices_of(
     listed_indices(alloc, shelves, suite, &config.suites()[suite])
 }
 
-/// Whether the index of a component and an architecture stands at the path, from the folder of its suite.
-fn is_at(alloc: Global, component: &str, architecture: &str, path: &str) -> Result<bool, AllocError>
-    ensures { IfOk result (λ found. found ≡ bytes_eq (index_path component.now architecture.now) path.now) }
+/// Whether the index of a place stands at the path, from the folder of its suite.
+fn is_at(alloc: Global, place: &Place, path: &str) -> Result<bool, AllocError>
+    ensures { IfOk result (λ found. found ≡ bytes_eq (place_path place.now) path.now) }
 {
-    let own = index_path(alloc, component, architecture)?;
+    let own = index_path(alloc, place.component.as_str(), place.architecture.as_str())?;
     Ok(own.as_str() == path)
 }
 
-/// The text at a path from the folder of the suite, if an index of the component stands there.
-fn text_in_component(
+/// The text of the index at a place of the suite at a position.
+fn place_text(
     alloc: Global,
     shelves: &Shelves,
     suite: usize,
-    component: &str,
-    architectures: &[Text],
-    path: &str,
-) -> Result<Option<Vec<u8>>, AllocError>
-    ensures { IfOk result (λ text. option_map (λ v. v.items) text ≡ text_at path.now (map (listed_entry shelves.now suite component.now) architectures.now)) }
+    place: &Place,
+) -> Result<Vec<u8>, AllocError>
+    ensures { IfOk result (λ text. text.items ≡ place_text shelves.now suite place.now) }
 {
-    for architecture in architectures {
-        let architecture = architecture.as_str();
-        if is_at(alloc, component, architecture, path)? {
-            let text = listed_text(alloc, shelves, suite, component, architecture)?;
-            return Ok(Some(text));
-        }
-    }
-    Ok(None)
+    listed_text(
+        alloc,
+        shelves,
+        suite,
+        place.component.as_str(),
+        place.architecture.as_str(),
+    )
 }
 
-/// The text at a path from the folder of the suite, if an index of the components stands there.
-fn text_in_components(
+/// The text at a path from the folder of the suite, if the index of one of these places stands there.
+fn text_among(
     alloc: Global,
     shelves: &Shelves,
     suite: usize,
-    components: &[Text],
-    architectures: &[Text],
+    places: &[Place],
     path: &str,
 ) -> Result<Option<Vec<u8>>, AllocError>
-    ensures { IfOk result (λ text. option_map (λ v. v.items) text ≡ text_at path.now (flat_map (λ c. map (listed_entry shelves.now suite c) architectures.now) components.now)) }
+    ensures { IfOk result (λ text. option_map (λ v. v.items) text ≡ text_at path.now (map (place_entry shelves.now suite) places.now)) }
 {
-    for component in components {
-        if let Some(text) = text_in_component(
-            alloc,
-            shelves,
-            suite,
-            component.as_str(),
-            architectures,
-            path,
-        )? {
+    for place in places {
+        if is_at(alloc, place, path)? {
+            let text = place_text(alloc, shelves, suite, place)?;
             return Ok(Some(text));
         }
     }
@@ -209,7 +182,7 @@ fn rendered_release(
     suite: &Suite,
     date: u64,
 ) -> Result<Vec<u8>, AllocError>
-    requires { date ≤ 4_102_444_799 }
+    requires { date ≤ LATEST }
     ensures { IfOk result (λ text. text.items ≡ release_text suite.now date (indices_of suite.now shelves.now position)) }
 {
     let indices = listed_indices(alloc, shelves, position, suite)?;
@@ -232,21 +205,15 @@ fn text_in_folder(
     date: u64,
     path: &str,
 ) -> Result<Option<Vec<u8>>, AllocError>
-    requires { date ≤ 4_102_444_799 }
+    requires { date ≤ LATEST }
     ensures { IfOk result (λ text. option_map (λ v. v.items) text ≡ text_at path.now (folder_texts shelves.now position suite.now date)) }
 {
     if path == "Release" {
         let text = rendered_release(alloc, shelves, position, suite, date)?;
         return Ok(Some(text));
     }
-    text_in_components(
-        alloc,
-        shelves,
-        position,
-        suite.components.as_slice(),
-        suite.architectures.as_slice(),
-        path,
-    )
+    let places = suite_places(alloc, suite)?;
+    text_among(alloc, shelves, position, places.as_slice(), path)
 }
 
 /// The text at a path, if an index of the suite stands there.
@@ -258,7 +225,7 @@ fn suite_text(
     date: u64,
     path: &str,
 ) -> Result<Option<Vec<u8>>, AllocError>
-    requires { date ≤ 4_102_444_799 }
+    requires { date ≤ LATEST }
     ensures { IfOk result (λ text. option_map (λ v. v.items) text ≡ text_at path.now (suite_texts shelves.now position suite.now date)) }
 {
     let folder = suite_folder(alloc, suite.codename.as_str())?;
@@ -277,7 +244,7 @@ pub fn index_text(
     dates: &[u64],
     path: &str,
 ) -> Result<Option<Vec<u8>>, AllocError>
-    requires { All (λ date. date ≤ 4_102_444_799) dates.now }
+    requires { All (λ date. date ≤ LATEST) dates.now }
     ensures { IfOk result (λ text. option_map (λ v. v.items) text ≡ index_text config.now shelves.now dates.now path.now) }
 {
     let suites = config.suites();

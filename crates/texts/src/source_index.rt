@@ -95,8 +95,8 @@ fn push_directory(
     push_line_field("Directory", folder.as_str(), out)
 }
 
-/// What follows the last slash of a path.
-fn file_name(path: &str) -> &str
+/// The name of a file in its folder: what follows the last slash of its path.
+pub fn file_name(path: &str) -> &str
     ensures { result.now ≡ file_name path.now }
 {
     match path.rsplit_once('/') {

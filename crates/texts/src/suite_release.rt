@@ -8,7 +8,7 @@ ghost use Rattle.texts.specs.Positions.{release_at};
 ghost use Rattle.texts.specs.Stanzas.{line_field, list_line};
 ghost use Rattle.texts.specs.Release.{optional_field, index_list, valid_until, is_source, architectures_text, suite_fields, index_lists, release_text};
 
-use crate::date::date_text;
+use crate::date::{LATEST, date_text};
 use crate::index::Index;
 use crate::stanza::{Digest, push_line_field, push_list_line};
 use para::Text;
@@ -112,7 +112,7 @@ fn push_lists(alloc: Global, indices: &[Index], out: &mut Vec<u8>) -> Result<(),
 
 /// Appends the field Date.
 fn push_date(alloc: Global, moment: u64, out: &mut Vec<u8>) -> Result<(), AllocError>
-    requires { moment ≤ 4_102_444_799 }
+    requires { moment ≤ LATEST }
     ensures { OnOk result (out.new.items ≡ out.old.items ++ field_text (line_field (codes "Date") (date_text moment))) }
 {
     let date = date_text(alloc, moment)?;
@@ -121,7 +121,7 @@ fn push_date(alloc: Global, moment: u64, out: &mut Vec<u8>) -> Result<(), AllocE
 
 /// Appends the field Valid-Until.
 fn push_end(alloc: Global, moment: u64, days: Days, out: &mut Vec<u8>) -> Result<(), AllocError>
-    requires { moment ≤ 4_102_444_799 }
+    requires { moment ≤ LATEST }
     ensures { OnOk result (out.new.items ≡ out.old.items ++ field_text (line_field (codes "Valid-Until") (date_text (moment + days * 86400)))) }
 {
     let date = date_text(alloc, moment + days.seconds())?;
@@ -136,7 +136,7 @@ fn push_valid_until(
     moment: u64,
     out: &mut Vec<u8>,
 ) -> Result<(), AllocError>
-    requires { moment ≤ 4_102_444_799 }
+    requires { moment ≤ LATEST }
     ensures { OnOk result (out.new.items ≡ out.old.items ++ paragraph_text (valid_until suite.now moment)) }
 {
     match suite.valid_days {
@@ -168,7 +168,7 @@ fn push_suite(
     moment: u64,
     out: &mut Vec<u8>,
 ) -> Result<(), AllocError>
-    requires { moment ≤ 4_102_444_799 }
+    requires { moment ≤ LATEST }
     ensures { OnOk result (out.new.items ≡ out.old.items ++ paragraph_text (suite_fields suite.now moment)) }
 {
     push_optional("Origin", &suite.origin, out)?;
@@ -189,7 +189,7 @@ pub fn release_text(
     moment: u64,
     indices: &[Index],
 ) -> Result<Vec<u8>, AllocError>
-    requires { moment ≤ 4_102_444_799 }
+    requires { moment ≤ LATEST }
     ensures { IfOk result (λ text. text.items ≡ release_text suite.now moment indices.now) }
 {
     let mut text = Vec::new(alloc);
@@ -211,7 +211,7 @@ pub fn release(
     out: &mut Vec<u8>,
 ) -> Result<(), AllocError>
     requires suite { suite < length config.now.suites }
-    requires moment { moment ≤ 4_102_444_799 }
+    requires moment { moment ≤ LATEST }
     ensures ok { OnOk result (out.new.items ≡ out.old.items ++ release_at config.now suite moment indices.now) }
     ensures err { OnErr result (out.new.items ≡ out.old.items) }
 {

@@ -3,7 +3,7 @@ use Rattle.std.proofs.Props.{props}
 use Rattle.std.proofs.Math.Logic.{∥∥₁_elim}
 use Rattle.suites.specs.Pool.{files_of}
 use Rattle.std.specs.FinMap.{values}
-use Rattle.keep.specs.Book.{Book, dates_past, judgements, shown_past}
+use Rattle.keep.specs.Book.{Book, dates_past, judgements, latest, shown_past}
 use Rattle.keep.specs.Keeping.{AreSteps}
 use Rattle.keep.specs.Plain.{plain_book}
 use Rattle.keep.specs.Scan.{PoolHas}
@@ -18,7 +18,7 @@ unfolding plain_book
 shelves_after-requires c = subst (AreSteps c.args.self.now.shelves) (sym c.as_slice-steps.ensures) (c.requires.sound tt tt).plans
 
 pub dates_after-requires-clause-dates : goal.dates_after-requires-clause-dates
-dates_after-requires-clause-dates c = subst (All (λ date. date ≤ 4102444799)) (sym c.deref.ensures.value) (λ k d h. ∥∥₁_elim c.args.self.now.in_range (search props) (λ all. all k d h))
+dates_after-requires-clause-dates c = subst (All (λ date. date ≤ latest)) (sym c.deref.ensures.value) (λ k d h. ∥∥₁_elim c.args.self.now.in_range (search props) (λ all. all k d h))
 
 pub returns-in_err-judged-clause-err : goal.returns-in_err-judged-clause-err
 unfolding plain_book

@@ -1,7 +1,0 @@
-use Rattle.std.proofs.Common.{◌≡◌, drop, find}
-use Rattle.keep.specs.Scan.{counted, is_arrival_of}
-use Rattle.keep.proofs.scan.current_arrival.Given as goal
-
-abbrev pub invariant-loop-arrival : goal.invariant-loop-arrival
-invariant-loop-arrival l =
-    find (is_arrival_of l.name l.print) (counted l.counting (drop l.arrival-index l.arrivals)) ≡ find (is_arrival_of l.name l.print) (counted l.counting l.arrivals)

@@ -1,8 +1,0 @@
-use Rattle.std.proofs.Common.{rules}
-use Rattle.std.proofs.lemmas.Fn.{filter_same}
-use Rattle.keep.specs.Book.{current}
-use Rattle.keep.proofs.scan.remove_ended.Goals as goal
-
-pub returns-clause-left : goal.returns-clause-left
-unfolding current
-returns-clause-left c = filter_same _ _ _ (λ x b f' k. search rules) _ _ c.retain.ensures.filtered

@@ -1,0 +1,7 @@
+use Rattle.std.proofs.Common.{◌≡◌, map, take}
+use Rattle.keep.specs.Scan.{candidate_view, counted, waiting_of}
+use Rattle.keep.proofs.uploads.waiting_uploads.Given as goal
+
+abbrev pub invariant-loop-candidate : goal.invariant-loop-candidate
+invariant-loop-candidate l =
+    l.waiting.items ≡ map (waiting_of (counted l.counting l.arrivals)) (map candidate_view (take l.candidate-index l.candidate-items))

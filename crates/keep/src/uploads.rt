@@ -1,0 +1,298 @@
+//! The uploads of the plain keeper's arrivals that have no verdict, in the order of judging.
+
+ghost use Rattle.std.specs.Prelude.{◌≡◌, ◌≤◌, true, ◌++◌, [], ◌∷◌, length, List, map, filter, take, drop, not, IfOk, OnOk, if◌then◌else◌};
+ghost use Rattle.std.specs.List.{list_all};
+ghost use Rattle.std.specs.Option.{option_map};
+ghost use Rattle.std.specs.Ordering.{is_gt};
+ghost use Rattle.std.specs.Result.{result_ok};
+ghost use Rattle.records.specs.Records.{changes_in as record_in};
+ghost use Rattle.suites.specs.Upload.{has_text as keeps_text};
+ghost use Rattle.keep.specs.Book.{body_for, candidate_of, candidate_order, is_changes_name, is_complete, is_there as has_come, judging_order as order_of, put_in_order, upload_of as upload_at};
+ghost use Rattle.keep.specs.declared.arrival.Arrival.{Arrival as ArrivalValue};
+ghost use Rattle.keep.specs.Scan.{candidate_view, counted, has_judgement, unjudged_in, waiting_of};
+
+use crate::arrival::{Arrival, Counting, current_arrival, has_current};
+use crate::candidate::Candidate;
+use crate::change::{Judgement, Waiting};
+use para::Listed;
+use records::{Changes, RecordFault};
+use std::alloc::{AllocError, Global};
+use std::cmp::Ordering;
+use suites::{Upload, has_text};
+use sums::{Entry, Print};
+
+/// The bytes of a list in a list of their own.
+pub fn copied(alloc: Global, bytes: &[u8]) -> Result<Listed<u8>, AllocError>
+    ensures { IfOk result (λ copy. copy ≡ bytes.now) }
+{
+    Ok(Listed::from_vec(Vec::from_slice(alloc, bytes)?))
+}
+
+/// Whether a body of the listed file has arrived and counts.
+#[tactic(auto, unfolding(crate::specs::Book::is_there, crate::specs::Book::is_body_of))]
+fn is_there(arrivals: &[Arrival], counting: Counting, entry: &Entry) -> bool
+    ensures { result ≡ has_come (counted counting arrivals.now) entry.now }
+{
+    has_current(arrivals, counting, entry.name.as_str(), entry.print)
+}
+
+/// How many of the listed files have not arrived, or count no more.
+fn missing_count(arrivals: &[Arrival], counting: Counting, entries: &[Entry]) -> usize
+    ensures { result ≡ length (filter (λ e. not (has_come (counted counting arrivals.now) e)) entries.now) }
+{
+    let mut count = 0;
+    for entry in entries {
+        if !is_there(arrivals, counting, entry) {
+            count += 1;
+        }
+    }
+    count
+}
+
+/// Whether each of the listed files has arrived and counts.
+fn are_there(arrivals: &[Arrival], counting: Counting, entries: &[Entry]) -> bool
+    ensures { result ≡ list_all (has_come (counted counting arrivals.now)) entries.now }
+{
+    for entry in entries {
+        if !is_there(arrivals, counting, entry) {
+            return false;
+        }
+    }
+    true
+}
+
+/// Whether the judgement is that of the .changes.
+fn is_judgement_of(one: &Judgement, changes: &Arrival) -> bool
+    ensures { result ≡ has_judgement changes.now.name changes.now.body (one.now ∷ []) }
+{
+    if one.name.as_str() != changes.name.as_str() {
+        return false;
+    }
+    one.print == changes.body.print()
+}
+
+/// Whether the .changes has a verdict.
+fn is_judged(judged: &[Judgement], changes: &Arrival) -> bool
+    ensures { result ≡ has_judgement changes.now.name changes.now.body judged.now }
+{
+    for one in judged {
+        if is_judgement_of(one, changes) {
+            return true;
+        }
+    }
+    false
+}
+
+/// The record that a text is, or nothing where it is none.
+fn changes_in(alloc: Global, text: &[u8]) -> Result<Option<Changes>, AllocError>
+    ensures { IfOk result (λ changes. changes ≡ result_ok (record_in text.now)) }
+{
+    match Changes::read(alloc, text) {
+        Ok(changes) => Ok(Some(changes)),
+        Err(RecordFault::OutOfMemory) => Err(AllocError),
+        Err(_) => Ok(None),
+    }
+}
+
+/// Whether the arrival has the name of a .changes.
+#[tactic(auto, unfolding(crate::specs::Book::is_changes_name))]
+fn is_changes(arrival: &Arrival) -> bool
+    ensures { result ≡ is_changes_name arrival.now.name }
+{
+    arrival.name.as_str().as_bytes().ends_with(b".changes")
+}
+
+/// The .changes that an arrival is, or nothing where it is none.
+#[tactic(auto, unfolding(crate::specs::Book::candidate_of, crate::specs::Book::is_changes_name))]
+fn read_candidate(alloc: Global, arrival: &Arrival) -> Result<Option<Candidate<'_>>, AllocError>
+    ensures { IfOk result (λ found. option_map candidate_view found ≡ candidate_of arrival.now) }
+{
+    if !arrival.name.as_str().as_bytes().ends_with(b".changes") {
+        return Ok(None);
+    }
+    match changes_in(alloc, arrival.body.as_slice())? {
+        Some(changes) => Ok(Some(Candidate { arrival, changes })),
+        None => Ok(None),
+    }
+}
+
+/// The order of judging, of two uploads by the names and the prints of their .changes: by the bytes of the names, then by
+/// SHA-256, SHA-1, MD5 and size.
+#[tactic(auto, unfolding(crate::specs::Book::judging_order))]
+pub fn judging_order(name: &str, print: &Print, other_name: &str, other_print: &Print) -> Ordering
+    ensures { result ≡ order_of (name.now, print.now) (other_name.now, other_print.now) }
+{
+    name.cmp(other_name)
+        .then(print.sha256.cmp(&other_print.sha256))
+        .then(print.sha1.cmp(&other_print.sha1))
+        .then(print.md5.cmp(&other_print.md5))
+        .then(print.size.cmp(&other_print.size))
+}
+
+/// The same of two .changes that arrived.
+fn candidate_order(a: &Candidate<'_>, b: &Candidate<'_>) -> Ordering
+    ensures { result ≡ candidate_order (candidate_view a.now) (candidate_view b.now) }
+{
+    let (first, second) = (a.arrival.body.print(), b.arrival.body.print());
+    judging_order(
+        a.arrival.name.as_str(),
+        &first,
+        b.arrival.name.as_str(),
+        &second,
+    )
+}
+
+/// Where another .changes stands among these, which are in order: before those that tie with it.
+fn place(found: &[Candidate<'_>], other: &Candidate<'_>) -> usize
+    ensures within { result ≤ length found.now }
+    ensures placed { put_in_order (candidate_view other.now) (map candidate_view found.now)
+        ≡ map candidate_view (take result found.now) ++ candidate_view other.now ∷ map candidate_view (drop result found.now) }
+{
+    for (index, one) in found.iter().enumerate() {
+        if !candidate_order(other, one).is_gt() {
+            return index;
+        }
+    }
+    found.len()
+}
+
+/// Adds the .changes that an arrival is, where it counts and is one without a verdict, in its place among those of the
+/// arrivals behind it.
+fn add_unjudged<'a>(
+    alloc: Global,
+    found: &mut Vec<Candidate<'a>>,
+    arrival: &'a Arrival,
+    counting: Counting,
+    judged: &[Judgement],
+) -> Result<(), AllocError>
+    ensures { OnOk result ((rest : List ArrivalValue) → map candidate_view found.old.items ≡ unjudged_in (counted counting rest) judged.now
+        → map candidate_view found.new.items ≡ unjudged_in (counted counting (arrival.now ∷ rest)) judged.now) }
+{
+    if !counting.counts(arrival) {
+        return Ok(());
+    }
+    if !is_changes(arrival) {
+        return Ok(());
+    }
+    if is_judged(judged, arrival) {
+        return Ok(());
+    }
+    if let Some(one) = read_candidate(alloc, arrival)? {
+        let place = place(found, &one);
+        found.insert(place, one)?;
+    }
+    Ok(())
+}
+
+/// The uploads without a verdict whose .changes counts, in the order of judging.
+#[tactic(auto, unfolding(crate::specs::Book::current))]
+fn unjudged<'a>(
+    alloc: Global,
+    arrivals: &'a [Arrival],
+    counting: Counting,
+    judged: &[Judgement],
+) -> Result<Vec<Candidate<'a>>, AllocError>
+    ensures { IfOk result (λ found. map candidate_view found.items ≡ unjudged_in (counted counting arrivals.now) judged.now) }
+{
+    let mut found = Vec::new(alloc);
+    let mut left = arrivals.len();
+    while left > 0 {
+        left -= 1;
+        add_unjudged(alloc, &mut found, &arrivals[left], counting, judged)?;
+    }
+    Ok(found)
+}
+
+/// The text that an upload keeps of a listed file: the body that arrived, of a .dsc or a sidecar.
+#[tactic(auto, unfolding(crate::specs::Book::body_for, crate::specs::Book::is_body_of))]
+fn kept_text(
+    alloc: Global,
+    arrivals: &[Arrival],
+    counting: Counting,
+    entry: &Entry,
+) -> Result<Listed<u8>, AllocError>
+    ensures { IfOk result (λ text. text ≡ (if keeps_text entry.now.name then body_for (counted counting arrivals.now) entry.now else [])) }
+{
+    if !has_text(entry.name.as_str()) {
+        return Ok(Listed::from_vec(Vec::new(alloc)));
+    }
+    match current_arrival(arrivals, counting, entry.name.as_str(), entry.print) {
+        Some(arrival) => copied(alloc, arrival.body.as_slice()),
+        None => Ok(Listed::from_vec(Vec::new(alloc))),
+    }
+}
+
+/// The text that is kept for each of these entries.
+fn kept_texts(
+    alloc: Global,
+    arrivals: &[Arrival],
+    counting: Counting,
+    entries: &[Entry],
+) -> Result<Vec<Listed<u8>>, AllocError>
+    ensures { IfOk result (λ texts.
+        texts.items ≡ map (λ e. if keeps_text e.name then body_for (counted counting arrivals.now) e else []) entries.now) }
+{
+    let mut texts = Vec::new(alloc);
+    for entry in entries {
+        texts.push(kept_text(alloc, arrivals, counting, entry)?)?;
+    }
+    Ok(texts)
+}
+
+/// The upload of a .changes all of whose files have arrived and count.
+fn upload_of(
+    alloc: Global,
+    arrivals: &[Arrival],
+    counting: Counting,
+    candidate: Candidate<'_>,
+) -> Result<Upload, AllocError>
+    requires { is_complete (counted counting arrivals.now) (candidate_view candidate) ≡ true }
+    ensures { IfOk result (λ upload. upload ≡ upload_at (counted counting arrivals.now) (candidate_view candidate.entry)) }
+{
+    let texts = kept_texts(alloc, arrivals, counting, candidate.changes.entries())?;
+    let name = candidate.arrival.name.try_clone()?;
+    let print = candidate.arrival.body.print();
+    Ok(Upload::new(name, print, candidate.changes, texts))
+}
+
+/// The uploads without a verdict of whose entries all have arrived, in the order of judging, among the arrivals that count.
+pub fn complete_uploads(
+    alloc: Global,
+    arrivals: &[Arrival],
+    counting: Counting,
+    judged: &[Judgement],
+) -> Result<Vec<Upload>, AllocError>
+    ensures { IfOk result (λ uploads. uploads.items
+        ≡ map (upload_at (counted counting arrivals.now))
+        (filter (is_complete (counted counting arrivals.now)) (unjudged_in (counted counting arrivals.now) judged.now))) }
+{
+    let mut uploads = Vec::new(alloc);
+    for candidate in unjudged(alloc, arrivals, counting, judged)? {
+        if are_there(arrivals, counting, candidate.changes.entries()) {
+            uploads.push(upload_of(alloc, arrivals, counting, candidate)?)?;
+        }
+    }
+    Ok(uploads)
+}
+
+/// The uploads without a verdict, in the order of judging, each with the number of its entries that have not arrived, among
+/// the arrivals that count.
+pub fn waiting_uploads(
+    alloc: Global,
+    arrivals: &[Arrival],
+    counting: Counting,
+    judged: &[Judgement],
+) -> Result<Vec<Waiting>, AllocError>
+    ensures { IfOk result (λ waiting. waiting.items
+        ≡ map (waiting_of (counted counting arrivals.now)) (unjudged_in (counted counting arrivals.now) judged.now)) }
+{
+    let found = unjudged(alloc, arrivals, counting, judged)?;
+    let mut waiting = Vec::new(alloc);
+    for candidate in &found {
+        waiting.push(Waiting {
+            name: candidate.arrival.name.try_clone()?,
+            missing: missing_count(arrivals, counting, candidate.changes.entries()),
+        })?;
+    }
+    Ok(waiting)
+}

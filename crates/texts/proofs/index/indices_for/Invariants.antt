@@ -1,0 +1,7 @@
+use Rattle.std.proofs.Common.{◌≡◌, map, take}
+use Rattle.texts.specs.Places.{place_entry}
+use Rattle.texts.specs.Release.{index_of}
+use Rattle.texts.proofs.index.indices_for.Given as goal
+
+abbrev pub invariant-loop-place : goal.invariant-loop-place
+invariant-loop-place l = l.indices.items ≡ map (λ p. index_of (place_entry l.shelves l.suite p)) (take l.place-index l.places)
