@@ -6,7 +6,7 @@ use Rattle.std.specs.Ordering.{is_gt}
 use Rattle.std.specs.Result.{result_ok}
 use Rattle.std.proofs.Math.Seq.{drop-append_seam}
 use Rattle.std.proofs.lemmas.Option.{same_Some}
-use Rattle.keep.specs.Book.{Book, Candidate, amended, at_moment, candidate_of, candidates, due, in_order, is_changes_name, is_complete, judgements, judging_order, latest, put_in_order, span, upload_of}
+use Rattle.keep.specs.Book.{Book, Candidate, amended, at_moment, candidate_of, candidates, due, in_order, is_changes_name, is_complete, judgements, candidate_order, latest, put_in_order, span, upload_of}
 use Rattle.keep.specs.Keeping.{HasEachBody, NoCollision}
 use Rattle.keep.specs.declared.arrival.Arrival.{Arrival}
 use Rattle.keep.specs.declared.change.Step.{Step}
@@ -15,6 +15,7 @@ use Rattle.records.specs.Records.{changes_in}
 use Rattle.records.specs.Values.{ChangesValue}
 use Rattle.rules.specs.Values.{ConfigValue}
 use Rattle.sums.proofs.Members.{here, there, which, no_member}
+use Rattle.suites.proofs.ListMembers.{from_filter}
 use Rattle.suites.specs.Items.{Admitted, FileWith}
 use Rattle.suites.specs.Pool.{AreAgreed, files_of}
 use Rattle.suites.specs.Shelves.{AreSound}
@@ -27,7 +28,7 @@ use Rattle.queue.specs.Histories as histories
 use Rattle.queue.specs.Judging.{AreJudged}
 use Rattle.queue.proofs.Contents.{AreMadeOf}
 use Rattle.queue.proofs.ContentsWhole.{whole_of-arrived, whole_of-bodies, whole_of-brought}
-use Rattle.queue.proofs.ItemPrintsFiles.{from_filter, from_filter_map}
+use Rattle.queue.proofs.ItemPrintsFiles.{from_filter_map}
 use Rattle.queue.proofs.Judged.{due_faithful}
 use Rattle.queue.proofs.Kept.{stands_kept}
 use Rattle.queue.proofs.Known.{ItemHas, ItemsHave, archive_has, faithful_knows, has_empty, known, with_empty}
@@ -48,7 +49,7 @@ AreDue arrivals cs = (c : Candidate) → Contains cs c → IsDue arrivals c
 
 put_member : (c x : Candidate) (ds : List Candidate) → Contains (put_in_order c ds) x → (c ≡ x) ⊎ Contains ds x
 put_member c x [] at = which c x [] at
-put_member c x (d ∷ ds) at = by_case (is_gt (judging_order c d)) at (put_member c x ds)
+put_member c x (d ∷ ds) at = by_case (is_gt (candidate_order c d)) at (put_member c x ds)
   where
     by_case : (b : Bool) → Contains (cond b (d ∷ put_in_order c ds) (c ∷ d ∷ ds)) x → (Contains (put_in_order c ds) x → (c ≡ x) ⊎ Contains ds x) → (c ≡ x) ⊎ Contains (d ∷ ds) x
     by_case true at more = elim (which d x (put_in_order c ds) at) [

@@ -48,7 +48,7 @@ allowed : (may_fail : Bool) (h : History) (call : Call) (fault : KeepFault) → 
 allowed may_fail h call keep_faults.OutOfMemory may free = tt
 allowed may_fail h call keep_faults.Disk may free = (may, tt, free)
 allowed may_fail h call keep_faults.Size may free = (may, tt, free)
-allowed may_fail h call keep_faults.Tables may free = absurd may
+allowed may_fail h call keep_faults.NoArchive may free = absurd may
 allowed may_fail h call keep_faults.Configuration may free = absurd may
 
 -- where a keeper refuses, the archive's fault may stand in the answer's place
@@ -67,7 +67,7 @@ keepers_of : (may_fail : Bool) (free : Type 0) (fault : KeepFault) → MayAnswer
 keepers_of may_fail free keep_faults.OutOfMemory may here = tt
 keepers_of may_fail free keep_faults.Disk may here = (may, tt, here)
 keepers_of may_fail free keep_faults.Size may here = (may, tt, here)
-keepers_of may_fail free keep_faults.Tables may here = absurd may
+keepers_of may_fail free keep_faults.NoArchive may here = absurd may
 keepers_of may_fail free keep_faults.Configuration may here = absurd may
 
 -- what a keeper refuses is a refusal of its own, and so is want of memory

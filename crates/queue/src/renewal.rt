@@ -10,7 +10,8 @@ ghost use Rattle.sums.specs.Prints.{print};
 ghost use Rattle.texts.specs.Positions.{release_at};
 ghost use Rattle.texts.specs.Release.{index_of};
 ghost use Rattle.queue.specs.Steps.{Reads};
-ghost use Rattle.queue.specs.Renewal.{changes_index, folder_of, index_after, index_with, is_listed, path_in, place_at, place_path, place_text, places_in, print_kept, renewed_at, renewed_folder, renewed_from, renewed_index, renewed_suite, some_changes_index, text_after};
+ghost use Rattle.queue.specs.Renewal.{changes_index, folder_of, index_after, index_with, is_listed, path_in, print_kept, renewed_at, renewed_folder, renewed_from, renewed_index, renewed_suite, some_changes_index, text_after};
+ghost use Rattle.texts.specs.Places.{place_at, place_path, place_text, places_in};
 
 use crate::printed::{PrintedText, print_next};
 use keep::{IndexText, KeepFault, Keeper, Step, some_changes_suite};
@@ -19,14 +20,9 @@ use rules::Suite;
 use std::alloc::{AllocError, Global};
 use suites::{Item, Plan, ShelfKey, Shelves};
 use sums::{Print, print_of};
-use texts::{Index, index_path, listed_text, lists_package, lists_source, release};
-
-/// What tells an index of a suite from its others.
-#[derive(Drop)]
-pub struct Place {
-    pub component: Text,
-    pub architecture: Text,
-}
+use texts::{
+    Index, Place, index_path, listed_text, lists_package, lists_source, path_in, places_of, release,
+};
 
 /// A suite as its paths name it: its position in the configuration, its codename, and the places of its indices.
 #[derive(Drop)]
@@ -34,39 +30,6 @@ pub struct Folder {
     pub suite: usize,
     pub codename: Text,
     pub places: Listed<Place>,
-}
-
-/// Appends the places of a component.
-fn push_places(
-    alloc: Global,
-    component: &str,
-    architectures: &[Text],
-    places: &mut Vec<Place>,
-) -> Result<(), AllocError>
-    ensures { OnOk result (places.new.items ≡ places.old.items ++ map (place_at component.now) architectures.now) }
-{
-    for architecture in architectures {
-        places.push(Place {
-            component: Text::new(alloc, component)?,
-            architecture: architecture.try_clone()?,
-        })?;
-    }
-    Ok(())
-}
-
-/// The places of a suite's indices: for each component in its order, each architecture in its order.
-fn places_of(
-    alloc: Global,
-    components: &[Text],
-    architectures: &[Text],
-) -> Result<Listed<Place>, AllocError>
-    ensures { IfOk result (λ places. places ≡ places_in components.now architectures.now) }
-{
-    let mut places = Vec::new(alloc);
-    for component in components {
-        push_places(alloc, component.as_str(), architectures, &mut places)?;
-    }
-    Ok(Listed::from_vec(places))
 }
 
 /// The folder of the suite at a position.
@@ -85,11 +48,10 @@ fn folder_of(alloc: Global, position: usize, suite: &Suite) -> Result<Folder, Al
 }
 
 /// The path of a text of the suite, without a leading slash.
-fn path_in(alloc: Global, folder: &Folder, path: &str) -> Result<String, AllocError>
+fn path_of(alloc: Global, folder: &Folder, path: &str) -> Result<String, AllocError>
     ensures { IfOk result (λ whole. string_bytes whole ≡ path_in folder.now path.now) }
 {
-    let codename = folder.codename.as_str();
-    format!(in alloc; "dists/{codename}/{path}")
+    path_in(alloc, folder.codename.as_str(), path)
 }
 
 /// Whether the index of a suite's place lists the item, which stands on the shelf.
@@ -218,7 +180,7 @@ fn renew_index<K: Keeper>(
     let component = place.component.as_str();
     let architecture = place.architecture.as_str();
     let path = index_path(alloc, component, architecture)?;
-    let whole = path_in(alloc, folder, path.as_str())?;
+    let whole = path_of(alloc, folder, path.as_str())?;
     if !some_changes_index(amendment.steps, folder.suite, place) {
         return index_kept(alloc, keeper, path, whole);
     }
@@ -280,7 +242,7 @@ fn renew_folder<K: Keeper>(
     ensures texts { K.is_clean keeper.new → OnOk result (texts.new.items ≡ texts.old.items ++ renewed_folder (text_at (K.book keeper.old)) amendment.now.shelves.now amendment.now.steps.now folder.now (release_at (K.book keeper.old).config folder.now.suite amendment.now.moment)) }
     ensures cause { IfErr result (MayAnswer K.may_fail) }
 {
-    let path = path_in(alloc, folder, "Release")?;
+    let path = path_of(alloc, folder, "Release")?;
     if keeper.text(alloc, path.as_str())?.is_none() {
         return Ok(());
     }
