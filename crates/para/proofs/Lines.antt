@@ -1,5 +1,6 @@
 -- Single lines: names, blanks and what is left without them.
-use Rattle.std.proofs.Common.{◌≡◌, ℕ, suc, ◌+◌, Bool, true, false, not, ◌&&◌, ◌||◌, List, [], ◌∷◌, ◌++◌, length, take, drop, reverse, refl, sym, ◌∙◌, ap, subst, arith, if◌then◌else◌, cond}
+use Rattle.std.proofs.Common.{◌≡◌, ℕ, suc, ◌+◌, Bool, true, false, not, ◌||◌, List, [], ◌∷◌, ◌++◌, length, take, drop, reverse, refl, sym, ◌∙◌, ap, subst, arith, if◌then◌else◌, cond}
+use Rattle.std.proofs.lemmas.Bool.{and_parts}
 use Rattle.std.proofs.lemmas.Bool.Decides.{nat_tests}
 use Rattle.std.proofs.lemmas.List.{append_assoc, reverse-append, reverse-reverse, take_at, drop_at}
 use Rattle.std.proofs.lemmas.List.Folds.{list_any-append}
@@ -13,10 +14,6 @@ use Rattle.para.specs.Reading.{skip_blanks, trim_end, trim_last, trimmed}
 pub or_false : (a b : Bool) → (a || b) ≡ false → (a ≡ false) × (b ≡ false)
 or_false true b h = absurd (cc)
 or_false false b h = (refl, h)
-
-pub and_true : (a b : Bool) → (a && b) ≡ true → (a ≡ true) × (b ≡ true)
-and_true true b h = (refl, h)
-and_true false b h = absurd (cc)
 
 pub not_true : (a : Bool) → not a ≡ true → a ≡ false
 not_true true h = absurd (cc)
@@ -94,7 +91,7 @@ content-trim_end line h =
 -- ---- names
 pub no_colon : (name : List ℕ) → list_all is_name_byte name ≡ true → list_any is_colon name ≡ false
 no_colon [] h = refl
-no_colon (b ∷ bs) h = let r = and_true (is_name_byte b) (list_all is_name_byte bs) h in
+no_colon (b ∷ bs) h = let r = and_parts (is_name_byte b) (list_all is_name_byte bs) h in
     ap (λ t. t || list_any is_colon bs) (name_byte-colon b r.0) ∙ no_colon bs r.1
   where
     name_byte-colon : (c : ℕ) → is_name_byte c ≡ true → is_colon c ≡ false

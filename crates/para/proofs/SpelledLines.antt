@@ -1,5 +1,6 @@
 -- Lines that spell paragraphs have no fault, and are read as those.
 use Rattle.std.proofs.Common.{◌≡◌, ◌≢◌, ℕ, ◌+◌, Bool, true, false, not, ◌||◌, List, [], ◌∷◌, ◌++◌, map, None, refl, sym, ◌∙◌, ap, subst, arith}
+use Rattle.std.proofs.lemmas.Bool.{and_parts}
 use Rattle.std.proofs.lemmas.Bool.Decides.{nat_tests}
 use Rattle.std.proofs.lemmas.List.{append-nil, append_assoc}
 use Rattle.std.proofs.lemmas.List.Folds.{list_any-append}
@@ -10,7 +11,7 @@ use Rattle.para.specs.Field.{FieldValue}
 use Rattle.para.specs.Fault.{line_fault, or_else}
 use Rattle.para.specs.Grammar.{AreBlanks, AreEmpty, IsField, IsParagraph, with_blanks, SpellsMore, SpellsValue, SpellsField, SpellsFields, BeginsEmpty, SpellsParagraphs}
 use Rattle.para.specs.Reading.{tail, value_part, trimmed, skip_blanks}
-use Rattle.para.proofs.Lines.{no_colon, name_part-is, after_colon-is, any_colon, trimmed-with_blanks, and_true}
+use Rattle.para.proofs.Lines.{no_colon, name_part-is, after_colon-is, any_colon, trimmed-with_blanks}
 use Rattle.para.proofs.Rest.{Rest, put, before_rest, rest_of, names_after, faults_from}
 use Rattle.para.proofs.LineKinds.{GoesOn, Begins, Passes, none_passes, gap_passes, goes_on_passes, begins_passes, is_taken, or_else_none}
 use Rattle.para.proofs.FoundLines.{Fresh, before-gap, before-goes_on, before-begins}
@@ -81,8 +82,8 @@ record NameLine (name rest : List ℕ) : Type 0 where
 name_line : (name rest : List ℕ) → is_name name ≡ true → NameLine name rest
 name_line [] rest h = absurd (cc)
 name_line (b ∷ bs) rest h =
-    let r = and_true (begins_as_name (b ∷ bs)) (list_all is_name_byte (b ∷ bs)) h in
-    let s = and_true (is_name_byte b) (list_all is_name_byte bs) r.1 in
+    let r = and_parts (begins_as_name (b ∷ bs)) (list_all is_name_byte (b ∷ bs)) h in
+    let s = and_parts (is_name_byte b) (list_all is_name_byte bs) r.1 in
     let none = no_colon (b ∷ bs) r.1 in
     record { part = name_part-is (b ∷ bs) rest none; after = after_colon-is (b ∷ bs) rest none; colon = any_colon (b ∷ bs) rest; filled = refl; begins = no_blank b s.0 }
   where

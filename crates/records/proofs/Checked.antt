@@ -16,6 +16,7 @@ use Rattle.sums.specs.Lists.{lists_in, ListedIn}
 use Rattle.sums.specs.declared.entries.Entry.{Entry}
 use Rattle.sums.specs.declared.entries.ListKind.{ListKind}
 use Rattle.sums.specs.declared.fault.ListFault.{ListFault}
+use Rattle.sums.proofs.Agree.{same_bytes}
 use Rattle.sums.proofs.ListedRead.{listed_of_read, read_of_listed}
 use Rattle.records.specs.Names.{is_package_name, is_architecture_name, is_plain_name}
 use Rattle.records.specs.Records as records
@@ -94,9 +95,6 @@ unfolding records.has_own_field
 none_own names p h = pass _ faults.OwnField (ap not (not_any (records.is_present p) names h))
 
 -- ---- values
-
-same_bytes : (a b : List ℕ) → bytes_eq a b ≡ true → a ≡ b
-same_bytes a b h = (bytes_eq-Decides a b).0 h
 
 pub known_format : (formats : List (List ℕ)) (p : Fields) → records.unknown_format formats p ≡ None → Contains formats (records.value field.Format p)
 unfolding records.unknown_format

@@ -54,8 +54,8 @@ impl Model for Changes {
     } };
 }
 
-/// The longest text that is read (own rule of this archive).
-const LIMIT: usize = 1_048_576;
+/// The most bytes of a .changes that is read (own rule of this archive).
+pub const MOST_CHANGES: usize = 1_048_576;
 
 /// The required fields, in the order in which the first that is missing is named.
 const REQUIRED: [FieldName; 11] = [
@@ -235,7 +235,7 @@ impl Changes {
         ensures refused { IfErr result
             (λ e. (e ≡ RecordFault.OutOfMemory) ⊎ (changes_in text.now ≡ Err e)) }
     {
-        let paragraph = read_one(alloc, text, LIMIT)?;
+        let paragraph = read_one(alloc, text, MOST_CHANGES)?;
         changes_from(alloc, &paragraph)
     }
 

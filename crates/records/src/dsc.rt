@@ -44,8 +44,8 @@ impl Model for Dsc {
     } };
 }
 
-/// The longest text that is read (own rule of this archive).
-const LIMIT: usize = 1_048_576;
+/// The most bytes of a .dsc that is read (own rule of this archive).
+pub const MOST_DSC: usize = 1_048_576;
 
 /// The required fields, in the order in which the first that is missing is named.
 const REQUIRED: [FieldName; 7] = [
@@ -123,7 +123,7 @@ impl Dsc {
         ensures refused { IfErr result
             (λ e. (e ≡ RecordFault.OutOfMemory) ⊎ (dsc_in text.now ≡ Err e)) }
     {
-        let paragraph = read_one(alloc, text, LIMIT)?;
+        let paragraph = read_one(alloc, text, MOST_DSC)?;
         dsc_from(alloc, &paragraph)
     }
 

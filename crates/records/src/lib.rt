@@ -11,8 +11,8 @@ mod names;
 mod parts;
 mod sidecar;
 
-pub use changes::Changes;
-pub use dsc::Dsc;
+pub use changes::{Changes, MOST_CHANGES};
+pub use dsc::{Dsc, MOST_DSC};
 pub use fault::RecordFault;
 pub use field_name::FieldName;
 pub use laws::{changes_are_read, dscs_are_read, sidecars_are_read};

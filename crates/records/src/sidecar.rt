@@ -47,8 +47,8 @@ impl Model for Sidecar {
     } };
 }
 
-/// The longest text that is read (own rule of this archive).
-const LIMIT: usize = 65_536;
+/// The most bytes of a sidecar that is read (own rule of this archive).
+const MOST_SIDECAR: usize = 65_536;
 
 /// The required fields, in the order in which the first that is missing is named.
 const REQUIRED: [FieldName; 5] = [
@@ -187,7 +187,7 @@ impl Sidecar {
         ensures refused { IfErr result
             (λ e. (e ≡ RecordFault.OutOfMemory) ⊎ (sidecar_in text.now ≡ Err e)) }
     {
-        let paragraph = read_one(alloc, text, LIMIT)?;
+        let paragraph = read_one(alloc, text, MOST_SIDECAR)?;
         sidecar_from(alloc, &paragraph)
     }
 

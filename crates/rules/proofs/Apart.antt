@@ -2,6 +2,7 @@
 use Rattle.std.proofs.Common.{◌≡◌, ℕ, ◌||◌, Bool, true, false, cond, List, [], ◌∷◌, ◌++◌, map, refl, sym, ap, ◌∙◌, subst, arith, Option, Some, None, Ok}
 use Rattle.std.specs.List.{list_any, All, AllPairs}
 use Rattle.std.specs.Str.{bytes_eq}
+use Rattle.std.proofs.lemmas.Bool.{or_left, or_parts, or_right}
 use Rattle.std.proofs.lemmas.List.Elements.{All-nil, All-cons}
 use Rattle.std.proofs.lemmas.List.Kept.{AllPairs-cons}
 use Rattle.std.proofs.lemmas.List.Folds.{list_any-append}
@@ -17,22 +18,11 @@ use Rattle.rules.specs.declared.fault.ConfigFault.{ConfigFault}
 use Rattle.rules.specs.declared.fault.ConfigFault.TheVariants as faults
 use Rattle.rules.proofs.Configs.{is_config}
 
-neither : (a b : Bool) → (a || b) ≡ false → (a ≡ false) × (b ≡ false)
-neither true b h = cc
-neither false b h = (refl, h)
-
-pub or_left : (a b : Bool) → a ≡ true → (a || b) ≡ true
-or_left a b h = ap (λ t. t || b) h
-
-pub or_right : (a b : Bool) → b ≡ true → (a || b) ≡ true
-or_right true b h = refl
-or_right false b h = h
-
 -- of names none of which is claimed, none is claimed
 pub none_shared : (claimed names : List (List ℕ)) (name : List ℕ) → list_any (is_among claimed) names ≡ false → is_among names name ≡ true → is_among claimed name ≡ false
 none_shared claimed [] name h k = cc
 none_shared claimed (n ∷ ns) name h k =
-    let none = neither _ _ h in
+    let none = or_parts _ _ h in
     by_first (bytes_eq name n) refl k none.0 (none_shared claimed ns name none.1)
   where
     by_first : (b : Bool) → bytes_eq name n ≡ b → (b || is_among ns name) ≡ true → is_among claimed n ≡ false → (is_among ns name ≡ true → is_among claimed name ≡ false) → is_among claimed name ≡ false
@@ -48,7 +38,7 @@ apart_from_rest : (claimed : List (List ℕ)) (s : Suite) (rest : List Suite) �
 unfolding claims
 apart_from_rest claimed s [] h known = All-nil (Apart s)
 apart_from_rest claimed s (t ∷ rest) h known =
-    let none = neither _ _ h in
+    let none = or_parts _ _ h in
     All-cons (Apart s) t rest
     (λ name a b. let both = sym (known name a) ∙ none_shared claimed (distributions t) name none.0 b in cc)
     (apart_from_rest (claimed ++ distributions t) s rest none.1
@@ -58,7 +48,7 @@ all_apart : (claimed : List (List ℕ)) (suites : List Suite) → claims_again c
 unfolding claims
 all_apart claimed [] h = λ i j d below within. absurd (omega arith)
 all_apart claimed (s ∷ rest) h =
-    let none = neither _ _ h in
+    let none = or_parts _ _ h in
     AllPairs-cons Apart s rest
     (apart_from_rest (claimed ++ distributions s) s rest none.1
     (λ name a. list_any-append (bytes_eq name) claimed (distributions s) ∙ or_right _ _ a))

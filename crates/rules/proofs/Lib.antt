@@ -6,3 +6,4 @@ pub mod Apart
 pub mod Twice
 pub mod Faults
 pub mod Numbers
+pub mod VerdictNumbers

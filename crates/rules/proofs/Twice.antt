@@ -2,6 +2,7 @@
 use Rattle.std.proofs.Common.{◌≡◌, ◌<◌, ◌⊎◌, inl, inr, ◌↔◌, ℕ, zero, suc, ◌||◌, Bool, true, false, cond, List, [], ◌∷◌, ◌++◌, map, refl, sym, ap, ◌∙◌, arith, Option, Some, None, Result, Ok, Err}
 use Rattle.std.specs.List.{list_any}
 use Rattle.std.specs.Str.{bytes_eq}
+use Rattle.std.proofs.lemmas.Bool.{or_left, or_right}
 use Rattle.std.proofs.lemmas.List.Folds.{list_any-append, list_any_at, Any-from_list_any}
 use Rattle.std.proofs.lemmas.Slice.Eq.{bytes_eq-Decides}
 use Rattle.para.specs.Fields.{Fields, paragraphs_in}
@@ -14,7 +15,7 @@ use Rattle.rules.specs.Configuration.{claims_again, applies, config_fault, confi
 use Rattle.rules.specs.declared.suite.Suite.{Suite}
 use Rattle.rules.specs.declared.fault.ConfigFault.{ConfigFault}
 use Rattle.rules.specs.declared.fault.ConfigFault.TheVariants as faults
-use Rattle.rules.proofs.Apart.{none_shared, or_left, or_right, names_of_suites}
+use Rattle.rules.proofs.Apart.{none_shared, names_of_suites}
 
 -- the two cases of a test
 either : (b : Bool) → (b ≡ true) ⊎ (b ≡ false)

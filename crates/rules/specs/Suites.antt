@@ -24,6 +24,10 @@ claiming distribution suites = position (claims distribution) suites
 abbrev pub claiming_among : {S : Type 0} → (S → Suite) → List ℕ → List S → Option ℕ
 claiming_among suite distribution suites = position (λ s. claims distribution (suite s)) suites
 
+-- the position of the suite with a codename
+unfoldable pub suite_named : List Suite → List ℕ → Option ℕ
+suite_named suites name = position (λ s. bytes_eq s.codename name) suites
+
 -- An architecture that the suite keeps. Items of `all` are kept where there is an index for them.
 unfoldable pub keeps_architecture : Suite → List ℕ → Bool
 keeps_architecture s name =
@@ -32,6 +36,10 @@ keeps_architecture s name =
 
 unfoldable pub keeps_component : Suite → List ℕ → Bool
 keeps_component s name = is_among s.components name
+
+-- items of the component and the architecture are kept
+abbrev pub keeps : Suite → List ℕ → List ℕ → Bool
+keeps s component architecture = keeps_component s component && keeps_architecture s architecture
 
 -- the source names of an uploader line
 abbrev pub fits_source : SourcePattern → List ℕ → Bool

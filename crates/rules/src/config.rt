@@ -1,7 +1,7 @@
 //! The configuration of an archive.
 
 ghost use Rattle.std.specs.Prelude.{◌≡◌, ◌⊎◌, [], codes, get_or, Ok, Err, IfOk, IfErr};
-ghost use Rattle.rules.specs.Suites.{claiming};
+ghost use Rattle.rules.specs.Suites.{claiming, suite_named};
 ghost use Rattle.rules.specs.Configuration.{config_in};
 ghost use Rattle.rules.specs.Paragraphs.{days};
 
@@ -9,13 +9,13 @@ use crate::checks::check;
 use crate::days::Days;
 use crate::fault::ConfigFault;
 use crate::paragraph::{days_of, suites_of};
-use crate::suite::{Suite, position_of_claiming};
+use crate::suite::{Suite, position_of_claiming, position_of_named};
 use para::{Listed, Paragraph, read_many};
 use std::alloc::Global;
 use std::marker::Model;
 
-/// The longest text that is read.
-const LIMIT: usize = 1_048_576;
+/// The most bytes of a configuration that is read (own rule of this archive).
+pub const MOST_CONFIG: usize = 1_048_576;
 
 /// The configuration of an archive: the text that it was read from, and its suites in the order of the text.
 #[derive(Drop)]
@@ -69,7 +69,7 @@ impl Config {
         ensures read { IfOk result (λ c. config_in text.now ≡ Ok c) }
         ensures refused { IfErr result (λ e. (e ≡ ConfigFault.OutOfMemory) ⊎ (config_in text.now ≡ Err e)) }
     {
-        let paragraphs = read_many(alloc, text, LIMIT)?;
+        let paragraphs = read_many(alloc, text, MOST_CONFIG)?;
         check(alloc, &paragraphs)?;
         let suites = suites_of(alloc, &paragraphs)?;
         let keep_days = first_keep_days(&paragraphs);
@@ -109,5 +109,12 @@ impl Config {
         ensures { result ≡ claiming distribution.now self.now.suites }
     {
         position_of_claiming(self.suites(), distribution)
+    }
+
+    /// The position of the suite with the codename.
+    pub fn suite_named(&self, codename: &str) -> Option<usize>
+        ensures { result ≡ suite_named self.now.suites codename.now }
+    {
+        position_of_named(self.suites(), codename)
     }
 }

@@ -8,9 +8,9 @@ ghost use Rattle.std.specs.Option.{option_map_or};
 ghost use Rattle.rules.specs.Suites.{keeps_architecture, keeps_component, claiming_among, component_of};
 
 use crate::config::Config;
-use crate::without_memory::{Judged, Judging, Sectioned, Spelled};
 use crate::suite::{component_of_section, position_of_claiming};
 use crate::verdict::Verdict;
+use crate::without_memory::{Judged, Judging, Sectioned, Spelled};
 use records::Changes;
 
 /// Where an upload goes.
@@ -27,14 +27,14 @@ fn has_unkept<S: Judging, N: Spelled>(suite: &S, architectures: &[N]) -> bool
 {
     architectures
         .iter()
-        .any(|name| !suite.has_architecture(name.spelled()))
+        .any(|name| !suite.keeps_architecture(name.spelled()))
 }
 
 #[tactic(auto, unfolding(crate::specs::Judgement::is_not_allowed))]
 fn is_refused<S: Judging, U: Judged>(suite: &S, upload: &U) -> bool
     ensures { result ≡ is_not_allowed (U.as_changes upload.now) (S.as_suite suite.now) }
 {
-    !suite.admits(upload.of_source(), upload.by_person())
+    !suite.allows(upload.of_source(), upload.by_person())
 }
 
 #[tactic(auto, unfolding(crate::specs::Judgement::has_foreign_component))]
@@ -42,7 +42,7 @@ fn wants_other_component<S: Judging, U: Judged>(suite: &S, upload: &U) -> bool
     ensures { result ≡ has_foreign_component (U.as_changes upload.now) (S.as_suite suite.now) }
 {
     let name = upload.in_component();
-    upload.has_other_component(name) || !suite.has_component(name)
+    upload.has_other_component(name) || !suite.keeps_component(name)
 }
 
 fn has_other_component<E: Sectioned>(entries: &[E], component: &str) -> bool

@@ -1,4 +1,4 @@
-//! Laws of configurations.
+//! Laws of configurations and of verdicts.
 
 ghost use Rattle.std.specs.Prelude.{◌≡◌, ◌≢◌, ◌≤◌, ◌↔◌, ℕ, true, List, [], length, map, Ok, Err, Some};
 ghost use Rattle.para.specs.Fault.{many_fault};
@@ -8,7 +8,9 @@ ghost use Rattle.para.specs.declared.fault.ParaFault.{ParaFault};
 ghost use Rattle.rules.specs.Configuration.{config_in, config_fault, applies, config_limit, IsConfig, ClaimApart, ClaimOneName};
 ghost use Rattle.rules.specs.Paragraphs.{suite_of};
 ghost use Rattle.rules.specs.Values.{ConfigValue};
+ghost use Rattle.rules.specs.Verdicts.{number_of, verdict_numbered};
 ghost use Rattle.rules.specs.declared.fault.ConfigFault.{ConfigFault};
+ghost use Rattle.rules.specs.declared.verdict.Verdict.{Verdict};
 
 /// A text is read as a configuration exactly where it is that configuration. So a refusal says that it is none. Nothing
 /// is done: the law is the contract.
@@ -39,4 +41,10 @@ pub fn a_name_claimed_twice_is_told()
 /// A text is at most one configuration. Nothing is done: the law is the contract.
 pub fn one_configuration()
     ensures { (text : List ℕ) (c d : ConfigValue) → IsConfig text c → IsConfig text d → c ≡ d }
+{}
+
+/// The verdict with a number is exactly the one whose number it is. So no two verdicts have one number. Nothing is done:
+/// the law is the contract.
+pub fn verdicts_have_numbers()
+    ensures { (n : ℕ) (v : Verdict) → (verdict_numbered n ≡ Some v) ↔ (number_of v ≡ n) }
 {}

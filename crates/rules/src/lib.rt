@@ -7,21 +7,21 @@ mod days;
 mod fault;
 mod judgement;
 mod laws;
-mod without_memory;
 mod names;
 mod paragraph;
 mod suite;
 mod uploader;
 mod verdict;
+mod without_memory;
 
-pub use config::Config;
+pub use config::{Config, MOST_CONFIG};
 pub use days::Days;
 pub use fault::ConfigFault;
 pub use judgement::{Place, judge};
 pub use laws::{
     a_name_claimed_twice_is_told, configurations_are_read, faults_are_lowest, one_configuration,
-    suites_claim_apart,
+    suites_claim_apart, verdicts_have_numbers,
 };
-pub use suite::{Suite, component_of_section};
+pub use suite::{Suite, component_of_section, position_of_named};
 pub use uploader::{Rule, SourcePattern};
 pub use verdict::Verdict;

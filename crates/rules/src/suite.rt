@@ -3,12 +3,12 @@
 ghost use Rattle.std.specs.Prelude.{◌≡◌, ◌==◌, ◌∷◌, ◌++◌, if◌then◌else◌, not, Bool, option_to_list};
 ghost use Rattle.std.specs.Prelude.{bytes_eq, codes};
 ghost use Rattle.std.specs.List.{list_any};
-ghost use Rattle.rules.specs.Suites.{claims, claiming_among, keeps_architecture, keeps_component, allows, component_of};
+ghost use Rattle.rules.specs.Suites.{claims, claiming_among, keeps_architecture, keeps_component, keeps, allows, suite_named, component_of};
 
 use crate::days::Days;
-use crate::without_memory::{Judging, Spelled};
 use crate::names::{is_one_of, position_of};
 use crate::uploader::{Rule, lines_allow};
+use crate::without_memory::{Judging, Spelled};
 use para::{Listed, Text};
 
 /// A suite of the configuration (own rules of this archive).
@@ -105,6 +105,15 @@ impl Suite {
         is_one_of(self.components.as_slice(), name)
     }
 
+    /// Whether items of the component and the architecture are kept.
+    pub fn keeps(&self, component: &str, architecture: &str) -> bool
+        ensures { result ≡ keeps self.now component.now architecture.now }
+    {
+        let keeps_component = self.keeps_component(component);
+        let keeps_architecture = self.keeps_architecture(architecture);
+        keeps_component && keeps_architecture
+    }
+
     /// Whether the person may upload the source package: some uploader line allows it, or the suite has no Uploaders. The
     /// person is named byte for byte as in the .changes.
     #[tactic(auto, unfolding(crate::specs::Suites::allows))]
@@ -118,24 +127,24 @@ impl Suite {
 impl Judging for Suite {
     ghost as_suite = { λ suite. suite };
 
-    fn takes(&self, distribution: &str) -> bool {
-        self.claims(distribution)
+    fn claims(&self, distribution: &str) -> bool {
+        Suite::claims(self, distribution)
     }
 
-    fn has_architecture(&self, name: &str) -> bool {
-        self.keeps_architecture(name)
+    fn keeps_architecture(&self, name: &str) -> bool {
+        Suite::keeps_architecture(self, name)
     }
 
-    fn has_component(&self, name: &str) -> bool {
-        self.keeps_component(name)
+    fn keeps_component(&self, name: &str) -> bool {
+        Suite::keeps_component(self, name)
     }
 
     fn component_at(&self, name: &str) -> Option<usize> {
         position_of(self.components.as_slice(), name)
     }
 
-    fn admits(&self, source: &str, person: &str) -> bool {
-        self.allows(source, person)
+    fn allows(&self, source: &str, person: &str) -> bool {
+        Suite::allows(self, source, person)
     }
 }
 
@@ -143,7 +152,17 @@ impl Judging for Suite {
 pub fn position_of_claiming<S: Judging>(suites: &[S], distribution: &str) -> Option<usize>
     ensures { result ≡ claiming_among S.as_suite distribution.now suites.now }
 {
-    suites.iter().position(|suite| suite.takes(distribution))
+    suites.iter().position(|suite| suite.claims(distribution))
+}
+
+/// The position of the suite with the codename.
+#[tactic(auto, unfolding(crate::specs::Suites::suite_named))]
+pub fn position_of_named(suites: &[Suite], codename: &str) -> Option<usize>
+    ensures { result ≡ suite_named suites.now codename.now }
+{
+    suites
+        .iter()
+        .position(|suite| suite.codename.as_str() == codename)
 }
 
 /// The component of a section (Debian Policy 2.4): what stands before its first slash, or `main` where it has none.

@@ -1,7 +1,7 @@
 //! What becomes of an upload.
 
 ghost use Rattle.std.specs.Prelude.{◌≡◌};
-ghost use Rattle.rules.specs.Verdicts.{number_of};
+ghost use Rattle.rules.specs.Verdicts.{number_of, verdict_numbered};
 
 /// What becomes of an upload; the lowest that applies is given (own rules of this archive).
 #[derive(Clone, Copy, Debug, PartialEq, Eq)]
@@ -44,6 +44,26 @@ impl Verdict {
             Verdict::BadSidecar => 7,
             Verdict::NotInPool => 8,
             Verdict::OtherContents => 9,
+        }
+    }
+
+    /// The verdict with a number, 0 to 9: the one whose `number` it is.
+    #[tactic(auto, unfolding(crate::specs::Verdicts::verdict_numbered))]
+    pub fn with_number(number: u64) -> Option<Verdict>
+        ensures { result ≡ verdict_numbered number }
+    {
+        match number {
+            0 => Some(Verdict::Accepted),
+            1 => Some(Verdict::Unclaimed),
+            2 => Some(Verdict::ForeignArchitecture),
+            3 => Some(Verdict::NotAllowed),
+            4 => Some(Verdict::ForeignComponent),
+            5 => Some(Verdict::BadListing),
+            6 => Some(Verdict::BadDsc),
+            7 => Some(Verdict::BadSidecar),
+            8 => Some(Verdict::NotInPool),
+            9 => Some(Verdict::OtherContents),
+            _ => None,
         }
     }
 }

@@ -64,15 +64,15 @@ pub trait Judging {
     ghost as_suite: { Self → Suite };
 
     /// Whether uploads for the distribution go to it.
-    fn takes(&self, distribution: &str) -> bool
+    fn claims(&self, distribution: &str) -> bool
         ensures { result ≡ claims distribution.now (as_suite self.now) };
 
     /// Whether it keeps items of the architecture.
-    fn has_architecture(&self, name: &str) -> bool
+    fn keeps_architecture(&self, name: &str) -> bool
         ensures { result ≡ keeps_architecture (as_suite self.now) name.now };
 
     /// Whether the component is one of its own.
-    fn has_component(&self, name: &str) -> bool
+    fn keeps_component(&self, name: &str) -> bool
         ensures { result ≡ keeps_component (as_suite self.now) name.now };
 
     /// The position of the component among its own.
@@ -80,7 +80,7 @@ pub trait Judging {
         ensures { result ≡ position (bytes_eq name.now) (as_suite self.now).components };
 
     /// Whether the person may upload the source package to it.
-    fn admits(&self, source: &str, person: &str) -> bool
+    fn allows(&self, source: &str, person: &str) -> bool
         ensures { result ≡ allows (as_suite self.now) source.now person.now };
 }
 

@@ -3,7 +3,8 @@ use Rattle.std.proofs.Common.{◌≡◌, ◌≢◌, ℕ, ◌<◌, ◌≤◌, ◌
 use Rattle.std.proofs.lemmas.Bool.Decides.{nat_tests}
 use Rattle.std.specs.List.{list_any}
 use Rattle.std.specs.Prelude.{Contains, AllPairs}
-use Rattle.sums.specs.Lines.{LineForm, has_words, is_digest, is_size, is_file_name, digest_word, size_word, name_word, has_bad_words, has_bad_digest, has_bad_size, has_bad_name}
+use Rattle.sums.specs.FileNames.{is_file_name}
+use Rattle.sums.specs.Lines.{LineForm, has_words, is_digest, is_size, digest_word, size_word, name_word, has_bad_words, has_bad_digest, has_bad_size, has_bad_name}
 use Rattle.sums.specs.Lists.{Lines, name_and_size, has_twice, lacks, disagree, files_form, sha1_form, sha256_form, some_line, any_twice, any_disagree}
 use Rattle.sums.specs.Views.{fault_of_lines}
 use Rattle.sums.specs.declared.fault.ListFault.TheVariants.{BadWords, BadDigest, BadSize, BadName, NameTwice, ListsDisagree, BadCount}

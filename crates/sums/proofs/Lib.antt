@@ -2,7 +2,7 @@ pub mod Booleans
 pub mod Words
 pub mod Digits
 pub mod Files
-pub mod Sizes
+pub mod SizeTexts
 pub mod Digests
 pub mod Members
 pub mod Agree

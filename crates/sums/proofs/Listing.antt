@@ -6,7 +6,8 @@ use Rattle.std.specs.Prelude.{Contains, AllPairs}
 use Rattle.std.specs.Str.{bytes_eq}
 use Rattle.std.specs.Str.Parse.{digits_value}
 use Rattle.hex.specs.Hex.{encode_lower}
-use Rattle.sums.specs.Lines.{LineForm, word, is_word, is_digest, is_size, is_file_name, digest_word, size_word, name_word, most_size}
+use Rattle.sums.specs.FileNames.{is_file_name}
+use Rattle.sums.specs.Lines.{LineForm, word, is_word, is_digest, is_size, digest_word, size_word, name_word, most_size}
 use Rattle.sums.specs.Lists.{Lines, Listed, IsFile, IsDigest, unhexed, digest_named, entry_of_line, entries_of, files_line, sha1_line, sha256_line, files_form, section_word, priority_word}
 use Rattle.sums.specs.declared.entries.Entry.{Entry}
 use Rattle.sums.specs.declared.entries.ListKind.{ListKind}
@@ -18,7 +19,7 @@ use Rattle.sums.proofs.Files.{map-map}
 use Rattle.sums.proofs.Members.{contains_map, from_map, all_at, find_one, by_name, map_same}
 use Rattle.sums.proofs.Reading.{three_words, three_line, pairs_map, length_map}
 use Rattle.std.proofs.lemmas.List.{get_or_default}
-use Rattle.sums.proofs.Sizes.{size_decimal}
+use Rattle.sums.proofs.SizeTexts.{size_decimal}
 use Rattle.sums.proofs.Spelled.{words-spelled, spelled_has_words, digest_is_word, size_is_word, name_is_word}
 
 -- a line says a digest, a size and a name

@@ -21,7 +21,7 @@ use Rattle.sums.proofs.Faultless.{IsGood, IsGoodList, Agree, Faultless}
 use Rattle.sums.proofs.Files.{map-map}
 use Rattle.std.proofs.lemmas.List.{get_or_default}
 use Rattle.sums.proofs.Members.{here, there, contains_map, from_map, any_false, all_from, all_true, find_one, by_name, map_same, pairs_head, pairs_tail}
-use Rattle.sums.proofs.Sizes.{size_text, size_written}
+use Rattle.sums.proofs.SizeTexts.{size_text, size_written}
 use Rattle.sums.proofs.Booleans.{both, denied}
 
 -- the form of a list of three words

@@ -9,8 +9,8 @@ use Rattle.std.specs.BTreeMap.{BTreeMap, get_by}
 use Rattle.std.specs.Cmp.Lexicographic.{slice_cmp}
 use Rattle.std.specs.Option.{option_map, is_some}
 use Rattle.std.specs.Ordering.{nat_cmp}
-use Rattle.sums.specs.declared.names.FileList.{FileList}
-use Rattle.sums.specs.declared.names.SizedName.{SizedName}
+use Rattle.sums.specs.declared.sizes.FileList.{FileList}
+use Rattle.sums.specs.declared.sizes.SizedName.{SizedName}
 use denote.Ref.{Bor}
 use Rattle.sums.specs.Views.{AreSizes, IsFileList, in_names, size_in, size_named, is_size_of}
 use Rattle.sums.proofs.Files.{no_text}

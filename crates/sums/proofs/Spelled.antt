@@ -5,10 +5,11 @@ use Rattle.std.proofs.lemmas.List.Folds.{list_any-append}
 use Rattle.std.proofs.lemmas.List.Splits.{slice_split_at, slice_split_none}
 use Rattle.std.specs.List.{list_any, list_all}
 use Rattle.std.specs.Prelude.{Contains, All}
-use Rattle.sums.specs.Lines.{LineForm, words, is_word, is_tab, is_space, has_words, is_lower_hex, is_name_character, is_file_name, is_digest, is_size}
+use Rattle.sums.specs.FileNames.{is_file_name, is_name_character}
+use Rattle.sums.specs.Lines.{LineForm, words, is_word, is_tab, is_space, has_words, is_lower_hex, is_digest, is_size}
 use Rattle.sums.specs.Lists.{spelled}
 use Rattle.sums.proofs.Members.{any_false, any_none, all_from, all_true}
-use Rattle.sums.proofs.Sizes.{size_text}
+use Rattle.sums.proofs.SizeTexts.{size_text}
 use Rattle.std.specs.Char.{is_ascii_digit, is_ascii_alphanumeric}
 use Rattle.sums.proofs.Booleans.{both, neither, denied}
 

@@ -1,8 +1,9 @@
 -- A line of a checksum list (Debian Policy 5.6.21, 5.6.24): its words, and what each has to be.
-use Rattle.std.specs.Prelude.{ℕ, ◌*◌, ◌-◌, ◌==◌, ◌&&◌, ◌||◌, nat_lt, nat_le, Bool, false, not, List, [], ◌∷◌, length, slice_index, slice_index_or}
-use Rattle.std.specs.Char.{is_ascii_digit, is_ascii_alphanumeric}
+use Rattle.std.specs.Prelude.{ℕ, ◌*◌, ◌-◌, ◌==◌, ◌&&◌, ◌||◌, nat_lt, nat_le, Bool, not, List, [], length, slice_index, slice_index_or}
+use Rattle.std.specs.Char.{is_ascii_digit}
 use Rattle.std.specs.List.{list_any, list_all, slice_split}
 use Rattle.std.specs.Str.Parse.{digits_value}
+use Rattle.sums.specs.FileNames.{is_file_name}
 
 -- what the lines of a list are like: how many words each has, and how many bytes the digest
 pub record LineForm : Type 0 where
@@ -42,18 +43,9 @@ is_digest bytes text = length text == 2 * bytes && list_all is_lower_hex text
 abbrev pub most_size : ℕ
 most_size = 4194304
 
--- a size: decimal digits without a leading zero, of at most 4194304
+-- a size: decimal digits without a leading zero, of at most `most_size`
 abbrev pub is_size : List ℕ → Bool
 is_size text = nat_lt 0 (length text) && list_all is_ascii_digit text && (length text == 1 || not (slice_index text 0 == 48)) && nat_le (digits_value 10 text) most_size
-
--- letters, digits and `. + ~ _ -`
-abbrev pub is_name_character : ℕ → Bool
-is_name_character c = is_ascii_alphanumeric c || c == 46 || c == 43 || c == 126 || c == 95 || c == 45
-
--- a file name: 1 to 200 of these, the first a letter or digit
-abbrev pub is_file_name : List ℕ → Bool
-is_file_name [] = false
-is_file_name (c ∷ cs) = nat_lt (length cs) 200 && is_ascii_alphanumeric c && list_all is_name_character cs
 
 abbrev pub digest_word : List ℕ → List ℕ
 digest_word line = word line 0

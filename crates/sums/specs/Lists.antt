@@ -12,7 +12,8 @@ use Rattle.sums.specs.declared.fault.ListFault.TheVariants.{ListAbsent, TextOnFi
 use Rattle.sums.specs.declared.entries.Entry.{Entry}
 use Rattle.sums.specs.declared.entries.ListKind.{ListKind}
 use Rattle.sums.specs.declared.entries.ListKind.TheVariants.{Dsc, Changes}
-use Rattle.sums.specs.Lines.{LineForm, is_word, is_file_name, word, digest_word, size_word, name_word, most_size, has_bad_words, has_bad_digest, has_bad_size, has_bad_name}
+use Rattle.sums.specs.FileNames.{is_file_name}
+use Rattle.sums.specs.Lines.{LineForm, is_word, word, digest_word, size_word, name_word, most_size, has_bad_words, has_bad_digest, has_bad_size, has_bad_name}
 
 -- ---- what the lists say
 

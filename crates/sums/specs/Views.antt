@@ -18,8 +18,8 @@ use Rattle.sums.specs.declared.entries.Entry.{Entry}
 use Rattle.sums.specs.declared.lists.FileLists.{FileLists}
 use Rattle.sums.specs.declared.lists.FoundLists.{FoundLists}
 use Rattle.sums.specs.declared.lists.SplitLists.{SplitLists}
-use Rattle.sums.specs.declared.names.FileList.{FileList}
-use Rattle.sums.specs.declared.names.SizedName.{SizedName}
+use Rattle.sums.specs.declared.sizes.FileList.{FileList}
+use Rattle.sums.specs.declared.sizes.SizedName.{SizedName}
 use denote.Ref.{Bor}
 use Rattle.sums.specs.declared.join.Lists.{Lists}
 

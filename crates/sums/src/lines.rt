@@ -5,16 +5,16 @@
 ghost use Rattle.std.specs.Prelude.{◌≡◌, ◌==◌, ◌<◌, ◌&&◌, nat_lt, nat_le, slice_index, true, length, map, IfOk};
 ghost use Rattle.std.specs.Char.{is_ascii_digit};
 ghost use Rattle.std.specs.List.{list_any, list_all};
-ghost use Rattle.sums.specs.Lines.{word, words, has_words, is_lower_hex, is_digest, is_size, is_name_character, is_file_name, is_tab, most_size};
+ghost use Rattle.sums.specs.Lines.{word, words, has_words, is_lower_hex, is_digest, is_size, is_tab, most_size};
 ghost use Rattle.sums.specs.Views.{IsSplit, line_form, with_line, any_failed};
 ghost use Rattle.std.specs.Str.Parse.{digits_value};
 
+use crate::file_name::is_file_name;
 use std::alloc::{AllocError, Global};
 use std::marker::Model;
 
-const MOST_SIZE: u32 = 4194304;
-
-const MOST_NAME: usize = 200;
+/// The most bytes of a file (own rule of this archive).
+pub const MOST_SIZE: u64 = 4_194_304;
 
 /// What the lines of a list are like.
 #[derive(Clone, Copy)]
@@ -152,7 +152,7 @@ fn is_small(digits: &str) -> bool
     ensures { result ≡ (nat_lt 0 (length digits.now) && nat_le (digits_value 10 digits.now) most_size) }
 {
     match digits.parse::<u32>() {
-        Ok(size) => size <= MOST_SIZE,
+        Ok(size) => u64::from(size) <= MOST_SIZE,
         Err(_) => false,
     }
 }
@@ -176,37 +176,6 @@ fn is_size(word: &str) -> bool
     let small = is_small(word);
     let zero = begins_with_zero(word);
     (word.len() == 1 || !zero) && small
-}
-
-fn is_name_character(c: u8) -> bool
-    ensures { result ≡ is_name_character c }
-{
-    c.is_ascii_alphanumeric() | (c == b'.') | (c == b'+') | (c == b'~') | (c == b'_') | (c == b'-')
-}
-
-/// Whether a word is the name of a file: 1 to 200 letters, digits and `. + ~ _ -`, the first a letter or digit (own rule of
-/// this archive).
-pub fn is_file_name(word: &str) -> bool
-    ensures { result ≡ is_file_name word.now }
-{
-    match word.as_bytes().split_first() {
-        None => false,
-        Some((first, rest)) => {
-            let begins = first.is_ascii_alphanumeric();
-            let goes_on = are_name_characters(rest);
-            rest.len() < MOST_NAME && begins && goes_on
-        }
-    }
-}
-
-fn are_name_characters(bytes: &[u8]) -> bool
-    ensures { result ≡ list_all is_name_character bytes.now }
-{
-    let mut all = true;
-    for c in bytes {
-        all &= is_name_character(*c);
-    }
-    all
 }
 
 /// The checks that failed before, or that a line fails.

@@ -9,7 +9,7 @@ use crate::entries::{Entry, ListKind};
 use crate::fault::ListFault;
 use crate::join::{Lists, SHA1_FORM, SHA256_FORM, entries, files_form};
 use crate::lines::{Failed, Line, NONE_FAILED, split_list};
-use crate::names::{FileList, disagree, file_list};
+use crate::sizes::{FileList, disagree, file_list};
 use para::{Field, Paragraph};
 use std::alloc::Global;
 

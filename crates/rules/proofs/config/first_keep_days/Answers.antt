@@ -1,4 +1,4 @@
-use Rattle.std.proofs.Common.{◌≡◌, ℕ, List, [], ◌∷◌, codes, get_or, slice_get, Option, Some, None, refl}
+use Rattle.std.proofs.Common.{◌≡◌, List, [], ◌∷◌, codes, get_or, slice_get, None, refl}
 use Rattle.para.specs.Fields.{Fields}
 use Rattle.rules.specs.Paragraphs.{days, first_line}
 use Rattle.rules.proofs.config.first_keep_days.Goals as goal

@@ -1,4 +1,3 @@
-use Rattle.std.proofs.Common.{◌≡◌, ℕ, ◌<◌, ◌^◌, ◌&&◌, true, false, List, length, ltb, leb, if◌then◌else◌, Option, Some, None, inl, inr, refl, sym, ap, subst, ◌∙◌, arith}
 use Rattle.rules.proofs.Numbers.{no_days, too_many, some_days}
 use Rattle.rules.proofs.days.small_number.Goals as goal
 

@@ -1,6 +1,6 @@
 use Rattle.std.proofs.Common.{◌∙◌, sym, ap}
 use Rattle.std.specs.Result.{is_ok}
-use Rattle.sums.proofs.Sizes.{size_parsed}
+use Rattle.sums.proofs.SizeTexts.{size_parsed}
 use Rattle.sums.proofs.join.size.Goals as goal
 
 pub unwrap-requires : goal.unwrap-requires

@@ -4,7 +4,7 @@ use Rattle.std.proofs.lemmas.Iterator.{YieldsList-from_slice, YieldsList-from_ma
 use Rattle.std.proofs.lemmas.Iterator.Consumers.{map_from_collect}
 use Rattle.sums.specs.Lists.{name_and_size}
 use Rattle.sums.specs.Views.{line_form, in_names}
-use Rattle.sums.proofs.names.sized_lines.Goals as goal
+use Rattle.sums.proofs.sizes.sized_lines.Goals as goal
 
 pub returns : goal.returns
 returns c =

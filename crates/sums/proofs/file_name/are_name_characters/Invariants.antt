@@ -1,7 +1,7 @@
 use Rattle.std.proofs.Common.{◌≡◌, take}
 use Rattle.std.specs.List.{list_all}
-use Rattle.sums.specs.Lines.{is_name_character}
-use Rattle.sums.proofs.lines.are_name_characters.Given as goal
+use Rattle.sums.specs.FileNames.{is_name_character}
+use Rattle.sums.proofs.file_name.are_name_characters.Given as goal
 
 abbrev pub invariant-loop-c : goal.invariant-loop-c
 invariant-loop-c l = l.all ≡ list_all is_name_character (take l.c-index l.fn.bytes)

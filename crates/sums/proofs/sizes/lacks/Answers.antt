@@ -3,7 +3,7 @@ use Rattle.std.proofs.lemmas.Iterator.{YieldsList-from_slice}
 use Rattle.std.proofs.lemmas.Iterator.Search.{any_from_yields_List}
 use Rattle.sums.specs.Views.{in_names, size_in, is_size_of}
 use Rattle.sums.proofs.Words.{list_any-map}
-use Rattle.sums.proofs.names.lacks.Goals as goal
+use Rattle.sums.proofs.sizes.lacks.Goals as goal
 
 pub returns : goal.returns
 returns c =

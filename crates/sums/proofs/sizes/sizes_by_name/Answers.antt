@@ -1,7 +1,7 @@
 use Rattle.std.proofs.Common.{◌∙◌, sym, get_or, Some}
 use Rattle.std.proofs.lemmas.Map.Text.{btree_map_updates_str}
 use Rattle.sums.proofs.SizesByName.{no_file, twice_at, sizes_more}
-use Rattle.sums.proofs.names.sizes_by_name.Goals as goal
+use Rattle.sums.proofs.sizes.sizes_by_name.Goals as goal
 
 pub returns-then-is_some : goal.returns-then-is_some
 returns-then-is_some c =

@@ -3,7 +3,7 @@ use Rattle.std.specs.List.{list_any}
 use Rattle.sums.specs.Lists.{lacks}
 use Rattle.sums.specs.Views.{in_names, size_in, is_size_of}
 use Rattle.sums.proofs.SizesByName.{lacks_is}
-use Rattle.sums.proofs.names.disagree.Goals as goal
+use Rattle.sums.proofs.sizes.disagree.Goals as goal
 
 pub returns-then-lacks : goal.returns-then-lacks
 returns-then-lacks c = λ xs ys h k.
