@@ -15,7 +15,7 @@ use Rattle.records.specs.Values.{ChangesValue}
 use Rattle.rules.specs.Values.{ConfigValue}
 use Rattle.sums.specs.Prints.{print as print_of, same_print}
 use Rattle.sums.specs.declared.print.Print.{Print}
-use Rattle.keep.specs.Book.{Book, Candidate, at_moment, candidate_of, candidates, due, in_order, is_changes_name, is_complete, is_judged, candidate_order, put_in_order, unjudged, upload_of}
+use Rattle.keep.specs.Book.{Book, Candidate, at_moment, candidate_of, candidates, due, in_order, is_complete, is_judged, candidate_order, put_in_order, unjudged, upload_of}
 use Rattle.keep.specs.Keeping.{NoCollision}
 use Rattle.keep.specs.declared.arrival.Arrival.{Arrival}
 use Rattle.queue.specs.Before.{before_each, before_each-push}
@@ -26,6 +26,7 @@ use Rattle.queue.specs.declared.fault.Fault.{Fault}
 use Rattle.queue.proofs.Lists.{all_filter_map, all_front, all_weaker, by_steps, filter_agree_on}
 use Rattle.queue.proofs.Known.{ArrivalsHave, StepsHave, Knows, arrived_have, counting_have, counting_known, faithful_knows, with_empty, has_empty}
 use Rattle.queue.proofs.Steps.{step_of, archive-push}
+use Rattle.sums.specs.FileNames.{is_changes_name}
 
 -- ---- prints and candidates
 

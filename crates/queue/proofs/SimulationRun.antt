@@ -6,7 +6,7 @@ use Rattle.std.specs.Ordering.{is_gt}
 use Rattle.std.specs.Result.{result_ok}
 use Rattle.std.proofs.Math.Seq.{drop-append_seam}
 use Rattle.std.proofs.lemmas.Option.{same_Some}
-use Rattle.keep.specs.Book.{Book, Candidate, amended, at_moment, candidate_of, candidates, due, in_order, is_changes_name, is_complete, judgements, candidate_order, latest, put_in_order, span, upload_of}
+use Rattle.keep.specs.Book.{Book, Candidate, amended, at_moment, candidate_of, candidates, due, in_order, is_complete, judgements, candidate_order, latest, put_in_order, span, upload_of}
 use Rattle.keep.specs.Keeping.{HasEachBody, NoCollision}
 use Rattle.keep.specs.declared.arrival.Arrival.{Arrival}
 use Rattle.keep.specs.declared.change.Step.{Step}
@@ -36,6 +36,7 @@ use Rattle.queue.proofs.Lists.{at_contained}
 use Rattle.queue.proofs.Simulation.{AreHanded, AreSimulated, acted-wholes, handed, simulated}
 use Rattle.queue.proofs.SimulationFiles.{AreArrived, AreFrom, AreStored, amended-simulated, bodies-simulated, handed_stored, shown_stored}
 use Rattle.queue.proofs.Steps.{book_of-followed}
+use Rattle.sums.specs.FileNames.{is_changes_name}
 
 -- ---- what is due
 
