@@ -224,6 +224,17 @@ fn renew_indices<K: Keeper>(
     Ok(indices)
 }
 
+/// Whether a text is kept at a whole path. Its print tells it, so that the text is not read.
+fn has_text<K: Keeper>(alloc: Global, keeper: &mut K, path: &str) -> Result<bool, KeepFault>
+    ensures reads { Reads K.Keeper keeper.old keeper.new }
+    ensures served { K.is_clean keeper.new → OnOk result (K.is_open keeper.new) }
+    ensures there { K.is_clean keeper.new → IfOk result (λ there. there ≡ is_some (text_at (K.book keeper.old) path.now)) }
+    ensures cause { IfErr result (MayAnswer K.may_fail) }
+{
+    let found = keeper.text_print(alloc, path)?;
+    Ok(found.is_some())
+}
+
 /// Appends the texts of a suite that an amendment makes other than the kept ones: those of its indices, and Release with its
 /// moment as its date. A suite without a Release has none.
 #[tactic(auto, unfolding(crate::specs::Renewal::renewed_folder))]
@@ -243,7 +254,7 @@ fn renew_folder<K: Keeper>(
     ensures cause { IfErr result (MayAnswer K.may_fail) }
 {
     let path = path_of(alloc, folder, "Release")?;
-    if keeper.text(alloc, path.as_str())?.is_none() {
+    if !has_text(alloc, keeper, path.as_str())? {
         return Ok(());
     }
     let indices = renew_indices(alloc, keeper, printed, amendment, folder, texts)?;
