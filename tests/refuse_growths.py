@@ -1,10 +1,10 @@
 """Each growth of each call is refused once: `python3 -m tests.refuse_growths [--lists] [CALL..]`.
 
-The calls are the rows `call ..` of data/*.growths and data/*.moves of the crate `tales`, of which the latter read and migrate archives of older
-layouts; CALL is the first word of some of them, and --lists leaves out all but the keeper in memory. For each call a file is written that has its story alone, in which this one call is marked, so that the program
-that `rt ci` built of `tales` (or the one that TALES names) prints `begin` and `end` around it. It runs once for each growth between the
-marks, and this one is refused: a library that is loaded before the C library counts what `malloc` and `realloc` are asked for. That goes
-on until a growth is not reached.
+The calls are the rows `call ..` of data/*.growths and data/*.moves of the crate `test_archives`, of which the latter read and migrate
+archives of older layouts; CALL is the first word of some of them, and --lists leaves out all but the keeper in memory. For each call a file
+is written that has its story alone, in which this one call is marked, so that the program that `rt ci` built of `test_archives` (or the one
+that TEST_ARCHIVES names) prints `begin` and `end` around it. It runs once for each growth between the marks, and this one is refused: a
+library that is loaded before the C library counts what `malloc` and `realloc` are asked for. That goes on until a growth is not reached.
 
 The program answers the row, at once or where the call is made again behind a fault of memory, with all that the archive shows as it was;
 else its line differs. For each call and keeper a line is printed: how many growths the call has, and at how many of them it was refused
@@ -19,8 +19,8 @@ import tempfile
 from concurrent.futures import ThreadPoolExecutor
 from pathlib import Path
 
-CRATE = Path(__file__).resolve().parent.parent / "crates" / "tales"
-PROGRAM = Path(os.environ.get("TALES", CRATE / "out" / "tales")).resolve()
+CRATE = Path(__file__).resolve().parent.parent / "crates" / "test_archives"
+PROGRAM = Path(os.environ.get("TEST_ARCHIVES", CRATE / "out" / "test_archives")).resolve()
 # What the calls of the files of each ending are made over, in the order in which the program does it.
 KEEPERS = {"growths": ["over lists", "over tables"], "moves": ["of older ones"]}
 # What grows nothing: a keeper in memory is opened by being handed over, and a cleaning of it takes elements out of its lists.

@@ -1,4 +1,4 @@
-"""A reader of files of rows, as the crate `rows` reads them. CONTRIBUTING.md has their format (A row)."""
+"""A reader of files of rows, as the crate `test_rows` reads them. CONTRIBUTING.md has their format (A row)."""
 import re
 from typing import NamedTuple
 

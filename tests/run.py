@@ -14,6 +14,7 @@ BEFORE = [
     "checks/pages",
     "checks/try_wrong_bodies --read",
     "tests.test_pages",
+    "tests.test_texts",
     "tests.test_format",
     "tests.test_using",
     "tests.test_wrong_bodies",

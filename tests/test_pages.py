@@ -80,6 +80,11 @@ class Pages(unittest.TestCase):
         for text, count in (("a\n" * 100, 0), ("a\n" * 101, 1), ("a" * 100, 0), ("a" * 101, 1)):
             self.assertEqual(len(self.other(pages.check_lengths, "README.md", text)), count)
 
+    def test_a_page_of_too_many_words_is_refused(self):
+        for path, most in (("docs/DEFINITIONS.md", 3000), ("docs/DECISIONS.md", 2500)):
+            for count, wanted in ((most, 0), (most + 1, 1)):
+                self.assertEqual(len(self.other(pages.check_lengths, path, "word " * count)), wanted, path)
+
     def test_what_is_not_there_is_refused(self):
         for named in (
             "`crates/keep/src/nothing.rt`",
@@ -107,7 +112,8 @@ class Pages(unittest.TestCase):
     def test_a_crate_of_which_nothing_is_said_is_refused(self):
         path = "docs/PROVED.md"
         page = self.repository.pages[path]
-        for crates in (["vers"], ["commands", "archive", "first"]):
+        several = re.search(r"^### (\w+, .*)$", page, re.M)[1]
+        for crates in (["vers"], several.split(", ")):
             title = f"### {', '.join(crates)}\n"
             self.assertEqual(page.count(title), 1)
             wanted = {f"{path}: the crate {it} is missing" for it in crates}

@@ -1,5 +1,7 @@
 //! What a database file and the log beside it hold, copied into memory. Both are only read: nothing is written to them or made beside them, so
 //! that they may be files which this process may not write.
+//!
+//! The older file is locked against whoever writes it by SQLite's lock of readers, for as long as it is copied.
 
 use crate::database::{BETWEEN_TRIES, TRIES};
 use keep::KeepFault;

@@ -1,14 +1,32 @@
 //! The keeper over the tables of a database file.
+//!
+//! A database that another process has is tried again for 10 seconds, so that two timers that meet do not fail.
+//!
+//! Nothing is supposed of a write that a crash tears, so each commit syncs twice.
+//!
+//! While a command goes on, the log takes 64 MiB before the next change copies it into the database file first. SQLite's own measure is 4
+//! MiB. By that each upload after an index of 4 MiB would copy the whole index once more, and the first after a long run all that the run
+//! wrote. A transaction holds as many pages in memory before they go to the log, so that a page that it writes often goes there once.
+//!
+//! A command that ends copies the log into the database file. That this fails is no fault: all is kept in the log, and the next open reads
+//! both.
+//!
+//! An opening begins a log beside the database file, also of a database that it then refuses. The database file itself stays as it was, but
+//! for an empty one and one of a single byte: the store takes these for a database that it has begun, and makes one without tables of it.
+//!
+//! A keeper is shut by a sync that failed, by a write of the log's header, and by the write of the one byte after which a commit counts:
+//! only reading the files again shows whether that is on the disk. Then each call answers K2, until the archive is opened again. After any
+//! other write or read that failed the same archive goes on. The store's clauses count failures and do not tell them apart, so this is
+//! tested, over files that fail at each call.
 
 ghost use Rattle.std.specs.Prelude.{◌≤◌};
 
 use crate::copied::copied;
 use command_line::CommandLine;
-use program::{InFile, OpenFault, act};
 use keep::{KeepFault, LATEST};
-use tables_changes::fault_of;
-use keep_tables::{InOrder, LAYOUT, TableKeeper, layout_of};
+use keep_tables::{InOrder, LAYOUT, TableKeeper, fault_of, layout_of};
 use old_book::OldBook;
+use program::{InFile, OpenFault, act};
 use rules::Config;
 use sqlite::{Alter, Connection, FileFrom, FileStore, Files, Options, Wary};
 use sqlite_disk::Disk;

@@ -1,4 +1,7 @@
 //! The arguments of the program's commands.
+//!
+//! clap promises for the program's own arguments that a required one is there, and not for those of a command. So each command asks for its
+//! values again. A line that lacked one would be refused (L2): tests know of none.
 
 ghost use Rattle.std.specs.Prelude.{◌≡◌, false};
 ghost use Rattle.clap.specs.Words.{rule_of};

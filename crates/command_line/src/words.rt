@@ -1,4 +1,7 @@
 //! The command line.
+//!
+//! What a line says is a `CommandLine`, and the call that reads one is `line`, since two items of a module may not differ in case alone.
+//! The usage text of a command, as `Usage: try <PATH>...`, leaves out the program's name, since that is not among the words that are read.
 
 ghost use Rattle.std.specs.Prelude.{◌≡◌, [], map, IfOk};
 ghost use Rattle.clap.specs.Words.{fault_of, subcommand_of};

@@ -1,31 +1,21 @@
 -- What the statements that add a body under its number do.
-use Rattle.std.proofs.Common.{lit≤, ◌≡◌, ℕ, pos, [], ◌∷◌, Ok, Err, Result, OnOk, refl, Some, None}
-use Rattle.sqlite.specs.Table.{Table}
+use Rattle.std.proofs.Common.{lit≤, ◌≡◌, ℕ, pos, [], ◌∷◌, Ok, Err, Result, OnOk, refl}
 use Rattle.sqlite.specs.declared.types.Value.TheVariants.{Null}
 use Rattle.sqlite.specs.Cast.{cast_row}
 use Rattle.sqlite.specs.declared.error.Error.{Error}
 use Rattle.sqlite.specs.State.{State, ExecutesInside}
 use Rattle.sums.specs.declared.print.Print.{Print}
-use Rattle.tables.specs.Schema.{bodies}
-use Rattle.tables.specs.Rows.{whole, print_cells, Changes, body_cells, full_body, stored}
-use Rattle.tables.specs.declared.rows.Body.{Body}
+use Rattle.tables.specs.Schema.{bodies_table}
+use Rattle.tables.specs.Rows.{whole, print_cells, Changes, body_cells, stored}
 use Rattle.tables.proofs.CastLemmas.{cast_null, cast_int}
 use Rattle.tables.proofs.InsertLemmas.{puts}
 use Rattle.tables.proofs.HoldsLemmas.{with_bodies}
-use Rattle.tables.proofs.FullLemmas.{Storing, raw, raw_cells, raw_rows, full_rows_as}
+use Rattle.tables.proofs.FullLemmas.{raw, raw_cells, raw_rows, full_rows_as}
+use Rattle.tables.proofs.BodiesLemmas.{begun_body, storing, whole_body}
 use Rattle.copying.specs.Placed.{with_body_at}
 use Rattle.copying.specs.declared.bodies.TheConstants.{INSERT_BODY, INSERT_BEGUN}
 use Rattle.copying.proofs.Meaning.{insert_body_terms, insert_body_is, insert_body_plain, insert_begun_terms, insert_begun_is, insert_begun_plain}
 use Rattle.copying.proofs.PlaceLemmas.{places_row, placed_of}
-
-abbrev bodies_table : Table
-bodies_table = record bodies { tree = 1 }
-
-abbrev storing : Storing Body
-storing = record { cells = body_cells; full = full_body; same = λ _. refl; again = λ _ _ _. refl; none = refl }
-
-abbrev whole_body : Print → Body
-whole_body p = record { print = Some p }
 
 body_cast : (id : ℕ) (p : Print) → cast_row bodies_table (whole id ∷ (Null ∷ print_cells p)) ≡ stored body_cells (id, whole_body p)
 body_cast id p = rw (cast_null, cast_int (pos id), cast_int (pos p.size))
@@ -46,9 +36,6 @@ inserts_body old new id p (Ok count) h = record {
   shown = h.1;
 }
 inserts_body old new id p (Err e) h = tt
-
-abbrev begun_body : Body
-begun_body = record { print = None }
 
 begun_cast : (id : ℕ) → cast_row bodies_table (whole id ∷ (Null ∷ Null ∷ Null ∷ Null ∷ Null ∷ [])) ≡ stored body_cells (id, begun_body)
 begun_cast id = rw (cast_null, cast_int (pos id)) refl

@@ -1,33 +1,25 @@
 -- What the statement that adds an item under its number does.
-use Rattle.std.proofs.Common.{lit≤, ◌≡◌, ℕ, pos, [], ◌∷◌, Ok, Err, Result, OnOk, refl}
-use Rattle.sqlite.specs.Table.{Table}
-use Rattle.sqlite.specs.Order.{Row}
-use Rattle.sqlite.specs.declared.types.Value.TheVariants.{Null, Text, Blob}
+use Rattle.std.proofs.Common.{lit≤, ◌≡◌, ℕ, pos, ◌∷◌, Ok, Err, Result, OnOk, refl}
+use Rattle.sqlite.specs.declared.types.Value.TheVariants.{Null}
 use Rattle.sqlite.specs.Cast.{cast_row}
 use Rattle.sqlite.specs.declared.error.Error.{Error}
 use Rattle.sqlite.specs.State.{State, ExecutesInside}
-use Rattle.tables.specs.Schema.{items}
+use Rattle.tables.specs.Schema.{items_table}
 use Rattle.tables.specs.Rows.{whole, Changes, item_cells, stored}
-use Rattle.tables.specs.declared.rows.Item.{Item}
+use Rattle.tables.specs.declared.rows.ItemRow.{ItemRow}
 use Rattle.tables.proofs.CastLemmas.{cast_null, cast_int}
 use Rattle.tables.proofs.InsertLemmas.{puts}
 use Rattle.tables.proofs.HoldsLemmas.{with_items}
+use Rattle.tables.proofs.ItemsLemmas.{item_params}
 use Rattle.copying.specs.Placed.{with_item_at}
 use Rattle.copying.specs.declared.items.TheConstants.{INSERT_ITEM}
 use Rattle.copying.proofs.Meaning.{insert_item_terms, insert_item_is, insert_item_plain}
 use Rattle.copying.proofs.PlaceLemmas.{places_row}
 
-abbrev items_table : Table
-items_table = record items { tree = 13 }
-
--- the values of a row, its number aside
-abbrev pub item_params : Item → Row
-item_params x = Text x.suite ∷ whole x.kind ∷ Text x.«package» ∷ Text x.architecture ∷ Text x.version ∷ Text x.component ∷ Text x.source ∷ Blob x.paragraph ∷ []
-
-item_cast : (id : ℕ) (x : Item) → cast_row items_table (whole id ∷ Null ∷ item_params x) ≡ stored item_cells (id, x)
+item_cast : (id : ℕ) (x : ItemRow) → cast_row items_table (whole id ∷ Null ∷ item_params x) ≡ stored item_cells (id, x)
 item_cast id x = rw (cast_null, cast_int (pos id), cast_int (pos x.kind))
 
-pub inserts_item : (old new : State) (id : ℕ) (x : Item) (r : Result ℕ Error) → ExecutesInside 0 INSERT_ITEM.now (whole id ∷ item_params x) old new r
+pub inserts_item : (old new : State) (id : ℕ) (x : ItemRow) (r : Result ℕ Error) → ExecutesInside 0 INSERT_ITEM.now (whole id ∷ item_params x) old new r
     → OnOk r (Changes old new (with_item_at (id, x)))
 inserts_item old new id x (Ok count) h = record {
   held = λ t was.

@@ -1,6 +1,5 @@
 -- What the statement that adds an upload under its number does.
 use Rattle.std.proofs.Common.{lit≤, ◌≡◌, ℕ, pos, [], ◌∷◌, ◌++◌, Ok, Err, Result, OnOk, refl, Option, Some, None}
-use Rattle.sqlite.specs.Table.{Table}
 use Rattle.sqlite.specs.Order.{Row}
 use Rattle.sqlite.specs.declared.types.Value.TheVariants.{Null, Text}
 use Rattle.sqlite.specs.Cast.{cast, cast_row}
@@ -8,26 +7,21 @@ use Rattle.sqlite.specs.Kind.TheVariants.{Integer}
 use Rattle.sqlite.specs.Values.{bound_value, or_null}
 use Rattle.sqlite.specs.declared.error.Error.{Error}
 use Rattle.sqlite.specs.State.{State, ExecutesInside}
-use Rattle.tables.specs.Schema.{uploads}
-use Rattle.tables.specs.Rows.{whole, print_cells, Changes, full_upload, upload_cells, stored}
-use Rattle.tables.specs.declared.rows.Upload.{Upload}
+use Rattle.tables.specs.Schema.{uploads_table}
+use Rattle.tables.specs.Rows.{whole, print_cells, Changes, upload_cells, stored}
+use Rattle.tables.specs.declared.rows.UploadRow.{UploadRow}
 use Rattle.tables.proofs.CastLemmas.{cast_null, cast_int}
 use Rattle.tables.proofs.InsertLemmas.{puts}
 use Rattle.tables.proofs.HoldsLemmas.{with_uploads}
-use Rattle.tables.proofs.FullLemmas.{Storing, raw, raw_cells, raw_rows, full_rows_as}
+use Rattle.tables.proofs.FullLemmas.{raw, raw_cells, raw_rows, full_rows_as}
+use Rattle.tables.proofs.UploadsLemmas.{storing}
 use Rattle.copying.specs.Placed.{with_upload_at}
 use Rattle.copying.specs.declared.uploads.TheConstants.{INSERT_UPLOAD}
 use Rattle.copying.proofs.Meaning.{insert_upload_terms, insert_upload_is, insert_upload_plain}
 use Rattle.copying.proofs.PlaceLemmas.{places_row, placed_of}
 
-abbrev uploads_table : Table
-uploads_table = record uploads { tree = 7 }
-
-abbrev storing : Storing Upload
-storing = record { cells = upload_cells; full = full_upload; same = λ _. refl; again = λ _ _ _. refl; none = refl }
-
 -- the values of a row, its number aside
-abbrev pub upload_params : Upload → Row
+abbrev pub upload_params : UploadRow → Row
 upload_params u = Text u.name ∷ (print_cells u.print ++ or_null whole u.place ∷ or_null whole u.verdict ∷ [])
 
 -- a number that may be absent, as it is bound and as it is stored
@@ -39,10 +33,10 @@ cast_some : (n : Option ℕ) → cast Integer (or_null whole n) ≡ or_null whol
 cast_some None = cast_null
 cast_some (Some n) = cast_int (pos n)
 
-upload_cast : (id : ℕ) (u : Upload) → cast_row uploads_table (whole id ∷ Null ∷ upload_params u) ≡ stored upload_cells (id, u)
+upload_cast : (id : ℕ) (u : UploadRow) → cast_row uploads_table (whole id ∷ Null ∷ upload_params u) ≡ stored upload_cells (id, u)
 upload_cast id u = rw (cast_null, cast_int (pos id), cast_int (pos u.print.size), cast_some u.place, cast_some u.verdict)
 
-pub inserts_upload : (old new : State) (id : ℕ) (u : Upload) (r : Result ℕ Error) → ExecutesInside 0 INSERT_UPLOAD.now (whole id ∷ upload_params u) old new r
+pub inserts_upload : (old new : State) (id : ℕ) (u : UploadRow) (r : Result ℕ Error) → ExecutesInside 0 INSERT_UPLOAD.now (whole id ∷ upload_params u) old new r
     → OnOk r (Changes old new (with_upload_at (id, u)))
 inserts_upload old new id u (Ok count) h = record {
   held = λ t was.

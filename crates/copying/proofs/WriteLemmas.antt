@@ -1,5 +1,5 @@
 -- Statements in a row inside a transaction, and loops of them.
-use Rattle.std.proofs.Common.{◌≡◌, ◌≤◌, ℕ, ◌+◌, ◌<◌, IsTrue, List, [], ◌∷◌, ◌++◌, length, take, get_or, fold, refl, sym, ap, subst, ◌∙◌, inl, arith}
+use Rattle.std.proofs.Common.{◌≡◌, ◌≤◌, ℕ, ◌+◌, ◌<◌, IsTrue, List, [], ◌∷◌, ◌++◌, length, take, get_or, fold, refl, sym, ap, subst, ◌∙◌}
 use Rattle.std.proofs.Math.Seq.{take_all}
 use Rattle.std.proofs.lemmas.List.{take_more}
 use Rattle.std.proofs.lemmas.List.Sums.{fold-append}
@@ -8,16 +8,6 @@ use Rattle.sqlite.proofs.StateLemmas.{survives_then}
 use Rattle.tables.specs.Rows.{Tables, Holds, Changes}
 use Rattle.tables.proofs.TransactionLemmas.{keeps_then, keeps_if_changed}
 use Rattle.copying.specs.Placed.{Writes, each}
-
-pub survives_none : (s : State) → Survives s s (λ _. ⊥)
-survives_none s = record {
-  clean = omega arith;
-  shield = λ h. h;
-  counts = omega arith;
-  limit = refl;
-  closes = λ clean up. inl up;
-  crash = λ clean db h. inl h;
-}
 
 pub writes_none : (a : State) → IsTrue a.in_transaction → Writes a a (λ t. t)
 writes_none a inside = record { held = λ t was. was; kept = record { was_open = λ up. up; committed = λ _. refl }; stays = λ up. up; mode = inside }

@@ -3,14 +3,14 @@ use Rattle.std.specs.Prelude.{◌≡◌, ℕ, true, List, [], map, IsTrue}
 use Rattle.std.specs.List.{enumerate_from}
 use Rattle.sqlite.specs.State.{State, KeepsCommit}
 use Rattle.tables.specs.Rows.{Tables, Numbered, Rises, Holds, rows_of}
-use Rattle.tables.specs.declared.rows.Arrival.{Arrival}
+use Rattle.tables.specs.declared.rows.ArrivalRow.{ArrivalRow}
 
 -- the rows of a table, numbered from 1 in their order
 abbrev pub anew : {X : Type 0} → List X → Numbered X
 anew rows = enumerate_from 1 rows
 
 -- an arrival, as of another moment
-abbrev pub arrived_at : ℕ → Arrival → Arrival
+abbrev pub arrived_at : ℕ → ArrivalRow → ArrivalRow
 arrived_at moment a = record a { moment = moment }
 
 -- The tables to which rows are copied have none.

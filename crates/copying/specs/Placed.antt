@@ -3,12 +3,12 @@ use Rattle.std.specs.Prelude.{◌≡◌, ℕ, pos, true, List, fold, IsTrue}
 use Rattle.sqlite.specs.State.{State, KeepsCommit}
 use Rattle.sqlite_keyed.specs.Keyed.{insert_by}
 use Rattle.tables.specs.Rows.{Tables, Numbered, Holds, with_piece, with_arrival, with_want, with_ref, with_file}
-use Rattle.tables.specs.declared.rows.Body.{Body}
+use Rattle.tables.specs.declared.rows.BodyRow.{BodyRow}
 use Rattle.tables.specs.declared.rows.Piece.{Piece}
-use Rattle.tables.specs.declared.rows.Arrival.{Arrival}
-use Rattle.tables.specs.declared.rows.Upload.{Upload}
+use Rattle.tables.specs.declared.rows.ArrivalRow.{ArrivalRow}
+use Rattle.tables.specs.declared.rows.UploadRow.{UploadRow}
 use Rattle.tables.specs.declared.rows.Want.{Want}
-use Rattle.tables.specs.declared.rows.Item.{Item}
+use Rattle.tables.specs.declared.rows.ItemRow.{ItemRow}
 use Rattle.tables.specs.declared.rows.Ref.{Ref}
 use Rattle.tables.specs.declared.rows.File.{File}
 use Rattle.copying.specs.Copying.{arrived_at}
@@ -19,13 +19,13 @@ put_at x rows = insert_by (λ y. pos y.0) rows x
 
 -- ---- a row more, with its number
 
-abbrev pub with_body_at : ℕ × Body → Tables → Tables
+abbrev pub with_body_at : ℕ × BodyRow → Tables → Tables
 with_body_at x t = record t { bodies = put_at x t.bodies }
 
-abbrev pub with_upload_at : ℕ × Upload → Tables → Tables
+abbrev pub with_upload_at : ℕ × UploadRow → Tables → Tables
 with_upload_at x t = record t { uploads = put_at x t.uploads }
 
-abbrev pub with_item_at : ℕ × Item → Tables → Tables
+abbrev pub with_item_at : ℕ × ItemRow → Tables → Tables
 with_item_at x t = record t { items = put_at x t.items }
 
 -- ---- a row more, under the next number in place of its own
@@ -33,7 +33,7 @@ with_item_at x t = record t { items = put_at x t.items }
 abbrev pub with_piece_of : ℕ × Piece → Tables → Tables
 with_piece_of x = with_piece x.1
 
-abbrev pub with_arrival_at : ℕ → ℕ × Arrival → Tables → Tables
+abbrev pub with_arrival_at : ℕ → ℕ × ArrivalRow → Tables → Tables
 with_arrival_at moment x = with_arrival (arrived_at moment x.1)
 
 abbrev pub with_want_of : ℕ × Want → Tables → Tables

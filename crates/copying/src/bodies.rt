@@ -1,15 +1,13 @@
 //! Bodies under the numbers that they have.
 
-ghost use Rattle.std.specs.Prelude.{◌≡◌, Some, None, IsTrue, OnOk, OnErr};
-ghost use Rattle.sqlite.specs.State.{HasCleanDisk, Survives};
-ghost use Rattle.sqlite.specs.Held.{state};
-ghost use Rattle.tables.specs.Rows.{Changes, Fails};
+ghost use Rattle.std.specs.Prelude.{Some, None};
 ghost use Rattle.copying.specs.Placed.{with_body_at};
+ghost use Rattle.tables.specs.Calls.{CommitsNothing, FailsInside, IsSame, Writes};
 
 use crate::number::whole;
 use sqlite::{Alter, Error, Transaction, params};
 use sums::Print;
-use tables::rows::Body;
+use tables::rows::BodyRow;
 
 const INSERT_BODY: &str =
     "INSERT INTO bodies (id, size, md5, sha1, sha256) VALUES (?1, ?2, ?3, ?4, ?5)";
@@ -18,12 +16,10 @@ const INSERT_BEGUN: &str = "INSERT INTO bodies (id) VALUES (?1)";
 
 /// Adds a whole body under its number.
 fn insert_whole<S: Alter>(tx: &mut Transaction<'_, S>, id: u64, print: &Print) -> Result<(), Error>
-    ensures same_reference { tx.new.conn.ghost_name ≡ tx.old.conn.ghost_name }
-    ensures ok { HasCleanDisk (state S.Store tx.new.conn.now) → IsTrue (state S.Store tx.old.conn.now).in_transaction
-        → OnOk result (Changes (state S.Store tx.old.conn.now) (state S.Store tx.new.conn.now) (with_body_at (id, record { print = Some print.now }))) }
-    ensures err { HasCleanDisk (state S.Store tx.new.conn.now) → IsTrue (state S.Store tx.old.conn.now).in_transaction
-        → OnErr result (Fails (state S.Store tx.old.conn.now) (state S.Store tx.new.conn.now)) }
-    ensures survives { Survives (state S.Store tx.old.conn.now) (state S.Store tx.new.conn.now) (λ _. ⊥) }
+    ensures same_reference { IsSame tx.old tx.new }
+    ensures ok { Writes S.Store tx.old tx.new result (with_body_at (id, record { print = Some print.now })) }
+    ensures err { FailsInside S.Store tx.old tx.new result }
+    ensures survives { CommitsNothing S.Store tx.old tx.new }
 {
     let id = whole(id)?;
     let size = whole(print.size)?;
@@ -36,12 +32,10 @@ fn insert_whole<S: Alter>(tx: &mut Transaction<'_, S>, id: u64, print: &Print) -
 
 /// Adds a body that is not whole yet under its number.
 fn insert_begun<S: Alter>(tx: &mut Transaction<'_, S>, id: u64) -> Result<(), Error>
-    ensures same_reference { tx.new.conn.ghost_name ≡ tx.old.conn.ghost_name }
-    ensures ok { HasCleanDisk (state S.Store tx.new.conn.now) → IsTrue (state S.Store tx.old.conn.now).in_transaction
-        → OnOk result (Changes (state S.Store tx.old.conn.now) (state S.Store tx.new.conn.now) (with_body_at (id, record { print = None }))) }
-    ensures err { HasCleanDisk (state S.Store tx.new.conn.now) → IsTrue (state S.Store tx.old.conn.now).in_transaction
-        → OnErr result (Fails (state S.Store tx.old.conn.now) (state S.Store tx.new.conn.now)) }
-    ensures survives { Survives (state S.Store tx.old.conn.now) (state S.Store tx.new.conn.now) (λ _. ⊥) }
+    ensures same_reference { IsSame tx.old tx.new }
+    ensures ok { Writes S.Store tx.old tx.new result (with_body_at (id, record { print = None })) }
+    ensures err { FailsInside S.Store tx.old tx.new result }
+    ensures survives { CommitsNothing S.Store tx.old tx.new }
 {
     let id = whole(id)?;
     tx.execute(INSERT_BEGUN, params![id])?;
@@ -52,14 +46,12 @@ fn insert_begun<S: Alter>(tx: &mut Transaction<'_, S>, id: u64) -> Result<(), Er
 pub(crate) fn insert_body<S: Alter>(
     tx: &mut Transaction<'_, S>,
     id: u64,
-    body: &Body,
+    body: &BodyRow,
 ) -> Result<(), Error>
-    ensures same_reference { tx.new.conn.ghost_name ≡ tx.old.conn.ghost_name }
-    ensures ok { HasCleanDisk (state S.Store tx.new.conn.now) → IsTrue (state S.Store tx.old.conn.now).in_transaction
-        → OnOk result (Changes (state S.Store tx.old.conn.now) (state S.Store tx.new.conn.now) (with_body_at (id, body.now))) }
-    ensures err { HasCleanDisk (state S.Store tx.new.conn.now) → IsTrue (state S.Store tx.old.conn.now).in_transaction
-        → OnErr result (Fails (state S.Store tx.old.conn.now) (state S.Store tx.new.conn.now)) }
-    ensures survives { Survives (state S.Store tx.old.conn.now) (state S.Store tx.new.conn.now) (λ _. ⊥) }
+    ensures same_reference { IsSame tx.old tx.new }
+    ensures ok { Writes S.Store tx.old tx.new result (with_body_at (id, body.now)) }
+    ensures err { FailsInside S.Store tx.old tx.new result }
+    ensures survives { CommitsNothing S.Store tx.old tx.new }
 {
     match &body.print {
         Some(print) => insert_whole(tx, id, print),

@@ -1,11 +1,10 @@
 //! The rows of each table, one after another.
 
-ghost use Rattle.std.specs.Prelude.{◌≡◌, IsTrue, OnOk, OnErr};
-ghost use Rattle.sqlite.specs.State.{HasCleanDisk, KeepsCommit, Survives};
-ghost use Rattle.sqlite.specs.Held.{state};
+ghost use Rattle.std.specs.Prelude.{OnOk};
 ghost use Rattle.tables_read.specs.All.{tables_with};
 ghost use Rattle.copying.specs.Copying.{AreRising, Copies};
 ghost use Rattle.copying.specs.Placed.{Writes, each, with_body_at, with_upload_at, with_item_at, with_piece_of, with_arrival_at, with_want_of, with_ref_of, with_file_of, with_arrived, with_uploaded, with_shown};
+ghost use Rattle.tables.specs.Calls.{CommitsNothing, Inside, IsSame, KeepsCommitted, Writes};
 
 use crate::bodies::insert_body;
 use crate::items::insert_item;
@@ -15,18 +14,16 @@ use tables::arrivals::insert_arrival;
 use tables::files::insert_file;
 use tables::pieces::insert_piece;
 use tables::refs::insert_ref;
-use tables::rows::{Arrival, Body, File, Item, Piece, Ref, Upload, Want};
+use tables::rows::{ArrivalRow, BodyRow, File, ItemRow, Piece, Ref, UploadRow, Want};
 use tables::wants::insert_want;
 use tables_read::AllRows;
 
 /// Adds the bodies under their numbers.
-fn write_bodies<S: Alter>(tx: &mut Transaction<'_, S>, all: &[(u64, Body)]) -> Result<(), Error>
-    ensures same_reference { tx.new.conn.ghost_name ≡ tx.old.conn.ghost_name }
-    ensures ok { HasCleanDisk (state S.Store tx.new.conn.now) → IsTrue (state S.Store tx.old.conn.now).in_transaction
-        → OnOk result (Writes (state S.Store tx.old.conn.now) (state S.Store tx.new.conn.now) (each with_body_at all.now)) }
-    ensures err { HasCleanDisk (state S.Store tx.new.conn.now) → IsTrue (state S.Store tx.old.conn.now).in_transaction
-        → OnErr result (KeepsCommit (state S.Store tx.old.conn.now) (state S.Store tx.new.conn.now)) }
-    ensures survives { Survives (state S.Store tx.old.conn.now) (state S.Store tx.new.conn.now) (λ _. ⊥) }
+fn write_bodies<S: Alter>(tx: &mut Transaction<'_, S>, all: &[(u64, BodyRow)]) -> Result<(), Error>
+    ensures same_reference { IsSame tx.old tx.new }
+    ensures ok { Inside S.Store tx.old tx.new (λ old new. OnOk result (Writes old new (each with_body_at all.now))) }
+    ensures err { KeepsCommitted S.Store tx.old tx.new result }
+    ensures survives { CommitsNothing S.Store tx.old tx.new }
 {
     for row in all {
         insert_body(tx, row.0, &row.1)?;
@@ -36,12 +33,10 @@ fn write_bodies<S: Alter>(tx: &mut Transaction<'_, S>, all: &[(u64, Body)]) -> R
 
 /// Adds the pieces of the bodies.
 fn write_pieces<S: Alter>(tx: &mut Transaction<'_, S>, all: &[(u64, Piece)]) -> Result<(), Error>
-    ensures same_reference { tx.new.conn.ghost_name ≡ tx.old.conn.ghost_name }
-    ensures ok { HasCleanDisk (state S.Store tx.new.conn.now) → IsTrue (state S.Store tx.old.conn.now).in_transaction
-        → OnOk result (Writes (state S.Store tx.old.conn.now) (state S.Store tx.new.conn.now) (each with_piece_of all.now)) }
-    ensures err { HasCleanDisk (state S.Store tx.new.conn.now) → IsTrue (state S.Store tx.old.conn.now).in_transaction
-        → OnErr result (KeepsCommit (state S.Store tx.old.conn.now) (state S.Store tx.new.conn.now)) }
-    ensures survives { Survives (state S.Store tx.old.conn.now) (state S.Store tx.new.conn.now) (λ _. ⊥) }
+    ensures same_reference { IsSame tx.old tx.new }
+    ensures ok { Inside S.Store tx.old tx.new (λ old new. OnOk result (Writes old new (each with_piece_of all.now))) }
+    ensures err { KeepsCommitted S.Store tx.old tx.new result }
+    ensures survives { CommitsNothing S.Store tx.old tx.new }
 {
     for row in all {
         let piece = &row.1;
@@ -53,15 +48,13 @@ fn write_pieces<S: Alter>(tx: &mut Transaction<'_, S>, all: &[(u64, Piece)]) -> 
 /// Adds the arrivals, each as of the moment.
 fn write_arrivals<S: Alter>(
     tx: &mut Transaction<'_, S>,
-    all: &[(u64, Arrival)],
+    all: &[(u64, ArrivalRow)],
     moment: u64,
 ) -> Result<(), Error>
-    ensures same_reference { tx.new.conn.ghost_name ≡ tx.old.conn.ghost_name }
-    ensures ok { HasCleanDisk (state S.Store tx.new.conn.now) → IsTrue (state S.Store tx.old.conn.now).in_transaction
-        → OnOk result (Writes (state S.Store tx.old.conn.now) (state S.Store tx.new.conn.now) (each (with_arrival_at moment) all.now)) }
-    ensures err { HasCleanDisk (state S.Store tx.new.conn.now) → IsTrue (state S.Store tx.old.conn.now).in_transaction
-        → OnErr result (KeepsCommit (state S.Store tx.old.conn.now) (state S.Store tx.new.conn.now)) }
-    ensures survives { Survives (state S.Store tx.old.conn.now) (state S.Store tx.new.conn.now) (λ _. ⊥) }
+    ensures same_reference { IsSame tx.old tx.new }
+    ensures ok { Inside S.Store tx.old tx.new (λ old new. OnOk result (Writes old new (each (with_arrival_at moment) all.now))) }
+    ensures err { KeepsCommitted S.Store tx.old tx.new result }
+    ensures survives { CommitsNothing S.Store tx.old tx.new }
 {
     for row in all {
         insert_arrival(tx, row.1.name.as_str(), row.1.body, moment)?;
@@ -70,13 +63,14 @@ fn write_arrivals<S: Alter>(
 }
 
 /// Adds the uploads under their numbers.
-fn write_uploads<S: Alter>(tx: &mut Transaction<'_, S>, all: &[(u64, Upload)]) -> Result<(), Error>
-    ensures same_reference { tx.new.conn.ghost_name ≡ tx.old.conn.ghost_name }
-    ensures ok { HasCleanDisk (state S.Store tx.new.conn.now) → IsTrue (state S.Store tx.old.conn.now).in_transaction
-        → OnOk result (Writes (state S.Store tx.old.conn.now) (state S.Store tx.new.conn.now) (each with_upload_at all.now)) }
-    ensures err { HasCleanDisk (state S.Store tx.new.conn.now) → IsTrue (state S.Store tx.old.conn.now).in_transaction
-        → OnErr result (KeepsCommit (state S.Store tx.old.conn.now) (state S.Store tx.new.conn.now)) }
-    ensures survives { Survives (state S.Store tx.old.conn.now) (state S.Store tx.new.conn.now) (λ _. ⊥) }
+fn write_uploads<S: Alter>(
+    tx: &mut Transaction<'_, S>,
+    all: &[(u64, UploadRow)],
+) -> Result<(), Error>
+    ensures same_reference { IsSame tx.old tx.new }
+    ensures ok { Inside S.Store tx.old tx.new (λ old new. OnOk result (Writes old new (each with_upload_at all.now))) }
+    ensures err { KeepsCommitted S.Store tx.old tx.new result }
+    ensures survives { CommitsNothing S.Store tx.old tx.new }
 {
     for row in all {
         insert_upload(tx, row.0, &row.1)?;
@@ -86,12 +80,10 @@ fn write_uploads<S: Alter>(tx: &mut Transaction<'_, S>, all: &[(u64, Upload)]) -
 
 /// Adds the entries of the uploads.
 fn write_wants<S: Alter>(tx: &mut Transaction<'_, S>, all: &[(u64, Want)]) -> Result<(), Error>
-    ensures same_reference { tx.new.conn.ghost_name ≡ tx.old.conn.ghost_name }
-    ensures ok { HasCleanDisk (state S.Store tx.new.conn.now) → IsTrue (state S.Store tx.old.conn.now).in_transaction
-        → OnOk result (Writes (state S.Store tx.old.conn.now) (state S.Store tx.new.conn.now) (each with_want_of all.now)) }
-    ensures err { HasCleanDisk (state S.Store tx.new.conn.now) → IsTrue (state S.Store tx.old.conn.now).in_transaction
-        → OnErr result (KeepsCommit (state S.Store tx.old.conn.now) (state S.Store tx.new.conn.now)) }
-    ensures survives { Survives (state S.Store tx.old.conn.now) (state S.Store tx.new.conn.now) (λ _. ⊥) }
+    ensures same_reference { IsSame tx.old tx.new }
+    ensures ok { Inside S.Store tx.old tx.new (λ old new. OnOk result (Writes old new (each with_want_of all.now))) }
+    ensures err { KeepsCommitted S.Store tx.old tx.new result }
+    ensures survives { CommitsNothing S.Store tx.old tx.new }
 {
     for row in all {
         let want = &row.1;
@@ -101,13 +93,11 @@ fn write_wants<S: Alter>(tx: &mut Transaction<'_, S>, all: &[(u64, Want)]) -> Re
 }
 
 /// Adds the items under their numbers.
-fn write_items<S: Alter>(tx: &mut Transaction<'_, S>, all: &[(u64, Item)]) -> Result<(), Error>
-    ensures same_reference { tx.new.conn.ghost_name ≡ tx.old.conn.ghost_name }
-    ensures ok { HasCleanDisk (state S.Store tx.new.conn.now) → IsTrue (state S.Store tx.old.conn.now).in_transaction
-        → OnOk result (Writes (state S.Store tx.old.conn.now) (state S.Store tx.new.conn.now) (each with_item_at all.now)) }
-    ensures err { HasCleanDisk (state S.Store tx.new.conn.now) → IsTrue (state S.Store tx.old.conn.now).in_transaction
-        → OnErr result (KeepsCommit (state S.Store tx.old.conn.now) (state S.Store tx.new.conn.now)) }
-    ensures survives { Survives (state S.Store tx.old.conn.now) (state S.Store tx.new.conn.now) (λ _. ⊥) }
+fn write_items<S: Alter>(tx: &mut Transaction<'_, S>, all: &[(u64, ItemRow)]) -> Result<(), Error>
+    ensures same_reference { IsSame tx.old tx.new }
+    ensures ok { Inside S.Store tx.old tx.new (λ old new. OnOk result (Writes old new (each with_item_at all.now))) }
+    ensures err { KeepsCommitted S.Store tx.old tx.new result }
+    ensures survives { CommitsNothing S.Store tx.old tx.new }
 {
     for row in all {
         insert_item(tx, row.0, &row.1)?;
@@ -117,12 +107,10 @@ fn write_items<S: Alter>(tx: &mut Transaction<'_, S>, all: &[(u64, Item)]) -> Re
 
 /// Adds the files of the items.
 fn write_refs<S: Alter>(tx: &mut Transaction<'_, S>, all: &[(u64, Ref)]) -> Result<(), Error>
-    ensures same_reference { tx.new.conn.ghost_name ≡ tx.old.conn.ghost_name }
-    ensures ok { HasCleanDisk (state S.Store tx.new.conn.now) → IsTrue (state S.Store tx.old.conn.now).in_transaction
-        → OnOk result (Writes (state S.Store tx.old.conn.now) (state S.Store tx.new.conn.now) (each with_ref_of all.now)) }
-    ensures err { HasCleanDisk (state S.Store tx.new.conn.now) → IsTrue (state S.Store tx.old.conn.now).in_transaction
-        → OnErr result (KeepsCommit (state S.Store tx.old.conn.now) (state S.Store tx.new.conn.now)) }
-    ensures survives { Survives (state S.Store tx.old.conn.now) (state S.Store tx.new.conn.now) (λ _. ⊥) }
+    ensures same_reference { IsSame tx.old tx.new }
+    ensures ok { Inside S.Store tx.old tx.new (λ old new. OnOk result (Writes old new (each with_ref_of all.now))) }
+    ensures err { KeepsCommitted S.Store tx.old tx.new result }
+    ensures survives { CommitsNothing S.Store tx.old tx.new }
 {
     for row in all {
         insert_ref(tx, &row.1)?;
@@ -132,12 +120,10 @@ fn write_refs<S: Alter>(tx: &mut Transaction<'_, S>, all: &[(u64, Ref)]) -> Resu
 
 /// Adds the files of the pool.
 fn write_files<S: Alter>(tx: &mut Transaction<'_, S>, all: &[(u64, File)]) -> Result<(), Error>
-    ensures same_reference { tx.new.conn.ghost_name ≡ tx.old.conn.ghost_name }
-    ensures ok { HasCleanDisk (state S.Store tx.new.conn.now) → IsTrue (state S.Store tx.old.conn.now).in_transaction
-        → OnOk result (Writes (state S.Store tx.old.conn.now) (state S.Store tx.new.conn.now) (each with_file_of all.now)) }
-    ensures err { HasCleanDisk (state S.Store tx.new.conn.now) → IsTrue (state S.Store tx.old.conn.now).in_transaction
-        → OnErr result (KeepsCommit (state S.Store tx.old.conn.now) (state S.Store tx.new.conn.now)) }
-    ensures survives { Survives (state S.Store tx.old.conn.now) (state S.Store tx.new.conn.now) (λ _. ⊥) }
+    ensures same_reference { IsSame tx.old tx.new }
+    ensures ok { Inside S.Store tx.old tx.new (λ old new. OnOk result (Writes old new (each with_file_of all.now))) }
+    ensures err { KeepsCommitted S.Store tx.old tx.new result }
+    ensures survives { CommitsNothing S.Store tx.old tx.new }
 {
     for row in all {
         insert_file(tx, row.1.path.as_str(), row.1.body)?;
@@ -151,12 +137,10 @@ fn write_arrived<S: Alter>(
     all: &AllRows,
     moment: u64,
 ) -> Result<(), Error>
-    ensures same_reference { tx.new.conn.ghost_name ≡ tx.old.conn.ghost_name }
-    ensures ok { HasCleanDisk (state S.Store tx.new.conn.now) → IsTrue (state S.Store tx.old.conn.now).in_transaction
-        → OnOk result (Writes (state S.Store tx.old.conn.now) (state S.Store tx.new.conn.now) (with_arrived (tables_with all.now) moment)) }
-    ensures err { HasCleanDisk (state S.Store tx.new.conn.now) → IsTrue (state S.Store tx.old.conn.now).in_transaction
-        → OnErr result (KeepsCommit (state S.Store tx.old.conn.now) (state S.Store tx.new.conn.now)) }
-    ensures survives { Survives (state S.Store tx.old.conn.now) (state S.Store tx.new.conn.now) (λ _. ⊥) }
+    ensures same_reference { IsSame tx.old tx.new }
+    ensures ok { Inside S.Store tx.old tx.new (λ old new. OnOk result (Writes old new (with_arrived (tables_with all.now) moment))) }
+    ensures err { KeepsCommitted S.Store tx.old tx.new result }
+    ensures survives { CommitsNothing S.Store tx.old tx.new }
 {
     write_bodies(tx, &all.bodies)?;
     write_pieces(tx, &all.pieces)?;
@@ -165,12 +149,10 @@ fn write_arrived<S: Alter>(
 
 /// Adds the uploads and their entries.
 fn write_uploaded<S: Alter>(tx: &mut Transaction<'_, S>, all: &AllRows) -> Result<(), Error>
-    ensures same_reference { tx.new.conn.ghost_name ≡ tx.old.conn.ghost_name }
-    ensures ok { HasCleanDisk (state S.Store tx.new.conn.now) → IsTrue (state S.Store tx.old.conn.now).in_transaction
-        → OnOk result (Writes (state S.Store tx.old.conn.now) (state S.Store tx.new.conn.now) (with_uploaded (tables_with all.now))) }
-    ensures err { HasCleanDisk (state S.Store tx.new.conn.now) → IsTrue (state S.Store tx.old.conn.now).in_transaction
-        → OnErr result (KeepsCommit (state S.Store tx.old.conn.now) (state S.Store tx.new.conn.now)) }
-    ensures survives { Survives (state S.Store tx.old.conn.now) (state S.Store tx.new.conn.now) (λ _. ⊥) }
+    ensures same_reference { IsSame tx.old tx.new }
+    ensures ok { Inside S.Store tx.old tx.new (λ old new. OnOk result (Writes old new (with_uploaded (tables_with all.now)))) }
+    ensures err { KeepsCommitted S.Store tx.old tx.new result }
+    ensures survives { CommitsNothing S.Store tx.old tx.new }
 {
     write_uploads(tx, &all.uploads)?;
     write_wants(tx, &all.wants)
@@ -178,12 +160,10 @@ fn write_uploaded<S: Alter>(tx: &mut Transaction<'_, S>, all: &AllRows) -> Resul
 
 /// Adds the items, their files, and the files of the pool.
 fn write_shown<S: Alter>(tx: &mut Transaction<'_, S>, all: &AllRows) -> Result<(), Error>
-    ensures same_reference { tx.new.conn.ghost_name ≡ tx.old.conn.ghost_name }
-    ensures ok { HasCleanDisk (state S.Store tx.new.conn.now) → IsTrue (state S.Store tx.old.conn.now).in_transaction
-        → OnOk result (Writes (state S.Store tx.old.conn.now) (state S.Store tx.new.conn.now) (with_shown (tables_with all.now))) }
-    ensures err { HasCleanDisk (state S.Store tx.new.conn.now) → IsTrue (state S.Store tx.old.conn.now).in_transaction
-        → OnErr result (KeepsCommit (state S.Store tx.old.conn.now) (state S.Store tx.new.conn.now)) }
-    ensures survives { Survives (state S.Store tx.old.conn.now) (state S.Store tx.new.conn.now) (λ _. ⊥) }
+    ensures same_reference { IsSame tx.old tx.new }
+    ensures ok { Inside S.Store tx.old tx.new (λ old new. OnOk result (Writes old new (with_shown (tables_with all.now)))) }
+    ensures err { KeepsCommitted S.Store tx.old tx.new result }
+    ensures survives { CommitsNothing S.Store tx.old tx.new }
 {
     write_items(tx, &all.items)?;
     write_refs(tx, &all.refs)?;
@@ -198,12 +178,10 @@ pub fn write_rows<S: Alter>(
     moment: u64,
 ) -> Result<(), Error>
     requires rising { AreRising (tables_with all.now) }
-    ensures same_reference { tx.new.conn.ghost_name ≡ tx.old.conn.ghost_name }
-    ensures ok { HasCleanDisk (state S.Store tx.new.conn.now) → IsTrue (state S.Store tx.old.conn.now).in_transaction
-        → OnOk result (Copies (state S.Store tx.old.conn.now) (state S.Store tx.new.conn.now) (tables_with all.now) moment) }
-    ensures err { HasCleanDisk (state S.Store tx.new.conn.now) → IsTrue (state S.Store tx.old.conn.now).in_transaction
-        → OnErr result (KeepsCommit (state S.Store tx.old.conn.now) (state S.Store tx.new.conn.now)) }
-    ensures survives { Survives (state S.Store tx.old.conn.now) (state S.Store tx.new.conn.now) (λ _. ⊥) }
+    ensures same_reference { IsSame tx.old tx.new }
+    ensures ok { Inside S.Store tx.old tx.new (λ old new. OnOk result (Copies old new (tables_with all.now) moment)) }
+    ensures err { KeepsCommitted S.Store tx.old tx.new result }
+    ensures survives { CommitsNothing S.Store tx.old tx.new }
 {
     write_arrived(tx, all, moment)?;
     write_uploaded(tx, all)?;

@@ -1,14 +1,11 @@
 //! Uploads under the numbers that they have.
 
-ghost use Rattle.std.specs.Prelude.{◌≡◌, IsTrue, OnOk, OnErr};
-ghost use Rattle.sqlite.specs.State.{HasCleanDisk, Survives};
-ghost use Rattle.sqlite.specs.Held.{state};
-ghost use Rattle.tables.specs.Rows.{Changes, Fails};
 ghost use Rattle.copying.specs.Placed.{with_upload_at};
+ghost use Rattle.tables.specs.Calls.{CommitsNothing, FailsInside, IsSame, Writes};
 
 use crate::number::{some_whole, whole};
 use sqlite::{Alter, Error, Transaction, params};
-use tables::rows::Upload;
+use tables::rows::UploadRow;
 
 const INSERT_UPLOAD: &str =
     "INSERT INTO uploads (id, name, size, md5, sha1, sha256, place, verdict) VALUES (?1, ?2, ?3, ?4, ?5, ?6, ?7, ?8)";
@@ -17,14 +14,12 @@ const INSERT_UPLOAD: &str =
 pub(crate) fn insert_upload<S: Alter>(
     tx: &mut Transaction<'_, S>,
     id: u64,
-    upload: &Upload,
+    upload: &UploadRow,
 ) -> Result<(), Error>
-    ensures same_reference { tx.new.conn.ghost_name ≡ tx.old.conn.ghost_name }
-    ensures ok { HasCleanDisk (state S.Store tx.new.conn.now) → IsTrue (state S.Store tx.old.conn.now).in_transaction
-        → OnOk result (Changes (state S.Store tx.old.conn.now) (state S.Store tx.new.conn.now) (with_upload_at (id, upload.now))) }
-    ensures err { HasCleanDisk (state S.Store tx.new.conn.now) → IsTrue (state S.Store tx.old.conn.now).in_transaction
-        → OnErr result (Fails (state S.Store tx.old.conn.now) (state S.Store tx.new.conn.now)) }
-    ensures survives { Survives (state S.Store tx.old.conn.now) (state S.Store tx.new.conn.now) (λ _. ⊥) }
+    ensures same_reference { IsSame tx.old tx.new }
+    ensures ok { Writes S.Store tx.old tx.new result (with_upload_at (id, upload.now)) }
+    ensures err { FailsInside S.Store tx.old tx.new result }
+    ensures survives { CommitsNothing S.Store tx.old tx.new }
 {
     let id = whole(id)?;
     let name = upload.name.as_str();

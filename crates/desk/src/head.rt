@@ -1,4 +1,7 @@
 //! The head of a request, and what it asks for.
+//!
+//! A line of a head may end in LF alone, and empty lines may come first, as httparse has it. Only CR LF CR LF ends a head: one that
+//! httparse finds complete earlier is 400.
 ghost use Rattle.std.specs.Prelude.{◌≡◌, ◌≤◌, true, false, ℕ, List, [], length, map, drop, All, unwrap_or, IfOk, IfErr, OnErr, MatchResult, string_bytes};
 ghost use Rattle.std.specs.List.{list_any, list_all};
 ghost use Rattle.std.specs.Char.{is_ascii_digit};

@@ -1,4 +1,7 @@
 //! The bytes of a reply, written piece by piece, so that none of them takes memory.
+//!
+//! The texts of a reply are in the program or come from the archive, and a fault is written in parts. So a reply takes no memory, and a 422
+//! never becomes a 507.
 ghost use Rattle.std.specs.Prelude.{◌≡◌, ◌≤◌, ◌*◌, ◌^◌, false, None, [], unwrap_or, length, string_bytes, OnOk, OnErr};
 ghost use Rattle.std.specs.List.{flat_map};
 ghost use Rattle.std.specs.Io.KnownBytes.{Appends, Keeps};

@@ -1,14 +1,15 @@
 -- What a keeper keeps, as contracts see it: the book.
-use Rattle.std.specs.Prelude.{◌≡◌, ℕ, ◌+◌, ◌*◌, Bool, true, false, ◌&&◌, ◌||◌, not, nat_eq, nat_lt, if◌then◌else◌, List, [], ◌∷◌, ◌++◌, map, filter, find, length, codes, bytes_eq, Option, Some, None, option_map, option_and_then, unwrap_or}
+use Rattle.std.specs.Prelude.{◌≡◌, ℕ, ◌+◌, ◌*◌, Bool, true, false, ◌&&◌, ◌||◌, not, nat_eq, nat_lt, if◌then◌else◌, List, [], ◌∷◌, ◌++◌, map, filter, find, length, bytes_eq, Option, Some, None, option_map, option_and_then, unwrap_or}
 use Rattle.std.specs.Ordering.{ordering_then, nat_cmp, is_gt}
 use Rattle.std.specs.declared.cmp.Ordering.{Ordering}
-use Rattle.std.specs.List.{list_any, list_all, ends_with, filter_map, fold, enumerate_from}
+use Rattle.std.specs.List.{list_any, list_all, filter_map, fold, enumerate_from}
 use Rattle.std.specs.Option.{option_or}
 use Rattle.std.specs.Result.{result_ok}
 use Rattle.std.specs.FinMap.{get, values}
 use Rattle.records.specs.Values.{ChangesValue}
 use Rattle.records.specs.Records.{changes_in}
 use Rattle.rules.specs.Values.{ConfigValue}
+use Rattle.sums.specs.FileNames.{is_changes_name}
 use Rattle.sums.specs.Prints.{print as print_of, same_print}
 use Rattle.sums.specs.declared.entries.Entry.{Entry}
 use Rattle.sums.specs.declared.print.Print.{Print}
@@ -88,10 +89,6 @@ unfoldable pub at_moment : ℕ → Book → Book
 at_moment moment book = record book { arrivals = current (span book.config) moment book.arrivals }
 
 -- ---- uploads
-
--- the name of a .changes
-unfoldable pub is_changes_name : List ℕ → Bool
-is_changes_name name = ends_with nat_eq name (codes ".changes")
 
 -- a .changes that arrived, and the record that it is
 pub record Candidate : Type 0 where

@@ -3,13 +3,13 @@ use Rattle.std.specs.Prelude.{◌≡◌, ◌≢◌, ◌≤◌, ◌<◌, ◌%◌,
 use Rattle.std.specs.FinMap.{get}
 use Rattle.records.specs.Values.{ChangesValue}
 use Rattle.records.specs.Records.{changes_in}
-use Rattle.sums.specs.Lines.{is_file_name}
+use Rattle.sums.specs.FileNames.{is_changes_name, is_file_name}
 use Rattle.sums.specs.Prints.{print as print_of}
 use Rattle.sums.specs.declared.print.Print.{Print}
 use Rattle.suites.specs.Plan.{IsStep, applied}
 use Rattle.suites.specs.Shelves.{ShelvesValue, pool}
 use Rattle.suites.specs.Told.{AreTold}
-use Rattle.keep.specs.Book.{Book, Candidate, amended, at_moment, is_changes_name, due, judgements, shown_past, stored_body, text_at}
+use Rattle.keep.specs.Book.{Book, Candidate, amended, at_moment, due, judgements, shown_past, stored_body, text_at}
 use Rattle.keep.specs.declared.arrival.Arrival.{Arrival}
 use Rattle.keep.specs.declared.change.Step.{Step}
 use Rattle.keep.specs.declared.change.Change.{Change}

@@ -1,4 +1,10 @@
 //! What a change makes of what is kept.
+//!
+//! A change is a list of plans in order, the plan of an upload with its judgement beside it. It judges the first of the uploads that are
+//! due, and is made whole or not at all.
+//!
+//! It names the index texts that differ, so that a keeper which stores texts writes these alone. The plain keeper renders a text when it is
+//! asked for one, and passes over those of a change.
 
 ghost use Rattle.std.specs.Prelude.{◌≡◌};
 ghost use Rattle.sums.specs.Prints.{print as print_of};

@@ -1,4 +1,15 @@
 //! The trait of keepers.
+//!
+//! A store is clean while it returns what was written to it. The trait says what a call answers if the store is clean after it, and else
+//! promises nothing.
+//!
+//! A keeper that a failed commit has shut refuses each call from then on: its files have to be opened again before a call is repeated. So
+//! what a refusal leaves is said of keepers that are still open.
+//!
+//! The bytes of a body that is coming are a value of each keeper beside its book (`coming`), and no field of the book. So books are
+//! compared without them, and what is said of books needs no word on them.
+//!
+//! `arrive` is a method of the trait: `begin`, the pieces, `finish`. So a body in memory and one that a reader gives take one way.
 
 ghost use Rattle.std.specs.Prelude.{◌≡◌, ◌≤◌, All, ◌++◌, ◌⊎◌, [], ℕ, Bool, List, Option, Some, None, IfOk, IfErr, OnOk, OnErr, length, map, not};
 ghost use Rattle.std.specs.Option.{option_map};

@@ -1,4 +1,6 @@
 //! A keeper in memory, which keeps everything as lists and goes over them at each call.
+//!
+//! Index texts follow from the book, and are no field of it. Files are a field, since bodies outlive arrivals: a cleaning leaves the pool.
 
 ghost use Rattle.std.specs.Prelude.{◌≤◌, All, IfOk};
 

@@ -7,7 +7,8 @@ ghost use Rattle.std.specs.Ordering.{is_gt};
 ghost use Rattle.std.specs.Result.{result_ok};
 ghost use Rattle.records.specs.Records.{changes_in as record_in};
 ghost use Rattle.suites.specs.Upload.{has_text as keeps_text};
-ghost use Rattle.keep.specs.Book.{body_for, candidate_of, candidate_order, is_changes_name, is_complete, is_there as has_come, judging_order as order_of, put_in_order, upload_of as upload_at};
+ghost use Rattle.sums.specs.FileNames.{is_changes_name as has_changes_name};
+ghost use Rattle.keep.specs.Book.{body_for, candidate_of, candidate_order, is_complete, is_there as has_come, judging_order as order_of, put_in_order, upload_of as upload_at};
 ghost use Rattle.keep.specs.declared.arrival.Arrival.{Arrival as ArrivalValue};
 ghost use Rattle.keep.specs.Scan.{candidate_view, counted, has_judgement, unjudged_in, waiting_of};
 
@@ -19,7 +20,7 @@ use records::{Changes, RecordFault};
 use std::alloc::{AllocError, Global};
 use std::cmp::Ordering;
 use suites::{Upload, has_text};
-use sums::{Entry, Print};
+use sums::{Entry, Print, is_changes_name};
 
 /// The bytes of a list in a list of their own.
 pub fn copied(alloc: Global, bytes: &[u8]) -> Result<Listed<u8>, AllocError>
@@ -95,19 +96,18 @@ fn changes_in(alloc: Global, text: &[u8]) -> Result<Option<Changes>, AllocError>
 }
 
 /// Whether the arrival has the name of a .changes.
-#[tactic(auto, unfolding(crate::specs::Book::is_changes_name))]
 fn is_changes(arrival: &Arrival) -> bool
-    ensures { result ≡ is_changes_name arrival.now.name }
+    ensures { result ≡ has_changes_name arrival.now.name }
 {
-    arrival.name.as_str().as_bytes().ends_with(b".changes")
+    is_changes_name(arrival.name.as_str())
 }
 
 /// The .changes that an arrival is, or nothing where it is none.
-#[tactic(auto, unfolding(crate::specs::Book::candidate_of, crate::specs::Book::is_changes_name))]
+#[tactic(auto, unfolding(crate::specs::Book::candidate_of))]
 fn read_candidate(alloc: Global, arrival: &Arrival) -> Result<Option<Candidate<'_>>, AllocError>
     ensures { IfOk result (λ found. option_map candidate_view found ≡ candidate_of arrival.now) }
 {
-    if !arrival.name.as_str().as_bytes().ends_with(b".changes") {
+    if !is_changes(arrival) {
         return Ok(None);
     }
     match changes_in(alloc, arrival.body.as_slice())? {

@@ -19,10 +19,11 @@ use Rattle.keep.specs.declared.change.Change.{Change}
 use Rattle.keep.specs.declared.change.IndexText.{IndexText}
 use Rattle.keep.specs.declared.change.Judgement.{Judgement}
 use Rattle.tables.specs.Rows.{tables_in}
-use Rattle.tables_meaning.specs.Archives.{KeepsArchive, book_of}
+use Rattle.tables_meaning.specs.Archives.{KeepsArchive, book_in_database}
 use Rattle.tables_meaning.specs.Kept.{book_in}
 use Rattle.tables_meaning.specs.Shown.{shown_in}
 use Rattle.tables_meaning.proofs.CallLemmas.{shown_here}
+use Rattle.tables_meaning.proofs.FinishedLemmas.{not_true}
 use Rattle.keep_tables.specs.AtHand.{AreAtHand, AreKnown, AreRenewedAtMost, NotesAtMost, is_of_another, is_print_of, is_renewed}
 use Rattle.keep_tables.specs.declared.text_prints.TextPrint.{TextPrint}
 
@@ -106,10 +107,6 @@ other_kept (Some body) (Some p) text other here = by_case (bytes_eq body text.te
 
 -- ---- what a change renews
 
-not_true : (b : Bool) → not b ≡ true → b ≡ false
-not_true true e = absurd (true≢false (sym e))
-not_true false e = refl
-
 -- what is forgotten first
 pub forgotten : (old new : List TextPrint) (texts : List IndexText) → new ≡ filter (λ p. not (is_renewed texts p.path)) old → AreRenewedAtMost old texts new
 forgotten old new texts is p at =
@@ -144,7 +141,7 @@ known_amended book change old new renewed notes known p at =
     ]
 
 pub known_past : (db : Database) (config : ConfigValue) (judged : List Judgement) (shown : ShelvesValue) (dates : List ℕ) (change : Change) (old new : List TextPrint)
-    → AreRenewed (book_of db config judged shown dates) (amended (book_of db config judged shown dates) change) change.texts → AreRenewedAtMost old change.texts new
+    → AreRenewed (book_in_database db config judged shown dates) (amended (book_in_database db config judged shown dates) change) change.texts → AreRenewedAtMost old change.texts new
     → AreKnown config shown dates old → AreKnown config (shown_past shown change.steps) (dates_past change.moment dates change.steps) new
 unfolding book_in
-known_past db config judged shown dates change old new renewed notes known = known_amended (book_of db config judged shown dates) change old new renewed notes known
+known_past db config judged shown dates change old new renewed notes known = known_amended (book_in_database db config judged shown dates) change old new renewed notes known

@@ -16,16 +16,16 @@ use Rattle.keep.specs.Keeping.{IsDeliverable}
 use Rattle.keep.specs.declared.change.Judgement.{Judgement}
 use Rattle.tables.specs.Bodies.{body_with}
 use Rattle.tables.specs.Rows.{Tables, Holds, tables_in}
-use Rattle.tables.specs.declared.rows.Body.{Body}
+use Rattle.tables.specs.declared.rows.BodyRow.{BodyRow}
 use Rattle.tables.proofs.BookLemmas.{held_tables, is_archive}
 use Rattle.tables_bodies.specs.AtOnce.{HasNoOtherPiece, IsOnePiece, is_new_at_once, with_delivery_at_once}
 use Rattle.tables_bodies.specs.Counting.{arrival_counts}
 use Rattle.tables_bodies.specs.UnderWay.{IsUnderWay}
 use Rattle.tables_bodies.specs.declared.coming.Begun.{Begun}
-use Rattle.tables_meaning.specs.Archives.{KeepsArchive, Turns, book_of}
+use Rattle.tables_meaning.specs.Archives.{KeepsArchive, Turns, book_in_database}
 use Rattle.tables_meaning.specs.Coming.{HasComing, with_coming}
 use Rattle.tables_meaning.specs.Finished.{finished}
-use Rattle.tables_meaning.specs.Kept.{IsKept, book_in, bytes_of, piece_count, pieces_for, pieces_of}
+use Rattle.tables_meaning.specs.Kept.{IsBook, book_in, bytes_of, piece_count, pieces_for, pieces_of}
 use Rattle.tables_meaning.specs.Making.{number_with, with_bytes, with_delivered}
 use Rattle.tables_meaning.specs.Taking.{HasNoOther, listed_in}
 use Rattle.tables_meaning.proofs.BodyLemmas.{HasBody, body_found}
@@ -90,15 +90,15 @@ module _ (old : State) (settled : IsTrue old.is_open → old.now ≡ old.committ
   whole : finished was ≡ was
   whole = rows_finished was coming
 
-  kept_now : IsKept was config judged shown dates
-  kept_now = subst (λ t. IsKept t config judged shown dates) whole keeps.kept
+  kept_now : IsBook was config judged shown dates
+  kept_now = subst (λ t. IsBook t config judged shown dates) whole keeps.kept
 
   no_other : HasNoOther (print_of bytes) bytes was
   no_other found there =
       let row : HasBody was.bodies found (print_of bytes) = body_found (print_of bytes) was.bodies found there in
       let its : pieces_of was found ≡ pieces_for found (bytes_of was found) =
       subst (λ n. pieces_of was n ≡ pieces_for n (bytes_of was n)) row.number
-      (All-contains (λ (x : ℕ × Body). pieces_of was x.0 ≡ pieces_for x.0 (bytes_of was x.0)) was.bodies row.body kept_now.bodies.pieces row.within) in
+      (All-contains (λ (x : ℕ × BodyRow). pieces_of was x.0 ≡ pieces_for x.0 (bytes_of was x.0)) was.bodies row.body kept_now.bodies.pieces row.within) in
       only_piece was found bytes (bytes_of was found) its (fits was held_now found (ap (λ p. body_with p was.bodies) printed ∙ there))
 
   module _ (name : List ℕ) (moment : ℕ) (in_time : moment ≤ latest) (deliverable : IsDeliverable name bytes) where
@@ -122,7 +122,7 @@ module _ (old : State) (settled : IsTrue old.is_open → old.now ≡ old.committ
       at_once_turns = record {
         kept = record {
           held = is_archive db (with_delivery_at_once name bytes print moment was) (done was held_now);
-          kept = subst (λ t. IsKept t config judged shown dates) (sym all_finished) keeps_delivery.kept;
+          kept = subst (λ t. IsBook t config judged shown dates) (sym all_finished) keeps_delivery.kept;
           coming = finished_under_way (tables_in db) (all_finished ∙ sym rows_are);
         };
         book = ap (book_in config judged shown dates) all_finished ∙ keeps_delivery.book ∙ ap (λ t. delivers (book_in config judged shown dates t)) (sym whole);
@@ -133,7 +133,7 @@ module _ (old : State) (settled : IsTrue old.is_open → old.now ≡ old.committ
 
     -- whether the arrival is new at the moment
     pub at_once_new : (new : Bool) → (seconds : Option ℕ) → seconds ≡ span config → ((t : Tables) → Holds old.now t → new ≡ is_new_at_once name bytes print seconds moment t)
-        → new ≡ not (has_arrival (at_moment moment (book_of old.committed config judged shown dates)).arrivals (record { name = name; body = bytes; moment = moment }))
+        → new ≡ not (has_arrival (at_moment moment (book_in_database old.committed config judged shown dates)).arrivals (record { name = name; body = bytes; moment = moment }))
     unfolding at_moment book_in
     at_once_new new seconds same answer =
         let stored = with_bytes (print_of bytes) bytes was in

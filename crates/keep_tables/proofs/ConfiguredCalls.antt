@@ -11,7 +11,7 @@ use Rattle.keep.specs.Configured.{reconfigured}
 use Rattle.keep.specs.declared.change.Judgement.{Judgement}
 use Rattle.tables.proofs.BookLemmas.{held_tables, is_archive}
 use Rattle.tables.specs.Rows.{Holds, Tables, tables_in}
-use Rattle.tables_meaning.specs.Archives.{KeepsArchive, KeepsLeft, book_of}
+use Rattle.tables_meaning.specs.Archives.{KeepsArchive, KeepsLeft, book_in_database}
 use Rattle.tables_meaning.specs.Coming.{HasComing}
 use Rattle.tables_meaning.specs.Configuring.{Reconfigures, with_configured}
 use Rattle.tables_meaning.specs.Finished.{finished}
@@ -64,9 +64,9 @@ module _ (before after : Database) (config other : ConfigValue) (judged : List J
 -- ---- the book
 
 module _ {config other : ConfigValue} {judged : List Judgement} {shown given : ShelvesValue} {was dates : List ℕ} (old new : Database) (turn : Reconfigures old new config other judged shown was given dates) where
-  pub configured_here : book_of new other judged (shown_in other.suites (tables_in new)) dates ≡ reconfigured other given dates (book_of old config judged shown was)
-  configured_here = ap (λ s. book_of new other judged s dates) (shown_here new turn.kept) ∙ turn.book
+  pub configured_here : book_in_database new other judged (shown_in other.suites (tables_in new)) dates ≡ reconfigured other given dates (book_in_database old config judged shown was)
+  configured_here = ap (λ s. book_in_database new other judged s dates) (shown_here new turn.kept) ∙ turn.book
 
   -- what a crash leaves of it
-  pub configured_left : (trees : Trees) → trees ≡ new.trees → (left : Option Book) → KeepsLeft trees left → left ≡ Some (reconfigured other given dates (book_of old config judged shown was))
+  pub configured_left : (trees : Trees) → trees ≡ new.trees → (left : Option Book) → KeepsLeft trees left → left ≡ Some (reconfigured other given dates (book_in_database old config judged shown was))
   configured_left trees same left here = left_is trees new same ∣ turn.kept ∣₁ left here ∙ ap Some turn.book

@@ -1,5 +1,5 @@
 -- The rows without the bodies that are not whole.
-use Rattle.std.proofs.Common.{◌≡◌, ◌≢◌, ℕ, ◌<◌, None, length, Bool, true, false, not, ◌&&◌, ◌||◌, cond, nat_eq, List, [], ◌∷◌, map, filter, All, IsTrue, refl, sym, ap, subst, ◌∙◌, arith}
+use Rattle.std.proofs.Common.{◌≡◌, ◌≢◌, ℕ, None, length, Bool, true, false, not, ◌&&◌, ◌||◌, cond, nat_eq, List, [], ◌∷◌, map, filter, All, IsTrue, refl, sym, ap, subst, ◌∙◌, arith}
 use Rattle.std.specs.List.{AllByRecursion, list_any}
 use Rattle.std.proofs.lemmas.Bool.{and_right, eqb-true, or_parts}
 use Rattle.std.proofs.lemmas.Bool.Decides.{nat_tests}
@@ -9,25 +9,19 @@ use Rattle.std.proofs.lemmas.List.Kept.{AllPairs-filter}
 use Rattle.sqlite_keyed.proofs.ListLemmas.{all_both, all_weaker, any_from_none, none_from_any}
 use Rattle.tables.specs.Pieces.{is_of}
 use Rattle.tables.specs.Rows.{Numbered, Rises, Tables, rows_of, without}
-use Rattle.tables.specs.declared.rows.Body.{Body}
+use Rattle.tables.specs.declared.rows.BodyRow.{BodyRow}
 use Rattle.tables.specs.declared.rows.Piece.{Piece}
 use Rattle.tables_read.specs.All.{AreConstrained}
 use Rattle.tables_meaning.specs.Finished.{finished, is_of_unfinished, is_unfinished, without_all}
 use Rattle.tables_meaning.specs.Kept.{AreReadable, has_body}
 use Rattle.tables_meaning.proofs.Searches.{any_parts, any_same, filter_same_on, list_any-filter}
+use Rattle.tables_meaning.proofs.FinishedLemmas.{has_unfinished, or_false, tells}
+use Rattle.tables_meaning.proofs.SweptFinished.{and_true}
 use Rattle.tables_bodies.proofs.RemovedLemmas.{removed_each, taken_out}
 use Rattle.keep_tables.specs.Finishing.{are_named, is_among, unfinished_ids}
 use Rattle.tables_audit.specs.Whole.{KeepsNone}
 
 -- ---- tests and lists
-
-and_true : (b : Bool) → (b && true) ≡ b
-and_true true = refl
-and_true false = refl
-
-or_false : (b : Bool) → (b || false) ≡ b
-or_false true = refl
-or_false false = refl
 
 pub nil_if : (ids : List ℕ) → length ids ≡ 0 → ids ≡ []
 nil_if [] none = refl
@@ -35,11 +29,7 @@ nil_if (n ∷ ns) none = absurd (omega (arith, none))
 
 -- ---- the numbers of bodies that are not whole
 
--- such a body has this number
-abbrev has_unfinished : Numbered Body → ℕ → Bool
-has_unfinished bodies id = list_any (λ x. nat_eq id x.0 && is_unfinished x) bodies
-
-any_unfinished : (bodies : Numbered Body) (id : ℕ) → has_unfinished bodies id ≡ is_among (unfinished_ids bodies) id
+any_unfinished : (bodies : Numbered BodyRow) (id : ℕ) → has_unfinished bodies id ≡ is_among (unfinished_ids bodies) id
 any_unfinished [] id = refl
 any_unfinished (x ∷ xs) id =
     let more = any_unfinished xs id in
@@ -48,36 +38,15 @@ any_unfinished (x ∷ xs) id =
       | false ↦ λ i. and_right (nat_eq id x.0) false refl i || more i
     ]
 
-other_below : (a b : ℕ) → a < b → nat_eq a b ≡ false
-other_below a b below = grind (arith, nat_tests)
-
-other_above : (a b : ℕ) → a < b → nat_eq b a ≡ false
-other_above a b below = grind (arith, nat_tests)
-
-itself : (a : ℕ) → nat_eq a a ≡ true
-itself a = grind (arith, nat_tests)
-
 turned : (a b : ℕ) → nat_eq a b ≡ nat_eq b a
 turned a b = grind (arith, nat_tests)
-
-none_past : (n : ℕ) (xs : Numbered Body) → AllByRecursion (λ y. n < y.0) xs → has_unfinished xs n ≡ false
-none_past n [] h = refl
-none_past n (x ∷ xs) h = rw (other_below n x.0 h.0, none_past n xs h.1) refl
-
--- the number of a body tells whether it is whole
-tells : (xs : Numbered Body) → Rises xs → AllByRecursion (λ y. has_unfinished xs y.0 ≡ is_unfinished y) xs
-tells [] up = tt
-tells (x ∷ xs) up = (
-  rw (itself x.0, none_past x.0 xs up.0) (or_false (is_unfinished x)),
-  all_both (λ y. x.0 < y.0) (λ y. has_unfinished xs y.0 ≡ is_unfinished y) (λ y. has_unfinished (x ∷ xs) y.0 ≡ is_unfinished y) (λ y below is. rw (other_above x.0 y.0 below) is) xs up.0 (tells xs up.1),
-)
 
 -- ---- the rows that are left
 
 others_left : (t : Tables) → without (λ (p : ℕ × Piece). is_among (unfinished_ids t.bodies) p.1.body) t.pieces ≡ without (λ p. is_of_unfinished t p.1) t.pieces
 others_left t = λ i. without (λ (p : ℕ × Piece). sym (any_unfinished t.bodies p.1.body) i) t.pieces
 
-pub rows_finished : (t : Tables) (bodies : Numbered Body) (pieces : Numbered Piece) → bodies ≡ without is_unfinished t.bodies → pieces ≡ without (λ p. is_among (unfinished_ids t.bodies) p.1.body) t.pieces
+pub rows_finished : (t : Tables) (bodies : Numbered BodyRow) (pieces : Numbered Piece) → bodies ≡ without is_unfinished t.bodies → pieces ≡ without (λ p. is_among (unfinished_ids t.bodies) p.1.body) t.pieces
     → record t { bodies = bodies; pieces = pieces } ≡ finished t
 unfolding finished
 rows_finished t bodies pieces b p = let q = p ∙ others_left t in λ i. record t { bodies = b i; pieces = q i }
@@ -95,7 +64,7 @@ finished_as t up =
 -- ---- what the keys keep true
 
 -- a body of this number is there
-abbrev is_there : Numbered Body → ℕ → Bool
+abbrev is_there : Numbered BodyRow → ℕ → Bool
 is_there bodies id = list_any (λ x. nat_eq x.0 id) bodies
 
 swapped : (u : Bool) (a b : ℕ) → (not (not u) && nat_eq a b) ≡ (nat_eq b a && u)
@@ -103,10 +72,10 @@ swapped true a b = turned a b ∙ sym (and_true (nat_eq b a))
 swapped false a b = sym (and_right (nat_eq b a) false refl)
 
 -- one that is there is left where it is not one of these
-stays : (bodies : Numbered Body) (id : ℕ) → is_there bodies id ≡ true → has_unfinished bodies id ≡ false → is_there (without is_unfinished bodies) id ≡ true
+stays : (bodies : Numbered BodyRow) (id : ℕ) → is_there bodies id ≡ true → has_unfinished bodies id ≡ false → is_there (without is_unfinished bodies) id ≡ true
 stays bodies id there none =
-    let q = λ (x : ℕ × Body). not (is_unfinished x) in
-    let p = λ (x : ℕ × Body). nat_eq x.0 id in
+    let q = λ (x : ℕ × BodyRow). not (is_unfinished x) in
+    let p = λ (x : ℕ × BodyRow). nat_eq x.0 id in
     let others : list_any (λ x. not (q x) && p x) bodies ≡ false = any_same (λ x. not (q x) && p x) (λ x. nat_eq id x.0 && is_unfinished x) (λ x. swapped (is_unfinished x) x.0 id) bodies ∙ none in
     list_any-filter p q bodies ∙ sym (or_false _) ∙ ap (λ b. list_any (λ x. q x && p x) bodies || b) (sym others) ∙ sym (any_parts q p bodies) ∙ there
 
@@ -121,7 +90,7 @@ owned_pieces t (x ∷ xs) h = go (is_of_unfinished t x.1) refl (owned_pieces t x
     go true e more = more
     go false e more = (stays t.bodies x.1.body h.0 e, more)
 
-owners_stay : {X : Type 0} (bodies : Numbered Body) (body : X → ℕ) (xs : List X) → All (λ a. IsTrue (is_there bodies (body a))) xs → list_any (λ a. is_among (unfinished_ids bodies) (body a)) xs ≡ false
+owners_stay : {X : Type 0} (bodies : Numbered BodyRow) (body : X → ℕ) (xs : List X) → All (λ a. IsTrue (is_there bodies (body a))) xs → list_any (λ a. is_among (unfinished_ids bodies) (body a)) xs ≡ false
     → All (λ a. IsTrue (is_there (without is_unfinished bodies) (body a))) xs
 owners_stay {X} bodies body xs owned none =
     let P = λ (a : X). IsTrue (is_there bodies (body a)) in
@@ -157,17 +126,17 @@ readable_whole t whole is readable = subst AreReadable (sym is) readable
 
 -- ---- what names a body that is not whole
 
-gone : (bodies : Numbered Body) (id : ℕ) → Rises bodies → is_among (unfinished_ids bodies) id ≡ true → is_there (without is_unfinished bodies) id ≡ false
+gone : (bodies : Numbered BodyRow) (id : ℕ) → Rises bodies → is_among (unfinished_ids bodies) id ≡ true → is_there (without is_unfinished bodies) id ≡ false
 gone bodies id up among =
     list_any-filter (λ x. nat_eq x.0 id) (λ x. not (is_unfinished x)) bodies
     ∙ any_from_none (λ x. not (is_unfinished x) && nat_eq x.0 id) bodies
     (all_weaker (λ y. has_unfinished bodies y.0 ≡ is_unfinished y) (λ y. (not (is_unfinished y) && nat_eq y.0 id) ≡ false) (λ y is. go y is (nat_eq y.0 id) refl) bodies (tells bodies up))
   where
-    go : (y : ℕ × Body) → has_unfinished bodies y.0 ≡ is_unfinished y → (b : Bool) → nat_eq y.0 id ≡ b → (not (is_unfinished y) && b) ≡ false
+    go : (y : ℕ × BodyRow) → has_unfinished bodies y.0 ≡ is_unfinished y → (b : Bool) → nat_eq y.0 id ≡ b → (not (is_unfinished y) && b) ≡ false
     go y is true e = let u : is_unfinished y ≡ true = sym is ∙ ap (has_unfinished bodies) (eqb-true y.0 id e) ∙ any_unfinished bodies id ∙ among in rw u refl
     go y is false e = and_right (not (is_unfinished y)) false refl
 
-no_owner : {X : Type 0} (bodies : Numbered Body) (body : X → ℕ) (xs : List X) → Rises bodies → list_any (λ a. is_among (unfinished_ids bodies) (body a)) xs ≡ true
+no_owner : {X : Type 0} (bodies : Numbered BodyRow) (body : X → ℕ) (xs : List X) → Rises bodies → list_any (λ a. is_among (unfinished_ids bodies) (body a)) xs ≡ true
     → All (λ a. IsTrue (is_there (without is_unfinished bodies) (body a))) xs → ⊥
 no_owner bodies body xs up named all =
     let some = Any-from_list_any (λ a. is_among (unfinished_ids bodies) (body a)) xs named in

@@ -12,7 +12,7 @@ use Rattle.sqlite_keyed.proofs.ListLemmas.{all_weaker, any_from_none}
 use Rattle.tables.specs.Arrivals.{is_arrival}
 use Rattle.tables.specs.Bodies.{body_with, with_print}
 use Rattle.tables.specs.Rows.{Numbered, Tables, Holds, next_in, rows_of, tables_in, with_body}
-use Rattle.tables.specs.declared.rows.Arrival.{Arrival}
+use Rattle.tables.specs.declared.rows.ArrivalRow.{ArrivalRow}
 use Rattle.tables.proofs.BookLemmas.{held_tables}
 use Rattle.sums.specs.declared.print.Print.{Print}
 use Rattle.rules.specs.Values.{ConfigValue}
@@ -27,31 +27,28 @@ use Rattle.tables_meaning.specs.Kept.{pieces_for}
 use Rattle.tables_meaning.specs.Making.{with_bytes, with_pieces}
 use Rattle.tables_meaning.proofs.BodyLemmas.{only_pieces}
 use Rattle.tables_meaning.proofs.Searches.{list_any-map, pairs_of_rows}
+use Rattle.tables_meaning.proofs.FinishedLemmas.{or_false}
 use Rattle.keep_tables.specs.Moments.{found_current}
 
-abbrev arrivals_of : Tables → Numbered Arrival
+abbrev arrivals_of : Tables → Numbered ArrivalRow
 arrivals_of t = t.arrivals
 
-or_false : (b : Bool) → (b || false) ≡ b
-or_false true = refl
-or_false false = refl
-
 -- two arrivals of one pair are alike
-alike : (name : List ℕ) (id : ℕ) (a b : Arrival) → is_arrival name id a ≡ true → is_arrival name id b ≡ true → is_arrival a.name a.body b ≡ true
+alike : (name : List ℕ) (id : ℕ) (a b : ArrivalRow) → is_arrival name id a ≡ true → is_arrival name id b ≡ true → is_arrival a.name a.body b ≡ true
 alike name id a b p q =
     let first = (Decides-and (bytes_eq a.name name) (nat_eq a.body id) (bytes_eq-Decides a.name name) (Decides-eqb a.body id)).0 p in
     let second = (Decides-and (bytes_eq b.name name) (nat_eq b.body id) (bytes_eq-Decides b.name name) (Decides-eqb b.body id)).0 q in
     (Decides-and (bytes_eq b.name a.name) (nat_eq b.body a.body) (bytes_eq-Decides b.name a.name) (Decides-eqb b.body a.body)).1 (second.0 ∙ sym first.0, second.1 ∙ sym first.1)
 
-module _ (name : List ℕ) (id : ℕ) (q : Arrival → Bool) where
-  other : (x y : ℕ × Arrival) → is_arrival name id x.1 ≡ true → is_arrival x.1.name x.1.body y.1 ≡ false → (is_arrival name id y.1 && q y.1) ≡ false
+module _ (name : List ℕ) (id : ℕ) (q : ArrivalRow → Bool) where
+  other : (x y : ℕ × ArrivalRow) → is_arrival name id x.1 ≡ true → is_arrival x.1.name x.1.body y.1 ≡ false → (is_arrival name id y.1 && q y.1) ≡ false
   other x y is apart = by (is_arrival name id y.1) refl
     where
       by : (b : Bool) → is_arrival name id y.1 ≡ b → (b && q y.1) ≡ false
       by true same = absurd (false≢true (sym apart ∙ alike name id x.1 y.1 is same))
       by false same = refl
 
-  found_only : (xs : Numbered Arrival) → IsAscending (λ x y. is_arrival x.1.name x.1.body y.1 ≡ false) xs
+  found_only : (xs : Numbered ArrivalRow) → IsAscending (λ x y. is_arrival x.1.name x.1.body y.1 ≡ false) xs
       → option_map_or (λ x. q x.1) (find (λ x. is_arrival name id x.1) xs) false ≡ list_any (λ x. is_arrival name id x.1 && q x.1) xs
   found_only [] up = refl
   found_only (x ∷ xs) up = go (is_arrival name id x.1) refl (found_only xs up.1)
@@ -60,7 +57,7 @@ module _ (name : List ℕ) (id : ℕ) (q : Arrival → Bool) where
           → option_map_or (λ y. q y.1) (find (λ y. is_arrival name id y.1) xs) false ≡ list_any (λ y. is_arrival name id y.1 && q y.1) xs
           → option_map_or (λ y. q y.1) (cond b (Some x) (find (λ y. is_arrival name id y.1) xs)) false ≡ ((b && q x.1) || list_any (λ y. is_arrival name id y.1 && q y.1) xs)
       go true is more =
-          let none = any_from_none (λ (y : ℕ × Arrival). is_arrival name id y.1 && q y.1) xs
+          let none = any_from_none (λ (y : ℕ × ArrivalRow). is_arrival name id y.1 && q y.1) xs
           (all_weaker (λ y. is_arrival x.1.name x.1.body y.1 ≡ false) (λ y. (is_arrival name id y.1 && q y.1) ≡ false) (λ y apart. other x y is apart) xs up.0) in
           sym (ap (λ b. q x.1 || b) none ∙ or_false (q x.1))
       go false is more = more
@@ -74,7 +71,7 @@ module _ (t : Tables) (apart : AllPairs (λ a b. is_arrival a.name a.body b ≡ 
   unfolding found_current is_current
   current_if_found name print =
       ap (λ (f : ℕ → Bool). option_map_or f (body_with print t.bodies) false)
-      (λ i id. (counts_if_some name id ∙ sym (list_any-map (λ a. is_arrival name id a && counts_row span moment a) (λ (x : ℕ × Arrival). x.1) t.arrivals)) i)
+      (λ i id. (counts_if_some name id ∙ sym (list_any-map (λ a. is_arrival name id a && counts_row span moment a) (λ (x : ℕ × ArrivalRow). x.1) t.arrivals)) i)
 
 -- ---- the arrivals beside a body that has come
 
@@ -92,7 +89,7 @@ ended_keeps (Some id) print t =
     elim (is_some (body_with print t.bodies)) as (λ b. arrivals_of (if b then without_whole id t else with_print id print t) ≡ t.arrivals) [ true ↦ refl | false ↦ refl ]
 ended_keeps None print t = bytes_keep print [] t
 
-abbrev pub AreApart : Numbered Arrival → Type 0
+abbrev pub AreApart : Numbered ArrivalRow → Type 0
 AreApart arrivals = AllPairs (λ a b. is_arrival a.name a.body b ≡ false) (rows_of arrivals)
 
 -- the pairs of an archive are apart, also beside a body that has come

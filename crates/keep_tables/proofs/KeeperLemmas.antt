@@ -6,16 +6,16 @@ use Rattle.sqlite.specs.Store.{Ghosts}
 use Rattle.rules.specs.Values.{ConfigValue}
 use Rattle.keep.specs.declared.change.Judgement.{Judgement}
 use Rattle.tables.specs.Rows.{tables_in}
-use Rattle.tables_meaning.specs.Archives.{KeepsFinished, book_of}
+use Rattle.tables_meaning.specs.Archives.{KeepsFinished, book_in_database}
 use Rattle.tables_meaning.specs.Shown.{shown_in}
 use Rattle.keep_tables.specs.Keepers.{config_in_use, table_book}
 use Rattle.keep_tables.specs.declared.keeper.TableKeeper.{TableKeeper}
 
 pub book_over : {S : Type 0} (g : Ghosts S) (k : TableKeeper S g) (conn : Held S) (config : ConfigValue) (judged : Vec Judgement Global) (dates : Vec ℕ Global)
     → k.conn ≡ conn → k.config ≡ config → k.judged ≡ judged → k.dates ≡ dates → (db : Database)
-    → KeepsFinished db config (book_of (state g conn).committed config judged.items (shown_in config.suites (tables_in (state g conn).committed)) dates.items)
+    → KeepsFinished db config (book_in_database (state g conn).committed config judged.items (shown_in config.suites (tables_in (state g conn).committed)) dates.items)
     → KeepsFinished db (config_in_use k) (table_book k)
 book_over g k conn config judged dates to has told dated db keeps =
-    let book : table_book k ≡ book_of (state g conn).committed config judged.items (shown_in config.suites (tables_in (state g conn).committed)) dates.items =
-    λ i. book_of (state g (to i)).committed (has i) (told i).items (shown_in (has i).suites (tables_in (state g (to i)).committed)) (dated i).items in
+    let book : table_book k ≡ book_in_database (state g conn).committed config judged.items (shown_in config.suites (tables_in (state g conn).committed)) dates.items =
+    λ i. book_in_database (state g (to i)).committed (has i) (told i).items (shown_in (has i).suites (tables_in (state g (to i)).committed)) (dated i).items in
     subst (λ c. KeepsFinished db c (table_book k)) (sym has) (subst (λ b. KeepsFinished db config b) (sym book) keeps)

@@ -1,5 +1,5 @@
 -- What the reads find at a moment is what the book has then.
-use Rattle.std.proofs.Common.{◌≡◌, ℕ, ◌<◌, Bool, true, false, not, ◌&&◌, cond, nat_eq, if◌then◌else◌, List, [], ◌∷◌, map, filter, length, Option, Some, None, option_map, unwrap_or, refl, sym, ap, ap₂, subst, ◌∙◌, true≢false}
+use Rattle.std.proofs.Common.{◌≡◌, ℕ, ◌<◌, Bool, true, false, not, ◌&&◌, cond, nat_eq, if◌then◌else◌, List, [], ◌∷◌, map, filter, length, Option, Some, None, option_map, unwrap_or, refl, sym, ap, ap₂, subst, ◌∙◌}
 use Rattle.std.specs.List.{AllByRecursion, cons_option, filter_map, list_any}
 use Rattle.std.specs.Option.{option_and_then, option_map_or}
 use Rattle.std.specs.Ordering.{is_gt}
@@ -24,9 +24,9 @@ use Rattle.tables.specs.Arrivals.{is_arrival}
 use Rattle.tables.specs.Rows.{Rises, Tables, rows_of, tables_in}
 use Rattle.tables.specs.Uploads.{is_judged as has_place}
 use Rattle.tables.specs.Wants.{is_wanted_by}
-use Rattle.tables.specs.declared.rows.Upload.{Upload}
+use Rattle.tables.specs.declared.rows.UploadRow.{UploadRow}
 use Rattle.tables.specs.declared.rows.Want.{Want}
-use Rattle.tables_meaning.specs.Archives.{KeepsArchive, book_of}
+use Rattle.tables_meaning.specs.Archives.{KeepsArchive, book_in_database}
 use Rattle.tables_meaning.specs.Cleaning.{counts_row, has_ended, is_current, with_current}
 use Rattle.tables_meaning.specs.Finished.{finished}
 use Rattle.tables_meaning.specs.Kept.{AreArrivals, AreNumbered, AreStored, AreUploads, arrivals_in, book_in, bytes_of}
@@ -40,6 +40,8 @@ use Rattle.tables_meaning.proofs.RowLists.{all_filtered}
 use Rattle.tables_meaning.proofs.Searches.{filter_twice, map_same_on}
 use Rattle.tables_meaning.proofs.WaitingLemmas.{waiting_list_is}
 use Rattle.tables_meaning.proofs.WantingLemmas.{only_one, wanting_unjudged}
+use Rattle.tables_meaning.proofs.SweptFinished.{and_true}
+use Rattle.tables_meaning.proofs.SweptLemmas.{unset}
 use Rattle.tables_cleaning.proofs.CurrentLemmas.{arrivals_current, arrivals_left}
 use Rattle.tables_cleaning.proofs.CurrentUploads.{uploads_left, wants_left}
 use Rattle.keep_tables.specs.Moments.{due_at, found_current, is_had, missing_at, rows_at, waiting_at}
@@ -71,14 +73,6 @@ all_sorted : {X : Type 0} (P : X → Type 0) (order : X → X → Ordering) (xs 
 all_sorted P order [] all = tt
 all_sorted P order (x ∷ xs) all = all_put P order x (sorted_by order xs) all.0 (all_sorted P order xs all.1)
 
-unset : (b : Bool) → not b ≡ true → b ≡ false
-unset true e = absurd (true≢false (sym e))
-unset false e = refl
-
-and_true : (b : Bool) → (b && true) ≡ b
-and_true true = refl
-and_true false = refl
-
 -- of those that are not judged the ones that count are the ones that have not ended
 left_waits : (j c : Bool) → (not j && c) ≡ (not (not j && not c) && not j)
 left_waits true c = refl
@@ -91,7 +85,7 @@ abbrev waits_for : List ℕ → ℕ → Waiting
 waits_for name missing = record { name = name; missing = missing }
 
 -- by the bodies that are found
-abbrev read_by : (Print → Option (List ℕ)) → Upload → Option UploadValue
+abbrev read_by : (Print → Option (List ℕ)) → UploadRow → Option UploadValue
 read_by bytes u = option_and_then (λ body. option_map (λ (c : ChangesValue). record {
   name = u.name;
   print = u.print;
@@ -111,7 +105,7 @@ for_good moment arrivals = filter_all (counts None moment) arrivals (all_of (λ 
 
 rows_for_good : (moment : ℕ) (t : Tables) → rows_at None moment t ≡ wanting_rows t
 unfolding rows_at wanting_rows
-rows_for_good moment t = ap (sorted_by row_order) (chosen (λ (x : ℕ × Upload). true) (wanting t) ∙ filter_all (λ (x : ℕ × Upload). true) (wanting t) (all_of (λ (x : ℕ × Upload). true ≡ true) (λ x. refl) (wanting t)))
+rows_for_good moment t = ap (sorted_by row_order) (chosen (λ (x : ℕ × UploadRow). true) (wanting t) ∙ filter_all (λ (x : ℕ × UploadRow). true) (wanting t) (all_of (λ (x : ℕ × UploadRow). true ≡ true) (λ x. refl) (wanting t)))
 
 missing_for_good : (moment : ℕ) (t : Tables) (id : ℕ) → missing_at None moment t id ≡ missing_in t id
 unfolding missing_at missing_in
@@ -130,10 +124,10 @@ module _ (t : Tables) (judged : List Judgement) (up : AreNumbered t) (stored : A
   abbrev cur : List ℕ → Print → Bool
   cur name print = is_current (Some seconds) moment whole name print
 
-  abbrev ended : Upload → Bool
+  abbrev ended : UploadRow → Bool
   ended u = has_ended (Some seconds) moment whole u
 
-  abbrev unjudged : ℕ × Upload → Bool
+  abbrev unjudged : ℕ × UploadRow → Bool
   unjudged x = not (has_place x.1)
 
   -- an upload of this number has ended
@@ -170,9 +164,9 @@ module _ (t : Tables) (judged : List Judgement) (up : AreNumbered t) (stored : A
   rows_then : rows_at (Some seconds) moment t ≡ wanting_rows left
   unfolding rows_at wanting_rows
   rows_then =
-      let found : ℕ × Upload → Bool = λ x. found_current (Some seconds) moment t x.1.name x.1.print in
-      let counted : ℕ × Upload → Bool = λ x. cur x.1.name x.1.print in
-      let lives : ℕ × Upload → Bool = λ x. not (ended x.1) in
+      let found : ℕ × UploadRow → Bool = λ x. found_current (Some seconds) moment t x.1.name x.1.print in
+      let counted : ℕ × UploadRow → Bool = λ x. cur x.1.name x.1.print in
+      let lives : ℕ × UploadRow → Bool = λ x. not (ended x.1) in
       ap (sorted_by row_order)
       (chosen found (wanting t)
       ∙ filter_same found counted (λ x. same_current x.1.name x.1.print) (wanting t)
@@ -186,7 +180,7 @@ module _ (t : Tables) (judged : List Judgement) (up : AreNumbered t) (stored : A
   none_gone : AllByRecursion (λ x. has_gone x.0 ≡ false) (wanting_rows left)
   unfolding wanting_rows
   none_gone =
-      let HasNotGone : ℕ × Upload → Type 0 = λ x. has_gone x.0 ≡ false in
+      let HasNotGone : ℕ × UploadRow → Type 0 = λ x. has_gone x.0 ≡ false in
       all_sorted HasNotGone row_order (wanting left)
       (subst (AllByRecursion HasNotGone) (sym wanting_left)
       (all-filter HasNotGone unjudged (filter (λ x. not (ended x.1)) whole.uploads)
@@ -249,14 +243,14 @@ module _ (t : Tables) (judged : List Judgement) (up : AreNumbered t) (stored : A
   bytes_then : (print : Print) → bytes_with t print ≡ bytes_with left print
   bytes_then print = bytes_with_finished t up.bodies print ∙ same_bytes print
 
-  upload_then : (u : Upload) → upload_in t u ≡ upload_in left u
+  upload_then : (u : UploadRow) → upload_in t u ≡ upload_in left u
   unfolding upload_in text_in
   upload_then u = λ i. read_by (λ print. bytes_then print i) u
 
-  due_then : (x : ℕ × Upload) → has_gone x.0 ≡ false → due_at (Some seconds) moment t x ≡ due_in left x
+  due_then : (x : ℕ × UploadRow) → has_gone x.0 ≡ false → due_at (Some seconds) moment t x ≡ due_in left x
   due_then x none = ap₂ due_if (missing_then x.0 none) (upload_then x.1)
 
-  waiting_then : (x : ℕ × Upload) → has_gone x.0 ≡ false → waiting_at (Some seconds) moment t x ≡ waiting_in left x
+  waiting_then : (x : ℕ × UploadRow) → has_gone x.0 ≡ false → waiting_at (Some seconds) moment t x ≡ waiting_in left x
   waiting_then x none = ap (waits_for x.1.name) (missing_then x.0 none)
 
   module _ (b : Book) (same : b.arrivals ≡ arrivals_in left) (judged_are : b.judged ≡ judged) where
@@ -284,7 +278,7 @@ module _ (db : Database) (config : ConfigValue) (judged : List Judgement) (shown
   rows = tables_in db
 
   abbrev book_then : ℕ → Book
-  book_then moment = at_moment moment (book_of db config judged shown dates)
+  book_then moment = at_moment moment (book_in_database db config judged shown dates)
 
   rise : AreNumbered rows
   rise = numbered db rows keeps.held
@@ -308,7 +302,7 @@ module _ (db : Database) (config : ConfigValue) (judged : List Judgement) (shown
   pub dues_at : (seconds : Option ℕ) → seconds ≡ span config → (moment : ℕ)
       → filter_map (due_at seconds moment rows) (rows_at seconds moment rows) ≡ map (upload_of (book_then moment).arrivals) (due (book_then moment))
   dues_at None same moment =
-      let alike : (x : ℕ × Upload) → due_at None moment rows x ≡ due_in rows x = λ x. ap (λ n. due_if n (upload_in rows x.1)) (missing_for_good moment rows x.0) in
+      let alike : (x : ℕ × UploadRow) → due_at None moment rows x ≡ due_in rows x = λ x. ap (λ n. due_if n (upload_in rows x.1)) (missing_for_good moment rows x.0) in
       ap (filter_map (due_at None moment rows)) (rows_for_good moment rows)
       ∙ made_same (due_at None moment rows) (due_in rows) (wanting_rows rows) (all_of (λ x. due_at None moment rows x ≡ due_in rows x) alike (wanting_rows rows))
       ∙ dues_finished rows (book_then moment) rise.bodies rise.uploads (arrivals_then None same moment ∙ for_good moment (arrivals_in (finished rows))) (uploads_then moment)

@@ -14,16 +14,16 @@ use Rattle.keep.specs.declared.change.Judgement.{Judgement}
 use Rattle.tables.proofs.BookLemmas.{held_tables, is_archive}
 use Rattle.tables.specs.Rows.{Tables, Holds, IsArchive, Numbered, Rises, rows_of, tables_in, without}
 use Rattle.tables.specs.Others.{IsArchiveSchema}
-use Rattle.tables.specs.declared.rows.Body.{Body}
+use Rattle.tables.specs.declared.rows.BodyRow.{BodyRow}
 use Rattle.tables.specs.Real.{AreReal, IsRealBody, IsRealPrint}
-use Rattle.tables_meaning.specs.Archives.{KeepsArchive, KeepsFinished, book_of}
-use Rattle.tables_meaning.specs.Kept.{AreReadable, IsKept, book_in}
+use Rattle.tables_meaning.specs.Archives.{KeepsArchive, KeepsFinished, book_in_database}
+use Rattle.tables_meaning.specs.Kept.{AreReadable, IsBook, book_in}
 use Rattle.tables_meaning.specs.Shown.{shown_in}
 use Rattle.tables_meaning.proofs.CallLemmas.{kept_here, shown_here}
 use Rattle.tables_meaning.proofs.RealRows.{kept_readable, kept_real}
 use Rattle.tables_meaning.proofs.ComingLemmas.{none_coming}
 use Rattle.tables_meaning.proofs.FinishedLemmas.{finished_twice, shown_finished}
-use Rattle.tables_meaning.proofs.NameLemmas.{config_codenames}
+use Rattle.texts.proofs.Paths.{config_codenames}
 use Rattle.tables_meaning.proofs.ShownLemmas.{shown_is}
 use Rattle.tables_meaning.proofs.UnderWayLemmas.{finished_under_way}
 use Rattle.tables_meaning.specs.Coming.{HasComing}
@@ -43,13 +43,13 @@ archive_here db t config judged dates held some under =
     (subst (Holds db) same held, subst (λ u. KeepsSome (finished u) config judged dates) same some, subst AreUnderWay same under)
 
 -- a body without a print can be held
-real_more : (x : ℕ × Body) (bodies : Numbered Body) → (AllByRecursion IsRealBody (rows_of (without is_unfinished bodies)) → AllByRecursion IsRealBody (rows_of bodies))
+real_more : (x : ℕ × BodyRow) (bodies : Numbered BodyRow) → (AllByRecursion IsRealBody (rows_of (without is_unfinished bodies)) → AllByRecursion IsRealBody (rows_of bodies))
     → (print : Option Print) → x.1.print ≡ print
     → AllByRecursion IsRealBody (rows_of (cond (not (not (is_some print))) (x ∷ without is_unfinished bodies) (without is_unfinished bodies))) → AllByRecursion IsRealBody (rows_of (x ∷ bodies))
 real_more x bodies rest None is real = (subst (λ o. IfSome o IsRealPrint) (sym is) tt, rest real)
 real_more x bodies rest (Some p) is real = (real.0, rest real.1)
 
-real_bodies : (bodies : Numbered Body) → AllByRecursion IsRealBody (rows_of (without is_unfinished bodies)) → AllByRecursion IsRealBody (rows_of bodies)
+real_bodies : (bodies : Numbered BodyRow) → AllByRecursion IsRealBody (rows_of (without is_unfinished bodies)) → AllByRecursion IsRealBody (rows_of bodies)
 real_bodies [] real = tt
 real_bodies (x ∷ bodies) real = real_more x bodies (real_bodies bodies) x.1.print refl real
 
@@ -71,7 +71,7 @@ pub no_archive : (db : Database) (t : Tables) → Holds db t → (AreReadable t 
 unfolding finished
 no_archive db t held none archive under config judged shown dates h =
     let same = held_tables db t held in
-    let here : IsKept (finished t) config judged shown dates = subst (λ u. IsKept (finished u) config judged shown dates) same h in
+    let here : IsBook (finished t) config judged shown dates = subst (λ u. IsBook (finished u) config judged shown dates) same h in
     none (kept_readable (finished t) config judged shown dates here) (subst AreUnderWay same under) config judged shown dates here
 
 pub no_rows : (db : Database) → ((t : Tables) → AreReal t → Holds db t → ⊥) → IsNoArchive db
@@ -87,7 +87,7 @@ archive_shown : (db : Database) (config : ConfigValue) (judged : List Judgement)
 archive_shown db config judged dates held keeps under = ∥∥₁_map keeps (λ some. kept_here db (record { held = held; kept = some.1; coming = under }))
 
 -- what the whole rows are found to show is what all rows show
-pub found_shown : (t whole : Tables) → whole ≡ finished t → (config : ConfigValue) (judged : List Judgement) (shown : ShelvesValue) (dates : List ℕ) → IsKept whole config judged shown dates
+pub found_shown : (t whole : Tables) → whole ≡ finished t → (config : ConfigValue) (judged : List Judgement) (shown : ShelvesValue) (dates : List ℕ) → IsBook whole config judged shown dates
     → shown ≡ shown_in config.suites t
 found_shown t whole is config judged shown dates kept =
     sym (shown_is whole config.suites shown kept.items kept.sound.at_home (config_codenames config kept.read))
@@ -139,14 +139,14 @@ module _ (s : State) (config : ConfigValue) (judged : List Judgement) (dates ids
 
   -- and its book is that of the finished rows
   pub finished_book : (new : Database) → ((t : Tables) → Holds s.now t → Holds new (without_all ids t))
-      → KeepsFinished s.committed config (book_of new config judged (shown_in config.suites (tables_in new)) dates)
+      → KeepsFinished s.committed config (book_in_database new config judged (shown_in config.suites (tables_in new)) dates)
   finished_book new now =
       let t = tables_in s.now in
       let held : Holds new (finished t) = finished_now new t found.archive.0 (now t found.archive.0) in
       let is : finished (tables_in new) ≡ finished t = rows_finished_are new now in
-      subst (λ db. KeepsFinished db config (book_of new config judged (shown_in config.suites (tables_in new)) dates)) found.rests
+      subst (λ db. KeepsFinished db config (book_in_database new config judged (shown_in config.suites (tables_in new)) dates)) found.rests
       (∥∥₁_map found.archive.1 (λ some.
-      let kept : IsKept (finished (tables_in new)) config judged some.0 dates = subst (λ u. IsKept u config judged some.0 dates) (sym is) some.1 in
+      let kept : IsBook (finished (tables_in new)) config judged some.0 dates = subst (λ u. IsBook u config judged some.0 dates) (sym is) some.1 in
       let shows : shown_in config.suites (tables_in new) ≡ some.0 = shown_here new (record { held = is_archive new (finished t) held; kept = kept; coming = rows_under_way new now }) in
       (judged, some.0, dates, found.archive.0, some.1, found.archive.2, λ i. book_in config judged (shows i) dates (is i))))
 
@@ -178,7 +178,7 @@ module _ (s : State) (config : ConfigValue) (judged : List Judgement) (dates ids
   may_finish trees h = (h.0, h.1, h.2, λ t held. finished_now h.0 t held (h.3 t held))
 
   -- without any numbers it has the book itself
-  pub same_book_finished : ids ≡ [] → KeepsFinished s.committed config (book_of s.committed config judged (shown_in config.suites (tables_in s.committed)) dates)
+  pub same_book_finished : ids ≡ [] → KeepsFinished s.committed config (book_in_database s.committed config judged (shown_in config.suites (tables_in s.committed)) dates)
   same_book_finished none = finished_book s.committed (λ t held. subst (λ l. Holds s.committed (without_all l t)) (sym none) (subst (λ db. Holds db t) found.rests held))
 
   -- without any numbers the database is the archive's

@@ -15,13 +15,13 @@ use Rattle.keep.specs.declared.change.Judgement.{Judgement}
 use Rattle.tables.specs.Rows.{Tables, Holds, tables_in}
 use Rattle.tables.proofs.BookLemmas.{held_tables}
 use Rattle.tables_meaning.specs.Amending.{HasAllBodies}
-use Rattle.tables_meaning.specs.Archives.{KeepsArchive, book_of}
+use Rattle.tables_meaning.specs.Archives.{KeepsArchive, book_in_database}
 use Rattle.tables_meaning.specs.Coming.{HasComing}
 use Rattle.tables_meaning.specs.Making.{takes_file, with_change}
 use Rattle.tables_meaning.specs.Transactions.{IsDone, IsUndone, MayCommit}
 use Rattle.tables_meaning.proofs.TurnLemmas.{AmendsBy, KeepsComing, done_amends, done_ends, done_keeps}
-use Rattle.tables_changes.specs.Swept.{needs_sweep, with_made}
-use Rattle.tables_changes.proofs.SparedLemmas.{made_as_needed}
+use Rattle.tables_bodies.specs.Swept.{needs_sweep, with_made}
+use Rattle.tables_bodies.proofs.SparedLemmas.{made_as_needed}
 
 -- what is undone behind a read leaves what was there before
 pub undone_twice : (a b c : State) → IsUndone a b → IsUndone b c → IsUndone a c
@@ -75,10 +75,10 @@ module _ (config : ConfigValue) (judged : ℕ) (change : Change) (whole sweeps :
           subst (λ db. AmendsBy db new.committed config judged change) was (done_amends config judged change small inside mid new settled one (is_change keeps) arrived) prior shown dates keeps
 
       ends_by : list_any takes_file change.steps ≡ true → (prior : List Judgement) (shown : ShelvesValue) (dates : List ℕ) → KeepsArchive old.committed config prior shown dates → length prior ≡ judged
-          → IsSound (book_of old.committed config prior shown dates) change → HasComing (tables_in new.committed) []
+          → IsSound (book_in_database old.committed config prior shown dates) change → HasComing (tables_in new.committed) []
       unfolding one
       ends_by takes prior shown dates keeps =
-          subst (λ db. KeepsArchive db config prior shown dates → length prior ≡ judged → IsSound (book_of db config prior shown dates) change → HasComing (tables_in new.committed) []) was
+          subst (λ db. KeepsArchive db config prior shown dates → length prior ≡ judged → IsSound (book_in_database db config prior shown dates) change → HasComing (tables_in new.committed) []) was
           (done_ends config judged change small inside mid new settled takes one (is_change keeps) arrived prior shown dates) keeps
 
   module _ (small : change.moment ≤ latest) (inside : All (λ s. All (λ e. e.0.suite < length config.suites) s.plan.put) change.steps) where
@@ -90,7 +90,7 @@ module _ (config : ConfigValue) (judged : ℕ) (change : Change) (whole sweeps :
     pub made_ends : {X E : Type 0} (r : Result X E) (new : State) → HasCleanDisk mid → list_any takes_file change.steps ≡ true → OnOk r (IsDone mid new (with_made sweeps config judged change))
         → OnOk r ((t : Tables) → Holds mid.now t → HasAllBodies t change.steps)
         → OnOk r ((prior : List Judgement) (shown : ShelvesValue) (dates : List ℕ) → KeepsArchive old.committed config prior shown dates → length prior ≡ judged
-        → IsSound (book_of old.committed config prior shown dates) change → HasComing (tables_in new.committed) [])
+        → IsSound (book_in_database old.committed config prior shown dates) change → HasComing (tables_in new.committed) [])
     made_ends (Ok x) new clean takes done arrived = ends_by clean new done small inside arrived takes
     made_ends (Err e) new clean takes done arrived = tt
 

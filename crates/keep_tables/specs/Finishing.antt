@@ -2,11 +2,11 @@
 use Rattle.std.specs.Prelude.{ℕ, nat_eq, Bool, ◌||◌, List, map, filter}
 use Rattle.std.specs.List.{list_any}
 use Rattle.tables.specs.Rows.{Numbered, Tables, rows_of}
-use Rattle.tables.specs.declared.rows.Body.{Body}
+use Rattle.tables.specs.declared.rows.BodyRow.{BodyRow}
 use Rattle.tables_meaning.specs.Finished.{is_unfinished}
 
 -- the numbers of the bodies that are not whole
-abbrev pub unfinished_ids : Numbered Body → List ℕ
+abbrev pub unfinished_ids : Numbered BodyRow → List ℕ
 unfinished_ids bodies = map (λ x. x.0) (filter is_unfinished bodies)
 
 -- the number is one of these

@@ -5,7 +5,7 @@ use Rattle.sqlite.specs.Store.{Ghosts}
 use Rattle.rules.specs.Values.{ConfigValue}
 use Rattle.keep.specs.Book.{Book}
 use Rattle.tables.specs.Rows.{tables_in}
-use Rattle.tables_meaning.specs.Archives.{book_of}
+use Rattle.tables_meaning.specs.Archives.{book_in_database}
 use Rattle.tables_meaning.specs.Shown.{shown_in}
 use Rattle.keep_tables.specs.declared.keeper.TableKeeper.{TableKeeper}
 
@@ -19,4 +19,4 @@ config_in_use k = k.config
 
 -- the book that its tables keep
 abbrev pub table_book : {S : Type 0} {g : Ghosts S} → TableKeeper S g → Book
-table_book {S} {g} k = book_of (state g k.conn).committed k.config k.judged.items (shown_in k.config.suites (tables_in (state g k.conn).committed)) k.dates.items
+table_book {S} {g} k = book_in_database (state g k.conn).committed k.config k.judged.items (shown_in k.config.suites (tables_in (state g k.conn).committed)) k.dates.items

@@ -4,3 +4,4 @@ pub mod Opened
 pub mod Moments
 pub mod AtHand
 pub mod AtOnce
+pub mod Calls

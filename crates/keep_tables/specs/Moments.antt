@@ -8,7 +8,7 @@ use Rattle.keep.specs.declared.change.Waiting.{Waiting}
 use Rattle.tables.specs.Bodies.{body_with}
 use Rattle.tables.specs.Rows.{Numbered, Tables, rows_of}
 use Rattle.tables.specs.Wants.{is_wanted_by}
-use Rattle.tables.specs.declared.rows.Upload.{Upload}
+use Rattle.tables.specs.declared.rows.UploadRow.{UploadRow}
 use Rattle.tables.specs.declared.rows.Want.{Want}
 use Rattle.tables_bodies.specs.Counting.{arrival_counts}
 use Rattle.tables_meaning.specs.Reads.{row_order, sorted_by, upload_in, wanting}
@@ -23,11 +23,11 @@ still_counts None moment t name print = true
 still_counts (Some seconds) moment t name print = found_current (Some seconds) moment t name print
 
 -- the upload, where it counts still
-abbrev pub row_at : Option ℕ → ℕ → Tables → ℕ × Upload → Option (ℕ × Upload)
+abbrev pub row_at : Option ℕ → ℕ → Tables → ℕ × UploadRow → Option (ℕ × UploadRow)
 row_at span moment t x = if still_counts span moment t x.1.name x.1.print then Some x else None
 
 -- the uploads that want something and count still, in the order of judging
-unfoldable pub rows_at : Option ℕ → ℕ → Tables → Numbered Upload
+unfoldable pub rows_at : Option ℕ → ℕ → Tables → Numbered UploadRow
 rows_at span moment t = sorted_by row_order (filter_map (row_at span moment t) (wanting t))
 
 -- the entry has arrived and counts still
@@ -39,9 +39,9 @@ unfoldable pub missing_at : Option ℕ → ℕ → Tables → ℕ → ℕ
 missing_at span moment t id = length (filter (λ w. not (is_had span moment t w)) (filter (is_wanted_by id) (rows_of t.wants)))
 
 -- an upload that is not judged, with that number
-abbrev pub waiting_at : Option ℕ → ℕ → Tables → ℕ × Upload → Waiting
+abbrev pub waiting_at : Option ℕ → ℕ → Tables → ℕ × UploadRow → Waiting
 waiting_at span moment t x = record { name = x.1.name; missing = missing_at span moment t x.0 }
 
 -- the upload as it is judged, where that number is 0
-abbrev pub due_at : Option ℕ → ℕ → Tables → ℕ × Upload → Option UploadValue
+abbrev pub due_at : Option ℕ → ℕ → Tables → ℕ × UploadRow → Option UploadValue
 due_at span moment t x = if nat_eq (missing_at span moment t x.0) 0 then upload_in t x.1 else None

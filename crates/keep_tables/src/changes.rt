@@ -1,27 +1,29 @@
 //! A change of an archive: one that would put an item into no suite is refused.
+//!
+//! A change that puts an item into no suite, or a file without a body into the pool, is refused as a failure of the disk.
 
-ghost use Rattle.std.specs.Prelude.{◌≡◌, ◌≤◌, [], ℕ, List, Option, length, true, false, IsTrue, OnOk, OnErr};
+ghost use Rattle.std.specs.Prelude.{◌≡◌, ◌≤◌, [], ℕ, List, true, false, IsTrue, OnOk};
 ghost use Rattle.std.specs.List.{list_all, list_any};
-ghost use Rattle.sqlite.specs.Effect.{Database};
 ghost use Rattle.sqlite.specs.Held.{state};
-ghost use Rattle.sqlite.specs.State.{HasCleanDisk, Survives};
+ghost use Rattle.sqlite.specs.State.{HasCleanDisk};
 ghost use Rattle.keep.specs.Book.{latest};
-ghost use Rattle.keep.specs.Keeping.{IsSound};
 ghost use Rattle.keep.specs.declared.change.Judgement.{Judgement};
 ghost use Rattle.suites.specs.Shelves.{ShelvesValue};
 ghost use Rattle.tables.specs.Rows.{IsArchive, tables_in};
-ghost use Rattle.tables_meaning.specs.Archives.{Amends, KeepsArchive, book_of};
+ghost use Rattle.tables_meaning.specs.Archives.{Amends, KeepsArchive};
 ghost use Rattle.tables_meaning.specs.Changing.{is_within, puts_within};
-ghost use Rattle.tables_meaning.specs.Coming.{Comes, HasComing};
+ghost use Rattle.tables_meaning.specs.Coming.{HasComing};
 ghost use Rattle.tables_meaning.specs.Making.{takes_file};
-ghost use Rattle.tables_meaning.specs.Transactions.{IsUndone};
+ghost use Rattle.tables.specs.Calls.{OnCleanDisk};
+ghost use Rattle.tables_meaning.specs.Calls.{CommitsOnly, OverSound, StaysComing, StaysOpen, Undoes, WhileOpen};
 
 use keep::{Change, Step};
-use tables_changes::{amend, needs_sweep};
 use rules::Config;
 use sqlite::{Alter, Connection, Error, ErrorCode};
 use std::alloc::Global;
 use suites::{Item, ShelfKey};
+use tables_bodies::needs_sweep;
+use tables_changes::amend;
 
 /// Whether an item stands in one of so many suites.
 #[tactic(auto, unfolding(tables_meaning::specs::Changing::is_within))]
@@ -76,28 +78,19 @@ pub(crate) fn make_change<S: Alter>(
 ) -> Result<(), Error>
     requires idle { conn.old.in_transaction ≡ false }
     requires in_time { change.now.moment ≤ latest }
-    requires archive { HasCleanDisk (state S.Store conn.old) → IsTrue (state S.Store conn.old).is_open → ∥ IsArchive (state S.Store conn.old).committed ∥₁ }
+    requires archive { WhileOpen S.Store conn.old (λ now. ∥ IsArchive now.committed ∥₁) }
     requires whole { whole ≡ true → HasCleanDisk (state S.Store conn.old) → IsTrue (state S.Store conn.old).is_open → ∥ HasComing (tables_in (state S.Store conn.old).committed) [] ∥₁ }
     ensures idle { conn.new.in_transaction ≡ false }
-    ensures open { HasCleanDisk (state S.Store conn.new) → OnOk result (IsTrue (state S.Store conn.old).is_open × IsTrue (state S.Store conn.new).is_open) }
-    ensures done { HasCleanDisk (state S.Store conn.new) → (before : List Judgement) (shown : ShelvesValue) (dates : List ℕ)
-        → KeepsArchive (state S.Store conn.old).committed config.now before shown dates → length before ≡ judged
-        → IsSound (book_of (state S.Store conn.old).committed config.now before shown dates) change.now
-        → OnOk result (Amends (state S.Store conn.old).committed (state S.Store conn.new).committed config.now before shown dates change.now) }
+    ensures open { StaysOpen S.Store conn.old conn.new result }
+    ensures done { OnCleanDisk S.Store conn.old conn.new (λ old new. OverSound old.committed config.now judged change.now (λ before shown dates. OnOk result (Amends old.committed new.committed config.now before shown dates change.now))) }
     // Where it takes a file away nothing is coming any more, and else what is coming stays so.
-    ensures ends { HasCleanDisk (state S.Store conn.new) → list_any takes_file change.now.steps ≡ true → (before : List Judgement) (shown : ShelvesValue) (dates : List ℕ)
-        → KeepsArchive (state S.Store conn.old).committed config.now before shown dates → length before ≡ judged
-        → IsSound (book_of (state S.Store conn.old).committed config.now before shown dates) change.now
-        → OnOk result (HasComing (tables_in (state S.Store conn.new).committed) []) }
-    ensures beside { HasCleanDisk (state S.Store conn.new) → list_any takes_file change.now.steps ≡ false → (before : List Judgement) (shown : ShelvesValue) (dates : List ℕ)
-        → KeepsArchive (state S.Store conn.old).committed config.now before shown dates
-        → OnOk result ((body : Option ℕ) (count : ℕ) (bytes : List ℕ) → Comes (tables_in (state S.Store conn.old).committed) body count bytes → Comes (tables_in (state S.Store conn.new).committed) body count bytes) }
-    ensures undone { HasCleanDisk (state S.Store conn.new) → OnErr result (IsUndone (state S.Store conn.old) (state S.Store conn.new)) }
-    ensures crash { Survives (state S.Store conn.old) (state S.Store conn.new) (λ trees. (db : Database) × (trees ≡ db.trees) × IsTrue (state S.Store conn.old).is_open
-        × ((before : List Judgement) (shown : ShelvesValue) (dates : List ℕ)
-        → KeepsArchive (state S.Store conn.old).committed config.now before shown dates → length before ≡ judged
-        → IsSound (book_of (state S.Store conn.old).committed config.now before shown dates) change.now
-        → Amends (state S.Store conn.old).committed db config.now before shown dates change.now)) }
+    ensures ends { OnCleanDisk S.Store conn.old conn.new (λ old new. list_any takes_file change.now.steps ≡ true
+        → OverSound old.committed config.now judged change.now (λ before shown dates. OnOk result (HasComing (tables_in new.committed) []))) }
+    ensures beside { OnCleanDisk S.Store conn.old conn.new (λ old new. list_any takes_file change.now.steps ≡ false
+        → (before : List Judgement) (shown : ShelvesValue) (dates : List ℕ) → KeepsArchive old.committed config.now before shown dates
+        → OnOk result (StaysComing old.committed new.committed)) }
+    ensures undone { Undoes S.Store conn.old conn.new result }
+    ensures crash { CommitsOnly S.Store conn.old conn.new (λ old db. OverSound old.committed config.now judged change.now (λ before shown dates. Amends old.committed db config.now before shown dates change.now)) }
 {
     let steps = change.steps.as_slice();
     let inside = stands_inside(steps, config.suites().len());

@@ -1,16 +1,12 @@
 //! Whether what has arrived counts still.
 
-ghost use Rattle.std.specs.Prelude.{◌≡◌, ◌≤◌, false, if◌then◌else◌, Some, IfOk, OnErr};
-ghost use Rattle.sqlite.specs.Held.{state};
-ghost use Rattle.sqlite.specs.State.{HasCleanDisk, IsUnchanged, Survives};
+ghost use Rattle.std.specs.Prelude.{◌≡◌, ◌≤◌, false, Some, IfOk};
 ghost use Rattle.keep.specs.Book.{span};
-ghost use Rattle.tables.specs.Rows.{Tables, Fails, Holds, IsForeign};
 ghost use Rattle.tables_bodies.specs.Counting.{arrival_counts};
-ghost use Rattle.tables_meaning.specs.Reads.{Rests};
-ghost use Rattle.tables_meaning.specs.Transactions.{IsUndone};
 ghost use Rattle.keep_tables.specs.Moments.{found_current, is_had, still_counts};
+ghost use Rattle.tables.specs.Calls.{CommitsNoRows, CommitsNothingOfOurs, ReadFails, Reads};
+ghost use Rattle.tables_meaning.specs.Calls.{ReadUndone, ReadsAtRest};
 
-use tables_bodies::counts;
 use rules::Config;
 use sqlite::{Alter, Connection, Error};
 use std::alloc::Global;
@@ -18,6 +14,7 @@ use sums::Print;
 use tables::arrivals::arrival_at;
 use tables::bodies::body_with_print;
 use tables::rows::Want;
+use tables_bodies::counts;
 
 /// For how many seconds what arrives counts in an archive of this configuration, or nothing where it does so for good.
 pub(crate) fn span_of(config: &Config) -> Option<u64>
@@ -39,11 +36,9 @@ fn counts_under<S: Alter>(
     moment: u64,
 ) -> Result<bool, Error>
     ensures idle { conn.old.in_transaction ≡ false → conn.new.in_transaction ≡ false }
-    ensures ok { HasCleanDisk (state S.Store conn.new) → (t : Tables) → Holds (state S.Store conn.old).now t
-        → IfOk result (λ counts. (counts ≡ arrival_counts (Some seconds) moment name.now body t) × IsUnchanged (state S.Store conn.old) (state S.Store conn.new)) }
-    ensures err { HasCleanDisk (state S.Store conn.new) → (t : Tables) → Holds (state S.Store conn.old).now t
-        → OnErr result (Fails (state S.Store conn.old) (state S.Store conn.new)) }
-    ensures survives { Survives (state S.Store conn.old) (state S.Store conn.new) (λ _. IsForeign (state S.Store conn.old).now) }
+    ensures ok { Reads S.Store conn.old conn.new result (λ t counts. counts ≡ arrival_counts (Some seconds) moment name.now body t) }
+    ensures err { ReadFails S.Store conn.old conn.new result }
+    ensures survives { CommitsNothingOfOurs S.Store conn.old conn.new }
 {
     let found = arrival_at(alloc, conn, name, body)?;
     match found {
@@ -62,11 +57,9 @@ fn is_current<S: Alter>(
     moment: u64,
 ) -> Result<bool, Error>
     ensures idle { conn.old.in_transaction ≡ false → conn.new.in_transaction ≡ false }
-    ensures ok { HasCleanDisk (state S.Store conn.new) → (t : Tables) → Holds (state S.Store conn.old).now t
-        → IfOk result (λ current. (current ≡ found_current (Some seconds) moment t name.now print.now) × IsUnchanged (state S.Store conn.old) (state S.Store conn.new)) }
-    ensures err { HasCleanDisk (state S.Store conn.new) → (t : Tables) → Holds (state S.Store conn.old).now t
-        → OnErr result (IsUndone (state S.Store conn.old) (state S.Store conn.new)) }
-    ensures survives { Survives (state S.Store conn.old) (state S.Store conn.new) (λ _. (t : Tables) → ¬ Holds (state S.Store conn.old).now t) }
+    ensures ok { Reads S.Store conn.old conn.new result (λ t current. current ≡ found_current (Some seconds) moment t name.now print.now) }
+    ensures err { ReadUndone S.Store conn.old conn.new result }
+    ensures survives { CommitsNoRows S.Store conn.old conn.new }
 {
     let Some(body) = body_with_print(alloc, conn, print)? else {
         return Ok(false);
@@ -85,11 +78,9 @@ pub(crate) fn counts_still<S: Alter>(
     moment: u64,
 ) -> Result<bool, Error>
     ensures idle { conn.old.in_transaction ≡ false → conn.new.in_transaction ≡ false }
-    ensures ok { HasCleanDisk (state S.Store conn.new) → (t : Tables) → Holds (state S.Store conn.old).now t
-        → IfOk result (λ still. (still ≡ still_counts span moment t name.now print.now) × Rests (state S.Store conn.old) (state S.Store conn.new)) }
-    ensures err { HasCleanDisk (state S.Store conn.new) → (t : Tables) → Holds (state S.Store conn.old).now t
-        → OnErr result (IsUndone (state S.Store conn.old) (state S.Store conn.new)) }
-    ensures survives { Survives (state S.Store conn.old) (state S.Store conn.new) (λ _. (t : Tables) → ¬ Holds (state S.Store conn.old).now t) }
+    ensures ok { ReadsAtRest S.Store conn.old conn.new result (λ t still. still ≡ still_counts span moment t name.now print.now) }
+    ensures err { ReadUndone S.Store conn.old conn.new result }
+    ensures survives { CommitsNoRows S.Store conn.old conn.new }
 {
     match span {
         Some(seconds) => is_current(alloc, conn, name, print, seconds, moment),
@@ -106,11 +97,9 @@ fn is_had<S: Alter>(
     moment: u64,
 ) -> Result<bool, Error>
     ensures idle { conn.old.in_transaction ≡ false → conn.new.in_transaction ≡ false }
-    ensures ok { HasCleanDisk (state S.Store conn.new) → (t : Tables) → Holds (state S.Store conn.old).now t
-        → IfOk result (λ had. (had ≡ is_had span moment t want.now) × Rests (state S.Store conn.old) (state S.Store conn.new)) }
-    ensures err { HasCleanDisk (state S.Store conn.new) → (t : Tables) → Holds (state S.Store conn.old).now t
-        → OnErr result (IsUndone (state S.Store conn.old) (state S.Store conn.new)) }
-    ensures survives { Survives (state S.Store conn.old) (state S.Store conn.new) (λ _. (t : Tables) → ¬ Holds (state S.Store conn.old).now t) }
+    ensures ok { ReadsAtRest S.Store conn.old conn.new result (λ t had. had ≡ is_had span moment t want.now) }
+    ensures err { ReadUndone S.Store conn.old conn.new result }
+    ensures survives { CommitsNoRows S.Store conn.old conn.new }
 {
     if !want.here {
         return Ok(false);
@@ -128,11 +117,9 @@ pub(crate) fn missing_of_one<S: Alter>(
 ) -> Result<usize, Error>
     ensures small { IfOk result (λ count. count ≤ 1) }
     ensures idle { conn.old.in_transaction ≡ false → conn.new.in_transaction ≡ false }
-    ensures ok { HasCleanDisk (state S.Store conn.new) → (t : Tables) → Holds (state S.Store conn.old).now t
-        → IfOk result (λ count. (count ≡ (if is_had span moment t want.now then 0 else 1)) × Rests (state S.Store conn.old) (state S.Store conn.new)) }
-    ensures err { HasCleanDisk (state S.Store conn.new) → (t : Tables) → Holds (state S.Store conn.old).now t
-        → OnErr result (IsUndone (state S.Store conn.old) (state S.Store conn.new)) }
-    ensures survives { Survives (state S.Store conn.old) (state S.Store conn.new) (λ _. (t : Tables) → ¬ Holds (state S.Store conn.old).now t) }
+    ensures ok { ReadsAtRest S.Store conn.old conn.new result (λ t count. count ≡ (if is_had span moment t want.now then 0 else 1)) }
+    ensures err { ReadUndone S.Store conn.old conn.new result }
+    ensures survives { CommitsNoRows S.Store conn.old conn.new }
 {
     let had = is_had(alloc, conn, want, span, moment)?;
     if had { Ok(0) } else { Ok(1) }

@@ -1,4 +1,9 @@
 //! The keeper over the tables of a database.
+//!
+//! Configuration, judgements and dates are held in memory beside the tables, since a program reads them at each call.
+//!
+//! If a transaction was begun on a connection, making and opening answer K4 and hand the connection back as it was. So they ask nothing of
+//! a caller: a clause that asks for it would have to be met by each.
 
 ghost use Rattle.std.specs.Prelude.{◌≡◌, ◌≤◌, [], All, false, IsTrue};
 ghost use Rattle.sqlite.specs.Held.{state};
@@ -9,28 +14,33 @@ ghost use Rattle.tables_meaning.specs.Archives.{KeepsArchive};
 ghost use Rattle.tables_meaning.specs.Coming.{HasComing};
 ghost use Rattle.tables_meaning.specs.Shown.{shown_in};
 ghost use Rattle.keep_tables.specs.AtHand.{AreAtHand, AreKnown};
+ghost use Rattle.tables_meaning.specs.Calls.{WhileOpen};
+ghost use Rattle.keep_tables.specs.Calls.{GivesBack, RefusesOnlyTaken, RefusesTaken};
 
-use crate::begun::{begun, forget_if, is_coming, is_one_piece, number_of, stop};
-use crate::calls::{clear, deliver_at_once, finish_delivery, forget_body, take_piece};
 use crate::changes::make_change;
 use crate::cleanings::clean_up;
+use crate::coming::{
+    begun, clear, deliver_at_once, finish_delivery, forget_body, forget_if, is_coming,
+    is_one_piece, number_of, stop, take_piece,
+};
 use crate::configurations::take_configuration;
 use crate::counting::span_of;
-use crate::text_prints::{TextPrint, known_print, note_print, renew_prints};
 use crate::reads::{
     read_due, read_file, read_kept, read_nothing, read_print, read_text, read_waiting, show,
 };
-use tables_bodies::{Begun, Finished, OnePiece};
+use crate::text_prints::{TextPrint, known_print, note_print, renew_prints};
 use keep::{
     Change, Configured, IndexText, Judgement, KeepFault, Keeper, LATEST, PIECE_SIZE, Waiting,
     append_judgements, copied_judgements, dates_after, room_for_judgements,
 };
-use tables_changes::{create, fault_of, is_without_tables, some_take_files};
 use rules::Config;
 use sqlite::{Alter, Connection};
 use std::alloc::Global;
 use suites::{Shelves, Upload};
 use sums::{Print, Printer, print_of};
+use tables_bodies::{Begun, Finished, OnePiece, some_take_files};
+use tables_changes::{create, is_without_tables};
+use tables_meaning::fault_of;
 
 /// A keeper over the tables of a database, which its connection is to. The configuration, the judgements and the dates are
 /// held beside the tables, and between calls what the suites show and the prints of index texts; all else is read from them.
@@ -58,17 +68,14 @@ pub struct TableKeeper<S: Alter + Drop> {
 }
 
 impl<S: Alter + Drop> TableKeeper<S> {
-    ghost use Rattle.std.specs.Prelude.{◌≢◌, ◌⊎◌, true, IfOk, IfErr, IsErrAnd};
+    ghost use Rattle.std.specs.Prelude.{true, IfOk, IfErr};
     ghost use Rattle.sqlite.specs.State.{Survives};
     ghost use Rattle.keep.specs.Plain.{fresh_book};
-    ghost use Rattle.keep.specs.declared.fault.KeepFault.TheVariants.{Tables as NotEmpty};
-    ghost use Rattle.tables.specs.Schema.{no_schema};
     ghost use Rattle.tables_meaning.specs.Founding.{MayFound, founded};
-    ghost use Rattle.tables_meaning.specs.Transactions.{IsUndone};
 
     /// A new archive of the configuration, in a database that has no table, no index and no view, made at the moment, in
     /// seconds since 1970-01-01 00:00:00 UTC. A fault gives the connection back, and then what was committed is as before. It is
-    /// `KeepFault::Tables` exactly where the database has an object already or a transaction is begun. A crash leaves what was
+    /// `KeepFault::NoArchive` exactly where the database has an object already or a transaction is begun. A crash leaves what was
     /// there before or the whole archive.
     #[tactic(auto, unfolding(tables_meaning::specs::Kept::book_in))]
     pub fn create(
@@ -80,16 +87,16 @@ impl<S: Alter + Drop> TableKeeper<S> {
         requires { moment ≤ LATEST }
         ensures made { IfOk result (λ keeper. HasCleanDisk (state S.Store keeper.conn) → ⟦<TableKeeper<S> as Keeper>⟧.is_open keeper
             × (⟦<TableKeeper<S> as Keeper>⟧.book keeper ≡ fresh_book config moment)) }
-        ensures taken { (connection.in_transaction ≡ true) ⊎ ((state S.Store connection).now.schema ≢ no_schema) → IsErrAnd result (λ e. (e.1 ≡ NotEmpty) × (e.0 ≡ connection)) }
-        ensures free { IfErr result (λ e. e.1 ≡ NotEmpty → (connection.in_transaction ≡ true) ⊎ ((state S.Store connection).now.schema ≢ no_schema)) }
-        ensures undone { IfErr result (λ e. HasCleanDisk (state S.Store e.0) → IsUndone (state S.Store connection) (state S.Store e.0)) }
+        ensures taken { RefusesTaken S.Store connection result }
+        ensures free { RefusesOnlyTaken S.Store connection result }
+        ensures undone { GivesBack S.Store connection result }
         ensures crash { IfOk result (λ keeper. Survives (state S.Store connection) (state S.Store keeper.conn) (MayFound (state S.Store connection) (founded config moment))) }
         ensures crash_undone { IfErr result (λ e. Survives (state S.Store connection) (state S.Store e.0) (MayFound (state S.Store connection) (founded config moment))) }
     {
         let free = connection.is_autocommit();
         let empty = is_without_tables(&connection);
         if !free || !empty {
-            return Err((connection, KeepFault::Tables));
+            return Err((connection, KeepFault::NoArchive));
         }
         let Ok(dates) = vec![in alloc; moment; config.suites().len()] else {
             return Err((connection, KeepFault::OutOfMemory));
@@ -123,10 +130,9 @@ impl<S: Alter + Drop> TableKeeper<S> {
     ) -> TableKeeper<S>
         requires idle { connection.in_transaction ≡ false }
         requires in_range { ∥ All (λ date. date ≤ LATEST) dates.items ∥₁ }
-        requires kept { HasCleanDisk (state S.Store connection) → IsTrue (state S.Store connection).is_open
-            → ∥ KeepsArchive (state S.Store connection).committed config judged.items (shown_in config.suites (tables_in (state S.Store connection).committed)) dates.items ∥₁ }
-        requires whole { HasCleanDisk (state S.Store connection) → IsTrue (state S.Store connection).is_open → HasComing (tables_in (state S.Store connection).committed) [] }
-        requires shown { HasCleanDisk (state S.Store connection) → IsTrue (state S.Store connection).is_open → AreAtHand config (state S.Store connection).committed spare }
+        requires kept { WhileOpen S.Store connection (λ now. ∥ KeepsArchive now.committed config judged.items (shown_in config.suites (tables_in now.committed)) dates.items ∥₁) }
+        requires whole { WhileOpen S.Store connection (λ now. HasComing (tables_in now.committed) []) }
+        requires shown { WhileOpen S.Store connection (λ now. AreAtHand config now.committed spare) }
         ensures { (result.conn ≡ connection) × (result.config ≡ config) × (result.judged ≡ judged) × (result.dates ≡ dates) }
     {
         TableKeeper {
@@ -161,7 +167,7 @@ impl<S: Alter + Drop> Keeper for TableKeeper<S> {
     ghost use Rattle.std.specs.Prelude.{true};
     ghost use Rattle.sqlite.specs.Tree.{Trees};
     ghost use Rattle.tables_bodies.specs.UnderWay.{coming_in};
-    ghost use Rattle.tables_meaning.specs.Archives.{KeepsLeft, book_of};
+    ghost use Rattle.tables_meaning.specs.Archives.{KeepsLeft, book_in_database};
     ghost use Rattle.tables_meaning.specs.KeeperLemmas.{left_is};
 
     ghost is_clean = { λ k. HasCleanDisk (state S.Store k.conn) };
@@ -170,7 +176,7 @@ impl<S: Alter + Drop> Keeper for TableKeeper<S> {
 
     ghost faults = { λ k. (state S.Store k.conn).faults };
 
-    ghost book = { λ k. book_of (state S.Store k.conn).committed k.config k.judged.items (shown_in k.config.suites (tables_in (state S.Store k.conn).committed)) k.dates.items };
+    ghost book = { λ k. book_in_database (state S.Store k.conn).committed k.config k.judged.items (shown_in k.config.suites (tables_in (state S.Store k.conn).committed)) k.dates.items };
 
     ghost coming = { λ k. coming_in (tables_in (state S.Store k.conn).committed) k.begun };
 

@@ -3,25 +3,21 @@
 //! archive are one transaction each. An opening reads all rows and says whether they are those of an archive.
 #![tactic(auto)]
 
-mod begun;
-mod calls;
 mod changes;
 mod cleanings;
+mod coming;
 mod configurations;
 mod counting;
-mod due;
 mod keeper;
-mod text_prints;
-pub mod laws;
-mod meaning;
+mod laws;
 mod opening;
 mod reads;
 mod shelves;
-mod unfinished;
-mod waiting;
-mod wanting;
+mod text_prints;
+mod uploads;
 
 pub use keeper::TableKeeper;
-pub use meaning::a_keeper_is_its_tables;
+pub use laws::{a_keeper_is_its_tables, first_rows};
 pub use tables::meta::{VERSION as LAYOUT, layout_of};
+pub use tables_meaning::fault_of;
 pub use tables_read::InOrder;

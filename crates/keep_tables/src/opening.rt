@@ -1,10 +1,10 @@
 //! Opens an archive that a database keeps.
 
-ghost use Rattle.std.specs.Prelude.{◌≡◌, ◌≢◌, ◌⊎◌, [], None, true, false, IsTrue, IfOk, IfErr, IsErrAnd, IfSome, OnErr};
+ghost use Rattle.std.specs.Prelude.{◌≡◌, ◌≢◌, [], None, false, IfOk, IfErr, IfSome, OnErr};
 ghost use Rattle.sqlite.specs.State.{HasCleanDisk, IsUnchanged, Survives};
 ghost use Rattle.sqlite.specs.Held.{state};
-ghost use Rattle.keep.specs.declared.fault.KeepFault.TheVariants.{OutOfMemory, Tables as NoArchive};
-ghost use Rattle.tables.specs.Causes.{IsCaused, MayFail};
+ghost use Rattle.keep.specs.declared.fault.KeepFault.TheVariants.{NoArchive};
+ghost use Rattle.tables.specs.Causes.{IsCaused};
 ghost use Rattle.tables.specs.Rows.{Fails, Rises, Stands, tables_in};
 ghost use Rattle.tables.specs.Others.{IsArchiveSchema};
 ghost use Rattle.tables_read.specs.All.{AreConstrained, tables_with};
@@ -13,20 +13,25 @@ ghost use Rattle.tables_meaning.specs.Archives.{KeepsArchive, KeepsFinished};
 ghost use Rattle.tables_meaning.specs.Coming.{HasComing};
 ghost use Rattle.tables_meaning.specs.Finished.{AreUnderWay, finished};
 ghost use Rattle.tables_meaning.specs.Shown.{shown_in};
-ghost use Rattle.tables_meaning.specs.Transactions.{IsUndone, MayCommit};
+ghost use Rattle.tables_meaning.specs.Transactions.{MayCommit};
 ghost use Rattle.keep_tables.specs.Keepers.{config_in_use, table_book};
 ghost use Rattle.keep_tables.specs.Finishing.{unfinished_ids};
 ghost use Rattle.tables_audit.specs.Whole.{KeepsNone, KeepsSome};
 ghost use Rattle.keep_tables.specs.Opened.{HasUnfinished, IsArchiveOf, IsFinished, IsFound, IsNoArchive};
+ghost use Rattle.tables.specs.Calls.{NeverCommits, OnCleanDisk};
+ghost use Rattle.tables_meaning.specs.Calls.{WhileOpen};
+ghost use Rattle.keep_tables.specs.Calls.{GivesBack, RefusesBusy, RefusesNoArchive, SaysWhy};
+
+mod unfinished;
 
 use crate::keeper::TableKeeper;
-use crate::unfinished::{are_named, finished_rows, unfinished_among};
-use tables_audit::{Held, archive_in, are_under_way};
-use tables_bodies::remove_all;
+use crate::opening::unfinished::{are_named, finished_rows, unfinished_among};
 use keep::KeepFault;
-use tables_changes::{fault_of, is_archive_schema};
 use sqlite::{Alter, Connection, Error};
 use std::alloc::{AllocError, Global};
+use tables_audit::{Held, archive_in, are_under_way, is_archive_schema};
+use tables_bodies::remove_all;
+use tables_meaning::fault_of;
 use tables_read::{AllRows, InOrder, read_all};
 
 /// An archive that was found: what a keeper holds of it, and the numbers of the bodies that are not whole.
@@ -64,15 +69,13 @@ fn archive_of<S: InOrder>(alloc: Global, conn: &mut Connection<S>) -> Result<Opt
     requires idle { conn.old.in_transaction ≡ false }
     requires archive { IsArchiveSchema (state S.Store conn.old).now.schema }
     ensures idle { conn.old.in_transaction ≡ false → conn.new.in_transaction ≡ false }
-    ensures some { HasCleanDisk (state S.Store conn.new) → IfOk result (λ o. IfSome o (λ found. IsUnchanged (state S.Store conn.old) (state S.Store conn.new)
-        × IsArchiveOf (state S.Store conn.old).now found.held.config found.held.judged.items found.held.dates.items
-        × (found.unfinished.items ≡ unfinished_ids (tables_in (state S.Store conn.old).now).bodies))) }
-    ensures shown { HasCleanDisk (state S.Store conn.new) → IfOk result (λ o. IfSome o (λ found. found.held.shelves ≡ shown_in found.held.config.suites (tables_in (state S.Store conn.old).now))) }
-    ensures none { HasCleanDisk (state S.Store conn.new) → IfOk result (λ o. o ≡ None → Stands (state S.Store conn.old) (state S.Store conn.new)
-        × IsNoArchive (state S.Store conn.old).now) }
-    ensures err { HasCleanDisk (state S.Store conn.new) → OnErr result (Fails (state S.Store conn.old) (state S.Store conn.new)) }
-    ensures cause { HasCleanDisk (state S.Store conn.new) → IfErr result (IsCaused (state S.Store conn.old) (state S.Store conn.new)) }
-    ensures survives { Survives (state S.Store conn.old) (state S.Store conn.new) (λ _. ⊥) }
+    ensures some { OnCleanDisk S.Store conn.old conn.new (λ old new. IfOk result (λ o. IfSome o (λ found. IsUnchanged old new
+        × IsArchiveOf old.now found.held.config found.held.judged.items found.held.dates.items × (found.unfinished.items ≡ unfinished_ids (tables_in old.now).bodies)))) }
+    ensures shown { OnCleanDisk S.Store conn.old conn.new (λ old new. IfOk result (λ o. IfSome o (λ found. found.held.shelves ≡ shown_in found.held.config.suites (tables_in old.now)))) }
+    ensures none { OnCleanDisk S.Store conn.old conn.new (λ old new. IfOk result (λ o. o ≡ None → Stands old new × IsNoArchive old.now)) }
+    ensures err { OnCleanDisk S.Store conn.old conn.new (λ old new. OnErr result (Fails old new)) }
+    ensures cause { OnCleanDisk S.Store conn.old conn.new (λ old new. IfErr result (IsCaused old new)) }
+    ensures survives { NeverCommits S.Store conn.old conn.new }
 {
     // For the prover alone: what the keys of the tables keep true holds of each open connection.
     let _ = conn.schema();
@@ -86,15 +89,13 @@ fn archive_of<S: InOrder>(alloc: Global, conn: &mut Connection<S>) -> Result<Opt
 fn find_archive<S: InOrder>(alloc: Global, conn: &mut Connection<S>) -> Result<Option<Found>, Error>
     requires idle { conn.old.in_transaction ≡ false }
     ensures idle { conn.old.in_transaction ≡ false → conn.new.in_transaction ≡ false }
-    ensures some { HasCleanDisk (state S.Store conn.new) → IfOk result (λ o. IfSome o (λ found. IsUnchanged (state S.Store conn.old) (state S.Store conn.new)
-        × IsArchiveOf (state S.Store conn.old).now found.held.config found.held.judged.items found.held.dates.items
-        × (found.unfinished.items ≡ unfinished_ids (tables_in (state S.Store conn.old).now).bodies))) }
-    ensures shown { HasCleanDisk (state S.Store conn.new) → IfOk result (λ o. IfSome o (λ found. found.held.shelves ≡ shown_in found.held.config.suites (tables_in (state S.Store conn.old).now))) }
-    ensures none { HasCleanDisk (state S.Store conn.new) → IfOk result (λ o. o ≡ None → Stands (state S.Store conn.old) (state S.Store conn.new)
-        × IsNoArchive (state S.Store conn.old).now) }
-    ensures err { HasCleanDisk (state S.Store conn.new) → OnErr result (Fails (state S.Store conn.old) (state S.Store conn.new)) }
-    ensures cause { HasCleanDisk (state S.Store conn.new) → IfErr result (IsCaused (state S.Store conn.old) (state S.Store conn.new)) }
-    ensures survives { Survives (state S.Store conn.old) (state S.Store conn.new) (λ _. ⊥) }
+    ensures some { OnCleanDisk S.Store conn.old conn.new (λ old new. IfOk result (λ o. IfSome o (λ found. IsUnchanged old new
+        × IsArchiveOf old.now found.held.config found.held.judged.items found.held.dates.items × (found.unfinished.items ≡ unfinished_ids (tables_in old.now).bodies)))) }
+    ensures shown { OnCleanDisk S.Store conn.old conn.new (λ old new. IfOk result (λ o. IfSome o (λ found. found.held.shelves ≡ shown_in found.held.config.suites (tables_in old.now)))) }
+    ensures none { OnCleanDisk S.Store conn.old conn.new (λ old new. IfOk result (λ o. o ≡ None → Stands old new × IsNoArchive old.now)) }
+    ensures err { OnCleanDisk S.Store conn.old conn.new (λ old new. OnErr result (Fails old new)) }
+    ensures cause { OnCleanDisk S.Store conn.old conn.new (λ old new. IfErr result (IsCaused old new)) }
+    ensures survives { NeverCommits S.Store conn.old conn.new }
 {
     if !is_archive_schema(alloc, conn)? {
         return Ok(None);
@@ -109,10 +110,9 @@ fn keeper_over<S: Alter + Drop>(
     held: Held,
 ) -> TableKeeper<S>
     requires idle { connection.in_transaction ≡ false }
-    requires kept { HasCleanDisk (state S.Store connection) → IsTrue (state S.Store connection).is_open
-        → ∥ KeepsArchive (state S.Store connection).committed held.config held.judged.items (shown_in held.config.suites (tables_in (state S.Store connection).committed)) held.dates.items ∥₁ }
-    requires whole { HasCleanDisk (state S.Store connection) → IsTrue (state S.Store connection).is_open → HasComing (tables_in (state S.Store connection).committed) [] }
-    requires shown { HasCleanDisk (state S.Store connection) → IsTrue (state S.Store connection).is_open → held.shelves ≡ shown_in held.config.suites (tables_in (state S.Store connection).committed) }
+    requires kept { WhileOpen S.Store connection (λ now. ∥ KeepsArchive now.committed held.config held.judged.items (shown_in held.config.suites (tables_in now.committed)) held.dates.items ∥₁) }
+    requires whole { WhileOpen S.Store connection (λ now. HasComing (tables_in now.committed) []) }
+    requires shown { WhileOpen S.Store connection (λ now. held.shelves ≡ shown_in held.config.suites (tables_in now.committed)) }
     ensures conn { result.conn ≡ connection }
     ensures held { (result.config ≡ held.config) × (result.judged ≡ held.judged) × (result.dates ≡ held.dates) }
 {
@@ -138,7 +138,7 @@ fn keeper_of<S: Alter + Drop>(
         × KeepsFinished (state S.Store connection).committed (config_in_use keeper) (table_book keeper)) }
     ensures fault { IfErr result (λ e. e.1 ≢ NoArchive) }
     ensures told { IfErr result (λ e. HasCleanDisk (state S.Store e.0) → HasUnfinished (state S.Store connection).now) }
-    ensures undone { IfErr result (λ e. HasCleanDisk (state S.Store e.0) → IsUndone (state S.Store connection) (state S.Store e.0)) }
+    ensures undone { GivesBack S.Store connection result }
     ensures crash { IfOk result (λ keeper. Survives (state S.Store connection) (state S.Store keeper.conn) (MayCommit (state S.Store connection) finished)) }
     ensures crash_undone { IfErr result (λ e. Survives (state S.Store connection) (state S.Store e.0) (MayCommit (state S.Store connection) finished)) }
 {
@@ -155,7 +155,7 @@ fn keeper_of<S: Alter + Drop>(
 impl<S: InOrder + Drop> TableKeeper<S> {
     /// The keeper over the tables of a database that keeps an archive, without the bodies that are not whole: an opening
     /// takes these away, with their pieces. A fault gives the connection back, and what was committed is as before. The
-    /// fault is `KeepFault::Tables` only where a transaction is begun or the database keeps no archive; another comes only
+    /// fault is `KeepFault::NoArchive` only where a transaction is begun or the database keeps no archive; another comes only
     /// where memory is wanting, the store fails meanwhile, the connection was shut or may take only so many steps, or some
     /// body is not whole. A crash leaves what was there, or that without these bodies.
     pub fn open(
@@ -164,20 +164,20 @@ impl<S: InOrder + Drop> TableKeeper<S> {
     ) -> Result<TableKeeper<S>, (Connection<S>, KeepFault)>
         ensures opened { IfOk result (λ keeper. HasCleanDisk (state S.Store keeper.conn) → IsFinished (state S.Store connection) (state S.Store keeper.conn)
             × KeepsFinished (state S.Store connection).committed (config_in_use keeper) (table_book keeper)) }
-        ensures refused { IfErr result (λ e. e.1 ≡ NoArchive → HasCleanDisk (state S.Store e.0) → (connection.in_transaction ≡ true) ⊎ IsNoArchive (state S.Store connection).now) }
-        ensures told { IfErr result (λ e. HasCleanDisk (state S.Store e.0) → (e.1 ≡ NoArchive) ⊎ ((e.1 ≡ OutOfMemory) ⊎ (MayFail (state S.Store connection) (state S.Store e.0) ⊎ HasUnfinished (state S.Store connection).now))) }
-        ensures busy { connection.in_transaction ≡ true → IsErrAnd result (λ e. (e.1 ≡ NoArchive) × (e.0 ≡ connection)) }
-        ensures undone { IfErr result (λ e. HasCleanDisk (state S.Store e.0) → IsUndone (state S.Store connection) (state S.Store e.0)) }
+        ensures refused { RefusesNoArchive S.Store connection result }
+        ensures told { SaysWhy S.Store connection result }
+        ensures busy { RefusesBusy S.Store connection result }
+        ensures undone { GivesBack S.Store connection result }
         ensures crash { IfOk result (λ keeper. Survives (state S.Store connection) (state S.Store keeper.conn) (MayCommit (state S.Store connection) finished)) }
         ensures crash_refused { IfErr result (λ e. e.1 ≡ NoArchive → Survives (state S.Store connection) (state S.Store e.0) (λ _. ⊥)) }
         ensures crash_undone { IfErr result (λ e. Survives (state S.Store connection) (state S.Store e.0) (MayCommit (state S.Store connection) finished)) }
     {
         if !connection.is_autocommit() {
-            return Err((connection, KeepFault::Tables));
+            return Err((connection, KeepFault::NoArchive));
         }
         match find_archive(alloc, &mut connection) {
             Ok(Some(found)) => keeper_of(alloc, connection, found),
-            Ok(None) => Err((connection, KeepFault::Tables)),
+            Ok(None) => Err((connection, KeepFault::NoArchive)),
             Err(error) => Err((connection, fault_of(error))),
         }
     }

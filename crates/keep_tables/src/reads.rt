@@ -3,21 +3,18 @@
 ghost use Rattle.std.specs.Prelude.{◌≡◌, ℕ, List, Some, map, false, IsTrue, IfOk, IfSome, OnOk};
 ghost use Rattle.std.specs.Option.{option_map};
 ghost use Rattle.sqlite.specs.Held.{state};
-ghost use Rattle.sqlite.specs.State.{HasCleanDisk};
 ghost use Rattle.keep.specs.Book.{at_moment, due, is_kept, span, text_at, upload_of, waiting_list};
 ghost use Rattle.keep.specs.Keeping.{sign_of};
 ghost use Rattle.keep.specs.declared.change.Judgement.{Judgement};
-ghost use Rattle.rules.specs.Values.{ConfigValue};
 ghost use Rattle.sums.specs.Prints.{print as print_of};
 ghost use Rattle.suites.specs.Shelves.{ShelvesValue};
-ghost use Rattle.tables.specs.Rows.{IsArchive};
-ghost use Rattle.tables_meaning.specs.Archives.{IsRead, KeepsArchive, book_of};
+ghost use Rattle.tables_meaning.specs.Archives.{IsRead, KeepsArchive, book_in_database};
+ghost use Rattle.tables.specs.Calls.{OnCleanDisk};
+ghost use Rattle.tables_meaning.specs.Calls.{IsOpenOverArchive, WithBook};
 
-use crate::due::due_uploads;
-use crate::text_prints::is_of_another;
 use crate::shelves::read_shelves;
-use crate::waiting::waiting_uploads;
-use tables_bodies::file_body;
+use crate::text_prints::is_of_another;
+use crate::uploads::{due_uploads, waiting_uploads};
 use keep::{IndexText, Waiting, is_kept, print_of_text};
 use rules::Config;
 use sqlite::{Alter, Connection, Error};
@@ -26,6 +23,7 @@ use suites::{Shelves, Upload};
 use sums::Print;
 use tables::probe::probe;
 use tables::texts::select_text;
+use tables_bodies::file_body;
 
 /// The uploads that are due at the moment, in the order of judging, where what arrives counts for so many seconds, or for good.
 pub fn read_due<S: Alter>(
@@ -37,15 +35,12 @@ pub fn read_due<S: Alter>(
     requires idle { conn.old.in_transaction ≡ false }
     ensures idle { conn.new.in_transaction ≡ false }
     ensures read { IsRead (state S.Store conn.old) (state S.Store conn.new) }
-    ensures open { HasCleanDisk (state S.Store conn.new) → (IsTrue (state S.Store conn.old).is_open → ∥ IsArchive (state S.Store conn.old).committed ∥₁)
-        → OnOk result (IsTrue (state S.Store conn.new).is_open) }
-    ensures uploads { HasCleanDisk (state S.Store conn.new) → (config : ConfigValue) (judged : List Judgement) (shown : ShelvesValue) (dates : List ℕ)
-        → KeepsArchive (state S.Store conn.old).committed config judged shown dates → seconds ≡ span config
-        → IfOk result (λ uploads. uploads.items ≡ map (upload_of (at_moment moment (book_of (state S.Store conn.old).committed config judged shown dates)).arrivals) (due (at_moment moment (book_of (state S.Store conn.old).committed config judged shown dates)))) }
+    ensures open { IsOpenOverArchive S.Store conn.old conn.new result }
+    ensures uploads { OnCleanDisk S.Store conn.old conn.new (λ old new. WithBook old.committed (λ config judged shown dates. seconds ≡ span config
+        → IfOk result (λ uploads. uploads.items ≡ map (upload_of (at_moment moment (book_in_database old.committed config judged shown dates)).arrivals) (due (at_moment moment (book_in_database old.committed config judged shown dates)))))) }
     // By their names and prints.
-    ensures signs { HasCleanDisk (state S.Store conn.new) → (config : ConfigValue) (judged : List Judgement) (shown : ShelvesValue) (dates : List ℕ)
-        → KeepsArchive (state S.Store conn.old).committed config judged shown dates → seconds ≡ span config
-        → IfOk result (λ uploads. map (λ u. (u.name, u.print)) uploads.items ≡ map sign_of (due (at_moment moment (book_of (state S.Store conn.old).committed config judged shown dates)))) }
+    ensures signs { OnCleanDisk S.Store conn.old conn.new (λ old new. WithBook old.committed (λ config judged shown dates. seconds ≡ span config
+        → IfOk result (λ uploads. map (λ u. (u.name, u.print)) uploads.items ≡ map sign_of (due (at_moment moment (book_in_database old.committed config judged shown dates)))))) }
 {
     // For the prover alone: outside a transaction the connection has what is committed.
     let _settled = conn.is_autocommit();
@@ -63,11 +58,9 @@ pub fn read_waiting<S: Alter>(
     requires idle { conn.old.in_transaction ≡ false }
     ensures idle { conn.new.in_transaction ≡ false }
     ensures read { IsRead (state S.Store conn.old) (state S.Store conn.new) }
-    ensures open { HasCleanDisk (state S.Store conn.new) → (IsTrue (state S.Store conn.old).is_open → ∥ IsArchive (state S.Store conn.old).committed ∥₁)
-        → OnOk result (IsTrue (state S.Store conn.new).is_open) }
-    ensures waiting { HasCleanDisk (state S.Store conn.new) → (config : ConfigValue) (judged : List Judgement) (shown : ShelvesValue) (dates : List ℕ)
-        → KeepsArchive (state S.Store conn.old).committed config judged shown dates → seconds ≡ span config
-        → IfOk result (λ all. all.items ≡ waiting_list (at_moment moment (book_of (state S.Store conn.old).committed config judged shown dates))) }
+    ensures open { IsOpenOverArchive S.Store conn.old conn.new result }
+    ensures waiting { OnCleanDisk S.Store conn.old conn.new (λ old new. WithBook old.committed (λ config judged shown dates. seconds ≡ span config
+        → IfOk result (λ all. all.items ≡ waiting_list (at_moment moment (book_in_database old.committed config judged shown dates))))) }
 {
     // For the prover alone: outside a transaction the connection has what is committed.
     let _settled = conn.is_autocommit();
@@ -84,11 +77,8 @@ pub fn read_file<S: Alter>(
     requires idle { conn.old.in_transaction ≡ false }
     ensures idle { conn.new.in_transaction ≡ false }
     ensures read { IsRead (state S.Store conn.old) (state S.Store conn.new) }
-    ensures open { HasCleanDisk (state S.Store conn.new) → (IsTrue (state S.Store conn.old).is_open → ∥ IsArchive (state S.Store conn.old).committed ∥₁)
-        → OnOk result (IsTrue (state S.Store conn.new).is_open) }
-    ensures file { HasCleanDisk (state S.Store conn.new) → (config : ConfigValue) (judged : List Judgement) (shown : ShelvesValue) (dates : List ℕ)
-        → KeepsArchive (state S.Store conn.old).committed config judged shown dates
-        → IfOk result (λ file. option_map (λ body. body.items) file ≡ (book_of (state S.Store conn.old).committed config judged shown dates).files path.now) }
+    ensures open { IsOpenOverArchive S.Store conn.old conn.new result }
+    ensures file { OnCleanDisk S.Store conn.old conn.new (λ old new. WithBook old.committed (λ config judged shown dates. IfOk result (λ file. option_map (λ body. body.items) file ≡ (book_in_database old.committed config judged shown dates).files path.now))) }
 {
     // For the prover alone: outside a transaction the connection has what is committed.
     let _settled = conn.is_autocommit();
@@ -105,11 +95,8 @@ pub fn read_text<S: Alter>(
     requires idle { conn.old.in_transaction ≡ false }
     ensures idle { conn.new.in_transaction ≡ false }
     ensures read { IsRead (state S.Store conn.old) (state S.Store conn.new) }
-    ensures open { HasCleanDisk (state S.Store conn.new) → (IsTrue (state S.Store conn.old).is_open → ∥ IsArchive (state S.Store conn.old).committed ∥₁)
-        → OnOk result (IsTrue (state S.Store conn.new).is_open) }
-    ensures text { HasCleanDisk (state S.Store conn.new) → (config : ConfigValue) (judged : List Judgement) (shown : ShelvesValue) (dates : List ℕ)
-        → KeepsArchive (state S.Store conn.old).committed config judged shown dates
-        → IfOk result (λ text. option_map (λ body. body.items) text ≡ text_at (book_of (state S.Store conn.old).committed config judged shown dates) path.now) }
+    ensures open { IsOpenOverArchive S.Store conn.old conn.new result }
+    ensures text { OnCleanDisk S.Store conn.old conn.new (λ old new. WithBook old.committed (λ config judged shown dates. IfOk result (λ text. option_map (λ body. body.items) text ≡ text_at (book_in_database old.committed config judged shown dates) path.now))) }
 {
     // For the prover alone: outside a transaction the connection has what is committed.
     let _settled = conn.is_autocommit();
@@ -129,11 +116,9 @@ fn read_shown<S: Alter>(
     requires idle { conn.old.in_transaction ≡ false }
     ensures idle { conn.new.in_transaction ≡ false }
     ensures read { IsRead (state S.Store conn.old) (state S.Store conn.new) }
-    ensures open { HasCleanDisk (state S.Store conn.new) → (IsTrue (state S.Store conn.old).is_open → ∥ IsArchive (state S.Store conn.old).committed ∥₁)
-        → OnOk result (IsTrue (state S.Store conn.new).is_open) }
-    ensures shown { HasCleanDisk (state S.Store conn.new) → (judged : List Judgement) (shown : ShelvesValue) (dates : List ℕ)
-        → KeepsArchive (state S.Store conn.old).committed config.now judged shown dates
-        → IfOk result (λ shelves. shelves ≡ shown) }
+    ensures open { IsOpenOverArchive S.Store conn.old conn.new result }
+    ensures shown { OnCleanDisk S.Store conn.old conn.new (λ old new. (judged : List Judgement) (shown : ShelvesValue) (dates : List ℕ)
+        → KeepsArchive old.committed config.now judged shown dates → IfOk result (λ shelves. shelves ≡ shown)) }
 {
     // For the prover alone: outside a transaction the connection has what is committed.
     let _settled = conn.is_autocommit();
@@ -146,7 +131,7 @@ pub fn read_nothing<S: Alter>(alloc: Global, conn: &mut Connection<S>) -> Result
     requires idle { conn.old.in_transaction ≡ false }
     ensures idle { conn.new.in_transaction ≡ false }
     ensures read { IsRead (state S.Store conn.old) (state S.Store conn.new) }
-    ensures open { HasCleanDisk (state S.Store conn.new) → OnOk result (IsTrue (state S.Store conn.new).is_open) }
+    ensures open { OnCleanDisk S.Store conn.old conn.new (λ old new. OnOk result (IsTrue new.is_open)) }
 {
     probe(alloc, conn)
 }
@@ -161,11 +146,9 @@ pub fn show<S: Alter>(
     requires idle { conn.old.in_transaction ≡ false }
     ensures idle { conn.new.in_transaction ≡ false }
     ensures read { IsRead (state S.Store conn.old) (state S.Store conn.new) }
-    ensures open { HasCleanDisk (state S.Store conn.new) → (IsTrue (state S.Store conn.old).is_open → ∥ IsArchive (state S.Store conn.old).committed ∥₁)
-        → OnOk result (IsTrue (state S.Store conn.new).is_open) }
-    ensures shown { HasCleanDisk (state S.Store conn.new) → (judged : List Judgement) (shown : ShelvesValue) (dates : List ℕ)
-        → KeepsArchive (state S.Store conn.old).committed config.now judged shown dates → IfSome spare (λ shelves. shelves ≡ shown)
-        → IfOk result (λ shelves. shelves ≡ shown) }
+    ensures open { IsOpenOverArchive S.Store conn.old conn.new result }
+    ensures shown { OnCleanDisk S.Store conn.old conn.new (λ old new. (judged : List Judgement) (shown : ShelvesValue) (dates : List ℕ)
+        → KeepsArchive old.committed config.now judged shown dates → IfSome spare (λ shelves. shelves ≡ shown) → IfOk result (λ shelves. shelves ≡ shown)) }
 {
     match spare {
         Some(shelves) => {
@@ -187,12 +170,9 @@ pub fn read_print<S: Alter>(
     requires idle { conn.old.in_transaction ≡ false }
     ensures idle { conn.new.in_transaction ≡ false }
     ensures read { IsRead (state S.Store conn.old) (state S.Store conn.new) }
-    ensures open { HasCleanDisk (state S.Store conn.new) → (IsTrue (state S.Store conn.old).is_open → ∥ IsArchive (state S.Store conn.old).committed ∥₁)
-        → OnOk result (IsTrue (state S.Store conn.new).is_open) }
-    ensures print { HasCleanDisk (state S.Store conn.new) → (config : ConfigValue) (judged : List Judgement) (shown : ShelvesValue) (dates : List ℕ)
-        → KeepsArchive (state S.Store conn.old).committed config judged shown dates
-        → IfSome known (λ p. option_map print_of (text_at (book_of (state S.Store conn.old).committed config judged shown dates) path.now) ≡ Some p)
-        → IfOk result (λ found. found ≡ option_map print_of (text_at (book_of (state S.Store conn.old).committed config judged shown dates) path.now)) }
+    ensures open { IsOpenOverArchive S.Store conn.old conn.new result }
+    ensures print { OnCleanDisk S.Store conn.old conn.new (λ old new. WithBook old.committed (λ config judged shown dates. IfSome known (λ p. option_map print_of (text_at (book_in_database old.committed config judged shown dates) path.now) ≡ Some p)
+        → IfOk result (λ found. found ≡ option_map print_of (text_at (book_in_database old.committed config judged shown dates) path.now)))) }
 {
     match known {
         Some(print) => {
@@ -217,12 +197,9 @@ pub fn read_kept<S: Alter>(
     requires idle { conn.old.in_transaction ≡ false }
     ensures idle { conn.new.in_transaction ≡ false }
     ensures read { IsRead (state S.Store conn.old) (state S.Store conn.new) }
-    ensures open { HasCleanDisk (state S.Store conn.new) → (IsTrue (state S.Store conn.old).is_open → ∥ IsArchive (state S.Store conn.old).committed ∥₁)
-        → OnOk result (IsTrue (state S.Store conn.new).is_open) }
-    ensures kept { HasCleanDisk (state S.Store conn.new) → (config : ConfigValue) (judged : List Judgement) (shown : ShelvesValue) (dates : List ℕ)
-        → KeepsArchive (state S.Store conn.old).committed config judged shown dates
-        → IfSome known (λ p. option_map print_of (text_at (book_of (state S.Store conn.old).committed config judged shown dates) text.now.path) ≡ Some p)
-        → IfOk result (λ kept. kept ≡ is_kept (text_at (book_of (state S.Store conn.old).committed config judged shown dates) text.now.path) text.now.text) }
+    ensures open { IsOpenOverArchive S.Store conn.old conn.new result }
+    ensures kept { OnCleanDisk S.Store conn.old conn.new (λ old new. WithBook old.committed (λ config judged shown dates. IfSome known (λ p. option_map print_of (text_at (book_in_database old.committed config judged shown dates) text.now.path) ≡ Some p)
+        → IfOk result (λ kept. kept ≡ is_kept (text_at (book_in_database old.committed config judged shown dates) text.now.path) text.now.text))) }
 {
     if is_of_another(known, text) {
         read_nothing(alloc, conn)?;

@@ -1,20 +1,23 @@
 //! What the suites show, read from the rows of items and of their files.
+//!
+//! An opening and each change (`hold`) leave with the keeper what the suites show, and the next call that asks for that takes it out. If
+//! there is none, as after a refusal, it is read from the tables: shelves are made of rows by plans, and rows that no archive has are
+//! refused.
 
-ghost use Rattle.std.specs.Prelude.{◌≡◌, false, IfOk, OnOk, OnErr};
-ghost use Rattle.sqlite.specs.Held.{state};
-ghost use Rattle.sqlite.specs.State.{HasCleanDisk, IsUnchanged, Survives};
+ghost use Rattle.std.specs.Prelude.{◌≡◌, false, IfOk, OnOk};
+ghost use Rattle.sqlite.specs.State.{IsUnchanged};
 ghost use Rattle.suites.specs.Shelves.{AreSound, ShelvesValue};
-ghost use Rattle.tables.specs.Rows.{Tables, Holds};
 ghost use Rattle.tables_meaning.specs.Kept.{AreItems};
-ghost use Rattle.tables_meaning.specs.Transactions.{IsUndone};
+ghost use Rattle.tables.specs.Calls.{CommitsNoRows, OverRows};
+ghost use Rattle.tables_meaning.specs.Calls.{ReadUndone};
 
 use rules::Config;
-use tables_audit::put_row;
 use sqlite::{Alter, Connection, Error};
 use std::alloc::Global;
 use suites::Shelves;
 use tables::items::select_items;
 use tables::refs::refs_of;
+use tables_audit::put_row;
 
 /// What the suites of a configuration show.
 pub fn read_shelves<S: Alter>(
@@ -23,13 +26,10 @@ pub fn read_shelves<S: Alter>(
     config: &Config,
 ) -> Result<Shelves, Error>
     ensures idle { conn.old.in_transaction ≡ false → conn.new.in_transaction ≡ false }
-    ensures ok { HasCleanDisk (state S.Store conn.new) → (t : Tables) → Holds (state S.Store conn.old).now t
-        → (shown : ShelvesValue) → AreItems t config.now.suites shown → AreSound shown → IfOk result (λ shelves. shelves ≡ shown) }
-    ensures unchanged { HasCleanDisk (state S.Store conn.new) → (t : Tables) → Holds (state S.Store conn.old).now t
-        → OnOk result (IsUnchanged (state S.Store conn.old) (state S.Store conn.new)) }
-    ensures err { HasCleanDisk (state S.Store conn.new) → (t : Tables) → Holds (state S.Store conn.old).now t
-        → OnErr result (IsUndone (state S.Store conn.old) (state S.Store conn.new)) }
-    ensures survives { Survives (state S.Store conn.old) (state S.Store conn.new) (λ _. (t : Tables) → ¬ Holds (state S.Store conn.old).now t) }
+    ensures ok { OverRows S.Store conn.old conn.new (λ t old new. (shown : ShelvesValue) → AreItems t config.now.suites shown → AreSound shown → IfOk result (λ shelves. shelves ≡ shown)) }
+    ensures unchanged { OverRows S.Store conn.old conn.new (λ t old new. OnOk result (IsUnchanged old new)) }
+    ensures err { ReadUndone S.Store conn.old conn.new result }
+    ensures survives { CommitsNoRows S.Store conn.old conn.new }
 {
     // For the prover alone: the configuration is what its text spells, so no two suites have one codename.
     let _ = config.text();

@@ -1,4 +1,9 @@
 //! The prints of index texts that are known.
+//!
+//! The keeper has the print of each index text that it was asked for (`text_print`), and of each that a change wrote, as far as there is
+//! memory. A change names the print of a text beside it (`IndexText`), since Release lists it anyway. So an index that stays as it is is
+//! hashed at most once after an opening. One that a run makes anew is compared with the text that is there by the prints, and that text is
+//! read only if its print is not known, or is the same (`keeps_text`). Texts of two prints differ, so this needs no premise.
 
 ghost use Rattle.std.specs.Prelude.{◌≡◌, filter, find, not, option_copied};
 ghost use Rattle.std.specs.Option.{option_map};

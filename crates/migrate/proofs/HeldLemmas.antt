@@ -6,17 +6,17 @@ use Rattle.suites.specs.Shelves.{ShelvesValue}
 use Rattle.keep.specs.declared.change.Judgement.{Judgement}
 use Rattle.tables.specs.Rows.{Tables, Holds, tables_in}
 use Rattle.tables.proofs.BookLemmas.{held_tables}
-use Rattle.tables_meaning.specs.Archives.{KeepsArchive, book_of}
+use Rattle.tables_meaning.specs.Archives.{KeepsArchive, book_in_database}
 use Rattle.tables_meaning.specs.Coming.{HasComing}
 use Rattle.tables_meaning.specs.Finished.{finished}
-use Rattle.tables_meaning.specs.Kept.{IsKept, book_in}
+use Rattle.tables_meaning.specs.Kept.{IsBook, book_in}
 use Rattle.tables_meaning.specs.Shown.{shown_in}
 use Rattle.tables_meaning.proofs.CallLemmas.{kept_here, shown_here}
 use Rattle.tables_meaning.proofs.ComingLemmas.{none_coming}
 use Rattle.tables_meaning.proofs.FinishedLemmas.{kept_finished}
 use Rattle.tables_meaning.proofs.UnderWayLemmas.{finished_under_way}
 
-module _ (db : Database) (t : Tables) (config : ConfigValue) (judged : List Judgement) (shown : ShelvesValue) (dates : List ℕ) (held : Holds db t) (kept : IsKept t config judged shown dates) where
+module _ (db : Database) (t : Tables) (config : ConfigValue) (judged : List Judgement) (shown : ShelvesValue) (dates : List ℕ) (held : Holds db t) (kept : IsBook t config judged shown dates) where
   same : tables_in db ≡ t
   same = held_tables db t held
 
@@ -27,7 +27,7 @@ module _ (db : Database) (t : Tables) (config : ConfigValue) (judged : List Judg
   archive : KeepsArchive db config judged shown dates
   archive = record {
     held = subst (Holds db) (sym same) held;
-    kept = subst (λ u. IsKept u config judged shown dates) (sym whole) kept;
+    kept = subst (λ u. IsBook u config judged shown dates) (sym whole) kept;
     coming = finished_under_way (tables_in db) (whole ∙ sym same);
   }
 
@@ -40,5 +40,5 @@ module _ (db : Database) (t : Tables) (config : ConfigValue) (judged : List Judg
   none_comes = none_coming (tables_in db) (whole ∙ sym same)
 
   -- and its book is that of the rows.
-  pub book_held : book_of db config judged (shown_in config.suites (tables_in db)) dates ≡ book_in config judged shown dates t
-  book_held = ap (λ s. book_of db config judged s dates) (shown_here db archive) ∙ ap (book_in config judged shown dates) whole
+  pub book_held : book_in_database db config judged (shown_in config.suites (tables_in db)) dates ≡ book_in config judged shown dates t
+  book_held = ap (λ s. book_in_database db config judged s dates) (shown_here db archive) ∙ ap (book_in config judged shown dates) whole

@@ -10,9 +10,9 @@ use Rattle.keep.specs.declared.change.Judgement.{Judgement}
 use Rattle.tables.specs.Rows.{Holds, Tables, tables_in}
 use Rattle.tables.proofs.BookLemmas.{tables_set}
 use Rattle.tables_read.specs.All.{tables_with}
-use Rattle.tables_meaning.specs.Archives.{KeepsArchive, book_of}
+use Rattle.tables_meaning.specs.Archives.{KeepsArchive, book_in_database}
 use Rattle.tables_meaning.specs.Coming.{HasComing}
-use Rattle.tables_meaning.specs.Kept.{IsKept}
+use Rattle.tables_meaning.specs.Kept.{IsBook}
 use Rattle.tables_meaning.specs.KeeperLemmas.{book_set}
 use Rattle.tables_meaning.specs.Shown.{shown_in}
 use Rattle.old_book.specs.declared.book.OldBook.{OldBook}
@@ -21,9 +21,9 @@ use Rattle.migrate.specs.Migrated.{migrated_book, migrated_rows, old_config}
 use Rattle.migrate.proofs.HeldLemmas.{archive_held, book_held, none_comes}
 
 module _ (db : Database) (old : OldBook) (config : ConfigValue) (moment : ℕ) (held : Holds db (migrated_rows old config moment))
-    (was : IsKept (tables_with old.rows) old.held.config old.held.judged.items old.held.shelves old.held.dates.items) (alike : AreAlike (old_config old) config)
+    (was : IsBook (tables_with old.rows) old.held.config old.held.judged.items old.held.shelves old.held.dates.items) (alike : AreAlike (old_config old) config)
     (read : config_in config.text ≡ Ok config) (early : moment ≤ latest) where
-  now : IsKept (migrated_rows old config moment) config old.held.judged.items old.held.shelves old.held.dates.items
+  now : IsBook (migrated_rows old config moment) config old.held.judged.items old.held.shelves old.held.dates.items
   now = moved_archive_kept (tables_with old.rows) old.held.config config old.held.judged.items old.held.shelves old.held.dates.items moment was alike read early
 
   archive_there : (judged : List Judgement) (dates : List ℕ) → judged ≡ old.held.judged.items → dates ≡ old.held.dates.items
@@ -37,9 +37,9 @@ module _ (db : Database) (old : OldBook) (config : ConfigValue) (moment : ℕ) (
   whole_there = none_comes db (migrated_rows old config moment) config old.held.judged.items old.held.shelves old.held.dates.items held now
 
   book_there : (judged : List Judgement) (dates : List ℕ) → judged ≡ old.held.judged.items → dates ≡ old.held.dates.items
-      → book_of db config judged (shown_in config.suites (tables_in db)) dates ≡ migrated_book old config moment
+      → book_in_database db config judged (shown_in config.suites (tables_in db)) dates ≡ migrated_book old config moment
   book_there judged dates told dated =
-      (λ i. book_of db config (told i) (shown_in config.suites (tables_in db)) (dated i))
+      (λ i. book_in_database db config (told i) (shown_in config.suites (tables_in db)) (dated i))
       ∙ book_held db (migrated_rows old config moment) config old.held.judged.items old.held.shelves old.held.dates.items held now
       ∙ moved_archive_book (tables_with old.rows) old.held.config config old.held.judged.items old.held.shelves old.held.dates.items moment was alike read early
 
@@ -48,7 +48,7 @@ coming_prop t h k i = record { rows = tables_set _ _ h.rows k.rows i }
 
 -- the old book is that of an archive
 abbrev pub IsOldBook : OldBook → Type 0
-IsOldBook old = ∥ IsKept (tables_with old.rows) old.held.config old.held.judged.items old.held.shelves old.held.dates.items ∥₁
+IsOldBook old = ∥ IsBook (tables_with old.rows) old.held.config old.held.judged.items old.held.shelves old.held.dates.items ∥₁
 
 -- where the database holds the rows, under a configuration that is alike
 module _ (db : Database) (old : OldBook) (config : ConfigValue) (moment : ℕ) (held : Holds db (migrated_rows old config moment)) (was : IsOldBook old) (alike : AreAlike (old_config old) config)
@@ -62,5 +62,5 @@ module _ (db : Database) (old : OldBook) (config : ConfigValue) (moment : ℕ) (
     pub made_archive : ∥ KeepsArchive db config judged (shown_in config.suites (tables_in db)) dates ∥₁
     made_archive = ∥∥₁_map was (λ h. archive_there db old config moment held h alike read early judged dates told dated)
 
-    pub made_book : book_of db config judged (shown_in config.suites (tables_in db)) dates ≡ migrated_book old config moment
+    pub made_book : book_in_database db config judged (shown_in config.suites (tables_in db)) dates ≡ migrated_book old config moment
     made_book = ∥∥₁_elim was (book_set _ _) (λ h. book_there db old config moment held h alike read early judged dates told dated)

@@ -1,5 +1,5 @@
 -- The transaction of a migration: the first rows of an archive, then the copied ones, then the configuration.
-use Rattle.std.proofs.Common.{◌≡◌, ℕ, List, refl, ◌∙◌}
+use Rattle.std.proofs.Common.{ℕ, List, refl, ◌∙◌}
 use Rattle.sqlite.specs.State.{State}
 use Rattle.rules.specs.Values.{ConfigValue}
 use Rattle.suites.specs.Shelves.{ShelvesValue}

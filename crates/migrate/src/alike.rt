@@ -1,4 +1,6 @@
 //! Whether two configurations have the same suites.
+//!
+//! Values are compared and not spelling: the suites, in their order, without ValidDays, and each other field of them as it is read.
 
 ghost use Rattle.std.specs.Prelude.{◌≡◌, ◌↔◌, map, IsTrue};
 ghost use Rattle.std.specs.Option.{option_map};

@@ -1,30 +1,31 @@
 //! The archive that a migration makes.
 
-ghost use Rattle.std.specs.Prelude.{◌≡◌, ◌≢◌, ◌≤◌, ◌⊎◌, true, false, IsTrue, IfOk, IfErr, IsErrAnd};
+ghost use Rattle.std.specs.Prelude.{◌≡◌, ◌≤◌, false, IsTrue, IfOk, IfErr, IsErrAnd};
 ghost use Rattle.sqlite.specs.State.{HasCleanDisk, Survives};
 ghost use Rattle.sqlite.specs.Held.{state};
 ghost use Rattle.keep.specs.Configured.{AreAlike};
-ghost use Rattle.keep.specs.declared.fault.KeepFault.TheVariants.{Configuration as NotAlike, Tables as NotEmpty};
+ghost use Rattle.keep.specs.declared.fault.KeepFault.TheVariants.{Configuration as NotAlike};
 ghost use Rattle.tables.specs.Schema.{no_schema};
 ghost use Rattle.tables_meaning.specs.Founding.{MayFound};
-ghost use Rattle.tables_meaning.specs.Transactions.{IsUndone};
 ghost use Rattle.keep_tables.specs.Keepers.{connection_of, table_book};
 ghost use Rattle.migrate.specs.Migrated.{migrated_book, migrated_rows, old_config};
+ghost use Rattle.keep_tables.specs.Calls.{GivesBack, RefusesOnlyTaken, RefusesTaken};
 
 use crate::alike::are_alike;
 use crate::writing::write_archive;
 use keep::{KeepFault, LATEST, copied_judgements};
-use tables_changes::{fault_of, is_without_tables};
 use keep_tables::TableKeeper;
 use old_book::OldBook;
 use rules::Config;
 use sqlite::{Alter, Connection};
 use std::alloc::Global;
+use tables_changes::is_without_tables;
+use tables_meaning::fault_of;
 
 /// Makes the archive of an old book under another configuration, in a database that has no table, no index and no view. What has
 /// arrived has so at the moment, in seconds since 1970-01-01 00:00:00 UTC. The configuration has the same suites in the same order:
 /// only KeepDays and ValidDays may differ. A fault gives the connection back, and then what was committed is as before. It is
-/// `KeepFault::Tables` exactly where the database has an object already or a transaction is begun, and else
+/// `KeepFault::NoArchive` exactly where the database has an object already or a transaction is begun, and else
 /// `KeepFault::Configuration` exactly where the suites differ. A crash leaves what was there before or the whole archive.
 pub fn migrate<S: Alter + Drop>(
     alloc: Global,
@@ -35,20 +36,20 @@ pub fn migrate<S: Alter + Drop>(
 ) -> Result<TableKeeper<S>, (Connection<S>, KeepFault)>
     requires { moment ≤ LATEST }
     ensures made { IfOk result (λ keeper. HasCleanDisk (connection_of keeper) → IsTrue (connection_of keeper).is_open × (table_book keeper ≡ migrated_book old.now config moment)) }
-    ensures taken { (to.in_transaction ≡ true) ⊎ ((state S.Store to).now.schema ≢ no_schema) → IsErrAnd result (λ e. (e.1 ≡ NotEmpty) × (e.0 ≡ to)) }
-    ensures free { IfErr result (λ e. e.1 ≡ NotEmpty → (to.in_transaction ≡ true) ⊎ ((state S.Store to).now.schema ≢ no_schema)) }
+    ensures taken { RefusesTaken S.Store to result }
+    ensures free { RefusesOnlyTaken S.Store to result }
     ensures unlike { to.in_transaction ≡ false → (state S.Store to).now.schema ≡ no_schema → ¬ AreAlike (old_config old.now) config
         → IsErrAnd result (λ e. (e.1 ≡ NotAlike) × (e.0 ≡ to)) }
     ensures differs { IfErr result (λ e. e.1 ≡ NotAlike → ¬ AreAlike (old_config old.now) config × (e.0 ≡ to)) }
     ensures alike { IfOk result (λ _. AreAlike (old_config old.now) config) }
-    ensures undone { IfErr result (λ e. HasCleanDisk (state S.Store e.0) → IsUndone (state S.Store to) (state S.Store e.0)) }
+    ensures undone { GivesBack S.Store to result }
     ensures crash { IfOk result (λ keeper. Survives (state S.Store to) (connection_of keeper) (MayFound (state S.Store to) (migrated_rows old.now config moment))) }
     ensures crash_undone { IfErr result (λ e. Survives (state S.Store to) (state S.Store e.0) (MayFound (state S.Store to) (migrated_rows old.now config moment))) }
 {
     let free = to.is_autocommit();
     let empty = is_without_tables(&to);
     if !free || !empty {
-        return Err((to, KeepFault::Tables));
+        return Err((to, KeepFault::NoArchive));
     }
     if !are_alike(old.config(), &config) {
         return Err((to, KeepFault::Configuration));

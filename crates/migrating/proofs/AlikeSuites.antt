@@ -1,5 +1,5 @@
 -- Suites that differ in days alone: all that is shown stays, and where it is.
-use Rattle.std.proofs.Common.{◌≡◌, ◌≢◌, ◌<◌, ℕ, zero, suc, ◌+◌, Bool, true, false, not, ◌&&◌, cond, nat_lt, Ok, List, [], ◌∷◌, map, filter_map, Option, Some, None, option_map, length, slice_get, bytes_eq, refl, sym, ap, ◌∙◌, arith}
+use Rattle.std.proofs.Common.{◌≡◌, ◌≢◌, ℕ, ◌+◌, Bool, true, false, not, ◌&&◌, cond, nat_lt, Ok, List, [], ◌∷◌, map, filter_map, Option, Some, None, option_map, length, slice_get, bytes_eq, refl, sym, ap, ◌∙◌}
 use Rattle.std.specs.Prelude.{AllPairs}
 use Rattle.std.specs.List.{AllByRecursion, cons_option, position_or_len}
 use Rattle.std.specs.Option.{option_and_then, option_map_or}
@@ -9,7 +9,7 @@ use Rattle.std.proofs.lemmas.List.Elements.{All-weaker, recursion_from_All}
 use Rattle.std.proofs.lemmas.Option.{slice_get-map}
 use Rattle.sqlite_keyed.proofs.ListLemmas.{test_from_all}
 use Rattle.rules.specs.Configuration.{config_in}
-use Rattle.rules.specs.Suites.{keeps_architecture, keeps_component}
+use Rattle.rules.specs.Suites.{keeps_architecture, keeps_component, suite_named}
 use Rattle.rules.specs.Values.{ConfigValue}
 use Rattle.rules.specs.declared.suite.Suite.{Suite}
 use Rattle.suites.specs.KeyLemmas.{key_order_total, key_order-IsAntisymmetric}
@@ -20,9 +20,9 @@ use Rattle.suites.specs.declared.item.Item.{Item}
 use Rattle.suites.specs.declared.key.ShelfKey.{ShelfKey}
 use Rattle.keep.specs.Configured.{AreAlike, without_days}
 use Rattle.tables_meaning.specs.Kept.{codename_at}
-use Rattle.tables_meaning.specs.Shown.{suite_named}
-use Rattle.tables_meaning.proofs.NameLemmas.{config_codenames}
+use Rattle.texts.proofs.Paths.{config_codenames}
 use Rattle.tables_meaning.proofs.ShownLemmas.{suite_back}
+use Rattle.tables_meaning.proofs.ConfiguredItems.{below}
 
 -- ---- what is read of suites without their days
 
@@ -49,11 +49,6 @@ kept_timeless suites e = ap (λ o. option_map_or keeps o false) (slice_get-map w
     by_case (Some s) = refl
 
 -- ---- a suite by its own codename
-
-below : (suites : List Suite) (n : ℕ) (s : Suite) → slice_get suites n ≡ Some s → n < length suites
-below [] n s e = cc
-below (x ∷ xs) zero s e = omega arith
-below (x ∷ xs) (suc n) s e = let more = below xs n s e in omega (arith, more)
 
 module _ (suites : List Suite) (apart : AllPairs (λ s r. s.codename ≢ r.codename) suites) where
   own_place : (n : ℕ) (s : Suite) → slice_get suites n ≡ Some s → place_named suites s.codename ≡ Some n

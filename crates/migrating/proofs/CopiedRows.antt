@@ -5,11 +5,12 @@ use Rattle.std.specs.List.{cons_option, enumerate_from, flat_map, list_any}
 use Rattle.std.specs.Option.{option_and_then}
 use Rattle.std.specs.FinMap.{get}
 use Rattle.std.proofs.lemmas.List.Elements.{All-map, All-weaker}
-use Rattle.sqlite_keyed.proofs.ListLemmas.{ascending-map, map-map}
+use Rattle.sqlite_keyed.proofs.ListLemmas.{map-map}
 use Rattle.rules.specs.Values.{ConfigValue}
 use Rattle.rules.specs.declared.suite.Suite.{Suite}
 use Rattle.sums.specs.Prints.{print as print_of}
 use Rattle.sums.specs.declared.entries.Entry.{Entry}
+use Rattle.sums.proofs.Reading.{pairs_map}
 use Rattle.suites.specs.Shelves.{ShelvesValue, pool}
 use Rattle.suites.specs.declared.key.ShelfKey.{ShelfKey}
 use Rattle.keep.specs.Book.{Candidate, candidate_of, candidates, is_body_of, is_judged, is_there, latest}
@@ -23,16 +24,15 @@ use Rattle.tables.specs.Refs.{is_ref_of}
 use Rattle.tables.specs.Rows.{Tables, rows_of}
 use Rattle.tables.specs.Uploads.{is_judged as has_place}
 use Rattle.tables.specs.Wants.{is_wanted_by}
-use Rattle.tables.specs.declared.rows.Arrival.{Arrival}
-use Rattle.tables.specs.declared.rows.Body.{Body}
+use Rattle.tables.specs.declared.rows.ArrivalRow.{ArrivalRow}
+use Rattle.tables.specs.declared.rows.BodyRow.{BodyRow}
 use Rattle.tables.specs.declared.rows.File.{File}
-use Rattle.tables.specs.declared.rows.Item.{Item}
+use Rattle.tables.specs.declared.rows.ItemRow.{ItemRow}
 use Rattle.tables.specs.declared.rows.Piece.{Piece}
 use Rattle.tables.specs.declared.rows.Ref.{Ref}
-use Rattle.tables.specs.declared.rows.Upload.{Upload}
+use Rattle.tables.specs.declared.rows.UploadRow.{UploadRow}
 use Rattle.tables.specs.declared.rows.Want.{Want}
-use Rattle.tables_meaning.specs.Kept.{AreArrivals, AreBodies, AreFiles, AreItems, AreUploads, IsKept, arrival_in, arrivals_in, bytes_of, files_in, has_body, is_on, is_used, pieces_for, print_at, shown_row, sign_in, used_in, wants_in}
-use Rattle.tables_meaning.proofs.RowLists.{ascending_from_pairs, pairs_from_ascending}
+use Rattle.tables_meaning.specs.Kept.{AreArrivals, AreBodies, AreFiles, AreItems, AreUploads, IsBook, arrival_in, arrivals_in, bytes_of, files_in, has_body, is_on, is_used, pieces_for, print_at, shown_row, sign_in, used_in, wants_in}
 use Rattle.copying.specs.Copying.{anew, arrived_at}
 use Rattle.migrating.proofs.FoundedRows.{meta_for}
 
@@ -41,9 +41,6 @@ use Rattle.migrating.proofs.FoundedRows.{meta_for}
 rows_anew : {X : Type 0} (n : ℕ) (xs : List X) → map (λ x. x.1) (enumerate_from n xs) ≡ xs
 rows_anew n [] = refl
 rows_anew n (x ∷ xs) = ap (λ ys. x ∷ ys) (rows_anew (n + 1) xs)
-
-pairs_map : {X Y : Type 0} (R : Y → Y → Type 0) (f : X → Y) (xs : List X) → AllPairs (λ a b. R (f a) (f b)) xs → AllPairs R (map f xs)
-pairs_map R f xs h = pairs_from_ascending R (map f xs) (ascending-map R f xs (ascending_from_pairs (λ a b. R (f a) (f b)) xs h))
 
 -- ---- arrivals as of a moment
 
@@ -102,7 +99,7 @@ module _ (t : Tables) (moment : ℕ) (text : List ℕ) where
       let rows = rows_of t.arrivals in
       ap (map (arrival_in copy)) arrivals_rows
       ∙ map-map (arrival_in copy) (arrived_at moment) rows
-      ∙ (λ i. map (λ (a : Arrival). record { name = a.name; body = bytes_copied i a.body; moment = moment }) rows)
+      ∙ (λ i. map (λ (a : ArrivalRow). record { name = a.name; body = bytes_copied i a.body; moment = moment }) rows)
       ∙ sym (map-map (as_of moment) (arrival_in t) rows)
 
   pub files_copied : files_in copy ≡ files_in t
@@ -112,8 +109,8 @@ module _ (t : Tables) (moment : ℕ) (text : List ℕ) where
   used_copied : used_in copy ≡ used_in t
   used_copied =
       let rows = rows_of t.arrivals in
-      let bodies : map (λ (a : Arrival). a.body) (rows_of copy.arrivals) ≡ map (λ (a : Arrival). a.body) rows =
-      ap (map (λ (a : Arrival). a.body)) arrivals_rows ∙ map-map (λ (a : Arrival). a.body) (arrived_at moment) rows in
+      let bodies : map (λ (a : ArrivalRow). a.body) (rows_of copy.arrivals) ≡ map (λ (a : ArrivalRow). a.body) rows =
+      ap (map (λ (a : ArrivalRow). a.body)) arrivals_rows ∙ map-map (λ (a : ArrivalRow). a.body) (arrived_at moment) rows in
       λ i. bodies i ++ map (λ (f : File). f.body) (files_rows i)
 
   wants_copied : wants_in copy ≡ wants_in t
@@ -125,10 +122,10 @@ module _ (t : Tables) (moment : ℕ) (text : List ℕ) where
   bodies_kept : AreBodies t → AreBodies copy
   unfolding bytes_of has_body is_used
   bodies_kept h = record {
-    whole = subst (λ (rows : List Piece). All (λ (x : ℕ × Body). x.1.print ≡ Some (print_of (flat_map (λ (p : Piece). p.bytes) (filter (is_of x.0) rows)))) t.bodies) (sym pieces_rows) h.whole;
-    pieces = subst (λ (rows : List Piece). All (λ (x : ℕ × Body). filter (is_of x.0) rows ≡ pieces_for x.0 (flat_map (λ (p : Piece). p.bytes) (filter (is_of x.0) rows))) t.bodies) (sym pieces_rows) h.pieces;
+    whole = subst (λ (rows : List Piece). All (λ (x : ℕ × BodyRow). x.1.print ≡ Some (print_of (flat_map (λ (p : Piece). p.bytes) (filter (is_of x.0) rows)))) t.bodies) (sym pieces_rows) h.whole;
+    pieces = subst (λ (rows : List Piece). All (λ (x : ℕ × BodyRow). filter (is_of x.0) rows ≡ pieces_for x.0 (flat_map (λ (p : Piece). p.bytes) (filter (is_of x.0) rows))) t.bodies) (sym pieces_rows) h.pieces;
     apart = h.apart;
-    used = subst (λ (ids : List ℕ). All (λ (x : ℕ × Body). IsTrue (list_any (λ id. nat_eq id x.0) ids)) t.bodies) (sym used_copied) h.used;
+    used = subst (λ (ids : List ℕ). All (λ (x : ℕ × BodyRow). IsTrue (list_any (λ id. nat_eq id x.0) ids)) t.bodies) (sym used_copied) h.used;
     owned = subst (All (λ (p : Piece). IsTrue (has_body t p.body))) (sym pieces_rows) h.owned;
   }
 
@@ -138,10 +135,10 @@ module _ (t : Tables) (moment : ℕ) (text : List ℕ) where
       let rows = rows_of t.arrivals in
       let may : book.Arrival → Type 0 = λ a. IsDeliverable a.name a.body × (a.moment ≤ latest) in
       record {
-        bodies = subst (All (λ (a : Arrival). IsTrue (has_body t a.body))) (sym arrivals_rows) (All-map (λ (a : Arrival). IsTrue (has_body t a.body)) (arrived_at moment) rows h.bodies);
+        bodies = subst (All (λ (a : ArrivalRow). IsTrue (has_body t a.body))) (sym arrivals_rows) (All-map (λ (a : ArrivalRow). IsTrue (has_body t a.body)) (arrived_at moment) rows h.bodies);
         apart =
-            subst (AllPairs (λ (a b : Arrival). is_arrival a.name a.body b ≡ false)) (sym arrivals_rows)
-            (pairs_map (λ (a b : Arrival). is_arrival a.name a.body b ≡ false) (arrived_at moment) rows h.apart);
+            subst (AllPairs (λ (a b : ArrivalRow). is_arrival a.name a.body b ≡ false)) (sym arrivals_rows)
+            (pairs_map (λ (a b : ArrivalRow). is_arrival a.name a.body b ≡ false) (arrived_at moment) rows h.apart);
         deliverable =
             subst (All may) (sym arrivals_copied)
             (All-map may (as_of moment) (arrivals_in t) (All-weaker may (λ a. may (as_of moment a)) (λ a p. (p.0, early)) (arrivals_in t) h.deliverable));
@@ -153,7 +150,7 @@ module _ (t : Tables) (moment : ℕ) (text : List ℕ) where
       let there : (e : Entry) → is_there (arrivals_in copy) e ≡ is_there (arrivals_in t) e = λ e. ap (λ arrivals. is_there arrivals e) arrivals_copied ∙ there_then moment (arrivals_in t) e in
       record {
         waiting =
-            (λ i. map (λ (x : ℕ × Upload). (sign_in x.1, wants_copied i x.0)) (filter (λ x. not (has_place x.1)) t.uploads))
+            (λ i. map (λ (x : ℕ × UploadRow). (sign_in x.1, wants_copied i x.0)) (filter (λ x. not (has_place x.1)) t.uploads))
             ∙ h.waiting
             ∙ sym (λ i. map (λ (c : Candidate). (sign_of c, map (λ (e : Entry). (e.name, e.print, there e i)) c.changes.entries)) (filter (λ c. not (is_judged judged c)) (asked i)));
         owned = subst (All (λ (w : Want). IsTrue (list_any (λ x. nat_eq x.0 w.upload && not (has_place x.1)) t.uploads))) (sym wants_rows) h.owned;
@@ -166,7 +163,7 @@ module _ (t : Tables) (moment : ℕ) (text : List ℕ) where
 
   items_kept : (suites : List Suite) (shown : ShelvesValue) → AreItems t suites shown → AreItems copy suites shown
   items_kept suites shown h = record {
-    are = subst (λ (rows : List Ref). (key : ShelfKey) → key.suite < length suites → option_map (λ (x : ℕ × Item). (x.1, filter (is_ref_of x.0) rows)) (find (is_on suites key) t.items)
+    are = subst (λ (rows : List Ref). (key : ShelfKey) → key.suite < length suites → option_map (λ (x : ℕ × ItemRow). (x.1, filter (is_ref_of x.0) rows)) (find (is_on suites key) t.items)
         ≡ option_and_then (λ x. option_map (shown_row suites key x.0) (get shown key)) (find (is_on suites key) t.items)) (sym refs_rows) h.are;
     all = h.all;
     within = h.within;
@@ -184,8 +181,8 @@ module _ (t : Tables) (moment : ℕ) (text : List ℕ) where
   }
 
 -- THE ARCHIVE, copied.
-pub copied_kept : (t : Tables) (config : ConfigValue) (judged : List Judgement) (shown : ShelvesValue) (dates : List ℕ) (moment : ℕ) → IsKept t config judged shown dates → moment ≤ latest
-    → IsKept (copy t moment config.text) config judged shown dates
+pub copied_kept : (t : Tables) (config : ConfigValue) (judged : List Judgement) (shown : ShelvesValue) (dates : List ℕ) (moment : ℕ) → IsBook t config judged shown dates → moment ≤ latest
+    → IsBook (copy t moment config.text) config judged shown dates
 copied_kept t config judged shown dates moment kept early = record {
   meta = refl;
   read = kept.read;

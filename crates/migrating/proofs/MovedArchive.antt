@@ -11,7 +11,7 @@ use Rattle.tables.specs.Rows.{Numbered, Tables, changed}
 use Rattle.tables.specs.declared.rows.Meta.{Meta}
 use Rattle.tables_meaning.specs.Configuring.{new_dates, new_texts, with_configured}
 use Rattle.tables_meaning.specs.Founding.{founded}
-use Rattle.tables_meaning.specs.Kept.{IsKept, book_in}
+use Rattle.tables_meaning.specs.Kept.{IsBook, book_in}
 use Rattle.tables_meaning.proofs.ConfiguredRows.{configured_are, configured_archive, configured_book}
 use Rattle.copying.specs.Copying.{copied}
 use Rattle.migrating.specs.Migrating.{moved_book, moved_rows}
@@ -19,12 +19,12 @@ use Rattle.migrating.proofs.AlikeSuites.{alike_length, alike_moved, alike_stays}
 use Rattle.migrating.proofs.CopiedRows.{arrivals_copied, copied_kept, copy, files_copied}
 use Rattle.migrating.proofs.FoundedRows.{founded_meta}
 
-module _ (t : Tables) (config other : ConfigValue) (judged : List Judgement) (shown : ShelvesValue) (dates : List ℕ) (moment : ℕ) (kept : IsKept t config judged shown dates)
+module _ (t : Tables) (config other : ConfigValue) (judged : List Judgement) (shown : ShelvesValue) (dates : List ℕ) (moment : ℕ) (kept : IsBook t config judged shown dates)
     (alike : AreAlike config other) (read : config_in other.text ≡ Ok other) (early : moment ≤ latest) where
   abbrev now : Tables
   now = copy t moment config.text
 
-  now_kept : IsKept now config judged shown dates
+  now_kept : IsBook now config judged shown dates
   now_kept = copied_kept t config judged shown dates moment kept early
 
   stay : all_stay config.suites other.suites shown ≡ true
@@ -44,9 +44,9 @@ module _ (t : Tables) (config other : ConfigValue) (judged : List Judgement) (sh
       let made : Numbered Meta → Tables = λ rows. record now { meta = spelled rows; texts = new_texts other shown dates; dates = new_dates other dates } in
       configured_are other shown dates (copied t moment (founded other moment)) ∙ ap made (founded_meta other moment) ∙ sym (configured_are other shown dates now)
 
-  archive : IsKept (with_configured other shown dates now) other judged shown dates
+  archive : IsBook (with_configured other shown dates now) other judged shown dates
   archive =
-      subst (λ (s : ShelvesValue). IsKept (with_configured other s dates now) other judged s dates) same
+      subst (λ (s : ShelvesValue). IsBook (with_configured other s dates now) other judged s dates) same
       (configured_archive now config other judged shown dates dates now_kept read stay dated kept.in_range)
 
   its_book : book_in other judged shown dates (with_configured other shown dates now) ≡ reconfigured other shown dates (book_in config judged shown dates now)
@@ -66,15 +66,15 @@ module _ (t : Tables) (config other : ConfigValue) (judged : List Judgement) (sh
   }
 
   -- THE MOVED ARCHIVE, and its book.
-  pub moved_archive_kept : IsKept (moved_rows other shown dates moment t) other judged shown dates
-  moved_archive_kept = subst (λ (u : Tables). IsKept u other judged shown dates) (sym rows_are) archive
+  pub moved_archive_kept : IsBook (moved_rows other shown dates moment t) other judged shown dates
+  moved_archive_kept = subst (λ (u : Tables). IsBook u other judged shown dates) (sym rows_are) archive
 
   pub moved_archive_book : book_in other judged shown dates (moved_rows other shown dates moment t) ≡ moved_book other moment (book_in config judged shown dates t)
   moved_archive_book = ap (book_in other judged shown dates) rows_are ∙ its_book ∙ book_copied
 
-pub moved_archive : (t : Tables) (config other : ConfigValue) (judged : List Judgement) (shown : ShelvesValue) (dates : List ℕ) (moment : ℕ) → IsKept t config judged shown dates → AreAlike config other
+pub moved_archive : (t : Tables) (config other : ConfigValue) (judged : List Judgement) (shown : ShelvesValue) (dates : List ℕ) (moment : ℕ) → IsBook t config judged shown dates → AreAlike config other
     → config_in other.text ≡ Ok other → moment ≤ latest
-    → IsKept (moved_rows other shown dates moment t) other judged shown dates
+    → IsBook (moved_rows other shown dates moment t) other judged shown dates
     × (book_in other judged shown dates (moved_rows other shown dates moment t) ≡ moved_book other moment (book_in config judged shown dates t))
 moved_archive t config other judged shown dates moment kept alike read early = (
   moved_archive_kept t config other judged shown dates moment kept alike read early,

@@ -12,15 +12,15 @@ ghost use Rattle.keep.specs.Configured.{AreAlike};
 ghost use Rattle.keep.specs.declared.change.Judgement.{Judgement};
 ghost use Rattle.tables.specs.Rows.{Tables};
 ghost use Rattle.tables_meaning.specs.Founding.{founded};
-ghost use Rattle.tables_meaning.specs.Kept.{IsKept, book_in};
+ghost use Rattle.tables_meaning.specs.Kept.{IsBook, book_in};
 ghost use Rattle.migrating.specs.Migrating.{moved_book, moved_rows};
 
 /// The rows that a migration makes of those of an archive are those of an archive of the other configuration, with the same judged uploads, the
 /// same shown and the same dates; its book is the old one under that configuration, with each arrival as of the moment.
 pub fn a_moved_archive_is_kept()
-    ensures { (t : Tables) (config other : ConfigValue) (judged : List Judgement) (shown : ShelvesValue) (dates : List ℕ) (moment : ℕ) → IsKept t config judged shown dates → AreAlike config other
+    ensures { (t : Tables) (config other : ConfigValue) (judged : List Judgement) (shown : ShelvesValue) (dates : List ℕ) (moment : ℕ) → IsBook t config judged shown dates → AreAlike config other
         → config_in other.text ≡ Ok other → moment ≤ latest
-        → IsKept (moved_rows other shown dates moment t) other judged shown dates
+        → IsBook (moved_rows other shown dates moment t) other judged shown dates
         × (book_in other judged shown dates (moved_rows other shown dates moment t) ≡ moved_book other moment (book_in config judged shown dates t)) }
 {}
 

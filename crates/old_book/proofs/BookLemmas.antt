@@ -1,15 +1,15 @@
 -- From rows that are shown to the book of an old archive.
-use Rattle.std.proofs.Common.{◌≡◌, ◌↔◌, ℕ, Bool, true, false, find, List, [], ◌∷◌, Option, Some, None, is_some, IfSome, IsTrue, refl, sym, ap, subst, ◌∙◌}
+use Rattle.std.proofs.Common.{◌≡◌, ◌↔◌, ℕ, true, false, find, List, [], ◌∷◌, Option, Some, None, is_some, IfSome, IsTrue, refl, sym, ap, subst, ◌∙◌}
 use Rattle.rules.specs.Values.{ConfigValue}
 use Rattle.suites.specs.Shelves.{ShelvesValue}
 use Rattle.keep.specs.declared.change.Judgement.{Judgement}
 use Rattle.tables.specs.Rows.{Numbered, Tables, rows_of, without}
 use Rattle.tables.specs.declared.meta.TheConstants.{VERSION}
 use Rattle.tables.specs.declared.rows.Meta.{Meta}
-use Rattle.tables.specs.declared.rows.Upload.{Upload}
+use Rattle.tables.specs.declared.rows.UploadRow.{UploadRow}
 use Rattle.tables.specs.declared.rows.Want.{Want}
 use Rattle.tables_read.specs.All.{AreConstrained}
-use Rattle.tables_meaning.specs.Kept.{AreReadable, IsKept, bytes_of, is_placed, is_used, judged_row}
+use Rattle.tables_meaning.specs.Kept.{AreReadable, IsBook, bytes_of, is_placed, is_used, judged_row}
 use Rattle.tables_audit.specs.Parts.{BodiesFit, UploadsFit}
 use Rattle.tables_audit.specs.Whole.{KeepsNone}
 use Rattle.copying.specs.Copying.{AreRising}
@@ -20,7 +20,7 @@ use Rattle.old_book.proofs.MetaLemmas.{one_text}
 
 -- ---- as if none had been judged
 
-none_placed : (uploads : Numbered Upload) (place : ℕ) → find (is_placed place) (rows_of (unjudged_uploads uploads)) ≡ None
+none_placed : (uploads : Numbered UploadRow) (place : ℕ) → find (is_placed place) (rows_of (unjudged_uploads uploads)) ≡ None
 none_placed [] place = refl
 none_placed (x ∷ uploads) place = none_placed uploads place
 
@@ -39,7 +39,7 @@ unfolding bytes_of is_used
 bodies_unjudged t h = record { whole = h.whole; pieces = h.pieces; used = h.used }
 
 -- the answer about rows with other uploads is that about the rows as if none had been judged
-pub listed_in : {X : Type 0} (t : Tables) (uploads : Numbered Upload) (items : X → List Judgement) (o : Option X) → uploads ≡ unjudged_uploads t.uploads
+pub listed_in : {X : Type 0} (t : Tables) (uploads : Numbered UploadRow) (items : X → List Judgement) (o : Option X) → uploads ≡ unjudged_uploads t.uploads
     → (AreConstrained (record t { uploads = uploads }) → BodiesFit (record t { uploads = uploads }) → IfSome o (λ x. UploadsFit (record t { uploads = uploads }) (items x)))
     → (AreConstrained (record t { uploads = uploads }) → BodiesFit (record t { uploads = uploads }) → o ≡ None → (judged : List Judgement) → UploadsFit (record t { uploads = uploads }) judged → ⊥)
     → AreConstrained t → BodiesFit t → (IsTrue (is_some o) ↔ UploadsFit (unjudged t) [])
@@ -58,7 +58,7 @@ rows_renewed t text meta wants m w = λ i. record t { meta = m i; wants = w i }
 
 -- the bodies of an archive are whole
 pub bodies_kept : (t : Tables) (text : List ℕ) (config : ConfigValue) (judged : List Judgement) (shown : ShelvesValue) (dates : List ℕ)
-    → IsKept (with_configuration text (settled t)) config judged shown dates → BodiesFit t
+    → IsBook (with_configuration text (settled t)) config judged shown dates → BodiesFit t
 unfolding bytes_of is_used
 bodies_kept t text config judged shown dates kept = record { whole = kept.bodies.whole; pieces = kept.bodies.pieces; used = kept.bodies.used }
 
@@ -74,16 +74,16 @@ module _ (t : Tables) (text : List ℕ) (has : HasText t.meta text) (rows : Tabl
   rising_rows up = subst AreRising (sym is) (record { bodies = up.bodies; uploads = up.uploads; items = up.items })
 
   -- an archive of these rows is an old one
-  pub old_archive : (config : ConfigValue) (judged : List Judgement) (shown : ShelvesValue) (dates : List ℕ) → AreRising t → UploadsFit (unjudged t) [] → IsKept rows config judged shown dates
+  pub old_archive : (config : ConfigValue) (judged : List Judgement) (shown : ShelvesValue) (dates : List ℕ) → AreRising t → UploadsFit (unjudged t) [] → IsBook rows config judged shown dates
       → IsOldArchive t config judged shown dates × (rows ≡ with_configuration config.text (settled t))
   old_archive config judged shown dates up wants here =
-      let kept : IsKept (with_configuration text (settled t)) config judged shown dates = subst (λ r. IsKept r config judged shown dates) is here in
+      let kept : IsBook (with_configuration text (settled t)) config judged shown dates = subst (λ r. IsBook r config judged shown dates) is here in
       let same : text ≡ config.text = ap first_configuration kept.meta in (
         record {
           text = subst (HasText t.meta) same has;
           rising = up;
           listed = wants;
-          kept = subst (λ x. IsKept (with_configuration x (settled t)) config judged shown dates) same kept;
+          kept = subst (λ x. IsBook (with_configuration x (settled t)) config judged shown dates) same kept;
         },
         is ∙ ap (λ x. with_configuration x (settled t)) same,
       )
@@ -93,4 +93,4 @@ module _ (t : Tables) (text : List ℕ) (has : HasText t.meta text) (rows : Tabl
   no_old_archive readable none config judged shown dates old =
       let same : config.text ≡ text = one_text t.meta config.text text old.text has in
       none (subst AreReadable (sym is) readable) config judged shown dates
-      (subst (λ r. IsKept r config judged shown dates) (sym is) (subst (λ x. IsKept (with_configuration x (settled t)) config judged shown dates) same old.kept))
+      (subst (λ r. IsBook r config judged shown dates) (sym is) (subst (λ x. IsBook (with_configuration x (settled t)) config judged shown dates) same old.kept))

@@ -1,26 +1,21 @@
 -- What the keys of the tables keep true of rows, of the rows that are copied and of those that are made of them.
-use Rattle.std.proofs.Common.{◌≡◌, ◌≢◌, ℕ, ◌+◌, false, List, [], ◌∷◌, map, nat_eq, All, AllPairs, None, IsTrue, refl, sym, ap, subst, arith}
+use Rattle.std.proofs.Common.{◌≡◌, ◌≢◌, ℕ, ◌+◌, false, List, [], ◌∷◌, map, nat_eq, All, AllPairs, None, IsTrue, refl, sym, ap, subst}
 use Rattle.std.specs.List.{enumerate_from, list_any}
 use Rattle.std.proofs.lemmas.List.Elements.{All-filter, All-map}
-use Rattle.std.proofs.lemmas.List.{get_or-map, length-map}
-use Rattle.tables_meaning.proofs.PairLemmas.{pairs_map, pairs_unmap}
+use Rattle.texts.proofs.Pairs.{pairs_map, pairs_unmap}
+use Rattle.tables_meaning.proofs.ArrivalLemmas.{all_unmapped}
 use Rattle.sums.proofs.Words.{list_any-map}
 use Rattle.tables.specs.Arrivals.{is_arrival}
-use Rattle.tables.specs.Items.{is_item}
 use Rattle.tables.specs.Rows.{Numbered, Tables, rows_of, without}
-use Rattle.tables.specs.declared.rows.Arrival.{Arrival}
+use Rattle.tables.specs.declared.rows.ArrivalRow.{ArrivalRow}
 use Rattle.tables.specs.declared.rows.File.{File}
 use Rattle.tables.specs.declared.rows.Piece.{Piece}
 use Rattle.tables.specs.declared.rows.Ref.{Ref}
-use Rattle.tables.specs.declared.rows.Upload.{Upload}
+use Rattle.tables.specs.declared.rows.UploadRow.{UploadRow}
 use Rattle.tables.specs.declared.rows.Want.{Want}
 use Rattle.tables_read.specs.All.{AreConstrained, is_body_there, name_and_print}
 use Rattle.copying.specs.Copying.{anew, arrived_at, copied}
 use Rattle.old_book.specs.Settling.{as_unjudged, settled, unjudged, unjudged_uploads, with_configuration}
-
--- what holds of each image holds of each element
-all_unmapped : {X Y : Type 0} (P : X → Type 0) (f : Y → X) (ys : List Y) → All P (map f ys) → All (λ y. P (f y)) ys
-all_unmapped P f ys h k d lt = subst P (get_or-map f ys k d (f d) lt) (h k (f d) (omega (arith, length-map ys f)))
 
 -- ---- rows numbered anew are the same rows
 
@@ -40,10 +35,10 @@ constrained_copied t moment into keys =
       bodies_apart = keys.bodies_apart;
       pieces_owned = subst (All (λ (p : Piece). IsTrue (is_body_there t p.body))) (rows_anew (rows_of t.pieces)) keys.pieces_owned;
       arrivals_owned =
-          all_unmapped (λ (a : Arrival). IsTrue (is_body_there t a.body)) at (rows_of t.arrivals) (subst (All (λ (a : Arrival). IsTrue (is_body_there t a.body))) arrivals keys.arrivals_owned);
+          all_unmapped (λ (a : ArrivalRow). IsTrue (is_body_there t a.body)) at (rows_of t.arrivals) (subst (All (λ (a : ArrivalRow). IsTrue (is_body_there t a.body))) arrivals keys.arrivals_owned);
       arrivals_apart =
-          pairs_unmap (λ (a b : Arrival). is_arrival a.name a.body b ≡ false) at (rows_of t.arrivals)
-          (subst (AllPairs (λ (a b : Arrival). is_arrival a.name a.body b ≡ false)) arrivals keys.arrivals_apart);
+          pairs_unmap (λ (a b : ArrivalRow). is_arrival a.name a.body b ≡ false) at (rows_of t.arrivals)
+          (subst (AllPairs (λ (a b : ArrivalRow). is_arrival a.name a.body b ≡ false)) arrivals keys.arrivals_apart);
       uploads_apart = keys.uploads_apart;
       places_apart = keys.places_apart;
       wants_owned = subst (All (λ (w : Want). IsTrue (list_any (λ x. nat_eq x.0 w.upload) t.uploads))) (rows_anew (rows_of t.wants)) keys.wants_owned;
@@ -55,12 +50,12 @@ constrained_copied t moment into keys =
 
 -- ---- as if none had been judged
 
-rows_unjudged : (uploads : Numbered Upload) → map as_unjudged (rows_of uploads) ≡ rows_of (unjudged_uploads uploads)
+rows_unjudged : (uploads : Numbered UploadRow) → map as_unjudged (rows_of uploads) ≡ rows_of (unjudged_uploads uploads)
 rows_unjudged [] = refl
 rows_unjudged (x ∷ xs) = ap (λ ys. as_unjudged x.1 ∷ ys) (rows_unjudged xs)
 
 -- the numbers are the same
-owners_unjudged : (uploads : Numbered Upload) (id : ℕ) → list_any (λ x. nat_eq x.0 id) uploads ≡ list_any (λ x. nat_eq x.0 id) (unjudged_uploads uploads)
+owners_unjudged : (uploads : Numbered UploadRow) (id : ℕ) → list_any (λ x. nat_eq x.0 id) uploads ≡ list_any (λ x. nat_eq x.0 id) (unjudged_uploads uploads)
 owners_unjudged uploads id = sym (list_any-map (λ x. (x.0, as_unjudged x.1)) (λ x. nat_eq x.0 id) uploads)
 
 pub constrained_unjudged : (t : Tables) → AreConstrained t → AreConstrained (unjudged t)
@@ -70,11 +65,11 @@ constrained_unjudged t keys = record {
   arrivals_owned = keys.arrivals_owned;
   arrivals_apart = keys.arrivals_apart;
   uploads_apart =
-      subst (AllPairs (λ (u v : Upload). name_and_print u ≢ name_and_print v)) (rows_unjudged t.uploads)
-      (pairs_map (λ (u v : Upload). name_and_print u ≢ name_and_print v) (λ (u v : Upload). name_and_print u ≢ name_and_print v) as_unjudged (rows_of t.uploads) (λ u v _ _ other. other) keys.uploads_apart);
+      subst (AllPairs (λ (u v : UploadRow). name_and_print u ≢ name_and_print v)) (rows_unjudged t.uploads)
+      (pairs_map (λ (u v : UploadRow). name_and_print u ≢ name_and_print v) (λ (u v : UploadRow). name_and_print u ≢ name_and_print v) as_unjudged (rows_of t.uploads) (λ u v _ _ other. other) keys.uploads_apart);
   places_apart =
-      subst (AllPairs (λ (u v : Upload). u.place ≢ None → u.place ≢ v.place)) (rows_unjudged t.uploads)
-      (pairs_map (λ (u v : Upload). u.place ≢ None → u.place ≢ v.place) (λ (u v : Upload). name_and_print u ≢ name_and_print v) as_unjudged (rows_of t.uploads) (λ u v _ _ other some. absurd (some refl)) keys.uploads_apart);
+      subst (AllPairs (λ (u v : UploadRow). u.place ≢ None → u.place ≢ v.place)) (rows_unjudged t.uploads)
+      (pairs_map (λ (u v : UploadRow). u.place ≢ None → u.place ≢ v.place) (λ (u v : UploadRow). name_and_print u ≢ name_and_print v) as_unjudged (rows_of t.uploads) (λ u v _ _ other some. absurd (some refl)) keys.uploads_apart);
   wants_owned = subst (λ (owner : ℕ → _). All (λ (w : Want). IsTrue (owner w.upload)) (rows_of t.wants)) (λ i id. owners_unjudged t.uploads id i) keys.wants_owned;
   items_apart = keys.items_apart;
   refs_owned = keys.refs_owned;

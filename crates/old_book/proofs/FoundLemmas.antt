@@ -1,17 +1,15 @@
 -- What is found of an old archive in a database, layout by layout.
-use Rattle.std.proofs.Common.{◌≡◌, ◌⊎◌, inl, inr, true, [], ◌∷◌, Option, Some, None, Result, Ok, Err, IfErr, IfOk, IfSome, OnErr, OnOk, refl, sym, subst, ◌∙◌, arith}
-use Rattle.std.specs.Prelude.{All, Contains}
+use Rattle.std.proofs.Common.{◌≡◌, inr, true, Option, Some, None, Result, Ok, Err, IfOk, IfSome, OnErr, OnOk, refl, sym, subst, arith}
+use Rattle.std.specs.Prelude.{Contains}
 use Rattle.std.proofs.lemmas.List.Elements.{All-from_recursion}
 use Rattle.sqlite.specs.Effect.{Database}
-use Rattle.sqlite.specs.State.{State, IsUnchanged}
 use Rattle.sqlite.specs.declared.error.Error.{Error}
 use Rattle.keep.specs.Keeping.{MayAnswer}
 use Rattle.keep.specs.declared.fault.KeepFault.{KeepFault}
-use Rattle.keep.specs.declared.fault.KeepFault.TheVariants.{Tables as NoArchive}
-use Rattle.tables.specs.Rows.{Fails, Tables}
-use Rattle.tables.proofs.ReadLemmas.{fails_unchanged}
+use Rattle.keep.specs.declared.fault.KeepFault.TheVariants.{NoArchive}
+use Rattle.tables.specs.Rows.{Tables}
 use Rattle.tables_meaning.specs.Kept.{AreReadable}
-use Rattle.old_rows.specs.Layouts.{AreShown, Asked, ShowsNone, first_layout, older_layouts, second_layout}
+use Rattle.old_rows.specs.Layouts.{AreShown, Asked, first_layout, older_layouts, second_layout}
 use Rattle.old_book.specs.Books.{IsBookOf, IsOldBookIn, IsShownBook}
 use Rattle.old_book.specs.Old.{IsNoOldArchive, KeepsNoOld, KeepsNoneAs}
 use Rattle.old_book.specs.declared.book.OldBook.{OldBook}

@@ -1,17 +1,12 @@
 -- Judged uploads, by their numbers.
-use Rattle.std.proofs.Common.{◌≡◌, ℕ, Result, Ok, Err, get_or, ⊎_elim, arith, Bool, true, false, cond, nat_eq, List, [], ◌∷◌, ◌&&◌, ◌||◌, map, filter, refl, sym, ap, ap₂, ◌∙◌}
+use Rattle.std.proofs.Common.{◌≡◌, ℕ, Bool, true, false, cond, nat_eq, List, [], ◌∷◌, ◌&&◌, ◌||◌, map, filter, refl, sym, ap, ap₂, ◌∙◌}
 use Rattle.std.specs.List.{list_any}
-use Rattle.std.specs.List.Sorted.{IsBinarySearchResult, IsNonDecreasing, IsPermutation}
-use Rattle.std.specs.Ordering.{nat_cmp}
-use Rattle.std.specs.Prelude.{is_ok}
-use Rattle.std.proofs.lemmas.Bool.{cases_lt, eq-eqb, ne_eqb}
-use Rattle.std.proofs.lemmas.List.{get_or_default}
-use Rattle.std.proofs.lemmas.List.Folds.{list_any_at, list_any_none}
+use Rattle.std.specs.List.Sorted.{IsPermutation}
 use Rattle.std.proofs.Math.Bool.{and-true}
-use Rattle.std.proofs.lemmas.List.Sorted.{list_any-IsPermutation, searched}
+use Rattle.std.proofs.lemmas.List.Sorted.{list_any-IsPermutation}
 use Rattle.tables.specs.Rows.{Numbered, without}
 use Rattle.tables.specs.Uploads.{is_judged as has_place}
-use Rattle.tables.specs.declared.rows.Upload.{Upload}
+use Rattle.tables.specs.declared.rows.UploadRow.{UploadRow}
 use Rattle.tables.specs.declared.rows.Want.{Want}
 use Rattle.old_book.specs.Settling.{has_judged, judged_ids}
 
@@ -21,34 +16,20 @@ none true r = refl
 none false r = refl
 
 -- a number more
-one_more : (x : ℕ × Upload) (rest : Numbered Upload) (id : ℕ) (b r : Bool) → list_any (λ n. nat_eq n id) (map (λ x. x.0) rest) ≡ r
+one_more : (x : ℕ × UploadRow) (rest : Numbered UploadRow) (id : ℕ) (b r : Bool) → list_any (λ n. nat_eq n id) (map (λ x. x.0) rest) ≡ r
     → list_any (λ n. nat_eq n id) (map (λ x. x.0) (cond b (x ∷ rest) rest)) ≡ ((nat_eq x.0 id && b) || r)
 one_more x rest id true r same = ap₂ ◌||◌ (sym (and-true (nat_eq x.0 id))) same
 one_more x rest id false r same = same ∙ none (nat_eq x.0 id) r
 
-judged_here : (uploads : Numbered Upload) (id : ℕ) → list_any (λ n. nat_eq n id) (judged_ids uploads) ≡ has_judged uploads id
+judged_here : (uploads : Numbered UploadRow) (id : ℕ) → list_any (λ n. nat_eq n id) (judged_ids uploads) ≡ has_judged uploads id
 unfolding has_judged
 judged_here [] id = refl
 judged_here (x ∷ uploads) id = one_more x (filter (λ y. has_place y.1) uploads) id (has_place x.1) (has_judged uploads id) (judged_here uploads id)
 
 -- the wants of uploads with these numbers are those of judged ones
-pub settled_wants : (uploads : Numbered Upload) (ids numbers : List ℕ) (wants : Numbered Want) → ids ≡ judged_ids uploads → IsPermutation ids numbers
+pub settled_wants : (uploads : Numbered UploadRow) (ids numbers : List ℕ) (wants : Numbered Want) → ids ≡ judged_ids uploads → IsPermutation ids numbers
     → without (λ w. list_any (λ n. nat_eq n w.1.upload) numbers) wants ≡ without (λ w. has_judged uploads w.1.upload) wants
 settled_wants uploads ids numbers wants are order = λ i. without (λ w. same w.1.upload i) wants
   where
     same : (id : ℕ) → list_any (λ n. nat_eq n id) numbers ≡ has_judged uploads id
     same id = sym (list_any-IsPermutation (λ n. nat_eq n id) ids numbers order) ∙ ap (list_any (λ n. nat_eq n id)) are ∙ judged_here uploads id
-
--- a binary search finds a number exactly if it is among these
-pub found_among : (numbers : List ℕ) (id : ℕ) (r : Result ℕ ℕ) → IsNonDecreasing numbers → IsBinarySearchResult (λ y. nat_cmp y id) numbers r → is_ok r ≡ list_any (λ n. nat_eq n id) numbers
-found_among numbers id (Ok i) rise found =
-    let at = searched numbers id (Ok i) found (λ i j le within. rise i j 0 le within) in
-    sym (list_any_at (λ n. nat_eq n id) numbers i 0 at.0 (eq-eqb (get_or numbers i 0) id at.1))
-found_among numbers id (Err i) rise found =
-    let at = searched numbers id (Err i) found (λ i j le within. rise i j 0 le within) in
-    sym
-    (list_any_none (λ n. nat_eq n id) numbers
-    (λ k d within. ne_eqb (get_or numbers k d) id
-    (λ e.
-    let same = get_or_default numbers k d 0 within in
-    ⊎_elim (λ l. absurd (omega (arith, at.1 k l, e, same))) (λ l. absurd (omega (arith, at.2 k l within, e, same))) (cases_lt k i))))

@@ -7,7 +7,7 @@ use Rattle.keep.specs.declared.change.Judgement.{Judgement}
 use Rattle.tables.specs.Rows.{Numbered, Tables, rows_of}
 use Rattle.tables.specs.declared.meta.TheConstants.{VERSION}
 use Rattle.tables.specs.declared.rows.Meta.{Meta}
-use Rattle.tables_meaning.specs.Kept.{AreReadable, IsKept}
+use Rattle.tables_meaning.specs.Kept.{AreReadable, IsBook}
 use Rattle.tables_audit.specs.Parts.{UploadsFit}
 use Rattle.copying.specs.Copying.{AreRising}
 use Rattle.old_rows.specs.Layouts.{AreShown, Asked, ShowsNone, older_layouts}
@@ -32,7 +32,7 @@ pub record IsOldArchive (t : Tables) (config : ConfigValue) (judged : List Judge
   pub text : HasText t.meta config.text
   pub rising : AreRising t
   pub listed : UploadsFit (unjudged t) []
-  pub kept : IsKept (with_configuration config.text (settled t)) config judged shown dates
+  pub kept : IsBook (with_configuration config.text (settled t)) config judged shown dates
 
 -- rows that keep no old archive
 abbrev pub KeepsNoOld : Tables → Type 0

@@ -1,5 +1,5 @@
 -- Whether numbers rise, row by row.
-use Rattle.std.specs.Prelude.{ℕ, nat_lt, Bool, true, ◌&&◌, List, [], ◌∷◌, Option, None, Some}
+use Rattle.std.specs.Prelude.{ℕ, nat_lt, Bool, true, ◌&&◌, [], ◌∷◌, Option, None, Some}
 use Rattle.tables.specs.Rows.{Numbered, Tables}
 
 -- the number is above the last, if there is one

@@ -1,16 +1,16 @@
 -- From the rows that are shown to those of an archive of today.
-use Rattle.std.specs.Prelude.{ℕ, nat_eq, Bool, ◌&&◌, not, List, [], ◌∷◌, map, filter, None}
+use Rattle.std.specs.Prelude.{ℕ, nat_eq, Bool, ◌&&◌, List, [], ◌∷◌, map, filter, None}
 use Rattle.std.specs.List.{list_any}
 use Rattle.tables.specs.Rows.{Numbered, Tables, without}
 use Rattle.tables.specs.Uploads.{is_judged as has_place}
 use Rattle.tables.specs.declared.meta.TheConstants.{VERSION}
-use Rattle.tables.specs.declared.rows.Upload.{Upload}
+use Rattle.tables.specs.declared.rows.UploadRow.{UploadRow}
 
 -- the upload as if it had not been judged
-abbrev pub as_unjudged : Upload → Upload
+abbrev pub as_unjudged : UploadRow → UploadRow
 as_unjudged u = record u { place = None; verdict = None }
 
-abbrev pub unjudged_uploads : Numbered Upload → Numbered Upload
+abbrev pub unjudged_uploads : Numbered UploadRow → Numbered UploadRow
 unjudged_uploads uploads = map (λ x. (x.0, as_unjudged x.1)) uploads
 
 -- as if none had been judged: each upload waits, and wants what it lists
@@ -18,11 +18,11 @@ abbrev pub unjudged : Tables → Tables
 unjudged t = record t { uploads = unjudged_uploads t.uploads }
 
 -- the number is that of a judged upload
-unfoldable pub has_judged : Numbered Upload → ℕ → Bool
+unfoldable pub has_judged : Numbered UploadRow → ℕ → Bool
 has_judged uploads id = list_any (λ x. nat_eq x.0 id && has_place x.1) uploads
 
 -- the numbers of judged uploads
-abbrev pub judged_ids : Numbered Upload → List ℕ
+abbrev pub judged_ids : Numbered UploadRow → List ℕ
 judged_ids uploads = map (λ x. x.0) (filter (λ x. has_place x.1) uploads)
 
 -- an upload that is judged wants nothing more

@@ -6,7 +6,7 @@ use Rattle.std.specs.Result.{result_ok}
 use Rattle.std.specs.Str.{str_eq_ignore_ascii_case}
 use Rattle.para.specs.Field.{FieldValue}
 use Rattle.para.specs.Fields.{Fields, paragraphs_in}
-use Rattle.para.specs.Printing.{field_text, paragraph_text}
+use Rattle.para.specs.Printing.{paragraph_text}
 use Rattle.rules.specs.Configuration.{config_limit}
 
 -- the field is KeepDays or ValidDays, ASCII case ignored

@@ -2,14 +2,14 @@
 
 ghost use Rattle.std.specs.Prelude.{◌≡◌, true};
 ghost use Rattle.copying.specs.Copying.{AreRising};
-ghost use Rattle.tables_meaning.specs.Kept.{IsKept};
+ghost use Rattle.tables_meaning.specs.Kept.{IsBook};
 ghost use Rattle.tables_read.specs.All.{tables_with};
 ghost use Rattle.old_book.specs.Rising.{is_rising};
 
-use tables_audit::Held;
 use keep::Judgement;
 use rules::Config;
 use suites::Shelves;
+use tables_audit::Held;
 use tables_read::AllRows;
 
 /// The book of an archive of an older layout: its rows as those of an archive of today, each arrival at moment 0, and what a keeper holds
@@ -18,7 +18,7 @@ use tables_read::AllRows;
 pub struct OldBook {
     pub(crate) rows: AllRows,
     pub(crate) held: Held,
-    ghost kept: { ∥ IsKept (tables_with rows) held.config held.judged.items held.shelves held.dates.items ∥₁ },
+    ghost kept: { ∥ IsBook (tables_with rows) held.config held.judged.items held.shelves held.dates.items ∥₁ },
     ghost rising: { is_rising (tables_with rows) ≡ true },
 }
 
@@ -29,7 +29,7 @@ impl OldBook {
     /// The rows, as those of an archive of today.
     pub fn rows(&self) -> &AllRows
         ensures rows { result.now ≡ self.now.rows }
-        ensures kept { ∥ IsKept (tables_with self.now.rows) self.now.held.config self.now.held.judged.items self.now.held.shelves self.now.held.dates.items ∥₁ }
+        ensures kept { ∥ IsBook (tables_with self.now.rows) self.now.held.config self.now.held.judged.items self.now.held.shelves self.now.held.dates.items ∥₁ }
         ensures rising { AreRising (tables_with self.now.rows) }
     {
         &self.rows

@@ -1,7 +1,7 @@
 //! Finds the archive of a database of an older layout.
 
 ghost use Rattle.std.specs.Prelude.{◌≡◌, None, false, IfOk, IfSome, OnOk, OnErr};
-ghost use Rattle.sqlite.specs.State.{HasCleanDisk, IsUnchanged, Survives};
+ghost use Rattle.sqlite.specs.State.{HasCleanDisk, IsUnchanged};
 ghost use Rattle.sqlite.specs.Held.{state};
 ghost use Rattle.copying.specs.Copying.{AreRising};
 ghost use Rattle.tables_meaning.specs.Kept.{AreReadable};
@@ -10,18 +10,19 @@ ghost use Rattle.tables_read.specs.All.{AreConstrained, tables_with};
 ghost use Rattle.old_rows.specs.Layouts.{AreSelects};
 ghost use Rattle.old_book.specs.Old.{IsNoOldArchive, KeepsNoOld, KeepsNoneAs};
 ghost use Rattle.old_book.specs.Books.{IsBookOf, IsOldBookIn, IsShownBook};
+ghost use Rattle.tables.specs.Calls.{NeverCommits, OnCleanDisk};
 
 use crate::book::OldBook;
 use crate::listed::are_listed;
 use crate::renewed::{renewed, text_among};
 use crate::rising::is_rising;
 use crate::taken::are_taken;
-use tables_audit::archive_in;
 use keep::KeepFault;
-use tables_changes::fault_of;
 use old_rows::{Asked, first, old_rows, second};
 use sqlite::{Alter, Connection, Error};
 use std::alloc::{AllocError, Global};
+use tables_audit::archive_in;
+use tables_meaning::fault_of;
 use tables_read::AllRows;
 
 /// The book of the old archive with these rows, of which the keys of today's tables hold, where they are those of one.
@@ -65,11 +66,11 @@ fn book_as<S: Alter>(
     requires idle { from.old.in_transaction ≡ false }
     requires texts { AreSelects asked.now }
     ensures idle { from.new.in_transaction ≡ false }
-    ensures some { HasCleanDisk (state S.Store from.new) → IfOk result (λ o. IfSome o (IsShownBook asked.now (state S.Store from.old).now)) }
-    ensures none { HasCleanDisk (state S.Store from.new) → IfOk result (λ o. o ≡ None → KeepsNoneAs asked.now (state S.Store from.old).now) }
-    ensures unchanged { HasCleanDisk (state S.Store from.new) → OnOk result (IsUnchanged (state S.Store from.old) (state S.Store from.new)) }
-    ensures err { HasCleanDisk (state S.Store from.new) → OnErr result (Fails (state S.Store from.old) (state S.Store from.new)) }
-    ensures survives { Survives (state S.Store from.old) (state S.Store from.new) (λ _. ⊥) }
+    ensures some { OnCleanDisk S.Store from.old from.new (λ old new. IfOk result (λ o. IfSome o (IsShownBook asked.now old.now))) }
+    ensures none { OnCleanDisk S.Store from.old from.new (λ old new. IfOk result (λ o. o ≡ None → KeepsNoneAs asked.now old.now)) }
+    ensures unchanged { OnCleanDisk S.Store from.old from.new (λ old new. OnOk result (IsUnchanged old new)) }
+    ensures err { OnCleanDisk S.Store from.old from.new (λ old new. OnErr result (Fails old new)) }
+    ensures survives { NeverCommits S.Store from.old from.new }
 {
     match old_rows(alloc, from, asked)? {
         Some(all) => old_book_in(alloc, all),
@@ -81,11 +82,11 @@ fn book_as<S: Alter>(
 fn book_in<S: Alter>(alloc: Global, from: &mut Connection<S>) -> Result<Option<OldBook>, Error>
     requires idle { from.old.in_transaction ≡ false }
     ensures idle { from.new.in_transaction ≡ false }
-    ensures some { HasCleanDisk (state S.Store from.new) → IfOk result (λ o. IfSome o (λ old. IsOldBookIn (state S.Store from.old).now old)) }
-    ensures none { HasCleanDisk (state S.Store from.new) → IfOk result (λ o. o ≡ None → IsNoOldArchive (state S.Store from.old).now) }
-    ensures unchanged { HasCleanDisk (state S.Store from.new) → OnOk result (IsUnchanged (state S.Store from.old) (state S.Store from.new)) }
-    ensures err { HasCleanDisk (state S.Store from.new) → OnErr result (Fails (state S.Store from.old) (state S.Store from.new)) }
-    ensures survives { Survives (state S.Store from.old) (state S.Store from.new) (λ _. ⊥) }
+    ensures some { OnCleanDisk S.Store from.old from.new (λ old new. IfOk result (λ o. IfSome o (λ old. IsOldBookIn old.now old))) }
+    ensures none { OnCleanDisk S.Store from.old from.new (λ old new. IfOk result (λ o. o ≡ None → IsNoOldArchive old.now)) }
+    ensures unchanged { OnCleanDisk S.Store from.old from.new (λ old new. OnOk result (IsUnchanged old new)) }
+    ensures err { OnCleanDisk S.Store from.old from.new (λ old new. OnErr result (Fails old new)) }
+    ensures survives { NeverCommits S.Store from.old from.new }
 {
     if let Some(old) = book_as(alloc, from, &first())? {
         return Ok(Some(old));
@@ -95,29 +96,29 @@ fn book_in<S: Alter>(alloc: Global, from: &mut Connection<S>) -> Result<Option<O
 
 impl OldBook {
     ghost use Rattle.std.specs.Prelude.{◌⊎◌, true, IfErr};
-    ghost use Rattle.keep.specs.declared.fault.KeepFault.TheVariants.{Tables as NoArchive};
+    ghost use Rattle.keep.specs.declared.fault.KeepFault.TheVariants.{NoArchive};
     ghost use Rattle.tables.specs.Rows.{Stands, Tables};
     ghost use Rattle.old_book.specs.Old.{IsOldBook};
     ghost use Rattle.old_book.specs.Settling.{settled, with_configuration};
 
-    /// The book of an archive of an older layout, from its database. The fault is `KeepFault::Tables` only where a transaction is begun or
+    /// The book of an archive of an older layout, from its database. The fault is `KeepFault::NoArchive` only where a transaction is begun or
     /// the queries of no older layout show rows that keep one. The database is as before.
     pub fn read<S: Alter>(alloc: Global, from: &mut Connection<S>) -> Result<OldBook, KeepFault>
         ensures read { IfOk result (λ old. HasCleanDisk (state S.Store from.new) → (t : Tables) × IsOldBook (state S.Store from.old).now t old.held.config old.held.judged.items old.held.shelves old.held.dates.items
             × (tables_with old.rows ≡ with_configuration old.held.config.text (settled t))) }
         ensures refused { IfErr result (λ e. e ≡ NoArchive → HasCleanDisk (state S.Store from.new) → (from.old.in_transaction ≡ true) ⊎ IsNoOldArchive (state S.Store from.old).now) }
-        ensures unchanged { HasCleanDisk (state S.Store from.new) → OnOk result (Stands (state S.Store from.old) (state S.Store from.new)) }
-        ensures unchanged_refused { HasCleanDisk (state S.Store from.new) → IfErr result (λ e. e ≡ NoArchive → Stands (state S.Store from.old) (state S.Store from.new)) }
+        ensures unchanged { OnCleanDisk S.Store from.old from.new (λ old new. OnOk result (Stands old new)) }
+        ensures unchanged_refused { OnCleanDisk S.Store from.old from.new (λ old new. IfErr result (λ e. e ≡ NoArchive → Stands old new)) }
         // Another fault may have ended or closed the connection, and what was committed is as before.
-        ensures failed { HasCleanDisk (state S.Store from.new) → OnErr result (Fails (state S.Store from.old) (state S.Store from.new)) }
-        ensures survives { Survives (state S.Store from.old) (state S.Store from.new) (λ _. ⊥) }
+        ensures failed { OnCleanDisk S.Store from.old from.new (λ old new. OnErr result (Fails old new)) }
+        ensures survives { NeverCommits S.Store from.old from.new }
     {
         if !from.is_autocommit() {
-            return Err(KeepFault::Tables);
+            return Err(KeepFault::NoArchive);
         }
         match book_in(alloc, from) {
             Ok(Some(old)) => Ok(old),
-            Ok(None) => Err(KeepFault::Tables),
+            Ok(None) => Err(KeepFault::NoArchive),
             Err(error) => Err(fault_of(error)),
         }
     }

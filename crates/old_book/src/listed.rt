@@ -6,9 +6,9 @@ ghost use Rattle.tables_read.specs.All.{AreConstrained, tables_with};
 ghost use Rattle.old_book.specs.Settling.{unjudged};
 
 use crate::settling::unjudged;
-use tables_audit::judgements_in;
 use std::alloc::{AllocError, Global};
 use std::mem::replace;
+use tables_audit::judgements_in;
 use tables_read::AllRows;
 
 /// Whether the uploads are the .changes that arrived, and the wants exactly their entries: a judged upload has its wants still, and

@@ -1,4 +1,7 @@
 //! The uploads as if none had been judged, and the wants without those of judged ones.
+//!
+//! Wants are read in the order of their rows, which is that of the entries as they were written. Those of judged uploads, which an older
+//! layout keeps, are tested too, and then go.
 
 ghost use Rattle.std.specs.Prelude.{◌≡◌, nat_eq, IfOk, OnOk};
 ghost use Rattle.std.specs.List.{list_any};
@@ -7,7 +10,7 @@ ghost use Rattle.tables.specs.Rows.{without};
 ghost use Rattle.old_book.specs.Settling.{as_unjudged, has_judged, judged_ids, unjudged_uploads};
 
 use std::alloc::{AllocError, Global};
-use tables::rows::{Upload, Want};
+use tables::rows::{UploadRow, Want};
 
 /// Numbers in rising order.
 #[derive(Drop)]
@@ -26,10 +29,10 @@ impl Numbers {
 }
 
 /// The upload as if it had not been judged.
-fn as_unjudged(upload: &Upload) -> Result<Upload, AllocError>
+fn as_unjudged(upload: &UploadRow) -> Result<UploadRow, AllocError>
     ensures { IfOk result (λ u. u ≡ as_unjudged upload.now) }
 {
-    Ok(Upload {
+    Ok(UploadRow {
         name: upload.name.try_clone()?,
         print: upload.print,
         place: None,
@@ -38,7 +41,10 @@ fn as_unjudged(upload: &Upload) -> Result<Upload, AllocError>
 }
 
 /// The uploads as if none had been judged.
-pub fn unjudged(alloc: Global, uploads: &[(u64, Upload)]) -> Result<Vec<(u64, Upload)>, AllocError>
+pub fn unjudged(
+    alloc: Global,
+    uploads: &[(u64, UploadRow)],
+) -> Result<Vec<(u64, UploadRow)>, AllocError>
     ensures { IfOk result (λ all. all.items ≡ unjudged_uploads uploads.now) }
 {
     let mut all = Vec::new(alloc);
@@ -50,7 +56,7 @@ pub fn unjudged(alloc: Global, uploads: &[(u64, Upload)]) -> Result<Vec<(u64, Up
 }
 
 /// The numbers of the judged uploads, in the order of their rows.
-fn judged_among(alloc: Global, uploads: &[(u64, Upload)]) -> Result<Vec<u64>, AllocError>
+fn judged_among(alloc: Global, uploads: &[(u64, UploadRow)]) -> Result<Vec<u64>, AllocError>
     ensures { IfOk result (λ ids. ids.items ≡ judged_ids uploads.now) }
 {
     let mut ids = Vec::new(alloc);
@@ -80,7 +86,7 @@ fn retain_others(wants: &mut Vec<(u64, Want)>, ids: &Numbers)
 /// Takes out the wants of judged uploads.
 pub fn settle(
     alloc: Global,
-    uploads: &[(u64, Upload)],
+    uploads: &[(u64, UploadRow)],
     wants: &mut Vec<(u64, Want)>,
 ) -> Result<(), AllocError>
     ensures { OnOk result (wants.new.items ≡ without (λ w. has_judged uploads.now w.1.upload) wants.old.items) }

@@ -5,14 +5,12 @@ ghost use Rattle.std.specs.List.{flat_map};
 ghost use Rattle.std.specs.Option.{option_map};
 ghost use Rattle.para.specs.declared.fault.ParaFault.TheVariants.{OutOfMemory};
 ghost use Rattle.para.specs.Field.{field_value, field_values};
-ghost use Rattle.para.specs.Printing.{field_text, paragraph_text};
+ghost use Rattle.para.specs.Printing.{paragraph_text};
 ghost use Rattle.old_book.specs.Text.{is_days_field, other_fields, other_text, without_days};
 
 use para::{Field, ParaFault, Paragraph, read_many, write_field};
+use rules::MOST_CONFIG;
 use std::alloc::{AllocError, Global};
-
-/// The longest text of a configuration.
-const LIMIT: usize = 1_048_576;
 
 /// Whether the field is KeepDays or ValidDays, ASCII case ignored.
 #[tactic(auto, unfolding(crate::specs::Text::is_days_field))]
@@ -72,7 +70,7 @@ fn printed_without_days(alloc: Global, text: &[u8]) -> Result<Vec<u8>, ParaFault
     ensures ok { IfOk result (λ printed. without_days text.now ≡ Some printed.items) }
     ensures err { IfErr result (λ fault. (fault ≡ OutOfMemory) ⊎ (without_days text.now ≡ None)) }
 {
-    let paragraphs = read_many(alloc, text, LIMIT)?;
+    let paragraphs = read_many(alloc, text, MOST_CONFIG)?;
     let mut out = Vec::new(alloc);
     write_paragraphs(&paragraphs, &mut out)?;
     Ok(out)

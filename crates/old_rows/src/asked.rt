@@ -1,4 +1,7 @@
 //! The texts that ask a database of an older layout for rows of today's tables.
+//!
+//! A text that asks for another version, a table that is not there, or rows of other types make the database none of that layout. Tables,
+//! columns and indexes that no query names are passed over. So a later layout, once it is an older one, costs eleven texts.
 
 ghost use Rattle.std.specs.Prelude.{◌≡◌};
 ghost use Rattle.old_rows.specs.Layouts.{AreSelects, first_layout, second_layout};

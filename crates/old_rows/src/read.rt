@@ -6,16 +6,19 @@ ghost use Rattle.old_rows.specs.Pairs.{tables_in};
 ghost use Rattle.old_rows.specs.Shown.{IsNotShown, IsShown, Says};
 ghost use Rattle.sqlite.specs.Effect.{Database};
 ghost use Rattle.sqlite.specs.Held.{state};
-ghost use Rattle.sqlite.specs.State.{HasCleanDisk, IsUnchanged, Survives};
+ghost use Rattle.sqlite.specs.State.{IsUnchanged};
 ghost use Rattle.tables.specs.Rows.{Fails};
 ghost use Rattle.tables_read.specs.All.{tables_with};
+ghost use Rattle.tables.specs.Calls.{NeverCommits, OnCleanDisk};
 
 use crate::asked::Asked;
 use crate::shown::shown_rows;
 use crate::texts::AskedFor;
 use sqlite::{Alter, Connection, Error};
 use std::alloc::Global;
-use tables::rows::{Arrival, Body, Date, File, IndexText, Item, Meta, Piece, Ref, Upload, Want};
+use tables::rows::{
+    ArrivalRow, BodyRow, Date, File, ItemRow, Meta, Piece, Ref, TextRow, UploadRow, Want,
+};
 use tables_read::AllRows;
 
 /// Rows that queries show, one query for each table: a pair of the first and the others.
@@ -74,20 +77,20 @@ impl<A: ReadShown, B: ReadShown> ReadShown for (A, B) {
 type Numbered<T> = Vec<(u64, T)>;
 
 type Shown = (
-    Numbered<Item>,
+    Numbered<ItemRow>,
     (
         Numbered<Ref>,
-        (Numbered<File>, (Numbered<IndexText>, Numbered<Date>)),
+        (Numbered<File>, (Numbered<TextRow>, Numbered<Date>)),
     ),
 );
 
-type Judged = (Numbered<Upload>, (Numbered<Want>, Shown));
+type Judged = (Numbered<UploadRow>, (Numbered<Want>, Shown));
 
 type Arrived = (
     Numbered<Meta>,
     (
-        Numbered<Body>,
-        (Numbered<Piece>, (Numbered<Arrival>, Judged)),
+        Numbered<BodyRow>,
+        (Numbered<Piece>, (Numbered<ArrivalRow>, Judged)),
     ),
 );
 
@@ -122,11 +125,11 @@ pub fn old_rows<S: Alter>(
     requires idle { from.old.in_transaction ≡ false }
     requires texts { AreSelects asked.now }
     ensures idle { from.new.in_transaction ≡ false }
-    ensures some { HasCleanDisk (state S.Store from.new) → IfOk result (λ o. IfSome o (λ all. AreShown asked.now (state S.Store from.old).now (tables_with all))) }
-    ensures none { HasCleanDisk (state S.Store from.new) → IfOk result (λ o. o ≡ None → ShowsNone asked.now (state S.Store from.old).now) }
-    ensures unchanged { HasCleanDisk (state S.Store from.new) → OnOk result (IsUnchanged (state S.Store from.old) (state S.Store from.new)) }
-    ensures err { HasCleanDisk (state S.Store from.new) → OnErr result (Fails (state S.Store from.old) (state S.Store from.new)) }
-    ensures survives { Survives (state S.Store from.old) (state S.Store from.new) (λ _. ⊥) }
+    ensures some { OnCleanDisk S.Store from.old from.new (λ old new. IfOk result (λ o. IfSome o (λ all. AreShown asked.now old.now (tables_with all)))) }
+    ensures none { OnCleanDisk S.Store from.old from.new (λ old new. IfOk result (λ o. o ≡ None → ShowsNone asked.now old.now)) }
+    ensures unchanged { OnCleanDisk S.Store from.old from.new (λ old new. OnOk result (IsUnchanged old new)) }
+    ensures err { OnCleanDisk S.Store from.old from.new (λ old new. OnErr result (Fails old new)) }
+    ensures survives { NeverCommits S.Store from.old from.new }
 {
     match Arrived::read(alloc, from, asked)? {
         Some(rows) => Ok(Some(all_of(rows))),

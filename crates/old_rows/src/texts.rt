@@ -5,7 +5,9 @@ ghost use Rattle.old_rows.specs.Layouts.{Asked as Texts, AreSelects};
 ghost use Rattle.old_rows.specs.Shown.{IsSelectText};
 
 use crate::asked::Asked;
-use tables::rows::{Arrival, Body, Date, File, IndexText, Item, Meta, Piece, Ref, Upload, Want};
+use tables::rows::{
+    ArrivalRow, BodyRow, Date, File, ItemRow, Meta, Piece, Ref, TextRow, UploadRow, Want,
+};
 use tables_read::Stored;
 
 /// A row of a table that a text of each layout asks for.
@@ -29,7 +31,7 @@ impl AskedFor for Meta {
     }
 }
 
-impl AskedFor for Body {
+impl AskedFor for BodyRow {
     ghost text = { λ asked. asked.bodies };
 
     ghost selects = { λ asked all. all.bodies };
@@ -49,7 +51,7 @@ impl AskedFor for Piece {
     }
 }
 
-impl AskedFor for Arrival {
+impl AskedFor for ArrivalRow {
     ghost text = { λ asked. asked.arrivals };
 
     ghost selects = { λ asked all. all.arrivals };
@@ -59,7 +61,7 @@ impl AskedFor for Arrival {
     }
 }
 
-impl AskedFor for Upload {
+impl AskedFor for UploadRow {
     ghost text = { λ asked. asked.uploads };
 
     ghost selects = { λ asked all. all.uploads };
@@ -79,7 +81,7 @@ impl AskedFor for Want {
     }
 }
 
-impl AskedFor for Item {
+impl AskedFor for ItemRow {
     ghost text = { λ asked. asked.items };
 
     ghost selects = { λ asked all. all.items };
@@ -109,7 +111,7 @@ impl AskedFor for File {
     }
 }
 
-impl AskedFor for IndexText {
+impl AskedFor for TextRow {
     ghost text = { λ asked. asked.texts };
 
     ghost selects = { λ asked all. all.texts };

@@ -1,4 +1,6 @@
 //! The text of a paragraph.
+//!
+//! The writers of fields and lines write what they are given: a newline inside a name or a line is the caller's.
 
 ghost use Rattle.std.specs.Prelude.{◌≡◌, ◌≤◌, [], ◌∷◌, ◌++◌, OnOk, IfErr, Ok, length, take, map};
 ghost use Rattle.std.specs.List.{flat_map};

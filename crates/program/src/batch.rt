@@ -1,4 +1,15 @@
 //! Lists of commands, made over one opening of an archive.
+//!
+//! A list is read whole before the database is opened. So a slip leaves no half of a list done, and costs no opening. It goes on after a
+//! file that can't be read, and `put` ends: the list's other commands were asked for as well, and a list is mostly written by a program.
+//!
+//! The commands go through `drive`, so that the call which the promise speaks of is the one that the program makes. It is handed the
+//! bodies, so a group of deliveries is in memory: up to 16 MiB of bodies, four of the largest files. A call costs nothing beside its
+//! commands, so a larger group would save nothing, and would print later.
+//!
+//! `drive` makes all that it is handed, also after a fault of memory or the disk. What is lost by that is the order. If a copy finds no
+//! room and the removal after it is done, no suite shows the package any more, and the list given again can't bring it back. So a group is
+//! deliveries alone. Those after a fault in it have been tried too, and are not reported.
 
 ghost use Rattle.std.specs.Prelude.{◌≡◌, ◌+◌, nat_le};
 

@@ -1,4 +1,12 @@
 //! The archive of a database file.
+//!
+//! A database file that is not there is no archive (K4) and is made by `init` alone: left to itself SQLite would make an empty file, and
+//! then answer K4. A file without a byte, and without a log beside it, is no archive either but for `init`, and is left as it is.
+//!
+//! A log that an opening finds gets the mode of its database. The library gives it to a log that it makes, and a log stays after a command,
+//! so that it would keep the mode which the database had then. It is changed by its descriptor, and only if it is a regular file of one
+//! name: so whoever may write in the folder has no other file's mode changed by that. If this process may not, as for a file of another
+//! owner, it stays.
 
 ghost use Rattle.std.specs.Prelude.{◌≤◌};
 

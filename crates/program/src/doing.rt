@@ -1,4 +1,8 @@
 //! What the program does for a line.
+//!
+//! A file of the system that says it has no byte is delivered as one without a byte. What is no regular file, as a pipe, has no length
+//! beforehand. It is read whole, up to one byte more than a delivery may have, so that a longer one is refused as too large (Q2). So is
+//! each file of `try`.
 
 use crate::batch::batch_file;
 use crate::database::InFile;

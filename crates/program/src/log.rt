@@ -1,4 +1,8 @@
 //! The log: a line for each connection.
+//!
+//! A line that can't be written at once is left out, and counted: a log must neither end the service nor hold it. Standard error may be
+//! shared with other processes, a terminal with its shell. So it is set not to wait for the time of a write alone. Without the descriptor
+//! for that (too many files are open when `serve` begins) a write waits.
 
 use crate::shown::shown_bytes;
 use desk::{DeskFault, Served};

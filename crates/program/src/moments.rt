@@ -1,4 +1,6 @@
 //! The moments of connections.
+//!
+//! Moments come from a file and not from a clock, so that they can be repeated.
 
 ghost use Rattle.std.specs.Prelude.{◌≡◌, ◌≤◌, None};
 

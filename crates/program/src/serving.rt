@@ -1,4 +1,16 @@
 //! The archive served over HTTP, one connection after the other.
+//!
+//! The first byte is waited for shortly, since browsers and health checks open connections that they do not use. After a reply the server
+//! closes its side and reads on, up to 4 MiB and 2 seconds: a socket that is closed with bytes unread is reset, and its client then loses
+//! the reply. Only these intervals, the milliseconds of the log and the wait for a lock are measured by a clock: no answer depends on it.
+//!
+//! If a connection can't be accepted for want of room, or since its network failed, this waits a tenth of a second and asks again, without
+//! end. These errors pass (accept(2)), and a service that ended would begin again into the same. They count as no connection. A client that
+//! left before it was accepted is reported by an error as well, and counts. Any other error ends `serve`: the listener is none any more.
+//!
+//! 16 MiB are taken once, and given back at once. From then on the C library's allocator keeps up to 32 MiB. Without that it gives the
+//! memory of each large reply back, and taking it anew costs more than the reply. A reply goes through a buffer, if there is memory for
+//! one.
 
 ghost use Rattle.std.specs.Prelude.{◌≡◌, ◌≤◌, ℕ, All, None, length};
 ghost use Rattle.desk.specs.Connections.{HasServed, IsClientsWithin};

@@ -1,4 +1,7 @@
 //! Names, words and lines that others chose, as they are printed.
+//!
+//! Letters of other scripts stay. What clap says of words that are no line quotes them, so it is asked once more with the words as they are
+//! shown, for the text alone. Bytes of files are printed as they are.
 
 use std::alloc::{AllocError, Global};
 use std::fmt;

@@ -1,4 +1,12 @@
 //! The words that ask for the archive of a database file.
+//!
+//! After a 507 `serve` asks the archive for the empty path. If that is answered by a fault of the disk, the keeper is shut. The archive is
+//! then opened again, and the rest of the connections is answered from what is in the file: the book before the failed call, or with it. A
+//! full disk shuts no keeper.
+//!
+//! The listener is made before the archive is opened, and ends last, so that clients wait in the system's queue meanwhile. If both fail,
+//! the fault of the database is reported. A `Desk` is made after each opening. If there is no memory for it, `serve` ends with Q0 and
+//! status 3, before a connection is accepted.
 
 ghost use Rattle.desk.specs.Connections.{HasServed, IsClientsWithin};
 

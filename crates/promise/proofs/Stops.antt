@@ -7,11 +7,11 @@ use Rattle.sqlite.specs.Effect.{Database}
 use Rattle.sqlite.specs.Tree.{Trees}
 use Rattle.rules.specs.Values.{ConfigValue}
 use Rattle.keep.specs.Book.{Book}
-use Rattle.tables.specs.Rows.{HoldsRows, IsArchive, Tables, tables_in, tables_of}
+use Rattle.tables.specs.Rows.{HoldsRows, IsArchive, Tables, tables_of}
 use Rattle.tables.specs.Others.{IsArchiveSchema}
 use Rattle.tables_meaning.specs.Archives.{KeepsBook, KeepsFinished, KeepsLeft}
 use Rattle.tables_meaning.specs.Finished.{AreUnderWay, finished}
-use Rattle.tables_meaning.specs.Kept.{IsKept, book_in}
+use Rattle.tables_meaning.specs.Kept.{IsBook, book_in}
 use Rattle.keep_tables.specs.Opened.{IsNoArchive}
 
 config_set : IsSet ConfigValue
@@ -48,7 +48,7 @@ module _ (found : Database) (Is : Book → Type 0) (left : (o : Option Book) →
       ∥∥₁_elim keeps no_two (λ w.
       let held : IsArchive found = archive_there db found same lists w.3.held in
       none held (subst AreUnderWay (ap tables_of same) w.3.coming) b.config w.0 w.1 w.2
-      (subst (λ (t : Tables). IsKept (finished t) b.config w.0 w.1 w.2) (ap tables_of same) w.3.kept)))
+      (subst (λ (t : Tables). IsBook (finished t) b.config w.0 w.1 w.2) (ap tables_of same) w.3.kept)))
 
   pub is_left : (config : ConfigValue) (b : Book) → KeepsFinished found config b → Is b
   is_left config b keeps = left (Some b) (found, refl, kept_book found config b keeps)

@@ -1,20 +1,16 @@
 //! An archive that is made in a database, and commands in order.
 
-ghost use Rattle.std.specs.Prelude.{◌≡◌, ◌≢◌, ◌≤◌, ◌⊎◌, true, Option, IsTrue, IfOk, IfErr, IsErrAnd, OnErr, map};
-ghost use Rattle.sqlite.specs.Held.{state};
+ghost use Rattle.std.specs.Prelude.{◌≡◌, ◌≤◌, true, Option, IsTrue, IfOk, OnErr, map};
 ghost use Rattle.sqlite.specs.State.{HasCleanDisk};
 ghost use Rattle.keep.specs.Book.{Book};
-ghost use Rattle.keep.specs.Keeping.{MoreFaults, NoCollision};
+ghost use Rattle.keep.specs.Keeping.{NoCollision};
 ghost use Rattle.keep.specs.Plain.{fresh_book};
-ghost use Rattle.keep.specs.declared.fault.KeepFault.TheVariants.{Tables as NotEmpty};
-ghost use Rattle.tables.specs.Schema.{no_schema};
-ghost use Rattle.tables_meaning.specs.Archives.{KeepsBook};
-ghost use Rattle.tables_meaning.specs.Transactions.{IsUndone};
 ghost use Rattle.keep_tables.specs.Keepers.{connection_of, table_book};
 ghost use Rattle.queue.specs.Answers.{IsRun};
 ghost use Rattle.queue.specs.Commands.{call_of, kind_of_command, kind_of_outcome, outcome_of};
 ghost use Rattle.queue.specs.Histories.{bodies_of, opened_with};
 ghost use Rattle.queue.specs.Steps.{IsLeftAlong, IsServedLast};
+ghost use Rattle.keep_tables.specs.Calls.{GivesBack, IsShutByFailure, KeepsItsBook, RefusesOnlyTaken, RefusesTaken};
 
 use crate::commands::make_commands;
 use keep::{KeepFault, Keeper, LATEST};
@@ -43,10 +39,8 @@ pub fn drive_created<S: Alter + Drop>(
     ensures once { IfOk result (λ r. HasCleanDisk (connection_of r.0.keeper) → IfOk r.1 (λ outcomes. NoCollision (bodies_of (map call_of commands.now))
         → IsRun true (opened_with (fresh_book config moment)) (map call_of commands.now) (map outcome_of outcomes.items) (IsTrue (connection_of r.0.keeper).is_open) (table_book r.0.keeper))) }
     // Only a counted failure shuts the connection.
-    ensures open { IfOk result (λ r. HasCleanDisk (connection_of r.0.keeper) → IsTrue (connection_of r.0.keeper).is_open
-        ⊎ MoreFaults (state S.Store connection).faults (connection_of r.0.keeper).faults) }
-    ensures kept { IfOk result (λ r. HasCleanDisk (connection_of r.0.keeper) → IsTrue (connection_of r.0.keeper).is_open
-        → KeepsBook (connection_of r.0.keeper).committed config (table_book r.0.keeper)) }
+    ensures open { IfOk result (λ r. IsShutByFailure r.0.keeper connection) }
+    ensures kept { IfOk result (λ r. KeepsItsBook r.0.keeper config) }
     // Where memory is wanting for the outcomes no command was made.
     ensures none { IfOk result (λ r. HasCleanDisk (connection_of r.0.keeper) → OnErr r.1 (table_book r.0.keeper ≡ fresh_book config moment)) }
     // Where the last is done the connection is open.
@@ -57,9 +51,9 @@ pub fn drive_created<S: Alter + Drop>(
         → (left : Option Book) → ⟦<TableKeeper<S> as Keeper>⟧.may_leave r.0.keeper left
         → IsLeftAlong (opened_with (fresh_book config moment)) (map call_of commands.now) (map outcome_of outcomes.items) left)) }
     // What a making is refused for.
-    ensures taken { (connection.in_transaction ≡ true) ⊎ ((state S.Store connection).now.schema ≢ no_schema) → IsErrAnd result (λ e. (e.1 ≡ NotEmpty) × (e.0 ≡ connection)) }
-    ensures free { IfErr result (λ e. e.1 ≡ NotEmpty → (connection.in_transaction ≡ true) ⊎ ((state S.Store connection).now.schema ≢ no_schema)) }
-    ensures undone { IfErr result (λ e. HasCleanDisk (state S.Store e.0) → IsUndone (state S.Store connection) (state S.Store e.0)) }
+    ensures taken { RefusesTaken S.Store connection result }
+    ensures free { RefusesOnlyTaken S.Store connection result }
+    ensures undone { GivesBack S.Store connection result }
 {
     // For the prover alone: what a stop in a list leaves.
     a_stop_leaves_a_part_of_a_list::<TableKeeper<S>>();

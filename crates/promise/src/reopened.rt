@@ -1,19 +1,15 @@
 //! An archive that a database keeps, and commands in order behind the book that it has.
 
-ghost use Rattle.std.specs.Prelude.{◌≡◌, ◌⊎◌, true, IsTrue, IfOk, IfErr, IsErrAnd, OnErr, map};
+ghost use Rattle.std.specs.Prelude.{◌≡◌, IfOk, OnErr, map};
 ghost use Rattle.sqlite.specs.Held.{state};
 ghost use Rattle.sqlite.specs.State.{HasCleanDisk};
 ghost use Rattle.keep.specs.Book.{Book};
-ghost use Rattle.keep.specs.Keeping.{MoreFaults};
-ghost use Rattle.keep.specs.declared.fault.KeepFault.TheVariants.{OutOfMemory, Tables as NoArchive};
-ghost use Rattle.tables.specs.Causes.{MayFail};
-ghost use Rattle.tables_meaning.specs.Archives.{KeepsBook, KeepsFinished};
-ghost use Rattle.tables_meaning.specs.Transactions.{IsUndone};
+ghost use Rattle.tables_meaning.specs.Archives.{KeepsFinished};
 ghost use Rattle.keep_tables.specs.Keepers.{config_in_use, connection_of, table_book};
-ghost use Rattle.keep_tables.specs.Opened.{HasUnfinished, IsNoArchive};
 ghost use Rattle.promise.specs.Lists.{GoOn};
 ghost use Rattle.queue.specs.Commands.{call_of, kind_of_command, kind_of_outcome, outcome_of};
 ghost use Rattle.queue.specs.Steps.{IsServedLast};
+ghost use Rattle.keep_tables.specs.Calls.{GivesBack, IsShutByFailure, KeepsItsBook, RefusesBusy, RefusesNoArchive, SaysWhy};
 
 use crate::commands::make_commands;
 use keep::{KeepFault, Keeper};
@@ -39,15 +35,13 @@ pub fn drive_opened<S: InOrder + Drop>(
     // Where the last is done the connection is open.
     ensures served { IfOk result (λ r. IfOk r.1 (λ outcomes. IsServedLast ⟦<TableKeeper<S> as Keeper>⟧ r.0.keeper (map outcome_of outcomes.items))) }
     // Only a counted failure shuts the connection.
-    ensures open { IfOk result (λ r. HasCleanDisk (connection_of r.0.keeper) → IsTrue (connection_of r.0.keeper).is_open
-        ⊎ MoreFaults (state S.Store connection).faults (connection_of r.0.keeper).faults) }
-    ensures kept { IfOk result (λ r. HasCleanDisk (connection_of r.0.keeper) → IsTrue (connection_of r.0.keeper).is_open
-        → KeepsBook (connection_of r.0.keeper).committed (config_in_use r.0.keeper) (table_book r.0.keeper)) }
+    ensures open { IfOk result (λ r. IsShutByFailure r.0.keeper connection) }
+    ensures kept { IfOk result (λ r. KeepsItsBook r.0.keeper (config_in_use r.0.keeper)) }
     // What an opening is refused for.
-    ensures refused { IfErr result (λ e. e.1 ≡ NoArchive → HasCleanDisk (state S.Store e.0) → (connection.in_transaction ≡ true) ⊎ IsNoArchive (state S.Store connection).now) }
-    ensures told { IfErr result (λ e. HasCleanDisk (state S.Store e.0) → (e.1 ≡ NoArchive) ⊎ ((e.1 ≡ OutOfMemory) ⊎ (MayFail (state S.Store connection) (state S.Store e.0) ⊎ HasUnfinished (state S.Store connection).now))) }
-    ensures busy { connection.in_transaction ≡ true → IsErrAnd result (λ e. (e.1 ≡ NoArchive) × (e.0 ≡ connection)) }
-    ensures undone { IfErr result (λ e. HasCleanDisk (state S.Store e.0) → IsUndone (state S.Store connection) (state S.Store e.0)) }
+    ensures refused { RefusesNoArchive S.Store connection result }
+    ensures told { SaysWhy S.Store connection result }
+    ensures busy { RefusesBusy S.Store connection result }
+    ensures undone { GivesBack S.Store connection result }
 {
     // For the prover alone: what a stop in a list leaves.
     a_stop_leaves_a_part_of_a_list::<TableKeeper<S>>();

@@ -1,4 +1,12 @@
 //! The archive over a keeper.
+//!
+//! The keeper of an `Archive` is a public field. By it a program reads what the keeper says of itself, as its configuration, and the
+//! clauses name it. What is done to a keeper past its archive is no call of a history.
+//!
+//! A delivery is stored by several commits. So after a crash in it there may be what would have been left before, the book before, or the
+//! book with the delivery (`LeavesDelivery`). The book before takes nothing from the promise, since an open keeper leaves its book alone
+//! (`settled`). A run, a cleaning, a copy, a promotion and a removal are one commit each, and have two cases (`LeavesStep`). The laws on
+//! stops are said of what follows from either (`LeavesCall`).
 
 ghost use Rattle.std.specs.Prelude.{◌≡◌, ◌⊎◌, ◌<◌, ◌≤◌, ⊤, true, Some, None, Err, IfOk, IfErr, OnOk, OnErr, false, map};
 ghost use Rattle.queue.specs.Amending.{IsPlanned, OnceAmended};

@@ -1,4 +1,10 @@
 //! Another configuration: what is handed to a keeper with it.
+//!
+//! Another configuration is no command of a history: one history ends there, and another opens with the book under the new configuration
+//! (`reopened`). What a book does not have is forgotten there: items that a greater version had replaced, and the calls before. No answer
+//! shows them.
+//!
+//! `Archive::configure` answers K5, and no call of a keeper does.
 
 ghost use Rattle.std.specs.Prelude.{◌≡◌, ◌⊎◌, ◌≤◌, ◌<◌, All, IfOk, IfErr, IfSome, OnOk, Some, length, false, string_bytes, slice_get};
 ghost use Rattle.std.specs.Option.{option_and_then};

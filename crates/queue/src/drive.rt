@@ -1,4 +1,9 @@
 //! Lists of commands.
+//!
+//! `drive` answers an `Err` only before it has made a command, and the archive is then the same.
+//!
+//! It makes all commands that it is handed, also after one that memory or the disk failed. So a caller who needs their order hands over
+//! deliveries alone, of which none needs another and each may be given again.
 
 ghost use Rattle.std.specs.Prelude.{◌≡◌, IfOk, OnErr, map};
 ghost use Rattle.queue.specs.Answers.{IsFaithful, IsKept, IsRun};

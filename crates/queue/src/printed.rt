@@ -1,4 +1,10 @@
 //! The prints of texts that begin as those before them.
+//!
+//! Most of an index stays as it is, and its three digests take about half of the time of a run. So the archive keeps each index that it
+//! rendered in parts of 65,536 bytes, and with each part the states of the digests at its end (`PrintedText`). The next text at that path
+//! is compared with these parts, and is hashed from the first that differs (`print_next`). That a print is that of the whole text is its
+//! contract, whatever is kept: the states at a part are those of all bytes up to its end, by the type's invariant. These texts are held in
+//! memory, once each.
 
 ghost use Rattle.std.specs.Prelude.{◌≡◌, ◌++◌, ◌<◌, [], IfOk, IfSome, OnOk, length, take};
 ghost use Rattle.queue.specs.Printed.{ArePrinted, IsBehind, joined};

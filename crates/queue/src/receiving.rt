@@ -1,4 +1,9 @@
 //! Deliveries whose body a reader gives.
+//!
+//! A .changes is read whole, and as a record, before its first piece is stored. It has at most 1,048,576 bytes.
+//!
+//! A `receive` that held each body whole before it stored its pieces would meet its contract, since no clause speaks of memory. The test
+//! `pieces_are_stored_as_they_come` refuses it.
 
 ghost use Rattle.std.specs.Prelude.{◌≡◌, ◌<◌, ◌≤◌, ℕ, List, Some, true, length, IsErrAnd, OnErr};
 ghost use Rattle.std.specs.Io.KnownBytes.{Keeps};

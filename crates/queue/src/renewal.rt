@@ -1,4 +1,7 @@
 //! The index texts that a change makes other than before.
+//!
+//! A run, a copy, a promotion and a removal render the indices that their plans change. Of the other indices of the same suites they ask
+//! for the prints alone, since Release has them.
 
 ghost use Rattle.std.specs.Prelude.{◌≡◌, ◌≤◌, ◌<◌, ◌++◌, Bool, List, ℕ, IfOk, IfErr, OnOk, is_some, length, map, slice_get, Some, [], option_map, unwrap_or, string_bytes, if◌then◌else◌};
 ghost use Rattle.std.specs.List.{flat_map, list_any};

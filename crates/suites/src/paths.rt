@@ -1,4 +1,7 @@
 //! Where files stand in the pool.
+//!
+//! The prefix of a source is cut in bytes. For a source that begins with another character than ASCII, which no source name does, a cut
+//! within a character takes the whole text.
 
 ghost use Rattle.std.specs.Prelude.{◌≡◌, ◌&&◌, nat_eq, nat_lt, length, codes, IfOk, string_bytes};
 ghost use Rattle.std.specs.List.{starts_with};

@@ -1,4 +1,10 @@
 //! What all suites show, and the pool of its files.
+//!
+//! What all suites show is one map, in order, by suite, kind, package and architecture. Beside it is the pool: a map, in order, from a path
+//! to a print and how many items refer to it. References are counted in 64 bits. One more than these hold is refused like want of memory:
+//! no machine has so many, since each is an element of a list.
+//!
+//! What always holds of this type is known to a caller only from the clause of a call: `Shelves::agree`, with an empty body, is that call.
 
 ghost use Rattle.std.specs.Prelude.{◌≡◌, ℕ, ◌<◌, T, List, [], ◌∷◌, OnOk, OnErr, IfOk, IfSome, None, true, bytes_eq, option_copied, map, fold, cond, All};
 ghost use Rattle.std.specs.BTreeMap.{IsOrdered, get_by_text};

@@ -1,4 +1,8 @@
 //! An upload whose listed files have all arrived.
+//!
+//! An upload keeps the bodies of its .dsc and its sidecars. Of every other file it keeps the print alone.
+//!
+//! `Upload::lists_once`, with an empty body, tells the prover what always holds of an upload.
 
 ghost use Rattle.std.specs.Prelude.{◌≡◌, IfOk, map, filter, zip, option_copied};
 ghost use Rattle.suites.specs.Upload.{IsUpload, has_suffix, has_text as keeps_text, entry_named as named_entry, parts_with};

@@ -1,6 +1,5 @@
 -- What the statements on arrivals do.
 use Rattle.std.proofs.Common.{lit≤, ◌≡◌, ℕ, pos, [], ◌∷◌, Ok, Err, Result, OnOk, refl, true, List, map, filter, find, drop, Option, sym, ap, ◌∙◌}
-use Rattle.sqlite.specs.Table.{Table}
 use Rattle.sqlite.specs.Order.{Row, column}
 use Rattle.sqlite.specs.Term.{col}
 use Rattle.sqlite.specs.declared.types.Value.TheVariants.{Null, Text}
@@ -17,18 +16,15 @@ use Rattle.tables.proofs.InsertLemmas.{puts}
 use Rattle.tables.proofs.AddLemmas.{adds_row, adds_id}
 use Rattle.tables.proofs.ShownLemmas.{Shows, shown, reads_shown, first_shown}
 use Rattle.std.specs.Prelude.{nat_eq}
-use Rattle.tables.specs.Schema.{arrivals}
+use Rattle.tables.specs.Schema.{arrivals_table}
 use Rattle.tables.specs.Rows.{whole, Tables, Holds, Changes, with_arrival, arrival_cells, arrival_of, nat_of, row_of, rows_of, stored, next_in}
 use Rattle.tables.specs.Arrivals.{is_arrival, with_moment, without_arrival}
-use Rattle.tables.specs.declared.rows.Arrival.{Arrival}
+use Rattle.tables.specs.declared.rows.ArrivalRow.{ArrivalRow}
 use Rattle.tables.specs.declared.arrivals.TheConstants.{INSERT_ARRIVAL, SELECT_ARRIVAL, SELECT_ARRIVALS, SELECT_BODIES, UPDATE_MOMENT, DELETE_ARRIVAL}
 use Rattle.tables.proofs.ArrivalsMeaning.{insert_arrival_terms, insert_arrival_is, insert_arrival_plain, arrival_columns, arrival_is, arrival_id_is, select_arrival_is, select_arrival_plain, select_arrivals_is, select_arrivals_plain, select_bodies_is, select_bodies_plain, update_moment_columns, update_moment_is, update_moment_plain, delete_arrival_columns, delete_arrival_is, delete_arrival_plain}
 use Rattle.tables.proofs.HoldsLemmas.{with_arrivals}
 use Rattle.tables.proofs.SelectLemmas.{reads_rows}
 use Rattle.tables.proofs.UpdateLemmas.{updates, updates_rows, deletes, deletes_rows}
-
-abbrev arrivals_table : Table
-arrivals_table = record arrivals { tree = 5 }
 
 arrival_cast : (name : List ℕ) (body : ℕ) (moment : ℕ) → cast_row arrivals_table (Null ∷ (Null ∷ (Text name ∷ whole body ∷ whole moment ∷ []))) ≡ Null ∷ arrival_cells (record { name = name; body = body; moment = moment })
 arrival_cast name body moment = rw (cast_null, cast_int (pos body), cast_int (pos moment))
@@ -52,7 +48,7 @@ inserts_arrival old new name body moment count h =
 arrival_shows : (name : List ℕ) (body : ℕ) → Shows arrival_cells 5 arrival_is arrival_columns (Text name ∷ whole body ∷ []) (λ x. is_arrival name body x.1) (shown arrival_cells) SELECT_ARRIVAL.now
 arrival_shows name body = record { names = _; is = (λ o. (select_arrival_is o).0); plain = select_arrival_plain; unlisted = (λ o. (select_arrival_is o).1); tests = λ x. then_term (text_test x.1.name name) (last_term (whole_test x.1.body body)); shows = λ _. refl; real = λ _. refl }
 
-pub arrival_answer : (old new : State) (t : Tables) (name : List ℕ) (body : ℕ) (found : Option (ℕ × Arrival)) → Holds old.now t → IsReadFirst (row_of arrival_of) SELECT_ARRIVAL.now (Text name ∷ whole body ∷ []) old new found
+pub arrival_answer : (old new : State) (t : Tables) (name : List ℕ) (body : ℕ) (found : Option (ℕ × ArrivalRow)) → Holds old.now t → IsReadFirst (row_of arrival_of) SELECT_ARRIVAL.now (Text name ∷ whole body ∷ []) old new found
     → (found ≡ find (λ x. is_arrival name body x.1) t.arrivals) × IsUnchanged old new
 arrival_answer old new t name body found was h =
     first_shown arrival_cells 5 arrival_is arrival_columns (Text name ∷ whole body ∷ []) SELECT_ARRIVAL.now old new t.arrivals was.schema was.rows.arrivals (λ x. is_arrival name body x.1) arrival_of (λ _. refl) (arrival_shows name body) found h
@@ -60,7 +56,7 @@ arrival_answer old new t name body found was h =
 arrivals_show : Shows arrival_cells 5 [] arrival_columns [] (λ _. true) (shown arrival_cells) SELECT_ARRIVALS.now
 arrivals_show = record { names = _; is = (λ o. (select_arrivals_is o).0); plain = select_arrivals_plain; unlisted = (λ o. (select_arrivals_is o).1); tests = λ _. refl; shows = λ _. refl; real = λ _. refl }
 
-pub arrivals_answer : (old new : State) (t : Tables) (all : List (ℕ × Arrival)) → Holds old.now t → IsRead (row_of arrival_of) SELECT_ARRIVALS.now [] old new all
+pub arrivals_answer : (old new : State) (t : Tables) (all : List (ℕ × ArrivalRow)) → Holds old.now t → IsRead (row_of arrival_of) SELECT_ARRIVALS.now [] old new all
     → (all ≡ t.arrivals) × IsUnchanged old new
 arrivals_answer old new t all was h =
     let done = reads_shown arrival_cells 5 [] arrival_columns [] SELECT_ARRIVALS.now old new t.arrivals was.schema was.rows.arrivals (λ _. true) arrival_of (λ _. refl) arrivals_show all h in
@@ -69,20 +65,20 @@ arrivals_answer old new t all was h =
 pub arrived_bodies_answer : (old new : State) (t : Tables) (all : List ℕ) → Holds old.now t → IsRead (λ row. nat_of (column row 0)) SELECT_BODIES.now [] old new all
     → (all ≡ map (λ a. a.body) (rows_of t.arrivals)) × IsUnchanged old new
 arrived_bodies_answer old new t all was h =
-    let show = λ (x : ℕ × Arrival). whole x.1.body ∷ [] in
+    let show = λ (x : ℕ × ArrivalRow). whole x.1.body ∷ [] in
     let rows =
     reads_rows arrival_cells 5 [] (col 1 3 ∷ []) [] (λ _. true) show (λ _. refl) (λ _. refl)
     SELECT_BODIES.now _ (λ _. refl) old new h.rows t.arrivals (λ o. (select_bodies_is o).0) select_bodies_plain (λ o. (select_bodies_is o).1) was.schema was.rows.arrivals h.shown in (
       h.are ∙ ap (map (λ row. nat_of (column row 0))) rows ∙ map-map (λ row. nat_of (column row 0)) show (filter (λ _. true) t.arrivals)
-          ∙ ap (map (λ (x : ℕ × Arrival). x.1.body)) (unfiltered t.arrivals refl) ∙ sym (map-map (λ (a : Arrival). a.body) (λ (x : ℕ × Arrival). x.1) t.arrivals),
+          ∙ ap (map (λ (x : ℕ × ArrivalRow). x.1.body)) (unfiltered t.arrivals refl) ∙ sym (map-map (λ (a : ArrivalRow). a.body) (λ (x : ℕ × ArrivalRow). x.1) t.arrivals),
       h.same,
     )
 
 -- the row that an update makes of a row
-abbrev updated : ℕ → ℕ × Arrival → Row
+abbrev updated : ℕ → ℕ × ArrivalRow → Row
 updated moment x = whole x.0 ∷ whole x.0 ∷ Null ∷ Text x.1.name ∷ whole x.1.body ∷ whole moment ∷ []
 
-updated_cast : (moment : ℕ) (x : ℕ × Arrival) → cast_row arrivals_table (drop 1 (updated moment x)) ≡ stored arrival_cells (x.0, record x.1 { moment = moment })
+updated_cast : (moment : ℕ) (x : ℕ × ArrivalRow) → cast_row arrivals_table (drop 1 (updated moment x)) ≡ stored arrival_cells (x.0, record x.1 { moment = moment })
 updated_cast moment x = rw (cast_null, cast_int (pos x.0), cast_int (pos x.1.body), cast_int (pos moment))
 
 pub changes_moment : (old new : State) (id moment : ℕ) (r : Result ℕ Error) → ExecutesInside 0 UPDATE_MOMENT.now (whole id ∷ whole moment ∷ []) old new r → OnOk r (Changes old new (with_moment id moment))

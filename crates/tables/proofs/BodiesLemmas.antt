@@ -1,6 +1,5 @@
 -- What the statements on bodies do.
 use Rattle.std.proofs.Common.{lit≤, ◌≡◌, ℕ, drop, pos, [], ◌∷◌, Ok, Err, Result, OnOk, nat_eq, refl, true, false, List, map, filter, find, slice_get, Option, Some, None, ap, ◌∙◌, option_map, ◌&&◌}
-use Rattle.sqlite.specs.Table.{Table}
 use Rattle.sqlite.specs.Order.{Row, column}
 use Rattle.sqlite.specs.Term.{col}
 use Rattle.sqlite.specs.declared.types.Value.TheVariants.{Null, Blob}
@@ -16,11 +15,11 @@ use Rattle.sqlite_sql.specs.declared.ops.CompareOp.TheVariants.{Eq}
 use Rattle.sqlite_sql.specs.declared.ops.BinaryOp.TheVariants.{Compare}
 use Rattle.sqlite.specs.Collation.TheVariants.{Binary}
 use Rattle.sums.specs.declared.print.Print.{Print}
-use Rattle.tables.specs.Schema.{bodies}
+use Rattle.tables.specs.Schema.{bodies_table}
 use Rattle.tables.specs.Rows.{whole, print_cells, Numbered, Tables, Holds, Changes, with_body, body_cells, body_of, full_body, nat_of, next_in, row_of, stored}
 use Rattle.tables.specs.Bodies.{has_print, body_with, with_print, without_body}
 use Rattle.tables.specs.Reading.{IsRead, IsReadFirst}
-use Rattle.tables.specs.declared.rows.Body.{Body}
+use Rattle.tables.specs.declared.rows.BodyRow.{BodyRow}
 use Rattle.tables.specs.declared.bodies.TheConstants.{INSERT_BODY, INSERT_BEGUN, UPDATE_PRINT, SELECT_BODY, SELECT_NUMBERED, SELECT_NUMBERS, DELETE_BODY}
 use Rattle.tables.proofs.CastLemmas.{cast_null, cast_int}
 use Rattle.tables.proofs.BodiesMeaning.{insert_body_terms, insert_body_is, insert_body_plain, insert_begun_terms, insert_begun_is, insert_begun_plain, update_print_columns, update_print_is, update_print_plain, print_terms, select_body_is, select_body_plain, body_id_is, body_columns, select_numbered_is, select_numbered_plain, select_numbers_is, select_numbers_plain, delete_body_columns, delete_body_is, delete_body_plain}
@@ -34,13 +33,10 @@ use Rattle.tables.proofs.EqualLemmas.{whole_test}
 use Rattle.sqlite_sql.specs.Term.{eval_all}
 use Rattle.tables.proofs.UpdateLemmas.{deletes, updates, updates_rows}
 
-abbrev bodies_table : Table
-bodies_table = record bodies { tree = 1 }
-
-abbrev storing : Storing Body
+abbrev pub storing : Storing BodyRow
 storing = record { cells = body_cells; full = full_body; same = λ _. refl; again = λ _ _ _. refl; none = refl }
 
-abbrev whole_body : Print → Body
+abbrev pub whole_body : Print → BodyRow
 whole_body p = record { print = Some p }
 
 body_cast : (p : Print) → cast_row bodies_table (Null ∷ (Null ∷ print_cells p)) ≡ Null ∷ body_cells (whole_body p)
@@ -68,7 +64,7 @@ inserts_body old new p count h =
           adds_id (raw_cells storing) bodies_table _ (raw storing (whole_body p)) (body_cast p) old new (put t was) r.of r.has ∙ ap pos (next_of storing t.bodies r.of r.values),
     )
 
-abbrev begun_body : Body
+abbrev pub begun_body : BodyRow
 begun_body = record { print = None }
 
 begun_cast : cast_row bodies_table (Null ∷ (Null ∷ Null ∷ Null ∷ Null ∷ Null ∷ [])) ≡ Null ∷ body_cells begun_body
@@ -97,13 +93,13 @@ inserts_begun old new count h =
     )
 
 -- the row that an update makes of a row
-abbrev updated : Print → ℕ × Body → Row
+abbrev updated : Print → ℕ × BodyRow → Row
 updated p x = whole x.0 ∷ whole x.0 ∷ Null ∷ print_cells p
 
-abbrev printed : Print → Body → Body
+abbrev printed : Print → BodyRow → BodyRow
 printed p b = record b { print = Some p }
 
-updated_cast : (p : Print) (x : ℕ × Body) → cast_row bodies_table (drop 1 (updated p x)) ≡ stored body_cells (x.0, printed p x.1)
+updated_cast : (p : Print) (x : ℕ × BodyRow) → cast_row bodies_table (drop 1 (updated p x)) ≡ stored body_cells (x.0, printed p x.1)
 updated_cast p x = rw (cast_null, cast_int (pos x.0), cast_int (pos p.size))
 
 pub changes_print : (old new : State) (id : ℕ) (p : Print) (r : Result ℕ Error) → ExecutesInside 0 UPDATE_PRINT.now (whole id ∷ print_cells p) old new r
@@ -130,7 +126,7 @@ unfolding binary
 nullable_test p None = refl
 nullable_test p (Some q) = print_test q p
 
-number_of_first : (xs : Numbered Body) → slice_get (map (λ x. x.0) xs) 0 ≡ option_map (λ x. x.0) (slice_get xs 0)
+number_of_first : (xs : Numbered BodyRow) → slice_get (map (λ x. x.0) xs) 0 ≡ option_map (λ x. x.0) (slice_get xs 0)
 number_of_first [] = refl
 number_of_first (x ∷ xs) = refl
 
@@ -138,7 +134,7 @@ pub body_answer : (old new : State) (t : Tables) (p : Print) (found : Option ℕ
     → (found ≡ body_with p t.bodies) × IsUnchanged old new
 body_answer old new t p found was h =
     let some = filter (λ x. has_print p x.1) t.bodies in
-    let show = λ (x : ℕ × Body). whole x.0 ∷ [] in
+    let show = λ (x : ℕ × BodyRow). whole x.0 ∷ [] in
     let rows =
     reads_full storing 1 print_terms (col 1 0 ∷ []) (print_cells p) (λ x. has_print p x.1) show (record { tests = λ _. refl; shows = λ _. refl }) (λ x. nullable_test p x.1.print) (λ _. refl)
     SELECT_BODY.now _ (λ _. refl) old new h.read.rows t.bodies (λ o. (select_body_is o).0) select_body_plain (λ o. (select_body_is o).1) was.schema was.rows.bodies h.read.shown in (
@@ -147,13 +143,13 @@ body_answer old new t p found was h =
       h.read.same,
     )
 
-body_back : (x : ℕ × Body) → row_of body_of (shown body_cells x) ≡ x
+body_back : (x : ℕ × BodyRow) → row_of body_of (shown body_cells x) ≡ x
 body_back x = elim x.1.print as (λ p. row_of body_of (shown body_cells (x.0, record { print = p })) ≡ (x.0, record { print = p })) [ None ↦ refl | Some p ↦ refl ]
 
 numbered_show : (id : ℕ) → Shows body_cells 1 body_id_is body_columns (whole id ∷ []) (λ x. nat_eq x.0 id) (shown body_cells) SELECT_NUMBERED.now
 numbered_show id = record { names = _; is = (λ o. (select_numbered_is o).0); plain = select_numbered_plain; unlisted = (λ o. (select_numbered_is o).1); tests = λ x. last_term (whole_test x.0 id); shows = λ _. refl; real = λ _. refl }
 
-pub numbered_answer : (old new : State) (t : Tables) (id : ℕ) (found : Option (ℕ × Body)) → Holds old.now t → IsReadFirst (row_of body_of) SELECT_NUMBERED.now (whole id ∷ []) old new found
+pub numbered_answer : (old new : State) (t : Tables) (id : ℕ) (found : Option (ℕ × BodyRow)) → Holds old.now t → IsReadFirst (row_of body_of) SELECT_NUMBERED.now (whole id ∷ []) old new found
     → (found ≡ find (λ x. nat_eq x.0 id) t.bodies) × IsUnchanged old new
 numbered_answer old new t id found was h =
     first_value storing 1 body_id_is body_columns (whole id ∷ []) SELECT_NUMBERED.now old new t.bodies was.schema was.rows.bodies (λ x. nat_eq x.0 id) body_of body_back (numbered_show id)
@@ -162,12 +158,12 @@ numbered_answer old new t id found was h =
 pub numbers_answer : (old new : State) (t : Tables) (all : List ℕ) → Holds old.now t → IsRead (λ row. nat_of (column row 0)) SELECT_NUMBERS.now [] old new all
     → (all ≡ map (λ x. x.0) t.bodies) × IsUnchanged old new
 numbers_answer old new t all was h =
-    let show = λ (x : ℕ × Body). whole x.0 ∷ [] in
+    let show = λ (x : ℕ × BodyRow). whole x.0 ∷ [] in
     let rows =
     reads_full storing 1 [] (col 1 0 ∷ []) [] (λ _. true) show (record { tests = λ _. refl; shows = λ _. refl }) (λ _. refl) (λ _. refl)
     SELECT_NUMBERS.now _ (λ _. refl) old new h.rows t.bodies (λ o. (select_numbers_is o).0) select_numbers_plain (λ o. (select_numbers_is o).1) was.schema was.rows.bodies h.shown in (
       h.are ∙ ap (map (λ row. nat_of (column row 0))) rows ∙ map-map (λ row. nat_of (column row 0)) show (filter (λ _. true) t.bodies)
-          ∙ ap (map (λ (x : ℕ × Body). x.0)) (unfiltered t.bodies refl),
+          ∙ ap (map (λ (x : ℕ × BodyRow). x.0)) (unfiltered t.bodies refl),
       h.same,
     )
 

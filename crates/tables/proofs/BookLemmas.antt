@@ -6,14 +6,14 @@ use Rattle.sqlite.specs.Effect.{Database}
 use Rattle.sqlite_keyed.proofs.ListLemmas.{map_back, map-map}
 use Rattle.sqlite.specs.Values.{or_null}
 use Rattle.tables.specs.Rows.{whole, some_nat, Numbered, HasRows, Tables, Holds, IsArchive, full_body, full_upload, stored, row_of, tables_in, meta_cells, meta_of, body_cells, body_of, piece_cells, piece_of, arrival_cells, arrival_of, upload_cells, upload_of, want_cells, want_of, item_cells, item_of, ref_cells, ref_of, file_cells, file_of, text_cells, text_of, date_cells, date_of}
-use Rattle.tables.specs.declared.rows.Body.{Body}
-use Rattle.tables.specs.declared.rows.Upload.{Upload}
+use Rattle.tables.specs.declared.rows.BodyRow.{BodyRow}
+use Rattle.tables.specs.declared.rows.UploadRow.{UploadRow}
 use Rattle.tables.specs.declared.rows.Want.{Want}
 
-body_back : (b : Body) → body_of (stored body_cells (0, b)) ≡ b
+body_back : (b : BodyRow) → body_of (stored body_cells (0, b)) ≡ b
 body_back b = elim b.print as (λ p. body_of (stored body_cells (0, record { print = p })) ≡ record { print = p }) [ None ↦ refl | Some p ↦ refl ]
 
-upload_back : (u : Upload) → upload_of (stored upload_cells (0, u)) ≡ u
+upload_back : (u : UploadRow) → upload_of (stored upload_cells (0, u)) ≡ u
 upload_back u =
     let place = elim u.place as (λ p. some_nat (or_null whole p) ≡ p) [ None ↦ refl | Some n ↦ refl ] in
     let verdict = elim u.verdict as (λ v. some_nat (or_null whole v) ≡ v) [ None ↦ refl | Some n ↦ refl ] in

@@ -1,12 +1,11 @@
 -- What the statements on dates do.
 use Rattle.std.proofs.Common.{lit≤, ◌≡◌, ℕ, pos, [], ◌∷◌, Ok, Err, Result, OnOk, refl, false, List, drop, ◌∙◌, true, subst}
-use Rattle.sqlite.specs.Table.{Table}
 use Rattle.sqlite.specs.Order.{Row}
 use Rattle.sqlite.specs.declared.types.Value.TheVariants.{Null, Text}
 use Rattle.sqlite.specs.Cast.{cast_row}
 use Rattle.sqlite.specs.declared.error.Error.{Error}
 use Rattle.sqlite.specs.State.{State, ExecutesInside}
-use Rattle.tables.specs.Schema.{dates}
+use Rattle.tables.specs.Schema.{dates_table}
 use Rattle.tables.specs.Rows.{whole, Changes, with_date, date_cells, stored, HasRows, Numbered}
 use Rattle.tables.specs.Dates.{has_suite, with_new_date, without_dates}
 use Rattle.tables.specs.declared.rows.Date.{Date}
@@ -21,9 +20,6 @@ use Rattle.tables.proofs.UpdateLemmas.{updates, updates_rows, deletes, deletes_r
 use Rattle.sqlite_typed.proofs.TestLemmas.{last_term, at_texts}
 use Rattle.std.proofs.lemmas.Map.Text.{is_eq-slice_cmp}
 use Rattle.sqlite_sql.specs.declared.ops.CompareOp.TheVariants.{Eq}
-
-abbrev dates_table : Table
-dates_table = record dates { tree = 21 }
 
 abbrev pub date_params : Date → Row
 date_params x = Text x.suite ∷ whole x.moment ∷ []

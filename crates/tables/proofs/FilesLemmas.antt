@@ -1,6 +1,5 @@
 -- What the statements on files do.
 use Rattle.std.proofs.Common.{lit≤, ◌≡◌, ℕ, pos, [], ◌∷◌, Ok, Err, Result, OnOk, refl, true, List, map, filter, find, Option, sym, ap, ◌∙◌}
-use Rattle.sqlite.specs.Table.{Table}
 use Rattle.sqlite.specs.Order.{column}
 use Rattle.sqlite.specs.Term.{col}
 use Rattle.sqlite.specs.declared.types.Value.TheVariants.{Null, Text}
@@ -17,7 +16,7 @@ use Rattle.tables.proofs.AddLemmas.{adds_row}
 use Rattle.tables.proofs.ShownLemmas.{Shows, reads_stored}
 use Rattle.sqlite_keyed.proofs.ListLemmas.{map-map, slice_get-filter}
 use Rattle.std.specs.Prelude.{slice_get}
-use Rattle.tables.specs.Schema.{files}
+use Rattle.tables.specs.Schema.{files_table}
 use Rattle.tables.specs.Rows.{whole, Tables, Holds, Changes, with_file, file_cells, file_of, nat_of, stored, rows_of}
 use Rattle.tables.specs.Files.{is_file_at, without_file}
 use Rattle.tables.specs.declared.rows.File.{File}
@@ -26,9 +25,6 @@ use Rattle.tables.proofs.FilesMeaning.{insert_file_terms, insert_file_is, insert
 use Rattle.tables.proofs.HoldsLemmas.{with_files}
 use Rattle.tables.proofs.SelectLemmas.{reads_rows}
 use Rattle.tables.proofs.UpdateLemmas.{deletes, deletes_rows}
-
-abbrev files_table : Table
-files_table = record files { tree = 17 }
 
 file_cast : (path : List ℕ) (body : ℕ) → cast_row files_table (Null ∷ Text path ∷ whole body ∷ []) ≡ Null ∷ file_cells (record { path = path; body = body })
 file_cast path body = rw (cast_null, cast_int (pos body))

@@ -6,15 +6,15 @@ use Rattle.sqlite.specs.Tree.{Trees}
 use Rattle.tables.specs.Schema.{archive_schema}
 use Rattle.tables.specs.Rows.{Numbered, HasRows, Tables, HoldsRows, full_body, full_upload, meta_cells, body_cells, piece_cells, arrival_cells, upload_cells, want_cells, item_cells, ref_cells, file_cells, text_cells, date_cells}
 use Rattle.tables.specs.declared.rows.Meta.{Meta}
-use Rattle.tables.specs.declared.rows.Body.{Body}
+use Rattle.tables.specs.declared.rows.BodyRow.{BodyRow}
 use Rattle.tables.specs.declared.rows.Piece.{Piece}
-use Rattle.tables.specs.declared.rows.Arrival.{Arrival}
-use Rattle.tables.specs.declared.rows.Upload.{Upload}
+use Rattle.tables.specs.declared.rows.ArrivalRow.{ArrivalRow}
+use Rattle.tables.specs.declared.rows.UploadRow.{UploadRow}
 use Rattle.tables.specs.declared.rows.Want.{Want}
-use Rattle.tables.specs.declared.rows.Item.{Item}
+use Rattle.tables.specs.declared.rows.ItemRow.{ItemRow}
 use Rattle.tables.specs.declared.rows.Ref.{Ref}
 use Rattle.tables.specs.declared.rows.File.{File}
-use Rattle.tables.specs.declared.rows.IndexText.{IndexText}
+use Rattle.tables.specs.declared.rows.TextRow.{TextRow}
 use Rattle.tables.specs.declared.rows.Date.{Date}
 
 -- each table but the one of this tree has the rows that it had
@@ -56,7 +56,7 @@ module _ (old new : Trees) (t : Tables) (was : HoldsRows old t) where
     dates = kept date_cells t.dates was.dates (others.1.1.1.1.1.1.1.1.1.1.0 (omega arith));
   }
 
-  pub with_bodies : (rows : Numbered Body) → HasRows body_cells rows (map full_body (new 1)) → KeepsOthers 1 old new → HoldsRows new (record t { bodies = rows })
+  pub with_bodies : (rows : Numbered BodyRow) → HasRows body_cells rows (map full_body (new 1)) → KeepsOthers 1 old new → HoldsRows new (record t { bodies = rows })
   with_bodies rows now others = record {
     meta = kept meta_cells t.meta was.meta (others.0 (omega arith));
     bodies = now;
@@ -86,7 +86,7 @@ module _ (old new : Trees) (t : Tables) (was : HoldsRows old t) where
     dates = kept date_cells t.dates was.dates (others.1.1.1.1.1.1.1.1.1.1.0 (omega arith));
   }
 
-  pub with_arrivals : (rows : Numbered Arrival) → HasRows arrival_cells rows (new 5) → KeepsOthers 5 old new → HoldsRows new (record t { arrivals = rows })
+  pub with_arrivals : (rows : Numbered ArrivalRow) → HasRows arrival_cells rows (new 5) → KeepsOthers 5 old new → HoldsRows new (record t { arrivals = rows })
   with_arrivals rows now others = record {
     meta = kept meta_cells t.meta was.meta (others.0 (omega arith));
     bodies = kept body_cells t.bodies was.bodies (ap (map full_body) (others.1.0 (omega arith)));
@@ -101,7 +101,7 @@ module _ (old new : Trees) (t : Tables) (was : HoldsRows old t) where
     dates = kept date_cells t.dates was.dates (others.1.1.1.1.1.1.1.1.1.1.0 (omega arith));
   }
 
-  pub with_uploads : (rows : Numbered Upload) → HasRows upload_cells rows (map full_upload (new 7)) → KeepsOthers 7 old new → HoldsRows new (record t { uploads = rows })
+  pub with_uploads : (rows : Numbered UploadRow) → HasRows upload_cells rows (map full_upload (new 7)) → KeepsOthers 7 old new → HoldsRows new (record t { uploads = rows })
   with_uploads rows now others = record {
     meta = kept meta_cells t.meta was.meta (others.0 (omega arith));
     bodies = kept body_cells t.bodies was.bodies (ap (map full_body) (others.1.0 (omega arith)));
@@ -131,7 +131,7 @@ module _ (old new : Trees) (t : Tables) (was : HoldsRows old t) where
     dates = kept date_cells t.dates was.dates (others.1.1.1.1.1.1.1.1.1.1.0 (omega arith));
   }
 
-  pub with_items : (rows : Numbered Item) → HasRows item_cells rows (new 13) → KeepsOthers 13 old new → HoldsRows new (record t { items = rows })
+  pub with_items : (rows : Numbered ItemRow) → HasRows item_cells rows (new 13) → KeepsOthers 13 old new → HoldsRows new (record t { items = rows })
   with_items rows now others = record {
     meta = kept meta_cells t.meta was.meta (others.0 (omega arith));
     bodies = kept body_cells t.bodies was.bodies (ap (map full_body) (others.1.0 (omega arith)));
@@ -176,7 +176,7 @@ module _ (old new : Trees) (t : Tables) (was : HoldsRows old t) where
     dates = kept date_cells t.dates was.dates (others.1.1.1.1.1.1.1.1.1.1.0 (omega arith));
   }
 
-  pub with_texts : (rows : Numbered IndexText) → HasRows text_cells rows (new 19) → KeepsOthers 19 old new → HoldsRows new (record t { texts = rows })
+  pub with_texts : (rows : Numbered TextRow) → HasRows text_cells rows (new 19) → KeepsOthers 19 old new → HoldsRows new (record t { texts = rows })
   with_texts rows now others = record {
     meta = kept meta_cells t.meta was.meta (others.0 (omega arith));
     bodies = kept body_cells t.bodies was.bodies (ap (map full_body) (others.1.0 (omega arith)));

@@ -1,6 +1,5 @@
 -- What the statements on items do.
 use Rattle.std.proofs.Common.{lit≤, ◌≡◌, ℕ, pos, [], ◌∷◌, Ok, Err, Result, OnOk, refl, true, false, List, find, Bool, Option, ◌∙◌}
-use Rattle.sqlite.specs.Table.{Table}
 use Rattle.sqlite.specs.Order.{Row}
 use Rattle.sqlite.specs.declared.types.Value.TheVariants.{Null, Text, Blob}
 use Rattle.sqlite.specs.Cast.{cast_row}
@@ -15,28 +14,25 @@ use Rattle.tables.proofs.InsertLemmas.{puts}
 use Rattle.tables.proofs.AddLemmas.{adds_row, adds_id}
 use Rattle.tables.proofs.ShownLemmas.{Shows, shown, reads_shown, first_shown}
 use Rattle.std.specs.Prelude.{nat_eq, bytes_eq, ◌&&◌}
-use Rattle.tables.specs.Schema.{items}
+use Rattle.tables.specs.Schema.{items_table}
 use Rattle.tables.specs.Rows.{whole, Tables, Holds, Changes, with_item, item_cells, item_of, row_of, next_in}
 use Rattle.tables.specs.Items.{is_item, without_item}
-use Rattle.tables.specs.declared.rows.Item.{Item}
+use Rattle.tables.specs.declared.rows.ItemRow.{ItemRow}
 use Rattle.tables.specs.declared.items.TheConstants.{INSERT_ITEM, SELECT_ITEMS, SELECT_ITEM, DELETE_ITEM}
 use Rattle.tables.proofs.ItemsMeaning.{insert_item_terms, insert_item_is, insert_item_plain, item_columns, item_is, item_id_is, select_items_is, select_items_plain, select_item_is, select_item_plain, delete_item_columns, delete_item_is, delete_item_plain}
 use Rattle.tables.proofs.HoldsLemmas.{with_items}
 use Rattle.tables.proofs.UpdateLemmas.{deletes, deletes_rows}
 
-abbrev items_table : Table
-items_table = record items { tree = 13 }
-
-abbrev pub item_params : Item → Row
+abbrev pub item_params : ItemRow → Row
 item_params x = Text x.suite ∷ whole x.kind ∷ Text x.«package» ∷ Text x.architecture ∷ Text x.version ∷ Text x.component ∷ Text x.source ∷ Blob x.paragraph ∷ []
 
 abbrev key_params : List ℕ → ℕ → List ℕ → List ℕ → Row
 key_params suite kind name architecture = Text suite ∷ whole kind ∷ Text name ∷ Text architecture ∷ []
 
-item_cast : (x : Item) → cast_row items_table (Null ∷ Null ∷ item_params x) ≡ Null ∷ item_cells x
+item_cast : (x : ItemRow) → cast_row items_table (Null ∷ Null ∷ item_params x) ≡ Null ∷ item_cells x
 item_cast x = rw (cast_null, cast_int (pos x.kind))
 
-pub inserts_item : (old new : State) (x : Item) (count : ℕ) → ExecutesInside 0 INSERT_ITEM.now (item_params x) old new (Ok count)
+pub inserts_item : (old new : State) (x : ItemRow) (count : ℕ) → ExecutesInside 0 INSERT_ITEM.now (item_params x) old new (Ok count)
     → Changes old new (with_item x) × ((t : Tables) → Holds old.now t → new.last_rowid ≡ pos (next_in t.items))
 inserts_item old new x count h =
     let put = λ (t : Tables) (was : Holds old.now t).
@@ -55,7 +51,7 @@ inserts_item old new x count h =
 items_show : Shows item_cells 13 [] item_columns [] (λ _. true) (shown item_cells) SELECT_ITEMS.now
 items_show = record { names = _; is = (λ o. (select_items_is o).0); plain = select_items_plain; unlisted = (λ o. (select_items_is o).1); tests = λ _. refl; shows = λ _. refl; real = λ _. refl }
 
-pub items_answer : (old new : State) (t : Tables) (all : List (ℕ × Item)) → Holds old.now t → IsRead (row_of item_of) SELECT_ITEMS.now [] old new all
+pub items_answer : (old new : State) (t : Tables) (all : List (ℕ × ItemRow)) → Holds old.now t → IsRead (row_of item_of) SELECT_ITEMS.now [] old new all
     → (all ≡ t.items) × IsUnchanged old new
 items_answer old new t all was h =
     let done = reads_shown item_cells 13 [] item_columns [] SELECT_ITEMS.now old new t.items was.schema was.rows.items (λ _. true) item_of (λ _. refl) items_show all h in
@@ -80,7 +76,7 @@ item_shows suite kind name architecture = record {
   real = λ _. refl;
 }
 
-pub item_answer : (old new : State) (t : Tables) (suite : List ℕ) (kind : ℕ) (name : List ℕ) (architecture : List ℕ) (found : Option (ℕ × Item)) → Holds old.now t → IsReadFirst (row_of item_of) SELECT_ITEM.now (key_params suite kind name architecture) old new found
+pub item_answer : (old new : State) (t : Tables) (suite : List ℕ) (kind : ℕ) (name : List ℕ) (architecture : List ℕ) (found : Option (ℕ × ItemRow)) → Holds old.now t → IsReadFirst (row_of item_of) SELECT_ITEM.now (key_params suite kind name architecture) old new found
     → (found ≡ find (λ x. is_item suite kind name architecture x.1) t.items) × IsUnchanged old new
 item_answer old new t suite kind name architecture found was h =
     first_shown item_cells 13 item_is item_columns (key_params suite kind name architecture) SELECT_ITEM.now old new t.items was.schema was.rows.items (λ x. is_item suite kind name architecture x.1) item_of (λ _. refl) (item_shows suite kind name architecture) found h

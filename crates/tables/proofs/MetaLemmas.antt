@@ -1,12 +1,11 @@
 -- What the statements on the one row of `meta` do.
 use Rattle.std.proofs.Common.{lit≤, ◌≡◌, ℕ, pos, [], ◌∷◌, Ok, Err, Result, OnOk, refl, true, drop, List}
-use Rattle.sqlite.specs.Table.{Table}
 use Rattle.sqlite.specs.Order.{Row}
 use Rattle.sqlite.specs.declared.types.Value.TheVariants.{Null, Blob}
 use Rattle.sqlite.specs.Cast.{cast_row}
 use Rattle.sqlite.specs.declared.error.Error.{Error}
 use Rattle.sqlite.specs.State.{State, ExecutesInside}
-use Rattle.tables.specs.Schema.{meta}
+use Rattle.tables.specs.Schema.{meta_table}
 use Rattle.tables.specs.Rows.{whole, Changes, with_meta, meta_cells, stored}
 use Rattle.tables.specs.Metas.{with_configuration}
 use Rattle.tables.specs.declared.rows.Meta.{Meta}
@@ -17,9 +16,6 @@ use Rattle.tables.proofs.InsertLemmas.{puts}
 use Rattle.tables.proofs.AddLemmas.{adds_row}
 use Rattle.tables.proofs.HoldsLemmas.{with_meta as holds_with_meta}
 use Rattle.tables.proofs.UpdateLemmas.{updates, updates_rows}
-
-abbrev meta_table : Table
-meta_table = record meta { tree = 0 }
 
 abbrev pub meta_params : Meta → Row
 meta_params x = whole x.version ∷ Blob x.configuration ∷ []

@@ -1,6 +1,5 @@
 -- What the statements on pieces do.
 use Rattle.std.proofs.Common.{lit≤, ◌≡◌, ℕ, pos, [], ◌∷◌, Ok, Err, Result, OnOk, refl, List, Option, filter, find, slice_get, ap, ◌∙◌}
-use Rattle.sqlite.specs.Table.{Table}
 use Rattle.sqlite.specs.declared.types.Value.TheVariants.{Null, Blob}
 use Rattle.sqlite.specs.Cast.{cast_row}
 use Rattle.sqlite.specs.declared.error.Error.{Error}
@@ -13,7 +12,7 @@ use Rattle.tables.proofs.EqualLemmas.{whole_test}
 use Rattle.tables.proofs.InsertLemmas.{puts}
 use Rattle.tables.proofs.AddLemmas.{adds_row}
 use Rattle.tables.proofs.ShownLemmas.{Shows, reads_stored}
-use Rattle.tables.specs.Schema.{pieces}
+use Rattle.tables.specs.Schema.{pieces_table}
 use Rattle.tables.specs.Rows.{whole, Tables, Holds, Changes, with_piece, piece_cells, piece_of, stored, rows_of}
 use Rattle.tables.specs.Pieces.{is_of, is_piece, without_pieces}
 use Rattle.tables.specs.declared.rows.Piece.{Piece}
@@ -21,9 +20,6 @@ use Rattle.tables.specs.declared.pieces.TheConstants.{INSERT_PIECE, SELECT_PIECE
 use Rattle.tables.proofs.PiecesMeaning.{insert_piece_terms, insert_piece_is, insert_piece_plain, piece_columns, piece_body_is, piece_is, select_piece_is, select_piece_plain, select_pieces_of_is, select_pieces_of_plain, delete_pieces_columns, delete_pieces_is, delete_pieces_plain}
 use Rattle.tables.proofs.HoldsLemmas.{with_pieces}
 use Rattle.tables.proofs.UpdateLemmas.{deletes, deletes_rows}
-
-abbrev pieces_table : Table
-pieces_table = record pieces { tree = 3 }
 
 piece_cast : (body : ℕ) (number : ℕ) (bytes : List ℕ) → cast_row pieces_table (Null ∷ (whole body ∷ whole number ∷ Blob bytes ∷ [])) ≡ Null ∷ piece_cells (record { body = body; number = number; bytes = bytes })
 piece_cast body number bytes = rw (cast_null, cast_int (pos body), cast_int (pos number))

@@ -1,12 +1,12 @@
 -- What a query leaves of the connection.
-use Rattle.std.proofs.Common.{◌⊎◌, ℕ, List, inl, inr, Option, None, Some, Ok, Err, Result, OnErr, refl, sym, subst}
+use Rattle.std.proofs.Common.{◌⊎◌, ℕ, List, inl, inr, Option, None, Some, Ok, Err, Result, OnErr, refl, sym, subst, arith}
 use Rattle.sqlite_schema.specs.declared.command.Returning.{Returning}
 use Rattle.sqlite_resolve.specs.declared.compiled.Compiled.{Compiled}
 use Rattle.sqlite.specs.Order.{Row}
 use Rattle.sqlite.specs.declared.error.Error.{Error}
 use Rattle.sqlite.specs.Listing.{understood}
 use Rattle.sqlite.specs.Given.{IsPlain}
-use Rattle.sqlite.specs.State.{State, Shown, IsUnchanged, IsNotRun, FailsToQuery, FailsToShow, IsTooLate}
+use Rattle.sqlite.specs.State.{State, Shown, IsUnchanged, IsNotRun, FailsToQuery, FailsToShow, IsTooLate, Survives}
 use Rattle.tables.specs.Others.{IsArchiveSchema, Others, others_in, with_others}
 use Rattle.tables.specs.Rows.{Stands, Fails, IsForeign}
 use Rattle.tables.specs.Reading.{IsPlainIn}
@@ -51,3 +51,14 @@ plain_in sql plain s same = subst (λ schema. IsPlain (understood schema sql)) (
 pub on_err : {X E P : Type 0} (r : Result X E) → P → OnErr r P
 on_err (Ok x) h = tt
 on_err (Err e) h = h
+
+-- where nothing is done, a crash leaves nothing new
+pub survives_none : (s : State) → Survives s s (λ _. ⊥)
+survives_none s = record {
+  clean = omega arith;
+  shield = λ h. h;
+  counts = omega arith;
+  limit = refl;
+  closes = λ clean up. inl up;
+  crash = λ clean db h. inl h;
+}

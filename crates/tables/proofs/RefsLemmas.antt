@@ -1,6 +1,5 @@
 -- What the statements on refs do.
 use Rattle.std.proofs.Common.{lit≤, ◌≡◌, ℕ, pos, [], ◌∷◌, Ok, Err, Result, OnOk, refl, List, filter}
-use Rattle.sqlite.specs.Table.{Table}
 use Rattle.sqlite.specs.declared.types.Value.TheVariants.{Null}
 use Rattle.sqlite.specs.Cast.{cast_row}
 use Rattle.sqlite.specs.declared.error.Error.{Error}
@@ -12,7 +11,7 @@ use Rattle.tables.proofs.EqualLemmas.{whole_test}
 use Rattle.tables.proofs.InsertLemmas.{puts}
 use Rattle.tables.proofs.AddLemmas.{adds_row}
 use Rattle.tables.proofs.ShownLemmas.{Shows, reads_stored}
-use Rattle.tables.specs.Schema.{refs}
+use Rattle.tables.specs.Schema.{refs_table}
 use Rattle.tables.specs.Rows.{whole, Tables, Holds, Changes, with_ref, ref_cells, ref_of, stored, rows_of}
 use Rattle.tables.specs.Refs.{is_ref_of, without_refs}
 use Rattle.tables.specs.declared.rows.Ref.{Ref}
@@ -20,9 +19,6 @@ use Rattle.tables.specs.declared.refs.TheConstants.{INSERT_REF, SELECT_REFS_OF, 
 use Rattle.tables.proofs.RefsMeaning.{insert_ref_terms, insert_ref_is, insert_ref_plain, ref_columns, ref_item_is, select_refs_of_is, select_refs_of_plain, delete_refs_columns, delete_refs_is, delete_refs_plain}
 use Rattle.tables.proofs.HoldsLemmas.{with_refs}
 use Rattle.tables.proofs.UpdateLemmas.{deletes, deletes_rows}
-
-abbrev refs_table : Table
-refs_table = record refs { tree = 15 }
 
 ref_cast : (x : Ref) → cast_row refs_table (Null ∷ ref_cells x) ≡ Null ∷ ref_cells x
 ref_cast x = rw (cast_null, cast_int (pos x.item), cast_int (pos x.number), cast_int (pos x.print.size))

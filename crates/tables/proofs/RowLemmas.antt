@@ -11,11 +11,11 @@ use Rattle.sqlite.specs.Rowids.TheVariants.{Chosen}
 use Rattle.sqlite_value.proofs.OrderLemmas.{value_cmp-Int}
 use Rattle.tables.specs.Rows.{Numbered, stored, Rises, next_from, added}
 
-past : {X : Type 0} (k : ℕ) (xs : Numbered X) → Rises xs → AllByRecursion (λ x. k < x.0) xs → k < next_from (k + 1) xs
+pub past : {X : Type 0} (k : ℕ) (xs : Numbered X) → Rises xs → AllByRecursion (λ x. k < x.0) xs → k < next_from (k + 1) xs
 past k [] up all = omega arith
 past k (x ∷ xs) up all = let more = past x.0 xs up.1 up.0 in omega (arith, all.0, more)
 
-below_next : {X : Type 0} (top : ℕ) (xs : Numbered X) → Rises xs → AllByRecursion (λ x. x.0 < next_from top xs) xs
+pub below_next : {X : Type 0} (top : ℕ) (xs : Numbered X) → Rises xs → AllByRecursion (λ x. x.0 < next_from top xs) xs
 below_next top [] up = tt
 below_next top (x ∷ xs) up = (past x.0 xs up.1 up.0, below_next (x.0 + 1) xs up.1)
 

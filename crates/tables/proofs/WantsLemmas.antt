@@ -1,6 +1,5 @@
 -- What the statements on wants do.
 use Rattle.std.proofs.Common.{lit≤, ◌≡◌, ℕ, pos, [], ◌∷◌, ◌++◌, Ok, Err, Result, OnOk, refl, true, false, List, filter, drop, Bool, if◌then◌else◌}
-use Rattle.sqlite.specs.Table.{Table}
 use Rattle.sqlite.specs.Order.{Row}
 use Rattle.sqlite.specs.declared.types.Value.TheVariants.{Null, Text}
 use Rattle.sqlite.specs.Cast.{cast_row}
@@ -15,7 +14,7 @@ use Rattle.tables.proofs.InsertLemmas.{puts}
 use Rattle.tables.proofs.AddLemmas.{adds_row}
 use Rattle.tables.proofs.ShownLemmas.{Shows, reads_stored}
 use Rattle.sums.specs.declared.print.Print.{Print}
-use Rattle.tables.specs.Schema.{wants}
+use Rattle.tables.specs.Schema.{wants_table}
 use Rattle.tables.specs.Rows.{whole, flag, print_cells, Tables, Holds, Changes, with_want, want_cells, want_of, stored, rows_of}
 use Rattle.tables.specs.Wants.{is_wanted_by, is_want, with_away, with_here, without_wants}
 use Rattle.tables.specs.declared.rows.Want.{Want}
@@ -23,9 +22,6 @@ use Rattle.tables.specs.declared.wants.TheConstants.{INSERT_WANT, SELECT_WANTS_O
 use Rattle.tables.proofs.WantsMeaning.{insert_want_terms, insert_want_is, insert_want_plain, want_columns, want_upload_is, want_is, select_wants_of_is, select_wants_of_plain, update_here_columns, update_here_is, update_here_plain, update_away_columns, update_away_is, update_away_plain, delete_wants_columns, delete_wants_is, delete_wants_plain}
 use Rattle.tables.proofs.HoldsLemmas.{with_wants}
 use Rattle.tables.proofs.UpdateLemmas.{updates, updates_rows, deletes, deletes_rows}
-
-abbrev wants_table : Table
-wants_table = record wants { tree = 10 }
 
 want_cast : (upload : ℕ) (name : List ℕ) (print : Print) (here : Bool) → cast_row wants_table (Null ∷ (whole upload ∷ Text name ∷ (print_cells print ++ flag here ∷ []))) ≡ Null ∷ want_cells (record { upload = upload; name = name; print = print; here = here })
 want_cast upload name print here = rw (cast_null, cast_int (pos upload), cast_int (pos print.size), cast_int (if here then pos 1 else pos 0))

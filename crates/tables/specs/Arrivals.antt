@@ -1,10 +1,10 @@
 -- What the statements on arrivals speak of.
 use Rattle.std.specs.Prelude.{ℕ, Bool, ◌&&◌, List, nat_eq, bytes_eq}
 use Rattle.tables.specs.Rows.{Tables, changed, without}
-use Rattle.tables.specs.declared.rows.Arrival.{Arrival}
+use Rattle.tables.specs.declared.rows.ArrivalRow.{ArrivalRow}
 
 -- the arrival is that of this body under this name
-abbrev pub is_arrival : List ℕ → ℕ → Arrival → Bool
+abbrev pub is_arrival : List ℕ → ℕ → ArrivalRow → Bool
 is_arrival name body x = bytes_eq x.name name && nat_eq x.body body
 
 -- the moment of the arrival of this number becomes another

@@ -4,13 +4,13 @@ use Rattle.std.specs.Option.{option_map_or}
 use Rattle.sums.specs.declared.print.Print.{Print}
 use Rattle.sums.specs.Prints.{same_print}
 use Rattle.tables.specs.Rows.{Numbered, Tables, changed, without}
-use Rattle.tables.specs.declared.rows.Body.{Body}
+use Rattle.tables.specs.declared.rows.BodyRow.{BodyRow}
 
-abbrev pub has_print : Print → Body → Bool
+abbrev pub has_print : Print → BodyRow → Bool
 has_print p x = option_map_or (λ q. same_print q p) x.print false
 
 -- the number of the body with this print
-abbrev pub body_with : Print → Numbered Body → Option ℕ
+abbrev pub body_with : Print → Numbered BodyRow → Option ℕ
 body_with p bodies = option_map (λ x. x.0) (find (λ x. has_print p x.1) bodies)
 
 -- the body of this number is gone

@@ -5,6 +5,7 @@ pub mod Reading
 pub mod Texts
 pub mod Dates
 pub mod Metas
+pub mod Calls
 pub mod Creating
 pub mod Bodies
 pub mod Causes

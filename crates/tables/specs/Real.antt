@@ -2,14 +2,14 @@
 use Rattle.std.specs.Prelude.{◌≡◌, length, All, IfSome, IsUtf8}
 use Rattle.sums.specs.declared.print.Print.{Print}
 use Rattle.tables.specs.Rows.{Tables, rows_of}
-use Rattle.tables.specs.declared.rows.Arrival.{Arrival}
-use Rattle.tables.specs.declared.rows.Body.{Body}
+use Rattle.tables.specs.declared.rows.ArrivalRow.{ArrivalRow}
+use Rattle.tables.specs.declared.rows.BodyRow.{BodyRow}
 use Rattle.tables.specs.declared.rows.Date.{Date}
 use Rattle.tables.specs.declared.rows.File.{File}
-use Rattle.tables.specs.declared.rows.IndexText.{IndexText}
-use Rattle.tables.specs.declared.rows.Item.{Item}
+use Rattle.tables.specs.declared.rows.TextRow.{TextRow}
+use Rattle.tables.specs.declared.rows.ItemRow.{ItemRow}
 use Rattle.tables.specs.declared.rows.Ref.{Ref}
-use Rattle.tables.specs.declared.rows.Upload.{Upload}
+use Rattle.tables.specs.declared.rows.UploadRow.{UploadRow}
 use Rattle.tables.specs.declared.rows.Want.{Want}
 
 pub record IsRealPrint (p : Print) : Type 0 where
@@ -17,13 +17,13 @@ pub record IsRealPrint (p : Print) : Type 0 where
   pub sha1 : length p.sha1 ≡ 20
   pub sha256 : length p.sha256 ≡ 32
 
-abbrev pub IsRealBody : Body → Type 0
+abbrev pub IsRealBody : BodyRow → Type 0
 IsRealBody b = IfSome b.print IsRealPrint
 
-abbrev pub IsRealArrival : Arrival → Type 0
+abbrev pub IsRealArrival : ArrivalRow → Type 0
 IsRealArrival a = IsUtf8 a.name
 
-pub record IsRealUpload (u : Upload) : Type 0 where
+pub record IsRealUpload (u : UploadRow) : Type 0 where
   pub name : IsUtf8 u.name
   pub print : IsRealPrint u.print
 
@@ -31,7 +31,7 @@ pub record IsRealWant (w : Want) : Type 0 where
   pub name : IsUtf8 w.name
   pub print : IsRealPrint w.print
 
-pub record IsRealItem (i : Item) : Type 0 where
+pub record IsRealItem (i : ItemRow) : Type 0 where
   pub suite : IsUtf8 i.suite
   pub named : IsUtf8 i.«package»
   pub architecture : IsUtf8 i.architecture
@@ -46,7 +46,7 @@ pub record IsRealRef (r : Ref) : Type 0 where
 abbrev pub IsRealFile : File → Type 0
 IsRealFile f = IsUtf8 f.path
 
-abbrev pub IsRealText : IndexText → Type 0
+abbrev pub IsRealText : TextRow → Type 0
 IsRealText t = IsUtf8 t.path
 
 abbrev pub IsRealDate : Date → Type 0

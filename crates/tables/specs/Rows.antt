@@ -10,15 +10,15 @@ use Rattle.sqlite.specs.State.{State, Shows, IsRolledBack}
 use Rattle.sqlite_keyed.specs.Lists.{update_where, delete_where}
 use Rattle.sums.specs.declared.print.Print.{Print}
 use Rattle.tables.specs.declared.rows.Meta.{Meta}
-use Rattle.tables.specs.declared.rows.Body.{Body}
+use Rattle.tables.specs.declared.rows.BodyRow.{BodyRow}
 use Rattle.tables.specs.declared.rows.Piece.{Piece}
-use Rattle.tables.specs.declared.rows.Arrival.{Arrival}
-use Rattle.tables.specs.declared.rows.Upload.{Upload}
+use Rattle.tables.specs.declared.rows.ArrivalRow.{ArrivalRow}
+use Rattle.tables.specs.declared.rows.UploadRow.{UploadRow}
 use Rattle.tables.specs.declared.rows.Want.{Want}
-use Rattle.tables.specs.declared.rows.Item.{Item}
+use Rattle.tables.specs.declared.rows.ItemRow.{ItemRow}
 use Rattle.tables.specs.declared.rows.Ref.{Ref}
 use Rattle.tables.specs.declared.rows.File.{File}
-use Rattle.tables.specs.declared.rows.IndexText.{IndexText}
+use Rattle.tables.specs.declared.rows.TextRow.{TextRow}
 use Rattle.tables.specs.declared.rows.Date.{Date}
 use Rattle.tables.specs.Others.{IsArchiveSchema}
 
@@ -38,22 +38,22 @@ print_cells p = whole p.size ∷ Blob p.md5 ∷ Blob p.sha1 ∷ Blob p.sha256 �
 abbrev pub meta_cells : Meta → Row
 meta_cells m = whole m.version ∷ Blob m.configuration ∷ []
 
-abbrev pub body_cells : Body → Row
+abbrev pub body_cells : BodyRow → Row
 body_cells b = Null ∷ or_null (λ p. whole p.size) b.print ∷ or_null (λ p. Blob p.md5) b.print ∷ or_null (λ p. Blob p.sha1) b.print ∷ or_null (λ p. Blob p.sha256) b.print ∷ []
 
 abbrev pub piece_cells : Piece → Row
 piece_cells p = whole p.body ∷ whole p.number ∷ Blob p.bytes ∷ []
 
-abbrev pub arrival_cells : Arrival → Row
+abbrev pub arrival_cells : ArrivalRow → Row
 arrival_cells a = Null ∷ Text a.name ∷ whole a.body ∷ whole a.moment ∷ []
 
-abbrev pub upload_cells : Upload → Row
+abbrev pub upload_cells : UploadRow → Row
 upload_cells u = Null ∷ Text u.name ∷ (print_cells u.print ++ or_null whole u.place ∷ or_null whole u.verdict ∷ [])
 
 abbrev pub want_cells : Want → Row
 want_cells w = whole w.upload ∷ Text w.name ∷ (print_cells w.print ++ flag w.here ∷ [])
 
-abbrev pub item_cells : Item → Row
+abbrev pub item_cells : ItemRow → Row
 item_cells i = Null ∷ Text i.suite ∷ whole i.kind ∷ Text i.«package» ∷ Text i.architecture ∷ Text i.version ∷ Text i.component ∷ Text i.source ∷ Blob i.paragraph ∷ []
 
 abbrev pub ref_cells : Ref → Row
@@ -62,7 +62,7 @@ ref_cells r = whole r.item ∷ whole r.number ∷ Text r.path ∷ print_cells r.
 abbrev pub file_cells : File → Row
 file_cells f = Text f.path ∷ whole f.body ∷ []
 
-abbrev pub text_cells : IndexText → Row
+abbrev pub text_cells : TextRow → Row
 text_cells t = Text t.path ∷ Blob t.body ∷ []
 
 abbrev pub date_cells : Date → Row
@@ -111,15 +111,15 @@ pub record HasRows {X : Type 0} (cells : X → Row) (rows : Numbered X) (tree : 
 -- the tables as lists of typed rows
 pub record Tables : Type 0 where
   pub meta : Numbered Meta
-  pub bodies : Numbered Body
+  pub bodies : Numbered BodyRow
   pub pieces : Numbered Piece
-  pub arrivals : Numbered Arrival
-  pub uploads : Numbered Upload
+  pub arrivals : Numbered ArrivalRow
+  pub uploads : Numbered UploadRow
   pub wants : Numbered Want
-  pub items : Numbered Item
+  pub items : Numbered ItemRow
   pub refs : Numbered Ref
   pub files : Numbered File
-  pub texts : Numbered IndexText
+  pub texts : Numbered TextRow
   pub dates : Numbered Date
 
 abbrev pub no_rows : Tables
@@ -182,22 +182,22 @@ row_of read row = (nat_of (column row 0), read row)
 abbrev pub meta_of : Row → Meta
 meta_of row = record { version = nat_of (column row 1); configuration = bytes (column row 2) }
 
-abbrev pub body_of : Row → Body
+abbrev pub body_of : Row → BodyRow
 body_of row = record { print = some_print row 2 (some_nat (column row 2)) }
 
 abbrev pub piece_of : Row → Piece
 piece_of row = record { body = nat_of (column row 1); number = nat_of (column row 2); bytes = bytes (column row 3) }
 
-abbrev pub arrival_of : Row → Arrival
+abbrev pub arrival_of : Row → ArrivalRow
 arrival_of row = record { name = bytes (column row 2); body = nat_of (column row 3); moment = nat_of (column row 4) }
 
-abbrev pub upload_of : Row → Upload
+abbrev pub upload_of : Row → UploadRow
 upload_of row = record { name = bytes (column row 2); print = print_at row 3; place = some_nat (column row 7); verdict = some_nat (column row 8) }
 
 abbrev pub want_of : Row → Want
 want_of row = record { upload = nat_of (column row 1); name = bytes (column row 2); print = print_at row 3; here = not (nat_of (column row 7) == 0) }
 
-abbrev pub item_of : Row → Item
+abbrev pub item_of : Row → ItemRow
 item_of row = record {
   suite = bytes (column row 2);
   kind = nat_of (column row 3);
@@ -215,7 +215,7 @@ ref_of row = record { item = nat_of (column row 1); number = nat_of (column row 
 abbrev pub file_of : Row → File
 file_of row = record { path = bytes (column row 1); body = nat_of (column row 2) }
 
-abbrev pub text_of : Row → IndexText
+abbrev pub text_of : Row → TextRow
 text_of row = record { path = bytes (column row 1); body = bytes (column row 2) }
 
 abbrev pub date_of : Row → Date
@@ -268,22 +268,22 @@ module _ (old new : State) where
 abbrev pub with_meta : Meta → Tables → Tables
 with_meta x t = record t { meta = added t.meta x }
 
-abbrev pub with_body : Body → Tables → Tables
+abbrev pub with_body : BodyRow → Tables → Tables
 with_body x t = record t { bodies = added t.bodies x }
 
 abbrev pub with_piece : Piece → Tables → Tables
 with_piece x t = record t { pieces = added t.pieces x }
 
-abbrev pub with_arrival : Arrival → Tables → Tables
+abbrev pub with_arrival : ArrivalRow → Tables → Tables
 with_arrival x t = record t { arrivals = added t.arrivals x }
 
-abbrev pub with_upload : Upload → Tables → Tables
+abbrev pub with_upload : UploadRow → Tables → Tables
 with_upload x t = record t { uploads = added t.uploads x }
 
 abbrev pub with_want : Want → Tables → Tables
 with_want x t = record t { wants = added t.wants x }
 
-abbrev pub with_item : Item → Tables → Tables
+abbrev pub with_item : ItemRow → Tables → Tables
 with_item x t = record t { items = added t.items x }
 
 abbrev pub with_ref : Ref → Tables → Tables
@@ -292,7 +292,7 @@ with_ref x t = record t { refs = added t.refs x }
 abbrev pub with_file : File → Tables → Tables
 with_file x t = record t { files = added t.files x }
 
-abbrev pub with_text : IndexText → Tables → Tables
+abbrev pub with_text : TextRow → Tables → Tables
 with_text x t = record t { texts = added t.texts x }
 
 abbrev pub with_date : Date → Tables → Tables

@@ -100,6 +100,40 @@ texts = table (codes "texts") (needed (codes "path") Text ∷ needed (codes "bod
 abbrev pub dates : Table
 dates = table (codes "dates") (needed (codes "suite") Text ∷ needed (codes "moment") Integer ∷ []) None (1 ∷ []) ((1 ∷ []) ∷ []) []
 
+-- each of them with its tree
+abbrev pub meta_table : Table
+meta_table = record meta { tree = 0 }
+
+abbrev pub bodies_table : Table
+bodies_table = record bodies { tree = 1 }
+
+abbrev pub pieces_table : Table
+pieces_table = record pieces { tree = 3 }
+
+abbrev pub arrivals_table : Table
+arrivals_table = record arrivals { tree = 5 }
+
+abbrev pub uploads_table : Table
+uploads_table = record uploads { tree = 7 }
+
+abbrev pub wants_table : Table
+wants_table = record wants { tree = 10 }
+
+abbrev pub items_table : Table
+items_table = record items { tree = 13 }
+
+abbrev pub refs_table : Table
+refs_table = record refs { tree = 15 }
+
+abbrev pub files_table : Table
+files_table = record files { tree = 17 }
+
+abbrev pub texts_table : Table
+texts_table = record texts { tree = 19 }
+
+abbrev pub dates_table : Table
+dates_table = record dates { tree = 21 }
+
 -- the tables of an archive, in the order in which they are made
 abbrev pub archive_tables : List Table
 archive_tables = meta ∷ bodies ∷ pieces ∷ arrivals ∷ uploads ∷ wants ∷ items ∷ refs ∷ files ∷ texts ∷ dates ∷ []

@@ -1,9 +1,9 @@
 -- What the statements on texts speak of.
 use Rattle.std.specs.Prelude.{ℕ, Bool, List, [], bytes_eq}
 use Rattle.tables.specs.Rows.{Tables, changed}
-use Rattle.tables.specs.declared.rows.IndexText.{IndexText}
+use Rattle.tables.specs.declared.rows.TextRow.{TextRow}
 
-abbrev pub has_path : List ℕ → IndexText → Bool
+abbrev pub has_path : List ℕ → TextRow → Bool
 has_path path x = bytes_eq x.path path
 
 -- the text of a path becomes another

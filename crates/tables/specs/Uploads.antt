@@ -3,14 +3,14 @@ use Rattle.std.specs.Prelude.{ℕ, Bool, ◌&&◌, List, Some, is_some, nat_eq, 
 use Rattle.sums.specs.declared.print.Print.{Print}
 use Rattle.sums.specs.Prints.{same_print}
 use Rattle.tables.specs.Rows.{Tables, changed, without}
-use Rattle.tables.specs.declared.rows.Upload.{Upload}
+use Rattle.tables.specs.declared.rows.UploadRow.{UploadRow}
 
 -- the upload is that of this name and print
-abbrev pub is_upload : List ℕ → Print → Upload → Bool
+abbrev pub is_upload : List ℕ → Print → UploadRow → Bool
 is_upload name print x = bytes_eq x.name name && same_print x.print print
 
 -- the upload has a place in the order of judging
-abbrev pub is_judged : Upload → Bool
+abbrev pub is_judged : UploadRow → Bool
 is_judged x = is_some x.place
 
 -- the upload of this number gets a place and a verdict

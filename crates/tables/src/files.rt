@@ -1,11 +1,9 @@
 //! The files of the pool, and their bodies.
 
-ghost use Rattle.std.specs.Prelude.{◌≡◌, find, false, map, IsTrue, IfOk, OnOk, OnErr};
-ghost use Rattle.sqlite.specs.State.{HasCleanDisk, IsUnchanged, Survives, KeepsCommit};
-ghost use Rattle.sqlite.specs.Held.{state};
-ghost use Rattle.tables.specs.Inside.{GoesOn};
-ghost use Rattle.tables.specs.Rows.{Tables, Holds, Changes, Fails, IsForeign, with_file, file_of, rows_of};
+ghost use Rattle.std.specs.Prelude.{◌≡◌, find, false, map};
+ghost use Rattle.tables.specs.Rows.{with_file, file_of, rows_of};
 ghost use Rattle.tables.specs.Files.{is_file_at, without_file};
+ghost use Rattle.tables.specs.Calls.{CommitsNothing, CommitsNothingOfOurs, FailsInside, GoesOnInside, IsSame, KeepsCommitted, LookFails, Looks, ReadFails, Reads, Writes};
 
 use crate::number::whole;
 use crate::read::{FromRow, select_first, select_inside, text_at, whole_at};
@@ -38,12 +36,10 @@ pub fn insert_file<S: Alter>(
     path: &str,
     body: u64,
 ) -> Result<(), Error>
-    ensures same_reference { tx.new.conn.ghost_name ≡ tx.old.conn.ghost_name }
-    ensures ok { HasCleanDisk (state S.Store tx.new.conn.now) → IsTrue (state S.Store tx.old.conn.now).in_transaction
-        → OnOk result (Changes (state S.Store tx.old.conn.now) (state S.Store tx.new.conn.now) (with_file (record { path = path.now; body = body }))) }
-    ensures err { HasCleanDisk (state S.Store tx.new.conn.now) → IsTrue (state S.Store tx.old.conn.now).in_transaction
-        → OnErr result (Fails (state S.Store tx.old.conn.now) (state S.Store tx.new.conn.now)) }
-    ensures survives { Survives (state S.Store tx.old.conn.now) (state S.Store tx.new.conn.now) (λ _. ⊥) }
+    ensures same_reference { IsSame tx.old tx.new }
+    ensures ok { Writes S.Store tx.old tx.new result (with_file (record { path = path.now; body = body })) }
+    ensures err { FailsInside S.Store tx.old tx.new result }
+    ensures survives { CommitsNothing S.Store tx.old tx.new }
 {
     let body = whole(body)?;
     tx.execute(INSERT_FILE, params![path, body])?;
@@ -57,11 +53,9 @@ pub fn file_at<S: Alter>(
     path: &str,
 ) -> Result<Option<File>, Error>
     ensures idle { conn.old.in_transaction ≡ false → conn.new.in_transaction ≡ false }
-    ensures ok { HasCleanDisk (state S.Store conn.new) → (t : Tables) → Holds (state S.Store conn.old).now t
-        → IfOk result (λ found. (found ≡ find (is_file_at path.now) (rows_of t.files)) × IsUnchanged (state S.Store conn.old) (state S.Store conn.new)) }
-    ensures err { HasCleanDisk (state S.Store conn.new) → (t : Tables) → Holds (state S.Store conn.old).now t
-        → OnErr result (Fails (state S.Store conn.old) (state S.Store conn.new)) }
-    ensures survives { Survives (state S.Store conn.old) (state S.Store conn.new) (λ _. IsForeign (state S.Store conn.old).now) }
+    ensures ok { Reads S.Store conn.old conn.new result (λ t found. found ≡ find (is_file_at path.now) (rows_of t.files)) }
+    ensures err { ReadFails S.Store conn.old conn.new result }
+    ensures survives { CommitsNothingOfOurs S.Store conn.old conn.new }
 {
     select_first(alloc, conn, SELECT_FILE, params![path])
 }
@@ -71,28 +65,22 @@ pub fn filed_bodies_inside<S: Alter>(
     alloc: Global,
     tx: &mut Transaction<'_, S>,
 ) -> Result<Vec<u64>, Error>
-    ensures same_reference { tx.new.conn.ghost_name ≡ tx.old.conn.ghost_name }
-    ensures ok { HasCleanDisk (state S.Store tx.new.conn.now) → (t : Tables) → Holds (state S.Store tx.old.conn.now).now t
-        → IfOk result (λ all. (all.items ≡ map (λ f. f.body) (rows_of t.files)) × IsUnchanged (state S.Store tx.old.conn.now) (state S.Store tx.new.conn.now)) }
-    ensures err { HasCleanDisk (state S.Store tx.new.conn.now) → (t : Tables) → Holds (state S.Store tx.old.conn.now).now t
-        → OnErr result (Fails (state S.Store tx.old.conn.now) (state S.Store tx.new.conn.now)) }
-    ensures goes_on { HasCleanDisk (state S.Store tx.new.conn.now) → IsTrue (state S.Store tx.old.conn.now).in_transaction
-        → OnOk result (GoesOn (state S.Store tx.old.conn.now) (state S.Store tx.new.conn.now)) }
-    ensures kept { HasCleanDisk (state S.Store tx.new.conn.now) → IsTrue (state S.Store tx.old.conn.now).in_transaction
-        → OnErr result (KeepsCommit (state S.Store tx.old.conn.now) (state S.Store tx.new.conn.now)) }
-    ensures survives { Survives (state S.Store tx.old.conn.now) (state S.Store tx.new.conn.now) (λ _. ⊥) }
+    ensures same_reference { IsSame tx.old tx.new }
+    ensures ok { Looks S.Store tx.old tx.new result (λ t all. all.items ≡ map (λ f. f.body) (rows_of t.files)) }
+    ensures err { LookFails S.Store tx.old tx.new result }
+    ensures goes_on { GoesOnInside S.Store tx.old tx.new result }
+    ensures kept { KeepsCommitted S.Store tx.old tx.new result }
+    ensures survives { CommitsNothing S.Store tx.old tx.new }
 {
     select_inside(alloc, tx, SELECT_BODIES, &[])
 }
 
 /// Removes the file of a path, if there is one.
 pub fn delete_file<S: Alter>(tx: &mut Transaction<'_, S>, path: &str) -> Result<(), Error>
-    ensures same_reference { tx.new.conn.ghost_name ≡ tx.old.conn.ghost_name }
-    ensures ok { HasCleanDisk (state S.Store tx.new.conn.now) → IsTrue (state S.Store tx.old.conn.now).in_transaction
-        → OnOk result (Changes (state S.Store tx.old.conn.now) (state S.Store tx.new.conn.now) (without_file path.now)) }
-    ensures err { HasCleanDisk (state S.Store tx.new.conn.now) → IsTrue (state S.Store tx.old.conn.now).in_transaction
-        → OnErr result (Fails (state S.Store tx.old.conn.now) (state S.Store tx.new.conn.now)) }
-    ensures survives { Survives (state S.Store tx.old.conn.now) (state S.Store tx.new.conn.now) (λ _. ⊥) }
+    ensures same_reference { IsSame tx.old tx.new }
+    ensures ok { Writes S.Store tx.old tx.new result (without_file path.now) }
+    ensures err { FailsInside S.Store tx.old tx.new result }
+    ensures survives { CommitsNothing S.Store tx.old tx.new }
 {
     tx.execute(DELETE_FILE, params![path])?;
     Ok(())

@@ -1,16 +1,14 @@
 //! What the suites show.
 
-ghost use Rattle.std.specs.Prelude.{◌≡◌, find, false, IsTrue, IfOk, OnOk, OnErr};
-ghost use Rattle.sqlite.specs.State.{HasCleanDisk, IsUnchanged, Survives, KeepsCommit};
-ghost use Rattle.sqlite.specs.Held.{state};
-ghost use Rattle.tables.specs.Inside.{GoesOn};
-ghost use Rattle.tables.specs.Rows.{Tables, Holds, Changes, Fails, IsForeign, with_item, item_of, next_in};
+ghost use Rattle.std.specs.Prelude.{◌≡◌, find, false};
+ghost use Rattle.tables.specs.Rows.{with_item, item_of, next_in};
 ghost use Rattle.tables.specs.Items.{is_item, without_item};
+ghost use Rattle.tables.specs.Calls.{CommitsNothing, CommitsNothingOfOurs, FailsInside, GoesOnInside, IsSame, KeepsCommitted, LookFails, Looks, ReadFails, Reads, Writes, WritesAnd};
 
 use crate::cells::row_number;
 use crate::number::whole;
 use crate::read::{FromRow, bytes_at, select, select_first_inside, text_at, whole_at};
-use crate::rows::Item;
+use crate::rows::ItemRow;
 use sqlite::{Alter, Connection, Error, Row, Transaction, params};
 use std::alloc::Global;
 
@@ -25,11 +23,11 @@ const SELECT_ITEM: &str =
 
 const DELETE_ITEM: &str = "DELETE FROM items WHERE id = ?1";
 
-impl FromRow for Item {
+impl FromRow for ItemRow {
     ghost of_row = { item_of };
 
-    fn from_row(row: &Row) -> Result<Item, Error> {
-        Ok(Item {
+    fn from_row(row: &Row) -> Result<ItemRow, Error> {
+        Ok(ItemRow {
             suite: text_at(row, 2)?,
             kind: whole_at(row, 3)?,
             package: text_at(row, 4)?,
@@ -44,14 +42,11 @@ impl FromRow for Item {
 
 /// Adds an item, and answers its number. It is refused where the suite already shows one under its kind, package and
 /// architecture.
-pub fn insert_item<S: Alter>(tx: &mut Transaction<'_, S>, item: &Item) -> Result<u64, Error>
-    ensures same_reference { tx.new.conn.ghost_name ≡ tx.old.conn.ghost_name }
-    ensures ok { HasCleanDisk (state S.Store tx.new.conn.now) → IsTrue (state S.Store tx.old.conn.now).in_transaction
-        → IfOk result (λ id. Changes (state S.Store tx.old.conn.now) (state S.Store tx.new.conn.now) (with_item item.now)
-        × ((t : Tables) → Holds (state S.Store tx.old.conn.now).now t → id ≡ next_in t.items)) }
-    ensures err { HasCleanDisk (state S.Store tx.new.conn.now) → IsTrue (state S.Store tx.old.conn.now).in_transaction
-        → OnErr result (Fails (state S.Store tx.old.conn.now) (state S.Store tx.new.conn.now)) }
-    ensures survives { Survives (state S.Store tx.old.conn.now) (state S.Store tx.new.conn.now) (λ _. ⊥) }
+pub fn insert_item<S: Alter>(tx: &mut Transaction<'_, S>, item: &ItemRow) -> Result<u64, Error>
+    ensures same_reference { IsSame tx.old tx.new }
+    ensures ok { WritesAnd S.Store tx.old tx.new result (with_item item.now) (λ id t. id ≡ next_in t.items) }
+    ensures err { FailsInside S.Store tx.old tx.new result }
+    ensures survives { CommitsNothing S.Store tx.old tx.new }
 {
     let suite = item.suite.as_str();
     let kind = whole(item.kind)?;
@@ -85,17 +80,13 @@ pub fn item_on<S: Alter>(
     kind: u64,
     package: &str,
     architecture: &str,
-) -> Result<Option<(u64, Item)>, Error>
-    ensures same_reference { tx.new.conn.ghost_name ≡ tx.old.conn.ghost_name }
-    ensures ok { HasCleanDisk (state S.Store tx.new.conn.now) → (t : Tables) → Holds (state S.Store tx.old.conn.now).now t
-        → IfOk result (λ found. (found ≡ find (λ x. is_item suite.now kind «package».now architecture.now x.1) t.items) × IsUnchanged (state S.Store tx.old.conn.now) (state S.Store tx.new.conn.now)) }
-    ensures err { HasCleanDisk (state S.Store tx.new.conn.now) → (t : Tables) → Holds (state S.Store tx.old.conn.now).now t
-        → OnErr result (Fails (state S.Store tx.old.conn.now) (state S.Store tx.new.conn.now)) }
-    ensures goes_on { HasCleanDisk (state S.Store tx.new.conn.now) → IsTrue (state S.Store tx.old.conn.now).in_transaction
-        → OnOk result (GoesOn (state S.Store tx.old.conn.now) (state S.Store tx.new.conn.now)) }
-    ensures kept { HasCleanDisk (state S.Store tx.new.conn.now) → IsTrue (state S.Store tx.old.conn.now).in_transaction
-        → OnErr result (KeepsCommit (state S.Store tx.old.conn.now) (state S.Store tx.new.conn.now)) }
-    ensures survives { Survives (state S.Store tx.old.conn.now) (state S.Store tx.new.conn.now) (λ _. ⊥) }
+) -> Result<Option<(u64, ItemRow)>, Error>
+    ensures same_reference { IsSame tx.old tx.new }
+    ensures ok { Looks S.Store tx.old tx.new result (λ t found. found ≡ find (λ x. is_item suite.now kind «package».now architecture.now x.1) t.items) }
+    ensures err { LookFails S.Store tx.old tx.new result }
+    ensures goes_on { GoesOnInside S.Store tx.old tx.new result }
+    ensures kept { KeepsCommitted S.Store tx.old tx.new result }
+    ensures survives { CommitsNothing S.Store tx.old tx.new }
 {
     let kind = whole(kind)?;
     select_first_inside(
@@ -108,12 +99,10 @@ pub fn item_on<S: Alter>(
 
 /// Removes the item of a number. Its files go first: an item that still has some is refused.
 pub fn delete_item<S: Alter>(tx: &mut Transaction<'_, S>, id: u64) -> Result<(), Error>
-    ensures same_reference { tx.new.conn.ghost_name ≡ tx.old.conn.ghost_name }
-    ensures ok { HasCleanDisk (state S.Store tx.new.conn.now) → IsTrue (state S.Store tx.old.conn.now).in_transaction
-        → OnOk result (Changes (state S.Store tx.old.conn.now) (state S.Store tx.new.conn.now) (without_item id)) }
-    ensures err { HasCleanDisk (state S.Store tx.new.conn.now) → IsTrue (state S.Store tx.old.conn.now).in_transaction
-        → OnErr result (Fails (state S.Store tx.old.conn.now) (state S.Store tx.new.conn.now)) }
-    ensures survives { Survives (state S.Store tx.old.conn.now) (state S.Store tx.new.conn.now) (λ _. ⊥) }
+    ensures same_reference { IsSame tx.old tx.new }
+    ensures ok { Writes S.Store tx.old tx.new result (without_item id) }
+    ensures err { FailsInside S.Store tx.old tx.new result }
+    ensures survives { CommitsNothing S.Store tx.old tx.new }
 {
     let id = whole(id)?;
     tx.execute(DELETE_ITEM, params![id])?;
@@ -124,13 +113,11 @@ pub fn delete_item<S: Alter>(tx: &mut Transaction<'_, S>, id: u64) -> Result<(),
 pub fn select_items<S: Alter>(
     alloc: Global,
     conn: &mut Connection<S>,
-) -> Result<Vec<(u64, Item)>, Error>
+) -> Result<Vec<(u64, ItemRow)>, Error>
     ensures idle { conn.old.in_transaction ≡ false → conn.new.in_transaction ≡ false }
-    ensures ok { HasCleanDisk (state S.Store conn.new) → (t : Tables) → Holds (state S.Store conn.old).now t
-        → IfOk result (λ all. (all.items ≡ t.items) × IsUnchanged (state S.Store conn.old) (state S.Store conn.new)) }
-    ensures err { HasCleanDisk (state S.Store conn.new) → (t : Tables) → Holds (state S.Store conn.old).now t
-        → OnErr result (Fails (state S.Store conn.old) (state S.Store conn.new)) }
-    ensures survives { Survives (state S.Store conn.old) (state S.Store conn.new) (λ _. IsForeign (state S.Store conn.old).now) }
+    ensures ok { Reads S.Store conn.old conn.new result (λ t all. all.items ≡ t.items) }
+    ensures err { ReadFails S.Store conn.old conn.new result }
+    ensures survives { CommitsNothingOfOurs S.Store conn.old conn.new }
 {
     select(alloc, conn, SELECT_ITEMS, &[])
 }

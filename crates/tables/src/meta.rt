@@ -1,10 +1,12 @@
 //! The one row of `meta`: the layout of the tables, and the text of the configuration.
+//!
+//! The number of the layout is 3: bodies in pieces and each stored once, arrivals with moments, uploads with a number of their own. It
+//! names the columns and keys of the tables and what their rows mean, and is in the code once (`VERSION`).
 
-ghost use Rattle.std.specs.Prelude.{◌≡◌, false, IsTrue, OnOk, OnErr};
-ghost use Rattle.sqlite.specs.State.{HasCleanDisk, Survives};
-ghost use Rattle.sqlite.specs.Held.{state};
-ghost use Rattle.tables.specs.Rows.{Changes, Fails, with_meta};
+ghost use Rattle.std.specs.Prelude.{◌≡◌, false};
+ghost use Rattle.tables.specs.Rows.{with_meta};
 ghost use Rattle.tables.specs.Metas.{with_configuration};
+ghost use Rattle.tables.specs.Calls.{CommitsNothing, FailsInside, IsSame, Writes};
 
 use crate::number::whole;
 use sqlite::{Alter, Connection, Error, Transaction, params};
@@ -23,12 +25,10 @@ pub fn insert_meta<S: Alter>(
     version: u64,
     configuration: &[u8],
 ) -> Result<(), Error>
-    ensures same_reference { tx.new.conn.ghost_name ≡ tx.old.conn.ghost_name }
-    ensures ok { HasCleanDisk (state S.Store tx.new.conn.now) → IsTrue (state S.Store tx.old.conn.now).in_transaction
-        → OnOk result (Changes (state S.Store tx.old.conn.now) (state S.Store tx.new.conn.now) (with_meta (record { version = version; configuration = configuration.now }))) }
-    ensures err { HasCleanDisk (state S.Store tx.new.conn.now) → IsTrue (state S.Store tx.old.conn.now).in_transaction
-        → OnErr result (Fails (state S.Store tx.old.conn.now) (state S.Store tx.new.conn.now)) }
-    ensures survives { Survives (state S.Store tx.old.conn.now) (state S.Store tx.new.conn.now) (λ _. ⊥) }
+    ensures same_reference { IsSame tx.old tx.new }
+    ensures ok { Writes S.Store tx.old tx.new result (with_meta (record { version = version; configuration = configuration.now })) }
+    ensures err { FailsInside S.Store tx.old tx.new result }
+    ensures survives { CommitsNothing S.Store tx.old tx.new }
 {
     let version = whole(version)?;
     tx.execute(INSERT_META, params![version, configuration])?;
@@ -56,12 +56,10 @@ pub fn update_configuration<S: Alter>(
     tx: &mut Transaction<'_, S>,
     configuration: &[u8],
 ) -> Result<(), Error>
-    ensures same_reference { tx.new.conn.ghost_name ≡ tx.old.conn.ghost_name }
-    ensures ok { HasCleanDisk (state S.Store tx.new.conn.now) → IsTrue (state S.Store tx.old.conn.now).in_transaction
-        → OnOk result (Changes (state S.Store tx.old.conn.now) (state S.Store tx.new.conn.now) (with_configuration configuration.now)) }
-    ensures err { HasCleanDisk (state S.Store tx.new.conn.now) → IsTrue (state S.Store tx.old.conn.now).in_transaction
-        → OnErr result (Fails (state S.Store tx.old.conn.now) (state S.Store tx.new.conn.now)) }
-    ensures survives { Survives (state S.Store tx.old.conn.now) (state S.Store tx.new.conn.now) (λ _. ⊥) }
+    ensures same_reference { IsSame tx.old tx.new }
+    ensures ok { Writes S.Store tx.old tx.new result (with_configuration configuration.now) }
+    ensures err { FailsInside S.Store tx.old tx.new result }
+    ensures survives { CommitsNothing S.Store tx.old tx.new }
 {
     tx.execute(UPDATE_META, params![configuration])?;
     Ok(())

@@ -1,4 +1,6 @@
 //! Numbers as the tables take them.
+//!
+//! Numbers in Rust are `u64`, and SQLite's are signed: one from 2^63 on is refused as too big.
 
 ghost use Rattle.std.specs.Prelude.{◌≡◌, ℕ, pos, unsigned_abs, IfOk};
 ghost use Rattle.sqlite_value.specs.declared.value.Value.TheVariants.{Int};

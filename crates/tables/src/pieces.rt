@@ -1,11 +1,9 @@
 //! The bytes of the bodies, in pieces.
 
-ghost use Rattle.std.specs.Prelude.{◌≡◌, filter, find, false, IsTrue, IfOk, OnOk, OnErr};
-ghost use Rattle.sqlite.specs.State.{HasCleanDisk, IsUnchanged, KeepsCommit, Survives};
-ghost use Rattle.sqlite.specs.Held.{state};
-ghost use Rattle.tables.specs.Inside.{GoesOn};
-ghost use Rattle.tables.specs.Rows.{Tables, Holds, Changes, Fails, IsForeign, with_piece, piece_of, rows_of};
+ghost use Rattle.std.specs.Prelude.{◌≡◌, filter, find, false};
+ghost use Rattle.tables.specs.Rows.{with_piece, piece_of, rows_of};
 ghost use Rattle.tables.specs.Pieces.{is_of, is_piece, without_pieces};
+ghost use Rattle.tables.specs.Calls.{CommitsNothing, CommitsNothingOfOurs, FailsInside, GoesOnInside, IsSame, KeepsCommitted, LookFails, Looks, ReadFails, Reads, Writes};
 
 use crate::number::whole;
 use crate::read::{FromRow, bytes_at, select, select_first_inside, select_inside, whole_at};
@@ -42,12 +40,10 @@ pub fn insert_piece<S: Alter>(
     number: u64,
     bytes: &[u8],
 ) -> Result<(), Error>
-    ensures same_reference { tx.new.conn.ghost_name ≡ tx.old.conn.ghost_name }
-    ensures ok { HasCleanDisk (state S.Store tx.new.conn.now) → IsTrue (state S.Store tx.old.conn.now).in_transaction
-        → OnOk result (Changes (state S.Store tx.old.conn.now) (state S.Store tx.new.conn.now) (with_piece (record { body = body; number = number; bytes = bytes.now }))) }
-    ensures err { HasCleanDisk (state S.Store tx.new.conn.now) → IsTrue (state S.Store tx.old.conn.now).in_transaction
-        → OnErr result (Fails (state S.Store tx.old.conn.now) (state S.Store tx.new.conn.now)) }
-    ensures survives { Survives (state S.Store tx.old.conn.now) (state S.Store tx.new.conn.now) (λ _. ⊥) }
+    ensures same_reference { IsSame tx.old tx.new }
+    ensures ok { Writes S.Store tx.old tx.new result (with_piece (record { body = body; number = number; bytes = bytes.now })) }
+    ensures err { FailsInside S.Store tx.old tx.new result }
+    ensures survives { CommitsNothing S.Store tx.old tx.new }
 {
     let body = whole(body)?;
     let number = whole(number)?;
@@ -62,11 +58,9 @@ pub fn pieces_of<S: Alter>(
     body: u64,
 ) -> Result<Vec<Piece>, Error>
     ensures idle { conn.old.in_transaction ≡ false → conn.new.in_transaction ≡ false }
-    ensures ok { HasCleanDisk (state S.Store conn.new) → (t : Tables) → Holds (state S.Store conn.old).now t
-        → IfOk result (λ all. (all.items ≡ filter (is_of body) (rows_of t.pieces)) × IsUnchanged (state S.Store conn.old) (state S.Store conn.new)) }
-    ensures err { HasCleanDisk (state S.Store conn.new) → (t : Tables) → Holds (state S.Store conn.old).now t
-        → OnErr result (Fails (state S.Store conn.old) (state S.Store conn.new)) }
-    ensures survives { Survives (state S.Store conn.old) (state S.Store conn.new) (λ _. IsForeign (state S.Store conn.old).now) }
+    ensures ok { Reads S.Store conn.old conn.new result (λ t all. all.items ≡ filter (is_of body) (rows_of t.pieces)) }
+    ensures err { ReadFails S.Store conn.old conn.new result }
+    ensures survives { CommitsNothingOfOurs S.Store conn.old conn.new }
 {
     let body = whole(body)?;
     select(alloc, conn, SELECT_PIECES_OF, params![body])
@@ -78,16 +72,12 @@ pub fn pieces_of_inside<S: Alter>(
     tx: &mut Transaction<'_, S>,
     body: u64,
 ) -> Result<Vec<Piece>, Error>
-    ensures same_reference { tx.new.conn.ghost_name ≡ tx.old.conn.ghost_name }
-    ensures ok { HasCleanDisk (state S.Store tx.new.conn.now) → (t : Tables) → Holds (state S.Store tx.old.conn.now).now t
-        → IfOk result (λ all. (all.items ≡ filter (is_of body) (rows_of t.pieces)) × IsUnchanged (state S.Store tx.old.conn.now) (state S.Store tx.new.conn.now)) }
-    ensures err { HasCleanDisk (state S.Store tx.new.conn.now) → (t : Tables) → Holds (state S.Store tx.old.conn.now).now t
-        → OnErr result (Fails (state S.Store tx.old.conn.now) (state S.Store tx.new.conn.now)) }
-    ensures goes_on { HasCleanDisk (state S.Store tx.new.conn.now) → IsTrue (state S.Store tx.old.conn.now).in_transaction
-        → OnOk result (GoesOn (state S.Store tx.old.conn.now) (state S.Store tx.new.conn.now)) }
-    ensures kept { HasCleanDisk (state S.Store tx.new.conn.now) → IsTrue (state S.Store tx.old.conn.now).in_transaction
-        → OnErr result (KeepsCommit (state S.Store tx.old.conn.now) (state S.Store tx.new.conn.now)) }
-    ensures survives { Survives (state S.Store tx.old.conn.now) (state S.Store tx.new.conn.now) (λ _. ⊥) }
+    ensures same_reference { IsSame tx.old tx.new }
+    ensures ok { Looks S.Store tx.old tx.new result (λ t all. all.items ≡ filter (is_of body) (rows_of t.pieces)) }
+    ensures err { LookFails S.Store tx.old tx.new result }
+    ensures goes_on { GoesOnInside S.Store tx.old tx.new result }
+    ensures kept { KeepsCommitted S.Store tx.old tx.new result }
+    ensures survives { CommitsNothing S.Store tx.old tx.new }
 {
     let body = whole(body)?;
     select_inside(alloc, tx, SELECT_PIECES_OF, params![body])
@@ -100,16 +90,12 @@ pub fn piece_inside<S: Alter>(
     body: u64,
     number: u64,
 ) -> Result<Option<Piece>, Error>
-    ensures same_reference { tx.new.conn.ghost_name ≡ tx.old.conn.ghost_name }
-    ensures ok { HasCleanDisk (state S.Store tx.new.conn.now) → (t : Tables) → Holds (state S.Store tx.old.conn.now).now t
-        → IfOk result (λ found. (found ≡ find (is_piece body number) (rows_of t.pieces)) × IsUnchanged (state S.Store tx.old.conn.now) (state S.Store tx.new.conn.now)) }
-    ensures err { HasCleanDisk (state S.Store tx.new.conn.now) → (t : Tables) → Holds (state S.Store tx.old.conn.now).now t
-        → OnErr result (Fails (state S.Store tx.old.conn.now) (state S.Store tx.new.conn.now)) }
-    ensures goes_on { HasCleanDisk (state S.Store tx.new.conn.now) → IsTrue (state S.Store tx.old.conn.now).in_transaction
-        → OnOk result (GoesOn (state S.Store tx.old.conn.now) (state S.Store tx.new.conn.now)) }
-    ensures kept { HasCleanDisk (state S.Store tx.new.conn.now) → IsTrue (state S.Store tx.old.conn.now).in_transaction
-        → OnErr result (KeepsCommit (state S.Store tx.old.conn.now) (state S.Store tx.new.conn.now)) }
-    ensures survives { Survives (state S.Store tx.old.conn.now) (state S.Store tx.new.conn.now) (λ _. ⊥) }
+    ensures same_reference { IsSame tx.old tx.new }
+    ensures ok { Looks S.Store tx.old tx.new result (λ t found. found ≡ find (is_piece body number) (rows_of t.pieces)) }
+    ensures err { LookFails S.Store tx.old tx.new result }
+    ensures goes_on { GoesOnInside S.Store tx.old tx.new result }
+    ensures kept { KeepsCommitted S.Store tx.old tx.new result }
+    ensures survives { CommitsNothing S.Store tx.old tx.new }
 {
     let body = whole(body)?;
     let number = whole(number)?;
@@ -118,12 +104,10 @@ pub fn piece_inside<S: Alter>(
 
 /// Removes the pieces of a body.
 pub fn delete_pieces_of<S: Alter>(tx: &mut Transaction<'_, S>, body: u64) -> Result<(), Error>
-    ensures same_reference { tx.new.conn.ghost_name ≡ tx.old.conn.ghost_name }
-    ensures ok { HasCleanDisk (state S.Store tx.new.conn.now) → IsTrue (state S.Store tx.old.conn.now).in_transaction
-        → OnOk result (Changes (state S.Store tx.old.conn.now) (state S.Store tx.new.conn.now) (without_pieces body)) }
-    ensures err { HasCleanDisk (state S.Store tx.new.conn.now) → IsTrue (state S.Store tx.old.conn.now).in_transaction
-        → OnErr result (Fails (state S.Store tx.old.conn.now) (state S.Store tx.new.conn.now)) }
-    ensures survives { Survives (state S.Store tx.old.conn.now) (state S.Store tx.new.conn.now) (λ _. ⊥) }
+    ensures same_reference { IsSame tx.old tx.new }
+    ensures ok { Writes S.Store tx.old tx.new result (without_pieces body) }
+    ensures err { FailsInside S.Store tx.old tx.new result }
+    ensures survives { CommitsNothing S.Store tx.old tx.new }
 {
     let body = whole(body)?;
     tx.execute(DELETE_PIECES, params![body])?;

@@ -1,9 +1,12 @@
 //! Whether a database serves still.
+//!
+//! Each read of the keeper first asks the database for nothing of its own (`SELECT 1`). That is answered by each database that serves,
+//! whatever it holds: the other reads say something of an archive's tables alone.
 
 ghost use Rattle.std.specs.Prelude.{◌≡◌, false, OnOk, OnErr};
-ghost use Rattle.sqlite.specs.State.{HasCleanDisk, IsUnchanged, Survives};
-ghost use Rattle.sqlite.specs.Held.{state};
+ghost use Rattle.sqlite.specs.State.{IsUnchanged};
 ghost use Rattle.tables.specs.Rows.{Fails};
+ghost use Rattle.tables.specs.Calls.{NeverCommits, OnCleanDisk};
 
 use crate::read::select;
 use sqlite::{Alter, Connection, Error};
@@ -14,9 +17,9 @@ const SELECT_ONE: &str = "SELECT 1";
 /// Asks the database for nothing of its own, whatever it holds: one that a fault has shut refuses.
 pub fn probe<S: Alter>(alloc: Global, conn: &mut Connection<S>) -> Result<(), Error>
     ensures idle { conn.old.in_transaction ≡ false → conn.new.in_transaction ≡ false }
-    ensures ok { HasCleanDisk (state S.Store conn.new) → OnOk result (IsUnchanged (state S.Store conn.old) (state S.Store conn.new)) }
-    ensures err { HasCleanDisk (state S.Store conn.new) → OnErr result (Fails (state S.Store conn.old) (state S.Store conn.new)) }
-    ensures survives { Survives (state S.Store conn.old) (state S.Store conn.new) (λ _. ⊥) }
+    ensures ok { OnCleanDisk S.Store conn.old conn.new (λ old new. OnOk result (IsUnchanged old new)) }
+    ensures err { OnCleanDisk S.Store conn.old conn.new (λ old new. OnErr result (Fails old new)) }
+    ensures survives { NeverCommits S.Store conn.old conn.new }
 {
     let _ones: Vec<u64> = select(alloc, conn, SELECT_ONE, &[])?;
     Ok(())

@@ -1,14 +1,14 @@
 //! Rows of an answer as typed rows.
 
-ghost use Rattle.std.specs.Prelude.{◌≡◌, List, map, slice_get, false, IfOk, OnErr, IsTrue, OnOk};
+ghost use Rattle.std.specs.Prelude.{◌≡◌, List, map, slice_get, false, IfOk, OnErr};
 ghost use Rattle.sqlite.specs.declared.types.Value.{Value as SqlValue};
 ghost use Rattle.sqlite.specs.Order.{column, bytes};
-ghost use Rattle.sqlite.specs.State.{HasCleanDisk, Survives, KeepsCommit};
+ghost use Rattle.sqlite.specs.State.{HasCleanDisk, Survives};
 ghost use Rattle.sqlite.specs.Values.{bound};
 ghost use Rattle.sqlite.specs.Held.{state};
-ghost use Rattle.tables.specs.Inside.{GoesOn};
 ghost use Rattle.tables.specs.Rows.{nat_of, Fails};
 ghost use Rattle.tables.specs.Reading.{IsPlainIn, IsRead, IsReadFirst};
+ghost use Rattle.tables.specs.Calls.{CommitsNothing, GoesOnInside, IsSame, KeepsCommitted, OnCleanDisk};
 
 use para::{Listed, Text};
 use sqlite::types::ValueRef;
@@ -74,9 +74,8 @@ pub(crate) fn select<S: Alter, T: FromRow>(
     params: &[ValueRef<'_>],
 ) -> Result<Vec<T>, Error>
     ensures idle { conn.old.in_transaction ≡ false → conn.new.in_transaction ≡ false }
-    ensures ok { HasCleanDisk (state S.Store conn.new) → IsPlainIn (state S.Store conn.old) sql.now
-        → IfOk result (λ all. IsRead T.FromRow.of_row sql.now (bound params.now) (state S.Store conn.old) (state S.Store conn.new) all.items) }
-    ensures err { HasCleanDisk (state S.Store conn.new) → IsPlainIn (state S.Store conn.old) sql.now → OnErr result (Fails (state S.Store conn.old) (state S.Store conn.new)) }
+    ensures ok { OnCleanDisk S.Store conn.old conn.new (λ old new. IsPlainIn old sql.now → IfOk result (λ all. IsRead T.FromRow.of_row sql.now (bound params.now) old new all.items)) }
+    ensures err { OnCleanDisk S.Store conn.old conn.new (λ old new. IsPlainIn old sql.now → OnErr result (Fails old new)) }
     ensures survives { Survives (state S.Store conn.old) (state S.Store conn.new) (λ _. ¬ IsPlainIn (state S.Store conn.old) sql.now) }
 {
     let rows = conn.query_all(sql, params)?;
@@ -90,16 +89,14 @@ pub(crate) fn select_inside<S: Alter, T: FromRow>(
     sql: &str,
     params: &[ValueRef<'_>],
 ) -> Result<Vec<T>, Error>
-    ensures same_reference { tx.new.conn.ghost_name ≡ tx.old.conn.ghost_name }
+    ensures same_reference { IsSame tx.old tx.new }
     ensures ok { HasCleanDisk (state S.Store tx.new.conn.now) → IsPlainIn (state S.Store tx.old.conn.now) sql.now
         → IfOk result (λ all. IsRead T.FromRow.of_row sql.now (bound params.now) (state S.Store tx.old.conn.now) (state S.Store tx.new.conn.now) all.items) }
     ensures err { HasCleanDisk (state S.Store tx.new.conn.now) → IsPlainIn (state S.Store tx.old.conn.now) sql.now
         → OnErr result (Fails (state S.Store tx.old.conn.now) (state S.Store tx.new.conn.now)) }
-    ensures goes_on { HasCleanDisk (state S.Store tx.new.conn.now) → IsTrue (state S.Store tx.old.conn.now).in_transaction
-        → OnOk result (GoesOn (state S.Store tx.old.conn.now) (state S.Store tx.new.conn.now)) }
-    ensures kept { HasCleanDisk (state S.Store tx.new.conn.now) → IsTrue (state S.Store tx.old.conn.now).in_transaction
-        → OnErr result (KeepsCommit (state S.Store tx.old.conn.now) (state S.Store tx.new.conn.now)) }
-    ensures survives { Survives (state S.Store tx.old.conn.now) (state S.Store tx.new.conn.now) (λ _. ⊥) }
+    ensures goes_on { GoesOnInside S.Store tx.old tx.new result }
+    ensures kept { KeepsCommitted S.Store tx.old tx.new result }
+    ensures survives { CommitsNothing S.Store tx.old tx.new }
 {
     let rows = tx.query_all(sql, params)?;
     typed(alloc, &rows)
@@ -120,9 +117,8 @@ pub(crate) fn select_first<S: Alter, T: FromRow>(
     params: &[ValueRef<'_>],
 ) -> Result<Option<T>, Error>
     ensures idle { conn.old.in_transaction ≡ false → conn.new.in_transaction ≡ false }
-    ensures ok { HasCleanDisk (state S.Store conn.new) → IsPlainIn (state S.Store conn.old) sql.now
-        → IfOk result (IsReadFirst T.FromRow.of_row sql.now (bound params.now) (state S.Store conn.old) (state S.Store conn.new)) }
-    ensures err { HasCleanDisk (state S.Store conn.new) → IsPlainIn (state S.Store conn.old) sql.now → OnErr result (Fails (state S.Store conn.old) (state S.Store conn.new)) }
+    ensures ok { OnCleanDisk S.Store conn.old conn.new (λ old new. IsPlainIn old sql.now → IfOk result (IsReadFirst T.FromRow.of_row sql.now (bound params.now) old new)) }
+    ensures err { OnCleanDisk S.Store conn.old conn.new (λ old new. IsPlainIn old sql.now → OnErr result (Fails old new)) }
     ensures survives { Survives (state S.Store conn.old) (state S.Store conn.new) (λ _. ¬ IsPlainIn (state S.Store conn.old) sql.now) }
 {
     Ok(first(select(alloc, conn, sql, params)?))
@@ -135,16 +131,14 @@ pub(crate) fn select_first_inside<S: Alter, T: FromRow>(
     sql: &str,
     params: &[ValueRef<'_>],
 ) -> Result<Option<T>, Error>
-    ensures same_reference { tx.new.conn.ghost_name ≡ tx.old.conn.ghost_name }
+    ensures same_reference { IsSame tx.old tx.new }
     ensures ok { HasCleanDisk (state S.Store tx.new.conn.now) → IsPlainIn (state S.Store tx.old.conn.now) sql.now
         → IfOk result (IsReadFirst T.FromRow.of_row sql.now (bound params.now) (state S.Store tx.old.conn.now) (state S.Store tx.new.conn.now)) }
     ensures err { HasCleanDisk (state S.Store tx.new.conn.now) → IsPlainIn (state S.Store tx.old.conn.now) sql.now
         → OnErr result (Fails (state S.Store tx.old.conn.now) (state S.Store tx.new.conn.now)) }
-    ensures goes_on { HasCleanDisk (state S.Store tx.new.conn.now) → IsTrue (state S.Store tx.old.conn.now).in_transaction
-        → OnOk result (GoesOn (state S.Store tx.old.conn.now) (state S.Store tx.new.conn.now)) }
-    ensures kept { HasCleanDisk (state S.Store tx.new.conn.now) → IsTrue (state S.Store tx.old.conn.now).in_transaction
-        → OnErr result (KeepsCommit (state S.Store tx.old.conn.now) (state S.Store tx.new.conn.now)) }
-    ensures survives { Survives (state S.Store tx.old.conn.now) (state S.Store tx.new.conn.now) (λ _. ⊥) }
+    ensures goes_on { GoesOnInside S.Store tx.old tx.new result }
+    ensures kept { KeepsCommitted S.Store tx.old tx.new result }
+    ensures survives { CommitsNothing S.Store tx.old tx.new }
 {
     Ok(first(select_inside(alloc, tx, sql, params)?))
 }

@@ -1,10 +1,9 @@
 //! The files of the items.
 
-ghost use Rattle.std.specs.Prelude.{◌≡◌, filter, false, IsTrue, IfOk, OnOk, OnErr};
-ghost use Rattle.sqlite.specs.State.{HasCleanDisk, IsUnchanged, Survives};
-ghost use Rattle.sqlite.specs.Held.{state};
-ghost use Rattle.tables.specs.Rows.{Tables, Holds, Changes, Fails, IsForeign, with_ref, ref_of, rows_of};
+ghost use Rattle.std.specs.Prelude.{◌≡◌, filter, false};
+ghost use Rattle.tables.specs.Rows.{with_ref, ref_of, rows_of};
 ghost use Rattle.tables.specs.Refs.{is_ref_of, without_refs};
+ghost use Rattle.tables.specs.Calls.{CommitsNothing, CommitsNothingOfOurs, FailsInside, IsSame, ReadFails, Reads, Writes};
 
 use crate::cells::print_at;
 use crate::number::whole;
@@ -36,12 +35,10 @@ impl FromRow for Ref {
 
 /// Adds a file of an item. A place in the item that is taken already is refused.
 pub fn insert_ref<S: Alter>(tx: &mut Transaction<'_, S>, reference: &Ref) -> Result<(), Error>
-    ensures same_reference { tx.new.conn.ghost_name ≡ tx.old.conn.ghost_name }
-    ensures ok { HasCleanDisk (state S.Store tx.new.conn.now) → IsTrue (state S.Store tx.old.conn.now).in_transaction
-        → OnOk result (Changes (state S.Store tx.old.conn.now) (state S.Store tx.new.conn.now) (with_ref reference.now)) }
-    ensures err { HasCleanDisk (state S.Store tx.new.conn.now) → IsTrue (state S.Store tx.old.conn.now).in_transaction
-        → OnErr result (Fails (state S.Store tx.old.conn.now) (state S.Store tx.new.conn.now)) }
-    ensures survives { Survives (state S.Store tx.old.conn.now) (state S.Store tx.new.conn.now) (λ _. ⊥) }
+    ensures same_reference { IsSame tx.old tx.new }
+    ensures ok { Writes S.Store tx.old tx.new result (with_ref reference.now) }
+    ensures err { FailsInside S.Store tx.old tx.new result }
+    ensures survives { CommitsNothing S.Store tx.old tx.new }
 {
     let item = whole(reference.item)?;
     let number = whole(reference.number)?;
@@ -64,11 +61,9 @@ pub fn refs_of<S: Alter>(
     item: u64,
 ) -> Result<Vec<Ref>, Error>
     ensures idle { conn.old.in_transaction ≡ false → conn.new.in_transaction ≡ false }
-    ensures ok { HasCleanDisk (state S.Store conn.new) → (t : Tables) → Holds (state S.Store conn.old).now t
-        → IfOk result (λ all. (all.items ≡ filter (is_ref_of item) (rows_of t.refs)) × IsUnchanged (state S.Store conn.old) (state S.Store conn.new)) }
-    ensures err { HasCleanDisk (state S.Store conn.new) → (t : Tables) → Holds (state S.Store conn.old).now t
-        → OnErr result (Fails (state S.Store conn.old) (state S.Store conn.new)) }
-    ensures survives { Survives (state S.Store conn.old) (state S.Store conn.new) (λ _. IsForeign (state S.Store conn.old).now) }
+    ensures ok { Reads S.Store conn.old conn.new result (λ t all. all.items ≡ filter (is_ref_of item) (rows_of t.refs)) }
+    ensures err { ReadFails S.Store conn.old conn.new result }
+    ensures survives { CommitsNothingOfOurs S.Store conn.old conn.new }
 {
     let item = whole(item)?;
     select(alloc, conn, SELECT_REFS_OF, params![item])
@@ -76,12 +71,10 @@ pub fn refs_of<S: Alter>(
 
 /// Removes the files of an item.
 pub fn delete_refs<S: Alter>(tx: &mut Transaction<'_, S>, item: u64) -> Result<(), Error>
-    ensures same_reference { tx.new.conn.ghost_name ≡ tx.old.conn.ghost_name }
-    ensures ok { HasCleanDisk (state S.Store tx.new.conn.now) → IsTrue (state S.Store tx.old.conn.now).in_transaction
-        → OnOk result (Changes (state S.Store tx.old.conn.now) (state S.Store tx.new.conn.now) (without_refs item)) }
-    ensures err { HasCleanDisk (state S.Store tx.new.conn.now) → IsTrue (state S.Store tx.old.conn.now).in_transaction
-        → OnErr result (Fails (state S.Store tx.old.conn.now) (state S.Store tx.new.conn.now)) }
-    ensures survives { Survives (state S.Store tx.old.conn.now) (state S.Store tx.new.conn.now) (λ _. ⊥) }
+    ensures same_reference { IsSame tx.old tx.new }
+    ensures ok { Writes S.Store tx.old tx.new result (without_refs item) }
+    ensures err { FailsInside S.Store tx.old tx.new result }
+    ensures survives { CommitsNothing S.Store tx.old tx.new }
 {
     let item = whole(item)?;
     tx.execute(DELETE_REFS, params![item])?;

@@ -1,4 +1,7 @@
 //! The rows of the tables, as code above sees them.
+//!
+//! A row of `bodies` or `uploads` may be stored without its last columns that are NULL, as ALTER TABLE leaves them. No statement tells such
+//! a row from a whole one, so what tables hold is said of rows as they are read.
 
 use para::{Listed, Text};
 use sums::Print;
@@ -12,7 +15,7 @@ pub struct Meta {
 
 /// A body: its print, once it is whole.
 #[derive(Clone, Copy)]
-pub struct Body {
+pub struct BodyRow {
     pub print: Option<Print>,
 }
 
@@ -26,7 +29,7 @@ pub struct Piece {
 
 /// A name under which a body arrived, and the greatest moment at which it did.
 #[derive(Drop)]
-pub struct Arrival {
+pub struct ArrivalRow {
     pub name: Text,
     pub body: u64,
     pub moment: u64,
@@ -35,7 +38,7 @@ pub struct Arrival {
 /// A .changes that arrived or was judged: its name and print, and once it is judged its place in the order of judging and its
 /// verdict.
 #[derive(Drop)]
-pub struct Upload {
+pub struct UploadRow {
     pub name: Text,
     pub print: Print,
     pub place: Option<u64>,
@@ -53,7 +56,7 @@ pub struct Want {
 
 /// What a suite shows under a kind, a package and an architecture.
 #[derive(Drop)]
-pub struct Item {
+pub struct ItemRow {
     pub suite: Text,
     pub kind: u64,
     pub package: Text,
@@ -82,7 +85,7 @@ pub struct File {
 
 /// A text of an index, by its path.
 #[derive(Drop)]
-pub struct IndexText {
+pub struct TextRow {
     pub path: Text,
     pub body: Listed<u8>,
 }

@@ -1,11 +1,23 @@
 //! The tables, and how they and the two indexes of bodies are made.
+//!
+//! `bodies` has the print for a second key, `arrivals` name and body. By the first a body is found that is there, and by both no body is
+//! stored twice and no pair arrives twice. An arrival names its print by its body alone.
+//!
+//! When the print of a body is written, or a body goes, SQL looks for rows that refer to it. By the indexes `arrivals_by_body` and
+//! `files_by_body` it finds them, and looks through no other row. They are no part of the layout. They are the archive's by name, table and
+//! column, and may be missing: an archive that was made without them opens, and so does one that lost them, and is slower there. One of
+//! these names with another column, or a unique one, is somebody else's index on the archive's table.
+//!
+//! What is put on a table of the archive does not leave it alone: a unique index may refuse a row, a reference that a row goes, a trigger
+//! may do anything, and an index that takes any rows costs each write.
+//!
+//! A view is passed over, also one of the archive's tables: a table is looked for before a view, and a view changes nothing.
 
-ghost use Rattle.std.specs.Prelude.{◌≡◌, ◌<◌, false, IsTrue, IfErr, OnOk, OnErr};
-ghost use Rattle.sqlite.specs.State.{HasCleanDisk, Survives, KeepsCommit};
-ghost use Rattle.sqlite.specs.Held.{state};
+ghost use Rattle.std.specs.Prelude.{◌≡◌, ◌<◌, IfErr, OnOk};
 ghost use Rattle.tables.specs.Causes.{IsCaused};
 ghost use Rattle.tables.specs.Creating.{Creates, CreatesIndexes, text_at};
 ghost use Rattle.tables.specs.Schema.{no_schema};
+ghost use Rattle.tables.specs.Calls.{CommitsNothing, Inside, IsSame, KeepsCommitted};
 
 use sqlite::{Alter, Error, Transaction};
 
@@ -68,15 +80,12 @@ fn create_text(at: usize) -> &'static str
 
 /// Makes the tables of an archive, all of them empty, in a database that has no table.
 pub fn create_tables<S: Alter>(tx: &mut Transaction<'_, S>) -> Result<(), Error>
-    ensures same_reference { tx.new.conn.ghost_name ≡ tx.old.conn.ghost_name }
-    ensures ok { HasCleanDisk (state S.Store tx.new.conn.now) → IsTrue (state S.Store tx.old.conn.now).in_transaction
-        → OnOk result (Creates (state S.Store tx.old.conn.now) (state S.Store tx.new.conn.now)) }
-    ensures err { HasCleanDisk (state S.Store tx.new.conn.now) → IsTrue (state S.Store tx.old.conn.now).in_transaction
-        → OnErr result (KeepsCommit (state S.Store tx.old.conn.now) (state S.Store tx.new.conn.now)) }
+    ensures same_reference { IsSame tx.old tx.new }
+    ensures ok { Inside S.Store tx.old tx.new (λ old new. OnOk result (Creates old new)) }
+    ensures err { KeepsCommitted S.Store tx.old tx.new result }
     // No table is refused.
-    ensures cause { HasCleanDisk (state S.Store tx.new.conn.now) → IsTrue (state S.Store tx.old.conn.now).in_transaction
-        → (state S.Store tx.old.conn.now).now.schema ≡ no_schema → IfErr result (IsCaused (state S.Store tx.old.conn.now) (state S.Store tx.new.conn.now)) }
-    ensures survives { Survives (state S.Store tx.old.conn.now) (state S.Store tx.new.conn.now) (λ _. ⊥) }
+    ensures cause { Inside S.Store tx.old tx.new (λ old new. old.now.schema ≡ no_schema → IfErr result (IsCaused old new)) }
+    ensures survives { CommitsNothing S.Store tx.old tx.new }
 {
     for at in 0..11 {
         tx.execute(create_text(at), &[])?;
@@ -87,12 +96,10 @@ pub fn create_tables<S: Alter>(tx: &mut Transaction<'_, S>) -> Result<(), Error>
 /// Makes the two indexes by which the arrivals and the files of a body are found, in a database that has the tables of an archive and
 /// nothing else. They are no part of the layout: an archive without them is one, and only slower.
 pub fn create_indexes<S: Alter>(tx: &mut Transaction<'_, S>) -> Result<(), Error>
-    ensures same_reference { tx.new.conn.ghost_name ≡ tx.old.conn.ghost_name }
-    ensures ok { HasCleanDisk (state S.Store tx.new.conn.now) → IsTrue (state S.Store tx.old.conn.now).in_transaction
-        → OnOk result (CreatesIndexes (state S.Store tx.old.conn.now) (state S.Store tx.new.conn.now)) }
-    ensures err { HasCleanDisk (state S.Store tx.new.conn.now) → IsTrue (state S.Store tx.old.conn.now).in_transaction
-        → OnErr result (KeepsCommit (state S.Store tx.old.conn.now) (state S.Store tx.new.conn.now)) }
-    ensures survives { Survives (state S.Store tx.old.conn.now) (state S.Store tx.new.conn.now) (λ _. ⊥) }
+    ensures same_reference { IsSame tx.old tx.new }
+    ensures ok { Inside S.Store tx.old tx.new (λ old new. OnOk result (CreatesIndexes old new)) }
+    ensures err { KeepsCommitted S.Store tx.old tx.new result }
+    ensures survives { CommitsNothing S.Store tx.old tx.new }
 {
     tx.execute(CREATE_ARRIVALS_BY_BODY, &[])?;
     tx.execute(CREATE_FILES_BY_BODY, &[])?;

@@ -1,13 +1,12 @@
 //! The texts of the indices.
 
-ghost use Rattle.std.specs.Prelude.{◌≡◌, find, false, IsTrue, IfOk, OnOk, OnErr};
-ghost use Rattle.sqlite.specs.State.{HasCleanDisk, IsUnchanged, Survives};
-ghost use Rattle.sqlite.specs.Held.{state};
-ghost use Rattle.tables.specs.Rows.{Tables, Holds, Changes, Fails, IsForeign, with_text, text_of, rows_of};
+ghost use Rattle.std.specs.Prelude.{◌≡◌, find, false};
+ghost use Rattle.tables.specs.Rows.{with_text, text_of, rows_of};
 ghost use Rattle.tables.specs.Texts.{has_path, with_new_text, without_texts};
+ghost use Rattle.tables.specs.Calls.{CommitsNothing, CommitsNothingOfOurs, FailsInside, IsSame, ReadFails, Reads, Writes};
 
 use crate::read::{FromRow, bytes_at, select_first, text_at};
-use crate::rows::IndexText;
+use crate::rows::TextRow;
 use sqlite::{Alter, Connection, Error, Row, Transaction, params};
 use std::alloc::Global;
 
@@ -19,11 +18,11 @@ const UPDATE_TEXT: &str = "UPDATE texts SET body = ?2 WHERE path = ?1";
 
 const DELETE_TEXTS: &str = "DELETE FROM texts";
 
-impl FromRow for IndexText {
+impl FromRow for TextRow {
     ghost of_row = { text_of };
 
-    fn from_row(row: &Row) -> Result<IndexText, Error> {
-        Ok(IndexText {
+    fn from_row(row: &Row) -> Result<TextRow, Error> {
+        Ok(TextRow {
             path: text_at(row, 1)?,
             body: bytes_at(row, 2)?,
         })
@@ -36,12 +35,10 @@ pub fn insert_text<S: Alter>(
     path: &str,
     body: &[u8],
 ) -> Result<(), Error>
-    ensures same_reference { tx.new.conn.ghost_name ≡ tx.old.conn.ghost_name }
-    ensures ok { HasCleanDisk (state S.Store tx.new.conn.now) → IsTrue (state S.Store tx.old.conn.now).in_transaction
-        → OnOk result (Changes (state S.Store tx.old.conn.now) (state S.Store tx.new.conn.now) (with_text (record { path = path.now; body = body.now }))) }
-    ensures err { HasCleanDisk (state S.Store tx.new.conn.now) → IsTrue (state S.Store tx.old.conn.now).in_transaction
-        → OnErr result (Fails (state S.Store tx.old.conn.now) (state S.Store tx.new.conn.now)) }
-    ensures survives { Survives (state S.Store tx.old.conn.now) (state S.Store tx.new.conn.now) (λ _. ⊥) }
+    ensures same_reference { IsSame tx.old tx.new }
+    ensures ok { Writes S.Store tx.old tx.new result (with_text (record { path = path.now; body = body.now })) }
+    ensures err { FailsInside S.Store tx.old tx.new result }
+    ensures survives { CommitsNothing S.Store tx.old tx.new }
 {
     tx.execute(INSERT_TEXT, params![path, body])?;
     Ok(())
@@ -52,13 +49,11 @@ pub fn select_text<S: Alter>(
     alloc: Global,
     conn: &mut Connection<S>,
     path: &str,
-) -> Result<Option<IndexText>, Error>
+) -> Result<Option<TextRow>, Error>
     ensures idle { conn.old.in_transaction ≡ false → conn.new.in_transaction ≡ false }
-    ensures ok { HasCleanDisk (state S.Store conn.new) → (t : Tables) → Holds (state S.Store conn.old).now t
-        → IfOk result (λ found. (found ≡ find (has_path path.now) (rows_of t.texts)) × IsUnchanged (state S.Store conn.old) (state S.Store conn.new)) }
-    ensures err { HasCleanDisk (state S.Store conn.new) → (t : Tables) → Holds (state S.Store conn.old).now t
-        → OnErr result (Fails (state S.Store conn.old) (state S.Store conn.new)) }
-    ensures survives { Survives (state S.Store conn.old) (state S.Store conn.new) (λ _. IsForeign (state S.Store conn.old).now) }
+    ensures ok { Reads S.Store conn.old conn.new result (λ t found. found ≡ find (has_path path.now) (rows_of t.texts)) }
+    ensures err { ReadFails S.Store conn.old conn.new result }
+    ensures survives { CommitsNothingOfOurs S.Store conn.old conn.new }
 {
     select_first(alloc, conn, SELECT_TEXT, params![path])
 }
@@ -69,12 +64,10 @@ pub fn update_text<S: Alter>(
     path: &str,
     body: &[u8],
 ) -> Result<(), Error>
-    ensures same_reference { tx.new.conn.ghost_name ≡ tx.old.conn.ghost_name }
-    ensures ok { HasCleanDisk (state S.Store tx.new.conn.now) → IsTrue (state S.Store tx.old.conn.now).in_transaction
-        → OnOk result (Changes (state S.Store tx.old.conn.now) (state S.Store tx.new.conn.now) (with_new_text path.now body.now)) }
-    ensures err { HasCleanDisk (state S.Store tx.new.conn.now) → IsTrue (state S.Store tx.old.conn.now).in_transaction
-        → OnErr result (Fails (state S.Store tx.old.conn.now) (state S.Store tx.new.conn.now)) }
-    ensures survives { Survives (state S.Store tx.old.conn.now) (state S.Store tx.new.conn.now) (λ _. ⊥) }
+    ensures same_reference { IsSame tx.old tx.new }
+    ensures ok { Writes S.Store tx.old tx.new result (with_new_text path.now body.now) }
+    ensures err { FailsInside S.Store tx.old tx.new result }
+    ensures survives { CommitsNothing S.Store tx.old tx.new }
 {
     tx.execute(UPDATE_TEXT, params![path, body])?;
     Ok(())
@@ -82,12 +75,10 @@ pub fn update_text<S: Alter>(
 
 /// Removes all texts.
 pub fn delete_texts<S: Alter>(tx: &mut Transaction<'_, S>) -> Result<(), Error>
-    ensures same_reference { tx.new.conn.ghost_name ≡ tx.old.conn.ghost_name }
-    ensures ok { HasCleanDisk (state S.Store tx.new.conn.now) → IsTrue (state S.Store tx.old.conn.now).in_transaction
-        → OnOk result (Changes (state S.Store tx.old.conn.now) (state S.Store tx.new.conn.now) without_texts) }
-    ensures err { HasCleanDisk (state S.Store tx.new.conn.now) → IsTrue (state S.Store tx.old.conn.now).in_transaction
-        → OnErr result (Fails (state S.Store tx.old.conn.now) (state S.Store tx.new.conn.now)) }
-    ensures survives { Survives (state S.Store tx.old.conn.now) (state S.Store tx.new.conn.now) (λ _. ⊥) }
+    ensures same_reference { IsSame tx.old tx.new }
+    ensures ok { Writes S.Store tx.old tx.new result without_texts }
+    ensures err { FailsInside S.Store tx.old tx.new result }
+    ensures survives { CommitsNothing S.Store tx.old tx.new }
 {
     tx.execute(DELETE_TEXTS, &[])?;
     Ok(())

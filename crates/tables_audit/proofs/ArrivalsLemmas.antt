@@ -6,7 +6,7 @@ use Rattle.std.proofs.lemmas.List.Elements.{All-map}
 use Rattle.keep.specs.Book.{latest}
 use Rattle.keep.specs.Keeping.{IsDeliverable}
 use Rattle.tables.specs.Rows.{Tables, rows_of}
-use Rattle.tables.specs.declared.rows.Arrival as row
+use Rattle.tables.specs.declared.rows.ArrivalRow.{ArrivalRow}
 use Rattle.tables_meaning.specs.Kept.{arrival_in, arrivals_in}
 use Rattle.tables_audit.specs.Arrivals.{IsArrivalFit}
 use Rattle.tables_audit.specs.Parts.{ArrivalsFit}
@@ -15,7 +15,7 @@ all_unmapped : {X Y : Type 0} (P : Y → Type 0) (f : X → Y) (xs : List X) →
 all_unmapped P f xs all k d within = subst P (get_or-map f xs k d (f d) within) (all k (f d) (subst (λ n. k < n) (sym (length-map xs f)) within))
 
 -- the row is that of an arrival that may be kept
-abbrev pub MayBeKept : Tables → ℕ × row.Arrival → Type 0
+abbrev pub MayBeKept : Tables → ℕ × ArrivalRow → Type 0
 MayBeKept t x = IsArrivalFit t x.1
 
 pub arrivals_fit : (t : Tables) (may : Bool) → (IsTrue may ↔ All (MayBeKept t) t.arrivals) → (IsTrue may ↔ ArrivalsFit t)

@@ -28,7 +28,7 @@ use Rattle.suites.specs.Pool.{PoolWith, files_of}
 use Rattle.suites.specs.Shelves.{ShelvesValue, pool}
 use Rattle.tables.specs.Files.{is_file_at}
 use Rattle.tables.specs.Rows.{Numbered, Tables, rows_of}
-use Rattle.tables.specs.declared.rows.Body.{Body}
+use Rattle.tables.specs.declared.rows.BodyRow.{BodyRow}
 use Rattle.tables.specs.declared.rows.File.{File}
 use Rattle.tables_read.specs.All.{AreConstrained}
 use Rattle.tables_meaning.specs.Kept.{AreFiles, has_body, print_at}
@@ -169,7 +169,7 @@ pool_there shared shelves counts path =
     mapped None = refl
     mapped (Some p) = refl
 
-module _ (shelves : ShelvesValue) (bodies : Numbered Body) (files : Numbered File) (shared : Shared) (paths : Paths) (counts : Counts shared shelves)
+module _ (shelves : ShelvesValue) (bodies : Numbered BodyRow) (files : Numbered File) (shared : Shared) (paths : Paths) (counts : Counts shared shelves)
     (are : (path : List ℕ) → is_some (get_by_text paths path) ≡ is_path files path) where
   -- The rows are those of the pool where each has its print and each path of the pool is among them.
   pub those_from : All (HasPrint (pool shelves) bodies) files → ((path : List ℕ) → is_some (get_by_text shared path) ≡ true → is_some (get_by_text paths path) ≡ true)
@@ -216,14 +216,14 @@ pub path_more : (files : Numbered File) (n : ℕ) (d : ℕ × File) (old new : P
 path_more files n d old new lt was put path = one_path (take n files) (get_or files n d) old new was put path ∙ ap (λ xs. is_path xs path) (sym (take_more files n d lt))
 
 -- one file more that has its print
-pub prints_more : (there : PoolWith Print) (bodies : Numbered Body) (files : Numbered File) (n : ℕ) (d : ℕ × File) → n < length files → All (HasPrint there bodies) (take n files)
+pub prints_more : (there : PoolWith Print) (bodies : Numbered BodyRow) (files : Numbered File) (n : ℕ) (d : ℕ × File) → n < length files → All (HasPrint there bodies) (take n files)
     → HasPrint there bodies (get_or files n d) → All (HasPrint there bodies) (take (n + 1) files)
 prints_more there bodies files n d lt so_far has =
     subst (All (HasPrint there bodies)) (sym (take_more files n d lt))
     (All-append (HasPrint there bodies) (take n files) (get_or files n d ∷ []) so_far (All-cons (HasPrint there bodies) (get_or files n d) [] has (All-nil (HasPrint there bodies))))
 
 -- rows of these slices are those of the tables
-pub fit_of : (b : Bool) (t : Tables) (shown : ShelvesValue) (bodies : Numbered Body) (files : Numbered File) → bodies ≡ t.bodies → files ≡ t.files
+pub fit_of : (b : Bool) (t : Tables) (shown : ShelvesValue) (bodies : Numbered BodyRow) (files : Numbered File) → bodies ≡ t.bodies → files ≡ t.files
     → (b ≡ true) ↔ AreThose (pool shown) bodies files → AreConstrained t → (b ≡ true) ↔ AreFiles t shown
 fit_of b t shown bodies files same_bodies same_files h keys =
     let those : (b ≡ true) ↔ AreThose (pool shown) t.bodies t.files = subst₂ (λ xs ys. (b ≡ true) ↔ AreThose (pool shown) xs ys) same_bodies same_files h in

@@ -30,10 +30,10 @@ use Rattle.suites.proofs.PoolLookups.{find-Contains}
 use Rattle.tables.specs.Items.{is_item}
 use Rattle.tables.specs.Refs.{is_ref_of}
 use Rattle.tables.specs.Rows.{Numbered, Tables, rows_of}
-use Rattle.tables.specs.declared.rows.Item.{Item}
+use Rattle.tables.specs.declared.rows.ItemRow.{ItemRow}
 use Rattle.tables.specs.declared.rows.Ref.{Ref}
 use Rattle.tables_read.specs.All.{AreConstrained}
-use Rattle.tables_meaning.specs.Kept.{AreItems, AreReadable, IsReadable, codename_at, is_on, item_row, refs_for, refs_in, shown_row}
+use Rattle.tables_meaning.specs.Kept.{AreItems, AreReadable, IsReadable, codename_at, is_on, refs_for, refs_in, shown_row}
 use Rattle.tables_meaning.specs.Kept as kept
 use Rattle.tables_meaning.specs.Shown.{clash, entry_in, file_in, is_taken, item_with, may_not_join, shown_in}
 use Rattle.tables_meaning.proofs.ShownLemmas.{entry_on, find_beyond, find_shown, item_from, item_parts, on_entry, shown_is}
@@ -104,7 +104,7 @@ abbrev Entry : Type 0
 Entry = ShelfKey × shelf.Item
 
 -- what stands on a shelf is what the first rows show, or else the others
-found_append : (f : ℕ × Item → Option Entry) (key : ShelfKey) (xs ys : Numbered Item)
+found_append : (f : ℕ × ItemRow → Option Entry) (key : ShelfKey) (xs ys : Numbered ItemRow)
     → keyed.find key_order key (filter_map f (xs ++ ys)) ≡ option_or (keyed.find key_order key (filter_map f xs)) (keyed.find key_order key (filter_map f ys))
 found_append f key [] ys = refl
 found_append f key (x ∷ xs) ys = step (f x) (found_append f key xs ys)
@@ -131,7 +131,7 @@ none_shown suites refs shelves none = record {
 }
 
 -- one row more
-pub one_shown : (suites : List Suite) (refs : Numbered Ref) (items : Numbered Item) (x : ℕ × Item) (old new : ShelvesValue) → AreShown suites refs items old → Joins suites refs x old new
+pub one_shown : (suites : List Suite) (refs : Numbered Ref) (items : Numbered ItemRow) (x : ℕ × ItemRow) (old new : ShelvesValue) → AreShown suites refs items old → Joins suites refs x old new
     → AreShown suites refs (items ++ x ∷ []) new
 one_shown suites refs items x old new shown joins = record {
   stands = λ key.
@@ -155,13 +155,13 @@ one_shown suites refs items x old new shown joins = record {
     go key false apart = shown.stands key ∙ or_none (keyed.find key_order key (filter_map (entry_at suites refs) items))
 
 -- one row more of these
-pub shown_more : (suites : List Suite) (refs : Numbered Ref) (items : Numbered Item) (n : ℕ) (d : ℕ × Item) (old new : ShelvesValue) → n < length items → AreShown suites refs (take n items) old
+pub shown_more : (suites : List Suite) (refs : Numbered Ref) (items : Numbered ItemRow) (n : ℕ) (d : ℕ × ItemRow) (old new : ShelvesValue) → n < length items → AreShown suites refs (take n items) old
     → Joins suites refs (get_or items n d) old new → AreShown suites refs (take (n + 1) items) new
 shown_more suites refs items n d old new lt shown joins =
     subst (λ xs. AreShown suites refs xs new) (sym (take_more items n d lt)) (one_shown suites refs (take n items) (get_or items n d) old new shown joins)
 
 -- the row there may not come to its shelf
-pub stopped_at : (suites : List Suite) (refs : Numbered Ref) (items : Numbered Item) (n : ℕ) (d : ℕ × Item) (shelves : ShelvesValue) → n < length items → AreShown suites refs (take n items) shelves
+pub stopped_at : (suites : List Suite) (refs : Numbered Ref) (items : Numbered ItemRow) (n : ℕ) (d : ℕ × ItemRow) (shelves : ShelvesValue) → n < length items → AreShown suites refs (take n items) shelves
     → ¬ MayJoin suites refs (get_or items n d) shelves → AreStopped suites refs items
 stopped_at suites refs items n d shelves lt shown refused = record {
   before = take n items;
@@ -192,7 +192,7 @@ found_inside p (y ∷ ys) x e = go (p y) (found_inside p ys x) e
     go false more f = there y x ys (more f)
 
 -- a row that is on a shelf is the row of the item that it shows there
-row_back : (suites : List Suite) (t : Tables) (key : ShelfKey) (x : ℕ × Item) → is_on suites key x ≡ true → are_numbered_from 1 (refs_in t x.0) ≡ true
+row_back : (suites : List Suite) (t : Tables) (key : ShelfKey) (x : ℕ × ItemRow) → is_on suites key x ≡ true → are_numbered_from 1 (refs_in t x.0) ≡ true
     → kept.shown_in t x ≡ shown_row suites key x.0 (item_with key.kind x.1 (refs_in t x.0))
 unfolding refs_for
 row_back suites t key x on numbered =
@@ -217,7 +217,7 @@ module _ (suites : List Suite) (differ : AllPairs (λ s r. s.codename ≢ r.code
   stands_there : (key : ShelfKey) → key.suite < length suites → get shelves key ≡ option_map (λ x. item_with key.kind x.1 (refs_in t x.0)) (find (is_on suites key) t.items)
   stands_there key lt = h.stands key ∙ find_shown suites differ t key lt t.items
 
-  row_there : (key : ShelfKey) (f : Option (ℕ × Item)) → find (is_on suites key) t.items ≡ f → get shelves key ≡ option_map (λ x. item_with key.kind x.1 (refs_in t x.0)) f
+  row_there : (key : ShelfKey) (f : Option (ℕ × ItemRow)) → find (is_on suites key) t.items ≡ f → get shelves key ≡ option_map (λ x. item_with key.kind x.1 (refs_in t x.0)) f
       → option_map (kept.shown_in t) f ≡ option_and_then (λ x. option_map (shown_row suites key x.0) (get shelves key)) f
   row_there key None found stands = refl
   row_there key (Some x) found stands =
@@ -225,7 +225,7 @@ module _ (suites : List Suite) (differ : AllPairs (λ s r. s.codename ≢ r.code
       ap Some (row_back suites t key x (found_passes (is_on suites key) t.items x found) shown.numbered)
       ∙ ap (option_map (shown_row suites key x.0)) (sym stands)
 
-  same_presence : (key : ShelfKey) (f : Option (ℕ × Item)) → get shelves key ≡ option_map (λ x. item_with key.kind x.1 (refs_in t x.0)) f
+  same_presence : (key : ShelfKey) (f : Option (ℕ × ItemRow)) → get shelves key ≡ option_map (λ x. item_with key.kind x.1 (refs_in t x.0)) f
       → option_map (λ _. true) f ≡ option_map (λ _. true) (get shelves key)
   same_presence key None stands = ap (option_map (λ _. true)) (sym stands)
   same_presence key (Some x) stands = ap (option_map (λ _. true)) (sym stands)
@@ -252,7 +252,7 @@ module _ (suites : List Suite) (differ : AllPairs (λ s r. s.codename ≢ r.code
   pub all_readable : AreReadable t
   all_readable = all_rows t.items (λ x at. (all_at (IsShown suites t.refs) t.items x h.each at).readable)
     where
-      all_rows : (xs : Numbered Item) → ((x : ℕ × Item) → Contains xs x → IsReadable x.1) → All IsReadable (rows_of xs)
+      all_rows : (xs : Numbered ItemRow) → ((x : ℕ × ItemRow) → Contains xs x → IsReadable x.1) → All IsReadable (rows_of xs)
       all_rows [] each = All-nil IsReadable
       all_rows (x ∷ xs) each = All-cons IsReadable x.1 (rows_of xs) (each x (here x xs)) (all_rows xs (λ y at. each y (there x y xs at)))
 
@@ -263,7 +263,7 @@ in_middle [] x behind = here x behind
 in_middle (y ∷ before) x behind = there y x (before ++ x ∷ behind) (in_middle before x behind)
 
 -- the rows before one are apart from it
-before_apart : (R : Item → Item → Type 0) (before : Numbered Item) (x : ℕ × Item) (behind : Numbered Item) → AllPairs R (rows_of (before ++ x ∷ behind)) → AllByRecursion (λ y. R y.1 x.1) before
+before_apart : (R : ItemRow → ItemRow → Type 0) (before : Numbered ItemRow) (x : ℕ × ItemRow) (behind : Numbered ItemRow) → AllPairs R (rows_of (before ++ x ∷ behind)) → AllByRecursion (λ y. R y.1 x.1) before
 before_apart R [] x behind apart = tt
 before_apart R (y ∷ before) x behind apart = (
   all_at (R y.1) (rows_of (before ++ x ∷ behind)) x.1 (pairs_head R y.1 (rows_of (before ++ x ∷ behind)) apart) (contains_map (λ z. z.1) x (before ++ x ∷ behind) (in_middle before x behind)),
@@ -280,7 +280,7 @@ found_there p [] x behind h e = rw e refl
 found_there p (y ∷ before) x behind h e = rw h.0 (found_there p before x behind h.1 e)
 
 -- two rows on one shelf are of one item
-same_item : (suites : List Suite) (key : ShelfKey) (y x : ℕ × Item) → is_on suites key y ≡ true → is_on suites key x ≡ true → is_item y.1.suite y.1.kind y.1.«package» y.1.architecture x.1 ≡ true
+same_item : (suites : List Suite) (key : ShelfKey) (y x : ℕ × ItemRow) → is_on suites key y ≡ true → is_on suites key x ≡ true → is_item y.1.suite y.1.kind y.1.«package» y.1.architecture x.1 ≡ true
 same_item suites key y x one other =
     let p = item_parts (codename_at suites key.suite) (kind_number key.kind) key.«package» key.architecture y.1 one in
     let q = item_parts (codename_at suites key.suite) (kind_number key.kind) key.«package» key.architecture x.1 other in
@@ -291,7 +291,7 @@ same_item suites key y x one other =
       at_architecture = q.at_architecture ∙ sym p.at_architecture;
     })
 
-not_before : (suites : List Suite) (key : ShelfKey) (x : ℕ × Item) (before : Numbered Item) → is_on suites key x ≡ true
+not_before : (suites : List Suite) (key : ShelfKey) (x : ℕ × ItemRow) (before : Numbered ItemRow) → is_on suites key x ≡ true
     → AllByRecursion (λ y. is_item y.1.suite y.1.kind y.1.«package» y.1.architecture x.1 ≡ false) before → AllByRecursion (λ y. is_on suites key y ≡ false) before
 not_before suites key x [] on apart = tt
 not_before suites key x (y ∷ before) on apart = (
@@ -378,7 +378,7 @@ module _ (suites : List Suite) (differ : AllPairs (λ s r. s.codename ≢ r.code
     off_before =
         not_before suites key stopped.row stopped.before on
         (before_apart (λ y x. is_item y.suite y.kind y.«package» y.architecture x ≡ false) stopped.before stopped.row stopped.behind
-        (subst (λ xs. AllPairs (λ (y x : Item). is_item y.suite y.kind y.«package» y.architecture x ≡ false) (rows_of xs)) stopped.are fit.apart))
+        (subst (λ xs. AllPairs (λ (y x : ItemRow). is_item y.suite y.kind y.«package» y.architecture x ≡ false) (rows_of xs)) stopped.are fit.apart))
 
     found : find (is_on suites key) t.items ≡ Some stopped.row
     found = ap (find (is_on suites key)) stopped.are ∙ found_there (is_on suites key) stopped.before stopped.row stopped.behind off_before on
@@ -394,7 +394,7 @@ module _ (suites : List Suite) (differ : AllPairs (λ s r. s.codename ≢ r.code
         ∙ fit.are key lt
         ∙ ap (option_and_then (λ x. option_map (shown_row suites key x.0) (get shown key))) found
         ∙ ap (option_map (shown_row suites key stopped.row.0)) there_shown) in
-        ap (λ (p : Item × List Ref). are_numbered_from 1 p.1) row ∙ for_numbered stopped.row.0 1 item.files
+        ap (λ (p : ItemRow × List Ref). are_numbered_from 1 p.1) row ∙ for_numbered stopped.row.0 1 item.files
 
     free : get stopped.shelves key ≡ None
     free =

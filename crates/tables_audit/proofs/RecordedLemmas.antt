@@ -1,5 +1,5 @@
 -- Names that are written by parts, lists that are the same, and items that are told.
-use Rattle.std.proofs.Common.{◌≡◌, ℕ, zero, suc, ◌+◌, ◌<◌, Bool, true, false, List, [], ◌∷◌, ◌++◌, map, length, take, slice_index_or, Ok, IsTrue, refl, sym, subst, ap, ap₂, ◌∙◌, append_assoc, arith, true≢false}
+use Rattle.std.proofs.Common.{◌≡◌, ℕ, zero, suc, ◌+◌, ◌<◌, Bool, true, false, List, [], ◌∷◌, ◌++◌, map, length, take, slice_index_or, Ok, IsTrue, sym, subst, ap, ap₂, ◌∙◌, append_assoc, arith, true≢false}
 use Rattle.std.specs.Prelude.{codes, ◌↔◌}
 use Rattle.std.specs.Bool.{Decides}
 use Rattle.std.specs.List.{AllByRecursion}
@@ -7,7 +7,6 @@ use Rattle.std.specs.FinMap.{entries}
 use Rattle.std.proofs.lemmas.Bool.Decides.{Decides-and}
 use Rattle.std.proofs.lemmas.List.Elements.{All-from_recursion, All-weaker, recursion_from_All}
 use Rattle.std.proofs.lemmas.Slice.Eq.{bytes_eq-Decides}
-use Rattle.vers.specs.Syntax.{without_epoch}
 use Rattle.records.specs.Records.{dsc_in, sidecar_in}
 use Rattle.records.specs.Values.{DscValue, SidecarValue}
 use Rattle.rules.specs.declared.suite.Suite.{Suite}
@@ -28,10 +27,6 @@ tail (x ∷ xs) = xs
 pub path_written : (item : Item) (name directory : List ℕ) → directory ≡ directory_of item.component item.source → directory ++ (codes "/" ++ name) ≡ path_in item name
 unfolding pool_path
 path_written item name directory e = rw e (simp append_assoc)
-
-pub deb_written : (s : SidecarValue) (name version architecture : List ℕ) → name ≡ s.name → version ≡ without_epoch s.version → architecture ≡ s.architecture
-    → name ++ (codes "_" ++ (version ++ (codes "_" ++ (architecture ++ codes ".deb")))) ≡ deb_file s
-deb_written s name version architecture named dated built = rw (named, dated, built) (simp append_assoc)
 
 -- one more that is the same
 next_same : {X : Type 0} (xs ys : List X) (n : ℕ) (d : X) → n < length xs → n < length ys → slice_index_or xs n d ≡ slice_index_or ys n d → take n xs ≡ take n ys → take (suc n) xs ≡ take (suc n) ys

@@ -15,8 +15,8 @@ use Rattle.std.proofs.lemmas.List.Sorted.{IsPermutation-map, list_any-IsPermutat
 use denote.Param.Members.{Mut}
 use denote.Ref.{Bor}
 use Rattle.keep.specs.declared.change.Judgement.{Judgement}
-use Rattle.tables_meaning.specs.Reads.{sign_order}
-use Rattle.tables_meaning.proofs.SignOrder.{sign_order_total, sign_order-IsAntisymmetric}
+use Rattle.keep.specs.Book.{judging_order}
+use Rattle.tables_meaning.proofs.SignOrder.{judging_order_total, judging_order-IsAntisymmetric}
 use Rattle.tables_meaning.proofs.WantLemmas.{is_sign-Decides}
 use Rattle.sums.specs.declared.entries.Entry.{Entry}
 use Rattle.sums.specs.Prints.{same_print}
@@ -38,20 +38,20 @@ sorted_by_key {R = R} o key {g = g} {f = f} xs up h =
 -- ---- one among many
 
 module _ (s : SignValue) where
-  it : (r : SignValue) → sign_order r s ≡ Equal → bytes_eq r.0 s.0 && same_print r.1 s.1 ≡ true
-  it r e = (is_sign-Decides s r).1 (sign_order-IsAntisymmetric r s e)
+  it : (r : SignValue) → judging_order r s ≡ Equal → bytes_eq r.0 s.0 && same_print r.1 s.1 ≡ true
+  it r e = (is_sign-Decides s r).1 (judging_order-IsAntisymmetric r s e)
 
-  not_it : (r : SignValue) → is_eq (sign_order r s) ≡ false → bytes_eq r.0 s.0 && same_print r.1 s.1 ≡ false
+  not_it : (r : SignValue) → is_eq (judging_order r s) ≡ false → bytes_eq r.0 s.0 && same_print r.1 s.1 ≡ false
   not_it r apart = go (bytes_eq r.0 s.0 && same_print r.1 s.1) refl
     where
       go : (b : Bool) → bytes_eq r.0 s.0 && same_print r.1 s.1 ≡ b → b ≡ false
       go false t = refl
       go true t =
           let same : r ≡ s = (is_sign-Decides s r).0 t in
-          let tied : is_eq (sign_order r s) ≡ true = ap (λ x. is_eq (sign_order x s)) same ∙ ap is_eq (tied_itself sign_order_total s) in
+          let tied : is_eq (judging_order r s) ≡ true = ap (λ x. is_eq (judging_order x s)) same ∙ ap is_eq (tied_itself judging_order_total s) in
           absurd (true≢false (sym tied ∙ apart))
 
-  found_at : (signs : List Sign) (i : ℕ) → i < length signs → ((d : Sign) → sign_order (sign_of (get_or signs i d)) s ≡ Equal) → has_sign (map sign_of signs) s ≡ true
+  found_at : (signs : List Sign) (i : ℕ) → i < length signs → ((d : Sign) → judging_order (sign_of (get_or signs i d)) s ≡ Equal) → has_sign (map sign_of signs) s ≡ true
   found_at [] i lt h = absurd (omega (arith, lt))
   found_at (x ∷ signs) zero lt h = ap (λ b. b || has_sign (map sign_of signs) s) (it (sign_of x) (h x))
   found_at (x ∷ signs) (suc i) lt h = either (bytes_eq x.name.now s.0 && same_print x.print s.1) (found_at signs i (omega (arith, lt)) h)
@@ -60,24 +60,24 @@ module _ (s : SignValue) where
       either true t = refl
       either false t = t
 
-  not_found : (signs : List Sign) → ((j : ℕ) (d : Sign) → j < length signs → is_eq (sign_order (sign_of (get_or signs j d)) s) ≡ false) → has_sign (map sign_of signs) s ≡ false
+  not_found : (signs : List Sign) → ((j : ℕ) (d : Sign) → j < length signs → is_eq (judging_order (sign_of (get_or signs j d)) s) ≡ false) → has_sign (map sign_of signs) s ≡ false
   not_found [] h = refl
   not_found (x ∷ signs) h =
       ap (λ b. b || has_sign (map sign_of signs) s) (not_it (sign_of x) (h 0 x (omega arith)))
       ∙ not_found signs (λ j d lt. h (suc j) d (omega (arith, lt)))
 
   -- a binary search finds it exactly if it is among these
-  pub found_among : (signs : List Sign) (r : Result ℕ ℕ) → AreInOrder signs → IsSearchInRange r (length signs) → IsBinarySearchResult (λ (x : Sign). sign_order (sign_of x) s) signs r
+  pub found_among : (signs : List Sign) (r : Result ℕ ℕ) → AreInOrder signs → IsSearchInRange r (length signs) → IsBinarySearchResult (λ (x : Sign). judging_order (sign_of x) s) signs r
       → is_ok r ≡ has_sign (map sign_of signs) s
   found_among signs (Ok i) up bound at = sym (found_at signs i bound at)
   found_among signs (Err i) up bound at =
-      let parts = at (searchable_from_sorted sign_order_total sign_of signs s up) in
+      let parts = at (searchable_from_sorted judging_order_total sign_of signs s up) in
       sym (not_found signs (λ j d lt. by_kind j d lt parts.0 parts.1 (nat_lt j i) refl))
     where
       by_kind : (j : ℕ) (d : Sign) → j < length signs
-          → ((n : ℕ) (d : Sign) → 0 ≤ n → n < i → sign_order (sign_of (get_or signs n d)) s ≡ Less)
-          → ((n : ℕ) (d : Sign) → i ≤ n → n < length signs → sign_order (sign_of (get_or signs n d)) s ≡ Greater)
-          → (b : Bool) → nat_lt j i ≡ b → is_eq (sign_order (sign_of (get_or signs j d)) s) ≡ false
+          → ((n : ℕ) (d : Sign) → 0 ≤ n → n < i → judging_order (sign_of (get_or signs n d)) s ≡ Less)
+          → ((n : ℕ) (d : Sign) → i ≤ n → n < length signs → judging_order (sign_of (get_or signs n d)) s ≡ Greater)
+          → (b : Bool) → nat_lt j i ≡ b → is_eq (judging_order (sign_of (get_or signs j d)) s) ≡ false
       by_kind j d lt before after true t = ap is_eq (before j d (omega arith) (ltb-true j i t))
       by_kind j d lt before after false t = ap is_eq (after j d (ltb-false j i t) lt)
 

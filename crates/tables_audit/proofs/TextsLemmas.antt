@@ -8,7 +8,7 @@ use Rattle.rules.specs.Values.{ConfigValue}
 use Rattle.rules.specs.declared.suite.Suite.{Suite}
 use Rattle.suites.specs.Shelves.{ShelvesValue}
 use Rattle.tables.specs.Rows.{Numbered}
-use Rattle.tables.specs.declared.rows.IndexText.{IndexText}
+use Rattle.tables.specs.declared.rows.TextRow.{TextRow}
 use Rattle.texts.specs.Indices.{PathText, folder_texts, suite_texts, texts_from}
 use Rattle.texts.specs.Positions.{release_at}
 use Rattle.texts.specs.Release.{index_of, indices_of, listed_texts, release_text}
@@ -77,7 +77,7 @@ unfolding texts_from
 none_left shelves i pairs past = ap (texts_from shelves i) (drop_all i pairs past)
 
 -- the rows are all texts where none is left
-pub none_more : {P : Type 0} (b : Bool) (left : Numbered IndexText) → b ≡ (length left == 0) → (P ↔ (texts_in left ≡ [])) → IsTrue b ↔ P
+pub none_more : {P : Type 0} (b : Bool) (left : Numbered TextRow) → b ≡ (length left == 0) → (P ↔ (texts_in left ≡ [])) → IsTrue b ↔ P
 none_more b [] e h = (λ _. h.1 refl, λ _. e)
 none_more b (x ∷ xs) e h = (λ t. absurd (omega (arith, eqb-true (suc (length xs)) 0 (sym e ∙ t))), λ p. absurd (cc (h.0 p)))
 

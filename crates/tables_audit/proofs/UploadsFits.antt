@@ -5,9 +5,9 @@ use Rattle.std.proofs.lemmas.List.Elements.{All-weaker}
 use Rattle.keep.specs.declared.change.Judgement.{Judgement}
 use Rattle.sums.specs.declared.print.Print.{Print}
 use Rattle.tables.specs.Rows.{Numbered, Tables, rows_of}
-use Rattle.tables.specs.declared.rows.Arrival.{Arrival}
-use Rattle.tables.specs.declared.rows.Body.{Body}
-use Rattle.tables.specs.declared.rows.Upload.{Upload}
+use Rattle.tables.specs.declared.rows.ArrivalRow.{ArrivalRow}
+use Rattle.tables.specs.declared.rows.BodyRow.{BodyRow}
+use Rattle.tables.specs.declared.rows.UploadRow.{UploadRow}
 use Rattle.tables.specs.declared.rows.Want.{Want}
 use Rattle.tables.specs.Uploads.{is_judged as has_place}
 use Rattle.tables_read.specs.All.{AreConstrained}
@@ -20,31 +20,31 @@ use Rattle.tables_audit.proofs.UploadsWaiting.{printed_are, waiting_from, waitin
 
 -- ---- the rows as they are lent
 
-pub asked_at : (r : Bool) (u : Numbered Upload) (w : Numbered Want) (a b : List Arrived) (p q : List Awaited) → a ≡ b → p ≡ q
+pub asked_at : (r : Bool) (u : Numbered UploadRow) (w : Numbered Want) (a b : List Arrived) (p q : List Awaited) → a ≡ b → p ≡ q
     → MatchBool r (AreAsked u w a p) (AreAsked u w a p → ⊥) → MatchBool r (AreAsked u w b q) (AreAsked u w b q → ⊥)
 asked_at r u w a b p q g h m =
     subst (λ (z : List Awaited). MatchBool r (AreAsked u w b z) (AreAsked u w b z → ⊥)) h
     (subst (λ (z : List Arrived). MatchBool r (AreAsked u w z p) (AreAsked u w z p → ⊥)) g m)
 
 -- each entry is that of an upload without a place
-abbrev pub AllOwned : Numbered Upload → Numbered Want → Type 0
+abbrev pub AllOwned : Numbered UploadRow → Numbered Want → Type 0
 AllOwned uploads wants = All (λ w. IsTrue (list_any (λ x. nat_eq x.0 w.upload && not (has_place x.1)) uploads)) (rows_of wants)
 
-pub owned_at : (r : Bool) (u v : Numbered Upload) (w x : Numbered Want) → u ≡ v → w ≡ x
+pub owned_at : (r : Bool) (u v : Numbered UploadRow) (w x : Numbered Want) → u ≡ v → w ≡ x
     → MatchBool r (AllOwned u w) (AllOwned u w → ⊥) → MatchBool r (AllOwned v x) (AllOwned v x → ⊥)
 owned_at r u v w x e f m =
     subst (λ (z : Numbered Want). MatchBool r (AllOwned v z) (AllOwned v z → ⊥)) f
-    (subst (λ (z : Numbered Upload). MatchBool r (AllOwned z w) (AllOwned z w → ⊥)) e m)
+    (subst (λ (z : Numbered UploadRow). MatchBool r (AllOwned z w) (AllOwned z w → ⊥)) e m)
 
-pub prints_at : (a b : Numbered Arrival) (p q : Numbered Body) (arrived : List Arrived) → a ≡ b → p ≡ q
+pub prints_at : (a b : Numbered ArrivalRow) (p q : Numbered BodyRow) (arrived : List Arrived) → a ≡ b → p ≡ q
     → map with_print arrived ≡ map (with_print_in p) (rows_of a) → map with_print arrived ≡ map (with_print_in q) (rows_of b)
-prints_at a b p q arrived e f h = h ∙ ap₂ (λ (y : Numbered Body) (x : Numbered Arrival). map (with_print_in y) (rows_of x)) f e
+prints_at a b p q arrived e f h = h ∙ ap₂ (λ (y : Numbered BodyRow) (x : Numbered ArrivalRow). map (with_print_in y) (rows_of x)) f e
 
-pub unprinted_at : (a b : Numbered Arrival) (p q : Numbered Body) → a ≡ b → p ≡ q
+pub unprinted_at : (a b : Numbered ArrivalRow) (p q : Numbered BodyRow) → a ≡ b → p ≡ q
     → Contains (map (λ x. print_among p x.body) (rows_of a)) None → Contains (map (λ x. print_among q x.body) (rows_of b)) None
 unprinted_at a b p q e f h =
     subst (λ (l : List (Option Print)). Contains l None)
-    (ap₂ (λ (y : Numbered Body) (x : Numbered Arrival). map (λ z. print_among y z.body) (rows_of x)) f e) h
+    (ap₂ (λ (y : Numbered BodyRow) (x : Numbered ArrivalRow). map (λ z. print_among y z.body) (rows_of x)) f e) h
 
 pub some_of : {X : Type 0} (P : X → Type 0) (o : Option X) (x : X) → o ≡ Some x → IfSome o P → P x
 some_of P o x e h = subst (λ z. IfSome z P) e h

@@ -7,51 +7,32 @@ use Rattle.std.proofs.lemmas.List.{length-map}
 use Rattle.std.proofs.lemmas.List.Elements.{All-from_recursion, recursion_from_All}
 use Rattle.std.proofs.lemmas.List.FromFn.{length-map-range_with_len}
 use Rattle.std.proofs.lemmas.Option.{slice_get-get_or, slice_get_past, slice_get_within}
-use Rattle.rules.specs.Verdicts.{number_of}
+use Rattle.rules.proofs.VerdictNumbers.{known, number_is}
+use Rattle.rules.specs.Verdicts.{verdict_numbered}
 use Rattle.rules.specs.declared.verdict.Verdict.{Verdict}
-use Rattle.rules.specs.declared.verdict.Verdict.TheVariants as verdict
 use Rattle.keep.specs.declared.change.Judgement.{Judgement}
 use Rattle.tables.specs.Rows.{Numbered, rows_of}
-use Rattle.tables.specs.declared.rows.Upload.{Upload}
+use Rattle.tables.specs.declared.rows.UploadRow.{UploadRow}
 use Rattle.tables_meaning.specs.Kept.{is_placed, judged_row}
-use Rattle.tables_audit.specs.Uploads.{all_verdicts, judged_at, judgement_in, last_of, later, verdict_numbered}
+use Rattle.tables_audit.specs.Uploads.{judged_at, judgement_in, last_of, later}
 use Rattle.tables_audit.proofs.UploadsLists.{found_passes, from_slices, none_among, none_passes, same_somes, slice_get-map, slice_get-range}
-
--- ---- verdicts and their numbers
-
-pub known : (v : Verdict) → verdict_numbered (number_of v) ≡ Some v
-unfolding verdict_numbered
-known verdict.Accepted = refl
-known verdict.Unclaimed = refl
-known verdict.ForeignArchitecture = refl
-known verdict.NotAllowed = refl
-known verdict.ForeignComponent = refl
-known verdict.BadListing = refl
-known verdict.BadDsc = refl
-known verdict.BadSidecar = refl
-known verdict.NotInPool = refl
-known verdict.OtherContents = refl
-
-pub number_is : (n : ℕ) (v : Verdict) → verdict_numbered n ≡ Some v → n ≡ number_of v
-unfolding verdict_numbered
-number_is n v e = sym ((Decides-eqb (number_of v) n).0 (found_passes (λ w. nat_eq (number_of w) n) all_verdicts v e))
 
 -- ---- a row and its judgement
 
-pub placed : (place : ℕ) (u : Upload) → is_placed place u ≡ true → u.place ≡ Some place
+pub placed : (place : ℕ) (u : UploadRow) → is_placed place u ≡ true → u.place ≡ Some place
 placed place u e = go u.place e
   where
     go : (o : Option ℕ) → option_map_or (λ p. nat_eq p place) o false ≡ true → o ≡ Some place
     go None f = absurd (true≢false (sym f))
     go (Some p) f = ap Some ((Decides-eqb p place).0 f)
 
-pub at_place : (place : ℕ) (u : Upload) → u.place ≡ Some place → is_placed place u ≡ true
+pub at_place : (place : ℕ) (u : UploadRow) → u.place ≡ Some place → is_placed place u ≡ true
 at_place place u e = subst (λ (o : Option ℕ). option_map_or (λ p. nat_eq p place) o false ≡ true) (sym e) ((Decides-eqb place place).1 refl)
 
-told : Upload → Verdict → Judgement
+told : UploadRow → Verdict → Judgement
 told u v = record { name = u.name; print = u.print; verdict = v }
 
-pub row_told : (u : Upload) (place : ℕ) (j : Judgement) → u.place ≡ Some place → judgement_in u ≡ Some j → u ≡ judged_row place j
+pub row_told : (u : UploadRow) (place : ℕ) (j : Judgement) → u.place ≡ Some place → judgement_in u ≡ Some j → u ≡ judged_row place j
 unfolding judgement_in told
 row_told u place j at e = go u.verdict refl e
   where
@@ -72,15 +53,15 @@ told_back place j = ap (option_map (λ v. record { name = j.name; print = j.prin
 
 -- ---- the judgement at a place
 
-pub row_at : (uploads : Numbered Upload) (place : ℕ) (j : Judgement) → judged_at uploads place ≡ Some j → find (is_placed place) (rows_of uploads) ≡ Some (judged_row place j)
+pub row_at : (uploads : Numbered UploadRow) (place : ℕ) (j : Judgement) → judged_at uploads place ≡ Some j → find (is_placed place) (rows_of uploads) ≡ Some (judged_row place j)
 unfolding judged_at
 row_at uploads place j e = go (find (is_placed place) (rows_of uploads)) refl e
   where
-    go : (o : Option Upload) → find (is_placed place) (rows_of uploads) ≡ o → option_and_then judgement_in o ≡ Some j → o ≡ Some (judged_row place j)
+    go : (o : Option UploadRow) → find (is_placed place) (rows_of uploads) ≡ o → option_and_then judgement_in o ≡ Some j → o ≡ Some (judged_row place j)
     go None t f = cc
     go (Some u) t f = ap Some (row_told u place j (placed place u (found_passes (is_placed place) (rows_of uploads) u t)) f)
 
-pub judged_back : (uploads : Numbered Upload) (place : ℕ) (o : Option Judgement) → find (is_placed place) (rows_of uploads) ≡ option_map (judged_row place) o → judged_at uploads place ≡ o
+pub judged_back : (uploads : Numbered UploadRow) (place : ℕ) (o : Option Judgement) → find (is_placed place) (rows_of uploads) ≡ option_map (judged_row place) o → judged_at uploads place ≡ o
 unfolding judged_at
 judged_back uploads place o e = ap (option_and_then judgement_in) e ∙ go o
   where
@@ -91,7 +72,7 @@ judged_back uploads place o e = ap (option_and_then judgement_in) e ∙ go o
 -- ---- the last place
 
 -- no place is above this one
-abbrev pub IsBound : ℕ → ℕ × Upload → Type 0
+abbrev pub IsBound : ℕ → ℕ × UploadRow → Type 0
 IsBound bound x = (n : ℕ) → x.1.place ≡ Some n → n ≤ bound
 
 later_least : (last bound : ℕ) (o : Option ℕ) → last ≤ bound → ((n : ℕ) → o ≡ Some n → n ≤ bound) → later last o ≤ bound
@@ -115,28 +96,28 @@ later_most last (Some p) = go (nat_lt last p) refl
         let most : p ≤ last = omega (arith, not_below) in
         (omega arith, λ n e. let k : p ≡ n = cc in omega arith)
 
-pub last_least : (uploads : Numbered Upload) (start bound : ℕ) → start ≤ bound → AllByRecursion (IsBound bound) uploads → fold (λ (last : ℕ) (x : ℕ × Upload). later last x.1.place) start uploads ≤ bound
+pub last_least : (uploads : Numbered UploadRow) (start bound : ℕ) → start ≤ bound → AllByRecursion (IsBound bound) uploads → fold (λ (last : ℕ) (x : ℕ × UploadRow). later last x.1.place) start uploads ≤ bound
 last_least [] start bound h all = h
 last_least (x ∷ uploads) start bound h all = last_least uploads (later start x.1.place) bound (later_least start bound x.1.place h all.0) all.1
 
-pub last_from : (uploads : Numbered Upload) (start : ℕ) → start ≤ fold (λ (last : ℕ) (x : ℕ × Upload). later last x.1.place) start uploads
+pub last_from : (uploads : Numbered UploadRow) (start : ℕ) → start ≤ fold (λ (last : ℕ) (x : ℕ × UploadRow). later last x.1.place) start uploads
 last_from [] start = omega arith
 last_from (x ∷ uploads) start = let more = last_from uploads (later start x.1.place) in let here = (later_most start x.1.place).0 in omega (arith, more, here)
 
-bound_more : (uploads : Numbered Upload) (start bound : ℕ) → fold (λ (last : ℕ) (x : ℕ × Upload). later last x.1.place) start uploads ≤ bound → AllByRecursion (IsBound bound) uploads
+bound_more : (uploads : Numbered UploadRow) (start bound : ℕ) → fold (λ (last : ℕ) (x : ℕ × UploadRow). later last x.1.place) start uploads ≤ bound → AllByRecursion (IsBound bound) uploads
 bound_more [] start bound h = tt
 bound_more (x ∷ uploads) start bound h = (
   λ n e. let here = (later_most start x.1.place).1 n e in let more = last_from uploads (later start x.1.place) in omega (arith, here, more, h),
   bound_more uploads (later start x.1.place) bound h,
 )
 
-pub last_most : (uploads : Numbered Upload) → AllByRecursion (IsBound (last_of uploads)) uploads
+pub last_most : (uploads : Numbered UploadRow) → AllByRecursion (IsBound (last_of uploads)) uploads
 last_most uploads = bound_more uploads 0 (last_of uploads) (omega arith)
 
 -- ---- all places
 
 -- a place that is above the last one is nobody's
-none_above : (bound place : ℕ) → bound < place → (xs : Numbered Upload) → AllByRecursion (IsBound bound) xs → find (is_placed place) (rows_of xs) ≡ None
+none_above : (bound place : ℕ) → bound < place → (xs : Numbered UploadRow) → AllByRecursion (IsBound bound) xs → find (is_placed place) (rows_of xs) ≡ None
 none_above bound place past [] all = refl
 none_above bound place past (x ∷ xs) all = step (is_placed place x.1) refl (none_above bound place past xs all.1)
   where
@@ -144,10 +125,10 @@ none_above bound place past (x ∷ xs) all = step (is_placed place x.1) refl (no
     step true t more = let most : place ≤ bound = all.0 place (placed place x.1 t) in absurd (omega arith)
     step false t more = more
 
-none_past : (uploads : Numbered Upload) (place : ℕ) → last_of uploads < place → find (is_placed place) (rows_of uploads) ≡ None
+none_past : (uploads : Numbered UploadRow) (place : ℕ) → last_of uploads < place → find (is_placed place) (rows_of uploads) ≡ None
 none_past uploads place past = none_above (last_of uploads) place past uploads (last_most uploads)
 
-pub places_fit : (uploads : Numbered Upload) (judged : List Judgement) → map (λ (j : Judgement). Some j) judged ≡ map (judged_at uploads) (range_with_len 1 (last_of uploads))
+pub places_fit : (uploads : Numbered UploadRow) (judged : List Judgement) → map (λ (j : Judgement). Some j) judged ≡ map (judged_at uploads) (range_with_len 1 (last_of uploads))
     → (n : ℕ) → find (is_placed (n + 1)) (rows_of uploads) ≡ option_map (judged_row (n + 1)) (slice_get judged n)
 places_fit uploads judged all n = go (nat_lt n (last_of uploads)) refl
   where
@@ -178,7 +159,7 @@ places_fit uploads judged all n = go (nat_lt n (last_of uploads)) refl
 
 -- ---- only one list of judged uploads fits
 
-module _ (uploads : Numbered Upload) (judged : List Judgement)
+module _ (uploads : Numbered UploadRow) (judged : List Judgement)
     (places : (n : ℕ) → find (is_placed (n + 1)) (rows_of uploads) ≡ option_map (judged_row (n + 1)) (slice_get judged n)) where
   at_all : (n : ℕ) → judged_at uploads (1 + n) ≡ slice_get judged n
   at_all n =
@@ -186,7 +167,7 @@ module _ (uploads : Numbered Upload) (judged : List Judgement)
       subst (λ m. judged_at uploads m ≡ slice_get judged n) next (judged_back uploads (n + 1) (slice_get judged n) (places n))
 
   -- a place that someone has is one of theirs
-  has_place : (n : ℕ) (u : Upload) → find (is_placed (n + 1)) (rows_of uploads) ≡ Some u → n < length judged
+  has_place : (n : ℕ) (u : UploadRow) → find (is_placed (n + 1)) (rows_of uploads) ≡ Some u → n < length judged
   has_place n u e = go (slice_get judged n) refl
     where
       go : (o : Option Judgement) → slice_get judged n ≡ o → n < length judged
@@ -197,10 +178,10 @@ module _ (uploads : Numbered Upload) (judged : List Judgement)
   bounded k d within zero e = omega arith
   bounded k d within (suc n) e = go (find (is_placed (n + 1)) (rows_of uploads)) refl
     where
-      u : Upload
+      u : UploadRow
       u = get_or (rows_of uploads) k d
 
-      go : (o : Option Upload) → find (is_placed (n + 1)) (rows_of uploads) ≡ o → suc n ≤ length judged
+      go : (o : Option UploadRow) → find (is_placed (n + 1)) (rows_of uploads) ≡ o → suc n ≤ length judged
       go None t =
           let no = All-from_recursion (λ v. is_placed (n + 1) v ≡ false) (rows_of uploads) (none_passes (is_placed (n + 1)) (rows_of uploads) t) k d within in
           let next : suc n ≡ n + 1 = omega arith in
@@ -213,7 +194,7 @@ module _ (uploads : Numbered Upload) (judged : List Judgement)
       let most : length judged ≤ last_of uploads = go (nat_lt (last_of uploads) (length judged)) refl in
       omega arith
     where
-      unrowed : (xs : Numbered Upload) → AllByRecursion (λ u. (m : ℕ) → u.place ≡ Some m → m ≤ length judged) (rows_of xs) → AllByRecursion (IsBound (length judged)) xs
+      unrowed : (xs : Numbered UploadRow) → AllByRecursion (λ u. (m : ℕ) → u.place ≡ Some m → m ≤ length judged) (rows_of xs) → AllByRecursion (IsBound (length judged)) xs
       unrowed [] h = tt
       unrowed (x ∷ xs) h = (h.0, unrowed xs h.1)
 

@@ -6,7 +6,7 @@ use Rattle.std.proofs.lemmas.List.{map-append, take_more}
 use Rattle.std.proofs.lemmas.List.Elements.{filter_map-append}
 use Rattle.tables.specs.Rows.{Numbered, rows_of}
 use Rattle.tables.specs.Wants.{is_wanted_by}
-use Rattle.tables.specs.declared.rows.Body.{Body}
+use Rattle.tables.specs.declared.rows.BodyRow.{BodyRow}
 use Rattle.tables.specs.declared.rows.Want.{Want}
 use Rattle.tables_audit.specs.Uploads.{Printed, Waiting, print_among, printed, want_row, wants_among}
 use Rattle.tables_audit.specs.declared.uploads.arrived.Arrived.{Arrived}
@@ -29,9 +29,9 @@ found_more h xs i x within is =
     ∙ filter_map-append h (map printed (take i xs)) (printed x ∷ [])
 
 -- the rows of a number tell the print of its body
-pub print_same : (id : ℕ) (part all : Numbered Body) → filter (λ (x : ℕ × Body). nat_eq x.0 id) part ≡ filter (λ (x : ℕ × Body). nat_eq x.0 id) all → print_among part id ≡ print_among all id
+pub print_same : (id : ℕ) (part all : Numbered BodyRow) → filter (λ (x : ℕ × BodyRow). nat_eq x.0 id) part ≡ filter (λ (x : ℕ × BodyRow). nat_eq x.0 id) all → print_among part id ≡ print_among all id
 unfolding print_among
-print_same id part all e = ap (option_and_then (λ (x : ℕ × Body). x.1.print)) (find_same (λ (x : ℕ × Body). nat_eq x.0 id) part all e)
+print_same id part all e = ap (option_and_then (λ (x : ℕ × BodyRow). x.1.print)) (find_same (λ (x : ℕ × BodyRow). nat_eq x.0 id) part all e)
 
 -- and those of an upload what it wants
 pub wants_same : (id : ℕ) (part all : Numbered Want) → filter (λ (x : ℕ × Want). nat_eq x.1.upload id) part ≡ filter (λ (x : ℕ × Want). nat_eq x.1.upload id) all → wants_among part id ≡ wants_among all id

@@ -11,12 +11,13 @@ use Rattle.records.specs.Values.{ChangesValue}
 use Rattle.sums.specs.Prints.{print as print_of}
 use Rattle.sums.specs.declared.entries.Entry.{Entry}
 use Rattle.sums.specs.declared.print.Print.{Print}
-use Rattle.keep.specs.Book.{Candidate, candidate_of, candidates, is_body_of, is_changes_name, is_judged, is_there}
+use Rattle.keep.specs.Book.{Candidate, candidate_of, candidates, is_body_of, is_judged, is_there}
+use Rattle.sums.specs.FileNames.{is_changes_name}
 use Rattle.keep.specs.declared.change.Judgement.{Judgement}
 use Rattle.tables.specs.Rows.{Numbered, Tables, rows_of}
 use Rattle.tables.specs.Uploads.{is_judged as has_place}
-use Rattle.tables.specs.declared.rows.Arrival.{Arrival}
-use Rattle.tables.specs.declared.rows.Body.{Body}
+use Rattle.tables.specs.declared.rows.ArrivalRow.{ArrivalRow}
+use Rattle.tables.specs.declared.rows.BodyRow.{BodyRow}
 use Rattle.tables_read.specs.All.{AreConstrained}
 use Rattle.tables_meaning.specs.Kept.{arrival_in, arrivals_in, bytes_of, request_in, request_of, wanted, wants_in}
 use Rattle.tables_audit.specs.Parts.{BodiesFit}
@@ -26,15 +27,15 @@ use Rattle.tables_audit.specs.declared.uploads.awaited.Awaited.{Awaited}
 
 -- ---- the prints of what arrived
 
-print_there : (P : ℕ → Print) (bodies : Numbered Body) (id : ℕ) → AllByRecursion (λ x. x.1.print ≡ Some (P x.0)) bodies → list_any (λ x. nat_eq x.0 id) bodies ≡ true
+print_there : (P : ℕ → Print) (bodies : Numbered BodyRow) (id : ℕ) → AllByRecursion (λ x. x.1.print ≡ Some (P x.0)) bodies → list_any (λ x. nat_eq x.0 id) bodies ≡ true
     → print_among bodies id ≡ Some (P id)
 unfolding print_among
 print_there P [] id all h = absurd (true≢false (sym h))
 print_there P (x ∷ bodies) id all h = go (nat_eq x.0 id) refl h (print_there P bodies id all.1)
   where
-    go : (b : Bool) → nat_eq x.0 id ≡ b → b || list_any (λ (y : ℕ × Body). nat_eq y.0 id) bodies ≡ true
-        → (list_any (λ (y : ℕ × Body). nat_eq y.0 id) bodies ≡ true → option_and_then (λ (y : ℕ × Body). y.1.print) (find (λ (y : ℕ × Body). nat_eq y.0 id) bodies) ≡ Some (P id))
-        → option_and_then (λ (y : ℕ × Body). y.1.print) (cond b (Some x) (find (λ (y : ℕ × Body). nat_eq y.0 id) bodies)) ≡ Some (P id)
+    go : (b : Bool) → nat_eq x.0 id ≡ b → b || list_any (λ (y : ℕ × BodyRow). nat_eq y.0 id) bodies ≡ true
+        → (list_any (λ (y : ℕ × BodyRow). nat_eq y.0 id) bodies ≡ true → option_and_then (λ (y : ℕ × BodyRow). y.1.print) (find (λ (y : ℕ × BodyRow). nat_eq y.0 id) bodies) ≡ Some (P id))
+        → option_and_then (λ (y : ℕ × BodyRow). y.1.print) (cond b (Some x) (find (λ (y : ℕ × BodyRow). nat_eq y.0 id) bodies)) ≡ Some (P id)
     go true t e more = all.0 ∙ ap (λ (n : ℕ). Some (P n)) ((Decides-eqb x.0 id).0 t)
     go false t e more = more e
 
@@ -54,11 +55,11 @@ each_printed t keys fit =
     whole : AllByRecursion (λ x. x.1.print ≡ Some (print_in t x.0)) t.bodies
     whole = recursion_from_All (λ x. x.1.print ≡ Some (print_in t x.0)) t.bodies fit.whole
 
-    go : (rows : List Arrival) → AllByRecursion (λ a. IsTrue (list_any (λ x. nat_eq x.0 a.body) t.bodies)) rows → AllByRecursion (λ a. print_among t.bodies a.body ≡ Some (print_in t a.body)) rows
+    go : (rows : List ArrivalRow) → AllByRecursion (λ a. IsTrue (list_any (λ x. nat_eq x.0 a.body) t.bodies)) rows → AllByRecursion (λ a. print_among t.bodies a.body ≡ Some (print_in t a.body)) rows
     go [] all = tt
     go (a ∷ rows) all = (print_there (print_in t) t.bodies a.body whole all.0, go rows all.1)
 
-prints_same : (P : ℕ → Print) (bodies : Numbered Body) (arrived : List Arrived) (rows : List Arrival) → AllByRecursion (λ a. print_among bodies a.body ≡ Some (P a.body)) rows
+prints_same : (P : ℕ → Print) (bodies : Numbered BodyRow) (arrived : List Arrived) (rows : List ArrivalRow) → AllByRecursion (λ a. print_among bodies a.body ≡ Some (P a.body)) rows
     → map with_print arrived ≡ map (with_print_in bodies) rows → map printed arrived ≡ map (λ a. (a, P a.body)) rows
 prints_same P bodies [] [] all e = refl
 prints_same P bodies [] (a ∷ rows) all e = cc
@@ -66,10 +67,10 @@ prints_same P bodies (x ∷ arrived) [] all e = cc
 prints_same P bodies (x ∷ arrived) (a ∷ rows) all e =
     let head : with_print x ≡ with_print_in bodies a = cc in
     let rest : map with_print arrived ≡ map (with_print_in bodies) rows = cc in
-    let one : x.arrival.now ≡ a = ap (λ (r : Arrival × Option Print). r.0) head in
-    let some : Some x.print ≡ Some (P a.body) = ap (λ (r : Arrival × Option Print). r.1) head ∙ all.0 in
+    let one : x.arrival.now ≡ a = ap (λ (r : ArrivalRow × Option Print). r.0) head in
+    let some : Some x.print ≡ Some (P a.body) = ap (λ (r : ArrivalRow × Option Print). r.1) head ∙ all.0 in
     let two : x.print ≡ P a.body = cc in
-    ap₂ ◌∷◌ (ap₂ (λ (b : Arrival) (p : Print). (b, p)) one two) (prints_same P bodies arrived rows all.1 rest)
+    ap₂ ◌∷◌ (ap₂ (λ (b : ArrivalRow) (p : Print). (b, p)) one two) (prints_same P bodies arrived rows all.1 rest)
 
 pub printed_are : (t : Tables) (arrived : List Arrived) → AreConstrained t → BodiesFit t → map with_print arrived ≡ map (with_print_in t.bodies) (rows_of t.arrivals) → map printed arrived ≡ arrivals_printed t
 printed_are t arrived keys fit e = prints_same (print_in t) t.bodies arrived (rows_of t.arrivals) (each_printed t keys fit) e
@@ -80,7 +81,7 @@ none_unprinted t keys fit has =
     (All-from_recursion (λ (o : Option Print). o ≡ None → ⊥) (map (λ a. print_among t.bodies a.body) (rows_of t.arrivals)) (go (rows_of t.arrivals) (each_printed t keys fit)))
     has refl
   where
-    go : (rows : List Arrival) → AllByRecursion (λ a. print_among t.bodies a.body ≡ Some (print_in t a.body)) rows → AllByRecursion (λ (o : Option Print). o ≡ None → ⊥) (map (λ a. print_among t.bodies a.body) rows)
+    go : (rows : List ArrivalRow) → AllByRecursion (λ a. print_among t.bodies a.body ≡ Some (print_in t a.body)) rows → AllByRecursion (λ (o : Option Print). o ≡ None → ⊥) (map (λ a. print_among t.bodies a.body) rows)
     go [] all = tt
     go (a ∷ rows) all = (λ e. let k : Some (print_in t a.body) ≡ None = sym all.0 ∙ e in cc, go rows all.1)
 
@@ -93,29 +94,29 @@ any-map p f (x ∷ xs) = ap (λ b. p (f x) || b) (any-map p f xs)
 there_same : (t : Tables) (e : Entry) → is_there_among (arrivals_printed t) e ≡ is_there (arrivals_in t) e
 unfolding is_there is_body_of arrivals_in
 there_same t e =
-    any-map (is_listed_as e) (λ (a : Arrival). (a, print_in t a.body)) (rows_of t.arrivals)
+    any-map (is_listed_as e) (λ (a : ArrivalRow). (a, print_in t a.body)) (rows_of t.arrivals)
     ∙ sym (any-map (is_body_of e) (arrival_in t) (rows_of t.arrivals))
 
 -- ---- what waits
 
 module _ (t : Tables) (judged : List Judgement) where
-  candidate_at : Arrival → ChangesValue → Candidate
+  candidate_at : ArrivalRow → ChangesValue → Candidate
   candidate_at a c = record { name = a.name; body = bytes_of t a.body; changes = c }
 
   waits : Candidate → Bool
   waits c = not (is_judged judged c)
 
-  verdict_same : (a : Arrival) (c : ChangesValue) → is_judged judged (candidate_at a c) ≡ has_judgement judged (a, print_in t a.body)
+  verdict_same : (a : ArrivalRow) (c : ChangesValue) → is_judged judged (candidate_at a c) ≡ has_judgement judged (a, print_in t a.body)
   unfolding is_judged candidate_at
   verdict_same a c = refl
 
-  request_same : (a : Arrival) (c : ChangesValue) → request_among (arrivals_printed t) ((a, print_in t a.body), c) ≡ request_of (arrivals_in t) (candidate_at a c)
+  request_same : (a : ArrivalRow) (c : ChangesValue) → request_among (arrivals_printed t) ((a, print_in t a.body), c) ≡ request_of (arrivals_in t) (candidate_at a c)
   unfolding candidate_at
   request_same a c =
       ap (λ (ws : List (List ℕ × Print × Bool)). ((a.name, print_in t a.body), ws))
       (map_same (wanted_among (arrivals_printed t)) (wanted (arrivals_in t)) (λ e. ap (λ (b : Bool). (e.name, e.print, b)) (there_same t e)) c.entries)
 
-  step : (a : Arrival) (left : List Waiting) (right : List Candidate) (named : Bool) (record_there : Option ChangesValue) (has : Bool) → has_judgement judged (a, print_in t a.body) ≡ has
+  step : (a : ArrivalRow) (left : List Waiting) (right : List Candidate) (named : Bool) (record_there : Option ChangesValue) (has : Bool) → has_judgement judged (a, print_in t a.body) ≡ has
       → map (request_among (arrivals_printed t)) left ≡ map (request_of (arrivals_in t)) (filter waits right)
       → map (request_among (arrivals_printed t)) (cons_option (option_map (λ c. ((a, print_in t a.body), c)) (if named then (if has then None else record_there) else None)) left)
       ≡ map (request_of (arrivals_in t)) (filter waits (cons_option (if named then option_map (candidate_at a) record_there else None) right))
@@ -129,7 +130,7 @@ module _ (t : Tables) (judged : List Judgement) where
       ap₂ ◌∷◌ (request_same a c) more
       ∙ sym (ap (λ (b : Bool). map (request_of (arrivals_in t)) (cond (not b) (candidate_at a c ∷ filter waits right) (filter waits right))) (verdict_same a c ∙ e))
 
-  among_rows : (rows : List Arrival) → map (request_among (arrivals_printed t)) (filter_map (found_awaited t.pieces judged) (map (λ a. (a, print_in t a.body)) rows))
+  among_rows : (rows : List ArrivalRow) → map (request_among (arrivals_printed t)) (filter_map (found_awaited t.pieces judged) (map (λ a. (a, print_in t a.body)) rows))
       ≡ map (request_of (arrivals_in t)) (filter waits (filter_map candidate_of (map (arrival_in t) rows)))
   unfolding changes_awaited candidate_of candidate_at bytes_of
   among_rows [] = refl

@@ -11,7 +11,7 @@ use Rattle.tables.specs.Rows.{Tables, rows_of}
 use Rattle.tables.specs.declared.rows.Meta.{Meta}
 use Rattle.tables.specs.declared.meta.TheConstants.{VERSION}
 use Rattle.tables_read.specs.All.{AreConstrained}
-use Rattle.tables_meaning.specs.Kept.{AreFiles, AreItems, AreReadable, AreSigned, AreUploads, IsKept, date_row, has_body}
+use Rattle.tables_meaning.specs.Kept.{AreFiles, AreItems, AreReadable, AreSigned, AreUploads, IsBook, date_row, has_body}
 use Rattle.tables_meaning.specs.OneBook.{first_same, one_configuration, same_dates, same_judged, same_shown}
 use Rattle.tables_audit.specs.Whole.{KeepsNone, RestFits, ShownFits}
 use Rattle.tables_audit.specs.Parts.{ArrivalsFit, BodiesFit, UploadsFit}
@@ -56,7 +56,7 @@ fit_uploads t judged keys fit = record {
 
 pub whole : (t : Tables) (config : ConfigValue) (judged : List Judgement) (shown : ShelvesValue) (dates : List ℕ) → AreConstrained t
     → rows_of t.meta ≡ record { version = VERSION; configuration = config.text } ∷ [] → config_in config.text ≡ Ok config → BodiesFit t → ArrivalsFit t → RestFits t config judged shown dates
-    → IsKept t config judged shown dates
+    → IsBook t config judged shown dates
 unfolding has_body
 whole t config judged shown dates keys meta read bodies arrivals rest = record {
   meta = meta;
@@ -83,7 +83,7 @@ whole t config judged shown dates keys meta read bodies arrivals rest = record {
 
 -- ---- and back
 
-module _ (t : Tables) (config : ConfigValue) (judged : List Judgement) (shown : ShelvesValue) (dates : List ℕ) (h : IsKept t config judged shown dates) where
+module _ (t : Tables) (config : ConfigValue) (judged : List Judgement) (shown : ShelvesValue) (dates : List ℕ) (h : IsBook t config judged shown dates) where
   pub bodies_fit : BodiesFit t
   bodies_fit = record { whole = h.bodies.whole; pieces = h.bodies.pieces; used = h.bodies.used }
 

@@ -5,8 +5,8 @@ use Rattle.std.specs.List.Sorted.{IsNonDecreasing, IsNonDecreasingBy, IsPermutat
 use Rattle.sums.specs.Prints.{print as print_of}
 use Rattle.sums.specs.declared.print.Print.{Print}
 use Rattle.tables.specs.Rows.{Numbered, Tables, rows_of}
-use Rattle.tables.specs.declared.rows.Arrival.{Arrival}
-use Rattle.tables.specs.declared.rows.Body.{Body}
+use Rattle.tables.specs.declared.rows.ArrivalRow.{ArrivalRow}
+use Rattle.tables.specs.declared.rows.BodyRow.{BodyRow}
 use Rattle.tables.specs.declared.rows.File.{File}
 use Rattle.tables.specs.declared.rows.Piece.{Piece}
 use Rattle.tables_meaning.specs.Kept.{bytes_of, is_used, piece_size, pieces_for, pieces_of}
@@ -16,7 +16,7 @@ abbrev pub AreByBody : Numbered Piece → Type 0
 AreByBody = IsNonDecreasingBy (λ x. x.1.body)
 
 -- The numbers are those of the bodies of arrivals and of files, in rising order.
-pub record AreUsed (arrivals : Numbered Arrival) (files : Numbered File) (numbers : List ℕ) : Type 0 where
+pub record AreUsed (arrivals : Numbered ArrivalRow) (files : Numbered File) (numbers : List ℕ) : Type 0 where
   pub rise : IsNonDecreasing numbers
   pub are : IsPermutation (map (λ a. a.body) (rows_of arrivals) ++ map (λ f. f.body) (rows_of files)) numbers
 
@@ -37,7 +37,7 @@ pub record ArePieces (id : ℕ) (print : Print) (ps : List Piece) : Type 0 where
   pub pieces : ps ≡ pieces_for id (bytes_in ps)
 
 -- The body of this row is whole, in pieces, with the print of its bytes, and has arrived under some name or is that of a file.
-pub record IsBodyFit (t : Tables) (x : ℕ × Body) : Type 0 where
+pub record IsBodyFit (t : Tables) (x : ℕ × BodyRow) : Type 0 where
   pub whole : x.1.print ≡ Some (print_of (bytes_of t x.0))
   pub pieces : pieces_of t x.0 ≡ pieces_for x.0 (bytes_of t x.0)
   pub used : IsTrue (is_used t x.0)
@@ -53,5 +53,5 @@ abbrev pub AreInPieces : ℕ → List Piece → Type 0
 AreInPieces id ps = ps ≡ pieces_for id (bytes_in ps)
 
 -- where the body of this row is not whole, its pieces are as those of a whole one
-abbrev pub IsInPieces : Tables → ℕ × Body → Type 0
+abbrev pub IsInPieces : Tables → ℕ × BodyRow → Type 0
 IsInPieces t x = x.1.print ≡ None → pieces_of t x.0 ≡ pieces_for x.0 (bytes_of t x.0)

@@ -1,21 +1,17 @@
 -- What rows of files say beside a pool.
-use Rattle.std.specs.Prelude.{◌≡◌, ◌≢◌, ℕ, nat_eq, Bool, List, All, find, Option, None, IsTrue}
+use Rattle.std.specs.Prelude.{◌≡◌, ◌≢◌, ℕ, Bool, List, All, None, IsTrue}
 use Rattle.std.specs.List.{list_any}
-use Rattle.std.specs.Option.{option_and_then}
 use Rattle.std.specs.FinMap.{get}
 use Rattle.sums.specs.declared.print.Print.{Print}
 use Rattle.suites.specs.Pool.{PoolWith}
 use Rattle.tables.specs.Files.{is_file_at}
 use Rattle.tables.specs.Rows.{Numbered, rows_of}
-use Rattle.tables.specs.declared.rows.Body.{Body}
+use Rattle.tables.specs.declared.rows.BodyRow.{BodyRow}
 use Rattle.tables.specs.declared.rows.File.{File}
-
--- the print of the body of a number
-abbrev pub print_in : Numbered Body → ℕ → Option Print
-print_in bodies id = option_and_then (λ x. x.1.print) (find (λ x. nat_eq x.0 id) bodies)
+use Rattle.tables_meaning.specs.Kept.{print_in}
 
 -- The body of the file has the print that the pool has at the file's path.
-abbrev pub HasPrint : PoolWith Print → Numbered Body → ℕ × File → Type 0
+abbrev pub HasPrint : PoolWith Print → Numbered BodyRow → ℕ × File → Type 0
 HasPrint pool bodies f = print_in bodies f.1.body ≡ get pool f.1.path
 
 -- some file stands at the path
@@ -23,6 +19,6 @@ abbrev pub is_path : Numbered File → List ℕ → Bool
 is_path files path = list_any (is_file_at path) (rows_of files)
 
 -- The files are those of the pool.
-pub record AreThose (pool : PoolWith Print) (bodies : Numbered Body) (files : Numbered File) : Type 0 where
+pub record AreThose (pool : PoolWith Print) (bodies : Numbered BodyRow) (files : Numbered File) : Type 0 where
   pub prints : All (HasPrint pool bodies) files
   pub there : (path : List ℕ) → get pool path ≢ None → IsTrue (is_path files path)

@@ -1,4 +1,4 @@
--- The parts of `IsKept`, each as far as the keys of the tables leave it open.
+-- The parts of `IsBook`, each as far as the keys of the tables leave it open.
 use Rattle.std.specs.Prelude.{◌≡◌, ◌≢◌, ◌≤◌, ℕ, ◌+◌, not, nat_eq, ◌&&◌, All, List, map, filter, find, None, Some, slice_get, option_map, IsTrue}
 use Rattle.std.specs.List.{list_any}
 use Rattle.sums.specs.Prints.{print as print_of}

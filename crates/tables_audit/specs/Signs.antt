@@ -5,7 +5,7 @@ use Rattle.std.specs.List.Sorted.{IsSortedByKey}
 use Rattle.std.specs.Ordering.{nat_cmp, ordering_then}
 use Rattle.std.specs.declared.cmp.Ordering.{Ordering}
 use Rattle.keep.specs.declared.change.Judgement.{Judgement}
-use Rattle.tables_meaning.specs.Reads.{sign_order}
+use Rattle.keep.specs.Book.{judging_order}
 use Rattle.sums.specs.declared.entries.Entry.{Entry}
 use Rattle.sums.specs.declared.print.Print.{Print}
 use Rattle.sums.specs.Prints.{same_print}
@@ -40,7 +40,7 @@ print_order a b =
 
 -- they stand in the order of judging
 abbrev pub AreInOrder : List Sign → Type 0
-AreInOrder = IsSortedByKey sign_of sign_order
+AreInOrder = IsSortedByKey sign_of judging_order
 
 -- one of these is this
 abbrev pub has_sign : List SignValue → SignValue → Bool

@@ -1,53 +1,43 @@
 -- The words of the functions on uploads.
-use Rattle.std.specs.Prelude.{◌≡◌, ◌≢◌, ℕ, nat_eq, nat_lt, Bool, ◌&&◌, not, if◌then◌else◌, List, [], ◌∷◌, map, filter, find, fold, bytes_eq, All, IsTrue, Option, Some, None, option_map}
+use Rattle.std.specs.Prelude.{◌≡◌, ◌≢◌, ℕ, nat_eq, nat_lt, Bool, ◌&&◌, not, if◌then◌else◌, List, map, filter, find, fold, bytes_eq, All, IsTrue, Option, Some, None, option_map}
 use Rattle.std.specs.List.{list_any, flat_map}
 use Rattle.std.specs.Option.{option_and_then}
 use Rattle.std.specs.Result.{result_ok}
 use Rattle.records.specs.Records.{changes_in}
 use Rattle.records.specs.Values.{ChangesValue}
-use Rattle.rules.specs.Verdicts.{number_of}
-use Rattle.rules.specs.declared.verdict.Verdict.{Verdict}
-use Rattle.rules.specs.declared.verdict.Verdict.TheVariants as verdict
+use Rattle.rules.specs.Verdicts.{verdict_numbered}
 use Rattle.sums.specs.declared.entries.Entry.{Entry}
 use Rattle.sums.specs.declared.print.Print.{Print}
 use Rattle.sums.specs.Prints.{same_print}
-use Rattle.keep.specs.Book.{candidates, is_changes_name, is_judged}
+use Rattle.keep.specs.Book.{candidates, is_judged}
+use Rattle.sums.specs.FileNames.{is_changes_name}
 use Rattle.keep.specs.declared.change.Judgement.{Judgement}
 use Rattle.tables.specs.Pieces.{is_of}
 use Rattle.tables.specs.Rows.{Numbered, Tables, rows_of}
 use Rattle.tables.specs.Uploads.{is_judged as has_place}
 use Rattle.tables.specs.Wants.{is_wanted_by}
-use Rattle.tables.specs.declared.rows.Arrival.{Arrival}
-use Rattle.tables.specs.declared.rows.Body.{Body}
+use Rattle.tables.specs.declared.rows.ArrivalRow.{ArrivalRow}
+use Rattle.tables.specs.declared.rows.BodyRow.{BodyRow}
 use Rattle.tables.specs.declared.rows.Piece.{Piece}
-use Rattle.tables.specs.declared.rows.Upload.{Upload}
+use Rattle.tables.specs.declared.rows.UploadRow.{UploadRow}
 use Rattle.tables.specs.declared.rows.Want.{Want}
-use Rattle.tables_meaning.specs.Kept.{arrivals_in, is_placed, request_in, request_of}
+use Rattle.tables_meaning.specs.Kept.{Request, arrivals_in, is_placed, request_in, request_of}
 use Rattle.tables_audit.specs.declared.uploads.arrived.Arrived.{Arrived}
 use Rattle.tables_audit.specs.declared.uploads.awaited.Awaited.{Awaited}
 
 -- ---- judged uploads
 
 -- an upload without a place has no verdict, and none has the place 0
-pub record IsPlacedWell (u : Upload) : Type 0 where
+pub record IsPlacedWell (u : UploadRow) : Type 0 where
   pub unjudged : u.place ≡ None → u.verdict ≡ None
   pub from_one : u.place ≢ Some 0
 
-abbrev pub all_verdicts : List Verdict
-all_verdicts =
-    verdict.Accepted ∷ verdict.Unclaimed ∷ verdict.ForeignArchitecture ∷ verdict.NotAllowed ∷ verdict.ForeignComponent
-    ∷ verdict.BadListing ∷ verdict.BadDsc ∷ verdict.BadSidecar ∷ verdict.NotInPool ∷ verdict.OtherContents ∷ []
-
--- the verdict with a number
-unfoldable pub verdict_numbered : ℕ → Option Verdict
-verdict_numbered n = find (λ v. nat_eq (number_of v) n) all_verdicts
-
 -- the judgement that a row tells
-unfoldable pub judgement_in : Upload → Option Judgement
+unfoldable pub judgement_in : UploadRow → Option Judgement
 judgement_in u = option_map (λ v. record { name = u.name; print = u.print; verdict = v }) (option_and_then verdict_numbered u.verdict)
 
 -- the judgement at a place
-unfoldable pub judged_at : Numbered Upload → ℕ → Option Judgement
+unfoldable pub judged_at : Numbered UploadRow → ℕ → Option Judgement
 judged_at uploads place = option_and_then judgement_in (find (is_placed place) (rows_of uploads))
 
 -- the later of a place and the one that an upload has
@@ -56,27 +46,27 @@ later last None = last
 later last (Some place) = if nat_lt last place then place else last
 
 -- the last place that an upload has
-abbrev pub last_of : Numbered Upload → ℕ
+abbrev pub last_of : Numbered UploadRow → ℕ
 last_of uploads = fold (λ last x. later last x.1.place) 0 uploads
 
 -- ---- what has arrived
 
 -- an arrival, and the print of its body
 abbrev pub Printed : Type 0
-Printed = Arrival × Print
+Printed = ArrivalRow × Print
 
 abbrev pub printed : Arrived → Printed
 printed a = (a.arrival.now, a.print)
 
 -- the print of the body of a number
-unfoldable pub print_among : Numbered Body → ℕ → Option Print
+unfoldable pub print_among : Numbered BodyRow → ℕ → Option Print
 print_among bodies id = option_and_then (λ x. x.1.print) (find (λ x. nat_eq x.0 id) bodies)
 
 -- an arrival, with the print of its body where that has one
-abbrev pub with_print : Arrived → Arrival × Option Print
+abbrev pub with_print : Arrived → ArrivalRow × Option Print
 with_print a = (a.arrival.now, Some a.print)
 
-abbrev pub with_print_in : Numbered Body → Arrival → Arrival × Option Print
+abbrev pub with_print_in : Numbered BodyRow → ArrivalRow → ArrivalRow × Option Print
 with_print_in bodies a = (a, print_among bodies a.body)
 
 -- the arrival has the listed name and print
@@ -116,10 +106,6 @@ found_awaited pieces judged p = option_map (λ c. (p, c)) (changes_awaited piece
 
 -- ---- what they want
 
--- an upload's name and print, and its entries, each with whether it is there
-abbrev pub Request : Type 0
-Request = (List ℕ × Print) × List (List ℕ × Print × Bool)
-
 abbrev pub want_row : Want → List ℕ × Print × Bool
 want_row w = (w.name, w.print, w.here)
 
@@ -129,14 +115,14 @@ wanted_among arrived e = (e.name, e.print, is_there_among arrived e)
 abbrev pub wants_among : Numbered Want → ℕ → List (List ℕ × Print × Bool)
 wants_among wants id = map want_row (filter (is_wanted_by id) (rows_of wants))
 
-abbrev pub request_row : Numbered Want → ℕ × Upload → Request
+abbrev pub request_row : Numbered Want → ℕ × UploadRow → Request
 request_row wants x = ((x.1.name, x.1.print), wants_among wants x.0)
 
 abbrev pub request_among : List Printed → Waiting → Request
 request_among arrived w = ((w.0.0.name, w.0.1), map (wanted_among arrived) w.1.entries)
 
 -- The rows without a place are those of the .changes that wait, in their order, with what they want.
-abbrev pub AreAsked : Numbered Upload → Numbered Want → List Arrived → List Awaited → Type 0
+abbrev pub AreAsked : Numbered UploadRow → Numbered Want → List Arrived → List Awaited → Type 0
 AreAsked uploads wants arrived awaited = map (request_row wants) (filter (λ x. not (has_place x.1)) uploads) ≡ map (request_among (map printed arrived)) (map awaited_view awaited)
 
 -- Beside these judged ones, the uploads are the .changes that wait for a verdict, with the entries that each lists.

@@ -7,7 +7,7 @@ use Rattle.texts.specs.Indices.{all_texts}
 use Rattle.keep.specs.declared.change.Judgement.{Judgement}
 use Rattle.keep.specs.Book.{latest}
 use Rattle.tables.specs.Rows.{Tables, rows_of}
-use Rattle.tables_meaning.specs.Kept.{AreFiles, AreItems, AreSigned, IsKept, date_row}
+use Rattle.tables_meaning.specs.Kept.{AreFiles, AreItems, AreSigned, IsBook, date_row}
 use Rattle.tables_audit.specs.Parts.{UploadsFit}
 
 -- the items, the files and the texts are those of what is shown, which is as its records tell it
@@ -29,8 +29,8 @@ pub record RestFits (t : Tables) (config : ConfigValue) (judged : List Judgement
 
 -- the rows are those of an archive of this configuration, with these judged uploads and these dates, whatever it shows
 abbrev pub KeepsSome : Tables → ConfigValue → List Judgement → List ℕ → Type 0
-KeepsSome t config judged dates = ∥ ((shown : ShelvesValue) × IsKept t config judged shown dates) ∥₁
+KeepsSome t config judged dates = ∥ ((shown : ShelvesValue) × IsBook t config judged shown dates) ∥₁
 
 -- the rows are those of no archive
 abbrev pub KeepsNone : Tables → Type 0
-KeepsNone t = (config : ConfigValue) (judged : List Judgement) (shown : ShelvesValue) (dates : List ℕ) → IsKept t config judged shown dates → ⊥
+KeepsNone t = (config : ConfigValue) (judged : List Judgement) (shown : ShelvesValue) (dates : List ℕ) → IsBook t config judged shown dates → ⊥

@@ -1,7 +1,7 @@
 //! What has arrived: whether each arrival is one that may be kept.
 
 ghost use Rattle.std.specs.Prelude.{◌≡◌, ◌↔◌, ◌≤◌, All, true, Ok, IsTrue, IfOk, length};
-ghost use Rattle.keep.specs.Book.{is_changes_name};
+ghost use Rattle.sums.specs.FileNames.{is_changes_name};
 ghost use Rattle.keep.specs.Keeping.{IsDeliverable};
 ghost use Rattle.records.specs.Records.{changes_in};
 ghost use Rattle.records.specs.Values.{ChangesValue};
@@ -15,20 +15,9 @@ use crate::pieces::Pieces;
 use keep::LATEST;
 use records::{Changes, RecordFault};
 use std::alloc::{AllocError, Global};
-use sums::is_file_name;
-use tables::rows::Arrival;
+use sums::{MOST_SIZE, is_changes_name, is_file_name};
+use tables::rows::ArrivalRow;
 use tables_read::AllRows;
-
-/// The most bytes of an arrival.
-const MOST_BYTES: usize = 4_194_304;
-
-/// Whether this is the name of a .changes.
-#[tactic(auto, unfolding(keep::specs::Book::is_changes_name))]
-pub fn is_changes_name(name: &str) -> bool
-    ensures { result ≡ is_changes_name name.now }
-{
-    name.as_bytes().ends_with(b".changes")
-}
 
 /// Whether a text is the record of an upload.
 fn is_record(alloc: Global, text: &[u8]) -> Result<bool, AllocError>
@@ -45,7 +34,7 @@ fn is_record(alloc: Global, text: &[u8]) -> Result<bool, AllocError>
 fn is_small(pieces: &Pieces<'_>, id: u64) -> bool
     ensures { IsTrue result ↔ (length (bytes_of (tables_with pieces.now.all.now) id) ≤ 4194304) }
 {
-    size_of(pieces, id) <= MOST_BYTES
+    size_of(pieces, id) as u64 <= MOST_SIZE
 }
 
 /// Whether a body is the record of an upload, where the name is that of a .changes.
@@ -88,7 +77,7 @@ fn is_deliverable(
 fn is_arrival_deliverable(
     alloc: Global,
     pieces: &Pieces<'_>,
-    arrival: &Arrival,
+    arrival: &ArrivalRow,
 ) -> Result<bool, AllocError>
     ensures { IfOk result (λ may. IsTrue may ↔ IsArrivalFit (tables_with pieces.now.all.now) arrival.now) }
 {
@@ -102,7 +91,7 @@ fn is_arrival_deliverable(
 fn are_deliverable(
     alloc: Global,
     pieces: &Pieces<'_>,
-    rows: &[(u64, Arrival)],
+    rows: &[(u64, ArrivalRow)],
 ) -> Result<bool, AllocError>
     ensures { IfOk result (λ may. IsTrue may ↔ All (λ x. IsArrivalFit (tables_with pieces.now.all.now) x.1) rows.now) }
 {

@@ -1,4 +1,7 @@
 //! Whether all that suites show is as its records tell it.
+//!
+//! Items have to be as their records tell them: that is part of what the rows of an archive are. So a change has to keep it (`told` of
+//! `IsSound`), and an opening reads each paragraph as a .dsc or a sidecar again.
 
 mod binary;
 mod paths;
@@ -32,9 +35,7 @@ fn is_kept(suites: &[Suite], key: &ShelfKey, item: &Item) -> bool
     let Some(suite) = suites.get(key.suite) else {
         return false;
     };
-    let keeps_component = suite.keeps_component(item.component.as_str());
-    let keeps_architecture = suite.keeps_architecture(item.architecture.as_str());
-    keeps_component && keeps_architecture
+    suite.keeps(item.component.as_str(), item.architecture.as_str())
 }
 
 /// Whether an item is as its paragraph tells it, on a shelf of a suite that keeps it.

@@ -1,4 +1,6 @@
 //! The bodies of an archive and their pieces.
+//!
+//! A body has to be an arrival's, or that of a file of the pool.
 
 ghost use Rattle.std.specs.Prelude.{◌≡◌, ◌↔◌, ◌≤◌, All, filter, length, map, min, nat_eq, IsTrue, IfOk};
 ghost use Rattle.std.specs.List.{list_any};
@@ -11,13 +13,11 @@ ghost use Rattle.tables_audit.specs.Bodies.{ArePieces, AreUsed, IsBodyFit, IsNex
 ghost use Rattle.tables_audit.specs.Parts.{BodiesFit};
 
 use crate::pieces::Pieces;
+use keep::PIECE_SIZE;
 use std::alloc::{AllocError, Global};
 use sums::{Print, Printer};
-use tables::rows::{Arrival, Body, File, Piece};
+use tables::rows::{ArrivalRow, BodyRow, File, Piece};
 use tables_read::AllRows;
-
-/// The most bytes that a piece has.
-pub const PIECE_SIZE: u64 = 65536;
 
 /// How many bytes the pieces of a body have, or the most that can be counted.
 fn count_of_bytes(pieces: &[(u64, Piece)], id: u64) -> usize
@@ -69,11 +69,11 @@ fn is_next(piece: &Piece, size: u64, whole: u64) -> bool
     if size == whole {
         return false;
     }
-    if piece.number != size / PIECE_SIZE + 1 {
+    if piece.number != size / PIECE_SIZE as u64 + 1 {
         return false;
     }
     let left = whole - size;
-    piece.bytes.as_slice().len() as u64 == left.min(PIECE_SIZE)
+    piece.bytes.as_slice().len() as u64 == left.min(PIECE_SIZE as u64)
 }
 
 /// Whether the pieces of a body among these rows are those of its bytes, and this is the print of these bytes. They are
@@ -97,7 +97,7 @@ fn are_pieces_of(pieces: &[(u64, Piece)], id: u64, print: &Print) -> bool
 }
 
 /// The numbers of the bodies of the arrivals.
-fn bodies_of(alloc: Global, arrivals: &[(u64, Arrival)]) -> Result<Vec<u64>, AllocError>
+fn bodies_of(alloc: Global, arrivals: &[(u64, ArrivalRow)]) -> Result<Vec<u64>, AllocError>
     ensures { IfOk result (λ numbers. numbers.items ≡ map (λ a. a.body) (rows_of arrivals.now)) }
 {
     let mut numbers = Vec::new(alloc);
@@ -121,7 +121,7 @@ fn bodies_of_files(alloc: Global, files: &[(u64, File)]) -> Result<Vec<u64>, All
 /// The numbers of the bodies of arrivals and of files, in rising order.
 fn used_in(
     alloc: Global,
-    arrivals: &[(u64, Arrival)],
+    arrivals: &[(u64, ArrivalRow)],
     files: &[(u64, File)],
 ) -> Result<Vec<u64>, AllocError>
     ensures { IfOk result (λ numbers. AreUsed arrivals.now files.now numbers.items) }
@@ -146,7 +146,7 @@ fn is_body_whole(
     alloc: Global,
     pieces: &Pieces<'_>,
     used: &[u64],
-    row: &(u64, Body),
+    row: &(u64, BodyRow),
 ) -> Result<bool, AllocError>
     requires { AreUsed pieces.now.all.now.arrivals.items pieces.now.all.now.files.items used.now }
     ensures { IfOk result (λ fits. IsTrue fits ↔ IsBodyFit (tables_with pieces.now.all.now) row.now) }
@@ -165,7 +165,7 @@ fn are_whole(
     alloc: Global,
     pieces: &Pieces<'_>,
     used: &[u64],
-    rows: &[(u64, Body)],
+    rows: &[(u64, BodyRow)],
 ) -> Result<bool, AllocError>
     requires { AreUsed pieces.now.all.now.arrivals.items pieces.now.all.now.files.items used.now }
     ensures { IfOk result (λ fit. IsTrue fit ↔ All (IsBodyFit (tables_with pieces.now.all.now)) rows.now) }

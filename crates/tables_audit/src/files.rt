@@ -4,19 +4,19 @@ ghost use Rattle.std.specs.Prelude.{◌≡◌, ◌↔◌, ℕ, List, All, IfOk, 
 ghost use Rattle.std.specs.BTreeMap.{get_by_text};
 ghost use Rattle.suites.specs.Shelves.{pool as pool_of};
 ghost use Rattle.tables_read.specs.All.{AreConstrained, tables_with};
-ghost use Rattle.tables_meaning.specs.Kept.{AreFiles};
-ghost use Rattle.tables_audit.specs.Files.{AreThose, HasPrint, is_path, print_in};
+ghost use Rattle.tables_meaning.specs.Kept.{AreFiles, print_in};
+ghost use Rattle.tables_audit.specs.Files.{AreThose, HasPrint, is_path};
 
 use crate::keyed::Rows;
 use std::alloc::{AllocError, Global};
 use std::collections::BTreeMap;
 use suites::{SharedFile, Shelves};
 use sums::Print;
-use tables::rows::{Body, File};
+use tables::rows::{BodyRow, File};
 use tables_read::AllRows;
 
 /// The print of the body of a number, where there is one and it is whole.
-fn print_of(bodies: &[(u64, Body)], id: u64) -> Option<Print>
+fn print_of(bodies: &[(u64, BodyRow)], id: u64) -> Option<Print>
     ensures { result ≡ print_in bodies.now id }
 {
     for (number, body) in bodies {
@@ -28,7 +28,7 @@ fn print_of(bodies: &[(u64, Body)], id: u64) -> Option<Print>
 }
 
 /// The print of the body of a number, looked up among all bodies.
-fn print_by_number(bodies: &Rows<'_, (u64, Body)>, id: u64) -> Option<Print>
+fn print_by_number(bodies: &Rows<'_, (u64, BodyRow)>, id: u64) -> Option<Print>
     ensures { result ≡ print_in bodies.now.all.now id }
 {
     print_of(bodies.about(id), id)
@@ -46,7 +46,7 @@ fn are_same(one: Option<Print>, other: Option<Print>) -> bool
 }
 
 /// Whether the body of each file has the print that the pool has at the file's path.
-fn have_prints(shelves: &Shelves, bodies: &Rows<'_, (u64, Body)>, files: &[(u64, File)]) -> bool
+fn have_prints(shelves: &Shelves, bodies: &Rows<'_, (u64, BodyRow)>, files: &[(u64, File)]) -> bool
     ensures { IsTrue result ↔ All (HasPrint (pool_of shelves.now) bodies.now.all.now) files.now }
 {
     for (_, file) in files {
@@ -89,7 +89,7 @@ fn has_each(paths: &BTreeMap<String, u64>, pool: &BTreeMap<String, SharedFile>) 
 fn are_those(
     alloc: Global,
     shelves: &Shelves,
-    bodies: &Rows<'_, (u64, Body)>,
+    bodies: &Rows<'_, (u64, BodyRow)>,
     files: &[(u64, File)],
 ) -> Result<bool, AllocError>
     ensures { IfOk result (λ those. IsTrue those ↔ AreThose (pool_of shelves.now) bodies.now.all.now files.now) }

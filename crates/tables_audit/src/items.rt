@@ -8,20 +8,20 @@ ghost use Rattle.tables_meaning.specs.Shown.{MayStand, PutsRow};
 ghost use Rattle.tables_audit.specs.Items.{AreShown, AreStopped, Joins, MayJoin, are_numbered_from, refs_at};
 
 use crate::keyed::Rows;
+use crate::shelves::put_row;
 use para::Listed;
 use rules::{Config, Suite};
-use crate::shelves::put_row;
 use sqlite::{Error, ErrorCode};
 use std::alloc::{AllocError, Global};
 use suites::Shelves;
-use tables::rows::{Item, Ref};
+use tables::rows::{ItemRow, Ref};
 use tables_read::AllRows;
 
 /// A copy of the row of an item.
-fn copied_item(alloc: Global, row: &Item) -> Result<Item, AllocError>
+fn copied_item(alloc: Global, row: &ItemRow) -> Result<ItemRow, AllocError>
     ensures { IfOk result (λ copy. copy ≡ row.now) }
 {
-    Ok(Item {
+    Ok(ItemRow {
         suite: row.suite.try_clone()?,
         kind: row.kind,
         package: row.package.try_clone()?,
@@ -86,7 +86,7 @@ fn put_files(
     alloc: Global,
     shelves: &mut Shelves,
     suites: &[Suite],
-    row: &Item,
+    row: &ItemRow,
     refs: Vec<Ref>,
 ) -> Result<bool, AllocError>
     ensures yes { IfOk result (λ stands. IsTrue stands →
@@ -108,7 +108,7 @@ fn put(
     shelves: &mut Shelves,
     suites: &[Suite],
     id: u64,
-    row: &Item,
+    row: &ItemRow,
     refs: &Rows<'_, (u64, Ref)>,
 ) -> Result<bool, AllocError>
     ensures yes { IfOk result (λ joins. IsTrue joins →
@@ -126,7 +126,7 @@ fn put(
 fn shelves_of(
     alloc: Global,
     suites: &[Suite],
-    items: &[(u64, Item)],
+    items: &[(u64, ItemRow)],
     refs: &Rows<'_, (u64, Ref)>,
 ) -> Result<Option<Shelves>, AllocError>
     ensures some { IfOk result (λ o. IfSome o (AreShown suites.now refs.now.all.now items.now)) }

@@ -4,7 +4,7 @@ ghost use Rattle.std.specs.Prelude.{◌≡◌, ◌↔◌, ◌<◌, ◌≤◌, �
 ghost use Rattle.std.specs.List.Sorted.{IsNonDecreasingBy, IsPartitionPoint};
 ghost use Rattle.tables_audit.specs.Lookups.{rise_from, with_key};
 
-use tables::rows::{Body, Piece, Ref, Upload, Want};
+use tables::rows::{BodyRow, Piece, Ref, UploadRow, Want};
 
 /// A row that is looked up by a number.
 pub trait Keyed {
@@ -16,7 +16,7 @@ pub trait Keyed {
 }
 
 /// A body is looked up by its own number.
-impl Keyed for (u64, Body) {
+impl Keyed for (u64, BodyRow) {
     ghost key_of = { λ x. x.0 };
 
     fn key(&self) -> u64 {
@@ -43,7 +43,7 @@ impl Keyed for (u64, Ref) {
 }
 
 /// An upload is looked up by its own number.
-impl Keyed for (u64, Upload) {
+impl Keyed for (u64, UploadRow) {
     ghost key_of = { λ x. x.0 };
 
     fn key(&self) -> u64 {

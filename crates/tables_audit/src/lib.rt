@@ -1,5 +1,16 @@
-//! Says whether all rows of the tables are those of an archive, one module for each part of it, and puts rows of items on the shelves
-//! of suites.
+//! Says whether a database has the tables of an archive, and whether all rows of these are those of one, one module for each part of
+//! it; and puts rows of items on the shelves of suites.
+//!
+//! What keys keep is not tested here, since the library checks each key of a file that it opens. The rest is: types beyond STRICT (no
+//! number below zero), and all that the rows mean.
+//!
+//! Uploads without a verdict are in the order of their arrival, what each wants in that of its entries, pieces and the files of an item by
+//! their numbers, and rows of `texts` and `dates` in the order of the configuration. An archive's tables in another order are not taken for
+//! one. So what was tested is a list, and not one of its permutations, and each read answers that list. VACUUM and a dump keep these
+//! orders.
+//!
+//! All rows are in memory while they are tested, bodies with their bytes among them: each once, since rows are typed as the query gives
+//! them, and one body more, beside what the library holds.
 #![tactic(auto)]
 
 mod arrivals;
@@ -11,6 +22,7 @@ mod items;
 mod keyed;
 mod meta;
 mod pieces;
+mod schema;
 mod shelves;
 mod signed;
 mod text_rows;
@@ -18,6 +30,7 @@ mod under_way;
 mod uploads;
 mod whole;
 
+pub use schema::is_archive_schema;
 pub use shelves::put_row;
 pub use under_way::are_under_way;
 pub use uploads::judgements_in;

@@ -6,40 +6,16 @@ ghost use Rattle.std.specs.Str.{IsUtf8};
 ghost use Rattle.suites.specs.Items.{standing};
 ghost use Rattle.suites.specs.Shelves.{pool};
 ghost use Rattle.tables_meaning.specs.Kept.{IsReadable};
-ghost use Rattle.tables_meaning.specs.Shown.{IsPut, MayBePut, MayStand, PutsRow, clash, file_in, is_taken as is_taken_in, item_with as item_of_row, kind_numbered as kind_of_number, may_not_join as may_not_join_pool, suite_named as suite_of_name};
+ghost use Rattle.tables_meaning.specs.Shown.{IsPut, MayBePut, MayStand, PutsRow, clash, file_in, is_taken as is_taken_in, item_with as item_of_row, may_not_join as may_not_join_pool};
 ghost use Rattle.vers.specs.Syntax.{IsVersion};
 
 use para::{Listed, Text};
-use rules::Suite;
+use rules::{Suite, position_of_named};
 use sqlite::{Error, ErrorCode};
 use std::alloc::{AllocError, Global};
 use suites::{Item, Kind, PoolFile, Shelves};
-use tables::rows::{Item as ItemRow, Ref};
+use tables::rows::{ItemRow, Ref};
 use vers::{Version, VersionFault};
-
-/// The position of the suite with a codename.
-#[tactic(auto, unfolding(tables_meaning::specs::Shown::suite_named))]
-fn suite_named(suites: &[Suite], codename: &str) -> Option<usize>
-    ensures { result ≡ suite_of_name suites.now codename.now }
-{
-    suites
-        .iter()
-        .position(|suite| suite.codename.as_str() == codename)
-}
-
-/// The kind with a number.
-#[tactic(auto, unfolding(tables_meaning::specs::Shown::kind_numbered))]
-fn kind_numbered(number: u64) -> Option<Kind>
-    ensures { result ≡ kind_of_number number }
-{
-    if number == 0 {
-        return Some(Kind::Source);
-    }
-    if number == 1 {
-        return Some(Kind::Binary);
-    }
-    None
-}
 
 /// What a version that may not be read is answered.
 fn error_of(fault: VersionFault) -> Error
@@ -195,10 +171,10 @@ pub fn put_row(
     ensures readable { OnOk result (IsReadable row) }
     ensures refused { IfErr result (λ e. (e ≡ Error.SqliteFailure ErrorCode.OutOfMemory) ⊎ (¬ MayStand suites.now row refs.items shelves.old)) }
 {
-    let Some(suite) = suite_named(suites, row.suite.as_str()) else {
+    let Some(suite) = position_of_named(suites, row.suite.as_str()) else {
         return Err(Error::SqliteFailure(ErrorCode::DatabaseCorrupt));
     };
-    let Some(kind) = kind_numbered(row.kind) else {
+    let Some(kind) = Kind::with_number(row.kind) else {
         return Err(Error::SqliteFailure(ErrorCode::DatabaseCorrupt));
     };
     let item = item_with(alloc, kind, row, refs)?;

@@ -1,15 +1,15 @@
 //! Whether the judged uploads may have been delivered.
+//!
+//! A judged upload may be there without an arrival of its .changes, since cleanings take arrivals away. Its row then has the name of a
+//! .changes that may be delivered, and at most 1,048,576 bytes.
 
 ghost use Rattle.std.specs.Prelude.{◌≡◌, ◌↔◌, IsTrue, length};
 ghost use Rattle.tables.specs.Real.{IsRealPrint};
 ghost use Rattle.tables_meaning.specs.Kept.{AreSigned, IsSigned};
 
-use crate::arrivals::is_changes_name;
 use keep::Judgement;
-use sums::{Print, is_file_name};
-
-/// The most bytes of a .changes.
-const MOST_CHANGES: u64 = 1_048_576;
+use records::MOST_CHANGES;
+use sums::{Print, is_changes_name, is_file_name};
 
 /// So many bytes have their length. For the prover alone: the law is the contract.
 fn has_length<const N: usize>(bytes: &[u8; N])
@@ -34,7 +34,7 @@ fn is_signed(judgement: &Judgement) -> bool
     // For the prover alone: the digests have their lengths.
     has_lengths(&judgement.print);
     let name = judgement.name.as_str();
-    is_changes_name(name) && is_file_name(name) && judgement.print.size <= MOST_CHANGES
+    is_changes_name(name) && is_file_name(name) && judgement.print.size <= MOST_CHANGES as u64
 }
 
 /// Whether each of the judged uploads may have been delivered.

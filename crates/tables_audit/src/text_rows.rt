@@ -1,11 +1,11 @@
 //! Whether the rows of `texts` are the texts of the suites.
 
-ghost use Rattle.std.specs.Prelude.{◌≡◌, ◌≢◌, ◌≤◌, ◌<◌, ◌↔◌, ◌∷◌, ◌++◌, List, All, None, length, map, codes, string_bytes, IsTrue, IfOk, IfSome, OnOk};
+ghost use Rattle.std.specs.Prelude.{◌≡◌, ◌≢◌, ◌≤◌, ◌<◌, ◌↔◌, ◌∷◌, ◌++◌, List, All, None, length, map, codes, IsTrue, IfOk, IfSome, OnOk};
 ghost use Rattle.tables_meaning.specs.Founding.{from_root, suite_texts_at};
 ghost use Rattle.tables_audit.specs.TextRows.{text_in, texts_in};
 ghost use Rattle.tables.specs.Rows.{rows_of};
 ghost use Rattle.tables_read.specs.All.{tables_with};
-ghost use Rattle.texts.specs.Indices.{PathText, all_texts, suite_path};
+ghost use Rattle.texts.specs.Indices.{PathText, all_texts};
 ghost use Rattle.texts.specs.Positions.{release_at};
 ghost use Rattle.texts.specs.Release.{index_of, listed_entry, listed_texts};
 
@@ -15,9 +15,9 @@ use rules::{Config, Suite};
 use std::alloc::{AllocError, Global};
 use suites::Shelves;
 use sums::print_of;
-use tables::rows::IndexText;
+use tables::rows::TextRow;
 use tables_read::AllRows;
-use texts::{Index, index_path, listed_text, release};
+use texts::{Index, index_path, listed_text, path_in, release};
 
 /// The index of a component and an architecture, of the suite at the position.
 fn listed_entry(
@@ -26,12 +26,12 @@ fn listed_entry(
     position: usize,
     component: &str,
     architecture: &str,
-) -> Result<IndexText, AllocError>
+) -> Result<TextRow, AllocError>
     ensures { IfOk result (λ x. text_in x ≡ listed_entry shelves.now position component.now architecture.now) }
 {
     let path = index_path(alloc, component, architecture)?;
     let body = listed_text(alloc, shelves, position, component, architecture)?;
-    Ok(IndexText {
+    Ok(TextRow {
         path: Text::from_string(path),
         body: Listed::from_vec(body),
     })
@@ -44,7 +44,7 @@ fn push_component(
     position: usize,
     component: &str,
     architectures: &[Text],
-    entries: &mut Vec<IndexText>,
+    entries: &mut Vec<TextRow>,
 ) -> Result<(), AllocError>
     ensures { OnOk result (map text_in entries.new.items
         ≡ map text_in entries.old.items ++ map (listed_entry shelves.now position component.now) architectures.now) }
@@ -62,7 +62,7 @@ fn listed_entries(
     shelves: &Shelves,
     position: usize,
     suite: &Suite,
-) -> Result<Vec<IndexText>, AllocError>
+) -> Result<Vec<TextRow>, AllocError>
     ensures { IfOk result (λ entries. map text_in entries.items ≡ listed_texts suite.now shelves.now position) }
 {
     let architectures = suite.architectures.as_slice();
@@ -81,7 +81,7 @@ fn listed_entries(
 }
 
 /// What Release lists of an index.
-fn index_of(entry: &IndexText) -> Result<Index, AllocError>
+fn index_of(entry: &TextRow) -> Result<Index, AllocError>
     ensures { IfOk result (λ index. index ≡ index_of (text_in entry.now)) }
 {
     Ok(Index {
@@ -91,7 +91,7 @@ fn index_of(entry: &IndexText) -> Result<Index, AllocError>
 }
 
 /// What Release lists of indices.
-fn indices_of(alloc: Global, entries: &[IndexText]) -> Result<Vec<Index>, AllocError>
+fn indices_of(alloc: Global, entries: &[TextRow]) -> Result<Vec<Index>, AllocError>
     ensures { IfOk result (λ indices. indices.items ≡ map index_of (map text_in entries.now)) }
 {
     let mut indices = Vec::new(alloc);
@@ -107,8 +107,8 @@ fn release_over(
     config: &Config,
     position: usize,
     moment: u64,
-    entries: &[IndexText],
-) -> Result<IndexText, AllocError>
+    entries: &[TextRow],
+) -> Result<TextRow, AllocError>
     requires suite { position < length config.now.suites }
     requires moment { moment ≤ LATEST }
     ensures { IfOk result (λ x. text_in x
@@ -117,43 +117,35 @@ fn release_over(
     let indices = indices_of(alloc, entries)?;
     let mut text = Vec::new(alloc);
     release(alloc, config, position, moment, &indices, &mut text)?;
-    Ok(IndexText {
+    Ok(TextRow {
         path: Text::new(alloc, "Release")?,
         body: Listed::from_vec(text),
     })
 }
 
-/// The whole path of a text in the folder of the suite.
-fn path_in(alloc: Global, suite: &Suite, path: &str) -> Result<String, AllocError>
-    ensures { IfOk result (λ whole. string_bytes whole ≡ suite_path suite.now path.now) }
-{
-    let codename = suite.codename.as_str();
-    format!(in alloc; "dists/{codename}/{path}")
-}
-
 /// Whether a row has a text of the folder of the suite, at its whole path.
 fn is_row_of(
     alloc: Global,
-    row: &IndexText,
+    row: &TextRow,
     suite: &Suite,
-    text: &IndexText,
+    text: &TextRow,
 ) -> Result<bool, AllocError>
     ensures { IfOk result (λ b. IsTrue b ↔ (text_in row.now ≡ from_root suite.now (text_in text.now))) }
 {
     if row.body.as_slice() != text.body.as_slice() {
         return Ok(false);
     }
-    let path = path_in(alloc, suite, text.path.as_str())?;
+    let path = path_in(alloc, suite.codename.as_str(), text.path.as_str())?;
     Ok(row.path.as_str() == path.as_str())
 }
 
 /// The rows behind the first, if that has a text of the folder of the suite.
 fn behind<'a>(
     alloc: Global,
-    rows: &'a [(u64, IndexText)],
+    rows: &'a [(u64, TextRow)],
     suite: &Suite,
-    text: &IndexText,
-) -> Result<Option<&'a [(u64, IndexText)]>, AllocError>
+    text: &TextRow,
+) -> Result<Option<&'a [(u64, TextRow)]>, AllocError>
     ensures some { IfOk result (λ o. IfSome o (λ rest.
         texts_in rows.now ≡ from_root suite.now (text_in text.now) ∷ texts_in rest.now)) }
     ensures none { IfOk result (λ o. o ≡ None
@@ -171,10 +163,10 @@ fn behind<'a>(
 /// The rows behind the first ones, if those have these texts of the folder of the suite.
 fn behind_all<'a>(
     alloc: Global,
-    rows: &'a [(u64, IndexText)],
+    rows: &'a [(u64, TextRow)],
     suite: &Suite,
-    texts: &[IndexText],
-) -> Result<Option<&'a [(u64, IndexText)]>, AllocError>
+    texts: &[TextRow],
+) -> Result<Option<&'a [(u64, TextRow)]>, AllocError>
     ensures some { IfOk result (λ o. IfSome o (λ rest.
         texts_in rows.now ≡ map (from_root suite.now) (map text_in texts.now) ++ texts_in rest.now)) }
     ensures none { IfOk result (λ o. o ≡ None
@@ -194,12 +186,12 @@ fn behind_all<'a>(
 /// at the moment: Release, and then the others. No text is made twice.
 fn behind_suite<'a>(
     alloc: Global,
-    rows: &'a [(u64, IndexText)],
+    rows: &'a [(u64, TextRow)],
     config: &Config,
     shelves: &Shelves,
     position: usize,
     moment: u64,
-) -> Result<Option<&'a [(u64, IndexText)]>, AllocError>
+) -> Result<Option<&'a [(u64, TextRow)]>, AllocError>
     requires suite { position < length config.now.suites }
     requires moment { moment ≤ LATEST }
     ensures some { IfOk result (λ o. IfSome o (λ rest.
@@ -220,7 +212,7 @@ fn behind_suite<'a>(
 /// suite, in the order of their making.
 fn are_texts(
     alloc: Global,
-    rows: &[(u64, IndexText)],
+    rows: &[(u64, TextRow)],
     config: &Config,
     shelves: &Shelves,
     dates: &[u64],

@@ -1,4 +1,8 @@
 //! The pieces of the bodies that are not whole.
+//!
+//! A body without a print is one whose delivery was cut short. An opening takes it away with its pieces, but only once the rest has passed
+//! as an archive. If an arrival or a file of the pool names it, or its pieces are not those of a body, numbered from 1 and of 65,536 bytes
+//! but the last, the database is no archive.
 
 ghost use Rattle.std.specs.Prelude.{◌↔◌, ◌<◌, All, filter, IsTrue};
 ghost use Rattle.tables.specs.Pieces.{is_of};
@@ -7,9 +11,9 @@ ghost use Rattle.tables_read.specs.All.{tables_with};
 ghost use Rattle.tables_meaning.specs.Finished.{AreUnderWay};
 ghost use Rattle.tables_audit.specs.Bodies.{AreInPieces, IsBehind, IsInPieces};
 
-use crate::bodies::PIECE_SIZE;
 use crate::pieces::Pieces;
-use tables::rows::{Body, Piece};
+use keep::PIECE_SIZE;
+use tables::rows::{BodyRow, Piece};
 use tables_read::AllRows;
 
 /// Whether the piece may be the next one of a body, behind so many full ones.
@@ -21,7 +25,7 @@ fn is_behind(piece: &Piece, count: u64) -> bool
         return false;
     }
     let size = piece.bytes.as_slice().len() as u64;
-    size != 0 && size <= PIECE_SIZE
+    size != 0 && size <= PIECE_SIZE as u64
 }
 
 /// Whether the pieces of a body among these rows are those of its bytes: numbered from 1, each full but the last. They are read one
@@ -40,14 +44,14 @@ fn are_in_pieces(pieces: &[(u64, Piece)], id: u64) -> bool
                 return false;
             }
             count += 1;
-            is_full = row.1.bytes.as_slice().len() as u64 == PIECE_SIZE;
+            is_full = row.1.bytes.as_slice().len() as u64 == PIECE_SIZE as u64;
         }
     }
     true
 }
 
 /// Whether a body is whole, or its pieces are as those of a whole one.
-fn is_in_pieces(pieces: &Pieces<'_>, row: &(u64, Body)) -> bool
+fn is_in_pieces(pieces: &Pieces<'_>, row: &(u64, BodyRow)) -> bool
     ensures { IsTrue result ↔ IsInPieces (tables_with pieces.now.all.now) row.now }
 {
     if row.1.print.is_some() {
@@ -57,7 +61,7 @@ fn is_in_pieces(pieces: &Pieces<'_>, row: &(u64, Body)) -> bool
 }
 
 /// Whether each of these bodies is whole, or its pieces are as those of a whole one.
-fn are_all_in_pieces(pieces: &Pieces<'_>, rows: &[(u64, Body)]) -> bool
+fn are_all_in_pieces(pieces: &Pieces<'_>, rows: &[(u64, BodyRow)]) -> bool
     ensures { IsTrue result ↔ All (IsInPieces (tables_with pieces.now.all.now)) rows.now }
 {
     for row in rows {

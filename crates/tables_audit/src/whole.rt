@@ -4,11 +4,12 @@ ghost use Rattle.std.specs.Prelude.{◌≡◌, ◌≤◌, ◌↔◌, ℕ, List, 
 ghost use Rattle.suites.specs.Shelves.{ShelvesValue};
 ghost use Rattle.keep.specs.declared.change.Judgement.{Judgement as JudgementValue};
 ghost use Rattle.tables_read.specs.All.{AreConstrained, tables_with};
-ghost use Rattle.tables_meaning.specs.Kept.{AreReadable, IsKept};
+ghost use Rattle.tables_meaning.specs.Kept.{AreReadable, IsBook};
 ghost use Rattle.tables_audit.specs.Parts.{ArrivalsFit, BodiesFit};
 ghost use Rattle.tables_audit.specs.Whole.{KeepsNone, RestFits, ShownFits};
 
 use crate::arrivals::are_arrivals_deliverable;
+use crate::as_recorded::are_told;
 use crate::bodies::are_bodies_whole;
 use crate::dates::dates_in;
 use crate::files::are_files_of;
@@ -22,7 +23,6 @@ use rules::Config;
 use std::alloc::{AllocError, Global};
 use suites::Shelves;
 use tables_read::AllRows;
-use crate::as_recorded::are_told;
 
 /// What a keeper holds beside the tables: the configuration, the judged uploads in order, for each suite the moment at which
 /// what it shows last changed, and what the suites show.
@@ -100,7 +100,7 @@ fn held_of(alloc: Global, all: &AllRows, config: Config) -> Result<Option<Held>,
 
 /// What a keeper holds of an archive with these rows, where they are those of one.
 pub fn archive_in(alloc: Global, all: &AllRows) -> Result<Option<Held>, AllocError>
-    ensures some { AreConstrained (tables_with all.now) → IfOk result (λ o. IfSome o (λ held. IsKept (tables_with all.now) held.config held.judged.items held.shelves held.dates.items)) }
+    ensures some { AreConstrained (tables_with all.now) → IfOk result (λ o. IfSome o (λ held. IsBook (tables_with all.now) held.config held.judged.items held.shelves held.dates.items)) }
     ensures none { AreConstrained (tables_with all.now) → IfOk result (λ o. o ≡ None → AreReadable (tables_with all.now) → KeepsNone (tables_with all.now)) }
 {
     let Some(config) = config_in(alloc, all)? else {

@@ -5,14 +5,13 @@ use Rattle.std.specs.List.{AllByRecursion, list_any}
 use Rattle.std.specs.List.Sorted.{IsBinarySearchResult, IsNonDecreasing, IsPermutation}
 use Rattle.std.specs.Ordering.{nat_cmp}
 use Rattle.std.proofs.lemmas.Bool.{and_right, cases_lt, eq-eqb, eqb-true, ne_eqb, or_left, or_right}
-use Rattle.std.proofs.lemmas.Bool.Decides.{nat_tests}
 use Rattle.std.proofs.lemmas.List.{get_or_default}
 use Rattle.std.proofs.lemmas.List.Folds.{list_any_at, list_any_none}
 use Rattle.std.proofs.lemmas.List.Sorted.{list_any-IsPermutation, searched}
 use Rattle.sqlite_keyed.proofs.ListLemmas.{all_weaker, filter-map}
 use Rattle.tables.specs.Pieces.{is_of}
 use Rattle.tables.specs.Rows.{Numbered, Tables, without}
-use Rattle.tables.specs.declared.rows.Body.{Body}
+use Rattle.tables.specs.declared.rows.BodyRow.{BodyRow}
 use Rattle.tables.specs.declared.rows.Piece.{Piece}
 use Rattle.tables_bodies.specs.Unused.{unused_in}
 use Rattle.tables_bodies.proofs.RemovedLemmas.{removed_each, taken_out}
@@ -20,6 +19,8 @@ use Rattle.tables_meaning.specs.Finished.{without_all}
 use Rattle.tables_meaning.specs.Kept.{is_used, used_in}
 use Rattle.tables_meaning.specs.Sweeping.{swept}
 use Rattle.tables_meaning.proofs.Searches.{any_same, filter_same_on, list_any-filter, list_any-map}
+use Rattle.tables_meaning.proofs.SweptFinished.{and_true}
+use Rattle.tables_meaning.proofs.FinishedLemmas.{itself}
 
 -- ---- numbers in rising order
 
@@ -44,15 +45,8 @@ pub unused_are : (t : Tables) (used : List ℕ) → IsPermutation (used_in t) us
     → filter (λ id. not (list_any (λ n. nat_eq n id) used)) (map (λ x. x.0) t.bodies) ≡ unused_in t
 unfolding is_used
 unused_are t used same =
-    filter-map (λ id. not (list_any (λ n. nat_eq n id) used)) (λ (x : ℕ × Body). x.0) t.bodies
-    ∙ (λ i. map (λ (x : ℕ × Body). x.0) (filter (λ (x : ℕ × Body). not (sym (list_any-IsPermutation (λ n. nat_eq n x.0) (used_in t) used same) i)) t.bodies))
-
-itself : (a : ℕ) → nat_eq a a ≡ true
-itself a = grind (arith, nat_tests)
-
-and_true : (b : Bool) → (b && true) ≡ b
-and_true true = refl
-and_true false = refl
+    filter-map (λ id. not (list_any (λ n. nat_eq n id) used)) (λ (x : ℕ × BodyRow). x.0) t.bodies
+    ∙ (λ i. map (λ (x : ℕ × BodyRow). x.0) (filter (λ (x : ℕ × BodyRow). not (sym (list_any-IsPermutation (λ n. nat_eq n x.0) (used_in t) used same) i)) t.bodies))
 
 -- a test of a number beside one that it is another
 at_number : (r : ℕ → Bool) (id n : ℕ) → (r n && nat_eq id n) ≡ (r id && nat_eq id n)
@@ -68,7 +62,7 @@ factored false p [] = refl
 factored false p (x ∷ xs) = factored false p xs
 
 -- each number is that of a body
-each_there : (xs : Numbered Body) → AllByRecursion (λ x. list_any (λ y. nat_eq x.0 y.0) xs ≡ true) xs
+each_there : (xs : Numbered BodyRow) → AllByRecursion (λ x. list_any (λ y. nat_eq x.0 y.0) xs ≡ true) xs
 each_there [] = tt
 each_there (x ∷ xs) = (
   or_left (nat_eq x.0 x.0) (list_any (λ y. nat_eq x.0 y.0) xs) (itself x.0),
@@ -77,9 +71,9 @@ each_there (x ∷ xs) = (
 )
 
 -- a number is among those of the bodies that pass a test on it
-among_passing : (r : ℕ → Bool) (id : ℕ) (xs : Numbered Body) → list_any (λ n. nat_eq id n) (map (λ x. x.0) (filter (λ x. r x.0) xs)) ≡ (r id && list_any (λ x. nat_eq id x.0) xs)
+among_passing : (r : ℕ → Bool) (id : ℕ) (xs : Numbered BodyRow) → list_any (λ n. nat_eq id n) (map (λ x. x.0) (filter (λ x. r x.0) xs)) ≡ (r id && list_any (λ x. nat_eq id x.0) xs)
 among_passing r id xs =
-    list_any-map (λ n. nat_eq id n) (λ (x : ℕ × Body). x.0) (filter (λ x. r x.0) xs)
+    list_any-map (λ n. nat_eq id n) (λ (x : ℕ × BodyRow). x.0) (filter (λ x. r x.0) xs)
     ∙ list_any-filter (λ x. nat_eq id x.0) (λ x. r x.0) xs
     ∙ any_same (λ x. r x.0 && nat_eq id x.0) (λ x. r id && nat_eq id x.0) (λ x. at_number r id x.0) xs
     ∙ factored (r id) (λ x. nat_eq id x.0) xs
@@ -95,12 +89,12 @@ module _ (t : Tables) where
 
   bodies_left : fold (λ rest n. without (λ x. nat_eq x.0 n) rest) t.bodies (unused_in t) ≡ without (λ x. unused x.0) t.bodies
   bodies_left =
-      taken_out (λ n (x : ℕ × Body). nat_eq x.0 n) (unused_in t) t.bodies
+      taken_out (λ n (x : ℕ × BodyRow). nat_eq x.0 n) (unused_in t) t.bodies
       ∙ filter_same_on (λ x. not (list_any (λ n. nat_eq x.0 n) (unused_in t))) (λ x. not (unused x.0)) t.bodies named
 
   owned : (p : Piece) → list_any (λ n. is_of n p) (unused_in t) ≡ list_any (λ x. unused x.0 && is_of x.0 p) t.bodies
   owned p =
-      list_any-map (λ n. is_of n p) (λ (x : ℕ × Body). x.0) (filter (λ x. unused x.0) t.bodies)
+      list_any-map (λ n. is_of n p) (λ (x : ℕ × BodyRow). x.0) (filter (λ x. unused x.0) t.bodies)
       ∙ list_any-filter (λ x. is_of x.0 p) (λ x. unused x.0) t.bodies
 
   pieces_left : fold (λ rest n. without (λ x. is_of n x.1) rest) t.pieces (unused_in t) ≡ without (λ p. list_any (λ x. unused x.0 && is_of x.0 p.1) t.bodies) t.pieces

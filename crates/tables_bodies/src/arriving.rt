@@ -1,13 +1,12 @@
 //! What has arrived: a body under a name, and what a .changes lists.
 
-ghost use Rattle.std.specs.Prelude.{◌≡◌, false, not, option_map, IsTrue, IfOk, OnOk, OnErr};
-ghost use Rattle.sqlite.specs.State.{HasCleanDisk, KeepsCommit, Survives};
-ghost use Rattle.sqlite.specs.Held.{state};
-ghost use Rattle.tables.specs.Rows.{Tables, Holds, Changes, with_want};
+ghost use Rattle.std.specs.Prelude.{◌≡◌, false, not, option_map, IsTrue, OnOk};
+ghost use Rattle.tables.specs.Rows.{Changes, with_want};
 ghost use Rattle.tables.specs.Wants.{with_here};
 ghost use Rattle.tables_bodies.specs.Counting.{arrival_counts};
 ghost use Rattle.tables_meaning.specs.Coming.{with_received};
 ghost use Rattle.tables_meaning.specs.Making.{is_here, with_arrived, with_requested, with_wants};
+ghost use Rattle.tables.specs.Calls.{CommitsNothing, Inside, IsSame, KeepsCommitted, Writes, WritesAnd};
 
 use crate::cleaning::counts;
 use sqlite::{Alter, Error, Transaction};
@@ -38,13 +37,10 @@ fn store_arrival<S: Alter>(
     span: Option<u64>,
     moment: u64,
 ) -> Result<bool, Error>
-    ensures same_reference { tx.new.conn.ghost_name ≡ tx.old.conn.ghost_name }
-    ensures ok { HasCleanDisk (state S.Store tx.new.conn.now) → IsTrue (state S.Store tx.old.conn.now).in_transaction
-        → IfOk result (λ new. Changes (state S.Store tx.old.conn.now) (state S.Store tx.new.conn.now) (with_arrived name.now body moment)
-        × ((t : Tables) → Holds (state S.Store tx.old.conn.now).now t → new ≡ not (arrival_counts span moment name.now body t))) }
-    ensures err { HasCleanDisk (state S.Store tx.new.conn.now) → IsTrue (state S.Store tx.old.conn.now).in_transaction
-        → OnErr result (KeepsCommit (state S.Store tx.old.conn.now) (state S.Store tx.new.conn.now)) }
-    ensures survives { Survives (state S.Store tx.old.conn.now) (state S.Store tx.new.conn.now) (λ _. ⊥) }
+    ensures same_reference { IsSame tx.old tx.new }
+    ensures ok { WritesAnd S.Store tx.old tx.new result (with_arrived name.now body moment) (λ new t. new ≡ not (arrival_counts span moment name.now body t)) }
+    ensures err { KeepsCommitted S.Store tx.old tx.new result }
+    ensures survives { CommitsNothing S.Store tx.old tx.new }
 {
     match arrival_of(alloc, tx, name, body)? {
         None => {
@@ -68,13 +64,10 @@ pub(crate) fn is_entry_here<S: Alter>(
     tx: &mut Transaction<'_, S>,
     entry: &Entry,
 ) -> Result<bool, Error>
-    ensures same_reference { tx.new.conn.ghost_name ≡ tx.old.conn.ghost_name }
-    ensures ok { HasCleanDisk (state S.Store tx.new.conn.now) → IsTrue (state S.Store tx.old.conn.now).in_transaction
-        → IfOk result (λ here. Changes (state S.Store tx.old.conn.now) (state S.Store tx.new.conn.now) (λ t. t)
-        × ((t : Tables) → Holds (state S.Store tx.old.conn.now).now t → here ≡ is_here t entry.now)) }
-    ensures err { HasCleanDisk (state S.Store tx.new.conn.now) → IsTrue (state S.Store tx.old.conn.now).in_transaction
-        → OnErr result (KeepsCommit (state S.Store tx.old.conn.now) (state S.Store tx.new.conn.now)) }
-    ensures survives { Survives (state S.Store tx.old.conn.now) (state S.Store tx.new.conn.now) (λ _. ⊥) }
+    ensures same_reference { IsSame tx.old tx.new }
+    ensures ok { WritesAnd S.Store tx.old tx.new result (λ t. t) (λ here t. here ≡ is_here t entry.now) }
+    ensures err { KeepsCommitted S.Store tx.old tx.new result }
+    ensures survives { CommitsNothing S.Store tx.old tx.new }
 {
     match body_with_print_inside(alloc, tx, &entry.print)? {
         None => Ok(false),
@@ -92,12 +85,10 @@ fn insert_entry<S: Alter>(
     upload: u64,
     entry: &Entry,
 ) -> Result<(), Error>
-    ensures same_reference { tx.new.conn.ghost_name ≡ tx.old.conn.ghost_name }
-    ensures ok { HasCleanDisk (state S.Store tx.new.conn.now) → IsTrue (state S.Store tx.old.conn.now).in_transaction
-        → OnOk result (Changes (state S.Store tx.old.conn.now) (state S.Store tx.new.conn.now) (λ t. with_want (record { upload = upload; name = entry.now.name; print = entry.now.print; here = is_here t entry.now }) t)) }
-    ensures err { HasCleanDisk (state S.Store tx.new.conn.now) → IsTrue (state S.Store tx.old.conn.now).in_transaction
-        → OnErr result (KeepsCommit (state S.Store tx.old.conn.now) (state S.Store tx.new.conn.now)) }
-    ensures survives { Survives (state S.Store tx.old.conn.now) (state S.Store tx.new.conn.now) (λ _. ⊥) }
+    ensures same_reference { IsSame tx.old tx.new }
+    ensures ok { Writes S.Store tx.old tx.new result (λ t. with_want (record { upload = upload; name = entry.now.name; print = entry.now.print; here = is_here t entry.now }) t) }
+    ensures err { KeepsCommitted S.Store tx.old tx.new result }
+    ensures survives { CommitsNothing S.Store tx.old tx.new }
 {
     let here = is_entry_here(alloc, tx, entry)?;
     insert_want(tx, upload, entry.name.as_str(), &entry.print, here)
@@ -110,13 +101,10 @@ pub(crate) fn insert_wants<S: Alter>(
     upload: u64,
     entries: &[Entry],
 ) -> Result<(), Error>
-    ensures same_reference { tx.new.conn.ghost_name ≡ tx.old.conn.ghost_name }
-    ensures ok { HasCleanDisk (state S.Store tx.new.conn.now) → IsTrue (state S.Store tx.old.conn.now).in_transaction
-        → IsTrue (state S.Store tx.old.conn.now).is_open
-        → OnOk result (Changes (state S.Store tx.old.conn.now) (state S.Store tx.new.conn.now) (with_wants upload entries.now)) }
-    ensures err { HasCleanDisk (state S.Store tx.new.conn.now) → IsTrue (state S.Store tx.old.conn.now).in_transaction
-        → OnErr result (KeepsCommit (state S.Store tx.old.conn.now) (state S.Store tx.new.conn.now)) }
-    ensures survives { Survives (state S.Store tx.old.conn.now) (state S.Store tx.new.conn.now) (λ _. ⊥) }
+    ensures same_reference { IsSame tx.old tx.new }
+    ensures ok { Inside S.Store tx.old tx.new (λ old new. IsTrue old.is_open → OnOk result (Changes old new (with_wants upload entries.now))) }
+    ensures err { KeepsCommitted S.Store tx.old tx.new result }
+    ensures survives { CommitsNothing S.Store tx.old tx.new }
 {
     for entry in entries {
         insert_entry(alloc, tx, upload, entry)?;
@@ -132,12 +120,10 @@ fn store_request<S: Alter>(
     print: &Print,
     entries: &[Entry],
 ) -> Result<(), Error>
-    ensures same_reference { tx.new.conn.ghost_name ≡ tx.old.conn.ghost_name }
-    ensures ok { HasCleanDisk (state S.Store tx.new.conn.now) → IsTrue (state S.Store tx.old.conn.now).in_transaction
-        → OnOk result (Changes (state S.Store tx.old.conn.now) (state S.Store tx.new.conn.now) (with_requested name.now print.now entries.now)) }
-    ensures err { HasCleanDisk (state S.Store tx.new.conn.now) → IsTrue (state S.Store tx.old.conn.now).in_transaction
-        → OnErr result (KeepsCommit (state S.Store tx.old.conn.now) (state S.Store tx.new.conn.now)) }
-    ensures survives { Survives (state S.Store tx.old.conn.now) (state S.Store tx.new.conn.now) (λ _. ⊥) }
+    ensures same_reference { IsSame tx.old tx.new }
+    ensures ok { Writes S.Store tx.old tx.new result (with_requested name.now print.now entries.now) }
+    ensures err { KeepsCommitted S.Store tx.old tx.new result }
+    ensures survives { CommitsNothing S.Store tx.old tx.new }
 {
     let found = upload_of(alloc, tx, name, print)?;
     if found.is_some() {
@@ -155,14 +141,10 @@ fn store_file<S: Alter>(
     file: &Arriving<'_>,
     body: u64,
 ) -> Result<bool, Error>
-    ensures same_reference { tx.new.conn.ghost_name ≡ tx.old.conn.ghost_name }
-    ensures ok { HasCleanDisk (state S.Store tx.new.conn.now) → IsTrue (state S.Store tx.old.conn.now).in_transaction
-        → IfOk result (λ new. Changes (state S.Store tx.old.conn.now) (state S.Store tx.new.conn.now)
-        (λ t. with_here file.now.name.now file.now.print (with_arrived file.now.name.now body file.now.moment t))
-        × ((t : Tables) → Holds (state S.Store tx.old.conn.now).now t → new ≡ not (arrival_counts file.now.span file.now.moment file.now.name.now body t))) }
-    ensures err { HasCleanDisk (state S.Store tx.new.conn.now) → IsTrue (state S.Store tx.old.conn.now).in_transaction
-        → OnErr result (KeepsCommit (state S.Store tx.old.conn.now) (state S.Store tx.new.conn.now)) }
-    ensures survives { Survives (state S.Store tx.old.conn.now) (state S.Store tx.new.conn.now) (λ _. ⊥) }
+    ensures same_reference { IsSame tx.old tx.new }
+    ensures ok { WritesAnd S.Store tx.old tx.new result (λ t. with_here file.now.name.now file.now.print (with_arrived file.now.name.now body file.now.moment t)) (λ new t. new ≡ not (arrival_counts file.now.span file.now.moment file.now.name.now body t)) }
+    ensures err { KeepsCommitted S.Store tx.old tx.new result }
+    ensures survives { CommitsNothing S.Store tx.old tx.new }
 {
     let new = store_arrival(alloc, tx, file.name, body, file.span, file.moment)?;
     mark_here(tx, file.name, &file.print)?;
@@ -177,14 +159,10 @@ pub(crate) fn receive<S: Alter>(
     body: u64,
     listed: Option<&[Entry]>,
 ) -> Result<bool, Error>
-    ensures same_reference { tx.new.conn.ghost_name ≡ tx.old.conn.ghost_name }
-    ensures ok { HasCleanDisk (state S.Store tx.new.conn.now) → IsTrue (state S.Store tx.old.conn.now).in_transaction
-        → IfOk result (λ new. Changes (state S.Store tx.old.conn.now) (state S.Store tx.new.conn.now)
-        (with_received file.now.name.now body file.now.print file.now.moment (option_map (λ entries. entries.now) listed.entry))
-        × ((t : Tables) → Holds (state S.Store tx.old.conn.now).now t → new ≡ not (arrival_counts file.now.span file.now.moment file.now.name.now body t))) }
-    ensures err { HasCleanDisk (state S.Store tx.new.conn.now) → IsTrue (state S.Store tx.old.conn.now).in_transaction
-        → OnErr result (KeepsCommit (state S.Store tx.old.conn.now) (state S.Store tx.new.conn.now)) }
-    ensures survives { Survives (state S.Store tx.old.conn.now) (state S.Store tx.new.conn.now) (λ _. ⊥) }
+    ensures same_reference { IsSame tx.old tx.new }
+    ensures ok { WritesAnd S.Store tx.old tx.new result (with_received file.now.name.now body file.now.print file.now.moment (option_map (λ entries. entries.now) listed.entry)) (λ new t. new ≡ not (arrival_counts file.now.span file.now.moment file.now.name.now body t)) }
+    ensures err { KeepsCommitted S.Store tx.old tx.new result }
+    ensures survives { CommitsNothing S.Store tx.old tx.new }
 {
     let new = store_file(alloc, tx, file, body)?;
     match listed {

@@ -1,12 +1,20 @@
 //! A file whose body is one piece: it comes and arrives in one transaction.
+//!
+//! A file of at most 65,536 bytes takes one commit: its row, its piece, its print and what arrives. If the rows of a body that was cut
+//! short are left, they go in a commit of their own first, and the piece and the end are then two. A file without a byte takes one.
+//!
+//! The body is looked for by its print first. If one of that print is there it has to be one piece of the same bytes, and no row of a body
+//! is added.
 
-ghost use Rattle.std.specs.Prelude.{◌≡◌, ◌<◌, ◌≤◌, false, length, IsTrue, IfOk, OnOk, OnErr};
-ghost use Rattle.sqlite.specs.State.{HasCleanDisk, KeepsCommit, Survives};
+ghost use Rattle.std.specs.Prelude.{◌≡◌, ◌<◌, ◌≤◌, false, length, IfOk, OnOk};
+ghost use Rattle.sqlite.specs.State.{Survives};
 ghost use Rattle.sqlite.specs.Held.{state};
-ghost use Rattle.tables.specs.Rows.{Tables, Holds, Changes, next_in};
+ghost use Rattle.tables.specs.Rows.{Tables, Holds, next_in};
 ghost use Rattle.tables_bodies.specs.AtOnce.{HasNoOtherPiece, is_new_at_once, with_delivery_at_once, with_one_piece};
 ghost use Rattle.tables_meaning.specs.Making.{number_with, with_bytes};
-ghost use Rattle.tables_meaning.specs.Transactions.{IsDone, IsUndone, MayCommit};
+ghost use Rattle.tables_meaning.specs.Transactions.{IsDone, MayCommit};
+ghost use Rattle.tables.specs.Calls.{CommitsNothing, IsSame, KeepsCommitted, OnCleanDisk, WritesAnd};
+ghost use Rattle.tables_meaning.specs.Calls.{Undoes};
 
 use crate::arriving::{Arriving, receive};
 use crate::listing::{entries_of, record_of};
@@ -34,13 +42,10 @@ fn add_body<S: Alter>(
     print: &Print,
     bytes: &[u8],
 ) -> Result<u64, Error>
-    ensures same_reference { tx.new.conn.ghost_name ≡ tx.old.conn.ghost_name }
-    ensures ok { HasCleanDisk (state S.Store tx.new.conn.now) → IsTrue (state S.Store tx.old.conn.now).in_transaction
-        → IfOk result (λ id. Changes (state S.Store tx.old.conn.now) (state S.Store tx.new.conn.now) (with_one_piece print.now bytes.now)
-        × ((t : Tables) → Holds (state S.Store tx.old.conn.now).now t → id ≡ next_in t.bodies)) }
-    ensures err { HasCleanDisk (state S.Store tx.new.conn.now) → IsTrue (state S.Store tx.old.conn.now).in_transaction
-        → OnErr result (KeepsCommit (state S.Store tx.old.conn.now) (state S.Store tx.new.conn.now)) }
-    ensures survives { Survives (state S.Store tx.old.conn.now) (state S.Store tx.new.conn.now) (λ _. ⊥) }
+    ensures same_reference { IsSame tx.old tx.new }
+    ensures ok { WritesAnd S.Store tx.old tx.new result (with_one_piece print.now bytes.now) (λ id t. id ≡ next_in t.bodies) }
+    ensures err { KeepsCommitted S.Store tx.old tx.new result }
+    ensures survives { CommitsNothing S.Store tx.old tx.new }
 {
     let id = insert_body(tx, print)?;
     insert_piece(tx, id, 1, bytes)?;
@@ -54,14 +59,11 @@ fn store_body<S: Alter>(
     file: &OnePiece<'_>,
 ) -> Result<u64, Error>
     requires one_piece { (0 < length file.now.bytes.now) × (length file.now.bytes.now ≤ 65536) }
-    ensures same_reference { tx.new.conn.ghost_name ≡ tx.old.conn.ghost_name }
-    ensures ok { HasCleanDisk (state S.Store tx.new.conn.now) → IsTrue (state S.Store tx.old.conn.now).in_transaction
-        → IfOk result (λ id. Changes (state S.Store tx.old.conn.now) (state S.Store tx.new.conn.now) (with_bytes file.now.print file.now.bytes.now)
-        × ((t : Tables) → Holds (state S.Store tx.old.conn.now).now t → HasNoOtherPiece file.now.print file.now.bytes.now t
-        × (id ≡ number_with file.now.print (with_bytes file.now.print file.now.bytes.now t)))) }
-    ensures err { HasCleanDisk (state S.Store tx.new.conn.now) → IsTrue (state S.Store tx.old.conn.now).in_transaction
-        → OnErr result (KeepsCommit (state S.Store tx.old.conn.now) (state S.Store tx.new.conn.now)) }
-    ensures survives { Survives (state S.Store tx.old.conn.now) (state S.Store tx.new.conn.now) (λ _. ⊥) }
+    ensures same_reference { IsSame tx.old tx.new }
+    ensures ok { WritesAnd S.Store tx.old tx.new result (with_bytes file.now.print file.now.bytes.now) (λ id t. HasNoOtherPiece file.now.print file.now.bytes.now t
+        × (id ≡ number_with file.now.print (with_bytes file.now.print file.now.bytes.now t))) }
+    ensures err { KeepsCommitted S.Store tx.old tx.new result }
+    ensures survives { CommitsNothing S.Store tx.old tx.new }
 {
     let found = body_with_print_inside(alloc, tx, &file.print)?;
     match found {
@@ -81,14 +83,11 @@ fn take_inside<S: Alter>(
     file: &OnePiece<'_>,
 ) -> Result<bool, Error>
     requires one_piece { (0 < length file.now.bytes.now) × (length file.now.bytes.now ≤ 65536) }
-    ensures same_reference { tx.new.conn.ghost_name ≡ tx.old.conn.ghost_name }
-    ensures ok { HasCleanDisk (state S.Store tx.new.conn.now) → IsTrue (state S.Store tx.old.conn.now).in_transaction
-        → IfOk result (λ new. Changes (state S.Store tx.old.conn.now) (state S.Store tx.new.conn.now) (with_delivery_at_once file.now.name.now file.now.bytes.now file.now.print file.now.moment)
-        × ((t : Tables) → Holds (state S.Store tx.old.conn.now).now t → HasNoOtherPiece file.now.print file.now.bytes.now t
-        × (new ≡ is_new_at_once file.now.name.now file.now.bytes.now file.now.print file.now.span file.now.moment t))) }
-    ensures err { HasCleanDisk (state S.Store tx.new.conn.now) → IsTrue (state S.Store tx.old.conn.now).in_transaction
-        → OnErr result (KeepsCommit (state S.Store tx.old.conn.now) (state S.Store tx.new.conn.now)) }
-    ensures survives { Survives (state S.Store tx.old.conn.now) (state S.Store tx.new.conn.now) (λ _. ⊥) }
+    ensures same_reference { IsSame tx.old tx.new }
+    ensures ok { WritesAnd S.Store tx.old tx.new result (with_delivery_at_once file.now.name.now file.now.bytes.now file.now.print file.now.moment) (λ new t. HasNoOtherPiece file.now.print file.now.bytes.now t
+        × (new ≡ is_new_at_once file.now.name.now file.now.bytes.now file.now.print file.now.span file.now.moment t)) }
+    ensures err { KeepsCommitted S.Store tx.old tx.new result }
+    ensures survives { CommitsNothing S.Store tx.old tx.new }
 {
     let found = record_of(alloc, file.name, file.bytes)?;
     let body = store_body(alloc, tx, file)?;
@@ -110,12 +109,10 @@ pub fn take_one_piece<S: Alter>(
     requires idle { conn.old.in_transaction ≡ false }
     requires one_piece { (0 < length file.now.bytes.now) × (length file.now.bytes.now ≤ 65536) }
     ensures idle { conn.new.in_transaction ≡ false }
-    ensures done { HasCleanDisk (state S.Store conn.new) → OnOk result (IsDone (state S.Store conn.old) (state S.Store conn.new)
-        (with_delivery_at_once file.now.name.now file.now.bytes.now file.now.print file.now.moment)) }
-    ensures answer { HasCleanDisk (state S.Store conn.new) → IfOk result (λ new. (t : Tables) → Holds (state S.Store conn.old).now t
-        → HasNoOtherPiece file.now.print file.now.bytes.now t
-        × (new ≡ is_new_at_once file.now.name.now file.now.bytes.now file.now.print file.now.span file.now.moment t)) }
-    ensures undone { HasCleanDisk (state S.Store conn.new) → OnErr result (IsUndone (state S.Store conn.old) (state S.Store conn.new)) }
+    ensures done { OnCleanDisk S.Store conn.old conn.new (λ old new. OnOk result (IsDone old new (with_delivery_at_once file.now.name.now file.now.bytes.now file.now.print file.now.moment))) }
+    ensures answer { OnCleanDisk S.Store conn.old conn.new (λ old new. IfOk result (λ new. (t : Tables) → Holds old.now t → HasNoOtherPiece file.now.print file.now.bytes.now t
+        × (new ≡ is_new_at_once file.now.name.now file.now.bytes.now file.now.print file.now.span file.now.moment t))) }
+    ensures undone { Undoes S.Store conn.old conn.new result }
     ensures crash { Survives (state S.Store conn.old) (state S.Store conn.new) (λ trees. MayCommit (state S.Store conn.old)
         (with_delivery_at_once file.now.name.now file.now.bytes.now file.now.print file.now.moment) trees
         × ((t : Tables) → Holds (state S.Store conn.old).now t → HasNoOtherPiece file.now.print file.now.bytes.now t)) }

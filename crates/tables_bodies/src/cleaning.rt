@@ -1,17 +1,21 @@
 //! Takes away what does not count at a moment: arrivals, what came of them, and then the bodies that nothing uses.
+//!
+//! A cleaning that takes nothing is a transaction as any other. To read first what ended would spare that a commit, and cost each other
+//! cleaning the reading.
 
-ghost use Rattle.std.specs.Prelude.{◌≡◌, false, filter, fold, if◌then◌else◌, length, not, IsTrue, IfOk, OnOk, OnErr};
-ghost use Rattle.sqlite.specs.State.{HasCleanDisk, IsUnchanged, KeepsCommit, Survives};
+ghost use Rattle.std.specs.Prelude.{◌≡◌, false, filter, fold, length, not, IfOk, OnOk};
+ghost use Rattle.sqlite.specs.State.{Survives};
 ghost use Rattle.sqlite.specs.Held.{state};
 ghost use Rattle.tables.specs.Arrivals.{without_arrival};
-ghost use Rattle.tables.specs.Inside.{GoesOn};
-ghost use Rattle.tables.specs.Rows.{Tables, Holds, Changes};
+ghost use Rattle.tables.specs.Rows.{Tables, Holds};
 ghost use Rattle.tables.specs.Uploads.{is_judged, without_upload};
 ghost use Rattle.tables.specs.Wants.{with_away, without_wants};
 ghost use Rattle.tables_meaning.specs.Amending.{Makes};
 ghost use Rattle.tables_meaning.specs.Cleaning.{counts_row, ended_rows, with_cleaned, with_gone, without_request};
 ghost use Rattle.tables_meaning.specs.Kept.{print_at};
-ghost use Rattle.tables_meaning.specs.Transactions.{IsDone, IsUndone, MayCommit};
+ghost use Rattle.tables_meaning.specs.Transactions.{IsDone, MayCommit};
+ghost use Rattle.tables.specs.Calls.{CommitsNothing, GoesOnInside, Inside, IsSame, KeepsCommitted, Looks, OnCleanDisk, WritesAnd};
+ghost use Rattle.tables_meaning.specs.Calls.{Undoes};
 
 use crate::sweeping::sweep;
 use sqlite::{Alter, Connection, Error, Transaction};
@@ -19,13 +23,13 @@ use std::alloc::Global;
 use sums::Print;
 use tables::arrivals::{all_arrivals_inside, delete_arrival};
 use tables::bodies::body_numbered_inside;
-use tables::rows::{Arrival, Upload};
+use tables::rows::{ArrivalRow, UploadRow};
 use tables::uploads::{delete_upload, upload_of};
 use tables::wants::{delete_wants, mark_away};
 
 /// Whether an arrival counts at a moment, where what arrives counts for so many seconds, or for good.
 #[tactic(auto, unfolding(tables_meaning::specs::Cleaning::counts_row))]
-pub fn counts(span: Option<u64>, moment: u64, arrival: &Arrival) -> bool
+pub fn counts(span: Option<u64>, moment: u64, arrival: &ArrivalRow) -> bool
     ensures { result ≡ counts_row span moment arrival.now }
 {
     let Some(span) = span else {
@@ -38,7 +42,7 @@ pub fn counts(span: Option<u64>, moment: u64, arrival: &Arrival) -> bool
 }
 
 /// Keeps of the arrivals those that do not count.
-fn retain_ended(arrivals: &mut Vec<(u64, Arrival)>, span: Option<u64>, moment: u64)
+fn retain_ended(arrivals: &mut Vec<(u64, ArrivalRow)>, span: Option<u64>, moment: u64)
     ensures { arrivals.new.items ≡ filter (λ x. not (counts_row span moment x.1)) arrivals.old.items }
 {
     arrivals.retain(|row| !counts(span, moment, &row.1));
@@ -50,15 +54,12 @@ fn ended_arrivals<S: Alter>(
     tx: &mut Transaction<'_, S>,
     span: Option<u64>,
     moment: u64,
-) -> Result<Vec<(u64, Arrival)>, Error>
-    ensures same_reference { tx.new.conn.ghost_name ≡ tx.old.conn.ghost_name }
-    ensures ok { HasCleanDisk (state S.Store tx.new.conn.now) → (t : Tables) → Holds (state S.Store tx.old.conn.now).now t
-        → IfOk result (λ ended. (ended.items ≡ ended_rows span moment t) × IsUnchanged (state S.Store tx.old.conn.now) (state S.Store tx.new.conn.now)) }
-    ensures goes_on { HasCleanDisk (state S.Store tx.new.conn.now) → IsTrue (state S.Store tx.old.conn.now).in_transaction
-        → OnOk result (GoesOn (state S.Store tx.old.conn.now) (state S.Store tx.new.conn.now)) }
-    ensures kept { HasCleanDisk (state S.Store tx.new.conn.now) → IsTrue (state S.Store tx.old.conn.now).in_transaction
-        → OnErr result (KeepsCommit (state S.Store tx.old.conn.now) (state S.Store tx.new.conn.now)) }
-    ensures survives { Survives (state S.Store tx.old.conn.now) (state S.Store tx.new.conn.now) (λ _. ⊥) }
+) -> Result<Vec<(u64, ArrivalRow)>, Error>
+    ensures same_reference { IsSame tx.old tx.new }
+    ensures ok { Looks S.Store tx.old tx.new result (λ t ended. ended.items ≡ ended_rows span moment t) }
+    ensures goes_on { GoesOnInside S.Store tx.old tx.new result }
+    ensures kept { KeepsCommitted S.Store tx.old tx.new result }
+    ensures survives { CommitsNothing S.Store tx.old tx.new }
 {
     let mut arrivals = all_arrivals_inside(alloc, tx)?;
     retain_ended(&mut arrivals, span, moment);
@@ -71,14 +72,11 @@ fn print_of_body<S: Alter>(
     tx: &mut Transaction<'_, S>,
     id: u64,
 ) -> Result<Option<Print>, Error>
-    ensures same_reference { tx.new.conn.ghost_name ≡ tx.old.conn.ghost_name }
-    ensures ok { HasCleanDisk (state S.Store tx.new.conn.now) → (t : Tables) → Holds (state S.Store tx.old.conn.now).now t
-        → IfOk result (λ print. (print ≡ print_at t id) × IsUnchanged (state S.Store tx.old.conn.now) (state S.Store tx.new.conn.now)) }
-    ensures goes_on { HasCleanDisk (state S.Store tx.new.conn.now) → IsTrue (state S.Store tx.old.conn.now).in_transaction
-        → OnOk result (GoesOn (state S.Store tx.old.conn.now) (state S.Store tx.new.conn.now)) }
-    ensures kept { HasCleanDisk (state S.Store tx.new.conn.now) → IsTrue (state S.Store tx.old.conn.now).in_transaction
-        → OnErr result (KeepsCommit (state S.Store tx.old.conn.now) (state S.Store tx.new.conn.now)) }
-    ensures survives { Survives (state S.Store tx.old.conn.now) (state S.Store tx.new.conn.now) (λ _. ⊥) }
+    ensures same_reference { IsSame tx.old tx.new }
+    ensures ok { Looks S.Store tx.old tx.new result (λ t print. print ≡ print_at t id) }
+    ensures goes_on { GoesOnInside S.Store tx.old tx.new result }
+    ensures kept { KeepsCommitted S.Store tx.old tx.new result }
+    ensures survives { CommitsNothing S.Store tx.old tx.new }
 {
     let found = body_numbered_inside(alloc, tx, id)?;
     match found {
@@ -89,12 +87,10 @@ fn print_of_body<S: Alter>(
 
 /// Removes an upload with its entries.
 fn remove_upload<S: Alter>(tx: &mut Transaction<'_, S>, id: u64) -> Result<(), Error>
-    ensures same_reference { tx.new.conn.ghost_name ≡ tx.old.conn.ghost_name }
-    ensures ok { HasCleanDisk (state S.Store tx.new.conn.now) → IsTrue (state S.Store tx.old.conn.now).in_transaction
-        → OnOk result (Makes (state S.Store tx.old.conn.now) (state S.Store tx.new.conn.now) (λ t. without_upload id (without_wants id t))) }
-    ensures err { HasCleanDisk (state S.Store tx.new.conn.now) → IsTrue (state S.Store tx.old.conn.now).in_transaction
-        → OnErr result (KeepsCommit (state S.Store tx.old.conn.now) (state S.Store tx.new.conn.now)) }
-    ensures survives { Survives (state S.Store tx.old.conn.now) (state S.Store tx.new.conn.now) (λ _. ⊥) }
+    ensures same_reference { IsSame tx.old tx.new }
+    ensures ok { Inside S.Store tx.old tx.new (λ old new. OnOk result (Makes old new (λ t. without_upload id (without_wants id t)))) }
+    ensures err { KeepsCommitted S.Store tx.old tx.new result }
+    ensures survives { CommitsNothing S.Store tx.old tx.new }
 {
     delete_wants(tx, id)?;
     delete_upload(tx, id)
@@ -103,14 +99,12 @@ fn remove_upload<S: Alter>(tx: &mut Transaction<'_, S>, id: u64) -> Result<(), E
 /// Removes an upload with its entries, unless it is judged.
 fn remove_unjudged<S: Alter>(
     tx: &mut Transaction<'_, S>,
-    upload: &(u64, Upload),
+    upload: &(u64, UploadRow),
 ) -> Result<(), Error>
-    ensures same_reference { tx.new.conn.ghost_name ≡ tx.old.conn.ghost_name }
-    ensures ok { HasCleanDisk (state S.Store tx.new.conn.now) → IsTrue (state S.Store tx.old.conn.now).in_transaction
-        → OnOk result (Makes (state S.Store tx.old.conn.now) (state S.Store tx.new.conn.now) (λ t. if is_judged upload.now.1 then t else without_upload upload.now.0 (without_wants upload.now.0 t))) }
-    ensures err { HasCleanDisk (state S.Store tx.new.conn.now) → IsTrue (state S.Store tx.old.conn.now).in_transaction
-        → OnErr result (KeepsCommit (state S.Store tx.old.conn.now) (state S.Store tx.new.conn.now)) }
-    ensures survives { Survives (state S.Store tx.old.conn.now) (state S.Store tx.new.conn.now) (λ _. ⊥) }
+    ensures same_reference { IsSame tx.old tx.new }
+    ensures ok { Inside S.Store tx.old tx.new (λ old new. OnOk result (Makes old new (λ t. if is_judged upload.now.1 then t else without_upload upload.now.0 (without_wants upload.now.0 t)))) }
+    ensures err { KeepsCommitted S.Store tx.old tx.new result }
+    ensures survives { CommitsNothing S.Store tx.old tx.new }
 {
     if upload.1.place.is_some() {
         return Ok(());
@@ -125,12 +119,10 @@ fn remove_request<S: Alter>(
     name: &str,
     print: &Print,
 ) -> Result<(), Error>
-    ensures same_reference { tx.new.conn.ghost_name ≡ tx.old.conn.ghost_name }
-    ensures ok { HasCleanDisk (state S.Store tx.new.conn.now) → IsTrue (state S.Store tx.old.conn.now).in_transaction
-        → OnOk result (Makes (state S.Store tx.old.conn.now) (state S.Store tx.new.conn.now) (without_request name.now print.now)) }
-    ensures err { HasCleanDisk (state S.Store tx.new.conn.now) → IsTrue (state S.Store tx.old.conn.now).in_transaction
-        → OnErr result (KeepsCommit (state S.Store tx.old.conn.now) (state S.Store tx.new.conn.now)) }
-    ensures survives { Survives (state S.Store tx.old.conn.now) (state S.Store tx.new.conn.now) (λ _. ⊥) }
+    ensures same_reference { IsSame tx.old tx.new }
+    ensures ok { Inside S.Store tx.old tx.new (λ old new. OnOk result (Makes old new (without_request name.now print.now))) }
+    ensures err { KeepsCommitted S.Store tx.old tx.new result }
+    ensures survives { CommitsNothing S.Store tx.old tx.new }
 {
     let found = upload_of(alloc, tx, name, print)?;
     match found {
@@ -146,12 +138,10 @@ fn forget_name<S: Alter>(
     name: &str,
     print: &Print,
 ) -> Result<(), Error>
-    ensures same_reference { tx.new.conn.ghost_name ≡ tx.old.conn.ghost_name }
-    ensures ok { HasCleanDisk (state S.Store tx.new.conn.now) → IsTrue (state S.Store tx.old.conn.now).in_transaction
-        → OnOk result (Makes (state S.Store tx.old.conn.now) (state S.Store tx.new.conn.now) (λ t. without_request name.now print.now (with_away name.now print.now t))) }
-    ensures err { HasCleanDisk (state S.Store tx.new.conn.now) → IsTrue (state S.Store tx.old.conn.now).in_transaction
-        → OnErr result (KeepsCommit (state S.Store tx.old.conn.now) (state S.Store tx.new.conn.now)) }
-    ensures survives { Survives (state S.Store tx.old.conn.now) (state S.Store tx.new.conn.now) (λ _. ⊥) }
+    ensures same_reference { IsSame tx.old tx.new }
+    ensures ok { Inside S.Store tx.old tx.new (λ old new. OnOk result (Makes old new (λ t. without_request name.now print.now (with_away name.now print.now t)))) }
+    ensures err { KeepsCommitted S.Store tx.old tx.new result }
+    ensures survives { CommitsNothing S.Store tx.old tx.new }
 {
     mark_away(tx, name, print)?;
     remove_request(alloc, tx, name, print)
@@ -161,15 +151,13 @@ fn forget_name<S: Alter>(
 fn remove_arrival<S: Alter>(
     alloc: Global,
     tx: &mut Transaction<'_, S>,
-    arrival: &(u64, Arrival),
+    arrival: &(u64, ArrivalRow),
     print: &Print,
 ) -> Result<(), Error>
-    ensures same_reference { tx.new.conn.ghost_name ≡ tx.old.conn.ghost_name }
-    ensures ok { HasCleanDisk (state S.Store tx.new.conn.now) → IsTrue (state S.Store tx.old.conn.now).in_transaction
-        → OnOk result (Makes (state S.Store tx.old.conn.now) (state S.Store tx.new.conn.now) (λ t. without_request arrival.now.1.name print.now (with_away arrival.now.1.name print.now (without_arrival arrival.now.0 t)))) }
-    ensures err { HasCleanDisk (state S.Store tx.new.conn.now) → IsTrue (state S.Store tx.old.conn.now).in_transaction
-        → OnErr result (KeepsCommit (state S.Store tx.old.conn.now) (state S.Store tx.new.conn.now)) }
-    ensures survives { Survives (state S.Store tx.old.conn.now) (state S.Store tx.new.conn.now) (λ _. ⊥) }
+    ensures same_reference { IsSame tx.old tx.new }
+    ensures ok { Inside S.Store tx.old tx.new (λ old new. OnOk result (Makes old new (λ t. without_request arrival.now.1.name print.now (with_away arrival.now.1.name print.now (without_arrival arrival.now.0 t))))) }
+    ensures err { KeepsCommitted S.Store tx.old tx.new result }
+    ensures survives { CommitsNothing S.Store tx.old tx.new }
 {
     delete_arrival(tx, arrival.0)?;
     forget_name(alloc, tx, arrival.1.name.as_str(), print)
@@ -179,14 +167,12 @@ fn remove_arrival<S: Alter>(
 fn take_away<S: Alter>(
     alloc: Global,
     tx: &mut Transaction<'_, S>,
-    arrival: &(u64, Arrival),
+    arrival: &(u64, ArrivalRow),
 ) -> Result<(), Error>
-    ensures same_reference { tx.new.conn.ghost_name ≡ tx.old.conn.ghost_name }
-    ensures ok { HasCleanDisk (state S.Store tx.new.conn.now) → IsTrue (state S.Store tx.old.conn.now).in_transaction
-        → OnOk result (Makes (state S.Store tx.old.conn.now) (state S.Store tx.new.conn.now) (with_gone arrival.now)) }
-    ensures err { HasCleanDisk (state S.Store tx.new.conn.now) → IsTrue (state S.Store tx.old.conn.now).in_transaction
-        → OnErr result (KeepsCommit (state S.Store tx.old.conn.now) (state S.Store tx.new.conn.now)) }
-    ensures survives { Survives (state S.Store tx.old.conn.now) (state S.Store tx.new.conn.now) (λ _. ⊥) }
+    ensures same_reference { IsSame tx.old tx.new }
+    ensures ok { Inside S.Store tx.old tx.new (λ old new. OnOk result (Makes old new (with_gone arrival.now))) }
+    ensures err { KeepsCommitted S.Store tx.old tx.new result }
+    ensures survives { CommitsNothing S.Store tx.old tx.new }
 {
     let print = print_of_body(alloc, tx, arrival.1.body)?;
     match print {
@@ -199,14 +185,12 @@ fn take_away<S: Alter>(
 fn take_all_away<S: Alter>(
     alloc: Global,
     tx: &mut Transaction<'_, S>,
-    arrivals: &[(u64, Arrival)],
+    arrivals: &[(u64, ArrivalRow)],
 ) -> Result<(), Error>
-    ensures same_reference { tx.new.conn.ghost_name ≡ tx.old.conn.ghost_name }
-    ensures ok { HasCleanDisk (state S.Store tx.new.conn.now) → IsTrue (state S.Store tx.old.conn.now).in_transaction
-        → OnOk result (Makes (state S.Store tx.old.conn.now) (state S.Store tx.new.conn.now) (λ t. fold (λ now x. with_gone x now) t arrivals.now)) }
-    ensures err { HasCleanDisk (state S.Store tx.new.conn.now) → IsTrue (state S.Store tx.old.conn.now).in_transaction
-        → OnErr result (KeepsCommit (state S.Store tx.old.conn.now) (state S.Store tx.new.conn.now)) }
-    ensures survives { Survives (state S.Store tx.old.conn.now) (state S.Store tx.new.conn.now) (λ _. ⊥) }
+    ensures same_reference { IsSame tx.old tx.new }
+    ensures ok { Inside S.Store tx.old tx.new (λ old new. OnOk result (Makes old new (λ t. fold (λ now x. with_gone x now) t arrivals.now))) }
+    ensures err { KeepsCommitted S.Store tx.old tx.new result }
+    ensures survives { CommitsNothing S.Store tx.old tx.new }
 {
     for arrival in arrivals {
         take_away(alloc, tx, arrival)?;
@@ -215,7 +199,7 @@ fn take_all_away<S: Alter>(
 }
 
 /// How many arrivals these are.
-fn count_of(arrivals: &[(u64, Arrival)]) -> u64
+fn count_of(arrivals: &[(u64, ArrivalRow)]) -> u64
     ensures { result ≡ length arrivals.now }
 {
     arrivals.len() as u64
@@ -228,13 +212,10 @@ fn clean_inside<S: Alter>(
     span: Option<u64>,
     moment: u64,
 ) -> Result<u64, Error>
-    ensures same_reference { tx.new.conn.ghost_name ≡ tx.old.conn.ghost_name }
-    ensures ok { HasCleanDisk (state S.Store tx.new.conn.now) → IsTrue (state S.Store tx.old.conn.now).in_transaction
-        → IfOk result (λ count. Changes (state S.Store tx.old.conn.now) (state S.Store tx.new.conn.now) (with_cleaned span moment)
-        × ((t : Tables) → Holds (state S.Store tx.old.conn.now).now t → count ≡ length (ended_rows span moment t))) }
-    ensures err { HasCleanDisk (state S.Store tx.new.conn.now) → IsTrue (state S.Store tx.old.conn.now).in_transaction
-        → OnErr result (KeepsCommit (state S.Store tx.old.conn.now) (state S.Store tx.new.conn.now)) }
-    ensures survives { Survives (state S.Store tx.old.conn.now) (state S.Store tx.new.conn.now) (λ _. ⊥) }
+    ensures same_reference { IsSame tx.old tx.new }
+    ensures ok { WritesAnd S.Store tx.old tx.new result (with_cleaned span moment) (λ count t. count ≡ length (ended_rows span moment t)) }
+    ensures err { KeepsCommitted S.Store tx.old tx.new result }
+    ensures survives { CommitsNothing S.Store tx.old tx.new }
 {
     let ended = ended_arrivals(alloc, tx, span, moment)?;
     take_all_away(alloc, tx, &ended)?;
@@ -253,9 +234,9 @@ pub fn clean<S: Alter>(
 ) -> Result<u64, Error>
     requires idle { conn.old.in_transaction ≡ false }
     ensures idle { conn.new.in_transaction ≡ false }
-    ensures done { HasCleanDisk (state S.Store conn.new) → OnOk result (IsDone (state S.Store conn.old) (state S.Store conn.new) (with_cleaned span moment)) }
-    ensures count { HasCleanDisk (state S.Store conn.new) → IfOk result (λ count. (t : Tables) → Holds (state S.Store conn.old).now t → count ≡ length (ended_rows span moment t)) }
-    ensures undone { HasCleanDisk (state S.Store conn.new) → OnErr result (IsUndone (state S.Store conn.old) (state S.Store conn.new)) }
+    ensures done { OnCleanDisk S.Store conn.old conn.new (λ old new. OnOk result (IsDone old new (with_cleaned span moment))) }
+    ensures count { OnCleanDisk S.Store conn.old conn.new (λ old new. IfOk result (λ count. (t : Tables) → Holds old.now t → count ≡ length (ended_rows span moment t))) }
+    ensures undone { Undoes S.Store conn.old conn.new result }
     ensures crash { Survives (state S.Store conn.old) (state S.Store conn.new) (MayCommit (state S.Store conn.old) (with_cleaned span moment)) }
 {
     let mut tx = conn.transaction();

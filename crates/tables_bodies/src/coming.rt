@@ -1,11 +1,21 @@
 //! A body that comes, piece by piece.
+//!
+//! A body that comes in pieces is stored before it is known whether it is there. Its row is written with its first piece, and no row
+//! before. Each piece is a commit, and the end one more.
+//!
+//! If a piece or the end is refused, the rows stay that came before. No book has them, and nothing names them: they go when the next body
+//! begins, by their number, or at the next opening. To take them away at once would be another transaction in a call that has one. After a
+//! reader that ended or failed they are taken away at once (`abandon`); if that fails they stay likewise, and the reader's fault is
+//! reported.
 
-ghost use Rattle.std.specs.Prelude.{◌≡◌, None, false, unwrap_or, IsTrue, IfOk, OnOk, OnErr};
-ghost use Rattle.sqlite.specs.State.{HasCleanDisk, KeepsCommit, Survives};
+ghost use Rattle.std.specs.Prelude.{◌≡◌, None, false, unwrap_or, IfOk, OnOk};
+ghost use Rattle.sqlite.specs.State.{Survives};
 ghost use Rattle.sqlite.specs.Held.{state};
-ghost use Rattle.tables.specs.Rows.{Tables, Holds, Changes, next_in};
+ghost use Rattle.tables.specs.Rows.{Tables, Holds, next_in};
 ghost use Rattle.tables_meaning.specs.Coming.{with_next_piece};
-ghost use Rattle.tables_meaning.specs.Transactions.{IsDone, IsUndone, MayCommit};
+ghost use Rattle.tables_meaning.specs.Transactions.{IsDone, MayCommit};
+ghost use Rattle.tables.specs.Calls.{CommitsNothing, IsSame, KeepsCommitted, OnCleanDisk, WritesAnd};
+ghost use Rattle.tables_meaning.specs.Calls.{Undoes};
 
 use sqlite::{Alter, Connection, Error, Transaction};
 use sums::Printer;
@@ -24,13 +34,10 @@ pub struct Begun {
 
 /// Adds a body that is not whole, with this piece of it, and answers its number.
 fn add_first<S: Alter>(tx: &mut Transaction<'_, S>, number: u64, bytes: &[u8]) -> Result<u64, Error>
-    ensures same_reference { tx.new.conn.ghost_name ≡ tx.old.conn.ghost_name }
-    ensures ok { HasCleanDisk (state S.Store tx.new.conn.now) → IsTrue (state S.Store tx.old.conn.now).in_transaction
-        → IfOk result (λ id. Changes (state S.Store tx.old.conn.now) (state S.Store tx.new.conn.now) (with_next_piece None number bytes.now)
-        × ((t : Tables) → Holds (state S.Store tx.old.conn.now).now t → id ≡ next_in t.bodies)) }
-    ensures err { HasCleanDisk (state S.Store tx.new.conn.now) → IsTrue (state S.Store tx.old.conn.now).in_transaction
-        → OnErr result (KeepsCommit (state S.Store tx.old.conn.now) (state S.Store tx.new.conn.now)) }
-    ensures survives { Survives (state S.Store tx.old.conn.now) (state S.Store tx.new.conn.now) (λ _. ⊥) }
+    ensures same_reference { IsSame tx.old tx.new }
+    ensures ok { WritesAnd S.Store tx.old tx.new result (with_next_piece None number bytes.now) (λ id t. id ≡ next_in t.bodies) }
+    ensures err { KeepsCommitted S.Store tx.old tx.new result }
+    ensures survives { CommitsNothing S.Store tx.old tx.new }
 {
     let id = insert_begun(tx)?;
     insert_piece(tx, id, number, bytes)?;
@@ -44,13 +51,10 @@ fn add_piece<S: Alter>(
     number: u64,
     bytes: &[u8],
 ) -> Result<u64, Error>
-    ensures same_reference { tx.new.conn.ghost_name ≡ tx.old.conn.ghost_name }
-    ensures ok { HasCleanDisk (state S.Store tx.new.conn.now) → IsTrue (state S.Store tx.old.conn.now).in_transaction
-        → IfOk result (λ id. Changes (state S.Store tx.old.conn.now) (state S.Store tx.new.conn.now) (with_next_piece body number bytes.now)
-        × ((t : Tables) → Holds (state S.Store tx.old.conn.now).now t → id ≡ unwrap_or body (next_in t.bodies))) }
-    ensures err { HasCleanDisk (state S.Store tx.new.conn.now) → IsTrue (state S.Store tx.old.conn.now).in_transaction
-        → OnErr result (KeepsCommit (state S.Store tx.old.conn.now) (state S.Store tx.new.conn.now)) }
-    ensures survives { Survives (state S.Store tx.old.conn.now) (state S.Store tx.new.conn.now) (λ _. ⊥) }
+    ensures same_reference { IsSame tx.old tx.new }
+    ensures ok { WritesAnd S.Store tx.old tx.new result (with_next_piece body number bytes.now) (λ id t. id ≡ unwrap_or body (next_in t.bodies)) }
+    ensures err { KeepsCommitted S.Store tx.old tx.new result }
+    ensures survives { CommitsNothing S.Store tx.old tx.new }
 {
     match body {
         Some(id) => {
@@ -70,9 +74,9 @@ pub fn store_piece<S: Alter>(
 ) -> Result<u64, Error>
     requires idle { conn.old.in_transaction ≡ false }
     ensures idle { conn.new.in_transaction ≡ false }
-    ensures done { HasCleanDisk (state S.Store conn.new) → OnOk result (IsDone (state S.Store conn.old) (state S.Store conn.new) (with_next_piece body number bytes.now)) }
-    ensures answer { HasCleanDisk (state S.Store conn.new) → IfOk result (λ id. (t : Tables) → Holds (state S.Store conn.old).now t → id ≡ unwrap_or body (next_in t.bodies)) }
-    ensures undone { HasCleanDisk (state S.Store conn.new) → OnErr result (IsUndone (state S.Store conn.old) (state S.Store conn.new)) }
+    ensures done { OnCleanDisk S.Store conn.old conn.new (λ old new. OnOk result (IsDone old new (with_next_piece body number bytes.now))) }
+    ensures answer { OnCleanDisk S.Store conn.old conn.new (λ old new. IfOk result (λ id. (t : Tables) → Holds old.now t → id ≡ unwrap_or body (next_in t.bodies))) }
+    ensures undone { Undoes S.Store conn.old conn.new result }
     ensures crash { Survives (state S.Store conn.old) (state S.Store conn.new) (MayCommit (state S.Store conn.old) (with_next_piece body number bytes.now)) }
 {
     let mut tx = conn.transaction();

@@ -1,12 +1,14 @@
 //! A file of which the whole body came: it arrives under its name.
 
-ghost use Rattle.std.specs.Prelude.{◌≡◌, ◌<◌, false, not, option_map, IsTrue, IfOk, OnOk, OnErr};
-ghost use Rattle.sqlite.specs.State.{HasCleanDisk, KeepsCommit, Survives};
+ghost use Rattle.std.specs.Prelude.{◌≡◌, ◌<◌, false, not, option_map, IfOk, OnOk};
+ghost use Rattle.sqlite.specs.State.{Survives};
 ghost use Rattle.sqlite.specs.Held.{state};
-ghost use Rattle.tables.specs.Rows.{Tables, Holds, Changes};
+ghost use Rattle.tables.specs.Rows.{Tables, Holds};
 ghost use Rattle.tables_bodies.specs.Counting.{arrival_counts};
 ghost use Rattle.tables_meaning.specs.Coming.{IsNoOther, ended_number, with_ended, with_finished, with_received};
-ghost use Rattle.tables_meaning.specs.Transactions.{IsDone, IsUndone, MayCommit};
+ghost use Rattle.tables_meaning.specs.Transactions.{IsDone, MayCommit};
+ghost use Rattle.tables.specs.Calls.{CommitsNothing, IsSame, KeepsCommitted, OnCleanDisk, WritesAnd};
+ghost use Rattle.tables_meaning.specs.Calls.{Undoes};
 
 use crate::arriving::{Arriving, receive};
 use crate::listing::{entries_of, record_inside};
@@ -36,16 +38,10 @@ fn end_body<S: Alter>(
     finished: &Finished<'_>,
     listed: Option<&[Entry]>,
 ) -> Result<bool, Error>
-    ensures same_reference { tx.new.conn.ghost_name ≡ tx.old.conn.ghost_name }
-    ensures ok { HasCleanDisk (state S.Store tx.new.conn.now) → IsTrue (state S.Store tx.old.conn.now).in_transaction
-        → IfOk result (λ new. Changes (state S.Store tx.old.conn.now) (state S.Store tx.new.conn.now)
-        (λ t. with_received finished.now.name.now (ended_number finished.now.body finished.now.print t) finished.now.print finished.now.moment
-        (option_map (λ entries. entries.now) listed.entry) (with_ended finished.now.body finished.now.print t))
-        × ((t : Tables) → Holds (state S.Store tx.old.conn.now).now t
-        → new ≡ not (arrival_counts finished.now.span finished.now.moment finished.now.name.now (ended_number finished.now.body finished.now.print t) (with_ended finished.now.body finished.now.print t)))) }
-    ensures err { HasCleanDisk (state S.Store tx.new.conn.now) → IsTrue (state S.Store tx.old.conn.now).in_transaction
-        → OnErr result (KeepsCommit (state S.Store tx.old.conn.now) (state S.Store tx.new.conn.now)) }
-    ensures survives { Survives (state S.Store tx.old.conn.now) (state S.Store tx.new.conn.now) (λ _. ⊥) }
+    ensures same_reference { IsSame tx.old tx.new }
+    ensures ok { WritesAnd S.Store tx.old tx.new result (λ t. with_received finished.now.name.now (ended_number finished.now.body finished.now.print t) finished.now.print finished.now.moment (option_map (λ entries. entries.now) listed.entry) (with_ended finished.now.body finished.now.print t)) (λ new t. new ≡ not (arrival_counts finished.now.span finished.now.moment finished.now.name.now (ended_number finished.now.body finished.now.print t) (with_ended finished.now.body finished.now.print t))) }
+    ensures err { KeepsCommitted S.Store tx.old tx.new result }
+    ensures survives { CommitsNothing S.Store tx.old tx.new }
 {
     let body = store_whole(alloc, tx, finished.body, &finished.print)?;
     let file = Arriving {
@@ -65,14 +61,11 @@ fn finish_inside<S: Alter>(
     finished: &Finished<'_>,
 ) -> Result<bool, Error>
     requires { finished.now.pieces < 18_446_744_073_709_551_615 }
-    ensures same_reference { tx.new.conn.ghost_name ≡ tx.old.conn.ghost_name }
-    ensures ok { HasCleanDisk (state S.Store tx.new.conn.now) → IsTrue (state S.Store tx.old.conn.now).in_transaction
-        → IfOk result (λ new. Changes (state S.Store tx.old.conn.now) (state S.Store tx.new.conn.now) (with_finished finished.now.name.now finished.now.body finished.now.print finished.now.moment)
-        × ((t : Tables) → Holds (state S.Store tx.old.conn.now).now t → IsNoOther finished.now.body finished.now.pieces finished.now.print t
-        × (new ≡ not (arrival_counts finished.now.span finished.now.moment finished.now.name.now (ended_number finished.now.body finished.now.print t) (with_ended finished.now.body finished.now.print t))))) }
-    ensures err { HasCleanDisk (state S.Store tx.new.conn.now) → IsTrue (state S.Store tx.old.conn.now).in_transaction
-        → OnErr result (KeepsCommit (state S.Store tx.old.conn.now) (state S.Store tx.new.conn.now)) }
-    ensures survives { Survives (state S.Store tx.old.conn.now) (state S.Store tx.new.conn.now) (λ _. ⊥) }
+    ensures same_reference { IsSame tx.old tx.new }
+    ensures ok { WritesAnd S.Store tx.old tx.new result (with_finished finished.now.name.now finished.now.body finished.now.print finished.now.moment) (λ new t. IsNoOther finished.now.body finished.now.pieces finished.now.print t
+        × (new ≡ not (arrival_counts finished.now.span finished.now.moment finished.now.name.now (ended_number finished.now.body finished.now.print t) (with_ended finished.now.body finished.now.print t)))) }
+    ensures err { KeepsCommitted S.Store tx.old tx.new result }
+    ensures survives { CommitsNothing S.Store tx.old tx.new }
 {
     refuse_other(alloc, tx, finished.body, finished.pieces, &finished.print)?;
     let found = record_inside(alloc, tx, finished.name, finished.body)?;
@@ -88,12 +81,11 @@ pub fn finish_body<S: Alter>(
     requires idle { conn.old.in_transaction ≡ false }
     requires counted { finished.now.pieces < 18_446_744_073_709_551_615 }
     ensures idle { conn.new.in_transaction ≡ false }
-    ensures done { HasCleanDisk (state S.Store conn.new) → OnOk result (IsDone (state S.Store conn.old) (state S.Store conn.new)
-        (with_finished finished.now.name.now finished.now.body finished.now.print finished.now.moment)) }
-    ensures answer { HasCleanDisk (state S.Store conn.new) → IfOk result (λ new. (t : Tables) → Holds (state S.Store conn.old).now t
+    ensures done { OnCleanDisk S.Store conn.old conn.new (λ old new. OnOk result (IsDone old new (with_finished finished.now.name.now finished.now.body finished.now.print finished.now.moment))) }
+    ensures answer { OnCleanDisk S.Store conn.old conn.new (λ old new. IfOk result (λ new. (t : Tables) → Holds old.now t
         → IsNoOther finished.now.body finished.now.pieces finished.now.print t
-        × (new ≡ not (arrival_counts finished.now.span finished.now.moment finished.now.name.now (ended_number finished.now.body finished.now.print t) (with_ended finished.now.body finished.now.print t)))) }
-    ensures undone { HasCleanDisk (state S.Store conn.new) → OnErr result (IsUndone (state S.Store conn.old) (state S.Store conn.new)) }
+        × (new ≡ not (arrival_counts finished.now.span finished.now.moment finished.now.name.now (ended_number finished.now.body finished.now.print t) (with_ended finished.now.body finished.now.print t))))) }
+    ensures undone { Undoes S.Store conn.old conn.new result }
     ensures crash { Survives (state S.Store conn.old) (state S.Store conn.new) (λ trees. MayCommit (state S.Store conn.old)
         (with_finished finished.now.name.now finished.now.body finished.now.print finished.now.moment) trees
         × ((t : Tables) → Holds (state S.Store conn.old).now t → IsNoOther finished.now.body finished.now.pieces finished.now.print t)) }

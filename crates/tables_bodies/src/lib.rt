@@ -1,5 +1,5 @@
 //! Transactions of a body: it comes in pieces, and once it is whole it arrives under a name; one that is not whole goes, as does one
-//! that nothing uses any more. What bodies are read from their pieces.
+//! that nothing uses any more; whether a change may leave such bodies. What bodies are read from their pieces.
 #![tactic(auto)]
 
 mod arriving;
@@ -11,6 +11,7 @@ mod listing;
 mod other;
 mod reading;
 mod removing;
+mod sparing;
 mod sweeping;
 mod whole;
 
@@ -20,4 +21,5 @@ pub use coming::{Begun, store_piece};
 pub use finishing::{Finished, finish_body};
 pub use reading::{file_body, read_body};
 pub use removing::remove_all;
+pub use sparing::{needs_sweep, some_take_files};
 pub use sweeping::sweep;

@@ -1,28 +1,24 @@
 //! What a file lists whose body came.
+//!
+//! A delivery reads its .changes once more after the check of the delivery: from its bytes if they come at once, else back from its pieces.
+//! It has passed that check. So besides memory only a disk which returns other bytes can have it refused here, and that is reported as a
+//! failure of the disk.
 
-ghost use Rattle.std.specs.Prelude.{◌≡◌, Ok, false, IsTrue, IfOk, OnOk, OnErr, option_map};
-ghost use Rattle.sqlite.specs.State.{HasCleanDisk, IsUnchanged, KeepsCommit, Survives};
+ghost use Rattle.std.specs.Prelude.{◌≡◌, Ok, IsTrue, IfOk, OnOk, OnErr, option_map};
+ghost use Rattle.sqlite.specs.State.{HasCleanDisk, IsUnchanged, KeepsCommit};
 ghost use Rattle.sqlite.specs.Held.{state};
-ghost use Rattle.keep.specs.Book.{is_changes_name};
 ghost use Rattle.records.specs.Records.{changes_in};
 ghost use Rattle.tables.specs.Inside.{GoesOn};
 ghost use Rattle.tables.specs.Rows.{Tables, Holds};
 ghost use Rattle.tables_meaning.specs.Coming.{bytes_so_far};
 ghost use Rattle.tables_meaning.specs.Taking.{listed_in};
+ghost use Rattle.tables.specs.Calls.{CommitsNothing, Inside, IsSame, KeepsCommitted};
 
 use crate::reading::read_body_inside;
 use records::{Changes, RecordFault};
 use sqlite::{Alter, Error, ErrorCode, Transaction};
 use std::alloc::Global;
-use sums::Entry;
-
-/// Whether the name is that of a .changes.
-#[tactic(auto, unfolding(keep::specs::Book::is_changes_name))]
-fn is_changes(name: &str) -> bool
-    ensures { result ≡ is_changes_name name.now }
-{
-    name.as_bytes().ends_with(b".changes")
-}
+use sums::{Entry, is_changes_name};
 
 /// The record of a .changes.
 fn changes_of(alloc: Global, body: &[u8]) -> Result<Changes, Error>
@@ -39,7 +35,7 @@ fn changes_of(alloc: Global, body: &[u8]) -> Result<Changes, Error>
 pub(crate) fn record_of(alloc: Global, name: &str, bytes: &[u8]) -> Result<Option<Changes>, Error>
     ensures { IfOk result (λ found. option_map (λ c. c.entries) found ≡ listed_in name.now bytes.now) }
 {
-    if !is_changes(name) {
+    if !is_changes_name(name) {
         return Ok(None);
     }
     let changes = changes_of(alloc, bytes)?;
@@ -52,14 +48,12 @@ fn bytes_inside<S: Alter>(
     tx: &mut Transaction<'_, S>,
     body: Option<u64>,
 ) -> Result<Vec<u8>, Error>
-    ensures same_reference { tx.new.conn.ghost_name ≡ tx.old.conn.ghost_name }
+    ensures same_reference { IsSame tx.old tx.new }
     ensures ok { HasCleanDisk (state S.Store tx.new.conn.now) → IsTrue (state S.Store tx.old.conn.now).is_open → (t : Tables) → Holds (state S.Store tx.old.conn.now).now t
         → IfOk result (λ bytes. (bytes.items ≡ bytes_so_far t body) × IsUnchanged (state S.Store tx.old.conn.now) (state S.Store tx.new.conn.now)) }
-    ensures goes_on { HasCleanDisk (state S.Store tx.new.conn.now) → IsTrue (state S.Store tx.old.conn.now).in_transaction → IsTrue (state S.Store tx.old.conn.now).is_open
-        → OnOk result (GoesOn (state S.Store tx.old.conn.now) (state S.Store tx.new.conn.now)) }
-    ensures kept { HasCleanDisk (state S.Store tx.new.conn.now) → IsTrue (state S.Store tx.old.conn.now).in_transaction
-        → OnErr result (KeepsCommit (state S.Store tx.old.conn.now) (state S.Store tx.new.conn.now)) }
-    ensures survives { Survives (state S.Store tx.old.conn.now) (state S.Store tx.new.conn.now) (λ _. ⊥) }
+    ensures goes_on { Inside S.Store tx.old tx.new (λ old new. IsTrue old.is_open → OnOk result (GoesOn old new)) }
+    ensures kept { KeepsCommitted S.Store tx.old tx.new result }
+    ensures survives { CommitsNothing S.Store tx.old tx.new }
 {
     match body {
         Some(id) => read_body_inside(alloc, tx, id),
@@ -74,16 +68,14 @@ pub(crate) fn record_inside<S: Alter>(
     name: &str,
     body: Option<u64>,
 ) -> Result<Option<Changes>, Error>
-    ensures same_reference { tx.new.conn.ghost_name ≡ tx.old.conn.ghost_name }
+    ensures same_reference { IsSame tx.old tx.new }
     ensures ok { HasCleanDisk (state S.Store tx.new.conn.now) → IsTrue (state S.Store tx.old.conn.now).is_open → (t : Tables) → Holds (state S.Store tx.old.conn.now).now t
         → IfOk result (λ found. (option_map (λ c. c.entries) found ≡ listed_in name.now (bytes_so_far t body)) × IsUnchanged (state S.Store tx.old.conn.now) (state S.Store tx.new.conn.now)) }
-    ensures goes_on { HasCleanDisk (state S.Store tx.new.conn.now) → IsTrue (state S.Store tx.old.conn.now).in_transaction → IsTrue (state S.Store tx.old.conn.now).is_open
-        → OnOk result (GoesOn (state S.Store tx.old.conn.now) (state S.Store tx.new.conn.now)) }
-    ensures kept { HasCleanDisk (state S.Store tx.new.conn.now) → IsTrue (state S.Store tx.old.conn.now).in_transaction → IsTrue (state S.Store tx.old.conn.now).is_open
-        → OnErr result (KeepsCommit (state S.Store tx.old.conn.now) (state S.Store tx.new.conn.now)) }
-    ensures survives { Survives (state S.Store tx.old.conn.now) (state S.Store tx.new.conn.now) (λ _. ⊥) }
+    ensures goes_on { Inside S.Store tx.old tx.new (λ old new. IsTrue old.is_open → OnOk result (GoesOn old new)) }
+    ensures kept { Inside S.Store tx.old tx.new (λ old new. IsTrue old.is_open → OnErr result (KeepsCommit old new)) }
+    ensures survives { CommitsNothing S.Store tx.old tx.new }
 {
-    if !is_changes(name) {
+    if !is_changes_name(name) {
         return Ok(None);
     }
     let bytes = bytes_inside(alloc, tx, body)?;

@@ -1,13 +1,10 @@
 //! The bodies of files, which lie in pieces.
 
-ghost use Rattle.std.specs.Prelude.{◌≡◌, ◌≢◌, false, IsTrue, IfOk, OnOk, OnErr, MatchBool, option_map};
+ghost use Rattle.std.specs.Prelude.{◌≡◌, ◌≢◌, false, IfOk, MatchBool, option_map};
 ghost use Rattle.std.specs.List.{flat_map};
-ghost use Rattle.sqlite.specs.State.{HasCleanDisk, IsUnchanged, KeepsCommit, Survives};
-ghost use Rattle.sqlite.specs.Held.{state};
-ghost use Rattle.tables.specs.Inside.{GoesOn};
-ghost use Rattle.tables.specs.Rows.{Tables, Holds, Fails, IsForeign};
 ghost use Rattle.tables_meaning.specs.Kept.{bytes_of, files_in};
-ghost use Rattle.tables_meaning.specs.Transactions.{IsUndone};
+ghost use Rattle.tables.specs.Calls.{CommitsNoRows, CommitsNothing, CommitsNothingOfOurs, GoesOnInside, IsSame, KeepsCommitted, Looks, ReadFails, Reads};
+ghost use Rattle.tables_meaning.specs.Calls.{ReadUndone};
 
 use sqlite::{Alter, Connection, Error, Transaction};
 use std::alloc::{AllocError, Global};
@@ -33,11 +30,9 @@ pub fn read_body<S: Alter>(
     id: u64,
 ) -> Result<Vec<u8>, Error>
     ensures idle { conn.old.in_transaction ≡ false → conn.new.in_transaction ≡ false }
-    ensures ok { HasCleanDisk (state S.Store conn.new) → (t : Tables) → Holds (state S.Store conn.old).now t
-        → IfOk result (λ bytes. (bytes.items ≡ bytes_of t id) × IsUnchanged (state S.Store conn.old) (state S.Store conn.new)) }
-    ensures err { HasCleanDisk (state S.Store conn.new) → (t : Tables) → Holds (state S.Store conn.old).now t
-        → OnErr result (Fails (state S.Store conn.old) (state S.Store conn.new)) }
-    ensures survives { Survives (state S.Store conn.old) (state S.Store conn.new) (λ _. IsForeign (state S.Store conn.old).now) }
+    ensures ok { Reads S.Store conn.old conn.new result (λ t bytes. bytes.items ≡ bytes_of t id) }
+    ensures err { ReadFails S.Store conn.old conn.new result }
+    ensures survives { CommitsNothingOfOurs S.Store conn.old conn.new }
 {
     let pieces = pieces_of(alloc, conn, id)?;
     Ok(joined(alloc, &pieces)?)
@@ -50,11 +45,9 @@ pub fn file_body<S: Alter>(
     path: &str,
 ) -> Result<Option<Vec<u8>>, Error>
     ensures idle { conn.old.in_transaction ≡ false → conn.new.in_transaction ≡ false }
-    ensures ok { HasCleanDisk (state S.Store conn.new) → (t : Tables) → Holds (state S.Store conn.old).now t
-        → IfOk result (λ found. (option_map (λ bytes. bytes.items) found ≡ files_in t path.now) × IsUnchanged (state S.Store conn.old) (state S.Store conn.new)) }
-    ensures err { HasCleanDisk (state S.Store conn.new) → (t : Tables) → Holds (state S.Store conn.old).now t
-        → OnErr result (IsUndone (state S.Store conn.old) (state S.Store conn.new)) }
-    ensures survives { Survives (state S.Store conn.old) (state S.Store conn.new) (λ _. (t : Tables) → ¬ Holds (state S.Store conn.old).now t) }
+    ensures ok { Reads S.Store conn.old conn.new result (λ t found. option_map (λ bytes. bytes.items) found ≡ files_in t path.now) }
+    ensures err { ReadUndone S.Store conn.old conn.new result }
+    ensures survives { CommitsNoRows S.Store conn.old conn.new }
 {
     let found = file_at(alloc, conn, path)?;
     match found {
@@ -79,14 +72,11 @@ pub(crate) fn read_body_inside<S: Alter>(
     tx: &mut Transaction<'_, S>,
     id: u64,
 ) -> Result<Vec<u8>, Error>
-    ensures same_reference { tx.new.conn.ghost_name ≡ tx.old.conn.ghost_name }
-    ensures ok { HasCleanDisk (state S.Store tx.new.conn.now) → (t : Tables) → Holds (state S.Store tx.old.conn.now).now t
-        → IfOk result (λ bytes. (bytes.items ≡ bytes_of t id) × IsUnchanged (state S.Store tx.old.conn.now) (state S.Store tx.new.conn.now)) }
-    ensures goes_on { HasCleanDisk (state S.Store tx.new.conn.now) → IsTrue (state S.Store tx.old.conn.now).in_transaction
-        → OnOk result (GoesOn (state S.Store tx.old.conn.now) (state S.Store tx.new.conn.now)) }
-    ensures kept { HasCleanDisk (state S.Store tx.new.conn.now) → IsTrue (state S.Store tx.old.conn.now).in_transaction
-        → OnErr result (KeepsCommit (state S.Store tx.old.conn.now) (state S.Store tx.new.conn.now)) }
-    ensures survives { Survives (state S.Store tx.old.conn.now) (state S.Store tx.new.conn.now) (λ _. ⊥) }
+    ensures same_reference { IsSame tx.old tx.new }
+    ensures ok { Looks S.Store tx.old tx.new result (λ t bytes. bytes.items ≡ bytes_of t id) }
+    ensures goes_on { GoesOnInside S.Store tx.old tx.new result }
+    ensures kept { KeepsCommitted S.Store tx.old tx.new result }
+    ensures survives { CommitsNothing S.Store tx.old tx.new }
 {
     let pieces = pieces_of_inside(alloc, tx, id)?;
     Ok(joined(alloc, &pieces)?)

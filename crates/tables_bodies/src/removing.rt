@@ -1,12 +1,17 @@
 //! Takes bodies away that are not whole, with their pieces.
+//!
+//! That a body goes is a commit, which needs some room. So over a full disk each delivery after the file that did not fit may be refused
+//! until there is room (Q4, 507), also a small one and one of what is there; and so may an opening (K2), also for a command that only
+//! reads. An archive that is open answers reads as before.
 
-ghost use Rattle.std.specs.Prelude.{◌≡◌, ◌≢◌, [], false, IsTrue, OnOk, OnErr};
-ghost use Rattle.sqlite.specs.State.{HasCleanDisk, KeepsCommit, Survives};
+ghost use Rattle.std.specs.Prelude.{◌≡◌, ◌≢◌, [], false, IsTrue, OnOk};
+ghost use Rattle.sqlite.specs.State.{Survives};
 ghost use Rattle.sqlite.specs.Held.{state};
-ghost use Rattle.tables.specs.Rows.{Changes};
 ghost use Rattle.tables_meaning.specs.Amending.{Makes};
 ghost use Rattle.tables_meaning.specs.Finished.{without_all, without_whole};
-ghost use Rattle.tables_meaning.specs.Transactions.{IsDone, IsUndone, MayCommit};
+ghost use Rattle.tables_meaning.specs.Transactions.{IsDone, MayCommit};
+ghost use Rattle.tables.specs.Calls.{CommitsNothing, Inside, IsSame, KeepsCommitted, OnCleanDisk, Writes};
+ghost use Rattle.tables_meaning.specs.Calls.{Undoes};
 
 use sqlite::{Alter, Connection, Error, Transaction};
 use tables::bodies::delete_body;
@@ -14,12 +19,10 @@ use tables::pieces::delete_pieces_of;
 
 /// Removes a body and its pieces.
 pub(crate) fn remove_body<S: Alter>(tx: &mut Transaction<'_, S>, id: u64) -> Result<(), Error>
-    ensures same_reference { tx.new.conn.ghost_name ≡ tx.old.conn.ghost_name }
-    ensures ok { HasCleanDisk (state S.Store tx.new.conn.now) → IsTrue (state S.Store tx.old.conn.now).in_transaction
-        → OnOk result (Changes (state S.Store tx.old.conn.now) (state S.Store tx.new.conn.now) (without_whole id)) }
-    ensures err { HasCleanDisk (state S.Store tx.new.conn.now) → IsTrue (state S.Store tx.old.conn.now).in_transaction
-        → OnErr result (KeepsCommit (state S.Store tx.old.conn.now) (state S.Store tx.new.conn.now)) }
-    ensures survives { Survives (state S.Store tx.old.conn.now) (state S.Store tx.new.conn.now) (λ _. ⊥) }
+    ensures same_reference { IsSame tx.old tx.new }
+    ensures ok { Writes S.Store tx.old tx.new result (without_whole id) }
+    ensures err { KeepsCommitted S.Store tx.old tx.new result }
+    ensures survives { CommitsNothing S.Store tx.old tx.new }
 {
     delete_pieces_of(tx, id)?;
     delete_body(tx, id)
@@ -27,14 +30,11 @@ pub(crate) fn remove_body<S: Alter>(tx: &mut Transaction<'_, S>, id: u64) -> Res
 
 /// Removes the bodies of these numbers and their pieces. It succeeds only on a connection that is open, where there is any.
 pub(crate) fn remove_bodies<S: Alter>(tx: &mut Transaction<'_, S>, ids: &[u64]) -> Result<(), Error>
-    ensures same_reference { tx.new.conn.ghost_name ≡ tx.old.conn.ghost_name }
-    ensures ok { HasCleanDisk (state S.Store tx.new.conn.now) → IsTrue (state S.Store tx.old.conn.now).in_transaction
-        → OnOk result (Makes (state S.Store tx.old.conn.now) (state S.Store tx.new.conn.now) (without_all ids.now)) }
-    ensures opened { HasCleanDisk (state S.Store tx.new.conn.now) → IsTrue (state S.Store tx.old.conn.now).in_transaction → ids.now ≢ []
-        → OnOk result (IsTrue (state S.Store tx.old.conn.now).is_open) }
-    ensures err { HasCleanDisk (state S.Store tx.new.conn.now) → IsTrue (state S.Store tx.old.conn.now).in_transaction
-        → OnErr result (KeepsCommit (state S.Store tx.old.conn.now) (state S.Store tx.new.conn.now)) }
-    ensures survives { Survives (state S.Store tx.old.conn.now) (state S.Store tx.new.conn.now) (λ _. ⊥) }
+    ensures same_reference { IsSame tx.old tx.new }
+    ensures ok { Inside S.Store tx.old tx.new (λ old new. OnOk result (Makes old new (without_all ids.now))) }
+    ensures opened { Inside S.Store tx.old tx.new (λ old new. ids.now ≢ [] → OnOk result (IsTrue old.is_open)) }
+    ensures err { KeepsCommitted S.Store tx.old tx.new result }
+    ensures survives { CommitsNothing S.Store tx.old tx.new }
 {
     for id in ids {
         remove_body(tx, *id)?;
@@ -47,8 +47,8 @@ pub fn remove_all<S: Alter>(conn: &mut Connection<S>, ids: &[u64]) -> Result<(),
     requires idle { conn.old.in_transaction ≡ false }
     requires some { ids.now ≢ [] }
     ensures idle { conn.new.in_transaction ≡ false }
-    ensures done { HasCleanDisk (state S.Store conn.new) → OnOk result (IsDone (state S.Store conn.old) (state S.Store conn.new) (without_all ids.now)) }
-    ensures undone { HasCleanDisk (state S.Store conn.new) → OnErr result (IsUndone (state S.Store conn.old) (state S.Store conn.new)) }
+    ensures done { OnCleanDisk S.Store conn.old conn.new (λ old new. OnOk result (IsDone old new (without_all ids.now))) }
+    ensures undone { Undoes S.Store conn.old conn.new result }
     ensures crash { Survives (state S.Store conn.old) (state S.Store conn.new) (MayCommit (state S.Store conn.old) (without_all ids.now)) }
 {
     let mut tx = conn.transaction();

@@ -1,16 +1,16 @@
 //! Takes bodies away that nothing uses.
+//!
+//! A change that takes files out of the pool may leave bodies that nothing uses. They go with it, for which the numbers of all bodies,
+//! arrivals and files are read.
 
-ghost use Rattle.std.specs.Prelude.{◌≡◌, ◌++◌, filter, nat_eq, not, IsTrue, IfOk, OnOk, OnErr};
+ghost use Rattle.std.specs.Prelude.{◌≡◌, ◌++◌, filter, nat_eq, not, IfOk, OnOk};
 ghost use Rattle.std.specs.List.{list_any};
 ghost use Rattle.std.specs.List.Sorted.{IsNonDecreasing, IsPermutation};
-ghost use Rattle.sqlite.specs.State.{HasCleanDisk, IsUnchanged, KeepsCommit, Survives};
-ghost use Rattle.sqlite.specs.Held.{state};
-ghost use Rattle.tables.specs.Inside.{GoesOn};
-ghost use Rattle.tables.specs.Rows.{Tables, Holds};
 ghost use Rattle.tables_bodies.specs.Unused.{unused_in};
 ghost use Rattle.tables_meaning.specs.Amending.{Makes};
 ghost use Rattle.tables_meaning.specs.Kept.{used_in};
 ghost use Rattle.tables_meaning.specs.Sweeping.{swept};
+ghost use Rattle.tables.specs.Calls.{CommitsNothing, GoesOnInside, Inside, IsSame, KeepsCommitted, Looks};
 
 use crate::removing::remove_bodies;
 use sqlite::{Alter, Error, Transaction};
@@ -61,14 +61,11 @@ fn without_others(alloc: Global, ids: &[u64], others: &[u64]) -> Result<Vec<u64>
 /// The numbers of the bodies that arrivals and files have, in rising order.
 fn used_bodies<S: Alter>(alloc: Global, tx: &mut Transaction<'_, S>) -> Result<Vec<u64>, Error>
     ensures rise { IfOk result (λ used. IsNonDecreasing used.items) }
-    ensures same_reference { tx.new.conn.ghost_name ≡ tx.old.conn.ghost_name }
-    ensures ok { HasCleanDisk (state S.Store tx.new.conn.now) → (t : Tables) → Holds (state S.Store tx.old.conn.now).now t
-        → IfOk result (λ used. IsPermutation (used_in t) used.items × IsUnchanged (state S.Store tx.old.conn.now) (state S.Store tx.new.conn.now)) }
-    ensures goes_on { HasCleanDisk (state S.Store tx.new.conn.now) → IsTrue (state S.Store tx.old.conn.now).in_transaction
-        → OnOk result (GoesOn (state S.Store tx.old.conn.now) (state S.Store tx.new.conn.now)) }
-    ensures kept { HasCleanDisk (state S.Store tx.new.conn.now) → IsTrue (state S.Store tx.old.conn.now).in_transaction
-        → OnErr result (KeepsCommit (state S.Store tx.old.conn.now) (state S.Store tx.new.conn.now)) }
-    ensures survives { Survives (state S.Store tx.old.conn.now) (state S.Store tx.new.conn.now) (λ _. ⊥) }
+    ensures same_reference { IsSame tx.old tx.new }
+    ensures ok { Looks S.Store tx.old tx.new result (λ t used. IsPermutation (used_in t) used.items) }
+    ensures goes_on { GoesOnInside S.Store tx.old tx.new result }
+    ensures kept { KeepsCommitted S.Store tx.old tx.new result }
+    ensures survives { CommitsNothing S.Store tx.old tx.new }
 {
     let arrived = arrived_bodies_inside(alloc, tx)?;
     let filed = filed_bodies_inside(alloc, tx)?;
@@ -78,14 +75,11 @@ fn used_bodies<S: Alter>(alloc: Global, tx: &mut Transaction<'_, S>) -> Result<V
 
 /// The numbers of the bodies that no arrival and no file has.
 fn unused_bodies<S: Alter>(alloc: Global, tx: &mut Transaction<'_, S>) -> Result<Vec<u64>, Error>
-    ensures same_reference { tx.new.conn.ghost_name ≡ tx.old.conn.ghost_name }
-    ensures ok { HasCleanDisk (state S.Store tx.new.conn.now) → (t : Tables) → Holds (state S.Store tx.old.conn.now).now t
-        → IfOk result (λ unused. (unused.items ≡ unused_in t) × IsUnchanged (state S.Store tx.old.conn.now) (state S.Store tx.new.conn.now)) }
-    ensures goes_on { HasCleanDisk (state S.Store tx.new.conn.now) → IsTrue (state S.Store tx.old.conn.now).in_transaction
-        → OnOk result (GoesOn (state S.Store tx.old.conn.now) (state S.Store tx.new.conn.now)) }
-    ensures kept { HasCleanDisk (state S.Store tx.new.conn.now) → IsTrue (state S.Store tx.old.conn.now).in_transaction
-        → OnErr result (KeepsCommit (state S.Store tx.old.conn.now) (state S.Store tx.new.conn.now)) }
-    ensures survives { Survives (state S.Store tx.old.conn.now) (state S.Store tx.new.conn.now) (λ _. ⊥) }
+    ensures same_reference { IsSame tx.old tx.new }
+    ensures ok { Looks S.Store tx.old tx.new result (λ t unused. unused.items ≡ unused_in t) }
+    ensures goes_on { GoesOnInside S.Store tx.old tx.new result }
+    ensures kept { KeepsCommitted S.Store tx.old tx.new result }
+    ensures survives { CommitsNothing S.Store tx.old tx.new }
 {
     let all = body_numbers_inside(alloc, tx)?;
     let used = used_bodies(alloc, tx)?;
@@ -95,12 +89,10 @@ fn unused_bodies<S: Alter>(alloc: Global, tx: &mut Transaction<'_, S>) -> Result
 
 /// Removes the bodies that no arrival and no file has, and their pieces.
 pub fn sweep<S: Alter>(alloc: Global, tx: &mut Transaction<'_, S>) -> Result<(), Error>
-    ensures same_reference { tx.new.conn.ghost_name ≡ tx.old.conn.ghost_name }
-    ensures ok { HasCleanDisk (state S.Store tx.new.conn.now) → IsTrue (state S.Store tx.old.conn.now).in_transaction
-        → OnOk result (Makes (state S.Store tx.old.conn.now) (state S.Store tx.new.conn.now) (swept)) }
-    ensures err { HasCleanDisk (state S.Store tx.new.conn.now) → IsTrue (state S.Store tx.old.conn.now).in_transaction
-        → OnErr result (KeepsCommit (state S.Store tx.old.conn.now) (state S.Store tx.new.conn.now)) }
-    ensures survives { Survives (state S.Store tx.old.conn.now) (state S.Store tx.new.conn.now) (λ _. ⊥) }
+    ensures same_reference { IsSame tx.old tx.new }
+    ensures ok { Inside S.Store tx.old tx.new (λ old new. OnOk result (Makes old new (swept))) }
+    ensures err { KeepsCommitted S.Store tx.old tx.new result }
+    ensures survives { CommitsNothing S.Store tx.old tx.new }
 {
     let unused = unused_bodies(alloc, tx)?;
     remove_bodies(tx, &unused)

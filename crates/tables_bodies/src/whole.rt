@@ -1,11 +1,12 @@
 //! A body that came and is whole.
+//!
+//! If a body of the same print is there, the two are compared piece by piece, and the new one is taken away.
 
-ghost use Rattle.std.specs.Prelude.{◌≡◌, unwrap_or, IsTrue, IfOk, OnErr};
-ghost use Rattle.sqlite.specs.State.{HasCleanDisk, KeepsCommit, Survives};
-ghost use Rattle.sqlite.specs.Held.{state};
-ghost use Rattle.tables.specs.Rows.{Tables, Holds, Changes, next_in};
+ghost use Rattle.std.specs.Prelude.{◌≡◌, unwrap_or, IsTrue, IfOk};
+ghost use Rattle.tables.specs.Rows.{Changes, next_in};
 ghost use Rattle.tables_bodies.specs.Known.{without_known};
 ghost use Rattle.tables_meaning.specs.Coming.{ended_number, with_ended, with_new_print};
+ghost use Rattle.tables.specs.Calls.{CommitsNothing, Inside, IsSame, KeepsCommitted, WritesAnd};
 
 use crate::removing::remove_body;
 use sqlite::{Alter, Error, Transaction};
@@ -21,13 +22,10 @@ pub(crate) fn store_whole<S: Alter>(
     body: Option<u64>,
     print: &Print,
 ) -> Result<u64, Error>
-    ensures same_reference { tx.new.conn.ghost_name ≡ tx.old.conn.ghost_name }
-    ensures ok { HasCleanDisk (state S.Store tx.new.conn.now) → IsTrue (state S.Store tx.old.conn.now).in_transaction
-        → IfOk result (λ id. Changes (state S.Store tx.old.conn.now) (state S.Store tx.new.conn.now) (with_ended body print.now)
-        × ((t : Tables) → Holds (state S.Store tx.old.conn.now).now t → id ≡ ended_number body print.now t)) }
-    ensures err { HasCleanDisk (state S.Store tx.new.conn.now) → IsTrue (state S.Store tx.old.conn.now).in_transaction
-        → OnErr result (KeepsCommit (state S.Store tx.old.conn.now) (state S.Store tx.new.conn.now)) }
-    ensures survives { Survives (state S.Store tx.old.conn.now) (state S.Store tx.new.conn.now) (λ _. ⊥) }
+    ensures same_reference { IsSame tx.old tx.new }
+    ensures ok { WritesAnd S.Store tx.old tx.new result (with_ended body print.now) (λ id t. id ≡ ended_number body print.now t) }
+    ensures err { KeepsCommitted S.Store tx.old tx.new result }
+    ensures survives { CommitsNothing S.Store tx.old tx.new }
 {
     let found = body_with_print_inside(alloc, tx, print)?;
     match found {
@@ -42,13 +40,10 @@ fn remove_known<S: Alter>(
     body: Option<u64>,
     stored: u64,
 ) -> Result<u64, Error>
-    ensures same_reference { tx.new.conn.ghost_name ≡ tx.old.conn.ghost_name }
-    ensures ok { HasCleanDisk (state S.Store tx.new.conn.now) → IsTrue (state S.Store tx.old.conn.now).in_transaction
-        → IsTrue (state S.Store tx.old.conn.now).is_open
-        → IfOk result (λ id. Changes (state S.Store tx.old.conn.now) (state S.Store tx.new.conn.now) (without_known body) × (id ≡ stored)) }
-    ensures err { HasCleanDisk (state S.Store tx.new.conn.now) → IsTrue (state S.Store tx.old.conn.now).in_transaction
-        → OnErr result (KeepsCommit (state S.Store tx.old.conn.now) (state S.Store tx.new.conn.now)) }
-    ensures survives { Survives (state S.Store tx.old.conn.now) (state S.Store tx.new.conn.now) (λ _. ⊥) }
+    ensures same_reference { IsSame tx.old tx.new }
+    ensures ok { Inside S.Store tx.old tx.new (λ old new. IsTrue old.is_open → IfOk result (λ id. Changes old new (without_known body) × (id ≡ stored))) }
+    ensures err { KeepsCommitted S.Store tx.old tx.new result }
+    ensures survives { CommitsNothing S.Store tx.old tx.new }
 {
     match body {
         Some(id) => {
@@ -65,13 +60,10 @@ fn print_body<S: Alter>(
     body: Option<u64>,
     print: &Print,
 ) -> Result<u64, Error>
-    ensures same_reference { tx.new.conn.ghost_name ≡ tx.old.conn.ghost_name }
-    ensures ok { HasCleanDisk (state S.Store tx.new.conn.now) → IsTrue (state S.Store tx.old.conn.now).in_transaction
-        → IfOk result (λ id. Changes (state S.Store tx.old.conn.now) (state S.Store tx.new.conn.now) (with_new_print body print.now)
-        × ((t : Tables) → Holds (state S.Store tx.old.conn.now).now t → id ≡ unwrap_or body (next_in t.bodies))) }
-    ensures err { HasCleanDisk (state S.Store tx.new.conn.now) → IsTrue (state S.Store tx.old.conn.now).in_transaction
-        → OnErr result (KeepsCommit (state S.Store tx.old.conn.now) (state S.Store tx.new.conn.now)) }
-    ensures survives { Survives (state S.Store tx.old.conn.now) (state S.Store tx.new.conn.now) (λ _. ⊥) }
+    ensures same_reference { IsSame tx.old tx.new }
+    ensures ok { WritesAnd S.Store tx.old tx.new result (with_new_print body print.now) (λ id t. id ≡ unwrap_or body (next_in t.bodies)) }
+    ensures err { KeepsCommitted S.Store tx.old tx.new result }
+    ensures survives { CommitsNothing S.Store tx.old tx.new }
 {
     match body {
         Some(id) => {

@@ -1,13 +1,15 @@
 //! A change of an archive, as one transaction.
 
-ghost use Rattle.std.specs.Prelude.{◌≡◌, false, IsTrue, OnOk, OnErr};
+ghost use Rattle.std.specs.Prelude.{◌≡◌, false, OnOk, OnErr};
 ghost use Rattle.sqlite.specs.State.{HasCleanDisk, KeepsCommit, IsUnchanged, Survives};
 ghost use Rattle.sqlite.specs.Held.{state};
-ghost use Rattle.tables.specs.Rows.{Tables, Holds, Changes};
+ghost use Rattle.tables.specs.Rows.{Tables, Holds};
 ghost use Rattle.tables_meaning.specs.Making.{with_new_dates, with_new_texts, with_written};
 ghost use Rattle.tables_meaning.specs.Amending.{HasAllBodies, Makes};
-ghost use Rattle.tables_meaning.specs.Transactions.{IsDone, IsUndone, MayCommit};
-ghost use Rattle.tables_changes.specs.Swept.{with_made};
+ghost use Rattle.tables_meaning.specs.Transactions.{IsDone, MayCommit};
+ghost use Rattle.tables_bodies.specs.Swept.{with_made};
+ghost use Rattle.tables.specs.Calls.{CommitsNothing, Inside, IsSame, KeepsCommitted, OnCleanDisk, Writes};
+ghost use Rattle.tables_meaning.specs.Calls.{Undoes};
 
 mod judging;
 mod pooling;
@@ -15,21 +17,20 @@ mod renewing;
 mod showing;
 mod stepping;
 
-pub use crate::amending::pooling::some_take_files;
 use crate::amending::renewing::{renew_dates, renew_texts};
 use crate::amending::stepping::make_steps;
-use tables_bodies::sweep;
 use keep::Change;
 use rules::Config;
 use sqlite::{Alter, Connection, Error, Transaction};
 use std::alloc::Global;
+use tables_bodies::sweep;
 
 /// Refuses a connection that an earlier failure of the disk has shut.
 fn confirm_open<S: Alter>(tx: &mut Transaction<'_, S>) -> Result<(), Error>
-    ensures same_reference { tx.new.conn.ghost_name ≡ tx.old.conn.ghost_name }
+    ensures same_reference { IsSame tx.old tx.new }
     ensures ok { HasCleanDisk (state S.Store tx.new.conn.now) → OnOk result (IsUnchanged (state S.Store tx.old.conn.now) (state S.Store tx.new.conn.now)) }
     ensures err { HasCleanDisk (state S.Store tx.new.conn.now) → OnErr result (KeepsCommit (state S.Store tx.old.conn.now) (state S.Store tx.new.conn.now)) }
-    ensures survives { Survives (state S.Store tx.old.conn.now) (state S.Store tx.new.conn.now) (λ _. ⊥) }
+    ensures survives { CommitsNothing S.Store tx.old tx.new }
 {
     tx.prepare("SELECT 1")?;
     Ok(())
@@ -41,12 +42,10 @@ fn renew<S: Alter>(
     config: &Config,
     change: &Change,
 ) -> Result<(), Error>
-    ensures same_reference { tx.new.conn.ghost_name ≡ tx.old.conn.ghost_name }
-    ensures ok { HasCleanDisk (state S.Store tx.new.conn.now) → IsTrue (state S.Store tx.old.conn.now).in_transaction
-        → OnOk result (Makes (state S.Store tx.old.conn.now) (state S.Store tx.new.conn.now) (λ t. with_new_dates config.now.suites change.now.moment change.now.steps (with_new_texts change.now.texts t))) }
-    ensures err { HasCleanDisk (state S.Store tx.new.conn.now) → IsTrue (state S.Store tx.old.conn.now).in_transaction
-        → OnErr result (KeepsCommit (state S.Store tx.old.conn.now) (state S.Store tx.new.conn.now)) }
-    ensures survives { Survives (state S.Store tx.old.conn.now) (state S.Store tx.new.conn.now) (λ _. ⊥) }
+    ensures same_reference { IsSame tx.old tx.new }
+    ensures ok { Inside S.Store tx.old tx.new (λ old new. OnOk result (Makes old new (λ t. with_new_dates config.now.suites change.now.moment change.now.steps (with_new_texts change.now.texts t)))) }
+    ensures err { KeepsCommitted S.Store tx.old tx.new result }
+    ensures survives { CommitsNothing S.Store tx.old tx.new }
 {
     let suites = config.suites();
     let steps = change.steps.as_slice();
@@ -63,14 +62,11 @@ fn write_inside<S: Alter>(
     judged: u64,
     change: &Change,
 ) -> Result<(), Error>
-    ensures same_reference { tx.new.conn.ghost_name ≡ tx.old.conn.ghost_name }
-    ensures ok { HasCleanDisk (state S.Store tx.new.conn.now) → IsTrue (state S.Store tx.old.conn.now).in_transaction
-        → OnOk result (Changes (state S.Store tx.old.conn.now) (state S.Store tx.new.conn.now) (with_written config.now judged change.now)) }
-    ensures err { HasCleanDisk (state S.Store tx.new.conn.now) → IsTrue (state S.Store tx.old.conn.now).in_transaction
-        → OnErr result (KeepsCommit (state S.Store tx.old.conn.now) (state S.Store tx.new.conn.now)) }
-    ensures survives { Survives (state S.Store tx.old.conn.now) (state S.Store tx.new.conn.now) (λ _. ⊥) }
-    ensures bodies { HasCleanDisk (state S.Store tx.new.conn.now) → IsTrue (state S.Store tx.old.conn.now).in_transaction
-        → OnOk result ((t : Tables) → Holds (state S.Store tx.old.conn.now).now t → HasAllBodies t change.now.steps) }
+    ensures same_reference { IsSame tx.old tx.new }
+    ensures ok { Writes S.Store tx.old tx.new result (with_written config.now judged change.now) }
+    ensures err { KeepsCommitted S.Store tx.old tx.new result }
+    ensures survives { CommitsNothing S.Store tx.old tx.new }
+    ensures bodies { Inside S.Store tx.old tx.new (λ old new. OnOk result ((t : Tables) → Holds old.now t → HasAllBodies t change.now.steps)) }
 {
     let suites = config.suites();
     let steps = change.steps.as_slice();
@@ -88,14 +84,11 @@ fn amend_inside<S: Alter>(
     sweeps: bool,
     change: &Change,
 ) -> Result<(), Error>
-    ensures same_reference { tx.new.conn.ghost_name ≡ tx.old.conn.ghost_name }
-    ensures ok { HasCleanDisk (state S.Store tx.new.conn.now) → IsTrue (state S.Store tx.old.conn.now).in_transaction
-        → OnOk result (Changes (state S.Store tx.old.conn.now) (state S.Store tx.new.conn.now) (with_made sweeps config.now judged change.now)) }
-    ensures err { HasCleanDisk (state S.Store tx.new.conn.now) → IsTrue (state S.Store tx.old.conn.now).in_transaction
-        → OnErr result (KeepsCommit (state S.Store tx.old.conn.now) (state S.Store tx.new.conn.now)) }
-    ensures survives { Survives (state S.Store tx.old.conn.now) (state S.Store tx.new.conn.now) (λ _. ⊥) }
-    ensures bodies { HasCleanDisk (state S.Store tx.new.conn.now) → IsTrue (state S.Store tx.old.conn.now).in_transaction
-        → OnOk result ((t : Tables) → Holds (state S.Store tx.old.conn.now).now t → HasAllBodies t change.now.steps) }
+    ensures same_reference { IsSame tx.old tx.new }
+    ensures ok { Writes S.Store tx.old tx.new result (with_made sweeps config.now judged change.now) }
+    ensures err { KeepsCommitted S.Store tx.old tx.new result }
+    ensures survives { CommitsNothing S.Store tx.old tx.new }
+    ensures bodies { Inside S.Store tx.old tx.new (λ old new. OnOk result ((t : Tables) → Holds old.now t → HasAllBodies t change.now.steps)) }
 {
     write_inside(alloc, tx, config, judged, change)?;
     if sweeps {
@@ -116,9 +109,9 @@ pub fn amend<S: Alter>(
 ) -> Result<(), Error>
     requires idle { conn.old.in_transaction ≡ false }
     ensures idle { conn.new.in_transaction ≡ false }
-    ensures done { HasCleanDisk (state S.Store conn.new) → OnOk result (IsDone (state S.Store conn.old) (state S.Store conn.new) (with_made sweeps config.now judged change.now)) }
-    ensures bodies { HasCleanDisk (state S.Store conn.new) → OnOk result ((t : Tables) → Holds (state S.Store conn.old).now t → HasAllBodies t change.now.steps) }
-    ensures undone { HasCleanDisk (state S.Store conn.new) → OnErr result (IsUndone (state S.Store conn.old) (state S.Store conn.new)) }
+    ensures done { OnCleanDisk S.Store conn.old conn.new (λ old new. OnOk result (IsDone old new (with_made sweeps config.now judged change.now))) }
+    ensures bodies { OnCleanDisk S.Store conn.old conn.new (λ old new. OnOk result ((t : Tables) → Holds old.now t → HasAllBodies t change.now.steps)) }
+    ensures undone { Undoes S.Store conn.old conn.new result }
     ensures crash { Survives (state S.Store conn.old) (state S.Store conn.new) (λ trees. MayCommit (state S.Store conn.old) (with_made sweeps config.now judged change.now) trees
         × ((t : Tables) → Holds (state S.Store conn.old).now t → HasAllBodies t change.now.steps)) }
 {

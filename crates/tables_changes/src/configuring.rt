@@ -1,12 +1,16 @@
 //! Another configuration in the rows of an archive, as one transaction.
+//!
+//! All texts, all dates and the configuration are written anew, also those that stay as they are: their rows have to be in the order of the
+//! configuration. The same text again is a commit that changes nothing.
 
-ghost use Rattle.std.specs.Prelude.{◌≡◌, ◌≤◌, false, All, length, IsTrue, OnOk, OnErr};
-ghost use Rattle.sqlite.specs.State.{HasCleanDisk, KeepsCommit, Survives};
+ghost use Rattle.std.specs.Prelude.{◌≡◌, ◌≤◌, false, All, length, OnOk};
+ghost use Rattle.sqlite.specs.State.{Survives};
 ghost use Rattle.sqlite.specs.Held.{state};
 ghost use Rattle.keep.specs.Book.{latest};
-ghost use Rattle.tables.specs.Rows.{Changes};
 ghost use Rattle.tables_meaning.specs.Configuring.{with_configured};
-ghost use Rattle.tables_meaning.specs.Transactions.{IsDone, IsUndone, MayCommit};
+ghost use Rattle.tables_meaning.specs.Transactions.{IsDone, MayCommit};
+ghost use Rattle.tables.specs.Calls.{CommitsNothing, IsSame, KeepsCommitted, OnCleanDisk, Writes};
+ghost use Rattle.tables_meaning.specs.Calls.{Undoes};
 
 use crate::founding::{insert_dates, insert_texts};
 use rules::Config;
@@ -27,12 +31,10 @@ pub fn configure_inside<S: Alter>(
 ) -> Result<(), Error>
     requires dated { length dates.now ≡ length config.now.suites }
     requires in_range { All (λ date. date ≤ latest) dates.now }
-    ensures same_reference { tx.new.conn.ghost_name ≡ tx.old.conn.ghost_name }
-    ensures ok { HasCleanDisk (state S.Store tx.new.conn.now) → IsTrue (state S.Store tx.old.conn.now).in_transaction
-        → OnOk result (Changes (state S.Store tx.old.conn.now) (state S.Store tx.new.conn.now) (with_configured config.now shelves.now dates.now)) }
-    ensures err { HasCleanDisk (state S.Store tx.new.conn.now) → IsTrue (state S.Store tx.old.conn.now).in_transaction
-        → OnErr result (KeepsCommit (state S.Store tx.old.conn.now) (state S.Store tx.new.conn.now)) }
-    ensures survives { Survives (state S.Store tx.old.conn.now) (state S.Store tx.new.conn.now) (λ _. ⊥) }
+    ensures same_reference { IsSame tx.old tx.new }
+    ensures ok { Writes S.Store tx.old tx.new result (with_configured config.now shelves.now dates.now) }
+    ensures err { KeepsCommitted S.Store tx.old tx.new result }
+    ensures survives { CommitsNothing S.Store tx.old tx.new }
 {
     update_configuration(tx, config.text())?;
     delete_texts(tx)?;
@@ -53,8 +55,8 @@ pub fn configure<S: Alter>(
     requires dated { length dates.now ≡ length config.now.suites }
     requires in_range { All (λ date. date ≤ latest) dates.now }
     ensures idle { conn.new.in_transaction ≡ false }
-    ensures done { HasCleanDisk (state S.Store conn.new) → OnOk result (IsDone (state S.Store conn.old) (state S.Store conn.new) (with_configured config.now shelves.now dates.now)) }
-    ensures undone { HasCleanDisk (state S.Store conn.new) → OnErr result (IsUndone (state S.Store conn.old) (state S.Store conn.new)) }
+    ensures done { OnCleanDisk S.Store conn.old conn.new (λ old new. OnOk result (IsDone old new (with_configured config.now shelves.now dates.now))) }
+    ensures undone { Undoes S.Store conn.old conn.new result }
     ensures crash { Survives (state S.Store conn.old) (state S.Store conn.new) (MayCommit (state S.Store conn.old) (with_configured config.now shelves.now dates.now)) }
 {
     let mut tx = conn.transaction();

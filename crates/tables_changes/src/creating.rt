@@ -1,11 +1,16 @@
 //! A new archive in a database.
+//!
+//! A new archive is made in a database that holds no object at all, also no view. So the archive's tables come first wherever there are
+//! some, since VACUUM and a dump keep the order of tables. After others their places would be unknown, and what each statement means would
+//! have to be proved of any places.
 
-ghost use Rattle.std.specs.Prelude.{◌≡◌, ◌≤◌, ◌↔◌, false, IsTrue, OnOk, OnErr};
-ghost use Rattle.sqlite.specs.State.{HasCleanDisk, Survives};
+ghost use Rattle.std.specs.Prelude.{◌≡◌, ◌≤◌, ◌↔◌, false, IsTrue, OnOk};
+ghost use Rattle.sqlite.specs.State.{Survives};
 ghost use Rattle.sqlite.specs.Held.{state};
 ghost use Rattle.tables.specs.Schema.{no_schema};
-ghost use Rattle.tables_meaning.specs.Transactions.{IsUndone};
 ghost use Rattle.tables_meaning.specs.Founding.{IsFounded, MayFound, founded};
+ghost use Rattle.tables.specs.Calls.{OnCleanDisk};
+ghost use Rattle.tables_meaning.specs.Calls.{Undoes};
 
 use crate::founding::found_inside;
 use keep::LATEST;
@@ -35,8 +40,8 @@ pub fn create<S: Alter>(
     requires idle { conn.old.in_transaction ≡ false }
     requires moment { moment ≤ LATEST }
     ensures idle { conn.new.in_transaction ≡ false }
-    ensures done { HasCleanDisk (state S.Store conn.new) → OnOk result (IsFounded (state S.Store conn.old) (state S.Store conn.new) (founded config.now moment)) }
-    ensures undone { HasCleanDisk (state S.Store conn.new) → OnErr result (IsUndone (state S.Store conn.old) (state S.Store conn.new)) }
+    ensures done { OnCleanDisk S.Store conn.old conn.new (λ old new. OnOk result (IsFounded old new (founded config.now moment))) }
+    ensures undone { Undoes S.Store conn.old conn.new result }
     ensures crash { Survives (state S.Store conn.old) (state S.Store conn.new) (MayFound (state S.Store conn.old) (founded config.now moment)) }
 {
     let mut tx = conn.transaction();

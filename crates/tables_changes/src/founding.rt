@@ -1,14 +1,12 @@
 //! The first rows of an archive.
 
-ghost use Rattle.std.specs.Prelude.{◌≡◌, ◌≤◌, ◌<◌, All, length, map, string_bytes, zip, IsTrue, IfOk, OnOk, OnErr};
-ghost use Rattle.sqlite.specs.State.{HasCleanDisk, KeepsCommit, Survives};
-ghost use Rattle.sqlite.specs.Held.{state};
-ghost use Rattle.texts.specs.Indices.{all_texts, suite_path};
+ghost use Rattle.std.specs.Prelude.{◌≡◌, ◌≤◌, ◌<◌, All, length, map, zip, IfOk, OnOk};
+ghost use Rattle.texts.specs.Indices.{all_texts};
 ghost use Rattle.texts.specs.Positions.{indices_at, release_at};
 ghost use Rattle.texts.specs.Release.{listed_entry};
-ghost use Rattle.tables.specs.Rows.{Changes};
 ghost use Rattle.tables_meaning.specs.Founding.{Continues, Founds, component_texts, components_texts, founded, from_root, suite_texts_at, with_dates, with_first_rows, with_path_text, with_texts};
 ghost use Rattle.tables_meaning.specs.Kept.{date_row};
+ghost use Rattle.tables.specs.Calls.{CommitsNothing, Inside, IsSame, KeepsCommitted, Writes};
 
 use keep::LATEST;
 use rules::{Config, Suite};
@@ -19,15 +17,7 @@ use tables::dates::insert_date;
 use tables::meta::{VERSION, insert_meta};
 use tables::schema::{create_indexes, create_tables};
 use tables::texts::insert_text;
-use texts::{index_path, indices_of, listed_text, release};
-
-/// The whole path of a text in the folder of the suite.
-fn path_in(alloc: Global, suite: &Suite, path: &str) -> Result<String, AllocError>
-    ensures { IfOk result (λ whole. string_bytes whole ≡ suite_path suite.now path.now) }
-{
-    let codename = suite.codename.as_str();
-    format!(in alloc; "dists/{codename}/{path}")
-}
+use texts::{index_path, indices_of, listed_text, path_in, release};
 
 /// The Release of the suite at the position, whose shown items last changed at the moment.
 fn release_of(
@@ -55,14 +45,12 @@ fn insert_in_folder<S: Alter>(
     path: &str,
     text: &[u8],
 ) -> Result<(), Error>
-    ensures same_reference { tx.new.conn.ghost_name ≡ tx.old.conn.ghost_name }
-    ensures ok { HasCleanDisk (state S.Store tx.new.conn.now) → IsTrue (state S.Store tx.old.conn.now).in_transaction
-        → OnOk result (Changes (state S.Store tx.old.conn.now) (state S.Store tx.new.conn.now) (with_path_text (from_root suite.now (path.now, text.now)))) }
-    ensures err { HasCleanDisk (state S.Store tx.new.conn.now) → IsTrue (state S.Store tx.old.conn.now).in_transaction
-        → OnErr result (KeepsCommit (state S.Store tx.old.conn.now) (state S.Store tx.new.conn.now)) }
-    ensures survives { Survives (state S.Store tx.old.conn.now) (state S.Store tx.new.conn.now) (λ _. ⊥) }
+    ensures same_reference { IsSame tx.old tx.new }
+    ensures ok { Writes S.Store tx.old tx.new result (with_path_text (from_root suite.now (path.now, text.now))) }
+    ensures err { KeepsCommitted S.Store tx.old tx.new result }
+    ensures survives { CommitsNothing S.Store tx.old tx.new }
 {
-    let whole = path_in(alloc, suite, path)?;
+    let whole = path_in(alloc, suite.codename.as_str(), path)?;
     insert_text(tx, whole.as_str(), text)
 }
 
@@ -76,12 +64,10 @@ fn insert_index<S: Alter>(
     component: &str,
     architecture: &str,
 ) -> Result<(), Error>
-    ensures same_reference { tx.new.conn.ghost_name ≡ tx.old.conn.ghost_name }
-    ensures ok { HasCleanDisk (state S.Store tx.new.conn.now) → IsTrue (state S.Store tx.old.conn.now).in_transaction
-        → OnOk result (Changes (state S.Store tx.old.conn.now) (state S.Store tx.new.conn.now) (with_path_text (from_root suite.now (listed_entry shelves.now position component.now architecture.now)))) }
-    ensures err { HasCleanDisk (state S.Store tx.new.conn.now) → IsTrue (state S.Store tx.old.conn.now).in_transaction
-        → OnErr result (KeepsCommit (state S.Store tx.old.conn.now) (state S.Store tx.new.conn.now)) }
-    ensures survives { Survives (state S.Store tx.old.conn.now) (state S.Store tx.new.conn.now) (λ _. ⊥) }
+    ensures same_reference { IsSame tx.old tx.new }
+    ensures ok { Writes S.Store tx.old tx.new result (with_path_text (from_root suite.now (listed_entry shelves.now position component.now architecture.now))) }
+    ensures err { KeepsCommitted S.Store tx.old tx.new result }
+    ensures survives { CommitsNothing S.Store tx.old tx.new }
 {
     let path = index_path(alloc, component, architecture)?;
     let text = listed_text(alloc, shelves, position, component, architecture)?;
@@ -97,12 +83,10 @@ fn insert_component<S: Alter>(
     suite: &Suite,
     component: &str,
 ) -> Result<(), Error>
-    ensures same_reference { tx.new.conn.ghost_name ≡ tx.old.conn.ghost_name }
-    ensures ok { HasCleanDisk (state S.Store tx.new.conn.now) → IsTrue (state S.Store tx.old.conn.now).in_transaction
-        → OnOk result (Continues (state S.Store tx.old.conn.now) (state S.Store tx.new.conn.now) (with_texts (component_texts shelves.now position suite.now suite.now.architectures component.now))) }
-    ensures err { HasCleanDisk (state S.Store tx.new.conn.now) → IsTrue (state S.Store tx.old.conn.now).in_transaction
-        → OnErr result (KeepsCommit (state S.Store tx.old.conn.now) (state S.Store tx.new.conn.now)) }
-    ensures survives { Survives (state S.Store tx.old.conn.now) (state S.Store tx.new.conn.now) (λ _. ⊥) }
+    ensures same_reference { IsSame tx.old tx.new }
+    ensures ok { Inside S.Store tx.old tx.new (λ old new. OnOk result (Continues old new (with_texts (component_texts shelves.now position suite.now suite.now.architectures component.now)))) }
+    ensures err { KeepsCommitted S.Store tx.old tx.new result }
+    ensures survives { CommitsNothing S.Store tx.old tx.new }
 {
     for architecture in suite.architectures.as_slice() {
         insert_index(
@@ -126,12 +110,10 @@ fn insert_components<S: Alter>(
     position: usize,
     suite: &Suite,
 ) -> Result<(), Error>
-    ensures same_reference { tx.new.conn.ghost_name ≡ tx.old.conn.ghost_name }
-    ensures ok { HasCleanDisk (state S.Store tx.new.conn.now) → IsTrue (state S.Store tx.old.conn.now).in_transaction
-        → OnOk result (Continues (state S.Store tx.old.conn.now) (state S.Store tx.new.conn.now) (with_texts (components_texts shelves.now position suite.now suite.now.components))) }
-    ensures err { HasCleanDisk (state S.Store tx.new.conn.now) → IsTrue (state S.Store tx.old.conn.now).in_transaction
-        → OnErr result (KeepsCommit (state S.Store tx.old.conn.now) (state S.Store tx.new.conn.now)) }
-    ensures survives { Survives (state S.Store tx.old.conn.now) (state S.Store tx.new.conn.now) (λ _. ⊥) }
+    ensures same_reference { IsSame tx.old tx.new }
+    ensures ok { Inside S.Store tx.old tx.new (λ old new. OnOk result (Continues old new (with_texts (components_texts shelves.now position suite.now suite.now.components)))) }
+    ensures err { KeepsCommitted S.Store tx.old tx.new result }
+    ensures survives { CommitsNothing S.Store tx.old tx.new }
 {
     for component in suite.components.as_slice() {
         insert_component(alloc, tx, shelves, position, suite, component.as_str())?;
@@ -150,12 +132,10 @@ fn insert_suite<S: Alter>(
 ) -> Result<(), Error>
     requires suite { position < length config.now.suites }
     requires moment { moment ≤ LATEST }
-    ensures same_reference { tx.new.conn.ghost_name ≡ tx.old.conn.ghost_name }
-    ensures ok { HasCleanDisk (state S.Store tx.new.conn.now) → IsTrue (state S.Store tx.old.conn.now).in_transaction
-        → OnOk result (Continues (state S.Store tx.old.conn.now) (state S.Store tx.new.conn.now) (with_texts (suite_texts_at config.now shelves.now position moment))) }
-    ensures err { HasCleanDisk (state S.Store tx.new.conn.now) → IsTrue (state S.Store tx.old.conn.now).in_transaction
-        → OnErr result (KeepsCommit (state S.Store tx.old.conn.now) (state S.Store tx.new.conn.now)) }
-    ensures survives { Survives (state S.Store tx.old.conn.now) (state S.Store tx.new.conn.now) (λ _. ⊥) }
+    ensures same_reference { IsSame tx.old tx.new }
+    ensures ok { Inside S.Store tx.old tx.new (λ old new. OnOk result (Continues old new (with_texts (suite_texts_at config.now shelves.now position moment)))) }
+    ensures err { KeepsCommitted S.Store tx.old tx.new result }
+    ensures survives { CommitsNothing S.Store tx.old tx.new }
 {
     let suite = &config.suites()[position];
     let text = release_of(alloc, config, shelves, position, moment)?;
@@ -173,12 +153,10 @@ pub fn insert_texts<S: Alter>(
 ) -> Result<(), Error>
     requires dated { length dates.now ≡ length config.now.suites }
     requires in_range { All (λ date. date ≤ LATEST) dates.now }
-    ensures same_reference { tx.new.conn.ghost_name ≡ tx.old.conn.ghost_name }
-    ensures ok { HasCleanDisk (state S.Store tx.new.conn.now) → IsTrue (state S.Store tx.old.conn.now).in_transaction
-        → OnOk result (Continues (state S.Store tx.old.conn.now) (state S.Store tx.new.conn.now) (with_texts (all_texts config.now shelves.now dates.now))) }
-    ensures err { HasCleanDisk (state S.Store tx.new.conn.now) → IsTrue (state S.Store tx.old.conn.now).in_transaction
-        → OnErr result (KeepsCommit (state S.Store tx.old.conn.now) (state S.Store tx.new.conn.now)) }
-    ensures survives { Survives (state S.Store tx.old.conn.now) (state S.Store tx.new.conn.now) (λ _. ⊥) }
+    ensures same_reference { IsSame tx.old tx.new }
+    ensures ok { Inside S.Store tx.old tx.new (λ old new. OnOk result (Continues old new (with_texts (all_texts config.now shelves.now dates.now)))) }
+    ensures err { KeepsCommitted S.Store tx.old tx.new result }
+    ensures survives { CommitsNothing S.Store tx.old tx.new }
 {
     for position in 0..dates.len() {
         insert_suite(alloc, tx, config, shelves, position, dates[position])?;
@@ -193,12 +171,10 @@ pub fn insert_dates<S: Alter>(
     dates: &[u64],
 ) -> Result<(), Error>
     requires dated { length dates.now ≡ length config.now.suites }
-    ensures same_reference { tx.new.conn.ghost_name ≡ tx.old.conn.ghost_name }
-    ensures ok { HasCleanDisk (state S.Store tx.new.conn.now) → IsTrue (state S.Store tx.old.conn.now).in_transaction
-        → OnOk result (Continues (state S.Store tx.old.conn.now) (state S.Store tx.new.conn.now) (with_dates (map date_row (zip config.now.suites dates.now)))) }
-    ensures err { HasCleanDisk (state S.Store tx.new.conn.now) → IsTrue (state S.Store tx.old.conn.now).in_transaction
-        → OnErr result (KeepsCommit (state S.Store tx.old.conn.now) (state S.Store tx.new.conn.now)) }
-    ensures survives { Survives (state S.Store tx.old.conn.now) (state S.Store tx.new.conn.now) (λ _. ⊥) }
+    ensures same_reference { IsSame tx.old tx.new }
+    ensures ok { Inside S.Store tx.old tx.new (λ old new. OnOk result (Continues old new (with_dates (map date_row (zip config.now.suites dates.now))))) }
+    ensures err { KeepsCommitted S.Store tx.old tx.new result }
+    ensures survives { CommitsNothing S.Store tx.old tx.new }
 {
     for position in 0..dates.len() {
         let suite = &config.suites()[position];
@@ -215,12 +191,10 @@ fn insert_first_rows<S: Alter>(
     moment: u64,
 ) -> Result<(), Error>
     requires { moment ≤ LATEST }
-    ensures same_reference { tx.new.conn.ghost_name ≡ tx.old.conn.ghost_name }
-    ensures ok { HasCleanDisk (state S.Store tx.new.conn.now) → IsTrue (state S.Store tx.old.conn.now).in_transaction
-        → OnOk result (Changes (state S.Store tx.old.conn.now) (state S.Store tx.new.conn.now) (with_first_rows config.now moment)) }
-    ensures err { HasCleanDisk (state S.Store tx.new.conn.now) → IsTrue (state S.Store tx.old.conn.now).in_transaction
-        → OnErr result (KeepsCommit (state S.Store tx.old.conn.now) (state S.Store tx.new.conn.now)) }
-    ensures survives { Survives (state S.Store tx.old.conn.now) (state S.Store tx.new.conn.now) (λ _. ⊥) }
+    ensures same_reference { IsSame tx.old tx.new }
+    ensures ok { Writes S.Store tx.old tx.new result (with_first_rows config.now moment) }
+    ensures err { KeepsCommitted S.Store tx.old tx.new result }
+    ensures survives { CommitsNothing S.Store tx.old tx.new }
 {
     let moments = vec![in alloc; moment; config.suites().len()]?;
     let dates = moments.as_slice();
@@ -238,12 +212,10 @@ pub fn found_inside<S: Alter>(
     moment: u64,
 ) -> Result<(), Error>
     requires { moment ≤ LATEST }
-    ensures same_reference { tx.new.conn.ghost_name ≡ tx.old.conn.ghost_name }
-    ensures ok { HasCleanDisk (state S.Store tx.new.conn.now) → IsTrue (state S.Store tx.old.conn.now).in_transaction
-        → OnOk result (Founds (state S.Store tx.old.conn.now) (state S.Store tx.new.conn.now) (founded config.now moment)) }
-    ensures err { HasCleanDisk (state S.Store tx.new.conn.now) → IsTrue (state S.Store tx.old.conn.now).in_transaction
-        → OnErr result (KeepsCommit (state S.Store tx.old.conn.now) (state S.Store tx.new.conn.now)) }
-    ensures survives { Survives (state S.Store tx.old.conn.now) (state S.Store tx.new.conn.now) (λ _. ⊥) }
+    ensures same_reference { IsSame tx.old tx.new }
+    ensures ok { Inside S.Store tx.old tx.new (λ old new. OnOk result (Founds old new (founded config.now moment))) }
+    ensures err { KeepsCommitted S.Store tx.old tx.new result }
+    ensures survives { CommitsNothing S.Store tx.old tx.new }
 {
     create_tables(tx)?;
     create_indexes(tx)?;

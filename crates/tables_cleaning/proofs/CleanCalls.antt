@@ -7,11 +7,11 @@ use Rattle.keep.specs.Book.{at_moment, ended, span}
 use Rattle.keep.specs.declared.change.Judgement.{Judgement}
 use Rattle.tables.specs.Rows.{Tables, Holds, tables_in}
 use Rattle.tables.proofs.BookLemmas.{held_tables}
-use Rattle.tables_meaning.specs.Archives.{KeepsArchive, Turns, book_of}
+use Rattle.tables_meaning.specs.Archives.{KeepsArchive, Turns, book_in_database}
 use Rattle.tables_meaning.specs.Cleaning.{cleaned, ended_rows, with_cleaned}
 use Rattle.tables_meaning.specs.Coming.{HasComing}
 use Rattle.tables_meaning.specs.Finished.{finished}
-use Rattle.tables_meaning.specs.Kept.{AreNumbered, IsKept, book_in}
+use Rattle.tables_meaning.specs.Kept.{AreNumbered, IsBook, book_in}
 use Rattle.tables_meaning.proofs.ComingLemmas.{none_coming}
 use Rattle.tables_meaning.proofs.DeliveredLemmas.{numbered}
 use Rattle.tables_meaning.proofs.FinishedLemmas.{finished_numbered, kept_finished}
@@ -36,7 +36,7 @@ module _ (before after : Database) (config : ConfigValue) (moment : ℕ) (held :
   rows : tables_in after ≡ left
   rows = rows_held ∙ cleaned_finished rows_before config judged shown dates rises archive.kept moment
 
-  both : IsKept left config judged shown dates × (book_in config judged shown dates left ≡ at_moment moment (book_in config judged shown dates (finished rows_before)))
+  both : IsBook left config judged shown dates × (book_in config judged shown dates left ≡ at_moment moment (book_in config judged shown dates (finished rows_before)))
   both = cleaned_archive (finished rows_before) config judged shown dates moment (finished_numbered rows_before rises) archive.kept
 
   -- all rows are finished then
@@ -49,7 +49,7 @@ module _ (before after : Database) (config : ConfigValue) (moment : ℕ) (held :
       record {
         kept = record {
           held = subst (Holds after) (sym rows_held) (held rows_before archive.held);
-          kept = subst (λ u. IsKept u config judged shown dates) (sym same) both.0;
+          kept = subst (λ u. IsBook u config judged shown dates) (sym same) both.0;
           coming = finished_under_way (tables_in after) all_whole;
         };
         book = ap (book_in config judged shown dates) same ∙ both.1;
@@ -66,7 +66,7 @@ clean_turns before after seconds moment held config judged shown dates archive s
 -- The rows that do not count are as many as the arrivals of the book that do not.
 pub clean_count : (before : Database) (seconds : Option ℕ) (moment : ℕ) (config : ConfigValue) (judged : List Judgement) (shown : ShelvesValue) (dates : List ℕ)
     → KeepsArchive before config judged shown dates → seconds ≡ span config
-    → length (ended_rows seconds moment (tables_in before)) ≡ length (ended (span config) moment (book_of before config judged shown dates).arrivals)
+    → length (ended_rows seconds moment (tables_in before)) ≡ length (ended (span config) moment (book_in_database before config judged shown dates).arrivals)
 clean_count before seconds moment config judged shown dates archive same =
     ap (λ s. length (ended_rows s moment (tables_in before))) same
     ∙ count_ended (tables_in before) config judged shown dates (numbered before (tables_in before) archive.held) archive.kept moment

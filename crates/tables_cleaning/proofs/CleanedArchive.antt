@@ -6,14 +6,14 @@ use Rattle.keep.specs.Book.{at_moment, span}
 use Rattle.keep.specs.declared.change.Judgement.{Judgement}
 use Rattle.tables.specs.Rows.{Tables}
 use Rattle.tables_meaning.specs.Cleaning.{cleaned, with_current}
-use Rattle.tables_meaning.specs.Kept.{AreNumbered, IsKept, book_in, bytes_of, files_in}
+use Rattle.tables_meaning.specs.Kept.{AreNumbered, IsBook, book_in, bytes_of, files_in}
 use Rattle.tables_meaning.proofs.BodyLemmas.{are_stored}
 use Rattle.tables_meaning.proofs.LikeLemmas.{files_like, items_like, stored_like}
 use Rattle.tables_meaning.proofs.SweptLemmas.{IsUnswept, kept_if_swept, swept_book}
 use Rattle.tables_cleaning.proofs.CurrentLemmas.{arrivals_current, arrivals_left}
 use Rattle.tables_cleaning.proofs.CurrentUploads.{uploads_left}
 
-module _ (t : Tables) (config : ConfigValue) (judged : List Judgement) (shown : ShelvesValue) (dates : List ℕ) (numbered : AreNumbered t) (kept : IsKept t config judged shown dates)
+module _ (t : Tables) (config : ConfigValue) (judged : List Judgement) (shown : ShelvesValue) (dates : List ℕ) (numbered : AreNumbered t) (kept : IsBook t config judged shown dates)
     (moment : ℕ) where
   abbrev seconds : Option ℕ
   seconds = span config
@@ -57,7 +57,7 @@ module _ (t : Tables) (config : ConfigValue) (judged : List Judgement) (shown : 
   }
 
   -- THE ARCHIVE after a cleaning.
-  pub cleaned_kept : IsKept (cleaned seconds moment t) config judged shown dates
+  pub cleaned_kept : IsBook (cleaned seconds moment t) config judged shown dates
   unfolding cleaned
   cleaned_kept = kept_if_swept left config judged shown dates current_unswept
 
@@ -65,8 +65,8 @@ module _ (t : Tables) (config : ConfigValue) (judged : List Judgement) (shown : 
   unfolding cleaned
   cleaned_book = swept_book left config judged shown dates ∙ current_book
 
-pub cleaned_archive : (t : Tables) (config : ConfigValue) (judged : List Judgement) (shown : ShelvesValue) (dates : List ℕ) (moment : ℕ) → AreNumbered t → IsKept t config judged shown dates
-    → IsKept (cleaned (span config) moment t) config judged shown dates
+pub cleaned_archive : (t : Tables) (config : ConfigValue) (judged : List Judgement) (shown : ShelvesValue) (dates : List ℕ) (moment : ℕ) → AreNumbered t → IsBook t config judged shown dates
+    → IsBook (cleaned (span config) moment t) config judged shown dates
     × (book_in config judged shown dates (cleaned (span config) moment t) ≡ at_moment moment (book_in config judged shown dates t))
 cleaned_archive t config judged shown dates moment numbered kept =
     (cleaned_kept t config judged shown dates numbered kept moment, cleaned_book t config judged shown dates numbered kept moment)

@@ -14,13 +14,13 @@ use Rattle.tables.specs.Rows.{Numbered, Rises, Tables, rows_of, without}
 use Rattle.tables.specs.Uploads.{is_judged as has_place, is_upload, without_upload}
 use Rattle.tables.specs.Wants.{with_away, without_wants}
 use Rattle.tables.specs.Arrivals.{without_arrival}
-use Rattle.tables.specs.declared.rows.Arrival.{Arrival}
-use Rattle.tables.specs.declared.rows.Body.{Body}
+use Rattle.tables.specs.declared.rows.ArrivalRow.{ArrivalRow}
+use Rattle.tables.specs.declared.rows.BodyRow.{BodyRow}
 use Rattle.tables.specs.declared.rows.Piece.{Piece}
-use Rattle.tables.specs.declared.rows.Upload.{Upload}
+use Rattle.tables.specs.declared.rows.UploadRow.{UploadRow}
 use Rattle.tables_meaning.specs.Cleaning.{cleaned, counts_row, ended_rows, with_cleaned, with_current, with_gone, without_request}
 use Rattle.tables_meaning.specs.Finished.{finished, is_of_unfinished, is_unfinished}
-use Rattle.tables_meaning.specs.Kept.{AreArrivals, AreNumbered, IsKept, arrival_in, arrivals_in, book_in, has_body, print_at}
+use Rattle.tables_meaning.specs.Kept.{AreArrivals, AreNumbered, IsBook, arrival_in, arrivals_in, book_in, has_body, print_at, print_in}
 use Rattle.tables_meaning.specs.Sweeping.{swept}
 use Rattle.tables_meaning.proofs.ArrivalLemmas.{counts_as}
 use Rattle.tables_meaning.proofs.BodyLemmas.{are_stored}
@@ -34,27 +34,23 @@ use Rattle.tables_cleaning.proofs.CleanedRows.{gone_current}
 
 -- ---- arrivals go past bodies that are not whole
 
--- the print of the body of a number, of these bodies
-abbrev print_in : Numbered Body → ℕ → Option Print
-print_in bodies id = option_and_then (λ (x : ℕ × Body). x.1.print) (find (λ x. nat_eq x.0 id) bodies)
-
-request_beside : (name : List ℕ) (print : Print) (u : Tables) (bodies : Numbered Body) (pieces : Numbered Piece)
+request_beside : (name : List ℕ) (print : Print) (u : Tables) (bodies : Numbered BodyRow) (pieces : Numbered Piece)
     → without_request name print (beside u bodies pieces) ≡ beside (without_request name print u) bodies pieces
 unfolding without_request
 request_beside name print u bodies pieces = by (find (λ x. is_upload name print x.1) u.uploads)
   where
-    one : (x : ℕ × Upload) (b : Bool) → (if b then beside u bodies pieces else without_upload x.0 (without_wants x.0 (beside u bodies pieces)))
+    one : (x : ℕ × UploadRow) (b : Bool) → (if b then beside u bodies pieces else without_upload x.0 (without_wants x.0 (beside u bodies pieces)))
         ≡ beside (if b then u else without_upload x.0 (without_wants x.0 u)) bodies pieces
     one x true = refl
     one x false = refl
 
-    by : (o : Option (ℕ × Upload))
+    by : (o : Option (ℕ × UploadRow))
         → option_map_or (λ x. if has_place x.1 then beside u bodies pieces else without_upload x.0 (without_wants x.0 (beside u bodies pieces))) o (beside u bodies pieces)
         ≡ beside (option_map_or (λ x. if has_place x.1 then u else without_upload x.0 (without_wants x.0 u)) o u) bodies pieces
     by None = refl
     by (Some x) = one x (has_place x.1)
 
-gone_beside : (x : ℕ × Arrival) (u : Tables) (bodies : Numbered Body) (pieces : Numbered Piece) → print_in bodies x.1.body ≡ print_in u.bodies x.1.body
+gone_beside : (x : ℕ × ArrivalRow) (u : Tables) (bodies : Numbered BodyRow) (pieces : Numbered Piece) → print_in bodies x.1.body ≡ print_in u.bodies x.1.body
     → with_gone x (beside u bodies pieces) ≡ beside (with_gone x u) bodies pieces
 unfolding with_gone
 gone_beside x u bodies pieces same =
@@ -67,33 +63,33 @@ gone_beside x u bodies pieces same =
     by (Some print) = request_beside x.1.name print (with_away x.1.name print (without_arrival x.0 u)) bodies pieces
 
 -- bodies and pieces are left
-gone_leaves : (x : ℕ × Arrival) (u : Tables) → with_gone x u ≡ beside (with_gone x u) u.bodies u.pieces
+gone_leaves : (x : ℕ × ArrivalRow) (u : Tables) → with_gone x u ≡ beside (with_gone x u) u.bodies u.pieces
 gone_leaves x u = gone_beside x u u.bodies u.pieces refl
 
-abbrev all_gone : Tables → Numbered Arrival → Tables
+abbrev all_gone : Tables → Numbered ArrivalRow → Tables
 all_gone u gone = fold (λ now x. with_gone x now) u gone
 
-all_leave : (gone : Numbered Arrival) (u : Tables) → all_gone u gone ≡ beside (all_gone u gone) u.bodies u.pieces
+all_leave : (gone : Numbered ArrivalRow) (u : Tables) → all_gone u gone ≡ beside (all_gone u gone) u.bodies u.pieces
 all_leave [] u = refl
 all_leave (x ∷ gone) u =
     all_leave gone (with_gone x u)
     ∙ (λ i. beside (all_gone (with_gone x u) gone) (ap (λ (s : Tables). s.bodies) (gone_leaves x u) i) (ap (λ (s : Tables). s.pieces) (gone_leaves x u) i))
 
-all_beside : (gone : Numbered Arrival) (u : Tables) (bodies : Numbered Body) (pieces : Numbered Piece) → AllByRecursion (λ x. print_in bodies x.1.body ≡ print_in u.bodies x.1.body) gone
+all_beside : (gone : Numbered ArrivalRow) (u : Tables) (bodies : Numbered BodyRow) (pieces : Numbered Piece) → AllByRecursion (λ x. print_in bodies x.1.body ≡ print_in u.bodies x.1.body) gone
     → all_gone (beside u bodies pieces) gone ≡ beside (all_gone u gone) bodies pieces
 all_beside [] u bodies pieces h = refl
 all_beside (x ∷ gone) u bodies pieces h =
     ap (λ s. all_gone s gone) (gone_beside x u bodies pieces h.0)
     ∙ all_beside gone (with_gone x u) bodies pieces
-    (subst (λ (own : Numbered Body). AllByRecursion (λ y. print_in bodies y.1.body ≡ print_in own y.1.body) gone) (sym (ap (λ (s : Tables). s.bodies) (gone_leaves x u))) h.1)
+    (subst (λ (own : Numbered BodyRow). AllByRecursion (λ y. print_in bodies y.1.body ≡ print_in own y.1.body) gone) (sym (ap (λ (s : Tables). s.bodies) (gone_leaves x u))) h.1)
 
 -- ---- the rows after a cleaning
 
-module _ (t : Tables) (config : ConfigValue) (judged : List Judgement) (shown : ShelvesValue) (dates : List ℕ) (up : AreNumbered t) (kept : IsKept (finished t) config judged shown dates) (moment : ℕ) where
+module _ (t : Tables) (config : ConfigValue) (judged : List Judgement) (shown : ShelvesValue) (dates : List ℕ) (up : AreNumbered t) (kept : IsBook (finished t) config judged shown dates) (moment : ℕ) where
   abbrev seconds : Option ℕ
   seconds = span config
 
-  abbrev gone : Numbered Arrival
+  abbrev gone : Numbered ArrivalRow
   gone = ended_rows seconds moment t
 
   -- the rows once they have gone, and the same of the finished rows
@@ -107,7 +103,7 @@ module _ (t : Tables) (config : ConfigValue) (judged : List Judgement) (shown : 
   print_whole : (id : ℕ) → has_body (finished t) id ≡ true → print_in (finished t).bodies id ≡ print_in t.bodies id
   unfolding finished
   print_whole id there =
-      ap (option_and_then (λ (x : ℕ × Body). x.1.print))
+      ap (option_and_then (λ (x : ℕ × BodyRow). x.1.print))
       (find_kept (λ x. nat_eq x.0 id) is_unfinished t.bodies
       (all_weaker (λ y. has_unfinished t.bodies y.0 ≡ is_unfinished y) (λ y. is_unfinished y ≡ true → nat_eq y.0 id ≡ false)
       (λ y is un. false_from_ne_true (nat_eq y.0 id)
@@ -155,7 +151,7 @@ module _ (t : Tables) (config : ConfigValue) (judged : List Judgement) (shown : 
   unfolding ended book_in arrivals_in finished
   count_ended =
       sym (length-map gone (λ x. x.1))
-      ∙ ap length (sym (filter-map (λ a. not (counts_row seconds moment a)) (λ (x : ℕ × Arrival). x.1) t.arrivals)
+      ∙ ap length (sym (filter-map (λ a. not (counts_row seconds moment a)) (λ (x : ℕ × ArrivalRow). x.1) t.arrivals)
       ∙ filter_same (λ a. not (counts_row seconds moment a)) (λ a. not (counts seconds moment (arrival_in (finished t) a))) (λ a. ap not (counts_as (finished t) seconds moment a)) (rows_of t.arrivals))
       ∙ sym (length-map (filter (λ a. not (counts seconds moment (arrival_in (finished t) a))) (rows_of t.arrivals)) (arrival_in (finished t)))
       ∙ ap length (sym (filter-map (λ a. not (counts seconds moment a)) (arrival_in (finished t)) (rows_of t.arrivals)))

@@ -16,14 +16,15 @@ use Rattle.keep.specs.declared.change.Judgement.{Judgement}
 use Rattle.tables.specs.Rows.{Numbered, Rises, Tables, rows_of, without}
 use Rattle.tables.specs.Uploads.{is_judged as has_place}
 use Rattle.tables.specs.Wants.{is_wanted_by}
-use Rattle.tables.specs.declared.rows.Arrival.{Arrival}
-use Rattle.tables.specs.declared.rows.Upload.{Upload}
+use Rattle.tables.specs.declared.rows.ArrivalRow.{ArrivalRow}
+use Rattle.tables.specs.declared.rows.UploadRow.{UploadRow}
 use Rattle.tables.specs.declared.rows.Want.{Want}
 use Rattle.tables_meaning.specs.Cleaning.{cleaned, counts_row, ended_rows, has_ended, is_current, with_cleaned, with_current, with_gone}
-use Rattle.tables_meaning.specs.Kept.{AreArrivals, AreNumbered, AreStored, AreUploads, IsKept, arrival_in, arrivals_in, bytes_of, has_body, print_at, request_of, sign_in, wanted}
+use Rattle.tables_meaning.specs.Kept.{AreArrivals, AreNumbered, AreStored, AreUploads, IsBook, arrival_in, arrivals_in, bytes_of, has_body, print_at, request_of, sign_in, wanted}
 use Rattle.tables_meaning.specs.Sweeping.{swept}
 use Rattle.tables_meaning.proofs.AmendedLemmas.{print_is}
-use Rattle.tables_meaning.proofs.BodyLemmas.{all_if, any_same as any_alike, are_stored, list_any-map}
+use Rattle.tables_meaning.proofs.BodyLemmas.{all_if, are_stored, list_any-map}
+use Rattle.keep.proofs.Arrivals.{any_same as any_alike}
 use Rattle.tables_meaning.proofs.RequestLemmas.{requests, rows_from_uploads, sign_at, sign_made}
 use Rattle.tables_meaning.proofs.Searches.{all_of_rows, any_same, any_weaker, filter_same_on, filter_twice, list_any-filter, map_same_on, same_tests}
 use Rattle.tables_meaning.proofs.WantLemmas.{AreRows, any_waiting, entry_in, is_sign, is_sign-Decides, is_sign-turned, is_waiting, request, waits_as, wants_of}
@@ -56,7 +57,7 @@ all_stay : {X : Type 0} (xs : List X) → xs ≡ filter (λ x. true) xs
 all_stay [] = refl
 all_stay (x ∷ xs) = ap (λ l. x ∷ l) (all_stay xs)
 
-without_each-is : (gone left : Numbered Arrival) → without_each left gone ≡ without (λ r. list_any (λ x. nat_eq r.0 x.0) gone) left
+without_each-is : (gone left : Numbered ArrivalRow) → without_each left gone ≡ without (λ r. list_any (λ x. nat_eq r.0 x.0) gone) left
 without_each-is [] left = all_stay left
 without_each-is (x ∷ gone) left =
     without_each-is gone (without (λ r. nat_eq r.0 x.0) left)
@@ -65,14 +66,14 @@ without_each-is (x ∷ gone) left =
     (λ r. either (nat_eq r.0 x.0) (list_any (λ y. nat_eq r.0 y.0) gone)) left
 
 -- those that pass a test, gone by their numbers
-without_passing : (test : ℕ × Arrival → Bool) (rows : Numbered Arrival) → Rises rows → without_each rows (filter test rows) ≡ without test rows
+without_passing : (test : ℕ × ArrivalRow → Bool) (rows : Numbered ArrivalRow) → Rises rows → without_each rows (filter test rows) ≡ without test rows
 without_passing test rows up =
     without_each-is (filter test rows) rows
     ∙ filter_same_on (λ r. not (list_any (λ x. nat_eq r.0 x.0) (filter test rows))) (λ r. not (test r)) rows
     (all_weaker (λ r. list_any (λ z. nat_eq z.0 r.0 && test z) rows ≡ test r) (λ r. not (list_any (λ x. nat_eq r.0 x.0) (filter test rows)) ≡ not (test r))
     (λ r one. ap not (numbered r ∙ one)) rows (only_one test rows up))
   where
-    numbered : (r : ℕ × Arrival) → list_any (λ x. nat_eq r.0 x.0) (filter test rows) ≡ list_any (λ z. nat_eq z.0 r.0 && test z) rows
+    numbered : (r : ℕ × ArrivalRow) → list_any (λ x. nat_eq r.0 x.0) (filter test rows) ≡ list_any (λ z. nat_eq z.0 r.0 && test z) rows
     numbered r =
         list_any-filter (λ x. nat_eq r.0 x.0) test rows
         ∙ any_same (λ x. test x && nat_eq r.0 x.0) (λ z. nat_eq z.0 r.0 && test z)
@@ -104,7 +105,7 @@ module _ (t : Tables) (stored : AreStored t) (arrived : AreArrivals t) (seconds 
   abbrev gone : List ℕ → Print → Bool
   gone name print = list_any (λ x. had t x name print) (ended_rows seconds moment t)
 
-  abbrev ended : Arrival → Bool
+  abbrev ended : ArrivalRow → Bool
   ended a = not (counts_row seconds moment a)
 
   gone_by : (name : List ℕ) (print : Print) → gone name print ≡ list_any (λ a. bears t name print a && ended a) (rows_of t.arrivals)
@@ -133,7 +134,7 @@ module _ (t : Tables) (stored : AreStored t) (arrived : AreArrivals t) (seconds 
     rows = rows_from_uploads t judged are
 
     -- an upload that waits has come
-    waiting_came : (x : ℕ × Upload) → Contains t.uploads x → is_waiting x ≡ true → has_come x.1.name x.1.print ≡ true
+    waiting_came : (x : ℕ × UploadRow) → Contains t.uploads x → is_waiting x ≡ true → has_come x.1.name x.1.print ≡ true
     unfolding arrivals_in
     waiting_came x c waits =
         let s = sign_in x.1 in
@@ -149,7 +150,7 @@ module _ (t : Tables) (stored : AreStored t) (arrived : AreArrivals t) (seconds 
         sym (list_any-map (λ a. is_sign s (sign_at a)) (arrival_in t) (rows_of t.arrivals)) ∙ sign_arrived s (arrivals_in t) made
 
     -- its verdict is out, or it has gone exactly where it is not current
-    same_end : (x : ℕ × Upload) → Contains t.uploads x → ends gone x ≡ has_ended seconds moment t x.1
+    same_end : (x : ℕ × UploadRow) → Contains t.uploads x → ends gone x ≡ has_ended seconds moment t x.1
     same_end x c = go (is_waiting x) refl
       where
         go : (b : Bool) → is_waiting x ≡ b → (is_waiting x && gone x.1.name x.1.print) ≡ (is_waiting x && not (cur x.1.name x.1.print))
@@ -228,7 +229,7 @@ module _ (t : Tables) (stored : AreStored t) (arrived : AreArrivals t) (seconds 
           ∙ (λ i. record t { arrivals = without_passing (λ x. ended x.1) t.arrivals arrivals_up i; uploads = same_uploads i; wants = same_wants i })
 
 -- THE STATEMENTS of a cleaning leave what it leaves at once.
-pub with_cleaned-cleaned : (t : Tables) (config : ConfigValue) (judged : List Judgement) (shown : ShelvesValue) (dates : List ℕ) (moment : ℕ) → AreNumbered t → IsKept t config judged shown dates
+pub with_cleaned-cleaned : (t : Tables) (config : ConfigValue) (judged : List Judgement) (shown : ShelvesValue) (dates : List ℕ) (moment : ℕ) → AreNumbered t → IsBook t config judged shown dates
     → with_cleaned (span config) moment t ≡ cleaned (span config) moment t
 unfolding with_cleaned cleaned
 with_cleaned-cleaned t config judged shown dates moment numbered kept =

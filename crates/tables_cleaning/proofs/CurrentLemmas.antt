@@ -1,11 +1,11 @@
 -- Which arrivals count at a moment, told by their rows and by their names and prints.
-use Rattle.std.proofs.Common.{◌≡◌, ◌≤◌, ℕ, Bool, true, false, not, ◌&&◌, List, map, filter, All, AllPairs, Contains, Option, Some, None, IsTrue, bytes_eq, nat_eq, refl, sym, ap, subst, ◌∙◌}
+use Rattle.std.proofs.Common.{◌≡◌, ◌≤◌, ℕ, Bool, true, false, not, ◌&&◌, List, map, filter, AllPairs, Contains, Option, Some, None, IsTrue, bytes_eq, nat_eq, refl, sym, ap, subst, ◌∙◌}
 use Rattle.std.specs.List.{list_any}
 use Rattle.std.specs.Option.{option_map_or}
 use Rattle.std.proofs.lemmas.Bool.{and_from, and_parts, and_right, eq-eqb, false≢true}
-use Rattle.std.proofs.lemmas.List.Elements.{All-contains, All-from_recursion, All-same, recursion_from_All}
+use Rattle.std.proofs.lemmas.List.Elements.{All-contains, All-same}
 use Rattle.std.proofs.lemmas.Slice.Eq.{bytes_eq-Decides}
-use Rattle.sqlite_keyed.proofs.ListLemmas.{all-filter, ascending-filter, filter-map, filter_same}
+use Rattle.sqlite_keyed.proofs.ListLemmas.{ascending-filter, filter-map, filter_same}
 use Rattle.sums.specs.Prints.{print as print_of, same_print}
 use Rattle.sums.specs.declared.entries.Entry.{Entry}
 use Rattle.sums.specs.declared.print.Print.{Print}
@@ -16,13 +16,15 @@ use Rattle.keep.proofs.Prints.{same_print-Decides}
 use Rattle.tables.specs.Arrivals.{is_arrival}
 use Rattle.tables.specs.Bodies.{body_with}
 use Rattle.tables.specs.Rows.{Tables, rows_of}
-use Rattle.tables.specs.declared.rows.Arrival.{Arrival}
+use Rattle.tables.specs.declared.rows.ArrivalRow.{ArrivalRow}
 use Rattle.tables_meaning.specs.Cleaning.{counts_row, is_current, with_current}
 use Rattle.tables_meaning.specs.Kept.{AreArrivals, AreStored, arrival_in, arrivals_in, bytes_of, has_body}
 use Rattle.tables_meaning.proofs.ArrivalLemmas.{counts_as}
-use Rattle.tables_meaning.proofs.BodyLemmas.{HasBody, any_false, any_same, apart_same, by_number, its_print, list_any-map, of_no_print, same_number}
+use Rattle.tables_meaning.proofs.BodyLemmas.{HasBody, any_false, apart_same, by_number, its_print, list_any-map, of_no_print, same_number}
+use Rattle.keep.proofs.Arrivals.{any_same}
 use Rattle.tables_meaning.proofs.RowLists.{ascending_from_pairs, pairs_from_ascending}
 use Rattle.tables_meaning.proofs.Searches.{any_weaker, list_any-filter, same_tests}
+use Rattle.tables_meaning.proofs.ChangeLemmas.{some_of}
 
 pub swapped : (a b : Bool) → (a && b) ≡ (b && a)
 swapped true true = refl
@@ -38,11 +40,8 @@ neither_print : (a b : Bool) → ((a && false) && b) ≡ false
 neither_print true b = refl
 neither_print false b = refl
 
-some_of : {X : Type 0} (P : X → Type 0) (some : X → Bool) (xs : List X) → All P xs → All P (filter some xs)
-some_of P some xs all = All-from_recursion P (filter some xs) (all-filter P some xs (recursion_from_All P xs all))
-
 -- the arrival has this name, and its body this print
-abbrev pub bears : Tables → List ℕ → Print → Arrival → Bool
+abbrev pub bears : Tables → List ℕ → Print → ArrivalRow → Bool
 bears t name print a = bytes_eq a.name name && same_print (print_of (bytes_of t a.body)) print
 
 module _ (t : Tables) (stored : AreStored t) (arrivals : AreArrivals t) (seconds : Option ℕ) (moment : ℕ) where
@@ -50,10 +49,10 @@ module _ (t : Tables) (stored : AreStored t) (arrivals : AreArrivals t) (seconds
   abbrev cur : List ℕ → Print → Bool
   cur name print = is_current seconds moment t name print
 
-  abbrev counting : Arrival → Bool
+  abbrev counting : ArrivalRow → Bool
   counting a = counts_row seconds moment a
 
-  its_body : (a : Arrival) → Contains (rows_of t.arrivals) a → has_body t a.body ≡ true
+  its_body : (a : ArrivalRow) → Contains (rows_of t.arrivals) a → has_body t a.body ≡ true
   its_body a c = All-contains (λ a. IsTrue (has_body t a.body)) (rows_of t.arrivals) a arrivals.bodies c
 
   current_by : (name : List ℕ) (print : Print) → cur name print ≡ list_any (λ a. bears t name print a && counting a) (rows_of t.arrivals)
@@ -101,32 +100,32 @@ module _ (t : Tables) (stored : AreStored t) (arrivals : AreArrivals t) (seconds
 
   -- ---- one row for a name and a print
 
-  pub bears_is : (name : List ℕ) (print : Print) (a : Arrival) → bears t name print a ≡ true → (a.name ≡ name) × (print_of (bytes_of t a.body) ≡ print)
+  pub bears_is : (name : List ℕ) (print : Print) (a : ArrivalRow) → bears t name print a ≡ true → (a.name ≡ name) × (print_of (bytes_of t a.body) ≡ print)
   bears_is name print a h =
       let parts = and_parts (bytes_eq a.name name) (same_print (print_of (bytes_of t a.body)) print) h in
       ((bytes_eq-Decides a.name name).0 parts.0, (same_print-Decides (print_of (bytes_of t a.body)) print).0 parts.1)
 
-  pub bears_itself : (a : Arrival) → bears t a.name (print_of (bytes_of t a.body)) a ≡ true
+  pub bears_itself : (a : ArrivalRow) → bears t a.name (print_of (bytes_of t a.body)) a ≡ true
   bears_itself a =
       and_from (bytes_eq a.name a.name) (same_print (print_of (bytes_of t a.body)) (print_of (bytes_of t a.body)))
       ((bytes_eq-Decides a.name a.name).1 refl) ((same_print-Decides (print_of (bytes_of t a.body)) (print_of (bytes_of t a.body))).1 refl)
 
-  one_row : (name : List ℕ) (print : Print) (a b : Arrival) → Contains (rows_of t.arrivals) a → Contains (rows_of t.arrivals) b → bears t name print a ≡ true → bears t name print b ≡ true → a ≡ b
+  one_row : (name : List ℕ) (print : Print) (a b : ArrivalRow) → Contains (rows_of t.arrivals) a → Contains (rows_of t.arrivals) b → bears t name print a ≡ true → bears t name print b ≡ true → a ≡ b
   one_row name print a b ca cb p q =
-      apart_same (λ (x y : Arrival). is_arrival x.name x.body y ≡ false) (rows_of t.arrivals) arrivals.apart a b ca cb
+      apart_same (λ (x y : ArrivalRow). is_arrival x.name x.body y ≡ false) (rows_of t.arrivals) arrivals.apart a b ca cb
       (λ no. false≢true (sym no ∙ alike a b ca cb p q)) (λ no. false≢true (sym no ∙ alike b a cb ca q p))
     where
-      with_print : (x : Arrival) → Contains (rows_of t.arrivals) x → bears t name print x ≡ true → HasBody t.bodies x.body print
+      with_print : (x : ArrivalRow) → Contains (rows_of t.arrivals) x → bears t name print x ≡ true → HasBody t.bodies x.body print
       with_print x c h = subst (HasBody t.bodies x.body) (bears_is name print x h).1 (its_print t stored x.body (its_body x c))
 
-      alike : (x y : Arrival) → Contains (rows_of t.arrivals) x → Contains (rows_of t.arrivals) y → bears t name print x ≡ true → bears t name print y ≡ true → is_arrival x.name x.body y ≡ true
+      alike : (x y : ArrivalRow) → Contains (rows_of t.arrivals) x → Contains (rows_of t.arrivals) y → bears t name print x ≡ true → bears t name print y ≡ true → is_arrival x.name x.body y ≡ true
       alike x y cx cy p q =
           and_from (bytes_eq y.name x.name) (nat_eq y.body x.body)
           ((bytes_eq-Decides y.name x.name).1 ((bears_is name print y q).0 ∙ sym (bears_is name print x p).0))
           (eq-eqb y.body x.body (same_number t stored y.body x.body print (with_print y cy q) (with_print x cx p)))
 
   -- what some arrival of a name and print is, its one row is
-  pub of_one_row : (test : Arrival → Bool) (name : List ℕ) (print : Print) (a : Arrival) → Contains (rows_of t.arrivals) a → bears t name print a ≡ true
+  pub of_one_row : (test : ArrivalRow → Bool) (name : List ℕ) (print : Print) (a : ArrivalRow) → Contains (rows_of t.arrivals) a → bears t name print a ≡ true
       → list_any (λ x. bears t name print x && test x) (rows_of t.arrivals) ≡ test a
   of_one_row test name print a c h =
       same_tests (list_any (λ x. bears t name print x && test x) (rows_of t.arrivals)) (test a)
@@ -137,7 +136,7 @@ module _ (t : Tables) (stored : AreStored t) (arrivals : AreArrivals t) (seconds
       (λ passes. any_true (λ x. bears t name print x && test x) (rows_of t.arrivals) a c (and_from (bears t name print a) (test a) h passes))
 
   -- its name and print count exactly where the row does
-  pub own_counts : (name : List ℕ) (print : Print) (a : Arrival) → Contains (rows_of t.arrivals) a → bears t name print a ≡ true → cur name print ≡ counting a
+  pub own_counts : (name : List ℕ) (print : Print) (a : ArrivalRow) → Contains (rows_of t.arrivals) a → bears t name print a ≡ true → cur name print ≡ counting a
   own_counts name print a c h = current_by name print ∙ of_one_row counting name print a c h
 
   -- ---- the arrivals that are left
@@ -163,10 +162,10 @@ module _ (t : Tables) (stored : AreStored t) (arrivals : AreArrivals t) (seconds
   arrivals_left = record {
     bodies = All-same (λ a. IsTrue (has_body now a.body)) (rows_of now.arrivals) (filter counting (rows_of t.arrivals)) rows_left
         (some_of (λ a. IsTrue (has_body t a.body)) counting (rows_of t.arrivals) arrivals.bodies);
-    apart = subst (AllPairs (λ (x y : Arrival). is_arrival x.name x.body y ≡ false)) (sym rows_left)
-        (pairs_from_ascending (λ (x y : Arrival). is_arrival x.name x.body y ≡ false) (filter counting (rows_of t.arrivals))
-        (ascending-filter (λ (x y : Arrival). is_arrival x.name x.body y ≡ false) counting (rows_of t.arrivals)
-        (ascending_from_pairs (λ (x y : Arrival). is_arrival x.name x.body y ≡ false) (rows_of t.arrivals) arrivals.apart)));
+    apart = subst (AllPairs (λ (x y : ArrivalRow). is_arrival x.name x.body y ≡ false)) (sym rows_left)
+        (pairs_from_ascending (λ (x y : ArrivalRow). is_arrival x.name x.body y ≡ false) (filter counting (rows_of t.arrivals))
+        (ascending-filter (λ (x y : ArrivalRow). is_arrival x.name x.body y ≡ false) counting (rows_of t.arrivals)
+        (ascending_from_pairs (λ (x y : ArrivalRow). is_arrival x.name x.body y ≡ false) (rows_of t.arrivals) arrivals.apart)));
     deliverable = All-same (λ a. IsDeliverable a.name a.body × (a.moment ≤ latest)) (arrivals_in now) (filter (counts seconds moment) (arrivals_in t)) arrivals_current
         (some_of (λ a. IsDeliverable a.name a.body × (a.moment ≤ latest)) (counts seconds moment) (arrivals_in t) arrivals.deliverable);
   }

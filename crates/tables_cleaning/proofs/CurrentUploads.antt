@@ -16,18 +16,19 @@ use Rattle.keep.specs.declared.change.Judgement.{Judgement}
 use Rattle.tables.specs.Rows.{Numbered, Rises, Tables, rows_of, without}
 use Rattle.tables.specs.Uploads.{is_judged as has_place}
 use Rattle.tables.specs.Wants.{is_wanted_by}
-use Rattle.tables.specs.declared.rows.Arrival.{Arrival}
-use Rattle.tables.specs.declared.rows.Upload.{Upload}
+use Rattle.tables.specs.declared.rows.ArrivalRow.{ArrivalRow}
+use Rattle.tables.specs.declared.rows.UploadRow.{UploadRow}
 use Rattle.tables.specs.declared.rows.Want.{Want}
 use Rattle.tables_meaning.specs.Cleaning.{has_ended, is_current, with_current}
-use Rattle.tables_meaning.specs.Kept.{AreArrivals, AreStored, AreUploads, arrival_in, arrivals_in, bytes_of, is_placed, request_of, sign_in, wanted}
+use Rattle.tables_meaning.specs.Kept.{AreArrivals, AreStored, AreUploads, Request, arrival_in, arrivals_in, bytes_of, is_placed, request_of, sign_in, wanted}
 use Rattle.tables_meaning.proofs.ArrivalLemmas.{counts_as}
 use Rattle.tables_meaning.proofs.BodyLemmas.{all_if}
 use Rattle.tables_meaning.proofs.RequestLemmas.{requests, rows_from_uploads, sign_made, uploads_from_rows}
 use Rattle.tables_meaning.proofs.RowLists.{all_filtered, find_kept}
 use Rattle.tables_meaning.proofs.Searches.{filter_twice, list_any-filter}
-use Rattle.tables_meaning.proofs.WantLemmas.{AreRows, Request, Sign, entry_in, is_waiting, request, waits_as, wants_of}
+use Rattle.tables_meaning.proofs.WantLemmas.{AreRows, Sign, entry_in, is_waiting, request, waits_as, wants_of}
 use Rattle.tables_meaning.proofs.WantingLemmas.{only_one}
+use Rattle.tables_meaning.proofs.SweptFinished.{and_true}
 use Rattle.tables_cleaning.proofs.CurrentLemmas.{arrivals_current, bears_itself, own_counts, swapped, there_then}
 
 -- ---- lists
@@ -51,10 +52,6 @@ candidates-filter {X} {Y} f p q (x ∷ xs) h = by_kind (candidates-filter f p q 
 -- two tests, in either order
 filter_turned : {X : Type 0} (p q : X → Bool) (xs : List X) → filter p (filter q xs) ≡ filter q (filter p xs)
 filter_turned p q xs = sym (filter_twice q p xs) ∙ filter_same (λ x. q x && p x) (λ x. p x && q x) (λ x. swapped (q x) (p x)) xs ∙ filter_twice p q xs
-
-and_true : (b : Bool) → (b && true) ≡ b
-and_true true = refl
-and_true false = refl
 
 -- one that waits and has not ended is current
 still : (j c : Bool) → (not (not j && not c) && not j) ≡ (not j && c)
@@ -92,7 +89,7 @@ module _ (t : Tables) (seconds : Option ℕ) (moment : ℕ) where
   abbrev cur : List ℕ → Print → Bool
   cur name print = is_current seconds moment t name print
 
-  abbrev ended : Upload → Bool
+  abbrev ended : UploadRow → Bool
   ended u = has_ended seconds moment t u
 
   -- an upload of this number has ended
@@ -150,11 +147,11 @@ module _ (t : Tables) (seconds : Option ℕ) (moment : ℕ) where
       ∙ sym (map-map (fresh_entry keep) entry_in (filter (is_wanted_by id) ws))
 
   -- one that is current has not ended
-  not_ended : (u : Upload) → cur u.name u.print ≡ true → ended u ≡ false
+  not_ended : (u : UploadRow) → cur u.name u.print ≡ true → ended u ≡ false
   not_ended u e = ap (λ c. not (has_place u) && not c) e ∙ and_right (not (has_place u)) false refl
 
   -- one that has ended has no place
-  unplaced : (place : ℕ) (u : Upload) → ended u ≡ true → is_placed place u ≡ false
+  unplaced : (place : ℕ) (u : UploadRow) → ended u ≡ true → is_placed place u ≡ false
   unplaced place u e = go u.place e
     where
       go : (o : Option ℕ) → (not (is_some o) && not (cur u.name u.print)) ≡ true → option_map_or (λ p. nat_eq p place) o false ≡ false
@@ -171,7 +168,7 @@ module _ (t : Tables) (seconds : Option ℕ) (moment : ℕ) where
     abbrev unjudged : Candidate → Bool
     unjudged c = not (is_judged judged c)
 
-    abbrev left : Numbered Upload
+    abbrev left : Numbered UploadRow
     left = without (λ x. ended x.1) t.uploads
 
     abbrev wants : List Want
@@ -188,7 +185,7 @@ module _ (t : Tables) (seconds : Option ℕ) (moment : ℕ) where
         ∙ filter_same (λ x. not (ended x.1) && is_waiting x) (λ x. is_waiting x && cur x.1.name x.1.print) (λ x. still (has_place x.1) (cur x.1.name x.1.print)) t.uploads
         ∙ filter_twice is_waiting (λ x. cur x.1.name x.1.print) t.uploads
 
-    abbrev IsAsked : ℕ × Upload → Type 0
+    abbrev IsAsked : ℕ × UploadRow → Type 0
     IsAsked x = (cur x.1.name x.1.print ≡ keep (request (rows_of t.wants) x).0)
         × (cur x.1.name x.1.print ≡ true → request wants x ≡ fresh keep (request (rows_of t.wants) x))
 
@@ -222,7 +219,7 @@ module _ (t : Tables) (seconds : Option ℕ) (moment : ℕ) where
         all_map IsTold (arrival_in t) (rows_of t.arrivals)
         (recursion_from_All (λ r. IsTold (arrival_in t r)) (rows_of t.arrivals) (all_if (λ r. IsTold (arrival_in t r)) (rows_of t.arrivals) each))
       where
-        each : (r : Arrival) → Contains (rows_of t.arrivals) r → IsTold (arrival_in t r)
+        each : (r : ArrivalRow) → Contains (rows_of t.arrivals) r → IsTold (arrival_in t r)
         each r in_rows c made =
             ap keep (sign_made (arrival_in t r) c made (arrival_in t r) c made)
             ∙ own_counts t stored arrived seconds moment r.name (print_of (bytes_of t r.body)) r in_rows (bears_itself t stored arrived seconds moment r)
@@ -268,7 +265,7 @@ module _ (t : Tables) (seconds : Option ℕ) (moment : ℕ) where
 
     places_then : (n : ℕ) → find (is_placed (n + 1)) (rows_of left) ≡ find (is_placed (n + 1)) (rows_of t.uploads)
     places_then n =
-        ap (find (is_placed (n + 1))) (sym (filter-map (λ u. not (ended u)) (λ (x : ℕ × Upload). x.1) t.uploads))
+        ap (find (is_placed (n + 1))) (sym (filter-map (λ u. not (ended u)) (λ (x : ℕ × UploadRow). x.1) t.uploads))
         ∙ find_kept (is_placed (n + 1)) ended (rows_of t.uploads) (all_of (λ u. ended u ≡ true → is_placed (n + 1) u ≡ false) (unplaced (n + 1)) (rows_of t.uploads))
 
     are_left : AreRows left wants judged (requests some judged)

@@ -14,8 +14,8 @@ use Rattle.tables.specs.Arrivals.{without_arrival}
 use Rattle.tables.specs.Rows.{Numbered, Rises, Tables, changed, without}
 use Rattle.tables.specs.Uploads.{is_judged as has_place, is_upload, without_upload}
 use Rattle.tables.specs.Wants.{is_wanted_by, with_away, without_wants}
-use Rattle.tables.specs.declared.rows.Arrival.{Arrival}
-use Rattle.tables.specs.declared.rows.Upload.{Upload}
+use Rattle.tables.specs.declared.rows.ArrivalRow.{ArrivalRow}
+use Rattle.tables.specs.declared.rows.UploadRow.{UploadRow}
 use Rattle.tables.specs.declared.rows.Want.{Want}
 use Rattle.tables_meaning.specs.Cleaning.{with_gone, without_request}
 use Rattle.tables_meaning.specs.Kept.{bytes_of, print_at, sign_in}
@@ -72,27 +72,27 @@ or_joined false b c = refl
 -- ---- the upload of a name and a print
 
 module _ (name : List ℕ) (print : Print) where
-  abbrev is_it : ℕ × Upload → Bool
+  abbrev is_it : ℕ × UploadRow → Bool
   is_it r = is_upload name print r.1
 
   -- it has no verdict
-  abbrev goes : ℕ × Upload → Bool
+  abbrev goes : ℕ × UploadRow → Bool
   goes r = not (has_place r.1) && is_it r
 
   -- the want is one of such an upload
-  abbrev goes_with : Numbered Upload → ℕ × Want → Bool
+  abbrev goes_with : Numbered UploadRow → ℕ × Want → Bool
   goes_with us w = list_any (λ r. nat_eq r.0 w.1.upload && goes r) us
 
-  abbrev AreApart : Numbered Upload → Type 0
+  abbrev AreApart : Numbered UploadRow → Type 0
   AreApart us = IsAscending (λ x y. sign_in x.1 ≢ sign_in y.1) us
 
-  once : (us : Numbered Upload) → AreApart us → IsAscending (λ x y. is_it x ≡ true → is_it y ≡ false) us
+  once : (us : Numbered UploadRow) → AreApart us → IsAscending (λ x y. is_it x ≡ true → is_it y ≡ false) us
   once us apart =
       ascending_weaker (λ x y. sign_in x.1 ≢ sign_in y.1) (λ x y. is_it x ≡ true → is_it y ≡ false)
       (λ x y h p. false_from_ne_true (is_it y)
       (λ q. h ((is_sign-Decides (name, print) (sign_in x.1)).0 p ∙ sym ((is_sign-Decides (name, print) (sign_in y.1)).0 q)))) us apart
 
-  none_gone : (us : Numbered Upload) (ws : Numbered Want) → AllByRecursion (λ r. goes r ≡ false) us → (us ≡ without goes us) × (ws ≡ without (goes_with us) ws)
+  none_gone : (us : Numbered UploadRow) (ws : Numbered Want) → AllByRecursion (λ r. goes r ≡ false) us → (us ≡ without goes us) × (ws ≡ without (goes_with us) ws)
   none_gone us ws h = (
     sym (none_go goes us h),
     sym (none_go (goes_with us) ws (all_of (λ w. goes_with us w ≡ false) none_with ws)),
@@ -103,7 +103,7 @@ module _ (name : List ℕ) (print : Print) where
           any_from_none (λ r. nat_eq r.0 w.1.upload && goes r) us
           (all_weaker (λ r. goes r ≡ false) (λ r. (nat_eq r.0 w.1.upload && goes r) ≡ false) (λ r e. and_right (nat_eq r.0 w.1.upload) (goes r) e) us h)
 
-  module _ (us : Numbered Upload) (up : Rises us) (apart : AreApart us) (z : ℕ × Upload) (e : find is_it us ≡ Some z) where
+  module _ (us : Numbered UploadRow) (up : Rises us) (apart : AreApart us) (z : ℕ × UploadRow) (e : find is_it us ≡ Some z) where
     ones : AllByRecursion (λ r. is_it r ≡ true → r ≡ z) us
     ones = only_one is_it us z (once us apart) e
 
@@ -111,8 +111,8 @@ module _ (name : List ℕ) (print : Print) where
     judged_stays : has_place z.1 ≡ true → AllByRecursion (λ r. goes r ≡ false) us
     judged_stays placed = all_weaker (λ r. is_it r ≡ true → r ≡ z) (λ r. goes r ≡ false) (λ r h. each r h (is_it r) refl) us ones
       where
-        each : (r : ℕ × Upload) → (is_it r ≡ true → r ≡ z) → (b : Bool) → is_it r ≡ b → (not (has_place r.1) && b) ≡ false
-        each r h true k = ap (λ (q : ℕ × Upload). not (has_place q.1) && true) (h k) ∙ ap (λ b. not b && true) placed
+        each : (r : ℕ × UploadRow) → (is_it r ≡ true → r ≡ z) → (b : Bool) → is_it r ≡ b → (not (has_place r.1) && b) ≡ false
+        each r h true k = ap (λ (q : ℕ × UploadRow). not (has_place q.1) && true) (h k) ∙ ap (λ b. not b && true) placed
         each r h false k = and_right (not (has_place r.1)) false refl
 
     module _ (unplaced : has_place z.1 ≡ false) where
@@ -123,7 +123,7 @@ module _ (name : List ℕ) (print : Print) where
       by_number =
           all_weaker (λ r. (nat_eq r.0 z.0 ≡ true → r ≡ z) × (is_it r ≡ true → r ≡ z)) (λ r. nat_eq r.0 z.0 ≡ goes r)
           (λ r h. same_tests (nat_eq r.0 z.0) (goes r) (λ k. ap goes (h.0 k) ∙ z_goes)
-          (λ k. eq-eqb r.0 z.0 (ap (λ (q : ℕ × Upload). q.0) (h.1 (and_parts (not (has_place r.1)) (is_it r) k).1)))) us
+          (λ k. eq-eqb r.0 z.0 (ap (λ (q : ℕ × UploadRow). q.0) (h.1 (and_parts (not (has_place r.1)) (is_it r) k).1)))) us
           (all_both (λ r. nat_eq r.0 z.0 ≡ true → r ≡ z) (λ r. is_it r ≡ true → r ≡ z) us (number_is is_it us z up e) ones)
 
       uploads_gone : without (λ r. nat_eq r.0 z.0) us ≡ without goes us
@@ -151,7 +151,7 @@ request_gone : (name : List ℕ) (print : Print) (u : Tables) → Rises u.upload
 unfolding without_request
 request_gone name print u up apart = by (find (is_it name print) u.uploads) refl
   where
-    with_rows : Numbered Upload → Numbered Want → Tables
+    with_rows : Numbered UploadRow → Numbered Want → Tables
     with_rows us ws = record u { uploads = us; wants = ws }
 
     left : Tables
@@ -160,13 +160,13 @@ request_gone name print u up apart = by (find (is_it name print) u.uploads) refl
     none : AllByRecursion (λ r. goes name print r ≡ false) u.uploads → u ≡ left
     none h = let same = none_gone name print u.uploads u.wants h in λ i. with_rows (same.0 i) (same.1 i)
 
-    judged : (z : ℕ × Upload) → find (is_it name print) u.uploads ≡ Some z → (b : Bool) → has_place z.1 ≡ b
+    judged : (z : ℕ × UploadRow) → find (is_it name print) u.uploads ≡ Some z → (b : Bool) → has_place z.1 ≡ b
         → (if b then u else without_upload z.0 (without_wants z.0 u)) ≡ left
     judged z e true placed = none (judged_stays name print u.uploads up apart z e placed)
     judged z e false unplaced =
         λ i. with_rows (uploads_gone name print u.uploads up apart z e unplaced i) (wants_gone name print u.uploads up apart z e unplaced u.wants i)
 
-    by : (o : Option (ℕ × Upload)) → find (is_it name print) u.uploads ≡ o
+    by : (o : Option (ℕ × UploadRow)) → find (is_it name print) u.uploads ≡ o
         → option_map_or (λ x. if has_place x.1 then u else without_upload x.0 (without_wants x.0 u)) o u ≡ left
     by None e =
         none (all_weaker (λ r. is_it name print r ≡ false) (λ r. goes name print r ≡ false) (λ r h. and_right (not (has_place r.1)) (is_it name print r) h) u.uploads
@@ -179,14 +179,14 @@ abbrev pub Away : Type 0
 Away = List ℕ → Print → Bool
 
 -- the arrival of a row has this name, and its body this print
-abbrev pub had : Tables → ℕ × Arrival → Away
+abbrev pub had : Tables → ℕ × ArrivalRow → Away
 had t x name print = bytes_eq name x.1.name && same_print print (print_of (bytes_of t x.1.body))
 
 -- the upload is one that is away, without a verdict
-abbrev pub ends : Away → ℕ × Upload → Bool
+abbrev pub ends : Away → ℕ × UploadRow → Bool
 ends away r = not (has_place r.1) && away r.1.name r.1.print
 
-abbrev pub ends_with : Away → Numbered Upload → ℕ × Want → Bool
+abbrev pub ends_with : Away → Numbered UploadRow → ℕ × Want → Bool
 ends_with away us w = list_any (λ r. nat_eq r.0 w.1.upload && ends away r) us
 
 -- the wants of what is away
@@ -194,22 +194,22 @@ abbrev pub turned_off : Away → Numbered Want → Numbered Want
 turned_off away ws = changed (λ w. away w.1.name w.1.print) (λ w. record w { here = false }) ws
 
 -- these uploads and their wants are gone, the flags of the other wants of what is away are off, and these arrivals are left
-abbrev pub away_rows : Tables → Away → Numbered Arrival → Tables
+abbrev pub away_rows : Tables → Away → Numbered ArrivalRow → Tables
 away_rows t away left = record t { arrivals = left; uploads = without (ends away) t.uploads; wants = turned_off away (without (ends_with away t.uploads) t.wants) }
 
 -- the rows that are left once those of these numbers are gone
-abbrev pub without_each : Numbered Arrival → Numbered Arrival → Numbered Arrival
+abbrev pub without_each : Numbered ArrivalRow → Numbered ArrivalRow → Numbered ArrivalRow
 without_each left gone = fold (λ rows x. without (λ r. nat_eq r.0 x.0) rows) left gone
 
 module _ (t : Tables) (up : Rises t.uploads) (apart : IsAscending (λ x y. sign_in x.1 ≢ sign_in y.1) t.uploads) where
   -- one more is away
-  abbrev more : Away → ℕ × Arrival → Away
+  abbrev more : Away → ℕ × ArrivalRow → Away
   more away x = λ name print. away name print || had t x name print
 
-  abbrev IsPrinted : ℕ × Arrival → Type 0
+  abbrev IsPrinted : ℕ × ArrivalRow → Type 0
   IsPrinted x = print_at t x.1.body ≡ Some (print_of (bytes_of t x.1.body))
 
-  module _ (away : Away) (x : ℕ × Arrival) where
+  module _ (away : Away) (x : ℕ × ArrivalRow) where
     abbrev print_here : Print
     print_here = print_of (bytes_of t x.1.body)
 
@@ -236,13 +236,13 @@ module _ (t : Tables) (up : Rises t.uploads) (apart : IsAscending (λ x y. sign_
         first w false = refl
 
     -- uploads that go take their wants along, whatever flags these have
-    moved : (us : Numbered Upload) (those : Away) (ws : Numbered Want)
+    moved : (us : Numbered UploadRow) (those : Away) (ws : Numbered Want)
         → without (goes_with x.1.name print_here us) (turned_off those ws) ≡ turned_off those (without (goes_with x.1.name print_here us) ws)
     moved us those ws =
         filter-map (λ w. not (goes_with x.1.name print_here us w)) (λ (w : ℕ × Want). off (those w.1.name w.1.print) w) ws
         ∙ ap (map (λ (w : ℕ × Want). off (those w.1.name w.1.print) w))
         (filter_same (λ w. not (goes_with x.1.name print_here us (off (those w.1.name w.1.print) w))) (λ w. not (goes_with x.1.name print_here us w))
-        (λ w. ap (λ n. not (list_any (λ (r : ℕ × Upload). nat_eq r.0 n && goes x.1.name print_here r) us)) (upload_kept w (those w.1.name w.1.print))) ws)
+        (λ w. ap (λ n. not (list_any (λ (r : ℕ × UploadRow). nat_eq r.0 n && goes x.1.name print_here r) us)) (upload_kept w (those w.1.name w.1.print))) ws)
       where
         upload_kept : (w : ℕ × Want) (b : Bool) → (off b w).1.upload ≡ w.1.upload
         upload_kept w true = refl
@@ -267,7 +267,7 @@ module _ (t : Tables) (up : Rises t.uploads) (apart : IsAscending (λ x y. sign_
         (without_twice (ends_with away t.uploads) (goes_with x.1.name print_here us) (ends_with (more away x) t.uploads)
         (λ w. neither (ends_with away t.uploads w) (goes_with x.1.name print_here us w) ∙ ap not (either_goes w)) t.wants)
 
-    one_gone : (left : Numbered Arrival) → IsPrinted x → with_gone x (away_rows t away left) ≡ away_rows t (more away x) (without (λ r. nat_eq r.0 x.0) left)
+    one_gone : (left : Numbered ArrivalRow) → IsPrinted x → with_gone x (away_rows t away left) ≡ away_rows t (more away x) (without (λ r. nat_eq r.0 x.0) left)
     unfolding with_gone
     one_gone left is =
         let now : Tables = away_rows t away left in
@@ -279,7 +279,7 @@ module _ (t : Tables) (up : Rises t.uploads) (apart : IsAscending (λ x y. sign_
 
   -- ---- one after another
 
-  all_gone : (gone : Numbered Arrival) (away : Away) (left : Numbered Arrival) → AllByRecursion IsPrinted gone
+  all_gone : (gone : Numbered ArrivalRow) (away : Away) (left : Numbered ArrivalRow) → AllByRecursion IsPrinted gone
       → fold (λ now x. with_gone x now) (away_rows t away left) gone
       ≡ away_rows t (λ name print. away name print || list_any (λ x. had t x name print) gone) (without_each left gone)
   all_gone [] away left h = λ i. away_rows t (λ name print. or_none (away name print) i) left
@@ -309,6 +309,6 @@ module _ (t : Tables) (up : Rises t.uploads) (apart : IsAscending (λ x y. sign_
           ∙ none_go (ends_with nothing t.uploads) t.wants (all_of (λ w. ends_with nothing t.uploads w ≡ false) none_with t.wants))
 
   -- The rows once these arrivals have gone one after another.
-  pub gone_rows : (gone : Numbered Arrival) → AllByRecursion IsPrinted gone
+  pub gone_rows : (gone : Numbered ArrivalRow) → AllByRecursion IsPrinted gone
       → fold (λ now x. with_gone x now) t gone ≡ away_rows t (λ name print. list_any (λ x. had t x name print) gone) (without_each t.arrivals gone)
   gone_rows gone h = ap (λ s. fold (λ now x. with_gone x now) s gone) none_away ∙ all_gone gone nothing t.arrivals h

@@ -31,10 +31,10 @@ use Rattle.tables.specs.Refs.{without_refs}
 use Rattle.tables.specs.Rows.{Tables, Numbered, Holds, Changes, next_in, with_file, with_item, with_ref}
 use Rattle.tables.specs.Uploads.{is_upload, with_verdict}
 use Rattle.tables.specs.Wants.{without_wants}
-use Rattle.tables.specs.declared.rows.Body.{Body}
+use Rattle.tables.specs.declared.rows.BodyRow.{BodyRow}
 use Rattle.tables.specs.declared.rows.Ref.{Ref}
-use Rattle.tables.specs.declared.rows.Upload.{Upload}
-use Rattle.tables.specs.declared.rows.Item as row
+use Rattle.tables.specs.declared.rows.UploadRow.{UploadRow}
+use Rattle.tables.specs.declared.rows.ItemRow.{ItemRow}
 use Rattle.tables.proofs.TransactionLemmas.{keeps_if_changed, keeps_if_undone, keeps_then}
 use Rattle.tables_meaning.specs.Kept.{is_on, item_row, refs_for}
 use Rattle.tables_meaning.specs.Making.{judged_by, takes_file, with_change, with_judged, with_new_dates, with_new_texts, with_plan, with_pooled, with_refs, with_shown, with_step, with_steps, with_written, without_shown}
@@ -116,13 +116,13 @@ all_of P xs i past = subst (All P) (take_all i xs past)
 -- ---- what was read
 
 -- where the upload of a judgement was looked for
-pub judged_as : (place : ℕ) (j : Judgement) (t : Tables) (o : Option (ℕ × Upload)) → find (λ x. is_upload j.name j.print x.1) t.uploads ≡ o
+pub judged_as : (place : ℕ) (j : Judgement) (t : Tables) (o : Option (ℕ × UploadRow)) → find (λ x. is_upload j.name j.print x.1) t.uploads ≡ o
     → option_map_or (λ x. without_wants x.0 (with_verdict x.0 place (number_of j.verdict) t)) o t ≡ with_judged place j t
 unfolding with_judged
 judged_as place j t o is = ap (λ o. option_map_or (λ x. without_wants x.0 (with_verdict x.0 place (number_of j.verdict) t)) o t) (sym is)
 
 -- where what stands on a shelf was looked for
-pub taken_down : (suites : List Suite) (e : ShelfKey × shelf.Item) (t : Tables) (o : Option (ℕ × row.Item)) → find (is_on suites e.0) t.items ≡ o
+pub taken_down : (suites : List Suite) (e : ShelfKey × shelf.Item) (t : Tables) (o : Option (ℕ × ItemRow)) → find (is_on suites e.0) t.items ≡ o
     → option_map_or (λ x. without_item x.0 (without_refs x.0 t)) o t ≡ without_shown suites e t
 unfolding without_shown
 taken_down suites e t o is = ap (λ o. option_map_or (λ x. without_item x.0 (without_refs x.0 t)) o t) (sym is)
@@ -175,7 +175,7 @@ option_keeps : {X Y : Type 0} (get : Tables → Y) (f : X → Tables) (t : Table
 option_keeps get f t None same = refl
 option_keeps get f t (Some x) same = same x
 
-abbrev bodies_in : Tables → Numbered Body
+abbrev bodies_in : Tables → Numbered BodyRow
 bodies_in t = t.bodies
 
 taken_down_keeps : (suites : List Suite) (e : ShelfKey × shelf.Item) (t : Tables) → bodies_in (without_shown suites e t) ≡ t.bodies
@@ -225,7 +225,7 @@ steps_keep suites n (x ∷ xs) t = steps_keep suites (judged_by n x) xs (with_st
 
 -- bodies that are there are there in tables of the same bodies
 pub has_bodies : (t s : Tables) (fs : List PoolFile) → s.bodies ≡ t.bodies → HasBodies s fs → HasBodies t fs
-has_bodies t s fs same = subst (λ (bodies : Numbered Body). All (λ f. IsTrue (is_some (body_with f.print bodies))) fs) same
+has_bodies t s fs same = subst (λ (bodies : Numbered BodyRow). All (λ f. IsTrue (is_some (body_with f.print bodies))) fs) same
 
 pub plan_as : (suites : List Suite) (plan : Plan) (t : Tables)
     → fold (λ now f. with_pooled f now) (fold (λ now f. without_file f.path now) (fold (λ now e. with_shown suites e now) (fold (λ now e. without_shown suites e now) t plan.dropped) plan.put) plan.files_removed) plan.files_added

@@ -28,18 +28,18 @@ use Rattle.tables.specs.Files.{is_file_at}
 use Rattle.tables.specs.Pieces.{is_of}
 use Rattle.tables.specs.Rows.{Numbered, Tables, rows_of}
 use Rattle.tables.specs.Texts.{with_new_text}
-use Rattle.tables.specs.declared.rows.Arrival as rows_arrival
-use Rattle.tables.specs.declared.rows.Body.{Body}
+use Rattle.tables.specs.declared.rows.ArrivalRow.{ArrivalRow}
+use Rattle.tables.specs.declared.rows.BodyRow.{BodyRow}
 use Rattle.tables.specs.declared.rows.Date.{Date}
 use Rattle.tables.specs.declared.rows.File.{File}
-use Rattle.tables.specs.declared.rows.IndexText as rows_text
+use Rattle.tables.specs.declared.rows.TextRow.{TextRow}
 use Rattle.tables.specs.declared.rows.Piece.{Piece}
 use Rattle.texts.specs.Indices.{all_texts}
-use Rattle.tables_meaning.specs.Kept.{AreArrivals, AreFiles, AreItems, AreSigned, AreStored, AreUploads, IsKept, arrival_in, arrivals_in, book_in, bytes_of, date_row, files_in, has_body, print_at, wants_in}
+use Rattle.tables_meaning.specs.Kept.{AreArrivals, AreFiles, AreItems, AreSigned, AreStored, AreUploads, IsBook, arrival_in, arrivals_in, book_in, bytes_of, date_row, files_in, has_body, print_at, wants_in}
 use Rattle.tables_meaning.specs.Making.{with_new_dates, with_new_texts}
 use Rattle.tables_meaning.proofs.BodyLemmas.{are_stored}
 use Rattle.tables_meaning.proofs.DateLemmas.{in_range_past, length_past, renewed_dates}
-use Rattle.tables_meaning.proofs.NameLemmas.{config_codenames}
+use Rattle.texts.proofs.Paths.{config_codenames}
 use Rattle.tables_meaning.proofs.PathLemmas.{config_paths}
 use Rattle.tables_meaning.proofs.RowLists.{found_passes}
 use Rattle.tables_meaning.proofs.SweptLemmas.{IsUnswept}
@@ -69,23 +69,23 @@ found_in p (y ∷ ys) x h = by_case (p y) h (found_in p ys x)
 module _ (t : Tables) (bodies : AreStored t) where
   -- the body of a number has the print of its bytes
   body_at : (id : ℕ) → IsTrue (has_body t id)
-      → (x : ℕ × Body) × Contains t.bodies x × (x.0 ≡ id) × (find (λ (y : ℕ × Body). nat_eq y.0 id) t.bodies ≡ Some x) × (x.1.print ≡ Some (print_of (bytes_of t id)))
+      → (x : ℕ × BodyRow) × Contains t.bodies x × (x.0 ≡ id) × (find (λ (y : ℕ × BodyRow). nat_eq y.0 id) t.bodies ≡ Some x) × (x.1.print ≡ Some (print_of (bytes_of t id)))
   unfolding has_body
   body_at id h =
-      let x = found (λ (y : ℕ × Body). nat_eq y.0 id) t.bodies h in
+      let x = found (λ (y : ℕ × BodyRow). nat_eq y.0 id) t.bodies h in
       let is : x.0.0 ≡ id = (Decides-eqb x.0.0 id).0 x.2 in
-      (x.0, x.1, is, x.3, all_at (λ (y : ℕ × Body). y.1.print ≡ Some (print_of (bytes_of t y.0))) t.bodies x.0 bodies.whole x.1 ∙ ap (λ n. Some (print_of (bytes_of t n))) is)
+      (x.0, x.1, is, x.3, all_at (λ (y : ℕ × BodyRow). y.1.print ≡ Some (print_of (bytes_of t y.0))) t.bodies x.0 bodies.whole x.1 ∙ ap (λ n. Some (print_of (bytes_of t n))) is)
 
   pub print_is : (id : ℕ) → IsTrue (has_body t id) → print_at t id ≡ Some (print_of (bytes_of t id))
-  print_is id h = let x = body_at id h in ap (option_and_then (λ (y : ℕ × Body). y.1.print)) x.3 ∙ x.4
+  print_is id h = let x = body_at id h in ap (option_and_then (λ (y : ℕ × BodyRow). y.1.print)) x.3 ∙ x.4
 
   -- bodies of one print have the same bytes
   pub same_bytes : (i j : ℕ) → IsTrue (has_body t i) → IsTrue (has_body t j) → print_of (bytes_of t i) ≡ print_of (bytes_of t j) → bytes_of t i ≡ bytes_of t j
   same_bytes i j h k e =
       let x = body_at i h in
       let y = body_at j k in
-      let same : x.0 ≡ y.0 = by_name (λ (z : ℕ × Body). z.1.print) t.bodies x.0 y.0 bodies.apart x.1 y.1 (x.4 ∙ ap Some e ∙ sym y.4) in
-      ap (bytes_of t) (sym x.2 ∙ ap (λ (z : ℕ × Body). z.0) same ∙ y.2)
+      let same : x.0 ≡ y.0 = by_name (λ (z : ℕ × BodyRow). z.1.print) t.bodies x.0 y.0 bodies.apart x.1 y.1 (x.4 ∙ ap Some e ∙ sym y.4) in
+      ap (bytes_of t) (sym x.2 ∙ ap (λ (z : ℕ × BodyRow). z.0) same ∙ y.2)
 
   module _ (arrivals : AreArrivals t) (id : ℕ) (known : IsTrue (has_body t id)) where
     abbrev body : List ℕ
@@ -104,7 +104,7 @@ module _ (t : Tables) (bodies : AreStored t) where
         let bytes : bytes_of t row.0.body ≡ a.body = ap (λ (b : Arrival). b.body) row.2 in
         let same : same_print (print_of a.body) (print_of body) ≡ true = found_passes fits (map (arrival_in t) (rows_of t.arrivals)) a e in
         let print : print_of (bytes_of t row.0.body) ≡ print_of body = ap print_of bytes ∙ (same_print-Decides (print_of a.body) (print_of body)).0 same in
-        let there_is : IsTrue (has_body t row.0.body) = all_at (λ (b : rows_arrival.Arrival). IsTrue (has_body t b.body)) (rows_of t.arrivals) row.0 arrivals.bodies row.1 in
+        let there_is : IsTrue (has_body t row.0.body) = all_at (λ (b : ArrivalRow). IsTrue (has_body t b.body)) (rows_of t.arrivals) row.0 arrivals.bodies row.1 in
         ap Some (sym bytes ∙ same_bytes row.0.body id there_is known print)
 
     -- the old one where its print fits
@@ -153,15 +153,15 @@ module _ (t new : Tables) (keeps : KeepsBodies t new) where
   pub arrivals_kept : arrivals_in new ≡ arrivals_in t
   unfolding arrivals_in
   arrivals_kept =
-      ap (λ (rows : Numbered rows_arrival.Arrival). map (arrival_in new) (rows_of rows)) keeps.arrivals
-      ∙ (λ i. map (λ (a : rows_arrival.Arrival). record { name = a.name; body = bytes_kept a.body i; moment = a.moment }) (rows_of t.arrivals))
+      ap (λ (rows : Numbered ArrivalRow). map (arrival_in new) (rows_of rows)) keeps.arrivals
+      ∙ (λ i. map (λ (a : ArrivalRow). record { name = a.name; body = bytes_kept a.body i; moment = a.moment }) (rows_of t.arrivals))
 
   print_kept : (id : ℕ) → print_at new id ≡ print_at t id
-  print_kept id = ap (λ (bs : Numbered Body). option_and_then (λ (x : ℕ × Body). x.1.print) (find (λ (x : ℕ × Body). nat_eq x.0 id) bs)) keeps.bodies
+  print_kept id = ap (λ (bs : Numbered BodyRow). option_and_then (λ (x : ℕ × BodyRow). x.1.print) (find (λ (x : ℕ × BodyRow). nat_eq x.0 id) bs)) keeps.bodies
 
   body_kept : (id : ℕ) → IsTrue (has_body new id) → IsTrue (has_body t id)
   unfolding has_body
-  body_kept id h = subst (λ (bs : Numbered Body). IsTrue (list_any (λ (x : ℕ × Body). nat_eq x.0 id) bs)) keeps.bodies h
+  body_kept id h = subst (λ (bs : Numbered BodyRow). IsTrue (list_any (λ (x : ℕ × BodyRow). nat_eq x.0 id) bs)) keeps.bodies h
 
   -- THE FILES of the pool after a change are those of the book after it, where the book has each body.
   pub files_amended : (book : Book) (shown after : ShelvesValue) → AreStored t → AreArrivals t → AreFiles t shown → AreFiles new after → book.files ≡ files_in t → book.arrivals ≡ arrivals_in t
@@ -185,7 +185,7 @@ module _ (t new : Tables) (keeps : KeepsBodies t new) where
 
 -- THE BOOK that the tables keep after a change is the amended one, where it had each body.
 pub amended_book : (t new : Tables) (config : ConfigValue) (judged : List Judgement) (shown : ShelvesValue) (dates : List ℕ) (change : Change)
-    → IsKept t config judged shown dates → KeepsBodies t new → AreFiles new (shown_past shown change.steps) → HasEachBody (book_in config judged shown dates t) change
+    → IsBook t config judged shown dates → KeepsBodies t new → AreFiles new (shown_past shown change.steps) → HasEachBody (book_in config judged shown dates t) change
     → book_in config (judged ++ judgements change.steps) (shown_past shown change.steps) (dates_past change.moment dates change.steps) new ≡ amended (book_in config judged shown dates t) change
 unfolding book_in amended
 amended_book t new config judged shown dates change kept keeps files has =
@@ -213,7 +213,7 @@ pub record AreTextsAndDates (t : Tables) (config : ConfigValue) (shown : Shelves
 -- The rows of texts and of dates after a change are those of what it leaves. The rows before it are those of the tables, or
 -- of tables that have the same texts and dates.
 pub renewed_rows : (t now : Tables) (config : ConfigValue) (judged : List Judgement) (shown : ShelvesValue) (dates : List ℕ) (change : Change)
-    → IsKept t config judged shown dates → now.texts ≡ t.texts → now.dates ≡ t.dates → change.moment ≤ latest → config_in config.text ≡ Ok config
+    → IsBook t config judged shown dates → now.texts ≡ t.texts → now.dates ≡ t.dates → change.moment ≤ latest → config_in config.text ≡ Ok config
     → AreRenewed (book_in config judged shown dates t) (amended (book_in config judged shown dates t) change) change.texts
     → AreTextsAndDates (with_new_dates config.suites change.moment change.steps (with_new_texts change.texts now)) config (shown_past shown change.steps) (dates_past change.moment dates change.steps)
 renewed_rows t now config judged shown dates change kept same_texts same_dates small read renewed = record {
@@ -226,7 +226,7 @@ renewed_rows t now config judged shown dates change kept same_texts same_dates s
 -- ---- the tables after a change
 
 -- the tables with other rows of texts and of dates
-abbrev with_others : Tables → Numbered rows_text.IndexText → Numbered Date → Tables
+abbrev with_others : Tables → Numbered TextRow → Numbered Date → Tables
 with_others t texts dates = record t { texts = texts; dates = dates }
 
 texts_only : (texts : List IndexText) (t : Tables) → with_new_texts texts t ≡ record t { texts = (with_new_texts texts t).texts }
@@ -257,7 +257,7 @@ module _ (moment : ℕ) (steps : List Step) where
       ∙ ap (λ (u : Tables). record u { dates = (with_new_dates suites moment steps (with_new_texts texts t)).dates }) (texts_only texts t)
 
 -- what the rows are does not rest on those of texts and dates
-module _ (t : Tables) (texts : Numbered rows_text.IndexText) (dates : Numbered Date) where
+module _ (t : Tables) (texts : Numbered TextRow) (dates : Numbered Date) where
   uploads_stay : (judged : List Judgement) → AreUploads t judged → AreUploads (with_others t texts dates) judged
   unfolding wants_in arrivals_in bytes_of
   uploads_stay judged h = record {
@@ -339,12 +339,12 @@ pub record IsWritten (t new : Tables) (config : ConfigValue) (judged : List Judg
 
 -- THE ARCHIVE after the steps of a change, once its texts and dates are written.
 pub amended_archive : (t now : Tables) (config : ConfigValue) (judged : List Judgement) (shown : ShelvesValue) (dates : List ℕ) (change : Change)
-    → IsKept t config judged shown dates → AreStepped t now config (judged ++ judgements change.steps) (shown_past shown change.steps)
+    → IsBook t config judged shown dates → AreStepped t now config (judged ++ judgements change.steps) (shown_past shown change.steps)
     → change.moment ≤ latest → config_in config.text ≡ Ok config
     → AreRenewed (book_in config judged shown dates t) (amended (book_in config judged shown dates t) change) change.texts
     → IsWritten t (with_new_dates config.suites change.moment change.steps (with_new_texts change.texts now)) config judged shown dates change
 amended_archive t now config judged shown dates change kept stepped small read renewed =
-    let texts : Numbered rows_text.IndexText = (with_new_texts change.texts now).texts in
+    let texts : Numbered TextRow = (with_new_texts change.texts now).texts in
     let date_rows : Numbered Date = (with_new_dates config.suites change.moment change.steps (with_new_texts change.texts now)).dates in
     let is : with_others now texts date_rows ≡ with_new_dates config.suites change.moment change.steps (with_new_texts change.texts now) =
     sym (others_only change.moment change.steps config.suites change.texts now) in

@@ -24,20 +24,21 @@ use Rattle.tables.specs.Rows.{Tables, Numbered, Rises, added, next_in, rows_of, 
 use Rattle.tables.specs.Rows as tables
 use Rattle.tables.specs.Uploads.{is_upload}
 use Rattle.tables.specs.Wants.{with_here}
-use Rattle.tables.specs.declared.rows.Arrival as rows_arrival
-use Rattle.tables.specs.declared.rows.Body.{Body}
-use Rattle.tables.specs.declared.rows.Upload.{Upload}
+use Rattle.tables.specs.declared.rows.ArrivalRow.{ArrivalRow}
+use Rattle.tables.specs.declared.rows.BodyRow.{BodyRow}
+use Rattle.tables.specs.declared.rows.UploadRow.{UploadRow}
 use Rattle.tables.specs.declared.rows.Want.{Want}
 use Rattle.tables_meaning.specs.Cleaning.{counts_row}
 use Rattle.tables_meaning.specs.Kept.{AreArrivals, AreBodies, AreNumbered, AreStored, arrival_in, arrivals_in, bytes_of, has_body, is_used, print_at}
 use Rattle.tables_meaning.specs.Making.{is_here, number_with, with_arrived, with_bytes, with_delivered, with_requested, with_wants}
-use Rattle.tables_meaning.proofs.BodyLemmas.{HasBody, Stores, all_if, any_false, any_same, any_with, apart_same, are_stored, arrived_used, body_found, by_number, found, has_body_if, its_print, list_any-map, map_alike, none_found, of_no_print, row_of_found, rows_added, same_number, same_row, stores, used_on}
+use Rattle.tables_meaning.proofs.BodyLemmas.{HasBody, Stores, all_if, any_false, any_with, apart_same, are_stored, arrived_used, body_found, by_number, found, has_body_if, its_print, list_any-map, map_alike, none_found, of_no_print, row_of_found, rows_added, same_number, same_row, stores, used_on}
+use Rattle.keep.proofs.Arrivals.{any_same}
 use Rattle.tables_meaning.proofs.Searches.{list_any-filter}
 
 -- ---- lists
 
 -- what holds of each image holds of each element
-all_unmapped : {X Y : Type 0} (P : X → Type 0) (f : Y → X) (ys : List Y) → All P (map f ys) → All (λ y. P (f y)) ys
+pub all_unmapped : {X Y : Type 0} (P : X → Type 0) (f : Y → X) (ys : List Y) → All P (map f ys) → All (λ y. P (f y)) ys
 all_unmapped P f ys h k d lt = subst P (get_or-map f ys k d (f d) lt) (h k (f d) (omega (arith, length-map ys f)))
 
 pairs_unmapped : {X Y : Type 0} (R : X → X → Type 0) (f : Y → X) (ys : List Y) → AllPairs R (map f ys) → AllPairs (λ y z. R (f y) (f z)) ys
@@ -68,7 +69,7 @@ pub record HasBytes (t : Tables) (bytes : List ℕ) (id : ℕ) : Type 0 where
 pub has_bytes : (t now : Tables) (bytes : List ℕ) (id : ℕ) → Stores t now bytes id → HasBytes now bytes id
 has_bytes t now bytes id h = record { stored = h.stored; found = h.found; are = h.bytes_are }
 
-same_pair : (t : Tables) (name bytes : List ℕ) (moment id : ℕ) → HasBytes t bytes id → (x : rows_arrival.Arrival) → has_body t x.body ≡ true
+same_pair : (t : Tables) (name bytes : List ℕ) (moment id : ℕ) → HasBytes t bytes id → (x : ArrivalRow) → has_body t x.body ≡ true
     → is_arrival name id x ≡ is_same_pair (record { name = name; body = bytes; moment = moment }) (arrival_in t x)
 unfolding is_same_pair
 same_pair t name bytes moment id h x is =
@@ -88,7 +89,7 @@ turned false true = refl
 turned false false = refl
 
 -- a row counts exactly where its arrival does
-pub counts_as : (t : Tables) (seconds : Option ℕ) (at : ℕ) (a : rows_arrival.Arrival) → counts_row seconds at a ≡ counts seconds at (arrival_in t a)
+pub counts_as : (t : Tables) (seconds : Option ℕ) (at : ℕ) (a : ArrivalRow) → counts_row seconds at a ≡ counts seconds at (arrival_in t a)
 unfolding counts counts_row
 counts_as t None at a = refl
 counts_as t (Some s) at a = refl
@@ -108,13 +109,13 @@ module _ (t : Tables) (up : Rises t.arrivals) (h : AreArrivals t) (name bytes : 
   abbrev it : Arrival
   it = record { name = name; body = bytes; moment = moment }
 
-  abbrev is_it : ℕ × rows_arrival.Arrival → Bool
+  abbrev is_it : ℕ × ArrivalRow → Bool
   is_it x = is_arrival name id x.1
 
-  its_body : (x : ℕ × rows_arrival.Arrival) → Contains t.arrivals x → has_body t x.1.body ≡ true
-  its_body x c = All-contains (λ (x : ℕ × rows_arrival.Arrival). IsTrue (has_body t x.1.body)) t.arrivals x (all_unmapped (λ a. IsTrue (has_body t a.body)) (λ x. x.1) t.arrivals h.bodies) c
+  its_body : (x : ℕ × ArrivalRow) → Contains t.arrivals x → has_body t x.1.body ≡ true
+  its_body x c = All-contains (λ (x : ℕ × ArrivalRow). IsTrue (has_body t x.1.body)) t.arrivals x (all_unmapped (λ a. IsTrue (has_body t a.body)) (λ x. x.1) t.arrivals h.bodies) c
 
-  tells : (x : ℕ × rows_arrival.Arrival) → Contains t.arrivals x → is_it x ≡ is_same_pair it (arrival_in t x.1)
+  tells : (x : ℕ × ArrivalRow) → Contains t.arrivals x → is_it x ≡ is_same_pair it (arrival_in t x.1)
   tells x c = same_pair t name bytes moment id has x.1 (its_body x c)
 
   pub is_known : list_any is_it t.arrivals ≡ has_arrival (arrivals_in t) it
@@ -135,42 +136,42 @@ module _ (t : Tables) (up : Rises t.arrivals) (h : AreArrivals t) (name bytes : 
       ∙ sym (list_any-filter (is_same_pair it) (counts seconds at) (map (arrival_in t) (rows_of t.arrivals)))
 
   -- the row with the greater moment, where it is the one that arrives
-  abbrev settled : ℕ × rows_arrival.Arrival → ℕ × rows_arrival.Arrival
+  abbrev settled : ℕ × ArrivalRow → ℕ × ArrivalRow
   settled x = (x.0, record x.1 { moment = if is_it x && nat_lt x.1.moment moment then moment else x.1.moment })
 
   abbrev known : Tables
   known = record t { arrivals = map settled t.arrivals }
 
-  abbrev new_row : rows_arrival.Arrival
+  abbrev new_row : ArrivalRow
   new_row = record { name = name; body = id; moment = moment }
 
   abbrev new : Tables
   new = record t { arrivals = added t.arrivals new_row }
 
   -- two rows that are the arrival are one
-  one_row : (x y : ℕ × rows_arrival.Arrival) → Contains t.arrivals x → Contains t.arrivals y → is_it x ≡ true → is_it y ≡ true → x ≡ y
+  one_row : (x y : ℕ × ArrivalRow) → Contains t.arrivals x → Contains t.arrivals y → is_it x ≡ true → is_it y ≡ true → x ≡ y
   one_row x y cx cy p q =
-      apart_same (λ (a b : ℕ × rows_arrival.Arrival). is_arrival a.1.name a.1.body b.1 ≡ false) t.arrivals (pairs_unmapped (λ a b. is_arrival a.name a.body b ≡ false) (λ x. x.1) t.arrivals h.apart) x y cx cy
+      apart_same (λ (a b : ℕ × ArrivalRow). is_arrival a.1.name a.1.body b.1 ≡ false) t.arrivals (pairs_unmapped (λ a b. is_arrival a.name a.body b ≡ false) (λ x. x.1) t.arrivals h.apart) x y cx cy
       (λ no. false≢true (sym no ∙ alike x.1 y.1 p q)) (λ no. false≢true (sym no ∙ alike y.1 x.1 q p))
     where
-      alike : (a b : rows_arrival.Arrival) → is_arrival name id a ≡ true → is_arrival name id b ≡ true → is_arrival a.name a.body b ≡ true
+      alike : (a b : ArrivalRow) → is_arrival name id a ≡ true → is_arrival name id b ≡ true → is_arrival a.name a.body b ≡ true
       alike a b p q =
           let first = (Decides-and (bytes_eq a.name name) (nat_eq a.body id) (bytes_eq-Decides a.name name) (Decides-eqb a.body id)).0 p in
           let second = (Decides-and (bytes_eq b.name name) (nat_eq b.body id) (bytes_eq-Decides b.name name) (Decides-eqb b.body id)).0 q in
           (Decides-and (bytes_eq b.name a.name) (nat_eq b.body a.body) (bytes_eq-Decides b.name a.name) (Decides-eqb b.body a.body)).1 (second.0 ∙ sym first.0, second.1 ∙ sym first.1)
 
   -- the row of a number is the arrival exactly where it has the number of the one that was found
-  by_rowid : (x y : ℕ × rows_arrival.Arrival) → Contains t.arrivals x → Contains t.arrivals y → is_it x ≡ true → nat_eq y.0 x.0 ≡ is_it y
+  by_rowid : (x y : ℕ × ArrivalRow) → Contains t.arrivals x → Contains t.arrivals y → is_it x ≡ true → nat_eq y.0 x.0 ≡ is_it y
   by_rowid x y cx cy p =
       same_from_decides {P = y ≡ x} (nat_eq y.0 x.0) (is_it y)
       (Decides-like (nat_eq y.0 x.0) (λ e. same_row t.arrivals up y x cy cx e) (λ e. ap (λ z. z.0) e) (Decides-eqb y.0 x.0))
       ((λ q. one_row y x cy cx q p), (λ e. ap is_it e ∙ p))
 
   -- a row that is the arrival is the one that was found
-  its_moment : (x y : ℕ × rows_arrival.Arrival) → Contains t.arrivals x → Contains t.arrivals y → is_it x ≡ true → is_it y ≡ true → (later : Bool) → nat_lt x.1.moment moment ≡ later → nat_lt y.1.moment moment ≡ later
+  its_moment : (x y : ℕ × ArrivalRow) → Contains t.arrivals x → Contains t.arrivals y → is_it x ≡ true → is_it y ≡ true → (later : Bool) → nat_lt x.1.moment moment ≡ later → nat_lt y.1.moment moment ≡ later
   its_moment x y cx cy p q later e = ap (λ z. nat_lt z.1.moment moment) (one_row y x cy cx q p) ∙ e
 
-  raised : (x y : ℕ × rows_arrival.Arrival) → Contains t.arrivals x → Contains t.arrivals y → is_it x ≡ true → nat_lt x.1.moment moment ≡ true
+  raised : (x y : ℕ × ArrivalRow) → Contains t.arrivals x → Contains t.arrivals y → is_it x ≡ true → nat_lt x.1.moment moment ≡ true
       → (if nat_eq y.0 x.0 then (y.0, record y.1 { moment = moment }) else y) ≡ settled y
   raised x y cx cy p e =
       ap (λ b. if b then (y.0, record y.1 { moment = moment }) else y) (by_rowid x y cx cy p)
@@ -180,7 +181,7 @@ module _ (t : Tables) (up : Rises t.arrivals) (h : AreArrivals t) (name bytes : 
       by true q = ap (λ (l : Bool). (y.0, record y.1 { moment = if l then moment else y.1.moment })) (sym (its_moment x y cx cy p q true e))
       by false q = refl
 
-  left : (x y : ℕ × rows_arrival.Arrival) → Contains t.arrivals x → Contains t.arrivals y → is_it x ≡ true → nat_lt x.1.moment moment ≡ false → settled y ≡ y
+  left : (x y : ℕ × ArrivalRow) → Contains t.arrivals x → Contains t.arrivals y → is_it x ≡ true → nat_lt x.1.moment moment ≡ false → settled y ≡ y
   left x y cx cy p e = by (is_it y) refl
     where
       by : (b : Bool) → is_it y ≡ b → (y.0, record y.1 { moment = if b && nat_lt y.1.moment moment then moment else y.1.moment }) ≡ y
@@ -188,7 +189,7 @@ module _ (t : Tables) (up : Rises t.arrivals) (h : AreArrivals t) (name bytes : 
       by false q = refl
 
   -- the row that was found gets the greater moment
-  becomes : (x : ℕ × rows_arrival.Arrival) → Contains t.arrivals x → is_it x ≡ true → (later : Bool) → nat_lt x.1.moment moment ≡ later
+  becomes : (x : ℕ × ArrivalRow) → Contains t.arrivals x → is_it x ≡ true → (later : Bool) → nat_lt x.1.moment moment ≡ later
       → (if later then with_moment x.0 moment t else t) ≡ known
   becomes x c p true e =
       ap (λ l. record t { arrivals = l })
@@ -196,7 +197,7 @@ module _ (t : Tables) (up : Rises t.arrivals) (h : AreArrivals t) (name bytes : 
   becomes x c p false e = ap (λ l. record t { arrivals = l }) (sym (map_fixed settled t.arrivals (all_if (λ y. settled y ≡ y) t.arrivals (λ y cy. left x y c cy p e))))
 
   -- what the book shows of a row that is there
-  shown_known : (x : ℕ × rows_arrival.Arrival) → Contains t.arrivals x
+  shown_known : (x : ℕ × ArrivalRow) → Contains t.arrivals x
       → arrival_in known (settled x).1 ≡ (if is_same_pair it (arrival_in t x.1) then at_latest moment (arrival_in t x.1) else arrival_in t x.1)
   unfolding bytes_of
   shown_known x c =
@@ -243,7 +244,7 @@ module _ (t : Tables) (up : Rises t.arrivals) (h : AreArrivals t) (name bytes : 
     fit_new : All IsFit (arrivals_in new)
     fit_new = All-same IsFit (arrivals_in new) (arrivals_in t ++ it ∷ []) arrivals_new (All-push IsFit (arrivals_in t) it h.deliverable (deliverable, in_range))
 
-    if_known : (x : ℕ × rows_arrival.Arrival) → find is_it t.arrivals ≡ Some x → Arrives t name bytes moment id known
+    if_known : (x : ℕ × ArrivalRow) → find is_it t.arrivals ≡ Some x → Arrives t name bytes moment id known
     unfolding with_arrival has_body
     if_known x e =
         let it_is = found is_it t.arrivals x e in
@@ -251,9 +252,9 @@ module _ (t : Tables) (up : Rises t.arrivals) (h : AreArrivals t) (name bytes : 
         record {
           arrivals = record {
             bodies = All-map (λ a. IsTrue (has_body known a.body)) (λ x. x.1) (map settled t.arrivals)
-                (All-map (λ (x : ℕ × rows_arrival.Arrival). IsTrue (has_body known x.1.body)) settled t.arrivals (all_unmapped (λ a. IsTrue (has_body t a.body)) (λ x. x.1) t.arrivals h.bodies));
+                (All-map (λ (x : ℕ × ArrivalRow). IsTrue (has_body known x.1.body)) settled t.arrivals (all_unmapped (λ a. IsTrue (has_body t a.body)) (λ x. x.1) t.arrivals h.bodies));
             apart = pairs_mapped (λ a b. is_arrival a.name a.body b ≡ false) (λ x. x.1) (map settled t.arrivals)
-                (pairs_mapped (λ (x y : ℕ × rows_arrival.Arrival). is_arrival x.1.name x.1.body y.1 ≡ false) settled t.arrivals (pairs_unmapped (λ a b. is_arrival a.name a.body b ≡ false) (λ x. x.1) t.arrivals h.apart));
+                (pairs_mapped (λ (x y : ℕ × ArrivalRow). is_arrival x.1.name x.1.body y.1 ≡ false) settled t.arrivals (pairs_unmapped (λ a b. is_arrival a.name a.body b ≡ false) (λ x. x.1) t.arrivals h.apart));
             deliverable = fit_known;
           };
           arrived = arrivals_known ∙ ap (λ (b : Bool). if b then map (λ b. if is_same_pair it b then at_latest moment b else b) (arrivals_in t) else arrivals_in t ++ it ∷ []) (sym any);
@@ -265,7 +266,7 @@ module _ (t : Tables) (up : Rises t.arrivals) (h : AreArrivals t) (name bytes : 
         same_uses : (n : ℕ) → list_any (λ a. nat_eq a.body n) (rows_of known.arrivals) ≡ list_any (λ a. nat_eq a.body n) (rows_of t.arrivals)
         same_uses n =
             list_any-map (λ a. nat_eq a.body n) (λ x. x.1) (map settled t.arrivals)
-            ∙ list_any-map (λ (x : ℕ × rows_arrival.Arrival). nat_eq x.1.body n) settled t.arrivals
+            ∙ list_any-map (λ (x : ℕ × ArrivalRow). nat_eq x.1.body n) settled t.arrivals
             ∙ sym (list_any-map (λ a. nat_eq a.body n) (λ x. x.1) t.arrivals)
 
     if_new : find is_it t.arrivals ≡ None → Arrives t name bytes moment id new
@@ -289,7 +290,7 @@ module _ (t : Tables) (up : Rises t.arrivals) (h : AreArrivals t) (name bytes : 
         all_other : All (λ a. is_arrival name id a ≡ false) (rows_of t.arrivals)
         all_other = All-map (λ a. is_arrival name id a ≡ false) (λ x. x.1) t.arrivals (all_if (λ x. is_it x ≡ false) t.arrivals (none_found is_it t.arrivals e))
 
-        other : (a : rows_arrival.Arrival) → is_arrival name id a ≡ false → is_arrival a.name a.body new_row ≡ false
+        other : (a : ArrivalRow) → is_arrival name id a ≡ false → is_arrival a.name a.body new_row ≡ false
         other a differs = false_from_ne_true (is_arrival a.name a.body new_row) (λ yes.
             let both = (Decides-and (bytes_eq name a.name) (nat_eq id a.body) (bytes_eq-Decides name a.name) (Decides-eqb id a.body)).0 yes in
             false≢true (sym differs ∙ (Decides-and (bytes_eq a.name name) (nat_eq a.body id) (bytes_eq-Decides a.name name) (Decides-eqb a.body id)).1 (sym both.0, sym both.1)))
@@ -304,7 +305,7 @@ module _ (t : Tables) (up : Rises t.arrivals) (h : AreArrivals t) (name bytes : 
     unfolding with_arrived
     arrives = by (find is_it t.arrivals) refl
       where
-        by : (o : Option (ℕ × rows_arrival.Arrival)) → find is_it t.arrivals ≡ o
+        by : (o : Option (ℕ × ArrivalRow)) → find is_it t.arrivals ≡ o
             → Arrives t name bytes moment id (option_map_or (λ x. if nat_lt x.1.moment moment then with_moment x.0 moment t else t) o (tables.with_arrival new_row t))
         by None e = if_new e
         by (Some x) e =
@@ -329,7 +330,7 @@ only_requested name print entries t = by (list_any (is_upload name print) (rows_
     by : (b : Bool) → (if b then t else asked) ≡ record t { uploads = (if b then t else asked).uploads; wants = (if b then t else asked).wants }
     by true = refl
     by false =
-        let u : Upload = record { name = name; print = print; place = None; verdict = None } in
+        let u : UploadRow = record { name = name; print = print; place = None; verdict = None } in
         let is = only_wants (next_in t.uploads) entries (with_upload u t) in
         is ∙ ap (λ l. record t { uploads = l; wants = asked.wants }) (sym (ap (λ (x : Tables). x.uploads) is))
 
@@ -382,16 +383,16 @@ still_arrivals t now bytes id h st = record {
 }
 
 -- bodies that are stored and used
-bodies_used : (s : Tables) (arrivals : Numbered rows_arrival.Arrival) (uploads : Numbered Upload) (wants : Numbered Want) → AreStored s
+bodies_used : (s : Tables) (arrivals : Numbered ArrivalRow) (uploads : Numbered UploadRow) (wants : Numbered Want) → AreStored s
     → All (λ x. IsTrue (is_used (record s { arrivals = arrivals; uploads = uploads; wants = wants }) x.0)) s.bodies → AreBodies (record s { arrivals = arrivals; uploads = uploads; wants = wants })
 unfolding bytes_of has_body
 bodies_used s arrivals uploads wants h used = record { whole = h.whole; pieces = h.pieces; apart = h.apart; used = used; owned = h.owned }
 
-arrivals_beside : (a : Tables) (uploads : Numbered Upload) (wants : Numbered Want) → AreArrivals a → AreArrivals (record a { uploads = uploads; wants = wants })
+arrivals_beside : (a : Tables) (uploads : Numbered UploadRow) (wants : Numbered Want) → AreArrivals a → AreArrivals (record a { uploads = uploads; wants = wants })
 unfolding bytes_of has_body arrivals_in
 arrivals_beside a uploads wants h = record { bodies = h.bodies; apart = h.apart; deliverable = h.deliverable }
 
-same_arrivals : (a : Tables) (uploads : Numbered Upload) (wants : Numbered Want) → arrivals_in (record a { uploads = uploads; wants = wants }) ≡ arrivals_in a
+same_arrivals : (a : Tables) (uploads : Numbered UploadRow) (wants : Numbered Want) → arrivals_in (record a { uploads = uploads; wants = wants }) ≡ arrivals_in a
 unfolding bytes_of arrivals_in
 same_arrivals a uploads wants = refl
 
@@ -401,7 +402,7 @@ record HaveBodies (s new : Tables) : Type 0 where
   prints_are : (id : ℕ) → print_at new id ≡ print_at s id
   bodies_are : (id : ℕ) → has_body new id ≡ has_body s id
 
-have_bodies : (s : Tables) (arrivals : Numbered rows_arrival.Arrival) (uploads : Numbered Upload) (wants : Numbered Want)
+have_bodies : (s : Tables) (arrivals : Numbered ArrivalRow) (uploads : Numbered UploadRow) (wants : Numbered Want)
     → HaveBodies s (record s { arrivals = arrivals; uploads = uploads; wants = wants })
 unfolding bytes_of has_body
 have_bodies s arrivals uploads wants = record { bytes_are = λ id. refl; prints_are = λ id. refl; bodies_are = λ id. refl }
@@ -434,14 +435,14 @@ delivered_bodies t up b a name bytes moment in_range deliverable same listed =
       print_kept = λ n old. have.prints_are n ∙ st.print_kept n old;
       body_kept = λ n old. have.bodies_are n ∙ st.body_kept n old;
       known = λ seconds at.
-          ap (λ n. list_any (λ (x : ℕ × rows_arrival.Arrival). is_arrival name n x.1 && counts_row seconds at x.1) t.arrivals) number
-          ∙ ap (list_any (λ (x : ℕ × rows_arrival.Arrival). is_arrival name id x.1 && counts_row seconds at x.1)) (sym st.arrivals_kept)
+          ap (λ n. list_any (λ (x : ℕ × ArrivalRow). is_arrival name n x.1 && counts_row seconds at x.1) t.arrivals) number
+          ∙ ap (list_any (λ (x : ℕ × ArrivalRow). is_arrival name id x.1 && counts_row seconds at x.1)) (sym st.arrivals_kept)
           ∙ is_known_at s rising still name bytes moment id has seconds at
           ∙ ap (λ l. has_arrival (current seconds at l) (record { name = name; body = bytes; moment = moment })) stay;
     }
   where
-    used : (s core : Tables) (id : ℕ) (uploads : Numbered Upload) (wants : Numbered Want) → Stores t s bytes id → Arrives s name bytes moment id core
-        → (x : ℕ × Body) → Contains t.bodies x ⊎ (x.0 ≡ id) → IsTrue (is_used (record s { arrivals = core.arrivals; uploads = uploads; wants = wants }) x.0)
+    used : (s core : Tables) (id : ℕ) (uploads : Numbered UploadRow) (wants : Numbered Want) → Stores t s bytes id → Arrives s name bytes moment id core
+        → (x : ℕ × BodyRow) → Contains t.bodies x ⊎ (x.0 ≡ id) → IsTrue (is_used (record s { arrivals = core.arrivals; uploads = uploads; wants = wants }) x.0)
     used s core id uploads wants st there x (inl c) =
         used_on t (record s { arrivals = core.arrivals; uploads = uploads; wants = wants }) x.0
         (λ e. there.uses_kept x.0 (subst (λ l. IsTrue (list_any (λ a. nat_eq a.body x.0) (rows_of l))) (sym st.arrivals_kept) e))
@@ -460,7 +461,7 @@ here_is_there t b h e =
     by (body_with e.print t.bodies) refl
     ∙ sym (list_any-map (is_body_of e) (arrival_in t) (rows_of t.arrivals))
   where
-    its : (a : rows_arrival.Arrival) → Contains (rows_of t.arrivals) a → has_body t a.body ≡ true
+    its : (a : ArrivalRow) → Contains (rows_of t.arrivals) a → has_body t a.body ≡ true
     its a c = All-contains (λ a. IsTrue (has_body t a.body)) (rows_of t.arrivals) a h.bodies c
 
     by : (o : Option ℕ) → body_with e.print t.bodies ≡ o

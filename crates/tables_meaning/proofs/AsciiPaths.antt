@@ -13,7 +13,7 @@ use Rattle.suites.specs.Shelves.{ShelvesValue}
 use Rattle.texts.specs.Indices.{PathText, folder_texts, suite_path, suite_texts, texts_from}
 use Rattle.texts.specs.Release.{index_path, is_source, listed_entry, listed_texts}
 use Rattle.tables_meaning.proofs.AsciiLemmas.{AreAscii, architecture_ascii, ascii-append, ascii-take, plain_ascii}
-use Rattle.tables_meaning.proofs.NameLemmas.{HasNames, HoldsOfNames, config_names}
+use Rattle.texts.proofs.Paths.{HasNames, HoldsOfNames, config_names}
 
 ascii_names : HoldsOfNames AreAscii
 ascii_names = record { none = refl; plain = plain_ascii; architecture = architecture_ascii }

@@ -1,7 +1,7 @@
 -- The bodies of an archive and their pieces, and what becomes of them when one more is stored.
 use Rattle.std.proofs.Common.{◌≡◌, ◌≢◌, ◌⊎◌, inl, inr, ℕ, zero, suc, ◌+◌, ◌*◌, ◌<◌, Bool, true, false, ◌||◌, cond, List, [], ◌∷◌, ◌++◌, map, filter, find, take, drop, length, get_or, All, AllPairs, Contains, Option, Some, None, is_some, IsTrue, refl, sym, ap, ap₂, subst, subst₂, ◌∙◌, arith}
 use Rattle.std.specs.Prelude.{nat_eq}
-use Rattle.std.specs.List.{AllByRecursion, flat_map, list_any, range_with_len}
+use Rattle.std.specs.List.{flat_map, list_any, range_with_len}
 use Rattle.std.specs.Option.{option_and_then, option_map, option_map_or, option_or}
 use Rattle.std.proofs.lemmas.Bool.{cases_order, eq-eqb, eqb-true, false_from_ne_true, false≢true, ne_eqb, or_cases, or_left, or_right}
 use Rattle.std.proofs.lemmas.Bool.Decides.{Decides-eqb, Decides-like, same_from_decides}
@@ -14,33 +14,27 @@ use Rattle.std.proofs.lemmas.List.Quantifiers.{all_pairs_push}
 use Rattle.std.proofs.lemmas.Option.{same_Some}
 use Rattle.sums.specs.Prints.{print as print_of, same_print}
 use Rattle.sums.specs.declared.print.Print.{Print}
+use Rattle.sums.proofs.Members.{here}
 use Rattle.keep.proofs.Finds.{is_some_of_find, none_of_map}
 use Rattle.keep.proofs.Prints.{same_print-Decides}
 use Rattle.tables.specs.Bodies.{body_with, has_print}
 use Rattle.tables.specs.Pieces.{is_of}
-use Rattle.tables.specs.Rows.{Tables, Numbered, Rises, added, next_from, next_in, rows_of, with_body, with_piece}
-use Rattle.tables.specs.declared.rows.Arrival.{Arrival}
-use Rattle.tables.specs.declared.rows.Body.{Body}
+use Rattle.tables.specs.Rows.{Tables, Numbered, Rises, added, next_in, rows_of, with_body, with_piece}
+use Rattle.tables.specs.declared.rows.ArrivalRow.{ArrivalRow}
+use Rattle.tables.specs.declared.rows.BodyRow.{BodyRow}
 use Rattle.tables.specs.declared.rows.File.{File}
 use Rattle.tables.specs.declared.rows.Piece.{Piece}
+use Rattle.tables.proofs.RowLemmas.{below_next}
 use Rattle.tables_meaning.specs.Kept.{AreBodies, AreStored, bytes_of, has_body, is_used, piece_at, piece_count, pieces_for, pieces_of, print_at}
 use Rattle.tables_meaning.specs.Making.{with_bytes, with_pieces}
 
 -- ---- lists
-
-pub here : {X : Type 0} (x : X) (xs : List X) → Contains (x ∷ xs) x
-here x xs = Contains-append_left (x ∷ []) xs x (Contains-push [] x)
 
 pub there : {X : Type 0} (x : X) (xs : List X) (y : X) → Contains xs y → Contains (x ∷ xs) y
 there x xs y h = Contains-append_right (x ∷ []) xs y h
 
 pub any_with : {X : Type 0} (p : X → Bool) (xs : List X) (x : X) → Contains xs x → p x ≡ true → list_any p xs ≡ true
 any_with p xs x h passes = list_any_at p xs h.0 x h.1 (ap p h.2 ∙ passes)
-
--- two tests that agree on the elements
-pub any_same : {X : Type 0} (p q : X → Bool) (xs : List X) → ((x : X) → Contains xs x → p x ≡ q x) → list_any p xs ≡ list_any q xs
-any_same p q [] h = refl
-any_same p q (x ∷ xs) h = ap₂ ◌||◌ (h x (here x xs)) (any_same p q xs (λ y c. h y (there x xs y c)))
 
 pub list_any-map : {X Y : Type 0} (p : Y → Bool) (f : X → Y) (xs : List X) → list_any p (map f xs) ≡ list_any (λ x. p (f x)) xs
 list_any-map p f [] = refl
@@ -96,14 +90,6 @@ none_kept p [] h = refl
 none_kept p (x ∷ xs) h = rw (h x (here x xs)) (none_kept p xs (λ y c. h y (there x xs y c)))
 
 -- ---- rows
-
-past : {X : Type 0} (k : ℕ) (xs : Numbered X) → Rises xs → AllByRecursion (λ x. k < x.0) xs → k < next_from (k + 1) xs
-past k [] up all = omega arith
-past k (x ∷ xs) up all = let more = past x.0 xs up.1 up.0 in omega (arith, all.0, more)
-
-below_next : {X : Type 0} (top : ℕ) (xs : Numbered X) → Rises xs → AllByRecursion (λ x. x.0 < next_from top xs) xs
-below_next top [] up = tt
-below_next top (x ∷ xs) up = (past x.0 xs up.1 up.0, below_next (x.0 + 1) xs up.1)
 
 -- the next number is above each
 pub is_below_next : {X : Type 0} (xs : Numbered X) → Rises xs → (x : ℕ × X) → Contains xs x → x.0 < next_in xs
@@ -186,15 +172,15 @@ pub are_stored : (t : Tables) → AreBodies t → AreStored t
 are_stored t h = record { whole = h.whole; pieces = h.pieces; apart = h.apart; owned = h.owned }
 
 -- a body of this number and print is there
-pub record HasBody (bodies : Numbered Body) (id : ℕ) (p : Print) : Type 0 where
-  pub body : ℕ × Body
+pub record HasBody (bodies : Numbered BodyRow) (id : ℕ) (p : Print) : Type 0 where
+  pub body : ℕ × BodyRow
   pub within : Contains bodies body
   pub number : body.0 ≡ id
   pub print : body.1.print ≡ Some p
 
 -- the row of a body that is there
-pub record RowOf (bodies : Numbered Body) (id : ℕ) : Type 0 where
-  pub body : ℕ × Body
+pub record RowOf (bodies : Numbered BodyRow) (id : ℕ) : Type 0 where
+  pub body : ℕ × BodyRow
   pub within : Contains bodies body
   pub number : body.0 ≡ id
 
@@ -208,10 +194,10 @@ pub has_body_if : (t : Tables) (id : ℕ) → RowOf t.bodies id → has_body t i
 unfolding has_body
 has_body_if t id row = any_with (λ x. nat_eq x.0 id) t.bodies row.body row.within (eq-eqb row.body.0 id row.number)
 
-pub row_of_found : {bodies : Numbered Body} {id : ℕ} {p : Print} → HasBody bodies id p → RowOf bodies id
+pub row_of_found : {bodies : Numbered BodyRow} {id : ℕ} {p : Print} → HasBody bodies id p → RowOf bodies id
 row_of_found h = record { body = h.body; within = h.within; number = h.number }
 
-pub has_row : (t : Tables) (x : ℕ × Body) → Contains t.bodies x → has_body t x.0 ≡ true
+pub has_row : (t : Tables) (x : ℕ × BodyRow) → Contains t.bodies x → has_body t x.0 ≡ true
 has_row t x h = has_body_if t x.0 (record { body = x; within = h; number = refl })
 
 of_print : (p : Print) (o : Option Print) → option_map_or (λ q. same_print q p) o false ≡ true → o ≡ Some p
@@ -222,16 +208,16 @@ pub is_of_print : (p : Print) (o : Option Print) → o ≡ Some p → option_map
 is_of_print p o e = ap (λ o. option_map_or (λ q. same_print q p) o false) e ∙ (same_print-Decides p p).1 refl
 
 -- the body that a search by print finds
-pub body_found : (p : Print) (bodies : Numbered Body) (id : ℕ) → body_with p bodies ≡ Some id → HasBody bodies id p
+pub body_found : (p : Print) (bodies : Numbered BodyRow) (id : ℕ) → body_with p bodies ≡ Some id → HasBody bodies id p
 body_found p bodies id e = by (find (λ x. has_print p x.1) bodies) refl e
   where
-    by : (o : Option (ℕ × Body)) → find (λ x. has_print p x.1) bodies ≡ o → option_map (λ x. x.0) o ≡ Some id → HasBody bodies id p
+    by : (o : Option (ℕ × BodyRow)) → find (λ x. has_print p x.1) bodies ≡ o → option_map (λ x. x.0) o ≡ Some id → HasBody bodies id p
     by None f is = cc
     by (Some x) f is =
         let it = found (λ x. has_print p x.1) bodies x f in
         record { body = x; within = it.within; number = same_Some x.0 id is; print = of_print p x.1.print it.passes }
 
-pub no_body_found : (p : Print) (bodies : Numbered Body) → body_with p bodies ≡ None → (x : ℕ × Body) → Contains bodies x → x.1.print ≢ Some p
+pub no_body_found : (p : Print) (bodies : Numbered BodyRow) → body_with p bodies ≡ None → (x : ℕ × BodyRow) → Contains bodies x → x.1.print ≢ Some p
 no_body_found p bodies e x h is =
     false≢true (sym (none_found (λ x. has_print p x.1) bodies (none_of_map (λ x. x.0) (find (λ x. has_print p x.1) bodies) e) x h) ∙ is_of_print p x.1.print is)
 
@@ -292,8 +278,8 @@ file_has t id = list_any (λ f. nat_eq f.body id) (rows_of t.files)
 pub used_by : (t : Tables) (id : ℕ) → is_used t id ≡ (arrival_has t id || file_has t id)
 unfolding is_used
 used_by t id =
-    list_any-append (λ n. nat_eq n id) (map (λ (a : Arrival). a.body) (rows_of t.arrivals)) (map (λ (f : File). f.body) (rows_of t.files))
-    ∙ ap₂ ◌||◌ (list_any-map (λ n. nat_eq n id) (λ (a : Arrival). a.body) (rows_of t.arrivals)) (list_any-map (λ n. nat_eq n id) (λ (f : File). f.body) (rows_of t.files))
+    list_any-append (λ n. nat_eq n id) (map (λ (a : ArrivalRow). a.body) (rows_of t.arrivals)) (map (λ (f : File). f.body) (rows_of t.files))
+    ∙ ap₂ ◌||◌ (list_any-map (λ n. nat_eq n id) (λ (a : ArrivalRow). a.body) (rows_of t.arrivals)) (list_any-map (λ n. nat_eq n id) (λ (f : File). f.body) (rows_of t.files))
 
 pub arrived_used : (t : Tables) (id : ℕ) → arrival_has t id ≡ true → is_used t id ≡ true
 arrived_used t id e = used_by t id ∙ or_left (arrival_has t id) (file_has t id) e
@@ -302,7 +288,7 @@ pub filed_used : (t : Tables) (id : ℕ) → file_has t id ≡ true → is_used 
 filed_used t id e = used_by t id ∙ or_right (arrival_has t id) (file_has t id) e
 
 -- the body of each arrival and of each file is used
-pub its_arrival : (t : Tables) (a : Arrival) → Contains (rows_of t.arrivals) a → is_used t a.body ≡ true
+pub its_arrival : (t : Tables) (a : ArrivalRow) → Contains (rows_of t.arrivals) a → is_used t a.body ≡ true
 its_arrival t a c = arrived_used t a.body (any_with (λ b. nat_eq b.body a.body) (rows_of t.arrivals) a c (eq-eqb a.body a.body refl))
 
 pub its_file : (t : Tables) (f : File) → Contains (rows_of t.files) f → is_used t f.body ≡ true
@@ -328,13 +314,13 @@ pub record Stores (t now : Tables) (bytes : List ℕ) (id : ℕ) : Type 0 where
   pub body_kept : (n : ℕ) → has_body t n ≡ true → has_body now n ≡ true
   pub arrivals_kept : now.arrivals ≡ t.arrivals
   pub files_kept : now.files ≡ t.files
-  pub others : (x : ℕ × Body) → Contains now.bodies x → Contains t.bodies x ⊎ (x.0 ≡ id)
+  pub others : (x : ℕ × BodyRow) → Contains now.bodies x → Contains t.bodies x ⊎ (x.0 ≡ id)
 
 module _ (t : Tables) (up : Rises t.bodies) (h : AreStored t) (bytes : List ℕ) (p : Print) (is : p ≡ print_of bytes) (absent : body_with p t.bodies ≡ None) where
   abbrev next : ℕ
   next = next_in t.bodies
 
-  abbrev new_body : Body
+  abbrev new_body : BodyRow
   new_body = record { print = Some p }
 
   abbrev now : Tables
@@ -367,7 +353,7 @@ module _ (t : Tables) (up : Rises t.bodies) (h : AreStored t) (bytes : List ℕ)
   unfolding bytes_of
   new_bytes = ap (flat_map (λ p. p.bytes)) new_pieces ∙ pieces_joined next bytes
 
-  old_row : (x : ℕ × Body) → Contains t.bodies x → Contains now.bodies x
+  old_row : (x : ℕ × BodyRow) → Contains t.bodies x → Contains now.bodies x
   old_row x c = Contains-append_left t.bodies ((next, new_body) ∷ []) x c
 
   old_body : (n : ℕ) → has_body t n ≡ true → has_body now n ≡ true
@@ -425,7 +411,7 @@ module _ (t : Tables) (up : Rises t.bodies) (h : AreStored t) (bytes : List ℕ)
     others = λ x c. row_or_new x (Contains-push_cases t.bodies (next, new_body) x c);
   }
     where
-      row_or_new : (x : ℕ × Body) → Contains t.bodies x ⊎ ((next, new_body) ≡ x) → Contains t.bodies x ⊎ (x.0 ≡ next)
+      row_or_new : (x : ℕ × BodyRow) → Contains t.bodies x ⊎ ((next, new_body) ≡ x) → Contains t.bodies x ⊎ (x.0 ≡ next)
       row_or_new x (inl c) = inl c
       row_or_new x (inr e) = inr (sym (ap (λ x. x.0) e))
 

@@ -17,12 +17,12 @@ use Rattle.tables.specs.declared.rows.File.{File}
 use Rattle.tables_meaning.specs.Archives.{KeepsBook, KeepsFinished}
 use Rattle.tables_meaning.specs.Finished.{finished}
 use Rattle.tables_meaning.specs.KeeperLemmas.{book_set}
-use Rattle.tables_meaning.specs.Kept.{IsKept, book_in, bytes_of, files_in, has_body, print_at}
+use Rattle.tables_meaning.specs.Kept.{IsBook, book_in, bytes_of, files_in, has_body, print_at}
 use Rattle.tables_meaning.specs.OneBook.{one_book}
 use Rattle.tables_meaning.proofs.AmendedLemmas.{found_in, print_is}
 use Rattle.tables_meaning.proofs.BodyLemmas.{are_stored}
 
-module _ (t : Tables) (config : ConfigValue) (judged : List Judgement) (shown : ShelvesValue) (dates : List ℕ) (h : IsKept t config judged shown dates) where
+module _ (t : Tables) (config : ConfigValue) (judged : List Judgement) (shown : ShelvesValue) (dates : List ℕ) (h : IsBook t config judged shown dates) where
   file_here : (path : List ℕ) (o : Option File) → find (is_file_at path) (rows_of t.files) ≡ o
       → get (pool shown) path ≡ option_map print_of (option_map (λ (f : File). bytes_of t f.body) o)
   file_here path None e = sym (h.files.are path) ∙ ap (option_and_then (λ (f : File). print_at t f.body)) e
@@ -50,8 +50,8 @@ pub one_kept : (db other : Database) (config another : ConfigValue) (b c : Book)
 one_kept db other config another b c same one two =
     ∥∥₁_elim one (book_set _ _) (λ v. ∥∥₁_elim two (book_set _ _) (λ w.
     let is : finished (tables_in other) ≡ finished (tables_in db) = ap (λ trees. finished (tables_of trees)) same in
-    let here : IsKept (finished (tables_in db)) config v.0 v.1 v.2 = v.3.kept in
-    let there : IsKept (finished (tables_in db)) another w.0 w.1 w.2 = subst (λ t. IsKept t another w.0 w.1 w.2) is w.3.kept in
+    let here : IsBook (finished (tables_in db)) config v.0 v.1 v.2 = v.3.kept in
+    let there : IsBook (finished (tables_in db)) another w.0 w.1 w.2 = subst (λ t. IsBook t another w.0 w.1 w.2) is w.3.kept in
     w.4 ∙ ap (book_in another w.0 w.1 w.2) is
     ∙ one_book (finished (tables_in db)) another config w.0 v.0 w.1 v.1 w.2 v.2 there here there.read here.read there.sound.at_home here.sound.at_home
     ∙ sym v.4))

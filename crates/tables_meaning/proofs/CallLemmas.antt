@@ -11,11 +11,11 @@ use Rattle.keep.specs.Keeping.{HasEachBody}
 use Rattle.keep.specs.declared.change.Change.{Change}
 use Rattle.keep.specs.declared.change.Judgement.{Judgement}
 use Rattle.tables.specs.Rows.{tables_in}
-use Rattle.tables_meaning.specs.Archives.{Amends, KeepsArchive, KeepsLeft, Turns, book_of}
+use Rattle.tables_meaning.specs.Archives.{Amends, KeepsArchive, KeepsLeft, Turns, book_in_database}
 use Rattle.tables_meaning.specs.KeeperLemmas.{left_is}
 use Rattle.tables_meaning.specs.Shown.{shown_in}
 use Rattle.tables_meaning.specs.Transactions.{IsUndone}
-use Rattle.tables_meaning.proofs.NameLemmas.{config_codenames}
+use Rattle.texts.proofs.Paths.{config_codenames}
 use Rattle.tables_meaning.specs.Finished.{finished}
 use Rattle.tables_meaning.proofs.FinishedLemmas.{shown_finished}
 use Rattle.tables_meaning.proofs.ShownLemmas.{shown_is}
@@ -44,17 +44,17 @@ turned {config = config} {judged = judged} {dates = dates} old new step (Err e) 
 -- the book after a step that is done
 pub done_book : {config : ConfigValue} {judged judged_after : List Judgement} {shown shown_after : ShelvesValue} {dates dates_after : List ℕ} {step : Book → Book} (old new : Database)
     → Turns old new config judged shown dates judged_after shown_after dates_after step
-    → book_of new config judged_after (shown_in config.suites (tables_in new)) dates_after ≡ step (book_of old config judged shown dates)
+    → book_in_database new config judged_after (shown_in config.suites (tables_in new)) dates_after ≡ step (book_in_database old config judged shown dates)
 done_book {config} {judged_after = judged_after} {dates_after = dates_after} old new turn =
-    ap (λ s. book_of new config judged_after s dates_after) (shown_here new turn.kept) ∙ turn.book
+    ap (λ s. book_in_database new config judged_after s dates_after) (shown_here new turn.kept) ∙ turn.book
 
 -- the book after a change, where it had each body
 pub amends_turns : {config : ConfigValue} {judged : List Judgement} {shown : ShelvesValue} {dates : List ℕ} {change : Change} (old new : Database)
-    → Amends old new config judged shown dates change → HasEachBody (book_of old config judged shown dates) change
+    → Amends old new config judged shown dates change → HasEachBody (book_in_database old config judged shown dates) change
     → Turns old new config judged shown dates (judged ++ judgements change.steps) (shown_past shown change.steps) (dates_past change.moment dates change.steps) (λ b. amended b change)
 amends_turns old new amends has = record { kept = amends.kept; book = amends.book has }
 
 -- what a crash leaves of it
 pub turn_left : {config : ConfigValue} {judged judged_after : List Judgement} {shown shown_after : ShelvesValue} {dates dates_after : List ℕ} {step : Book → Book} (old new : Database) (trees : Trees) → trees ≡ new.trees → (left : Option Book)
-    → KeepsLeft trees left → Turns old new config judged shown dates judged_after shown_after dates_after step → left ≡ Some (step (book_of old config judged shown dates))
+    → KeepsLeft trees left → Turns old new config judged shown dates judged_after shown_after dates_after step → left ≡ Some (step (book_in_database old config judged shown dates))
 turn_left old new trees same left here turn = left_is trees new same ∣ turn.kept ∣₁ left here ∙ ap Some turn.book

@@ -8,32 +8,32 @@ use Rattle.rules.specs.Values.{ConfigValue}
 use Rattle.suites.specs.Shelves.{ShelvesValue}
 use Rattle.tables.specs.Bodies.{body_with}
 use Rattle.tables.specs.Rows.{Numbered, Tables, rows_of}
-use Rattle.tables.specs.declared.rows.Arrival.{Arrival}
-use Rattle.tables.specs.declared.rows.Body.{Body}
+use Rattle.tables.specs.declared.rows.ArrivalRow.{ArrivalRow}
+use Rattle.tables.specs.declared.rows.BodyRow.{BodyRow}
 use Rattle.keep.specs.Book.{Book, at_moment, counts, current, dates_past, judgements, latest, shown_past, span}
 use Rattle.keep.specs.Keeping.{AreSteps, IsDeliverable, IsSound}
 use Rattle.keep.specs.declared.change.Change.{Change}
 use Rattle.keep.specs.declared.change.Judgement.{Judgement}
-use Rattle.tables_meaning.specs.Kept.{AreNumbered, IsKept, arrivals_in, book_in, is_used}
+use Rattle.tables_meaning.specs.Kept.{AreNumbered, IsBook, arrivals_in, book_in, is_used}
 use Rattle.tables_meaning.specs.Making.{takes_file, with_change, with_steps, with_written}
 use Rattle.tables_meaning.specs.Planned.{IsStepped, KeepsChange}
 use Rattle.tables_meaning.specs.Sweeping.{swept}
 use Rattle.tables_meaning.proofs.AmendedLemmas.{IsWritten, amended_archive}
 use Rattle.tables_meaning.proofs.BodyLemmas.{are_stored, used_on}
 use Rattle.tables_meaning.proofs.JudgedSteps.{judged_steps}
-use Rattle.tables_meaning.proofs.NameLemmas.{config_codenames}
+use Rattle.texts.proofs.Paths.{config_codenames}
 use Rattle.tables_meaning.proofs.RemainingFiles.{remains_written}
 use Rattle.tables_meaning.proofs.SignedLemmas.{signed_after}
 use Rattle.tables_meaning.proofs.StepLemmas.{stepped_rows, sound_past}
 use Rattle.tables_meaning.proofs.SweptLemmas.{kept_if_swept, kept_if_used, swept_book}
 
 -- what holds of all holds of some
-some_of : {X : Type 0} (P : X → Type 0) (some : X → Bool) (xs : List X) → All P xs → All P (filter some xs)
+pub some_of : {X : Type 0} (P : X → Type 0) (some : X → Bool) (xs : List X) → All P xs → All P (filter some xs)
 some_of P some xs all = All-from_recursion P (filter some xs) (all-filter P some xs (recursion_from_All P xs all))
 
 -- What the tables keep once the change is written.
 pub written_after : (t : Tables) (config : ConfigValue) (judged : List Judgement) (shown : ShelvesValue) (dates : List ℕ) (change : Change)
-    → IsKept t config judged shown dates → AreNumbered t → config_in config.text ≡ Ok config
+    → IsBook t config judged shown dates → AreNumbered t → config_in config.text ≡ Ok config
     → IsSound (book_in config judged shown dates t) change → change.moment ≤ latest
     → All (λ s. All (λ e. e.0.suite < length config.suites) s.plan.put) change.steps
     → All (λ s. All (λ f. IsTrue (is_some (body_with f.print t.bodies))) s.plan.files_added) change.steps
@@ -69,7 +69,7 @@ written_after t config judged shown dates change kept numbered read sound small 
     }) small read sound.texts
 
 pub kept_after : (t : Tables) (config : ConfigValue) (judged : List Judgement) (shown : ShelvesValue) (dates : List ℕ) (change : Change)
-    → IsKept t config judged shown dates → IsWritten t (with_written config (length judged) change t) config judged shown dates change
+    → IsBook t config judged shown dates → IsWritten t (with_written config (length judged) change t) config judged shown dates change
     → KeepsChange t (with_change config (length judged) change t) config judged shown dates change
 unfolding with_change
 kept_after t config judged shown dates change kept written = by (list_any takes_file change.steps) refl
@@ -77,14 +77,14 @@ kept_after t config judged shown dates change kept written = by (list_any takes_
     made : Tables
     made = with_written config (length judged) change t
 
-    still_used : list_any takes_file change.steps ≡ false → (x : ℕ × Body) → IsTrue (is_used t x.0) → IsTrue (is_used made x.0)
+    still_used : list_any takes_file change.steps ≡ false → (x : ℕ × BodyRow) → IsTrue (is_used t x.0) → IsTrue (is_used made x.0)
     still_used none x used =
-        used_on t made x.0 (λ e. subst (λ l. list_any (λ (a : Arrival). nat_eq a.body x.0) (rows_of l) ≡ true) (sym written.keeps.arrivals) e)
+        used_on t made x.0 (λ e. subst (λ l. list_any (λ (a : ArrivalRow). nat_eq a.body x.0) (rows_of l) ≡ true) (sym written.keeps.arrivals) e)
         (remains_written config (length judged) change none t x.0) used
 
     used : list_any takes_file change.steps ≡ false → All (λ x. IsTrue (is_used made x.0)) made.bodies
     used none =
-        subst (λ (bodies : Numbered Body). All (λ x. IsTrue (is_used made x.0)) bodies) (sym written.keeps.bodies)
+        subst (λ (bodies : Numbered BodyRow). All (λ x. IsTrue (is_used made x.0)) bodies) (sym written.keeps.bodies)
         (All-weaker (λ x. IsTrue (is_used t x.0)) (λ x. IsTrue (is_used made x.0)) (still_used none) t.bodies kept.bodies.used)
 
     by : (b : Bool) → list_any takes_file change.steps ≡ b → KeepsChange t (if b then swept made else made) config judged shown dates change

@@ -12,8 +12,9 @@ use Rattle.sums.specs.declared.print.Print.{Print}
 use Rattle.tables.specs.Bodies.{body_with, with_print}
 use Rattle.tables.specs.Pieces.{is_of}
 use Rattle.tables.specs.Rows.{Numbered, Rises, Tables, added, changed, next_in, rows_of, with_body, with_piece, without}
-use Rattle.tables.specs.declared.rows.Body.{Body}
+use Rattle.tables.specs.declared.rows.BodyRow.{BodyRow}
 use Rattle.tables.specs.declared.rows.Piece.{Piece}
+use Rattle.tables.proofs.BodiesLemmas.{begun_body}
 use Rattle.tables_meaning.specs.Coming.{HasComing, bytes_so_far, coming_number, ended_number, with_begun, with_coming, with_ended, with_finished, with_next_piece, with_received, with_whole}
 use Rattle.tables_meaning.specs.Finished.{AreUnderWay, finished, is_unfinished, without_whole}
 use Rattle.tables_meaning.specs.Kept.{AreBodies, bytes_of, has_body, piece_at, piece_count, pieces_for, pieces_of}
@@ -21,13 +22,10 @@ use Rattle.tables_meaning.specs.Making.{number_with, with_bytes, with_delivered,
 use Rattle.tables_meaning.specs.Taking.{listed_in}
 use Rattle.tables_meaning.proofs.BodyLemmas.{is_below_next, none_kept, only_pieces, own_pieces, pieces_joined, pieces_of_one, row_of_body, rows_with}
 use Rattle.tables_meaning.proofs.BodySteps.{bytes_new, bytes_there, number_new, number_there}
-use Rattle.tables_meaning.proofs.FinishedLemmas.{bodies_whole, body_finished}
+use Rattle.tables_meaning.proofs.FinishedLemmas.{bodies_whole, body_finished, itself}
 use Rattle.tables_meaning.proofs.PassingLemmas.{Passes, beside, bodies_left, finished_passes, pieces_left}
 use Rattle.tables_meaning.proofs.Searches.{all_of_rows, below_next}
 use Rattle.tables_meaning.proofs.UnderWayLemmas.{whole_under_way}
-
-abbrev begun_body : Body
-begun_body = record { print = None }
 
 -- Finished rows: the rowids of bodies rise, each body is whole, and each piece is one of a body.
 pub record AreWhole (u : Tables) : Type 0 where
@@ -44,7 +42,7 @@ bodies_stay : (ps : List Piece) (t : Tables) → (with_pieces ps t).bodies ≡ t
 bodies_stay [] t = refl
 bodies_stay (p ∷ ps) t = bodies_stay ps (with_piece p t)
 
-pieces_apart : (ps : List Piece) (t : Tables) (b : Numbered Body) → with_pieces ps (record t { bodies = b }) ≡ record (with_pieces ps t) { bodies = b }
+pieces_apart : (ps : List Piece) (t : Tables) (b : Numbered BodyRow) → with_pieces ps (record t { bodies = b }) ≡ record (with_pieces ps t) { bodies = b }
 pieces_apart [] t b = refl
 pieces_apart (p ∷ ps) t b = pieces_apart ps (with_piece p t) b
 
@@ -61,9 +59,6 @@ with_last (q ∷ ps) p t = with_last ps p (with_piece q t)
 
 below_other : (a b : ℕ) → a < b → nat_eq a b ≡ false
 below_other a b below = grind (arith, nat_tests)
-
-itself : (a : ℕ) → nat_eq a a ≡ true
-itself a = grind (arith, nat_tests)
 
 owner_below : (u : Tables) → Rises u.bodies → (id : ℕ) → has_body u id ≡ true → id < next_in u.bodies
 owner_below u up id there = let row = row_of_body u id there in let lt = is_below_next u.bodies up row.body row.within in omega (arith, row.number, lt)
@@ -94,7 +89,7 @@ module _ (gone : Piece → Bool) where
   none_goes : (olds : Numbered Piece) → AllByRecursion (λ p. gone p.1 ≡ false) olds → without (λ q. gone q.1) olds ≡ olds
   none_goes olds stay = filter_all (λ q. not (gone q.1)) olds (all_weaker (λ p. gone p.1 ≡ false) (λ p. not (gone p.1) ≡ true) (λ p e. ap not e) olds stay)
 
-taken_out : (u : Tables) (ps : List Piece) (gone_body : ℕ × Body → Bool) (gone_piece : Piece → Bool)
+taken_out : (u : Tables) (ps : List Piece) (gone_body : ℕ × BodyRow → Bool) (gone_piece : Piece → Bool)
     → AllByRecursion (λ x. gone_body x ≡ false) u.bodies → gone_body (next_in u.bodies, begun_body) ≡ true
     → AllByRecursion (λ p. gone_piece p.1 ≡ false) u.pieces → AllByRecursion (λ p. gone_piece p ≡ true) ps
     → record u { bodies = without gone_body (added u.bodies begun_body); pieces = without (λ q. gone_piece q.1) (pieces_more ps u.pieces) } ≡ u
@@ -106,18 +101,18 @@ taken_out u ps gone_body gone_piece stay last old new =
 -- ---- without the body that comes
 
 module _ (n : ℕ) where
-  abbrev of_unfinished : Numbered Body → Piece → Bool
+  abbrev of_unfinished : Numbered BodyRow → Piece → Bool
   of_unfinished xs p = list_any (λ x. is_of x.0 p && is_unfinished x) (xs ++ (n, begun_body) ∷ [])
 
   and_false : (a : Bool) → (a && false) ≡ false
   and_false true = refl
   and_false false = refl
 
-  piece_stays : (xs : Numbered Body) (p : Piece) → AllByRecursion (λ x. is_unfinished x ≡ false) xs → p.body < n → of_unfinished xs p ≡ false
+  piece_stays : (xs : Numbered BodyRow) (p : Piece) → AllByRecursion (λ x. is_unfinished x ≡ false) xs → p.body < n → of_unfinished xs p ≡ false
   piece_stays [] p whole below = rw (below_other p.body n below) refl
   piece_stays (x ∷ xs) p whole below = rw (whole.0, and_false (is_of x.0 p)) (piece_stays xs p whole.1 below)
 
-  piece_goes : (xs : Numbered Body) (p : Piece) → AllByRecursion (λ x. is_unfinished x ≡ false) xs → p.body ≡ n → of_unfinished xs p ≡ true
+  piece_goes : (xs : Numbered BodyRow) (p : Piece) → AllByRecursion (λ x. is_unfinished x ≡ false) xs → p.body ≡ n → of_unfinished xs p ≡ true
   piece_goes [] p whole is = rw (is, itself n) refl
   piece_goes (x ∷ xs) p whole is = rw (whole.0, and_false (is_of x.0 p)) (piece_goes xs p whole.1 is)
 
@@ -283,7 +278,7 @@ begun_under_way : (u : Tables) (bytes : List ℕ) → AreWhole u → AreUnderWay
 begun_under_way u bytes h =
     let n = next_in u.bodies in
     let t = with_begun bytes u in
-    let P : ℕ × Body → Type 0 = λ x. x.1.print ≡ None → pieces_of t x.0 ≡ pieces_for x.0 (bytes_of t x.0) in
+    let P : ℕ × BodyRow → Type 0 = λ x. x.1.print ≡ None → pieces_of t x.0 ≡ pieces_for x.0 (bytes_of t x.0) in
     let others : All P u.bodies = All-from_recursion P u.bodies (all_weaker (λ x. is_unfinished x ≡ false) P (λ x some none. absurd (true≢false (sym (ap (λ o. not (is_some o)) none) ∙ some))) u.bodies h.whole) in
     let its : P (n, begun_body) = λ none. begun_pieces u bytes h ∙ ap (pieces_for n) (sym (begun_bytes u bytes h)) in
     record { pieces = subst (All P) (sym (bodies_stay (pieces_for n bytes) (with_body begun_body u))) (All-push P u.bodies (n, begun_body) others its) }
@@ -297,11 +292,11 @@ coming_under_way (b ∷ bytes) u h = begun_under_way u (b ∷ bytes) h
 -- ---- once it is whole
 
 module _ (n : ℕ) (print : Print) where
-  abbrev set : ℕ × Body → ℕ × Body
+  abbrev set : ℕ × BodyRow → ℕ × BodyRow
   set x = cond (nat_eq x.0 n) (x.0, record x.1 { print = Some print }) x
 
   -- the last body gets the print, and no other
-  set_last : (xs : Numbered Body) → AllByRecursion (λ x. x.0 < n) xs → map set (xs ++ (n, begun_body) ∷ []) ≡ xs ++ (n, record { print = Some print }) ∷ []
+  set_last : (xs : Numbered BodyRow) → AllByRecursion (λ x. x.0 < n) xs → map set (xs ++ (n, begun_body) ∷ []) ≡ xs ++ (n, record { print = Some print }) ∷ []
   set_last [] below = rw (itself n) refl
   set_last (x ∷ xs) below = rw (below_other x.0 n below.0) (ap (λ l. x ∷ l) (set_last xs below.1))
 
@@ -375,7 +370,7 @@ coming_passes f passes [] u h same = refl
 coming_passes f passes (b ∷ bytes) u h same =
     let all = b ∷ bytes in
     let some : 0 < length all = omega arith in
-    let pieces = λ (rows : Numbered Body) (olds : Numbered Piece). pieces_more (pieces_for (next_in rows) all) olds in
+    let pieces = λ (rows : Numbered BodyRow) (olds : Numbered Piece). pieces_more (pieces_for (next_in rows) all) olds in
     ap f (coming_beside all u some)
     ∙ passes u (added u.bodies begun_body) (pieces u.bodies u.pieces)
     (λ p. ap (λ (t : Tables). body_with p t.bodies) (sym (coming_beside all u some)) ∙ body_beside u all p h same)

@@ -16,9 +16,9 @@ use Rattle.suites.proofs.FileMembers.{entry_shown, shown_entry}
 use Rattle.suites.proofs.MovedLemmas.{is_shown, same_place, was_shown, stays}
 use Rattle.tables.specs.Items.{is_item}
 use Rattle.tables.specs.Rows.{Tables}
-use Rattle.tables.specs.declared.rows.Item.{Item}
+use Rattle.tables.specs.declared.rows.ItemRow.{ItemRow}
 use Rattle.tables_meaning.specs.Kept.{AreItems, codename_at, is_on, refs_for, shown_in, shown_row}
-use Rattle.tables_meaning.specs.Shown.{suite_named}
+use Rattle.rules.specs.Suites.{suite_named}
 use Rattle.tables_meaning.proofs.Searches.{some_found}
 use Rattle.tables_meaning.proofs.ShownLemmas.{item_parts, named_suite, suite_back}
 
@@ -32,7 +32,7 @@ element [] n lt = absurd (omega arith)
 element (s ∷ ss) zero lt = (s, refl)
 element (s ∷ ss) (suc n) lt = element ss n (omega arith)
 
-below : (suites : List Suite) (n : ℕ) (s : Suite) → slice_get suites n ≡ Some s → n < length suites
+pub below : (suites : List Suite) (n : ℕ) (s : Suite) → slice_get suites n ≡ Some s → n < length suites
 below [] n s e = cc
 below (x ∷ xs) zero s e = omega arith
 below (x ∷ xs) (suc n) s e = let more = below xs n s e in omega (arith, more)
@@ -115,9 +115,9 @@ module _ (t : Tables) (old new : List Suite) (apart : AllPairs (λ s r. s.codena
   -- ---- rows
 
   -- a row on a shelf of the new suites is of an old one
-  on_old : (key : ShelfKey) (x : ℕ × Item) → Contains t.items x → is_on new key x ≡ true → suite_named old (codename_at new key.suite) ≡ None → ⊥
+  on_old : (key : ShelfKey) (x : ℕ × ItemRow) → Contains t.items x → is_on new key x ≡ true → suite_named old (codename_at new key.suite) ≡ None → ⊥
   on_old key x at on none =
-      ∥∥₁_elim (all_at (λ (y : ℕ × Item). ∥ ((k : ShelfKey) × (k.suite < length old) × IsTrue (is_on old k y)) ∥₁) t.items x are.rows at) (λ p q. absurd p) (λ w.
+      ∥∥₁_elim (all_at (λ (y : ℕ × ItemRow). ∥ ((k : ShelfKey) × (k.suite < length old) × IsTrue (is_on old k y)) ∥₁) t.items x are.rows at) (λ p q. absurd p) (λ w.
       let here = item_parts (codename_at new key.suite) (kind_number key.kind) key.«package» key.architecture x.1 on in
       let there = item_parts (codename_at old w.0.suite) (kind_number w.0.kind) w.0.«package» w.0.architecture x.1 w.2 in
       let both : None ≡ Some w.0.suite = sym none ∙ ap (suite_named old) (sym here.at_suite ∙ there.at_suite) ∙ suite_back old apart w.0.suite w.1 in
@@ -127,7 +127,7 @@ module _ (t : Tables) (old new : List Suite) (apart : AllPairs (λ s r. s.codena
   none_on : (key : ShelfKey) → suite_named old (codename_at new key.suite) ≡ None → find (is_on new key) t.items ≡ None
   none_on key none = search t.items (λ x at. at)
     where
-      search : (xs : List (ℕ × Item)) → ((x : ℕ × Item) → Contains xs x → Contains t.items x) → find (is_on new key) xs ≡ None
+      search : (xs : List (ℕ × ItemRow)) → ((x : ℕ × ItemRow) → Contains xs x → Contains t.items x) → find (is_on new key) xs ≡ None
       search [] h = refl
       search (x ∷ xs) h = by_case (is_on new key x) refl (search xs (λ y k. h y (there x y xs k)))
         where
@@ -138,7 +138,7 @@ module _ (t : Tables) (old new : List Suite) (apart : AllPairs (λ s r. s.codena
   -- what the rows of a shelf are, by the codename of its suite
   abbrev Are : ShelfKey → List ℕ → Option shelf.Item → Type 0
   Are key name item = option_map (shown_in t) (find (λ x. is_item name (kind_number key.kind) key.«package» key.architecture x.1) t.items)
-      ≡ option_and_then (λ (x : ℕ × Item). option_map (λ (i : shelf.Item). (
+      ≡ option_and_then (λ (x : ℕ × ItemRow). option_map (λ (i : shelf.Item). (
         record {
           suite = name;
           kind = kind_number key.kind;
@@ -167,16 +167,16 @@ module _ (t : Tables) (old new : List Suite) (apart : AllPairs (λ s r. s.codena
   some_item None e = cc
   some_item (Some item) e = (item, refl)
 
-  found_one : (p : ℕ × Item → Bool) (xs : List (ℕ × Item)) (x : ℕ × Item) → Contains xs x → IsTrue (p x) → (y : ℕ × Item) × (find p xs ≡ Some y)
+  found_one : (p : ℕ × ItemRow → Bool) (xs : List (ℕ × ItemRow)) (x : ℕ × ItemRow) → Contains xs x → IsTrue (p x) → (y : ℕ × ItemRow) × (find p xs ≡ Some y)
   found_one p xs x at on = some_found p xs (any_true p xs x at on)
 
-  standing_item : (x : ℕ × Item) → Contains t.items x → (key : ShelfKey) → key.suite < length old → IsTrue (is_on old key x) → (item : shelf.Item) × (get shown key ≡ Some item)
+  standing_item : (x : ℕ × ItemRow) → Contains t.items x → (key : ShelfKey) → key.suite < length old → IsTrue (is_on old key x) → (item : shelf.Item) × (get shown key ≡ Some item)
   standing_item x at key lt on =
       let found = found_one (is_on old key) t.items x at on in
       let shows : Some true ≡ option_map (λ _. true) (get shown key) = sym (ap (option_map (λ _. true)) found.1) ∙ are.all key lt in
       some_item (get shown key) shows
 
-  new_key : (x : ℕ × Item) → Contains t.items x → (key : ShelfKey) → key.suite < length old → IsTrue (is_on old key x) → (k : ShelfKey) × (k.suite < length new) × IsTrue (is_on new k x)
+  new_key : (x : ℕ × ItemRow) → Contains t.items x → (key : ShelfKey) → key.suite < length old → IsTrue (is_on old key x) → (k : ShelfKey) × (k.suite < length new) × IsTrue (is_on new k x)
   new_key x at key lt on =
       let item = standing_item x at key lt on in
       let d = stays old new apart shown stay (key, item.0) (entry_shown shown key item.0 item.1) in
@@ -199,8 +199,8 @@ module _ (t : Tables) (old new : List Suite) (apart : AllPairs (λ s r. s.codena
       | Some m ↦ λ is. on_new (All_there key) key m lt is (are.all (at_place key m) (named_suite old (codename_at new key.suite) m is).0)
     ] refl;
     within = λ key item h. (let from = was_shown old new apart shown key item h in (placed old new from.0.0.suite key.suite (goes old new from.0 (key, item) from.2).0).1);
-    rows = all_from (λ (x : ℕ × Item). ∥ ((k : ShelfKey) × (k.suite < length new) × IsTrue (is_on new k x)) ∥₁) t.items
-        (λ x at. ∥∥₁_map (all_at (λ (y : ℕ × Item). ∥ ((k : ShelfKey) × (k.suite < length old) × IsTrue (is_on old k y)) ∥₁) t.items x are.rows at) (λ w. new_key x at w.0 w.1 w.2));
+    rows = all_from (λ (x : ℕ × ItemRow). ∥ ((k : ShelfKey) × (k.suite < length new) × IsTrue (is_on new k x)) ∥₁) t.items
+        (λ x at. ∥∥₁_map (all_at (λ (y : ℕ × ItemRow). ∥ ((k : ShelfKey) × (k.suite < length old) × IsTrue (is_on old k y)) ∥₁) t.items x are.rows at) (λ w. new_key x at w.0 w.1 w.2));
     apart = are.apart;
     owned = are.owned;
   }

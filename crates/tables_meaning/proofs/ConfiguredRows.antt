@@ -20,11 +20,11 @@ use Rattle.tables_meaning.specs.Archives.{KeepsArchive}
 use Rattle.tables_meaning.specs.Configuring.{Reconfigures, new_dates, new_texts, with_configured}
 use Rattle.tables_meaning.specs.Finished.{AreUnderWay, finished}
 use Rattle.tables_meaning.specs.Founding.{with_texts}
-use Rattle.tables_meaning.specs.Kept.{AreArrivals, AreBodies, AreFiles, AreItems, AreUploads, IsKept, arrivals_in, book_in, bytes_of, date_row, files_in, has_body, is_used, wants_in}
-use Rattle.tables_meaning.proofs.NameLemmas.{config_codenames}
+use Rattle.tables_meaning.specs.Kept.{AreArrivals, AreBodies, AreFiles, AreItems, AreUploads, IsBook, arrivals_in, book_in, bytes_of, date_row, files_in, has_body, is_used, wants_in}
+use Rattle.texts.proofs.Paths.{config_codenames}
 use Rattle.tables_meaning.proofs.ConfiguredItems.{items_moved}
 use Rattle.tables_meaning.proofs.FoundKept.{dates_are, rows_all, same_dates, same_pairs, text_row, texts_are}
-use Rattle.tables_meaning.proofs.FoundLemmas.{map_twice}
+use Rattle.texts.proofs.Walk.{map_twice}
 use Rattle.tables_meaning.proofs.UnderWayLemmas.{like_under_way}
 
 -- only three tables have other rows
@@ -47,7 +47,7 @@ meta_is text (x ∷ []) m e = let one : x.1 ≡ m = ap (λ (l : List Meta). firs
     first_or d (y ∷ ys) = y
 meta_is text (x ∷ y ∷ rows) m e = cc
 
-module _ (t : Tables) (config other : ConfigValue) (judged : List Judgement) (shown : ShelvesValue) (was dates : List ℕ) (kept : IsKept t config judged shown was)
+module _ (t : Tables) (config other : ConfigValue) (judged : List Judgement) (shown : ShelvesValue) (was dates : List ℕ) (kept : IsBook t config judged shown was)
     (read : config_in other.text ≡ Ok other) (stay : all_stay config.suites other.suites shown ≡ true) (dated : length dates ≡ length other.suites) (in_range : All (λ d. d ≤ latest) dates) where
   abbrev now : ShelvesValue
   now = moved config.suites other.suites shown
@@ -91,7 +91,7 @@ module _ (t : Tables) (config other : ConfigValue) (judged : List Judgement) (sh
     apart = kept.files.apart;
   }
 
-  turned_kept : IsKept turned other judged now dates
+  turned_kept : IsBook turned other judged now dates
   turned_kept = record {
     meta = meta_is other.text t.meta (record { version = VERSION; configuration = config.text }) kept.meta;
     read = read;
@@ -112,8 +112,8 @@ module _ (t : Tables) (config other : ConfigValue) (judged : List Judgement) (sh
   }
 
   -- THE ARCHIVE under another configuration
-  pub configured_archive : IsKept (with_configured other now dates t) other judged now dates
-  configured_archive = subst (λ (u : Tables). IsKept u other judged now dates) (sym (configured_are other now dates t)) turned_kept
+  pub configured_archive : IsBook (with_configured other now dates t) other judged now dates
+  configured_archive = subst (λ (u : Tables). IsBook u other judged now dates) (sym (configured_are other now dates t)) turned_kept
 
   -- and its book
   pub configured_book : book_in other judged now dates (with_configured other now dates t) ≡ reconfigured other now dates (book_in config judged shown was t)
@@ -143,7 +143,7 @@ reconfigures before after config other judged shown was dates archive read stay 
     record {
       kept = record {
         held = held;
-        kept = subst (λ (u : Tables). IsKept u other judged now dates) (sym all) (configured_archive t config other judged shown was dates archive.kept read stay dated in_range);
+        kept = subst (λ (u : Tables). IsBook u other judged now dates) (sym all) (configured_archive t config other judged shown was dates archive.kept read stay dated in_range);
         coming = subst AreUnderWay (sym rows) (configured_under_way other now dates (tables_in before) archive.coming);
       };
       book = ap (book_in other judged now dates) all ∙ configured_book t config other judged shown was dates archive.kept read stay dated in_range;

@@ -17,8 +17,8 @@ use Rattle.tables.specs.Texts.{with_new_text}
 use Rattle.tables.specs.declared.rows.Date.{Date}
 use Rattle.tables_meaning.specs.Kept.{date_row}
 use Rattle.tables_meaning.specs.Making.{with_new_dates, with_new_texts}
-use Rattle.tables_meaning.proofs.NameLemmas.{CodenamesDiffer}
-use Rattle.tables_meaning.proofs.TextLemmas.{not_equal}
+use Rattle.texts.proofs.Paths.{CodenamesDiffer}
+use Rattle.texts.proofs.Apart.{not_equal}
 
 -- ---- rows of dates
 

@@ -11,7 +11,7 @@ use Rattle.tables.specs.Bodies.{body_with}
 use Rattle.tables.specs.Inside.{GoesOn}
 use Rattle.tables.specs.Rows.{Tables, Holds, Changes, Numbered, next_in, rows_of, with_arrival, with_upload, with_want}
 use Rattle.tables.specs.Uploads.{is_upload}
-use Rattle.tables.specs.declared.rows.Arrival.{Arrival}
+use Rattle.tables.specs.declared.rows.ArrivalRow.{ArrivalRow}
 use Rattle.tables.specs.Wants.{with_here}
 use Rattle.tables_meaning.specs.Coming.{with_received}
 use Rattle.tables_meaning.specs.Making.{is_here, with_arrived, with_requested, with_wants}
@@ -55,11 +55,11 @@ module _ (name : List ℕ) (body moment : ℕ) (t : Tables) where
   unfolding with_arrived
   arrived_new none = rw none refl
 
-  pub arrived_later : (id : ℕ) (a : Arrival) → find (λ x. is_arrival name body x.1) t.arrivals ≡ Some (id, a) → a.moment < moment → with_moment id moment t ≡ with_arrived name body moment t
+  pub arrived_later : (id : ℕ) (a : ArrivalRow) → find (λ x. is_arrival name body x.1) t.arrivals ≡ Some (id, a) → a.moment < moment → with_moment id moment t ≡ with_arrived name body moment t
   unfolding with_arrived
   arrived_later id a found less = rw (found, lt-ltb a.moment moment less) refl
 
-  pub arrived_before : (id : ℕ) (a : Arrival) → find (λ x. is_arrival name body x.1) t.arrivals ≡ Some (id, a) → moment ≤ a.moment → t ≡ with_arrived name body moment t
+  pub arrived_before : (id : ℕ) (a : ArrivalRow) → find (λ x. is_arrival name body x.1) t.arrivals ≡ Some (id, a) → moment ≤ a.moment → t ≡ with_arrived name body moment t
   unfolding with_arrived
   arrived_before id a found more = rw (found, le-ltb a.moment moment more) refl
 

@@ -8,7 +8,8 @@ use Rattle.rules.specs.Values.{ConfigValue}
 use Rattle.sums.specs.Prints.{print as print_of}
 use Rattle.sums.specs.declared.entries.Entry.{Entry}
 use Rattle.suites.specs.Shelves.{ShelvesValue}
-use Rattle.keep.specs.Book.{is_changes_name, latest, with_arrival, with_delivery}
+use Rattle.keep.specs.Book.{latest, with_arrival, with_delivery}
+use Rattle.sums.specs.FileNames.{is_changes_name}
 use Rattle.keep.specs.Keeping.{IsDeliverable}
 use Rattle.keep.specs.declared.arrival.Arrival.{Arrival}
 use Rattle.keep.specs.declared.change.Judgement.{Judgement}
@@ -16,7 +17,7 @@ use Rattle.tables.specs.Bodies.{body_with}
 use Rattle.tables.specs.Files.{is_file_at}
 use Rattle.tables.specs.Rows.{Tables, rows_of}
 use Rattle.tables.specs.declared.rows.File.{File}
-use Rattle.tables_meaning.specs.Kept.{AreFiles, AreNumbered, IsKept, arrivals_in, book_in, bytes_of, files_in, has_body, print_at}
+use Rattle.tables_meaning.specs.Kept.{AreFiles, AreNumbered, IsBook, arrivals_in, book_in, bytes_of, files_in, has_body, print_at}
 use Rattle.tables_meaning.specs.Making.{with_delivered}
 use Rattle.tables_meaning.proofs.ArrivalLemmas.{delivered_bodies, here_is_there}
 use Rattle.tables_meaning.proofs.DeliveryRows.{delivery_leaves}
@@ -70,12 +71,12 @@ same_book config judged shown dates old new a arrivals files = λ i. record { co
 
 -- The tables keep the archive with the delivery.
 pub record IsDelivered (old new : Tables) (config : ConfigValue) (judged : List Judgement) (shown : ShelvesValue) (dates : List ℕ) (a : Arrival) : Type 0 where
-  pub kept : IsKept new config judged shown dates
+  pub kept : IsBook new config judged shown dates
   pub numbered : AreNumbered new
   pub book : book_in config judged shown dates new ≡ with_delivery (book_in config judged shown dates old) a
 
 pub delivered_archive : (t : Tables) (config : ConfigValue) (judged : List Judgement) (shown : ShelvesValue) (dates : List ℕ) (name bytes : List ℕ) (moment : ℕ) (listed : Option (List Entry))
-    → AreNumbered t → IsKept t config judged shown dates → moment ≤ latest → IsDeliverable name bytes
+    → AreNumbered t → IsBook t config judged shown dates → moment ≤ latest → IsDeliverable name bytes
     → ((found : ℕ) → body_with (print_of bytes) t.bodies ≡ Some found → bytes_of t found ≡ bytes)
     → listed ≡ (if is_changes_name name then option_map (λ c. c.entries) (result_ok (changes_in bytes)) else None)
     → IsDelivered t (with_delivered name (print_of bytes) bytes moment listed t) config judged shown dates (record { name = name; body = bytes; moment = moment })

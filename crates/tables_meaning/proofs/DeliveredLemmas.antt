@@ -8,17 +8,18 @@ use Rattle.rules.specs.Values.{ConfigValue}
 use Rattle.sums.specs.Prints.{print as print_of}
 use Rattle.sums.specs.declared.entries.Entry.{Entry}
 use Rattle.suites.specs.Shelves.{ShelvesValue}
-use Rattle.keep.specs.Book.{current, has_arrival, is_changes_name, latest, with_delivery}
+use Rattle.keep.specs.Book.{current, has_arrival, latest, with_delivery}
+use Rattle.sums.specs.FileNames.{is_changes_name}
 use Rattle.keep.specs.Keeping.{IsDeliverable}
 use Rattle.keep.specs.declared.change.Judgement.{Judgement}
 use Rattle.sqlite.specs.Effect.{Database}
 use Rattle.tables.specs.Arrivals.{is_arrival}
 use Rattle.tables.specs.Bodies.{body_with}
 use Rattle.tables.specs.Rows.{Tables, Holds, next_in, with_body}
-use Rattle.tables.specs.declared.rows.Arrival as rows_arrival
+use Rattle.tables.specs.declared.rows.ArrivalRow.{ArrivalRow}
 use Rattle.tables.specs.declared.rows.Piece.{Piece}
 use Rattle.tables_meaning.specs.Cleaning.{counts_row}
-use Rattle.tables_meaning.specs.Kept.{AreNumbered, IsKept, book_in, bytes_of, pieces_for}
+use Rattle.tables_meaning.specs.Kept.{AreNumbered, IsBook, book_in, bytes_of, pieces_for}
 use Rattle.tables_meaning.specs.Making.{number_with, with_bytes, with_delivered, with_pieces}
 use Rattle.tables_meaning.proofs.ArrivalLemmas.{delivered_bodies}
 use Rattle.tables_meaning.proofs.BodyLemmas.{only_pieces}
@@ -45,14 +46,14 @@ arrivals_beside t bytes = by (is_some (body_with (print_of bytes) t.bodies))
 
 -- After a delivery the tables keep the book with one more arrival, and the rows tell whether it was there and counted.
 pub record KeepsDelivery (t new : Tables) (config : ConfigValue) (judged : List Judgement) (shown : ShelvesValue) (dates : List ℕ) (name bytes : List ℕ) (moment : ℕ) : Type 0 where
-  pub kept : IsKept new config judged shown dates
+  pub kept : IsBook new config judged shown dates
   pub book : book_in config judged shown dates new ≡ with_delivery (book_in config judged shown dates t) (record { name = name; body = bytes; moment = moment })
   pub known : (seconds : Option ℕ) (at : ℕ)
       → list_any (λ x. is_arrival name (number_with (print_of bytes) (with_bytes (print_of bytes) bytes t)) x.1 && counts_row seconds at x.1) (with_bytes (print_of bytes) bytes t).arrivals
       ≡ has_arrival (current seconds at (book_in config judged shown dates t).arrivals) (record { name = name; body = bytes; moment = moment })
 
 pub delivered_archive : (t : Tables) (config : ConfigValue) (judged : List Judgement) (shown : ShelvesValue) (dates : List ℕ) (name bytes : List ℕ) (moment : ℕ) (listed : Option (List Entry))
-    → AreNumbered t → IsKept t config judged shown dates → moment ≤ latest → IsDeliverable name bytes
+    → AreNumbered t → IsBook t config judged shown dates → moment ≤ latest → IsDeliverable name bytes
     → ((found : ℕ) → body_with (print_of bytes) t.bodies ≡ Some found → bytes_of t found ≡ bytes)
     → listed ≡ (if is_changes_name name then option_map (λ c. c.entries) (result_ok (changes_in bytes)) else None)
     → KeepsDelivery t (with_delivered name (print_of bytes) bytes moment listed t) config judged shown dates name bytes moment
@@ -63,6 +64,6 @@ delivered_archive t config judged shown dates name bytes moment listed up h in_t
       kept = delivered.kept;
       book = delivered.book;
       known = λ seconds at.
-          ap (list_any (λ (x : ℕ × rows_arrival.Arrival). is_arrival name (number_with (print_of bytes) (with_bytes (print_of bytes) bytes t)) x.1 && counts_row seconds at x.1)) (arrivals_beside t bytes)
+          ap (list_any (λ (x : ℕ × ArrivalRow). is_arrival name (number_with (print_of bytes) (with_bytes (print_of bytes) bytes t)) x.1 && counts_row seconds at x.1)) (arrivals_beside t bytes)
           ∙ (delivered_bodies t up h.bodies h.arrivals name bytes moment in_time deliverable same listed).known seconds at;
     }

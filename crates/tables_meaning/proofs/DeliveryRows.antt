@@ -9,10 +9,10 @@ use Rattle.tables.specs.Bodies.{body_with}
 use Rattle.tables.specs.Rows.{Numbered, Rises, Tables, next_in, rows_of, with_arrival, with_body, with_piece, with_upload, with_want}
 use Rattle.tables.specs.Uploads.{is_upload}
 use Rattle.tables.specs.Wants.{with_here}
-use Rattle.tables.specs.declared.rows.Arrival as rows_arrival
-use Rattle.tables.specs.declared.rows.Body.{Body}
+use Rattle.tables.specs.declared.rows.ArrivalRow.{ArrivalRow}
+use Rattle.tables.specs.declared.rows.BodyRow.{BodyRow}
 use Rattle.tables.specs.declared.rows.Piece.{Piece}
-use Rattle.tables.specs.declared.rows.Upload.{Upload}
+use Rattle.tables.specs.declared.rows.UploadRow.{UploadRow}
 use Rattle.tables.specs.declared.rows.Want.{Want}
 use Rattle.tables.proofs.RowLemmas.{rises_added}
 use Rattle.tables_meaning.specs.Kept.{AreNumbered, pieces_for}
@@ -41,7 +41,7 @@ leaves_then a b c p q = record {
 }
 
 -- other rows in those tables
-module _ (t : Tables) (bodies : Numbered Body) (pieces : Numbered Piece) (arrivals : Numbered rows_arrival.Arrival) (uploads : Numbered Upload) (wants : Numbered Want)
+module _ (t : Tables) (bodies : Numbered BodyRow) (pieces : Numbered Piece) (arrivals : Numbered ArrivalRow) (uploads : Numbered UploadRow) (wants : Numbered Want)
     (bodies_rise : Rises t.bodies → Rises bodies) (arrivals_rise : Rises t.arrivals → Rises arrivals) (uploads_rise : Rises t.uploads → Rises uploads) where
   with_rows : LeavesShown t (record t { bodies = bodies; pieces = pieces; arrivals = arrivals; uploads = uploads; wants = wants })
   with_rows = record {
@@ -66,7 +66,7 @@ pieces_leave (p ∷ pieces) t =
 bytes_leave : (print : Print) (bytes : List ℕ) (t : Tables) → LeavesShown t (with_bytes print bytes t)
 unfolding with_bytes
 bytes_leave print bytes t =
-    let row : Body = record { print = Some print } in
+    let row : BodyRow = record { print = Some print } in
     let one = with_body row t in
     let put = with_pieces (pieces_for (next_in t.bodies) bytes) one in
     elim (is_some (body_with print t.bodies)) as (λ b. LeavesShown t (if b then t else put)) [
@@ -80,14 +80,14 @@ arrived_leave : (name : List ℕ) (body moment : ℕ) (t : Tables) → LeavesSho
 unfolding with_arrived
 arrived_leave name body moment t = go (find (λ x. is_arrival name body x.1) t.arrivals)
   where
-    row : rows_arrival.Arrival
+    row : ArrivalRow
     row = record { name = name; body = body; moment = moment }
 
-    go : (o : Option (ℕ × rows_arrival.Arrival)) → LeavesShown t (option_map_or (λ x. if nat_lt x.1.moment moment then with_moment x.0 moment t else t) o (with_arrival row t))
+    go : (o : Option (ℕ × ArrivalRow)) → LeavesShown t (option_map_or (λ x. if nat_lt x.1.moment moment then with_moment x.0 moment t else t) o (with_arrival row t))
     go None = with_rows t t.bodies t.pieces (with_arrival row t).arrivals t.uploads t.wants (λ h. h) (rises_added t.arrivals row) (λ h. h)
     go (Some x) = elim (nat_lt x.1.moment moment) as (λ b. LeavesShown t (if b then with_moment x.0 moment t else t)) [
       | true ↦ with_rows t t.bodies t.pieces (with_moment x.0 moment t).arrivals t.uploads t.wants (λ h. h)
-          (rises_changed (λ y. nat_eq y.0 x.0) (λ (y : rows_arrival.Arrival). record y { moment = moment }) t.arrivals) (λ h. h)
+          (rises_changed (λ y. nat_eq y.0 x.0) (λ (y : ArrivalRow). record y { moment = moment }) t.arrivals) (λ h. h)
       | false ↦ same_rows t
     ]
 
@@ -100,7 +100,7 @@ wants_leave id (e ∷ entries) t =
 requested_leave : (name : List ℕ) (print : Print) (entries : List Entry) (t : Tables) → LeavesShown t (with_requested name print entries t)
 unfolding with_requested
 requested_leave name print entries t =
-    let row : Upload = record { name = name; print = print; place = None; verdict = None } in
+    let row : UploadRow = record { name = name; print = print; place = None; verdict = None } in
     let one = with_upload row t in
     elim (list_any (is_upload name print) (rows_of t.uploads)) as (λ b. LeavesShown t (if b then t else with_wants (next_in t.uploads) entries one)) [
       | true ↦ same_rows t

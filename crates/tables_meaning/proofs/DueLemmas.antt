@@ -16,14 +16,15 @@ use Rattle.sums.specs.Prints.{print as print_of, same_print}
 use Rattle.sums.specs.declared.entries.Entry.{Entry}
 use Rattle.sums.specs.declared.print.Print.{Print}
 use Rattle.suites.specs.Upload.{UploadValue, has_text}
-use Rattle.keep.specs.Book.{Book, Candidate, body_for, candidate_of, candidates, due, in_order, is_body_of, is_changes_name, is_complete, is_judged, is_there, judging_order, missing, put_in_order, unjudged, upload_of}
+use Rattle.keep.specs.Book.{Book, Candidate, body_for, candidate_of, candidate_order, candidates, due, in_order, is_body_of, is_complete, is_judged, is_there, missing, put_in_order, unjudged, upload_of}
+use Rattle.sums.specs.FileNames.{is_changes_name}
 use Rattle.keep.specs.declared.arrival.Arrival.{Arrival}
 use Rattle.keep.proofs.Prints.{same_print-Decides}
 use Rattle.tables.specs.Bodies.{body_with, has_print}
 use Rattle.tables.specs.Rows.{Tables, Numbered, Rises, rows_of}
-use Rattle.tables.specs.declared.rows.Arrival as rows_arrival
-use Rattle.tables.specs.declared.rows.Body.{Body}
-use Rattle.tables.specs.declared.rows.Upload.{Upload}
+use Rattle.tables.specs.declared.rows.ArrivalRow.{ArrivalRow}
+use Rattle.tables.specs.declared.rows.BodyRow.{BodyRow}
+use Rattle.tables.specs.declared.rows.UploadRow.{UploadRow}
 use Rattle.tables_meaning.specs.Kept.{AreArrivals, AreStored, AreUploads, arrival_in, arrivals_in, bytes_of, has_body, request_in, request_of}
 use Rattle.tables_meaning.specs.Reads.{bytes_with, due_in, missing_in, text_in, wanting_rows, upload_in, upload_with}
 use Rattle.tables_meaning.proofs.OrderLemmas.{unjudged_requests}
@@ -45,14 +46,14 @@ apart_head R x xs h = recursion_from_All (R x) xs (λ k d within. h 0 (suc k) d 
 apart_tail : {X : Type 0} (R : X → X → Type 0) (x : X) (xs : List X) → AllPairs R (x ∷ xs) → AllPairs R xs
 apart_tail R x xs h = λ i j d p q. h (suc i) (suc j) d (omega (arith, p)) (omega (arith, q))
 
-has_print_is : (p : Print) (x : Body) → has_print p x ≡ true → x.print ≡ Some p
+has_print_is : (p : Print) (x : BodyRow) → has_print p x ≡ true → x.print ≡ Some p
 has_print_is p x e = go x.print e
   where
     go : (o : Option Print) → option_map_or (λ q. same_print q p) o false ≡ true → o ≡ Some p
     go None e = cc
     go (Some q) e = ap Some ((same_print-Decides q p).0 e)
 
-has_print_of : (p : Print) (x : Body) → x.print ≡ Some p → has_print p x ≡ true
+has_print_of : (p : Print) (x : BodyRow) → x.print ≡ Some p → has_print p x ≡ true
 has_print_of p x e = ap (λ o. option_map_or (λ q. same_print q p) o false) e ∙ (same_print-Decides p p).1 refl
 
 not_zero : (n : ℕ) → nat_eq (suc n) 0 ≡ false
@@ -64,11 +65,11 @@ not_zero n = go (nat_eq (suc n) 0) refl
 
 module _ (t : Tables) where
   -- the print of the row is that of its body
-  abbrev IsWhole : ℕ × Body → Type 0
+  abbrev IsWhole : ℕ × BodyRow → Type 0
   IsWhole x = x.1.print ≡ Some (print_of (bytes_of t x.0))
 
   -- where no row has the print of this body, none has its number
-  none_numbered : (id : ℕ) (bodies : Numbered Body) → AllByRecursion IsWhole bodies → AllByRecursion (λ y. y.1.print ≢ Some (print_of (bytes_of t id))) bodies
+  none_numbered : (id : ℕ) (bodies : Numbered BodyRow) → AllByRecursion IsWhole bodies → AllByRecursion (λ y. y.1.print ≢ Some (print_of (bytes_of t id))) bodies
       → list_any (λ x. nat_eq x.0 id) bodies ≡ false
   none_numbered id [] whole others = refl
   none_numbered id (x ∷ xs) whole others =
@@ -78,12 +79,12 @@ module _ (t : Tables) where
       ] refl
 
   -- what differs from a row with this print has another print
-  others_differ : (p : Print) (x : ℕ × Body) (xs : Numbered Body) → x.1.print ≡ Some p → AllByRecursion (λ y. x.1.print ≢ y.1.print) xs → AllByRecursion (λ y. y.1.print ≢ Some p) xs
+  others_differ : (p : Print) (x : ℕ × BodyRow) (xs : Numbered BodyRow) → x.1.print ≡ Some p → AllByRecursion (λ y. x.1.print ≢ y.1.print) xs → AllByRecursion (λ y. y.1.print ≢ Some p) xs
   others_differ p x [] is h = tt
   others_differ p x (y ∷ ys) is h = (λ e. h.0 (is ∙ sym e), others_differ p x ys is h.1)
 
   -- of the rows with the number of a body and those with its print, this is the one
-  same_number : (id : ℕ) (x : ℕ × Body) (xs : Numbered Body) → AllByRecursion IsWhole xs → AllByRecursion (λ y. x.1.print ≢ y.1.print) xs → x.1.print ≡ Some (print_of (bytes_of t id))
+  same_number : (id : ℕ) (x : ℕ × BodyRow) (xs : Numbered BodyRow) → AllByRecursion IsWhole xs → AllByRecursion (λ y. x.1.print ≢ y.1.print) xs → x.1.print ≡ Some (print_of (bytes_of t id))
       → nat_eq x.0 id || list_any (λ y. nat_eq y.0 id) xs ≡ true → x.0 ≡ id
   same_number id x xs whole apart is there = go (nat_eq x.0 id) refl
     where
@@ -92,7 +93,7 @@ module _ (t : Tables) where
       go false e = absurd (false≢true (sym (none_numbered id xs whole (others_differ _ x xs is apart)) ∙ ap (λ b. b || list_any (λ y. nat_eq y.0 id) xs) (sym e) ∙ there))
 
   -- a row with another print has another number
-  number_later : (id : ℕ) (x : ℕ × Body) (xs : Numbered Body) → IsWhole x → has_print (print_of (bytes_of t id)) x.1 ≡ false
+  number_later : (id : ℕ) (x : ℕ × BodyRow) (xs : Numbered BodyRow) → IsWhole x → has_print (print_of (bytes_of t id)) x.1 ≡ false
       → nat_eq x.0 id || list_any (λ y. nat_eq y.0 id) xs ≡ true → list_any (λ y. nat_eq y.0 id) xs ≡ true
   number_later id x xs whole other there = go (nat_eq x.0 id) refl
     where
@@ -101,12 +102,12 @@ module _ (t : Tables) where
       go false e = ap (λ b. b || list_any (λ y. nat_eq y.0 id) xs) (sym e) ∙ there
 
   -- a body is found by its print
-  found_by_print : (id : ℕ) (bodies : Numbered Body) → AllByRecursion IsWhole bodies → AllPairs (λ x y. x.1.print ≢ y.1.print) bodies → list_any (λ x. nat_eq x.0 id) bodies ≡ true
+  found_by_print : (id : ℕ) (bodies : Numbered BodyRow) → AllByRecursion IsWhole bodies → AllPairs (λ x y. x.1.print ≢ y.1.print) bodies → list_any (λ x. nat_eq x.0 id) bodies ≡ true
       → option_map (bytes_of t) (body_with (print_of (bytes_of t id)) bodies) ≡ Some (bytes_of t id)
   found_by_print id [] whole apart there = cc
   found_by_print id (x ∷ xs) whole apart there =
       let p = print_of (bytes_of t id) in
-      let R : ℕ × Body → ℕ × Body → Type 0 = λ x y. x.1.print ≢ y.1.print in
+      let R : ℕ × BodyRow → ℕ × BodyRow → Type 0 = λ x y. x.1.print ≢ y.1.print in
       elim (has_print p x.1) as (λ b. has_print p x.1 ≡ b → option_map (bytes_of t) (option_map (λ y. y.0) (cond b (Some x) (find (λ y. has_print p y.1) xs))) ≡ Some (bytes_of t id)) [
         | true ↦ λ e. ap (λ n. Some (bytes_of t n)) (same_number id x xs whole.1 (apart_head R x xs apart) (has_print_is p x.1 e) there)
         | false ↦ λ e. found_by_print id xs whole.1 (apart_tail R x xs apart) (number_later id x xs whole.0 e there)
@@ -124,7 +125,7 @@ module _ (t : Tables) where
   unfolding arrivals_in
   arrivals_found bodies arrivals = go (rows_of t.arrivals) (recursion_from_All _ (rows_of t.arrivals) arrivals.bodies)
     where
-      go : (rows : List rows_arrival.Arrival) → AllByRecursion (λ a. IsTrue (has_body t a.body)) rows → AllByRecursion (λ a. IsFound a.body) (map (arrival_in t) rows)
+      go : (rows : List ArrivalRow) → AllByRecursion (λ a. IsTrue (has_body t a.body)) rows → AllByRecursion (λ a. IsFound a.body) (map (arrival_in t) rows)
       go [] h = tt
       go (a ∷ rows) h = (body_found bodies a.body h.0, go rows h.1)
 
@@ -161,7 +162,7 @@ module _ (t : Tables) where
     body : IsFound c.body
     changes : changes_in c.body ≡ Ok c.changes
 
-  upload_is : (arrivals : List Arrival) → AllByRecursion (λ a. IsFound a.body) arrivals → (u : Upload) (c : Candidate) → IsRead c → is_complete arrivals c ≡ true
+  upload_is : (arrivals : List Arrival) → AllByRecursion (λ a. IsFound a.body) arrivals → (u : UploadRow) (c : Candidate) → IsRead c → is_complete arrivals c ≡ true
       → u.name ≡ c.name → u.print ≡ print_of c.body → upload_in t u ≡ Some (upload_of arrivals c)
   unfolding upload_in upload_of is_complete
   upload_is arrivals found u c read all name print =
@@ -188,7 +189,7 @@ module _ (t : Tables) where
   abbrev due_of : List Arrival → Candidate → Option UploadValue
   due_of arrivals c = if is_complete arrivals c then Some (upload_of arrivals c) else None
 
-  due_is : (arrivals : List Arrival) → AllByRecursion (λ a. IsFound a.body) arrivals → (x : ℕ × Upload) (c : Candidate) → IsRead c
+  due_is : (arrivals : List Arrival) → AllByRecursion (λ a. IsFound a.body) arrivals → (x : ℕ × UploadRow) (c : Candidate) → IsRead c
       → request_in t x ≡ request_of arrivals c → due_in t x ≡ due_of arrivals c
   due_is arrivals found x c read same =
       ap (λ n. if nat_eq n 0 then upload_in t x.1 else None) (missing_in-wants t x.0 ∙ ap (λ r. missing_wants r.1) same ∙ sym (missing-wants arrivals c))
@@ -198,7 +199,7 @@ module _ (t : Tables) where
         | false ↦ λ e. refl
       ] refl
 
-  dues_are : (arrivals : List Arrival) → AllByRecursion (λ a. IsFound a.body) arrivals → (rows : Numbered Upload) (cs : List Candidate) → AllByRecursion IsRead cs
+  dues_are : (arrivals : List Arrival) → AllByRecursion (λ a. IsFound a.body) arrivals → (rows : Numbered UploadRow) (cs : List Candidate) → AllByRecursion IsRead cs
       → map (request_in t) rows ≡ map (request_of arrivals) cs → filter_map (due_in t) rows ≡ filter_map (due_of arrivals) cs
   dues_are arrivals found [] [] read same = refl
   dues_are arrivals found [] (c ∷ cs) read same = cc
@@ -237,7 +238,7 @@ all_filter P p (x ∷ xs) h = elim (p x) as (λ b. AllByRecursion P (cond b (x �
 
 all_put : (P : Candidate → Type 0) (c : Candidate) (cs : List Candidate) → P c → AllByRecursion P cs → AllByRecursion P (put_in_order c cs)
 all_put P c [] h hs = (h, tt)
-all_put P c (d ∷ ds) h hs = elim (is_gt (judging_order c d)) as (λ b. AllByRecursion P (if b then d ∷ put_in_order c ds else c ∷ d ∷ ds)) [
+all_put P c (d ∷ ds) h hs = elim (is_gt (candidate_order c d)) as (λ b. AllByRecursion P (if b then d ∷ put_in_order c ds else c ∷ d ∷ ds)) [
   | true ↦ (hs.0, all_put P c ds h hs.1)
   | false ↦ (h, hs)
 ]
@@ -283,7 +284,7 @@ texts_more P entries texts i e text {now} count within is pushed so_far one =
     (All-push P (zip (take i entries) texts) (e, text) so_far one)
 
 -- an upload that is read is the one of the row
-pub upload_read : (t : Tables) (u : Upload) (body : List ℕ) (changes : ChangesValue) (texts : List (List ℕ)) {made : UploadValue}
+pub upload_read : (t : Tables) (u : UploadRow) (body : List ℕ) (changes : ChangesValue) (texts : List (List ℕ)) {made : UploadValue}
     → bytes_with t u.print ≡ Some body → changes_in body ≡ Ok changes → texts ≡ map (text_in t) changes.entries
     → made ≡ record { name = u.name; print = u.print; changes = changes; texts = texts } → upload_in t u ≡ Some made
 unfolding upload_in
@@ -293,12 +294,12 @@ upload_read t u body changes texts {made} stored read are is =
     ∙ ap (λ ts. Some (record { name = u.name; print = u.print; changes = changes; texts = ts })) (sym are)
     ∙ ap Some (sym is)
 
-pub not_due : (t : Tables) (id : ℕ) (u : Upload) (missing : ℕ) → missing ≡ missing_in t id → 0 < missing → None ≡ due_in t (id, u)
+pub not_due : (t : Tables) (id : ℕ) (u : UploadRow) (missing : ℕ) → missing ≡ missing_in t id → 0 < missing → None ≡ due_in t (id, u)
 not_due t id u missing is some = ap (λ b. if b then upload_in t u else None) (sym (go missing some) ∙ ap (λ n. nat_eq n 0) is)
   where
     go : (n : ℕ) → 0 < n → nat_eq n 0 ≡ false
     go zero h = absurd (omega (arith, h))
     go (suc n) h = not_zero n
 
-pub is_due : (t : Tables) (id : ℕ) (u : Upload) (missing : ℕ) {made : UploadValue} → missing ≡ missing_in t id → missing ≡ 0 → upload_in t u ≡ Some made → Some made ≡ due_in t (id, u)
+pub is_due : (t : Tables) (id : ℕ) (u : UploadRow) (missing : ℕ) {made : UploadValue} → missing ≡ missing_in t id → missing ≡ 0 → upload_in t u ≡ Some made → Some made ≡ due_in t (id, u)
 is_due t id u missing {made} is none read = sym read ∙ ap (λ n. if nat_eq n 0 then upload_in t u else None) (sym none ∙ is)

@@ -6,7 +6,7 @@ use Rattle.records.specs.Values.{ChangesValue}
 use Rattle.sqlite.specs.State.{State, IsUnchanged, KeepsCommit}
 use Rattle.sums.specs.declared.entries.Entry.{Entry}
 use Rattle.sums.specs.declared.print.Print.{Print}
-use Rattle.keep.specs.Book.{is_changes_name}
+use Rattle.sums.specs.FileNames.{is_changes_name}
 use Rattle.tables.specs.Bodies.{body_with, with_print}
 use Rattle.tables.specs.Inside.{GoesOn}
 use Rattle.tables.specs.Rows.{Tables, Holds, Changes, next_in, with_body, with_piece}

@@ -18,21 +18,19 @@ use Rattle.suites.specs.KeyLemmas.{text_order_total, text_order-IsAntisymmetric}
 use Rattle.suites.specs.Pool.{PoolWith}
 use Rattle.suites.proofs.EntryLemmas.{same_keys}
 use Rattle.suites.proofs.Prints.{same_print-equal}
+use Rattle.suites.proofs.MovedLemmas.{bytes_same}
 use Rattle.tables.specs.Bodies.{body_with, has_print}
 use Rattle.tables.specs.Files.{is_file_at}
 use Rattle.tables.specs.Rows.{Numbered, Rises}
-use Rattle.tables.specs.declared.rows.Body.{Body}
+use Rattle.tables.specs.declared.rows.BodyRow.{BodyRow}
 use Rattle.tables.specs.declared.rows.File.{File}
 use Rattle.tables_meaning.proofs.RowLists.{found_passes, found_holds, none_passes, any_found, find_kept, find_gone, found_by_number}
+use Rattle.tables_meaning.specs.Kept.{print_in}
 
 -- ---- bodies and their prints
 
--- the print of the body of this number
-abbrev pub print_in : Numbered Body → ℕ → Option Print
-print_in bodies id = option_and_then (λ (x : ℕ × Body). x.1.print) (find (λ x. nat_eq x.0 id) bodies)
-
 -- there is a body of this number
-abbrev pub is_body : Numbered Body → ℕ → Bool
+abbrev pub is_body : Numbered BodyRow → ℕ → Bool
 is_body bodies id = list_any (λ x. nat_eq x.0 id) bodies
 
 has_print_is : (p : Print) (o : Option Print) → option_map_or (λ q. same_print q p) o false ≡ true → o ≡ Some p
@@ -40,31 +38,31 @@ has_print_is p None h = cc
 has_print_is p (Some q) h = ap (λ r. Some r) (same_print-equal q p h)
 
 -- the body that is found by a print is there, and has the print
-pub record IsBodyOf (bodies : Numbered Body) (print : Print) (id : ℕ) : Type 0 where
+pub record IsBodyOf (bodies : Numbered BodyRow) (print : Print) (id : ℕ) : Type 0 where
   pub print_is : print_in bodies id ≡ Some print
   pub is_there : is_body bodies id ≡ true
 
-pub found_body : (bodies : Numbered Body) (print : Print) (id : ℕ) → Rises bodies → body_with print bodies ≡ Some id → IsBodyOf bodies print id
+pub found_body : (bodies : Numbered BodyRow) (print : Print) (id : ℕ) → Rises bodies → body_with print bodies ≡ Some id → IsBodyOf bodies print id
 found_body bodies print id up e = go (find (λ x. has_print print x.1) bodies) refl e
   where
-    at : (x : ℕ × Body) → find (λ y. has_print print y.1) bodies ≡ Some x → IsBodyOf bodies print x.0
+    at : (x : ℕ × BodyRow) → find (λ y. has_print print y.1) bodies ≡ Some x → IsBodyOf bodies print x.0
     at x f =
-        let again : find (λ y. nat_eq y.0 x.0) bodies ≡ Some x = found_by_number (λ (y : ℕ × Body). has_print print y.1) bodies x up f in
+        let again : find (λ y. nat_eq y.0 x.0) bodies ≡ Some x = found_by_number (λ (y : ℕ × BodyRow). has_print print y.1) bodies x up f in
         record {
-          print_is = ap (option_and_then (λ (y : ℕ × Body). y.1.print)) again ∙ has_print_is print x.1.print (found_passes (λ (y : ℕ × Body). has_print print y.1) bodies x f);
-          is_there = any_found (λ (y : ℕ × Body). nat_eq y.0 x.0) bodies x again;
+          print_is = ap (option_and_then (λ (y : ℕ × BodyRow). y.1.print)) again ∙ has_print_is print x.1.print (found_passes (λ (y : ℕ × BodyRow). has_print print y.1) bodies x f);
+          is_there = any_found (λ (y : ℕ × BodyRow). nat_eq y.0 x.0) bodies x again;
         }
 
-    go : (o : Option (ℕ × Body)) → find (λ x. has_print print x.1) bodies ≡ o → option_map (λ x. x.0) o ≡ Some id → IsBodyOf bodies print id
+    go : (o : Option (ℕ × BodyRow)) → find (λ x. has_print print x.1) bodies ≡ o → option_map (λ x. x.0) o ≡ Some id → IsBodyOf bodies print id
     go None f h = cc
     go (Some x) f h = subst (IsBodyOf bodies print) (let same : x.0 ≡ id = cc in same) (at x f)
 
 -- a body that is there has a print
-print_there : (bodies : Numbered Body) (id : ℕ) → AllByRecursion (λ x. x.1.print ≢ None) bodies → is_body bodies id ≡ true → print_in bodies id ≢ None
+print_there : (bodies : Numbered BodyRow) (id : ℕ) → AllByRecursion (λ x. x.1.print ≢ None) bodies → is_body bodies id ≡ true → print_in bodies id ≢ None
 print_there [] id all some none = cc
 print_there (x ∷ xs) id all some none = go (nat_eq x.0 id) some none (print_there xs id all.1)
   where
-    go : (b : Bool) → (b || is_body xs id) ≡ true → option_and_then (λ (y : ℕ × Body). y.1.print) (cond b (Some x) (find (λ y. nat_eq y.0 id) xs)) ≡ None
+    go : (b : Bool) → (b || is_body xs id) ≡ true → option_and_then (λ (y : ℕ × BodyRow). y.1.print) (cond b (Some x) (find (λ y. nat_eq y.0 id) xs)) ≡ None
         → (is_body xs id ≡ true → print_in xs id ≢ None) → ⊥
     go true s n more = all.0 n
     go false s n more = more s n
@@ -77,19 +75,16 @@ path_tie q path = same_keys text_order-IsAntisymmetric q path
 path_itself : (q path : List ℕ) → q ≡ path → eq_by_cmp text_order q path ≡ true
 path_itself q path e = subst (λ p. eq_by_cmp text_order q p ≡ true) e ((eq_by_cmp_equiv text_order_total).refl q)
 
-bytes_same : (xs ys : List ℕ) → bytes_eq xs ys ≡ true → xs ≡ ys
-bytes_same xs ys e = (bytes_eq-Decides xs ys).0 e
-
 bytes_equal : (xs ys : List ℕ) → xs ≡ ys → bytes_eq xs ys ≡ true
 bytes_equal xs ys e = (bytes_eq-Decides xs ys).1 e
 
 -- The rows of files are those of the pool, each with a body of its print.
-pub record Pooled (bodies : Numbered Body) (files : List File) (held : PoolWith Print) : Type 0 where
+pub record Pooled (bodies : Numbered BodyRow) (files : List File) (held : PoolWith Print) : Type 0 where
   pub are : (path : List ℕ) → option_and_then (λ f. print_in bodies f.body) (find (is_file_at path) files) ≡ get held path
   pub bodies_there : AllByRecursion (λ f. is_body bodies f.body ≡ true) files
   pub apart : IsAscending (λ f g. f.path ≢ g.path) files
 
-module _ (bodies : Numbered Body) (files : List File) (held : PoolWith Print) (was : Pooled bodies files held) where
+module _ (bodies : Numbered BodyRow) (files : List File) (held : PoolWith Print) (was : Pooled bodies files held) where
   pub take_file : (path : List ℕ) → Pooled bodies (delete_where (is_file_at path) files) (remove held path)
   take_file path = record {
     are = λ q. at q (eq_by_cmp text_order q path) refl ∙ sym (get-remove text_order_total held path q);

@@ -21,10 +21,10 @@ use Rattle.tables.specs.Bodies.{body_with, has_print}
 use Rattle.tables.specs.Files.{is_file_at}
 use Rattle.tables.specs.Pieces.{is_of}
 use Rattle.tables.specs.Rows.{Numbered, Rises, Tables, rows_of, without}
-use Rattle.tables.specs.declared.rows.Body.{Body}
+use Rattle.tables.specs.declared.rows.BodyRow.{BodyRow}
 use Rattle.tables.specs.declared.rows.File.{File}
 use Rattle.tables.specs.declared.rows.Piece.{Piece}
-use Rattle.tables.specs.declared.rows.Upload.{Upload}
+use Rattle.tables.specs.declared.rows.UploadRow.{UploadRow}
 use Rattle.tables_meaning.specs.Finished.{finished, is_of_unfinished, is_unfinished}
 use Rattle.tables_meaning.specs.Kept.{AreArrivals, AreBodies, AreItems, AreNumbered, AreUploads, arrivals_in, bytes_of, files_in, has_body, pieces_of}
 use Rattle.tables_meaning.specs.Reads.{bytes_with, due_in, missing_in, text_in, upload_in, waiting_in, wanting, wanting_rows}
@@ -66,11 +66,11 @@ bodies_whole t h =
 pub kept_finished : (t : Tables) → AreBodies t → finished t ≡ t
 kept_finished t h = finished_whole t (bodies_whole t h)
 
-not_true : (b : Bool) → not b ≡ true → b ≡ false
+pub not_true : (b : Bool) → not b ≡ true → b ≡ false
 not_true true e = absurd (true≢false (sym e))
 not_true false e = refl
 
-pub whole_left : (bodies : Numbered Body) → AllByRecursion (λ x. is_unfinished x ≡ false) (without is_unfinished bodies)
+pub whole_left : (bodies : Numbered BodyRow) → AllByRecursion (λ x. is_unfinished x ≡ false) (without is_unfinished bodies)
 whole_left bodies =
     all_filtered (λ x. is_unfinished x ≡ false) (λ x. not (is_unfinished x)) bodies
     (all_of (λ x. not (is_unfinished x) ≡ true → is_unfinished x ≡ false) (λ x. not_true (is_unfinished x)) bodies)
@@ -113,28 +113,28 @@ body_finished p t =
 -- ---- the pieces of a body that is whole
 
 -- a body of this number is not whole
-abbrev pub has_unfinished : Numbered Body → ℕ → Bool
+abbrev pub has_unfinished : Numbered BodyRow → ℕ → Bool
 has_unfinished bodies id = list_any (λ x. nat_eq id x.0 && is_unfinished x) bodies
 
-other_below : (a b : ℕ) → a < b → nat_eq a b ≡ false
+pub other_below : (a b : ℕ) → a < b → nat_eq a b ≡ false
 other_below a b below = grind (arith, nat_tests)
 
-other_above : (a b : ℕ) → a < b → nat_eq b a ≡ false
+pub other_above : (a b : ℕ) → a < b → nat_eq b a ≡ false
 other_above a b below = grind (arith, nat_tests)
 
-itself : (a : ℕ) → nat_eq a a ≡ true
+pub itself : (a : ℕ) → nat_eq a a ≡ true
 itself a = grind (arith, nat_tests)
 
-or_false : (b : Bool) → (b || false) ≡ b
+pub or_false : (b : Bool) → (b || false) ≡ b
 or_false true = refl
 or_false false = refl
 
-none_past : (n : ℕ) (xs : Numbered Body) → AllByRecursion (λ y. n < y.0) xs → has_unfinished xs n ≡ false
+pub none_past : (n : ℕ) (xs : Numbered BodyRow) → AllByRecursion (λ y. n < y.0) xs → has_unfinished xs n ≡ false
 none_past n [] h = refl
 none_past n (x ∷ xs) h = rw (other_below n x.0 h.0, none_past n xs h.1) refl
 
 -- the number of a body tells whether it is whole
-pub tells : (xs : Numbered Body) → Rises xs → AllByRecursion (λ y. has_unfinished xs y.0 ≡ is_unfinished y) xs
+pub tells : (xs : Numbered BodyRow) → Rises xs → AllByRecursion (λ y. has_unfinished xs y.0 ≡ is_unfinished y) xs
 tells [] up = tt
 tells (x ∷ xs) up = (
   rw (itself x.0, none_past x.0 xs up.0) (or_false (is_unfinished x)),
@@ -142,7 +142,7 @@ tells (x ∷ xs) up = (
 )
 
 -- a body that is not whole is not left
-pub not_left : (bodies : Numbered Body) (id : ℕ) → Rises bodies → has_unfinished bodies id ≡ true → list_any (λ x. nat_eq x.0 id) (without is_unfinished bodies) ≡ false
+pub not_left : (bodies : Numbered BodyRow) (id : ℕ) → Rises bodies → has_unfinished bodies id ≡ true → list_any (λ x. nat_eq x.0 id) (without is_unfinished bodies) ≡ false
 not_left bodies id up unfinished =
     list_any_without
     ∙ any_from_none (λ x. not (is_unfinished x) && nat_eq x.0 id) bodies
@@ -151,7 +151,7 @@ not_left bodies id up unfinished =
     list_any_without : list_any (λ x. nat_eq x.0 id) (without is_unfinished bodies) ≡ list_any (λ x. not (is_unfinished x) && nat_eq x.0 id) bodies
     list_any_without = list_any-filter (λ x. nat_eq x.0 id) (λ x. not (is_unfinished x)) bodies
 
-    go : (y : ℕ × Body) → has_unfinished bodies y.0 ≡ is_unfinished y → (b : Bool) → nat_eq y.0 id ≡ b → (not (is_unfinished y) && b) ≡ false
+    go : (y : ℕ × BodyRow) → has_unfinished bodies y.0 ≡ is_unfinished y → (b : Bool) → nat_eq y.0 id ≡ b → (not (is_unfinished y) && b) ≡ false
     go y is true e = let u : is_unfinished y ≡ true = sym is ∙ ap (has_unfinished bodies) (eqb-true y.0 id e) ∙ unfinished in rw u refl
     go y is false e = and_right (not (is_unfinished y)) false refl
 
@@ -211,7 +211,7 @@ unfolding bytes_with
 bytes_with_finished t up p = bytes_by_print t up p (body_with p t.bodies) refl
 
 -- the upload that is due, by the bodies that are found
-abbrev due_by : (Print → Option (List ℕ)) → ℕ → Upload → Option UploadValue
+abbrev due_by : (Print → Option (List ℕ)) → ℕ → UploadRow → Option UploadValue
 due_by bytes missing u =
     if nat_eq missing 0 then option_and_then (λ body. option_map (λ (c : ChangesValue). record {
       name = u.name;
@@ -221,7 +221,7 @@ due_by bytes missing u =
     }) (result_ok (changes_in body))) (bytes u.print)
     else None
 
-due_finished : (t : Tables) → Rises t.bodies → (x : ℕ × Upload) → due_in t x ≡ due_in (finished t) x
+due_finished : (t : Tables) → Rises t.bodies → (x : ℕ × UploadRow) → due_in t x ≡ due_in (finished t) x
 unfolding finished missing_in text_in upload_in
 due_finished t up x = λ i. due_by (λ p. bytes_with_finished t up p i) (missing_in t x.0) x.1
 

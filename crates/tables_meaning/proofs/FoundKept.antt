@@ -8,10 +8,9 @@ use Rattle.rules.specs.Values.{ConfigValue}
 use Rattle.suites.proofs.SharedLemmas.{entries-empty}
 use Rattle.suites.proofs.ToldLemmas.{told_empty}
 use Rattle.suites.specs.Items.{IsAtHome}
-use Rattle.suites.specs.Shelves.{AreSound}
+use Rattle.suites.specs.Shelves.{AreSound, pool}
 use Rattle.suites.specs.Keys.{key_order, text_order}
 use Rattle.suites.specs.Pool.{files_of, pool_of}
-use Rattle.suites.specs.Shelves.{pool}
 use Rattle.suites.specs.declared.item.Item as shelf
 use Rattle.suites.specs.declared.key.ShelfKey.{ShelfKey}
 use Rattle.texts.specs.Indices.{PathText, all_texts}
@@ -19,12 +18,13 @@ use Rattle.keep.specs.Book.{latest}
 use Rattle.keep.specs.Plain.{fresh_book}
 use Rattle.tables.specs.Rows.{Tables, Numbered, rows_of, added, next_in, no_rows, with_date, with_meta}
 use Rattle.tables.specs.declared.rows.Date.{Date}
-use Rattle.tables.specs.declared.rows.IndexText.{IndexText}
+use Rattle.tables.specs.declared.rows.TextRow.{TextRow}
 use Rattle.tables.specs.declared.rows.Meta.{Meta}
 use Rattle.tables.specs.declared.meta.TheConstants.{VERSION}
-use Rattle.tables_meaning.specs.Kept.{AreArrivals, AreBodies, AreFiles, AreItems, AreUploads, IsKept, arrivals_in, book_in, files_in}
+use Rattle.tables_meaning.specs.Kept.{AreArrivals, AreBodies, AreFiles, AreItems, AreUploads, IsBook, arrivals_in, book_in, files_in}
 use Rattle.tables_meaning.specs.Founding.{first_date, first_dates, founded, with_dates, with_first_rows, with_path_text, with_texts}
-use Rattle.tables_meaning.proofs.FoundLemmas.{map_twice, one_date}
+use Rattle.tables_meaning.proofs.FoundLemmas.{one_date}
+use Rattle.texts.proofs.Walk.{map_twice}
 
 -- ---- rows one after another
 
@@ -36,7 +36,7 @@ rows_all f [] rows = sym (append-nil (rows_of rows))
 rows_all f (y ∷ ys) rows =
     rows_all f ys (added rows (f y)) ∙ ap (λ xs. xs ++ map f ys) (rows_added rows (f y)) ∙ append_assoc (rows_of rows) (f y ∷ []) (map f ys)
 
-abbrev pub text_row : PathText → IndexText
+abbrev pub text_row : PathText → TextRow
 text_row x = record { path = x.0; body = x.1 }
 
 pub texts_are : (xs : List PathText) (t : Tables) → with_texts xs t ≡ record t { texts = fold (λ now x. added now (text_row x)) t.texts xs }
@@ -57,13 +57,13 @@ first_meta config = record { version = VERSION; configuration = config.text }
 abbrev first_texts : ConfigValue → ℕ → List PathText
 first_texts config moment = all_texts config empty (first_dates config moment)
 
-abbrev first_texted : ConfigValue → ℕ → Numbered IndexText
+abbrev first_texted : ConfigValue → ℕ → Numbered TextRow
 first_texted config moment = fold (λ now x. added now (text_row x)) [] (first_texts config moment)
 
 abbrev first_dated : ConfigValue → ℕ → Numbered Date
 first_dated config moment = fold (λ now d. added now d) [] (map (first_date moment) config.suites)
 
-abbrev first_rows : Numbered Meta → Numbered IndexText → Numbered Date → Tables
+abbrev first_rows : Numbered Meta → Numbered TextRow → Numbered Date → Tables
 first_rows meta texts dates = record {
   meta = meta;
   bodies = [];
@@ -105,7 +105,7 @@ shows_none = no_entries (entries (empty {X = shelf.Item} {R = key_order})) (sym 
 no_files : (path : List ℕ) → None ≡ get (pool empty) path
 no_files path = sym (ap (λ (es : List (ShelfKey × shelf.Item)). get (pool_of (files_of (map (λ e. e.1) es))) path) shows_none ∙ get-empty text_order path)
 
-module _ (config : ConfigValue) (meta : Numbered Meta) (texts : Numbered IndexText) (dates : Numbered Date) where
+module _ (config : ConfigValue) (meta : Numbered Meta) (texts : Numbered TextRow) (dates : Numbered Date) where
   no_bodies : AreBodies (first_rows meta texts dates)
   no_bodies = record { whole = All-nil _; pieces = All-nil _; apart = λ i j d below within. absurd (omega arith); used = All-nil _; owned = All-nil _ }
 
@@ -143,7 +143,7 @@ nothing_sound : AreSound empty
 nothing_sound = record { at_home = rw (entries-empty key_order shelf.Item) (All-nil IsAtHome); agreed = rw (entries-empty key_order shelf.Item) (λ path a b x y. absurd (omega (arith, x.1))) }
 
 first_kept : (config : ConfigValue) (moment : ℕ) → config_in config.text ≡ Ok config → moment ≤ latest
-    → IsKept (first_rows ((1, first_meta config) ∷ []) (first_texted config moment) (first_dated config moment)) config [] empty (first_dates config moment)
+    → IsBook (first_rows ((1, first_meta config) ∷ []) (first_texted config moment) (first_dated config moment)) config [] empty (first_dates config moment)
 first_kept config moment read early = record {
   meta = refl;
   read = read;
@@ -164,8 +164,8 @@ first_kept config moment read early = record {
 }
 
 -- the rows of a new archive are those of one in which nothing is yet
-pub founded_is_kept : (config : ConfigValue) (moment : ℕ) → config_in config.text ≡ Ok config → moment ≤ latest → IsKept (founded config moment) config [] empty (first_dates config moment)
-founded_is_kept config moment read early = subst (λ t. IsKept t config [] empty (first_dates config moment)) (sym (founded_are config moment)) (first_kept config moment read early)
+pub founded_is_kept : (config : ConfigValue) (moment : ℕ) → config_in config.text ≡ Ok config → moment ≤ latest → IsBook (founded config moment) config [] empty (first_dates config moment)
+founded_is_kept config moment read early = subst (λ t. IsBook t config [] empty (first_dates config moment)) (sym (founded_are config moment)) (first_kept config moment read early)
 
 -- and so is its book
 pub founded_book : (config : ConfigValue) (moment : ℕ) → book_in config [] empty (first_dates config moment) (founded config moment) ≡ fresh_book config moment

@@ -1,5 +1,5 @@
 -- The first rows of an archive: how they are added, and that they are those of an archive in which nothing is yet.
-use Rattle.std.proofs.Common.{◌≡◌, ◌<◌, inl, ℕ, zero, suc, ◌+◌, true, IsTrue, Result, Ok, Err, OnErr, List, [], ◌∷◌, ◌++◌, map, codes, length, replicate, take, get_or, Some, slice_get, append_assoc, refl, sym, ap, subst, ◌∙◌, arith}
+use Rattle.std.proofs.Common.{◌≡◌, ◌<◌, ℕ, zero, suc, ◌+◌, true, IsTrue, Result, Ok, Err, OnErr, List, [], ◌∷◌, ◌++◌, map, codes, length, replicate, take, get_or, Some, slice_get, append_assoc, refl, sym, ap, subst, ◌∙◌, arith}
 use Rattle.std.specs.FinMap.{empty}
 use Rattle.std.specs.List.{flat_map, zip}
 use Rattle.std.specs.Option.{option_map_or}
@@ -8,7 +8,7 @@ use Rattle.std.proofs.lemmas.List.Sums.{fold-append}
 use Rattle.std.proofs.lemmas.Grind.{flat_map-append, get_or_default_zero}
 use Rattle.std.proofs.lemmas.Slice.Zip.{get_or-zip, length-zip}
 use Rattle.sqlite.specs.Held.{Held, state}
-use Rattle.sqlite.specs.State.{State, KeepsCommit, Survives}
+use Rattle.sqlite.specs.State.{State, KeepsCommit}
 use Rattle.sqlite.specs.Store.{Ghosts}
 use Rattle.rules.specs.Values.{ConfigValue}
 use Rattle.rules.specs.declared.suite.Suite.{Suite}
@@ -16,6 +16,7 @@ use Rattle.suites.specs.Shelves.{ShelvesValue}
 use Rattle.texts.specs.Indices.{PathText, all_texts, folder_texts, suite_texts, texts_from}
 use Rattle.texts.specs.Positions.{indices_at, release_at}
 use Rattle.texts.specs.Release.{indices_of, listed_entry, listed_texts, release_text}
+use Rattle.texts.proofs.Walk.{map_twice}
 use Rattle.tables.specs.Rows.{Tables, Holds, Changes, no_rows, with_date, with_meta}
 use Rattle.tables.specs.Schema.{no_schema}
 use Rattle.tables.specs.declared.rows.Date.{Date}
@@ -26,16 +27,6 @@ use Rattle.tables_meaning.specs.Transactions.{IsUndone}
 use Rattle.tables_meaning.specs.Founding.{Continues, Founds, component_texts, components_texts, first_date, first_dates, founded, from_root, suite_texts_at, with_dates, with_first_rows, with_path_text, with_texts}
 
 -- ---- statements in a row
-
-pub survives_none : (s : State) → Survives s s (λ _. ⊥)
-survives_none s = record {
-  clean = omega arith;
-  shield = λ h. h;
-  counts = omega arith;
-  limit = refl;
-  closes = λ clean up. inl up;
-  crash = λ clean db h. inl h;
-}
 
 pub continues_none : (s : State) → IsTrue s.in_transaction → Continues s s (λ t. t)
 continues_none s inside = record {
@@ -147,10 +138,6 @@ suite_date_more suites dates i s within dated is =
     date_more (zip suites dates) i (s, get_or dates i 0) (omega (arith, length-zip suites dates, within, dated)) (next_date suites dates i s within dated is) date_row
 
 -- ---- the texts of a suite
-
-pub map_twice : {A B C : Type 0} (f : B → C) (g : A → B) (xs : List A) → map f (map g xs) ≡ map (λ x. f (g x)) xs
-map_twice f g [] = refl
-map_twice f g (x ∷ xs) = ap (λ ys. f (g x) ∷ ys) (map_twice f g xs)
 
 of_components : (shelves : ShelvesValue) (position : ℕ) (s : Suite) (architectures components : List (List ℕ))
     → map (from_root s) (flat_map (λ c. map (listed_entry shelves position c) architectures) components) ≡ flat_map (component_texts shelves position s architectures) components

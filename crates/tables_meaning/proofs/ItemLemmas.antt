@@ -15,17 +15,16 @@ use Rattle.sqlite_keyed.specs.Lists.{delete_where}
 use Rattle.sqlite_keyed.proofs.ListLemmas.{all_weaker, all-filter, all-append, all-map, ascending-filter, ascending-append, filter-filter, filter_all, filter_none}
 use Rattle.rules.specs.declared.suite.Suite.{Suite}
 use Rattle.suites.specs.Keys.{key_order, kind_number}
-use Rattle.suites.specs.KeyLemmas.{key_order_total, key_order-IsAntisymmetric}
+use Rattle.suites.specs.KeyLemmas.{key_order_total, key_order-IsAntisymmetric, same_kind}
 use Rattle.suites.specs.Shelves.{ShelvesValue}
 use Rattle.suites.specs.declared.item.Item as shelf
-use Rattle.suites.specs.declared.key.Kind.{Kind}
-use Rattle.suites.specs.declared.key.Kind.TheVariants.{Source, Binary}
 use Rattle.suites.specs.declared.key.ShelfKey.{ShelfKey}
 use Rattle.suites.proofs.EntryLemmas.{same_keys}
+use Rattle.suites.proofs.MovedLemmas.{bytes_same}
 use Rattle.tables.specs.Items.{is_item}
 use Rattle.tables.specs.Refs.{is_ref_of}
 use Rattle.tables.specs.Rows.{Numbered, Rises, added, next_in}
-use Rattle.tables.specs.declared.rows.Item.{Item}
+use Rattle.tables.specs.declared.rows.ItemRow.{ItemRow}
 use Rattle.tables.specs.declared.rows.Ref.{Ref}
 use Rattle.tables.proofs.RowLemmas.{rises_added}
 use Rattle.tables_meaning.specs.Kept.{codename_at, item_row, refs_for, is_on, shown_row}
@@ -33,26 +32,17 @@ use Rattle.tables_meaning.proofs.RowLists.{found_passes, found_holds, none_passe
 
 -- ---- rows and the keys of shelves
 
-same_kind : (a b : Kind) → kind_number a ≡ kind_number b → a ≡ b
-same_kind Source Source e = refl
-same_kind Source Binary e = absurd (omega (arith, e))
-same_kind Binary Source e = absurd (omega (arith, e))
-same_kind Binary Binary e = refl
-
-bytes_same : (xs ys : List ℕ) → bytes_eq xs ys ≡ true → xs ≡ ys
-bytes_same xs ys e = (bytes_eq-Decides xs ys).0 e
-
 bytes_equal : (xs ys : List ℕ) → xs ≡ ys → bytes_eq xs ys ≡ true
 bytes_equal xs ys e = (bytes_eq-Decides xs ys).1 e
 
 -- an item and the columns that name its shelf
-record IsItem (suite : List ℕ) (kind : ℕ) (name architecture : List ℕ) (x : Item) : Type 0 where
+record IsItem (suite : List ℕ) (kind : ℕ) (name architecture : List ℕ) (x : ItemRow) : Type 0 where
   at_suite : x.suite ≡ suite
   at_kind : x.kind ≡ kind
   at_name : x.«package» ≡ name
   at_architecture : x.architecture ≡ architecture
 
-item_parts : (suite : List ℕ) (kind : ℕ) (name architecture : List ℕ) (x : Item) → is_item suite kind name architecture x ≡ true → IsItem suite kind name architecture x
+item_parts : (suite : List ℕ) (kind : ℕ) (name architecture : List ℕ) (x : ItemRow) → is_item suite kind name architecture x ≡ true → IsItem suite kind name architecture x
 item_parts suite kind name architecture x h =
     let last = and_parts (bytes_eq x.suite suite && nat_eq x.kind kind && bytes_eq x.«package» name) (bytes_eq x.architecture architecture) h in
     let third = and_parts (bytes_eq x.suite suite && nat_eq x.kind kind) (bytes_eq x.«package» name) last.0 in
@@ -64,7 +54,7 @@ item_parts suite kind name architecture x h =
       at_architecture = bytes_same x.architecture architecture last.1;
     }
 
-item_from : (suite : List ℕ) (kind : ℕ) (name architecture : List ℕ) (x : Item) → IsItem suite kind name architecture x → is_item suite kind name architecture x ≡ true
+item_from : (suite : List ℕ) (kind : ℕ) (name architecture : List ℕ) (x : ItemRow) → IsItem suite kind name architecture x → is_item suite kind name architecture x ≡ true
 item_from suite kind name architecture x h =
     and_from (bytes_eq x.suite suite && nat_eq x.kind kind && bytes_eq x.«package» name) (bytes_eq x.architecture architecture)
     (and_from (bytes_eq x.suite suite && nat_eq x.kind kind) (bytes_eq x.«package» name)
@@ -73,10 +63,10 @@ item_from suite kind name architecture x h =
     (bytes_equal x.architecture architecture h.at_architecture)
 
 -- two items are for one shelf
-abbrev pub same_shelf : Item → Item → Bool
+abbrev pub same_shelf : ItemRow → ItemRow → Bool
 same_shelf x y = is_item x.suite x.kind x.«package» x.architecture y
 
-same_shelf_back : (x y : Item) → same_shelf y x ≡ false → same_shelf x y ≡ false
+same_shelf_back : (x y : ItemRow) → same_shelf y x ≡ false → same_shelf x y ≡ false
 same_shelf_back x y fails = false_from_ne_true (same_shelf x y) (λ holds.
     let parts = item_parts x.suite x.kind x.«package» x.architecture y holds in
     both_ways (same_shelf y x) fails (item_from y.suite y.kind y.«package» y.architecture x (record {
@@ -91,7 +81,7 @@ row_on suites e id = item_from (codename_at suites e.0.suite) (kind_number e.0.k
     (record { at_suite = refl; at_kind = refl; at_name = refl; at_architecture = refl })
 
 -- a row on a shelf is for the shelf of any other row there
-on_same : (suites : List Suite) (key : ShelfKey) (x y : ℕ × Item) → same_shelf x.1 y.1 ≡ false → is_on suites key x ≡ true → is_on suites key y ≡ false
+on_same : (suites : List Suite) (key : ShelfKey) (x y : ℕ × ItemRow) → same_shelf x.1 y.1 ≡ false → is_on suites key x ≡ true → is_on suites key y ≡ false
 on_same suites key x y fails at = false_from_ne_true (is_on suites key y) (λ too.
     let first = item_parts (codename_at suites key.suite) (kind_number key.kind) key.«package» key.architecture x.1 at in
     let second = item_parts (codename_at suites key.suite) (kind_number key.kind) key.«package» key.architecture y.1 too in
@@ -103,7 +93,7 @@ on_same suites key x y fails at = false_from_ne_true (is_on suites key y) (λ to
     })))
 
 -- the other way round: a row that is not on a shelf is for the shelf of no row there
-apart_from : (suites : List Suite) (key : ShelfKey) (x y : ℕ × Item) → is_on suites key x ≡ true → is_on suites key y ≡ false → same_shelf x.1 y.1 ≡ false
+apart_from : (suites : List Suite) (key : ShelfKey) (x y : ℕ × ItemRow) → is_on suites key x ≡ true → is_on suites key y ≡ false → same_shelf x.1 y.1 ≡ false
 apart_from suites key x y at fails = false_from_ne_true (same_shelf x.1 y.1) (λ holds.
     let first = item_parts (codename_at suites key.suite) (kind_number key.kind) key.«package» key.architecture x.1 at in
     let second = item_parts x.1.suite x.1.kind x.1.«package» x.1.architecture y.1 holds in
@@ -138,7 +128,7 @@ module _ (suites : List Suite) (differ : AllPairs (λ s r. s.codename ≢ r.code
       go (inr (inr lt)) = absurd (differ n m d lt p (sym alike))
 
   -- a row is on one shelf
-  on_one : (k l : ShelfKey) (x : ℕ × Item) → k.suite < length suites → l.suite < length suites → is_on suites k x ≡ true → is_on suites l x ≡ true → k ≡ l
+  on_one : (k l : ShelfKey) (x : ℕ × ItemRow) → k.suite < length suites → l.suite < length suites → is_on suites k x ≡ true → is_on suites l x ≡ true → k ≡ l
   on_one k l x p q at too =
       let first = item_parts (codename_at suites k.suite) (kind_number k.kind) k.«package» k.architecture x.1 at in
       let second = item_parts (codename_at suites l.suite) (kind_number l.kind) l.«package» l.architecture x.1 too in
@@ -152,7 +142,7 @@ module _ (suites : List Suite) (differ : AllPairs (λ s r. s.codename ≢ r.code
       same_key s t n a = λ i. record { suite = s i; kind = t i; «package» = n i; architecture = a i }
 
   -- a row of one shelf is on fails other
-  not_on : (k l : ShelfKey) (x : ℕ × Item) → k.suite < length suites → l.suite < length suites → eq_by_cmp key_order k l ≡ false → is_on suites l x ≡ true → is_on suites k x ≡ false
+  not_on : (k l : ShelfKey) (x : ℕ × ItemRow) → k.suite < length suites → l.suite < length suites → eq_by_cmp key_order k l ≡ false → is_on suites l x ≡ true → is_on suites k x ≡ false
   not_on k l x p q apart at = false_from_ne_true (is_on suites k x) (λ too.
       let same : l ≡ k = on_one l k x q p at too in
       both_ways (eq_by_cmp key_order k l) apart (subst (λ m. eq_by_cmp key_order k m ≡ true) (sym same) ((eq_by_cmp_equiv key_order_total).refl k)))
@@ -160,23 +150,23 @@ module _ (suites : List Suite) (differ : AllPairs (λ s r. s.codename ≢ r.code
 -- ---- what stands on a shelf
 
 -- the row that is found for a shelf, and those of its files, are those of what stands there
-abbrev pub Stands : List Ref → List Suite → ShelfKey → Option (ℕ × Item) → Option shelf.Item → Type 0
+abbrev pub Stands : List Ref → List Suite → ShelfKey → Option (ℕ × ItemRow) → Option shelf.Item → Type 0
 Stands refs suites key None None = Unit {0}
 Stands refs suites key None (Some item) = ⊥
 Stands refs suites key (Some x) None = ⊥
-Stands refs suites key (Some x) (Some item) = ◌≡◌ {A = Item × List Ref} (x.1, filter (is_ref_of x.0) refs) (shown_row suites key x.0 item)
+Stands refs suites key (Some x) (Some item) = ◌≡◌ {A = ItemRow × List Ref} (x.1, filter (is_ref_of x.0) refs) (shown_row suites key x.0 item)
 
-stands_at : (refs : List Ref) (suites : List Suite) (key : ShelfKey) (f g : Option (ℕ × Item)) (a b : Option shelf.Item) → f ≡ g → a ≡ b → Stands refs suites key g b → Stands refs suites key f a
+stands_at : (refs : List Ref) (suites : List Suite) (key : ShelfKey) (f g : Option (ℕ × ItemRow)) (a b : Option shelf.Item) → f ≡ g → a ≡ b → Stands refs suites key g b → Stands refs suites key f a
 stands_at refs suites key f g a b p q h = subst₂ (Stands refs suites key) (sym p) (sym q) h
 
-stands_refs : (old new : List Ref) (suites : List Suite) (key : ShelfKey) (f : Option (ℕ × Item)) (a : Option shelf.Item)
-    → ((x : ℕ × Item) → f ≡ Some x → filter (is_ref_of x.0) new ≡ filter (is_ref_of x.0) old) → Stands old suites key f a → Stands new suites key f a
+stands_refs : (old new : List Ref) (suites : List Suite) (key : ShelfKey) (f : Option (ℕ × ItemRow)) (a : Option shelf.Item)
+    → ((x : ℕ × ItemRow) → f ≡ Some x → filter (is_ref_of x.0) new ≡ filter (is_ref_of x.0) old) → Stands old suites key f a → Stands new suites key f a
 stands_refs old new suites key None None same h = tt
 stands_refs old new suites key None (Some item) same h = absurd h
 stands_refs old new suites key (Some x) None same h = absurd h
 stands_refs old new suites key (Some x) (Some item) same h = ap (λ rs. (x.1, rs)) (same x refl) ∙ h
 
-stands_none : (refs : List Ref) (suites : List Suite) (key : ShelfKey) (f : Option (ℕ × Item)) → Stands refs suites key f None → f ≡ None
+stands_none : (refs : List Ref) (suites : List Suite) (key : ShelfKey) (f : Option (ℕ × ItemRow)) → Stands refs suites key f None → f ≡ None
 stands_none refs suites key None h = refl
 stands_none refs suites key (Some x) h = absurd h
 
@@ -185,11 +175,11 @@ none_stands refs suites key None h = refl
 none_stands refs suites key (Some x) h = absurd h
 
 -- the row is one of a shelf of these suites
-abbrev pub OnSome : List Suite → ℕ × Item → Type 0
+abbrev pub OnSome : List Suite → ℕ × ItemRow → Type 0
 OnSome suites x = ∥ ((key : ShelfKey) × (key.suite < length suites) × IsTrue (is_on suites key x)) ∥₁
 
 -- The rows of items and the rows of their files are those of what is shown.
-pub record Shelved (suites : List Suite) (items : Numbered Item) (refs : List Ref) (shown : ShelvesValue) : Type 0 where
+pub record Shelved (suites : List Suite) (items : Numbered ItemRow) (refs : List Ref) (shown : ShelvesValue) : Type 0 where
   pub stands : (key : ShelfKey) → key.suite < length suites → Stands refs suites key (find (is_on suites key) items) (get shown key)
   pub within : (key : ShelfKey) (item : shelf.Item) → get shown key ≡ Some item → key.suite < length suites
   pub rows : AllByRecursion (OnSome suites) items
@@ -203,7 +193,7 @@ refs_kept : (refs : List Ref) (k id : ℕ) → nat_eq k id ≡ false → filter 
 refs_kept refs k id apart = filter-filter (is_ref_of k) (λ r. not (is_ref_of id r)) (λ r at. not_from_false (is_ref_of id r) (ne_eqb r.item id (λ same.
     both_ways (nat_eq k id) apart (eq-eqb k id (sym (eqb-true r.item k at) ∙ same))))) refs
 
-module _ (suites : List Suite) (differ : AllPairs (λ s r. s.codename ≢ r.codename) suites) (items : Numbered Item) (refs : List Ref) (shown : ShelvesValue) (was : Shelved suites items refs shown) where
+module _ (suites : List Suite) (differ : AllPairs (λ s r. s.codename ≢ r.codename) suites) (items : Numbered ItemRow) (refs : List Ref) (shown : ShelvesValue) (was : Shelved suites items refs shown) where
   -- nothing stands there
   pub drop_none : (key : ShelfKey) → key.suite < length suites → find (is_on suites key) items ≡ None → Shelved suites items refs (remove shown key)
   drop_none key lt none = record {
@@ -225,7 +215,7 @@ module _ (suites : List Suite) (differ : AllPairs (λ s r. s.codename ≢ r.code
           go true tied = sym (ap (get shown) (same_keys key_order-IsAntisymmetric k key tied) ∙ free)
           go false apart = refl
 
-  pub drop_some : (key : ShelfKey) (x : ℕ × Item) → key.suite < length suites → find (is_on suites key) items ≡ Some x
+  pub drop_some : (key : ShelfKey) (x : ℕ × ItemRow) → key.suite < length suites → find (is_on suites key) items ≡ Some x
       → Shelved suites (delete_where (λ y. nat_eq y.0 x.0) items) (delete_where (is_ref_of x.0) refs) (remove shown key)
   drop_some key x lt found = record {
     stands = λ k p. stands_at left suites k _ _ _ _ refl (get-remove key_order_total shown key k) (at k p (eq_by_cmp key_order k key) refl);
@@ -237,7 +227,7 @@ module _ (suites : List Suite) (differ : AllPairs (λ s r. s.codename ≢ r.code
     rise = ascending-filter (λ a b. a.0 < b.0) (λ y. not (gone y)) items was.rise;
   }
     where
-      gone : ℕ × Item → Bool
+      gone : ℕ × ItemRow → Bool
       gone y = nat_eq y.0 x.0
 
       left : List Ref
@@ -261,7 +251,7 @@ module _ (suites : List Suite) (differ : AllPairs (λ s r. s.codename ≢ r.code
       only = only_one (is_on suites key) items x
           (ascending_of items was.apart) found
         where
-          ascending_of : (ys : Numbered Item) → IsAscending (λ a b. same_shelf a.1 b.1 ≡ false) ys → IsAscending (λ a b. is_on suites key a ≡ true → is_on suites key b ≡ false) ys
+          ascending_of : (ys : Numbered ItemRow) → IsAscending (λ a b. same_shelf a.1 b.1 ≡ false) ys → IsAscending (λ a b. is_on suites key a ≡ true → is_on suites key b ≡ false) ys
           ascending_of [] up = tt
           ascending_of (y ∷ ys) up = (
             all_weaker (λ z. same_shelf y.1 z.1 ≡ false) (λ z. is_on suites key y ≡ true → is_on suites key z ≡ false) (λ z fails at. on_same suites key y z fails at) ys up.0,
@@ -274,7 +264,7 @@ module _ (suites : List Suite) (differ : AllPairs (λ s r. s.codename ≢ r.code
           let same : k ≡ key = same_keys key_order-IsAntisymmetric k key tied in
           stands_at left suites k _ None None None
           (ap (λ q. find (is_on suites q) (delete_where gone items)) same
-          ∙ find_gone (is_on suites key) gone items (all_weaker (λ y. is_on suites key y ≡ true → y ≡ x) (λ y. is_on suites key y ≡ true → gone y ≡ true) (λ y h holds. eq-eqb y.0 x.0 (ap (λ (z : ℕ × Item). z.0) (h holds))) items only))
+          ∙ find_gone (is_on suites key) gone items (all_weaker (λ y. is_on suites key y ≡ true → y ≡ x) (λ y. is_on suites key y ≡ true → gone y ≡ true) (λ y h holds. eq-eqb y.0 x.0 (ap (λ (z : ℕ × ItemRow). z.0) (h holds))) items only))
           refl tt
       at k p false apart =
           let off : is_on suites k x ≡ false = not_on suites differ k key x p lt apart on in
@@ -309,7 +299,7 @@ unfolding refs_for
 refs_of_item id item = all-map (λ (r : Ref). r.item ≡ id) _ (λ f. refl) (enumerate_from 1 item.files)
 
 -- a number above all is that of no item
-above_all : (items : Numbered Item) (n id : ℕ) → AllByRecursion (λ y. y.0 < n) items → list_any (λ y. nat_eq y.0 id) items ≡ true → id ≡ n → ⊥
+above_all : (items : Numbered ItemRow) (n id : ℕ) → AllByRecursion (λ y. y.0 < n) items → list_any (λ y. nat_eq y.0 id) items ≡ true → id ≡ n → ⊥
 above_all [] n id below some same = cc
 above_all (y ∷ ys) n id below some same = go (nat_eq y.0 id) refl some (λ more. above_all ys n id below.1 more same)
   where
@@ -317,7 +307,7 @@ above_all (y ∷ ys) n id below some same = go (nat_eq y.0 id) refl some (λ mor
     go true at s more = let e = eqb-true y.0 id at in let lt = below.0 in absurd (omega arith)
     go false at s more = more s
 
-module _ (suites : List Suite) (differ : AllPairs (λ s r. s.codename ≢ r.codename) suites) (items : Numbered Item) (refs : List Ref) (shown : ShelvesValue) (was : Shelved suites items refs shown) where
+module _ (suites : List Suite) (differ : AllPairs (λ s r. s.codename ≢ r.codename) suites) (items : Numbered ItemRow) (refs : List Ref) (shown : ShelvesValue) (was : Shelved suites items refs shown) where
   pub put_shelf : (e : ShelfKey × shelf.Item) → e.0.suite < length suites → get shown e.0 ≡ None
       → Shelved suites (added items (item_row suites e)) (refs ++ refs_for (next_in items) e.1) (insert shown e.0 e.1)
   put_shelf e lt free = record {
@@ -328,17 +318,17 @@ module _ (suites : List Suite) (differ : AllPairs (λ s r. s.codename ≢ r.code
         (all_weaker (λ y. is_on suites e.0 y ≡ false) (λ y. AllByRecursion (λ z. same_shelf y.1 z.1 ≡ false) (x ∷ [])) (λ y off. (same_shelf_back y.1 x.1 (apart_from suites e.0 x y (row_on suites e n) off), tt)) items vacant);
     owned = all-append (λ (r : Ref). list_any (λ y. nat_eq y.0 r.item) (items ++ x ∷ []) ≡ true) refs (refs_for n e.1)
         (all_weaker (λ (r : Ref). list_any (λ y. nat_eq y.0 r.item) items ≡ true) (λ r. list_any (λ y. nat_eq y.0 r.item) (items ++ x ∷ []) ≡ true)
-        (λ r some. list_any-append (λ (y : ℕ × Item). nat_eq y.0 r.item) items (x ∷ []) ∙ or_left (list_any (λ (y : ℕ × Item). nat_eq y.0 r.item) items) (list_any (λ (y : ℕ × Item). nat_eq y.0 r.item) (x ∷ [])) some) refs was.owned)
+        (λ r some. list_any-append (λ (y : ℕ × ItemRow). nat_eq y.0 r.item) items (x ∷ []) ∙ or_left (list_any (λ (y : ℕ × ItemRow). nat_eq y.0 r.item) items) (list_any (λ (y : ℕ × ItemRow). nat_eq y.0 r.item) (x ∷ [])) some) refs was.owned)
         (all_weaker (λ (r : Ref). r.item ≡ n) (λ r. list_any (λ y. nat_eq y.0 r.item) (items ++ x ∷ []) ≡ true)
-        (λ r its. list_any-append (λ (y : ℕ × Item). nat_eq y.0 r.item) items (x ∷ [])
-        ∙ or_right (list_any (λ (y : ℕ × Item). nat_eq y.0 r.item) items) (list_any (λ (y : ℕ × Item). nat_eq y.0 r.item) (x ∷ [])) (or_left (nat_eq n r.item) false (eq-eqb n r.item (sym its)))) (refs_for n e.1) (refs_of_item n e.1));
+        (λ r its. list_any-append (λ (y : ℕ × ItemRow). nat_eq y.0 r.item) items (x ∷ [])
+        ∙ or_right (list_any (λ (y : ℕ × ItemRow). nat_eq y.0 r.item) items) (list_any (λ (y : ℕ × ItemRow). nat_eq y.0 r.item) (x ∷ [])) (or_left (nat_eq n r.item) false (eq-eqb n r.item (sym its)))) (refs_for n e.1) (refs_of_item n e.1));
     rise = up;
   }
     where
       n : ℕ
       n = next_in items
 
-      x : ℕ × Item
+      x : ℕ × ItemRow
       x = (n, item_row suites e)
 
       more : List Ref
@@ -364,7 +354,7 @@ module _ (suites : List Suite) (differ : AllPairs (λ s r. s.codename ≢ r.code
       inside k true item tied h = subst (λ (q : ShelfKey). q.suite < length suites) (sym (same_keys key_order-IsAntisymmetric k e.0 tied)) lt
       inside k false item tied h = was.within k item h
 
-      or_none : (o : Option (ℕ × Item)) → option_or o None ≡ o
+      or_none : (o : Option (ℕ × ItemRow)) → option_or o None ≡ o
       or_none None = refl
       or_none (Some y) = refl
 

@@ -17,30 +17,30 @@ use Rattle.tables.specs.Pieces.{is_of}
 use Rattle.tables.specs.Rows.{Numbered, Rises, Tables, rows_of}
 use Rattle.tables.specs.Uploads.{is_judged as has_place, is_upload, with_verdict}
 use Rattle.tables.specs.Wants.{is_wanted_by, without_wants}
-use Rattle.tables.specs.declared.rows.Arrival as rows_arrival
-use Rattle.tables.specs.declared.rows.Upload.{Upload}
+use Rattle.tables.specs.declared.rows.ArrivalRow.{ArrivalRow}
+use Rattle.tables.specs.declared.rows.UploadRow.{UploadRow}
 use Rattle.tables.specs.declared.rows.Want.{Want}
-use Rattle.tables_meaning.specs.Kept.{AreNumbered, AreUploads, arrivals_in, bytes_of, is_placed, judged_row, request_of, sign_in}
+use Rattle.tables_meaning.specs.Kept.{AreNumbered, AreUploads, Request, arrivals_in, bytes_of, is_placed, judged_row, request_of, sign_in}
 use Rattle.tables_meaning.specs.Making.{with_judged}
 use Rattle.tables_meaning.proofs.StepLemmas.{rises_changed}
 use Rattle.tables_meaning.proofs.RowLists.{found_passes, found_holds, none_passes, all_filtered}
 use Rattle.tables_meaning.proofs.Searches.{all_both, ascending_with, ascending_both, map_same_on, filter_same_on, filter_twice, list_any-map, any_same, any_weaker, any_is, found_any, some_found}
-use Rattle.tables_meaning.proofs.WantLemmas.{Sign, Request, is_sign, is_sign-Decides, is_sign-turned, entry_in, request, is_waiting, waits_as, AreRows, any_waiting, or_false}
+use Rattle.tables_meaning.proofs.WantLemmas.{Sign, is_sign, is_sign-Decides, is_sign-turned, entry_in, request, is_waiting, waits_as, AreRows, any_waiting, or_false}
 use Rattle.tables_meaning.proofs.RequestLemmas.{requests, rows_from_uploads, uploads_from_rows}
 
 -- ---- the row of one upload
 
 -- a row beside that of the upload of a name and print
-pub record IsOne (s : Sign) (one x : ℕ × Upload) : Type 0 where
+pub record IsOne (s : Sign) (one x : ℕ × UploadRow) : Type 0 where
   pub test : nat_eq x.0 one.0 ≡ is_sign s (sign_in x.1)
   pub same : nat_eq x.0 one.0 ≡ true → x ≡ one
 
-row_of_sign : (s : Sign) (one : ℕ × Upload) (uploads : Numbered Upload) → Rises uploads → IsAscending (λ x y. sign_in x.1 ≢ sign_in y.1) uploads
+row_of_sign : (s : Sign) (one : ℕ × UploadRow) (uploads : Numbered UploadRow) → Rises uploads → IsAscending (λ x y. sign_in x.1 ≢ sign_in y.1) uploads
     → find (λ x. is_sign s (sign_in x.1)) uploads ≡ Some one → AllByRecursion (IsOne s one) uploads
 row_of_sign s one [] rise apart e = tt
 row_of_sign s one (x ∷ uploads) rise apart e = go (is_sign s (sign_in x.1)) refl e (row_of_sign s one uploads rise.1 apart.1)
   where
-    other : x ≡ one → is_sign s (sign_in x.1) ≡ true → (y : ℕ × Upload) → (x.0 < y.0) × (sign_in x.1 ≢ sign_in y.1) → IsOne s one y
+    other : x ≡ one → is_sign s (sign_in x.1) ≡ true → (y : ℕ × UploadRow) → (x.0 < y.0) × (sign_in x.1 ≢ sign_in y.1) → IsOne s one y
     other same t y h =
         let first : x.0 ≡ one.0 = ap (λ z. z.0) same in
         let later = h.0 in
@@ -65,10 +65,10 @@ row_of_sign s one (x ∷ uploads) rise apart e = go (is_sign s (sign_in x.1)) re
 -- ---- one row more in the order of judging
 
 -- the rows with the place and the verdict of this number
-abbrev pub placed : ℕ → ℕ → ℕ → ℕ × Upload → ℕ × Upload
+abbrev pub placed : ℕ → ℕ → ℕ → ℕ × UploadRow → ℕ × UploadRow
 placed id place verdict x = cond (nat_eq x.0 id) (x.0, record x.1 { place = Some place; verdict = Some verdict }) x
 
-found_else : (id place verdict m : ℕ) → nat_eq place m ≡ false → (uploads : Numbered Upload) → AllByRecursion (λ x. nat_eq x.0 id ≡ true → x.1.place ≡ None) uploads
+found_else : (id place verdict m : ℕ) → nat_eq place m ≡ false → (uploads : Numbered UploadRow) → AllByRecursion (λ x. nat_eq x.0 id ≡ true → x.1.place ≡ None) uploads
     → find (is_placed m) (rows_of (map (placed id place verdict) uploads)) ≡ find (is_placed m) (rows_of uploads)
 found_else id place verdict m apart [] all = refl
 found_else id place verdict m apart (x ∷ uploads) all = go (nat_eq x.0 id) refl (found_else id place verdict m apart uploads all.1)
@@ -78,7 +78,7 @@ found_else id place verdict m apart (x ∷ uploads) all = go (nat_eq x.0 id) ref
     go true t more = rw (apart, all.0 t) more
     go false t more = ap (cond (is_placed m x.1) (Some x.1)) more
 
-found_now : (id place verdict : ℕ) (row : Upload) (uploads : Numbered Upload)
+found_now : (id place verdict : ℕ) (row : UploadRow) (uploads : Numbered UploadRow)
     → AllByRecursion (λ x. (is_placed place x.1 ≡ false) × (nat_eq x.0 id ≡ true → record x.1 { place = Some place; verdict = Some verdict } ≡ row)) uploads
     → list_any (λ x. nat_eq x.0 id) uploads ≡ true
     → find (is_placed place) (rows_of (map (placed id place verdict) uploads)) ≡ Some row
@@ -105,7 +105,7 @@ others_are [] x (suc n) h = refl
 others_are (y ∷ xs) x zero h = refl
 others_are (y ∷ xs) x (suc n) h = others_are xs x n (λ e. h (ap suc e))
 
-not_at : (place : ℕ) (u : Upload) → is_placed place u ≡ false → u.place ≢ Some place
+not_at : (place : ℕ) (u : UploadRow) → is_placed place u ≡ false → u.place ≢ Some place
 not_at place u h e = both_ways (is_placed place u) h (rw (e, eq-eqb place place refl))
 
 keeps : (b : Bool) → b ≡ b && not false
@@ -113,8 +113,8 @@ keeps true = refl
 keeps false = refl
 
 -- the judged upload's row, and the wants of the others
-module _ (uploads : Numbered Upload) (wants : List Want) (verdicts : List Judgement) (requests : List Request) (rise : Rises uploads)
-    (are : AreRows uploads wants verdicts requests) (j : Judgement) (one : ℕ × Upload) (found : find (λ x. is_sign (sign_on j) (sign_in x.1)) uploads ≡ Some one)
+module _ (uploads : Numbered UploadRow) (wants : List Want) (verdicts : List Judgement) (requests : List Request) (rise : Rises uploads)
+    (are : AreRows uploads wants verdicts requests) (j : Judgement) (one : ℕ × UploadRow) (found : find (λ x. is_sign (sign_on j) (sign_in x.1)) uploads ≡ Some one)
     (waits : one.1.place ≡ None) where
   abbrev s : Sign
   s = sign_on j
@@ -122,7 +122,7 @@ module _ (uploads : Numbered Upload) (wants : List Want) (verdicts : List Judgem
   abbrev place : ℕ
   place = length verdicts + 1
 
-  abbrev turn : ℕ × Upload → ℕ × Upload
+  abbrev turn : ℕ × UploadRow → ℕ × UploadRow
   turn = placed one.0 place (number_of j.verdict)
 
   abbrev left : List Want
@@ -131,7 +131,7 @@ module _ (uploads : Numbered Upload) (wants : List Want) (verdicts : List Judgem
   ones : AllByRecursion (IsOne s one) uploads
   ones = row_of_sign s one uploads rise are.apart found
 
-  still_waiting : (x : ℕ × Upload) → is_waiting (turn x) ≡ is_waiting x && not (nat_eq x.0 one.0)
+  still_waiting : (x : ℕ × UploadRow) → is_waiting (turn x) ≡ is_waiting x && not (nat_eq x.0 one.0)
   still_waiting x =
       elim (nat_eq x.0 one.0) as (λ b. is_waiting (cond b (x.0, record x.1 { place = Some place; verdict = Some (number_of j.verdict) }) x) ≡ is_waiting x && not b) [
         | true ↦ sym (and_right (is_waiting x) false refl)
@@ -139,7 +139,7 @@ module _ (uploads : Numbered Upload) (wants : List Want) (verdicts : List Judgem
       ]
 
   -- the wants of another upload stay
-  wants_left : (x : ℕ × Upload) → nat_eq x.0 one.0 ≡ false → request left (turn x) ≡ request wants x
+  wants_left : (x : ℕ × UploadRow) → nat_eq x.0 one.0 ≡ false → request left (turn x) ≡ request wants x
   wants_left x apart =
       rw apart (ap (λ l. (sign_in x.1, map entry_in l)) (filter-filter (is_wanted_by x.0) (λ w. not (is_wanted_by one.0 w)) (λ w e. implied w e (is_wanted_by one.0 w) refl) wants))
     where
@@ -172,7 +172,7 @@ module _ (uploads : Numbered Upload) (wants : List Want) (verdicts : List Judgem
       ∙ h)
       wants are.owned)
     where
-      same : (k : ℕ) → nat_eq k one.0 ≡ false → (x : ℕ × Upload) (b : Bool) → nat_eq x.0 one.0 ≡ b
+      same : (k : ℕ) → nat_eq k one.0 ≡ false → (x : ℕ × UploadRow) (b : Bool) → nat_eq x.0 one.0 ≡ b
           → waits_as k (cond b (x.0, record x.1 { place = Some place; verdict = Some (number_of j.verdict) }) x) ≡ waits_as k x
       same k apart x true e =
           let not_k : nat_eq x.0 k ≡ false = ne_eqb x.0 k (λ q. both_ways (nat_eq k one.0) apart (eq-eqb k one.0 (sym q ∙ eqb-true x.0 one.0 e))) in
@@ -184,7 +184,7 @@ module _ (uploads : Numbered Upload) (wants : List Want) (verdicts : List Judgem
       all_map (λ x. x.1.place ≡ None → x.1.verdict ≡ None) turn uploads
       (all_weaker (λ x. x.1.place ≡ None → x.1.verdict ≡ None) (λ x. (turn x).1.place ≡ None → (turn x).1.verdict ≡ None) each uploads are.unjudged)
     where
-      each : (x : ℕ × Upload) → (x.1.place ≡ None → x.1.verdict ≡ None) → (turn x).1.place ≡ None → (turn x).1.verdict ≡ None
+      each : (x : ℕ × UploadRow) → (x.1.place ≡ None → x.1.verdict ≡ None) → (turn x).1.place ≡ None → (turn x).1.verdict ≡ None
       each x h =
           elim (nat_eq x.0 one.0) as (λ b.
           (cond b (x.0, record x.1 { place = Some place; verdict = Some (number_of j.verdict) }) x).1.place ≡ None
@@ -197,7 +197,7 @@ module _ (uploads : Numbered Upload) (wants : List Want) (verdicts : List Judgem
   free : AllByRecursion (λ x. is_placed place x.1 ≡ false) uploads
   free = all_unmap (λ u. is_placed place u ≡ false) (λ x. x.1) uploads (none_passes (is_placed place) (rows_of uploads) (are.places (length verdicts) ∙ ap (option_map (judged_row place)) (none_at_end verdicts)))
 
-  row_is : (x : ℕ × Upload) → x ≡ one → record x.1 { place = Some place; verdict = Some (number_of j.verdict) } ≡ judged_row place j
+  row_is : (x : ℕ × UploadRow) → x ≡ one → record x.1 { place = Some place; verdict = Some (number_of j.verdict) } ≡ judged_row place j
   row_is x same =
       ap (λ (r : Sign). record { name = r.0; print = r.1; place = Some place; verdict = Some (number_of j.verdict) })
       (ap (λ y. sign_in y.1) same ∙ (is_sign-Decides s (sign_in one.1)).0 (found_passes (λ x. is_sign s (sign_in x.1)) uploads one found))
@@ -226,7 +226,7 @@ module _ (uploads : Numbered Upload) (wants : List Want) (verdicts : List Judgem
       all_map (λ x. x.1.place ≢ Some 0) turn uploads
       (all_weaker (λ x. x.1.place ≢ Some 0) (λ x. (turn x).1.place ≢ Some 0) each uploads are.from_one)
     where
-      each : (x : ℕ × Upload) → x.1.place ≢ Some 0 → (turn x).1.place ≢ Some 0
+      each : (x : ℕ × UploadRow) → x.1.place ≢ Some 0 → (turn x).1.place ≢ Some 0
       each x h =
           elim (nat_eq x.0 one.0) as (λ b. (cond b (x.0, record x.1 { place = Some place; verdict = Some (number_of j.verdict) }) x).1.place ≢ Some 0) [
             | true ↦ λ e. let k : length verdicts + 1 ≡ 0 = cc in omega (arith, k)
@@ -235,14 +235,14 @@ module _ (uploads : Numbered Upload) (wants : List Want) (verdicts : List Judgem
 
   placed_apart_then : IsAscending (λ x y. IsTrue (has_place x.1) → x.1.place ≢ y.1.place) (map turn uploads)
   placed_apart_then =
-      let Old : ℕ × Upload → ℕ × Upload → Type 0 = λ x y. (IsTrue (has_place x.1) → x.1.place ≢ y.1.place) × (x.0 < y.0) in
-      let Free : ℕ × Upload → Type 0 = λ x. is_placed place x.1 ≡ false in
+      let Old : ℕ × UploadRow → ℕ × UploadRow → Type 0 = λ x y. (IsTrue (has_place x.1) → x.1.place ≢ y.1.place) × (x.0 < y.0) in
+      let Free : ℕ × UploadRow → Type 0 = λ x. is_placed place x.1 ≡ false in
       ascending-map (λ x y. IsTrue (has_place x.1) → x.1.place ≢ y.1.place) turn uploads
       (ascending_weaker (λ x y. Old x y × Free x × Free y) (λ x y. IsTrue (has_place (turn x).1) → (turn x).1.place ≢ (turn y).1.place)
       (λ x y h. each x y h.0.0 h.0.1 h.1 h.2 (nat_eq x.0 one.0) (nat_eq y.0 one.0) refl refl) uploads
       (ascending_with Free Old uploads free (ascending_both (λ x y. IsTrue (has_place x.1) → x.1.place ≢ y.1.place) (λ x y. x.0 < y.0) uploads are.placed_apart rise)))
     where
-      each : (x y : ℕ × Upload) → (IsTrue (has_place x.1) → x.1.place ≢ y.1.place) → x.0 < y.0 → is_placed place x.1 ≡ false → is_placed place y.1 ≡ false
+      each : (x y : ℕ × UploadRow) → (IsTrue (has_place x.1) → x.1.place ≢ y.1.place) → x.0 < y.0 → is_placed place x.1 ≡ false → is_placed place y.1 ≡ false
           → (a b : Bool) → nat_eq x.0 one.0 ≡ a → nat_eq y.0 one.0 ≡ b
           → IsTrue (has_place (cond a (x.0, record x.1 { place = Some place; verdict = Some (number_of j.verdict) }) x).1)
           → (cond a (x.0, record x.1 { place = Some place; verdict = Some (number_of j.verdict) }) x).1.place ≢ (cond b (y.0, record y.1 { place = Some place; verdict = Some (number_of j.verdict) }) y).1.place
@@ -256,7 +256,7 @@ module _ (uploads : Numbered Upload) (wants : List Want) (verdicts : List Judgem
       ascending-map (λ x y. sign_in x.1 ≢ sign_in y.1) turn uploads
       (ascending_weaker (λ x y. sign_in x.1 ≢ sign_in y.1) (λ x y. sign_in (turn x).1 ≢ sign_in (turn y).1) (λ x y h e. h (sym (same x) ∙ e ∙ same y)) uploads are.apart)
     where
-      same : (x : ℕ × Upload) → sign_in (turn x).1 ≡ sign_in x.1
+      same : (x : ℕ × UploadRow) → sign_in (turn x).1 ≡ sign_in x.1
       same x =
           elim (nat_eq x.0 one.0) as (λ b. sign_in (cond b (x.0, record x.1 { place = Some place; verdict = Some (number_of j.verdict) }) x).1 ≡ sign_in x.1) [ true ↦ refl | false ↦ refl ]
 
@@ -273,9 +273,9 @@ module _ (uploads : Numbered Upload) (wants : List Want) (verdicts : List Judgem
   }
 
 -- a request has one row, which waits
-pub one_waits : (uploads : Numbered Upload) (wants : List Want) (verdicts : List Judgement) (requests : List Request) → Rises uploads
+pub one_waits : (uploads : Numbered UploadRow) (wants : List Want) (verdicts : List Judgement) (requests : List Request) → Rises uploads
     → AreRows uploads wants verdicts requests → (s : Sign) → list_any (λ r. is_sign s r.0) requests ≡ true
-    → (one : ℕ × Upload) × (find (λ x. is_sign s (sign_in x.1)) uploads ≡ Some one) × (one.1.place ≡ None)
+    → (one : ℕ × UploadRow) × (find (λ x. is_sign s (sign_in x.1)) uploads ≡ Some one) × (one.1.place ≡ None)
 one_waits uploads wants verdicts requests rise are s asked =
     let waiting = any_waiting uploads wants verdicts requests are s ∙ asked in
     let row = some_found (λ x. is_sign s (sign_in x.1)) uploads (any_weaker (λ x. is_waiting x && is_sign s (sign_in x.1)) (λ x. is_sign s (sign_in x.1)) (λ x h. (and_parts (is_waiting x) (is_sign s (sign_in x.1)) h).1) uploads waiting) in
@@ -343,7 +343,7 @@ judged_others place j t =
 pub same_arrivals : (old new : Tables) → new.arrivals ≡ old.arrivals → new.pieces ≡ old.pieces → arrivals_in new ≡ arrivals_in old
 unfolding arrivals_in bytes_of
 same_arrivals old new arrivals pieces =
-    ap₂ (λ rows parts. map (λ (a : rows_arrival.Arrival). record { name = a.name; body = flat_map (λ p. p.bytes) (filter (is_of a.body) (rows_of parts)); moment = a.moment }) (rows_of rows)) arrivals pieces
+    ap₂ (λ rows parts. map (λ (a : ArrivalRow). record { name = a.name; body = flat_map (λ p. p.bytes) (filter (is_of a.body) (rows_of parts)); moment = a.moment }) (rows_of rows)) arrivals pieces
 
 pub arrivals_judged : (place : ℕ) (j : Judgement) (t : Tables) → arrivals_in (with_judged place j t) ≡ arrivals_in t
 arrivals_judged place j t = let h = judged_others place j t in same_arrivals t (with_judged place j t) h.arrivals h.pieces
@@ -352,9 +352,9 @@ pub uploads_rise : (place : ℕ) (j : Judgement) (t : Tables) → Rises t.upload
 unfolding with_judged
 uploads_rise place j t rise = go (find (λ x. is_upload j.name j.print x.1) t.uploads)
   where
-    go : (o : Option (ℕ × Upload)) → Rises (option_map_or (λ x. without_wants x.0 (with_verdict x.0 place (number_of j.verdict) t)) o t).uploads
+    go : (o : Option (ℕ × UploadRow)) → Rises (option_map_or (λ x. without_wants x.0 (with_verdict x.0 place (number_of j.verdict) t)) o t).uploads
     go None = rise
-    go (Some one) = rises_changed (λ x. nat_eq x.0 one.0) (λ (u : Upload). record u { place = Some place; verdict = Some (number_of j.verdict) }) t.uploads rise
+    go (Some one) = rises_changed (λ x. nat_eq x.0 one.0) (λ (u : UploadRow). record u { place = Some place; verdict = Some (number_of j.verdict) }) t.uploads rise
 
 pub judged_numbered : (place : ℕ) (j : Judgement) (t : Tables) → AreNumbered t → AreNumbered (with_judged place j t)
 judged_numbered place j t h =
@@ -366,7 +366,7 @@ judged_numbered place j t h =
       items = subst Rises (sym stay.items) h.items;
     }
 
-judged_row_found : (place : ℕ) (j : Judgement) (t : Tables) (one : ℕ × Upload) → find (λ x. is_upload j.name j.print x.1) t.uploads ≡ Some one
+judged_row_found : (place : ℕ) (j : Judgement) (t : Tables) (one : ℕ × UploadRow) → find (λ x. is_upload j.name j.print x.1) t.uploads ≡ Some one
     → with_judged place j t ≡ without_wants one.0 (with_verdict one.0 place (number_of j.verdict) t)
 unfolding with_judged
 judged_row_found place j t one e = ap (λ o. option_map_or (λ x. without_wants x.0 (with_verdict x.0 place (number_of j.verdict) t)) o t) e

@@ -8,18 +8,18 @@ use Rattle.std.proofs.lemmas.List.{length_push}
 use Rattle.sqlite_trees.specs.Tree.{IsAscending}
 use Rattle.sqlite_keyed.proofs.ListLemmas.{all-filter, all_map, all_weaker, ascending-filter, ascending-map, ascending_from_map}
 use Rattle.rules.specs.declared.suite.Suite.{Suite}
-use Rattle.keep.specs.Book.{Book, Candidate, candidate_of, candidates, due, in_order, is_complete, is_judged, judgements, judging_order, put_in_order, unjudged}
+use Rattle.keep.specs.Book.{Book, Candidate, candidate_of, candidate_order, candidates, due, in_order, is_complete, is_judged, judgements, put_in_order, unjudged}
 use Rattle.keep.specs.Keeping.{sign_of, sign_on}
 use Rattle.keep.specs.declared.arrival.Arrival.{Arrival}
 use Rattle.keep.specs.declared.change.Judgement.{Judgement}
 use Rattle.keep.specs.declared.change.Step.{Step}
 use Rattle.tables.specs.Rows.{Rises, Tables, rows_of}
-use Rattle.tables_meaning.specs.Kept.{AreNumbered, AreUploads, arrivals_in, request_of, sign_in}
+use Rattle.tables_meaning.specs.Kept.{AreNumbered, AreUploads, Request, arrivals_in, request_of, sign_in}
 use Rattle.tables_meaning.specs.Planned.{KeepsOthers}
 use Rattle.tables_meaning.specs.Making.{with_judged, with_plan, with_step, with_steps}
 use Rattle.tables_meaning.proofs.PlanLemmas.{plan_keeps}
 use Rattle.tables_meaning.proofs.Searches.{any_same, list_any-filter, list_any-map}
-use Rattle.tables_meaning.proofs.WantLemmas.{Request, Sign, is_sign, is_sign-Decides, is_waiting, request}
+use Rattle.tables_meaning.proofs.WantLemmas.{Sign, is_sign, is_sign-Decides, is_waiting, request}
 use Rattle.tables_meaning.proofs.RequestLemmas.{requests, rows_from_uploads, uploads_from_rows}
 use Rattle.tables_meaning.proofs.JudgedLemmas.{arrivals_judged, judged_if_asked, requests_judged, same_arrivals, uploads_rise}
 
@@ -97,7 +97,7 @@ any_itself p itself (x ∷ xs) = (
 all_put : (P : Candidate → Type 0) (c : Candidate) (cs : List Candidate) → P c → AllByRecursion P cs → AllByRecursion P (put_in_order c cs)
 all_put P c [] h all = (h, tt)
 all_put P c (d ∷ cs) h all =
-    elim (is_gt (judging_order c d)) as (λ b. AllByRecursion P (cond b (d ∷ put_in_order c cs) (c ∷ d ∷ cs))) [ true ↦ (all.0, all_put P c cs h all.1) | false ↦ (h, all) ]
+    elim (is_gt (candidate_order c d)) as (λ b. AllByRecursion P (cond b (d ∷ put_in_order c cs) (c ∷ d ∷ cs))) [ true ↦ (all.0, all_put P c cs h all.1) | false ↦ (h, all) ]
 
 pub all_in_order : (P : Candidate → Type 0) (cs : List Candidate) → AllByRecursion P cs → AllByRecursion P (in_order cs)
 all_in_order P [] all = tt
@@ -110,7 +110,7 @@ Differ c d = sign_of c ≢ sign_of d
 differ_put : (c : Candidate) (cs : List Candidate) → AllByRecursion (Differ c) cs → IsAscending Differ cs → IsAscending Differ (put_in_order c cs)
 differ_put c [] h up = (tt, tt)
 differ_put c (d ∷ cs) h up =
-    elim (is_gt (judging_order c d)) as (λ b. IsAscending Differ (cond b (d ∷ put_in_order c cs) (c ∷ d ∷ cs))) [
+    elim (is_gt (candidate_order c d)) as (λ b. IsAscending Differ (cond b (d ∷ put_in_order c cs) (c ∷ d ∷ cs))) [
       | true ↦ (all_put (Differ d) c cs (λ e. h.0 (sym e)) up.0, differ_put c cs h.1 up.1)
       | false ↦ (h, up)
     ]

@@ -8,7 +8,7 @@ use Rattle.rules.specs.Values.{ConfigValue}
 use Rattle.keep.specs.Book.{Book}
 use Rattle.keep.specs.declared.change.Judgement.{Judgement}
 use Rattle.tables.specs.Rows.{IsArchive, tables_in}
-use Rattle.tables_meaning.specs.Archives.{IsRead, KeepsArchive, KeepsLeft, book_of}
+use Rattle.tables_meaning.specs.Archives.{IsRead, KeepsArchive, KeepsLeft, book_in_database}
 use Rattle.tables_meaning.specs.Shown.{shown_in}
 
 -- the database keeps an archive of this configuration, which shows what its rows show
@@ -36,8 +36,8 @@ module _ {config : ConfigValue} {judged : List Judgement} {dates : List ℕ} (a 
   still_kept clean up = subst (Keeps config judged dates) (sym (still_committed clean up)) (was_kept clean up)
 
   pub same_after : HasCleanDisk b → IsTrue b.is_open
-      → book_of b.committed config judged (shown_in config.suites (tables_in b.committed)) dates ≡ book_of a.committed config judged (shown_in config.suites (tables_in a.committed)) dates
-  same_after clean up = ap (λ db. book_of db config judged (shown_in config.suites (tables_in db)) dates) (still_committed clean up)
+      → book_in_database b.committed config judged (shown_in config.suites (tables_in b.committed)) dates ≡ book_in_database a.committed config judged (shown_in config.suites (tables_in a.committed)) dates
+  same_after clean up = ap (λ db. book_in_database db config judged (shown_in config.suites (tables_in db)) dates) (still_committed clean up)
 
   -- a crash leaves nothing new
   pub left_before : HasCleanDisk b → (left : Option Book) → ((trees : Trees) × b.may_leave trees × KeepsLeft trees left) → (trees : Trees) × a.may_leave trees × KeepsLeft trees left

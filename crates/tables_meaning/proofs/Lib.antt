@@ -1,7 +1,5 @@
 pub mod Inside
 pub mod RowLists
-pub mod PairLemmas
-pub mod NameLemmas
 pub mod AsciiLemmas
 pub mod AsciiPaths
 pub mod AsciiItems

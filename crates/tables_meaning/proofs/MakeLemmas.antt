@@ -8,11 +8,11 @@ use Rattle.keep.specs.Book.{latest}
 use Rattle.keep.specs.Plain.{fresh_book}
 use Rattle.tables.specs.Rows.{Holds, tables_in}
 use Rattle.tables.proofs.BookLemmas.{held_tables}
-use Rattle.tables_meaning.specs.Archives.{KeepsArchive, book_of}
+use Rattle.tables_meaning.specs.Archives.{KeepsArchive, book_in_database}
 use Rattle.tables_meaning.specs.Coming.{HasComing}
 use Rattle.tables_meaning.specs.Finished.{finished}
 use Rattle.tables_meaning.specs.Founding.{first_dates, founded}
-use Rattle.tables_meaning.specs.Kept.{IsKept, book_in}
+use Rattle.tables_meaning.specs.Kept.{IsBook, book_in}
 use Rattle.tables_meaning.specs.Shown.{shown_in}
 use Rattle.tables_meaning.proofs.CallLemmas.{shown_here}
 use Rattle.tables_meaning.proofs.ComingLemmas.{none_coming}
@@ -30,13 +30,13 @@ module _ (db : Database) (config : ConfigValue) (moment : ℕ) (read : config_in
       let same = held_tables db (founded config moment) held in
       record {
         held = subst (Holds db) (sym same) held;
-        kept = subst (λ t. IsKept t config [] empty (first_dates config moment)) (sym (ap finished same ∙ founded_finished)) (founded_is_kept config moment read early);
+        kept = subst (λ t. IsBook t config [] empty (first_dates config moment)) (sym (ap finished same ∙ founded_finished)) (founded_is_kept config moment read early);
         coming = finished_under_way (tables_in db) (ap finished same ∙ founded_finished ∙ sym same);
       }
 
-  pub founded_here : book_of db config [] (shown_in config.suites (tables_in db)) (first_dates config moment) ≡ fresh_book config moment
+  pub founded_here : book_in_database db config [] (shown_in config.suites (tables_in db)) (first_dates config moment) ≡ fresh_book config moment
   founded_here =
-      ap (λ s. book_of db config [] s (first_dates config moment)) (shown_here db founded_archive)
+      ap (λ s. book_in_database db config [] s (first_dates config moment)) (shown_here db founded_archive)
       ∙ ap (book_in config [] empty (first_dates config moment)) (ap finished (held_tables db (founded config moment) held) ∙ founded_finished)
       ∙ founded_book config moment
 

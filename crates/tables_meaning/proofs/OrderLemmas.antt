@@ -1,13 +1,12 @@
 -- The uploads that are not judged, as the book has them and as the tables do, in the same order.
-use Rattle.std.proofs.Common.{◌≡◌, ℕ, Bool, true, false, not, if◌then◌else◌, List, [], ◌∷◌, map, filter, refl, ap, sym, ◌∙◌}
+use Rattle.std.proofs.Common.{◌≡◌, true, false, not, if◌then◌else◌, List, [], ◌∷◌, map, filter, refl, ap, sym, ◌∙◌}
 use Rattle.std.specs.Ordering.{is_gt}
 use Rattle.std.specs.declared.cmp.Ordering.{Ordering}
-use Rattle.sums.specs.declared.print.Print.{Print}
-use Rattle.keep.specs.Book.{Book, Candidate, candidates, in_order, is_judged, judging_order, put_in_order, unjudged}
+use Rattle.keep.specs.Book.{Book, Candidate, candidate_order, candidates, in_order, is_judged, judging_order, put_in_order, unjudged}
 use Rattle.keep.specs.Keeping.{sign_of}
 use Rattle.tables.specs.Rows.{Rises, Tables}
-use Rattle.tables_meaning.specs.Kept.{AreUploads, arrivals_in, request_in, request_of}
-use Rattle.tables_meaning.specs.Reads.{put_by, row_order, sign_order, sorted_by, wanting, wanting_rows}
+use Rattle.tables_meaning.specs.Kept.{AreUploads, Request, arrivals_in, request_in, request_of}
+use Rattle.tables_meaning.specs.Reads.{put_by, row_order, sorted_by, wanting, wanting_rows}
 use Rattle.tables_meaning.proofs.WantingLemmas.{wanting_unjudged}
 
 -- one more in its place, under a map that keeps the order
@@ -26,32 +25,27 @@ pub map-sorted_by : {X Y : Type 0} (f : X → Y) (o : X → X → Ordering) (p :
 map-sorted_by f o p same [] = refl
 map-sorted_by f o p same (x ∷ xs) = map-put_by f o p same x (sorted_by o xs) ∙ ap (put_by p (f x)) (map-sorted_by f o p same xs)
 
-put_in_order-put_by : (c : Candidate) (cs : List Candidate) → put_in_order c cs ≡ put_by judging_order c cs
+put_in_order-put_by : (c : Candidate) (cs : List Candidate) → put_in_order c cs ≡ put_by candidate_order c cs
 put_in_order-put_by c [] = refl
-put_in_order-put_by c (d ∷ ds) = ap (λ r. if is_gt (judging_order c d) then d ∷ r else c ∷ d ∷ ds) (put_in_order-put_by c ds)
+put_in_order-put_by c (d ∷ ds) = ap (λ r. if is_gt (candidate_order c d) then d ∷ r else c ∷ d ∷ ds) (put_in_order-put_by c ds)
 
-in_order-sorted_by : (cs : List Candidate) → in_order cs ≡ sorted_by judging_order cs
+in_order-sorted_by : (cs : List Candidate) → in_order cs ≡ sorted_by candidate_order cs
 in_order-sorted_by [] = refl
-in_order-sorted_by (c ∷ cs) = put_in_order-put_by c (in_order cs) ∙ ap (put_by judging_order c) (in_order-sorted_by cs)
+in_order-sorted_by (c ∷ cs) = put_in_order-put_by c (in_order cs) ∙ ap (put_by candidate_order c) (in_order-sorted_by cs)
 
-order_of_signs : (c d : Candidate) → judging_order c d ≡ sign_order (sign_of c) (sign_of d)
-unfolding judging_order sign_order
+order_of_signs : (c d : Candidate) → candidate_order c d ≡ judging_order (sign_of c) (sign_of d)
 order_of_signs c d = refl
-
--- a sign, and the entries with whether they have arrived
-abbrev Request : Type 0
-Request = (List ℕ × Print) × List (List ℕ × Print × Bool)
 
 -- the uploads that are not judged are the same, in the same order, and want the same
 pub unjudged_requests : (t : Tables) (b : Book) → b.arrivals ≡ arrivals_in t → Rises t.uploads → AreUploads t b.judged
     → map (request_in t) (wanting_rows t) ≡ map (request_of b.arrivals) (unjudged b)
 unfolding unjudged wanting_rows
 unjudged_requests t b same up uploads =
-    let by_sign : Request → Request → Ordering = λ r s. sign_order r.0 s.0 in
+    let by_sign : Request → Request → Ordering = λ r s. judging_order r.0 s.0 in
     let waiting = filter (λ c. not (is_judged b.judged c)) (candidates (arrivals_in t)) in
     map-sorted_by (request_in t) row_order by_sign (λ x y. refl) (wanting t)
     ∙ ap (λ xs. sorted_by by_sign (map (request_in t) xs)) (wanting_unjudged t b.judged up uploads)
     ∙ ap (sorted_by by_sign) uploads.waiting
-    ∙ sym (map-sorted_by (request_of (arrivals_in t)) judging_order by_sign order_of_signs waiting)
+    ∙ sym (map-sorted_by (request_of (arrivals_in t)) candidate_order by_sign order_of_signs waiting)
     ∙ ap (map (request_of (arrivals_in t))) (sym (in_order-sorted_by waiting))
     ∙ ap (λ arrivals. map (request_of arrivals) (in_order (filter (λ c. not (is_judged b.judged c)) (candidates arrivals)))) (sym same)

@@ -26,23 +26,23 @@ use Rattle.tables.specs.Rows.{Numbered, Tables, next_in, with_file, with_item, w
 use Rattle.tables.specs.Texts.{with_new_text}
 use Rattle.tables.specs.Uploads.{is_upload, with_verdict}
 use Rattle.tables.specs.Wants.{without_wants}
-use Rattle.tables.specs.declared.rows.Body.{Body}
-use Rattle.tables.specs.declared.rows.Item as row
+use Rattle.tables.specs.declared.rows.BodyRow.{BodyRow}
+use Rattle.tables.specs.declared.rows.ItemRow.{ItemRow}
 use Rattle.tables.specs.declared.rows.Piece.{Piece}
 use Rattle.tables.specs.declared.rows.Ref.{Ref}
-use Rattle.tables.specs.declared.rows.Upload.{Upload}
+use Rattle.tables.specs.declared.rows.UploadRow.{UploadRow}
 use Rattle.tables_meaning.specs.Finished.{finished, is_unfinished}
 use Rattle.tables_meaning.specs.Kept.{is_on, item_row, refs_for}
 use Rattle.tables_meaning.specs.Making.{judged_by, with_judged, with_new_dates, with_new_texts, with_plan, with_pooled, with_refs, with_shown, with_step, with_steps, with_written, without_shown}
 use Rattle.tables_meaning.proofs.FinishedLemmas.{body_finished}
 
 -- the rows with these bodies and pieces for theirs
-abbrev pub beside : Tables → Numbered Body → Numbered Piece → Tables
+abbrev pub beside : Tables → Numbered BodyRow → Numbered Piece → Tables
 beside t bodies pieces = record t { bodies = bodies; pieces = pieces }
 
 -- It makes the same of any bodies and pieces, where each print is that of the same number, and leaves them.
 abbrev pub Passes : (Tables → Tables) → Type 0
-Passes f = (t : Tables) (bodies : Numbered Body) (pieces : Numbered Piece) → ((p : Print) → body_with p bodies ≡ body_with p t.bodies) → f (beside t bodies pieces) ≡ beside (f t) bodies pieces
+Passes f = (t : Tables) (bodies : Numbered BodyRow) (pieces : Numbered Piece) → ((p : Print) → body_with p bodies ≡ body_with p t.bodies) → f (beside t bodies pieces) ≡ beside (f t) bodies pieces
 
 module _ (f : Tables → Tables) (passes : Passes f) where
   pub bodies_left : (t : Tables) → (f t).bodies ≡ t.bodies
@@ -79,13 +79,13 @@ passes_if f passes false = λ t bodies pieces same. refl
 passes_judged : (place : ℕ) (j : Judgement) → Passes (with_judged place j)
 unfolding with_judged
 passes_judged place j t =
-    passes_if_some (λ (x : ℕ × Upload) s. without_wants x.0 (with_verdict x.0 place (number_of j.verdict) s)) (λ x s bodies pieces same. refl) (find (λ x. is_upload j.name j.print x.1) t.uploads) t
+    passes_if_some (λ (x : ℕ × UploadRow) s. without_wants x.0 (with_verdict x.0 place (number_of j.verdict) s)) (λ x s bodies pieces same. refl) (find (λ x. is_upload j.name j.print x.1) t.uploads) t
 
 -- ---- a plan
 
 passes_without : (suites : List Suite) (e : ShelfKey × shelf.Item) → Passes (without_shown suites e)
 unfolding without_shown
-passes_without suites e t = passes_if_some (λ (x : ℕ × row.Item) s. without_item x.0 (without_refs x.0 s)) (λ x s bodies pieces same. refl) (find (is_on suites e.0) t.items) t
+passes_without suites e t = passes_if_some (λ (x : ℕ × ItemRow) s. without_item x.0 (without_refs x.0 s)) (λ x s bodies pieces same. refl) (find (is_on suites e.0) t.items) t
 
 passes_refs : (refs : List Ref) → Passes (with_refs refs)
 passes_refs refs = passes_fold (λ now r. with_ref r now) (λ r t bodies pieces same. refl) refs

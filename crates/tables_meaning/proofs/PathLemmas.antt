@@ -9,11 +9,11 @@ use Rattle.rules.specs.Configuration.{config_in}
 use Rattle.rules.specs.Values.{ConfigValue}
 use Rattle.rules.specs.declared.suite.Suite.{Suite}
 use Rattle.suites.specs.Shelves.{ShelvesValue}
-use Rattle.sums.proofs.Members.{all_at, all_from, from_map, here, no_member, pairs_head, pairs_tail, there}
+use Rattle.sums.proofs.Members.{all_at, all_from, from_map, here, no_member, pairs_head, there}
 use Rattle.texts.specs.Indices.{PathText, suite_path, suite_texts, texts_from}
 use Rattle.texts.specs.Release.{index_path}
-use Rattle.tables_meaning.proofs.NameLemmas.{AreNamed, CodenamesDiffer, IsNamed, config_named, folders, index_or_release, index_paths}
-use Rattle.tables_meaning.proofs.PairLemmas.{in_flat, pairs_append, pairs_flat, pairs_map, pairs_none, pairs_unmap}
+use Rattle.texts.proofs.Paths.{AreNamed, CodenamesDiffer, IsNamed, config_named, folders, index_or_release, index_paths, named_rest}
+use Rattle.texts.proofs.Pairs.{in_flat, pairs_append, pairs_flat, pairs_map, pairs_none, pairs_unmap}
 use Rattle.tables_meaning.proofs.TextLemmas.{HasPathsApart, folder_paths, paths_of, suite_paths}
 
 abbrev Differ : List ℕ → List ℕ → Type 0
@@ -59,9 +59,6 @@ of_suite shown suite (s ∷ ss) (d ∷ ds) path at =
           (s, here s ss, (rest.0, rest.2))
       | inr later ↦ let found = of_suite shown (suite + 1) ss ds path later in (found.0, there s found.0 ss found.1, found.2)
     ]
-
-named_rest : (s : Suite) (rest : List Suite) → AreNamed (s ∷ rest) → AreNamed rest
-named_rest s rest named = record { each = λ u at. named.each u (there s u rest at); apart = pairs_tail CodenamesDiffer s rest named.apart }
 
 paths_apart : (shown : ShelvesValue) (suite : ℕ) (suites : List Suite) (dates : List ℕ) → AreNamed suites → AllPairs Differ (paths_of (texts_from shown suite (zip suites dates)))
 unfolding texts_from

@@ -24,9 +24,9 @@ use Rattle.tables.specs.Files.{is_file_at, without_file}
 use Rattle.tables.specs.Items.{without_item}
 use Rattle.tables.specs.Refs.{is_ref_of, without_refs}
 use Rattle.tables.specs.Rows.{Tables, Numbered, Rises, next_in, rows_of, with_file, with_item, with_ref}
-use Rattle.tables.specs.declared.rows.Body.{Body}
+use Rattle.tables.specs.declared.rows.BodyRow.{BodyRow}
 use Rattle.tables.specs.declared.rows.File.{File}
-use Rattle.tables.specs.declared.rows.Item.{Item}
+use Rattle.tables.specs.declared.rows.ItemRow.{ItemRow}
 use Rattle.tables.specs.declared.rows.Ref.{Ref}
 use Rattle.tables_meaning.specs.Kept.{AreFiles, AreItems, AreNumbered, AreStored, has_body, is_on, item_row, refs_for, shown_row}
 use Rattle.tables_meaning.specs.Making.{with_plan, with_pooled, with_refs, with_shown, without_shown}
@@ -57,7 +57,7 @@ emptied_part : (suites : List Suite) (t : Tables) (e : ShelfKey × shelf.Item) �
 unfolding without_shown
 emptied_part suites t e = go (find (is_on suites e.0) t.items)
   where
-    go : (o : Option (ℕ × Item)) → option_map_or (λ x. without_item x.0 (without_refs x.0 t)) o t ≡ items_from t (option_map_or (λ x. without_item x.0 (without_refs x.0 t)) o t)
+    go : (o : Option (ℕ × ItemRow)) → option_map_or (λ x. without_item x.0 (without_refs x.0 t)) o t ≡ items_from t (option_map_or (λ x. without_item x.0 (without_refs x.0 t)) o t)
     go None = refl
     go (Some x) = refl
 
@@ -91,10 +91,10 @@ pooled_part t f = go (body_with f.print t.bodies)
 
 -- ---- items, as facts row by row
 
-abbrev shown_by : List Ref → ℕ × Item → Item × List Ref
+abbrev shown_by : List Ref → ℕ × ItemRow → ItemRow × List Ref
 shown_by refs x = (x.1, filter (is_ref_of x.0) refs)
 
-stands_from : (refs : List Ref) (suites : List Suite) (key : ShelfKey) (f : Option (ℕ × Item)) (a : Option shelf.Item)
+stands_from : (refs : List Ref) (suites : List Suite) (key : ShelfKey) (f : Option (ℕ × ItemRow)) (a : Option shelf.Item)
     → option_map (shown_by refs) f ≡ option_and_then (λ x. option_map (shown_row suites key x.0) a) f
     → option_map (λ _. true) f ≡ option_map (λ _. true) a → Stands refs suites key f a
 stands_from refs suites key None None are all = tt
@@ -102,14 +102,14 @@ stands_from refs suites key None (Some item) are all = cc
 stands_from refs suites key (Some x) None are all = cc
 stands_from refs suites key (Some x) (Some item) are all = some_is_one (shown_by refs x) (shown_row suites key x.0 item) are
 
-stands_are : (refs : List Ref) (suites : List Suite) (key : ShelfKey) (f : Option (ℕ × Item)) (a : Option shelf.Item)
+stands_are : (refs : List Ref) (suites : List Suite) (key : ShelfKey) (f : Option (ℕ × ItemRow)) (a : Option shelf.Item)
     → Stands refs suites key f a → option_map (shown_by refs) f ≡ option_and_then (λ x. option_map (shown_row suites key x.0) a) f
 stands_are refs suites key None None h = refl
 stands_are refs suites key None (Some item) h = absurd h
 stands_are refs suites key (Some x) None h = absurd h
 stands_are refs suites key (Some x) (Some item) h = ap Some h
 
-stands_all : (refs : List Ref) (suites : List Suite) (key : ShelfKey) (f : Option (ℕ × Item)) (a : Option shelf.Item)
+stands_all : (refs : List Ref) (suites : List Suite) (key : ShelfKey) (f : Option (ℕ × ItemRow)) (a : Option shelf.Item)
     → Stands refs suites key f a → option_map (λ _. true) f ≡ option_map (λ _. true) a
 stands_all refs suites key None None h = refl
 stands_all refs suites key None (Some item) h = absurd h
@@ -121,8 +121,8 @@ shelved t suites shown numbered h = record {
   stands = λ key lt. stands_from (rows_of t.refs) suites key (find (is_on suites key) t.items) (get shown key) (h.are key lt) (h.all key lt);
   within = h.within;
   rows = recursion_from_All (OnSome suites) t.items h.rows;
-  apart = ascending_from_map (λ x y. same_shelf x y ≡ false) (λ (x : ℕ × Item). x.1) t.items (ascending_from_pairs (λ x y. same_shelf x y ≡ false) (rows_of t.items) h.apart);
-  owned = recursion_from_All (λ (r : Ref). list_any (λ (x : ℕ × Item). nat_eq x.0 r.item) t.items ≡ true) (rows_of t.refs) h.owned;
+  apart = ascending_from_map (λ x y. same_shelf x y ≡ false) (λ (x : ℕ × ItemRow). x.1) t.items (ascending_from_pairs (λ x y. same_shelf x y ≡ false) (rows_of t.items) h.apart);
+  owned = recursion_from_All (λ (r : Ref). list_any (λ (x : ℕ × ItemRow). nat_eq x.0 r.item) t.items ≡ true) (rows_of t.refs) h.owned;
   rise = numbered.items;
 }
 
@@ -132,8 +132,8 @@ items_are t suites shown h = record {
   all = λ key lt. stands_all (rows_of t.refs) suites key (find (is_on suites key) t.items) (get shown key) (h.stands key lt);
   within = h.within;
   rows = All-from_recursion (OnSome suites) t.items h.rows;
-  apart = pairs_from_ascending (λ x y. same_shelf x y ≡ false) (rows_of t.items) (ascending-map (λ x y. same_shelf x y ≡ false) (λ (x : ℕ × Item). x.1) t.items h.apart);
-  owned = All-from_recursion (λ (r : Ref). list_any (λ (x : ℕ × Item). nat_eq x.0 r.item) t.items ≡ true) (rows_of t.refs) h.owned;
+  apart = pairs_from_ascending (λ x y. same_shelf x y ≡ false) (rows_of t.items) (ascending-map (λ x y. same_shelf x y ≡ false) (λ (x : ℕ × ItemRow). x.1) t.items h.apart);
+  owned = All-from_recursion (λ (r : Ref). list_any (λ (x : ℕ × ItemRow). nat_eq x.0 r.item) t.items ≡ true) (rows_of t.refs) h.owned;
 }
 
 -- ---- shelves are emptied and filled
@@ -149,9 +149,9 @@ module _ (suites : List Suite) (differ : AllPairs (λ s r. s.codename ≢ r.code
   unfolding without_shown
   emptied_one t shown e inside h = go (find (is_on suites e.0) t.items) refl
     where
-      go : (o : Option (ℕ × Item)) → find (is_on suites e.0) t.items ≡ o → Shows (option_map_or (λ x. without_item x.0 (without_refs x.0 t)) o t) (remove shown e.0)
+      go : (o : Option (ℕ × ItemRow)) → find (is_on suites e.0) t.items ≡ o → Shows (option_map_or (λ x. without_item x.0 (without_refs x.0 t)) o t) (remove shown e.0)
       go None is = drop_none suites differ t.items (rows_of t.refs) shown h e.0 inside is
-      go (Some x) is = subst (λ refs. Shelved suites (delete_where (λ (y : ℕ × Item). nat_eq y.0 x.0) t.items) refs (remove shown e.0))
+      go (Some x) is = subst (λ refs. Shelved suites (delete_where (λ (y : ℕ × ItemRow). nat_eq y.0 x.0) t.items) refs (remove shown e.0))
           (filter-map (λ (r : Ref). not (is_ref_of x.0 r)) (λ (y : ℕ × Ref). y.1) t.refs)
           (drop_some suites differ t.items (rows_of t.refs) shown h e.0 x inside is)
 
@@ -177,11 +177,11 @@ module _ (suites : List Suite) (differ : AllPairs (λ s r. s.codename ≢ r.code
 -- ---- the pool
 
 -- the tables have these bodies, and the rows of files are those of the pool
-pub record PoolShows (bodies : Numbered Body) (t : Tables) (held : PoolWith Print) : Type 0 where
+pub record PoolShows (bodies : Numbered BodyRow) (t : Tables) (held : PoolWith Print) : Type 0 where
   pub same : t.bodies ≡ bodies
   pub pooled : Pooled bodies (rows_of t.files) held
 
-module _ (bodies : Numbered Body) where
+module _ (bodies : Numbered BodyRow) where
   abbrev HasBody : List ℕ × Print → Type 0
   HasBody e = IsTrue (is_some (body_with e.1 bodies))
 
@@ -258,7 +258,7 @@ files_are t shown h = record {
 
 -- each body has a print
 pub all_printed : (t : Tables) → AreStored t → AllByRecursion (λ x. x.1.print ≢ None) t.bodies
-all_printed t h = recursion_from_All (λ (x : ℕ × Body). x.1.print ≢ None) t.bodies (λ k d lt none. let some = h.whole k d lt in cc)
+all_printed t h = recursion_from_All (λ (x : ℕ × BodyRow). x.1.print ≢ None) t.bodies (λ k d lt none. let some = h.whole k d lt in cc)
 
 -- ---- the whole plan
 

@@ -15,7 +15,7 @@ use Rattle.keep.specs.declared.change.Judgement.{Judgement}
 use Rattle.texts.specs.Indices.{PathText, text_at}
 use Rattle.tables.specs.Rows.{Fails, Holds, IsArchive, tables_in}
 use Rattle.tables.specs.Texts.{has_path}
-use Rattle.tables.specs.declared.rows.IndexText.{IndexText}
+use Rattle.tables.specs.declared.rows.TextRow.{TextRow}
 use Rattle.tables_meaning.specs.Archives.{IsRead, KeepsArchive}
 use Rattle.tables_meaning.specs.Transactions.{IsUndone}
 use Rattle.tables_meaning.proofs.ReadsLemmas.{undone_if_unchanged}
@@ -85,21 +85,21 @@ undone_either a b (Ok x) done failed = undone_if_unchanged a b done
 undone_either a b (Err e) done failed = failed
 
 -- the text of the row at a path is the text at that path
-pub text_is : (path : List ℕ) (rows : List IndexText) (texts : List PathText) → map (λ (x : IndexText). (x.path, x.body)) rows ≡ texts
-    → option_map (λ (x : IndexText). x.body) (find (has_path path) rows) ≡ text_at path texts
+pub text_is : (path : List ℕ) (rows : List TextRow) (texts : List PathText) → map (λ (x : TextRow). (x.path, x.body)) rows ≡ texts
+    → option_map (λ (x : TextRow). x.body) (find (has_path path) rows) ≡ text_at path texts
 unfolding text_at
 text_is path rows texts are = of_rows rows ∙ ap (text_at path) are
   where
-    pairs : List IndexText → List PathText
-    pairs = map (λ (x : IndexText). (x.path, x.body))
+    pairs : List TextRow → List PathText
+    pairs = map (λ (x : TextRow). (x.path, x.body))
 
-    one_more : (x : IndexText) (xs : List IndexText) (b : Bool) → bytes_eq x.path path ≡ b
-        → option_map (λ (y : IndexText). y.body) (find (has_path path) xs) ≡ text_at path (pairs xs)
-        → option_map (λ (y : IndexText). y.body) (find (has_path path) (x ∷ xs)) ≡ text_at path (pairs (x ∷ xs))
+    one_more : (x : TextRow) (xs : List TextRow) (b : Bool) → bytes_eq x.path path ≡ b
+        → option_map (λ (y : TextRow). y.body) (find (has_path path) xs) ≡ text_at path (pairs xs)
+        → option_map (λ (y : TextRow). y.body) (find (has_path path) (x ∷ xs)) ≡ text_at path (pairs (x ∷ xs))
     one_more x xs true h rest = rw h refl
     one_more x xs false h rest = rw h rest
 
-    of_rows : (xs : List IndexText) → option_map (λ (y : IndexText). y.body) (find (has_path path) xs) ≡ text_at path (pairs xs)
+    of_rows : (xs : List TextRow) → option_map (λ (y : TextRow). y.body) (find (has_path path) xs) ≡ text_at path (pairs xs)
     of_rows [] = refl
     of_rows (x ∷ xs) = one_more x xs (bytes_eq x.path path) refl (of_rows xs)
 

@@ -1,5 +1,5 @@
 -- How reads outside a transaction join.
-use Rattle.std.proofs.Common.{◌≡◌, ℕ, ◌+◌, ◌<◌, take, get_or, List, [], ◌∷◌, ◌++◌, map, length, Option, Some, None, inl, inr, Result, Ok, Err, OnErr, refl, sym, ap, subst, ◌∙◌, arith}
+use Rattle.std.proofs.Common.{◌≡◌, ℕ, ◌+◌, ◌<◌, take, get_or, List, [], ◌∷◌, ◌++◌, map, length, Option, Some, None, inl, inr, refl, sym, ap, subst, ◌∙◌, arith}
 use Rattle.std.proofs.lemmas.List.{append-nil, append_assoc, length_push, map_more}
 use Rattle.std.specs.List.{cons_option, filter_map}
 use Rattle.sqlite.specs.State.{State, HasCleanDisk, IsUnchanged, Survives}
@@ -83,10 +83,6 @@ module _ (a b c : State) where
   pub survives_after : (HasCleanDisk b → (t : Tables) → Holds a.now t → IsUnchanged a b) → Survives a b (λ _. HoldsNone a) → Survives b c (λ _. HoldsNone b)
       → Survives a c (λ _. HoldsNone a)
   survives_after same one two = survives_rested (λ clean t was. rests_if_unchanged a b (same clean t was)) one two
-
-pub on_err : {X E P : Type 0} (r : Result X E) → P → OnErr r P
-on_err (Ok x) h = tt
-on_err (Err e) h = h
 
 -- a list that is made item by item, one more
 pub made_more : {X Y : Type 0} (f : X → Y) (done : List Y) (x : X) (left : List X) {now : List Y} {y : Y} {rest : List X} {whole : List Y}

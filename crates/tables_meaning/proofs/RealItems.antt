@@ -33,9 +33,9 @@ use Rattle.tables.specs.Items.{is_item}
 use Rattle.tables.specs.Real.{IsRealFile, IsRealItem, IsRealPrint, IsRealRef}
 use Rattle.tables.specs.Refs.{is_ref_of}
 use Rattle.tables.specs.Rows.{Tables, rows_of}
-use Rattle.tables.specs.declared.rows.Body.{Body}
+use Rattle.tables.specs.declared.rows.BodyRow.{BodyRow}
 use Rattle.tables.specs.declared.rows.File.{File}
-use Rattle.tables.specs.declared.rows.Item.{Item}
+use Rattle.tables.specs.declared.rows.ItemRow.{ItemRow}
 use Rattle.tables.specs.declared.rows.Ref.{Ref}
 use Rattle.vers.specs.Syntax.{IsVersion}
 use Rattle.tables_meaning.specs.Kept.{AreBodies, AreFiles, AreItems, AreReadable, IsReadable, bytes_of, codename_at, has_body, is_on, item_row, print_at, refs_for, refs_in, shown_row}
@@ -43,8 +43,8 @@ use Rattle.tables_meaning.specs.Kept as kept
 use Rattle.tables_meaning.proofs.AsciiItems.{IsPlainItem, shown_plain, sliced}
 use Rattle.tables_meaning.proofs.AsciiLemmas.{AreAscii, ascii-IsUtf8, version_ascii}
 use Rattle.tables_meaning.proofs.BodyLemmas.{apart_same, found, none_found, row_of_body}
-use Rattle.tables_meaning.proofs.NameLemmas.{HasNames}
-use Rattle.tables_meaning.proofs.PairLemmas.{pairs_unmap}
+use Rattle.texts.proofs.Paths.{HasNames}
+use Rattle.texts.proofs.Pairs.{pairs_unmap}
 use Rattle.tables_meaning.proofs.Searches.{all_in_rows}
 use Rattle.tables_meaning.proofs.ShownLemmas.{item_from, item_parts}
 use Rattle.tables_meaning.proofs.SignedLemmas.{real_print}
@@ -52,38 +52,38 @@ use Rattle.tables_meaning.proofs.SignedLemmas.{real_print}
 -- ---- prints of bodies
 
 module _ (t : Tables) (bodies : AreBodies t) where
-  body_print : (x : ℕ × Body) → Contains t.bodies x → x.1.print ≡ Some (print_of (bytes_of t x.0))
+  body_print : (x : ℕ × BodyRow) → Contains t.bodies x → x.1.print ≡ Some (print_of (bytes_of t x.0))
   body_print x at = all_at (λ y. y.1.print ≡ Some (print_of (bytes_of t y.0))) t.bodies x bodies.whole at
 
   -- a print that a body has
   print_real : (id : ℕ) (p : Print) → print_at t id ≡ Some p → IsRealPrint p
   print_real id p e = go (find (λ x. nat_eq x.0 id) t.bodies) refl e
     where
-      go : (o : Option (ℕ × Body)) → find (λ x. nat_eq x.0 id) t.bodies ≡ o → option_and_then (λ (x : ℕ × Body). x.1.print) o ≡ Some p → IsRealPrint p
+      go : (o : Option (ℕ × BodyRow)) → find (λ x. nat_eq x.0 id) t.bodies ≡ o → option_and_then (λ (x : ℕ × BodyRow). x.1.print) o ≡ Some p → IsRealPrint p
       go None is h = cc
-      go (Some x) is h = subst IsRealPrint (same_Some _ p (sym (body_print x (found (λ (y : ℕ × Body). nat_eq y.0 id) t.bodies x is).within) ∙ h)) (real_print (bytes_of t x.0))
+      go (Some x) is h = subst IsRealPrint (same_Some _ p (sym (body_print x (found (λ (y : ℕ × BodyRow). nat_eq y.0 id) t.bodies x is).within) ∙ h)) (real_print (bytes_of t x.0))
 
   -- a body that is there has a print
   print_there : (id : ℕ) → has_body t id ≡ true → (p : Print) × (print_at t id ≡ Some p)
   print_there id there = go (find (λ x. nat_eq x.0 id) t.bodies) refl
     where
-      go : (o : Option (ℕ × Body)) → find (λ x. nat_eq x.0 id) t.bodies ≡ o → (p : Print) × (option_and_then (λ (x : ℕ × Body). x.1.print) o ≡ Some p)
+      go : (o : Option (ℕ × BodyRow)) → find (λ x. nat_eq x.0 id) t.bodies ≡ o → (p : Print) × (option_and_then (λ (x : ℕ × BodyRow). x.1.print) o ≡ Some p)
       go None is =
           let row = row_of_body t id there in
-          absurd (both_ways (nat_eq row.body.0 id) (none_found (λ (y : ℕ × Body). nat_eq y.0 id) t.bodies is row.body row.within) (eq-eqb row.body.0 id row.number))
-      go (Some x) is = (print_of (bytes_of t x.0), body_print x (found (λ (y : ℕ × Body). nat_eq y.0 id) t.bodies x is).within)
+          absurd (both_ways (nat_eq row.body.0 id) (none_found (λ (y : ℕ × BodyRow). nat_eq y.0 id) t.bodies is row.body row.within) (eq-eqb row.body.0 id row.number))
+      go (Some x) is = (print_of (bytes_of t x.0), body_print x (found (λ (y : ℕ × BodyRow). nat_eq y.0 id) t.bodies x is).within)
 
 -- ---- the shelf of a row
 
 -- what stands on the shelf of a row is the item of the row, with the files of its rows
-record IsShownBy (t : Tables) (suites : List Suite) (shown : ShelvesValue) (key : ShelfKey) (x : ℕ × Item) : Type 0 where
+record IsShownBy (t : Tables) (suites : List Suite) (shown : ShelvesValue) (key : ShelfKey) (x : ℕ × ItemRow) : Type 0 where
   item : shelf.Item
   stands : get shown key ≡ Some item
   row : x.1 ≡ item_row suites (key, item)
   refs : refs_in t x.0 ≡ refs_for x.0 item
 
 -- two rows on one shelf are of one shelf
-both_on : (suites : List Suite) (key : ShelfKey) (x y : ℕ × Item) → is_on suites key x ≡ true → is_on suites key y ≡ true → is_item x.1.suite x.1.kind x.1.«package» x.1.architecture y.1 ≡ true
+both_on : (suites : List Suite) (key : ShelfKey) (x y : ℕ × ItemRow) → is_on suites key x ≡ true → is_on suites key y ≡ true → is_item x.1.suite x.1.kind x.1.«package» x.1.architecture y.1 ≡ true
 both_on suites key x y at too =
     let first = item_parts (codename_at suites key.suite) (kind_number key.kind) key.«package» key.architecture x.1 at in
     let second = item_parts (codename_at suites key.suite) (kind_number key.kind) key.«package» key.architecture y.1 too in
@@ -95,29 +95,29 @@ both_on suites key x y at too =
     })
 
 module _ (t : Tables) (suites : List Suite) (shown : ShelvesValue) (items : AreItems t suites shown) where
-  one_on : (key : ShelfKey) (x y : ℕ × Item) → Contains t.items x → Contains t.items y → is_on suites key x ≡ true → is_on suites key y ≡ true → y ≡ x
+  one_on : (key : ShelfKey) (x y : ℕ × ItemRow) → Contains t.items x → Contains t.items y → is_on suites key x ≡ true → is_on suites key y ≡ true → y ≡ x
   one_on key x y at too on on_too =
       apart_same (λ a b. is_item a.1.suite a.1.kind a.1.«package» a.1.architecture b.1 ≡ false) t.items
-      (pairs_unmap (λ (a b : Item). is_item a.suite a.kind a.«package» a.architecture b ≡ false) (λ (z : ℕ × Item). z.1) t.items items.apart)
+      (pairs_unmap (λ (a b : ItemRow). is_item a.suite a.kind a.«package» a.architecture b ≡ false) (λ (z : ℕ × ItemRow). z.1) t.items items.apart)
       y x too at
       (λ apart. both_ways (is_item y.1.suite y.1.kind y.1.«package» y.1.architecture x.1) apart (both_on suites key y x on_too on))
       (λ apart. both_ways (is_item x.1.suite x.1.kind x.1.«package» x.1.architecture y.1) apart (both_on suites key x y on on_too))
 
-  row_shown : (key : ShelfKey) → key.suite < length suites → (x : ℕ × Item) → Contains t.items x → is_on suites key x ≡ true → IsShownBy t suites shown key x
+  row_shown : (key : ShelfKey) → key.suite < length suites → (x : ℕ × ItemRow) → Contains t.items x → is_on suites key x ≡ true → IsShownBy t suites shown key x
   row_shown key lt x at on = go (find (is_on suites key) t.items) refl (items.are key lt)
     where
       of_shelf : (o : Option shelf.Item) → get shown key ≡ o → Some (kept.shown_in t x) ≡ option_map (shown_row suites key x.0) o → IsShownBy t suites shown key x
       of_shelf None is e = cc
       of_shelf (Some item) is e =
           let both = same_Some (kept.shown_in t x) (shown_row suites key x.0 item) e in
-          record { item = item; stands = is; row = ap (λ (p : Item × List Ref). p.0) both; refs = ap (λ (p : Item × List Ref). p.1) both }
+          record { item = item; stands = is; row = ap (λ (p : ItemRow × List Ref). p.0) both; refs = ap (λ (p : ItemRow × List Ref). p.1) both }
 
-      go : (o : Option (ℕ × Item)) → find (is_on suites key) t.items ≡ o → option_map (kept.shown_in t) o ≡ option_and_then (λ z. option_map (shown_row suites key z.0) (get shown key)) o → IsShownBy t suites shown key x
+      go : (o : Option (ℕ × ItemRow)) → find (is_on suites key) t.items ≡ o → option_map (kept.shown_in t) o ≡ option_and_then (λ z. option_map (shown_row suites key z.0) (get shown key)) o → IsShownBy t suites shown key x
       go None is e = absurd (both_ways (is_on suites key x) (none_found (is_on suites key) t.items is x at) on)
       go (Some y) is e =
           let it = found (is_on suites key) t.items y is in
           let same : y ≡ x = one_on key x y at it.within on it.passes in
-          of_shelf (get shown key) refl (subst (λ (z : ℕ × Item). Some (kept.shown_in t z) ≡ option_map (shown_row suites key z.0) (get shown key)) same e)
+          of_shelf (get shown key) refl (subst (λ (z : ℕ × ItemRow). Some (kept.shown_in t z) ≡ option_map (shown_row suites key z.0) (get shown key)) same e)
 
 -- ---- rows of items
 
@@ -129,7 +129,7 @@ codename_ascii suites names n = go (slice_get suites n) refl
     go (Some s) is = (names s (sliced suites n s is)).codename
 
 -- what is known of the row of an item
-abbrev IsPlainRow : Item → Type 0
+abbrev IsPlainRow : ItemRow → Type 0
 IsPlainRow x = AreAscii x.suite × AreAscii x.«package» × AreAscii x.architecture × IsVersion x.version × AreAscii x.component × AreAscii x.source × (is_utf8 x.paragraph ≡ true)
 
 -- what is known of the row of a file
@@ -154,7 +154,7 @@ module _ (t : Tables) (suites : List Suite) (shown : ShelvesValue) (names : (s :
   item_plain : (key : ShelfKey) (item : shelf.Item) → get shown key ≡ Some item → IsPlainItem item
   item_plain key item is = shown_plain suites names shown told (key, item) (entry_shown shown key item is)
 
-  row_plain : (x : ℕ × Item) (key : ShelfKey) → IsShownBy t suites shown key x → IsPlainRow x.1
+  row_plain : (x : ℕ × ItemRow) (key : ShelfKey) → IsShownBy t suites shown key x → IsPlainRow x.1
   row_plain x key is =
       let plain = item_plain key is.item is.stands in
       let home : key ≡ (standing key.suite is.item).0 = ap (λ (e : ShelfKey × shelf.Item). e.0) (all_at IsAtHome (entries shown) (key, is.item) sound.at_home (entry_shown shown key is.item is.stands)) in
@@ -169,11 +169,11 @@ module _ (t : Tables) (suites : List Suite) (shown : ShelvesValue) (names : (s :
       )
 
   -- a row of an item, and the rows of its files
-  on_shelf : (x : ℕ × Item) → Contains t.items x → ∥ ((key : ShelfKey) × IsShownBy t suites shown key x) ∥₁
+  on_shelf : (x : ℕ × ItemRow) → Contains t.items x → ∥ ((key : ShelfKey) × IsShownBy t suites shown key x) ∥₁
   on_shelf x at = ∥∥₁_map (all_at (λ y. ∥ ((key : ShelfKey) × (key.suite < length suites) × IsTrue (is_on suites key y)) ∥₁) t.items x items.rows at)
       (λ key. (key.0, row_shown t suites shown items key.0 key.1 x at key.2))
 
-  plain_row : (x : ℕ × Item) → Contains t.items x → IsPlainRow x.1
+  plain_row : (x : ℕ × ItemRow) → Contains t.items x → IsPlainRow x.1
   plain_row x at = ∥∥₁_elim (on_shelf x at) (hlevel props) (λ on. row_plain x on.0 on.1)
 
   pub real_items : All IsRealItem (rows_of t.items)
@@ -206,7 +206,7 @@ module _ (t : Tables) (suites : List Suite) (shown : ShelvesValue) (names : (s :
       go None e = cc
       go (Some g) e = print_real t bodies g.body f.print e
 
-  ref_plain : (r : Ref) (x : ℕ × Item) (key : ShelfKey) → IsShownBy t suites shown key x → Contains (refs_in t x.0) r → IsPlainRef r
+  ref_plain : (r : Ref) (x : ℕ × ItemRow) (key : ShelfKey) → IsShownBy t suites shown key x → Contains (refs_in t x.0) r → IsPlainRef r
   ref_plain r x key is at =
       let file = file_of_ref x.0 is.item r (subst (λ rs. Contains rs r) is.refs at) in
       let print : IsRealPrint r.print = subst IsRealPrint file.3 (shown_print key is.item is.stands file.0 file.1) in
@@ -214,7 +214,7 @@ module _ (t : Tables) (suites : List Suite) (shown : ShelvesValue) (names : (s :
 
   plain_ref : (r : Ref) → Contains (rows_of t.refs) r → IsPlainRef r
   plain_ref r at =
-      let owner = any_some (λ (x : ℕ × Item). nat_eq x.0 r.item) t.items (all_at (λ (s : Ref). IsTrue (list_any (λ x. nat_eq x.0 s.item) t.items)) (rows_of t.refs) r items.owned at) in
+      let owner = any_some (λ (x : ℕ × ItemRow). nat_eq x.0 r.item) t.items (all_at (λ (s : Ref). IsTrue (list_any (λ x. nat_eq x.0 s.item) t.items)) (rows_of t.refs) r items.owned at) in
       let x = owner.0 in
       let its : Contains (refs_in t x.0) r = to_filter (is_ref_of x.0) r (rows_of t.refs) at (eq-eqb r.item x.0 (sym (eqb-true x.0 r.item owner.2))) in
       ∥∥₁_elim (on_shelf x owner.1) (hlevel props) (λ on. ref_plain r x on.0 on.1 its)

@@ -12,11 +12,11 @@ use Rattle.texts.specs.Indices.{PathText, all_texts}
 use Rattle.keep.specs.declared.change.Judgement.{Judgement}
 use Rattle.tables.specs.Real.{AreReal, IsRealDate, IsRealText}
 use Rattle.tables.specs.Rows.{Tables, rows_of}
-use Rattle.tables.specs.declared.rows.IndexText.{IndexText}
-use Rattle.tables_meaning.specs.Kept.{AreReadable, IsKept, date_row}
+use Rattle.tables.specs.declared.rows.TextRow.{TextRow}
+use Rattle.tables_meaning.specs.Kept.{AreReadable, IsBook, date_row}
 use Rattle.tables_meaning.proofs.AsciiLemmas.{AreAscii, ascii-IsUtf8}
 use Rattle.tables_meaning.proofs.AsciiPaths.{config_ascii, texts_ascii}
-use Rattle.tables_meaning.proofs.NameLemmas.{HasNames}
+use Rattle.texts.proofs.Paths.{HasNames}
 use Rattle.tables_meaning.proofs.RealItems.{readable_items, real_files, real_items, real_refs}
 use Rattle.tables_meaning.proofs.RealUploads.{real_arrivals, real_bodies, real_uploads, real_wants}
 
@@ -25,7 +25,7 @@ module _ (t : Tables) (config : ConfigValue) (shown : ShelvesValue) (dates : Lis
   real_texts are = all_from IsRealText (rows_of t.texts) (λ x at.
       ascii-IsUtf8 x.path (all_at (λ (e : PathText). AreAscii e.0) (all_texts config shown dates) (x.path, x.body)
       (All-from_recursion (λ (e : PathText). AreAscii e.0) (all_texts config shown dates) (texts_ascii shown 0 config.suites dates (config_ascii config read)))
-      (subst (λ es. Contains es (x.path, x.body)) are (contains_map (λ (y : IndexText). (y.path, y.body)) x (rows_of t.texts) at))))
+      (subst (λ es. Contains es (x.path, x.body)) are (contains_map (λ (y : TextRow). (y.path, y.body)) x (rows_of t.texts) at))))
 
   real_dates : rows_of t.dates ≡ map date_row (zip config.suites dates) → All IsRealDate (rows_of t.dates)
   real_dates are = all_from IsRealDate (rows_of t.dates) (λ d at.
@@ -33,7 +33,7 @@ module _ (t : Tables) (config : ConfigValue) (shown : ShelvesValue) (dates : Lis
       subst IsRealDate from.2 (ascii-IsUtf8 from.0.0.codename (config_ascii config read from.0.0 (from_zip from.0 config.suites dates from.1)).codename))
 
 -- THE ROWS of an archive can be held: its texts are UTF-8, and its digests have their lengths.
-pub kept_real : (t : Tables) (config : ConfigValue) (judged : List Judgement) (shown : ShelvesValue) (dates : List ℕ) → IsKept t config judged shown dates → AreReal t
+pub kept_real : (t : Tables) (config : ConfigValue) (judged : List Judgement) (shown : ShelvesValue) (dates : List ℕ) → IsBook t config judged shown dates → AreReal t
 kept_real t config judged shown dates kept =
     let names : (s : Suite) → Contains config.suites s → HasNames AreAscii s = config_ascii config kept.read in
     record {
@@ -49,6 +49,6 @@ kept_real t config judged shown dates kept =
     }
 
 -- ITS ITEMS can be read.
-pub kept_readable : (t : Tables) (config : ConfigValue) (judged : List Judgement) (shown : ShelvesValue) (dates : List ℕ) → IsKept t config judged shown dates → AreReadable t
+pub kept_readable : (t : Tables) (config : ConfigValue) (judged : List Judgement) (shown : ShelvesValue) (dates : List ℕ) → IsBook t config judged shown dates → AreReadable t
 kept_readable t config judged shown dates kept =
     readable_items t config.suites shown (config_ascii config kept.read) kept.sound kept.told kept.bodies kept.items kept.files

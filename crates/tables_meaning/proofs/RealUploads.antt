@@ -13,13 +13,13 @@ use Rattle.records.specs.Values.{ChangesValue}
 use Rattle.records.specs.declared.fault.RecordFault.{RecordFault}
 use Rattle.sums.proofs.Booleans.{denied}
 use Rattle.sums.proofs.Members.{all_at, all_from, any_some, contains_map, from_map}
-use Rattle.sums.specs.Lines.{is_file_name}
+use Rattle.sums.specs.FileNames.{is_file_name, is_changes_name}
 use Rattle.sums.specs.Lists.{IsFile}
 use Rattle.sums.specs.Prints.{print as print_of}
 use Rattle.sums.specs.declared.entries.Entry.{Entry}
 use Rattle.sums.specs.declared.entries.ListKind.TheVariants.{Changes}
 use Rattle.suites.proofs.ListMembers.{from_filter, to_filter}
-use Rattle.keep.specs.Book.{Candidate, candidate_of, candidates, is_changes_name, is_judged, latest}
+use Rattle.keep.specs.Book.{Candidate, candidate_of, candidates, is_judged, latest}
 use Rattle.keep.specs.Keeping.{IsDeliverable}
 use Rattle.keep.specs.declared.arrival.Arrival.{Arrival}
 use Rattle.keep.specs.declared.change.Judgement.{Judgement}
@@ -27,7 +27,7 @@ use Rattle.tables.specs.Real.{IsRealArrival, IsRealBody, IsRealPrint, IsRealUplo
 use Rattle.tables.specs.Rows.{Tables, rows_of}
 use Rattle.tables.specs.Uploads.{is_judged as has_place}
 use Rattle.tables.specs.Wants.{is_wanted_by}
-use Rattle.tables.specs.declared.rows.Upload.{Upload}
+use Rattle.tables.specs.declared.rows.UploadRow.{UploadRow}
 use Rattle.tables.specs.declared.rows.Want.{Want}
 use Rattle.tables_meaning.specs.Kept.{AreArrivals, AreBodies, AreSigned, AreUploads, IsSigned, arrival_in, arrivals_in, bytes_of, is_placed, judged_row, request_in, request_of, wanted, wants_in}
 use Rattle.tables_meaning.proofs.AsciiLemmas.{ascii-IsUtf8, file_name_ascii}
@@ -77,12 +77,12 @@ real_file e file = record { md5 = file.md5.length; sha1 = file.sha1.length; sha2
 
 module _ (t : Tables) (judged : List Judgement) (arrivals : AreArrivals t) (uploads : AreUploads t judged) where
   -- the .changes of such a row
-  record IsOf (x : ℕ × Upload) : Type 0 where
+  record IsOf (x : ℕ × UploadRow) : Type 0 where
     of : Candidate
     read : IsRead of
     request : request_of (arrivals_in t) of ≡ request_in t x
 
-  waiting_is : (x : ℕ × Upload) → Contains t.uploads x → has_place x.1 ≡ false → IsOf x
+  waiting_is : (x : ℕ × UploadRow) → Contains t.uploads x → has_place x.1 ≡ false → IsOf x
   waiting_is x at unplaced =
       let waits = contains_map (request_in t) x (filter (λ y. not (has_place y.1)) t.uploads) (to_filter (λ y. not (has_place y.1)) x t.uploads at (ap not unplaced)) in
       let from = from_map (request_of (arrivals_in t)) (request_in t x) (filter (λ c. not (is_judged judged c)) (candidates (arrivals_in t))) (subst (λ rs. Contains rs (request_in t x)) uploads.waiting waits) in
@@ -93,7 +93,7 @@ module _ (t : Tables) (judged : List Judgement) (arrivals : AreArrivals t) (uplo
         request = from.2;
       }
 
-  waiting_real : (x : ℕ × Upload) → IsOf x → IsRealUpload x.1
+  waiting_real : (x : ℕ × UploadRow) → IsOf x → IsRealUpload x.1
   waiting_real x is =
       let name : is.of.name ≡ x.1.name = ap (λ r. r.0.0) is.request in
       let print : print_of is.of.body ≡ x.1.print = ap (λ r. r.0.1) is.request in
@@ -103,7 +103,7 @@ module _ (t : Tables) (judged : List Judgement) (arrivals : AreArrivals t) (uplo
       }
 
   -- what it wants is listed in the .changes
-  wants_real : (x : ℕ × Upload) → IsOf x → (w : Want) → Contains (rows_of t.wants) w → nat_eq w.upload x.0 ≡ true → IsRealWant w
+  wants_real : (x : ℕ × UploadRow) → IsOf x → (w : Want) → Contains (rows_of t.wants) w → nat_eq w.upload x.0 ≡ true → IsRealWant w
   unfolding wants_in
   wants_real x is w at its =
       let entries = is.of.changes.entries in
@@ -127,7 +127,7 @@ module _ (t : Tables) (judged : List Judgement) (arrivals : AreArrivals t) (uplo
   -- ---- uploads with a verdict
 
   module _ (signed : AreSigned judged) where
-    judged_real : (n : ℕ) (u : Upload) (o : Option Judgement) → slice_get judged n ≡ o → Some u ≡ option_map (judged_row (n + 1)) o → IsRealUpload u
+    judged_real : (n : ℕ) (u : UploadRow) (o : Option Judgement) → slice_get judged n ≡ o → Some u ≡ option_map (judged_row (n + 1)) o → IsRealUpload u
     judged_real n u None is e = cc
     judged_real n u (Some j) is e =
         let lt = slice_get_within judged n j is in
@@ -136,7 +136,7 @@ module _ (t : Tables) (judged : List Judgement) (arrivals : AreArrivals t) (uplo
         let row : u ≡ judged_row (n + 1) j = same_Some u (judged_row (n + 1) j) e in
         subst IsRealUpload (sym row) (record { name = ascii-IsUtf8 j.name (file_name_ascii j.name sign.file_name); print = sign.digests })
 
-    placed_real : (u : Upload) → Contains (rows_of t.uploads) u → (n : ℕ) → u.place ≡ Some (n + 1) → IsRealUpload u
+    placed_real : (u : UploadRow) → Contains (rows_of t.uploads) u → (n : ℕ) → u.place ≡ Some (n + 1) → IsRealUpload u
     placed_real u at n is = go (find (is_placed (n + 1)) (rows_of t.uploads)) refl
       where
         placed : is_placed (n + 1) u ≡ true
@@ -146,10 +146,10 @@ module _ (t : Tables) (judged : List Judgement) (arrivals : AreArrivals t) (uplo
         place_is None h = cc
         place_is (Some p) h = ap Some (eqb-true p (n + 1) h)
 
-        has : (v : Upload) → v.place ≡ Some (n + 1) → has_place v ≡ true
+        has : (v : UploadRow) → v.place ≡ Some (n + 1) → has_place v ≡ true
         has v e = ap is_some e
 
-        go : (o : Option Upload) → find (is_placed (n + 1)) (rows_of t.uploads) ≡ o → IsRealUpload u
+        go : (o : Option UploadRow) → find (is_placed (n + 1)) (rows_of t.uploads) ≡ o → IsRealUpload u
         go None none = absurd (both_ways (is_placed (n + 1) u) (none_found (is_placed (n + 1)) (rows_of t.uploads) none u at) placed)
         go (Some v) some =
             let it = found (is_placed (n + 1)) (rows_of t.uploads) v some in
@@ -157,7 +157,7 @@ module _ (t : Tables) (judged : List Judgement) (arrivals : AreArrivals t) (uplo
             let same : v ≡ u = apart_same (λ a b. IsTrue (has_place a) → a.place ≢ b.place) (rows_of t.uploads) uploads.placed_apart v u it.within at (λ apart. apart (has v place) (place ∙ sym is)) (λ apart. apart (has u is) (is ∙ sym place)) in
             subst IsRealUpload same (judged_real n v (slice_get judged n) refl (sym some ∙ uploads.places n))
 
-    real_upload : (x : ℕ × Upload) → Contains t.uploads x → (o : Option ℕ) → x.1.place ≡ o → IsRealUpload x.1
+    real_upload : (x : ℕ × UploadRow) → Contains t.uploads x → (o : Option ℕ) → x.1.place ≡ o → IsRealUpload x.1
     real_upload x at None is = waiting_real x (waiting_is x at (ap is_some is))
     real_upload x at (Some zero) is = absurd (all_at (λ u. u.place ≢ Some 0) (rows_of t.uploads) x.1 uploads.from_one (contains_map (λ y. y.1) x t.uploads at) is)
     real_upload x at (Some (suc n)) is = placed_real x.1 (contains_map (λ y. y.1) x t.uploads at) n (let next : suc n ≡ n + 1 = omega arith in is ∙ ap Some next)

@@ -24,7 +24,7 @@ use Rattle.tables.specs.Refs.{without_refs}
 use Rattle.tables.specs.Rows.{Tables, next_in, rows_of, with_file, with_item, with_ref}
 use Rattle.tables.specs.Texts.{with_new_text}
 use Rattle.tables.specs.declared.rows.File.{File}
-use Rattle.tables.specs.declared.rows.Item as row
+use Rattle.tables.specs.declared.rows.ItemRow.{ItemRow}
 use Rattle.tables_meaning.specs.Kept.{is_on, item_row, refs_for}
 use Rattle.tables_meaning.specs.Making.{judged_by, takes_file, with_judged, with_new_dates, with_new_texts, with_plan, with_pooled, with_shown, with_step, with_steps, with_written, without_shown}
 use Rattle.tables_meaning.proofs.BodyLemmas.{file_has, rows_added}
@@ -44,7 +44,7 @@ remains_dropped : (suites : List Suite) (e : ShelfKey × shelf.Item) → Remains
 unfolding without_shown
 remains_dropped suites e t = go (find (is_on suites e.0) t.items)
   where
-    go : (o : Option (ℕ × row.Item)) → (id : ℕ) → file_has t id ≡ true → file_has (option_map_or (λ x. without_item x.0 (without_refs x.0 t)) o t) id ≡ true
+    go : (o : Option (ℕ × ItemRow)) → (id : ℕ) → file_has t id ≡ true → file_has (option_map_or (λ x. without_item x.0 (without_refs x.0 t)) o t) id ≡ true
     go None = λ id h. h
     go (Some x) = λ id h. h
 

@@ -13,16 +13,17 @@ use Rattle.records.specs.Records.{changes_in}
 use Rattle.records.specs.Values.{ChangesValue}
 use Rattle.sums.specs.Prints.{print as print_of, same_print}
 use Rattle.sums.specs.declared.entries.Entry.{Entry}
-use Rattle.keep.specs.Book.{Candidate, at_latest, candidate_of, candidates, has_arrival, is_body_of, is_changes_name, is_judged, is_same_pair, is_there, with_arrival}
+use Rattle.keep.specs.Book.{Candidate, at_latest, candidate_of, candidates, has_arrival, is_body_of, is_judged, is_same_pair, is_there, with_arrival}
+use Rattle.sums.specs.FileNames.{is_changes_name}
 use Rattle.keep.specs.Keeping.{sign_of, sign_on}
 use Rattle.keep.specs.declared.arrival.Arrival.{Arrival}
 use Rattle.keep.specs.declared.change.Judgement.{Judgement}
 use Rattle.tables.specs.Rows.{Numbered, Tables, rows_of}
-use Rattle.tables.specs.declared.rows.Upload.{Upload}
+use Rattle.tables.specs.declared.rows.UploadRow.{UploadRow}
 use Rattle.tables.specs.declared.rows.Want.{Want}
-use Rattle.tables_meaning.specs.Kept.{AreUploads, arrivals_in, request_of, sign_in, wanted, wants_in}
+use Rattle.tables_meaning.specs.Kept.{AreUploads, Request, arrivals_in, request_of, sign_in, wanted, wants_in}
 use Rattle.tables_meaning.proofs.Searches.{same_tests, all_of_rows, all_in_rows, pairs_of_rows, pairs_in_rows, list_any-map, list_any-filter, any_same, any_weaker}
-use Rattle.tables_meaning.proofs.WantLemmas.{Sign, Request, is_sign, is_sign-Decides, is_sign-turned, AreRows, marked_entry, marked_request, or_false}
+use Rattle.tables_meaning.proofs.WantLemmas.{Sign, is_sign, is_sign-Decides, is_sign-turned, AreRows, marked_entry, marked_request, or_false}
 
 -- ---- the uploads as rows and requests
 
@@ -44,7 +45,7 @@ rows_from_uploads t judged are = record {
 
 -- tables that have rows of this form
 pub record HasRowsOf (t : Tables) (judged : List Judgement) : Type 0 where
-  pub uploads : Numbered Upload
+  pub uploads : Numbered UploadRow
   pub wants : List Want
   pub asked : List Request
   pub are : AreRows uploads wants judged asked

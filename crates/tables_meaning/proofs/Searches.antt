@@ -1,5 +1,5 @@
 -- Lists that are searched: what holds of their elements, whether one passes a test, and which is found.
-use Rattle.std.proofs.Common.{◌≡◌, inl, inr, ℕ, zero, suc, ◌+◌, ◌<◌, Bool, true, false, not, ◌&&◌, ◌||◌, cond, List, [], ◌∷◌, map, filter, find, All, AllPairs, Some, slice_get, refl, sym, ap, ap₂, subst, ◌∙◌, arith, true≢false}
+use Rattle.std.proofs.Common.{◌≡◌, inl, inr, ℕ, zero, suc, ◌+◌, ◌<◌, Bool, true, false, not, ◌&&◌, ◌||◌, cond, List, [], ◌∷◌, map, filter, find, All, AllPairs, Some, slice_get, refl, sym, ap, ap₂, subst, ◌∙◌, true≢false}
 use Rattle.std.specs.List.{AllByRecursion, list_any}
 use Rattle.std.proofs.lemmas.Bool.{and_parts, or_cases, or_left, or_right}
 use Rattle.std.proofs.lemmas.Bool.Decides.{same_from_decides}
@@ -7,6 +7,7 @@ use Rattle.std.proofs.lemmas.List.Elements.{All-from_recursion, recursion_from_A
 use Rattle.sqlite_trees.specs.Tree.{IsAscending}
 use Rattle.sqlite_keyed.proofs.ListLemmas.{all_map, all_unmap, all_weaker, ascending-map, ascending_from_map}
 use Rattle.tables.specs.Rows.{Numbered, Rises, next_from, next_in, rows_of}
+use Rattle.tables.proofs.RowLemmas.{past}
 use Rattle.tables_meaning.proofs.RowLists.{ascending_from_pairs, pairs_from_ascending}
 
 -- two tests that imply each other
@@ -141,10 +142,6 @@ any_slice {X} p (x ∷ xs) h = go (p x) refl h (any_slice p xs)
     go false t e more = let k = more e in (suc k.0, k.1, k.2, k.3)
 
 -- ---- rowids
-
-past : {X : Type 0} (k : ℕ) (xs : Numbered X) → Rises xs → AllByRecursion (λ x. k < x.0) xs → k < next_from (k + 1) xs
-past k [] up all = omega arith
-past k (x ∷ xs) up all = let more = past x.0 xs up.1 up.0 in omega (arith, all.0, more)
 
 below_next_from : {X : Type 0} (top : ℕ) (xs : Numbered X) → Rises xs → AllByRecursion (λ x. x.0 < next_from top xs) xs
 below_next_from top [] up = tt

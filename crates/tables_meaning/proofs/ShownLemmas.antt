@@ -21,7 +21,7 @@ use Rattle.sums.specs.Prints.{same_print}
 use Rattle.sums.specs.declared.print.Print.{Print}
 use Rattle.suites.specs.Admission.{MayJoin}
 use Rattle.suites.specs.Items.{IsAtHome, standing}
-use Rattle.suites.specs.Keys.{key_order, kind_number}
+use Rattle.suites.specs.Keys.{key_order, kind_number, kind_numbered}
 use Rattle.suites.specs.KeyLemmas.{key_order_total, key_order-IsAntisymmetric}
 use Rattle.suites.specs.Pool.{AreAgreed, files_of, pair_of}
 use Rattle.suites.specs.Shelves.{AreSound, ShelvesValue, pool}
@@ -34,30 +34,29 @@ use Rattle.suites.proofs.EntryLemmas.{same_keys}
 use Rattle.suites.proofs.FileMembers.{entry_shown}
 use Rattle.suites.proofs.PoolLookups.{get-pool_of}
 use Rattle.suites.proofs.Prints.{same_print-equal}
+use Rattle.suites.proofs.MovedLemmas.{bytes_same}
 use Rattle.tables.specs.Items.{is_item}
 use Rattle.tables.specs.Rows.{Numbered, Tables}
-use Rattle.tables.specs.declared.rows.Item.{Item}
+use Rattle.tables.specs.declared.rows.ItemRow.{ItemRow}
 use Rattle.tables.specs.declared.rows.Ref.{Ref}
 use Rattle.tables_meaning.specs.Kept.{AreItems, codename_at, is_on, item_row, refs_for, refs_in, shown_row}
 use Rattle.tables_meaning.specs.Kept as kept
-use Rattle.tables_meaning.specs.Shown.{AreLeft, IsPut, MayBePut, MayStand, PutsRow, clash, entry_in, entry_with, file_in, is_taken, item_with, kind_numbered, may_not_join, shown_in, suite_named}
+use Rattle.tables_meaning.specs.Shown.{AreLeft, IsPut, MayBePut, MayStand, PutsRow, clash, entry_in, entry_with, file_in, is_taken, item_with, may_not_join, shown_in}
+use Rattle.rules.specs.Suites.{suite_named}
 
 -- ---- rows and the keys of shelves
-
-bytes_same : (xs ys : List ℕ) → bytes_eq xs ys ≡ true → xs ≡ ys
-bytes_same xs ys e = (bytes_eq-Decides xs ys).0 e
 
 bytes_equal : (xs ys : List ℕ) → xs ≡ ys → bytes_eq xs ys ≡ true
 bytes_equal xs ys e = (bytes_eq-Decides xs ys).1 e
 
 -- an item and the columns that name its shelf
-pub record IsItem (suite : List ℕ) (kind : ℕ) (name architecture : List ℕ) (x : Item) : Type 0 where
+pub record IsItem (suite : List ℕ) (kind : ℕ) (name architecture : List ℕ) (x : ItemRow) : Type 0 where
   pub at_suite : x.suite ≡ suite
   pub at_kind : x.kind ≡ kind
   pub at_name : x.«package» ≡ name
   pub at_architecture : x.architecture ≡ architecture
 
-pub item_parts : (suite : List ℕ) (kind : ℕ) (name architecture : List ℕ) (x : Item) → is_item suite kind name architecture x ≡ true → IsItem suite kind name architecture x
+pub item_parts : (suite : List ℕ) (kind : ℕ) (name architecture : List ℕ) (x : ItemRow) → is_item suite kind name architecture x ≡ true → IsItem suite kind name architecture x
 item_parts suite kind name architecture x h =
     let last = and_parts (bytes_eq x.suite suite && nat_eq x.kind kind && bytes_eq x.«package» name) (bytes_eq x.architecture architecture) h in
     let third = and_parts (bytes_eq x.suite suite && nat_eq x.kind kind) (bytes_eq x.«package» name) last.0 in
@@ -69,7 +68,7 @@ item_parts suite kind name architecture x h =
       at_architecture = bytes_same x.architecture architecture last.1;
     }
 
-pub item_from : (suite : List ℕ) (kind : ℕ) (name architecture : List ℕ) (x : Item) → IsItem suite kind name architecture x → is_item suite kind name architecture x ≡ true
+pub item_from : (suite : List ℕ) (kind : ℕ) (name architecture : List ℕ) (x : ItemRow) → IsItem suite kind name architecture x → is_item suite kind name architecture x ≡ true
 item_from suite kind name architecture x h =
     and_from (bytes_eq x.suite suite && nat_eq x.kind kind && bytes_eq x.«package» name) (bytes_eq x.architecture architecture)
     (and_from (bytes_eq x.suite suite && nat_eq x.kind kind) (bytes_eq x.«package» name)
@@ -133,7 +132,7 @@ module _ (suites : List Suite) (differ : AllPairs (λ s r. s.codename ≢ r.code
 
   module _ (t : Tables) where
     -- what a row of a shelf shows
-    pub on_entry : (key : ShelfKey) (x : ℕ × Item) → key.suite < length suites → is_on suites key x ≡ true → entry_in suites t x ≡ Some (key, item_with key.kind x.1 (refs_in t x.0))
+    pub on_entry : (key : ShelfKey) (x : ℕ × ItemRow) → key.suite < length suites → is_on suites key x ≡ true → entry_in suites t x ≡ Some (key, item_with key.kind x.1 (refs_in t x.0))
     unfolding entry_with
     on_entry key x lt at =
         let parts = item_parts (codename_at suites key.suite) (kind_number key.kind) key.«package» key.architecture x.1 at in
@@ -143,7 +142,7 @@ module _ (suites : List Suite) (differ : AllPairs (λ s r. s.codename ≢ r.code
         ∙ (λ i. Some (record { suite = key.suite; kind = key.kind; «package» = parts.at_name i; architecture = parts.at_architecture i }, item_with key.kind x.1 (refs_in t x.0)))
 
     -- a row that shows an item is on the item's shelf
-    pub entry_on : (x : ℕ × Item) (e : ShelfKey × shelf.Item) → entry_in suites t x ≡ Some e → (e.0.suite < length suites) × (is_on suites e.0 x ≡ true)
+    pub entry_on : (x : ℕ × ItemRow) (e : ShelfKey × shelf.Item) → entry_in suites t x ≡ Some e → (e.0.suite < length suites) × (is_on suites e.0 x ≡ true)
     unfolding entry_with
     entry_on x e is = by_suite (suite_named suites x.1.suite) refl is
       where
@@ -167,19 +166,19 @@ module _ (suites : List Suite) (differ : AllPairs (λ s r. s.codename ≢ r.code
         by_suite None s f = cc
         by_suite (Some n) s f = by_kind n s (kind_numbered x.1.kind) refl f
 
-    abbrev shown_by : Numbered Item → List (ShelfKey × shelf.Item)
+    abbrev shown_by : Numbered ItemRow → List (ShelfKey × shelf.Item)
     shown_by xs = filter_map (entry_in suites t) xs
 
     -- what is shown on a shelf is what the row of the shelf shows
-    pub find_shown : (key : ShelfKey) → key.suite < length suites → (xs : Numbered Item)
+    pub find_shown : (key : ShelfKey) → key.suite < length suites → (xs : Numbered ItemRow)
         → keyed.find key_order key (shown_by xs) ≡ option_map (λ x. item_with key.kind x.1 (refs_in t x.0)) (find (is_on suites key) xs)
     find_shown key lt [] = refl
     find_shown key lt (x ∷ xs) = go (is_on suites key x) refl (find_shown key lt xs)
       where
-        item : ℕ × Item → shelf.Item
+        item : ℕ × ItemRow → shelf.Item
         item y = item_with key.kind y.1 (refs_in t y.0)
 
-        Same : Option (ℕ × Item) → Type 0
+        Same : Option (ℕ × ItemRow) → Type 0
         Same f = keyed.find key_order key (cons_option (entry_in suites t x) (shown_by xs)) ≡ option_map item f
 
         other : (o : Option (ShelfKey × shelf.Item)) → entry_in suites t x ≡ o → is_on suites key x ≡ false
@@ -195,7 +194,7 @@ module _ (suites : List Suite) (differ : AllPairs (λ s r. s.codename ≢ r.code
         go false off more = other (entry_in suites t x) refl off ∙ more
 
     -- nothing is shown beyond the suites
-    pub find_beyond : (key : ShelfKey) → length suites ≤ key.suite → (xs : Numbered Item) → keyed.find key_order key (shown_by xs) ≡ None
+    pub find_beyond : (key : ShelfKey) → length suites ≤ key.suite → (xs : Numbered ItemRow) → keyed.find key_order key (shown_by xs) ≡ None
     find_beyond key beyond [] = refl
     find_beyond key beyond (x ∷ xs) = other (entry_in suites t x) refl ∙ find_beyond key beyond xs
       where
@@ -213,20 +212,20 @@ files_back id n [] = refl
 files_back id n (f ∷ fs) = ap (λ gs. f ∷ gs) (files_back id (n + 1) fs)
 
 -- a row of a shelf, with the rows of its files, is the item that stands there
-item_back : (suites : List Suite) (key : ShelfKey) (id : ℕ) (x : Item) (refs : List Ref) (item : shelf.Item) → IsAtHome (key, item)
-    → ◌≡◌ {A = Item × List Ref} (x, refs) (shown_row suites key id item) → item_with key.kind x refs ≡ item
+item_back : (suites : List Suite) (key : ShelfKey) (id : ℕ) (x : ItemRow) (refs : List Ref) (item : shelf.Item) → IsAtHome (key, item)
+    → ◌≡◌ {A = ItemRow × List Ref} (x, refs) (shown_row suites key id item) → item_with key.kind x refs ≡ item
 unfolding refs_for
 item_back suites key id x refs item own e =
-    let row : x ≡ item_row suites (key, item) = ap (λ (p : Item × List Ref). p.0) e in
+    let row : x ≡ item_row suites (key, item) = ap (λ (p : ItemRow × List Ref). p.0) e in
     let keys : key ≡ (standing key.suite item).0 = ap (λ (p : ShelfKey × shelf.Item). p.0) own in
     let kind : key.kind ≡ item.kind = ap (λ (k : ShelfKey). k.kind) keys in
-    let name : x.«package» ≡ item.«package» = ap (λ (r : Item). r.«package») row ∙ ap (λ (k : ShelfKey). k.«package») keys in
-    let architecture : x.architecture ≡ item.architecture = ap (λ (r : Item). r.architecture) row ∙ ap (λ (k : ShelfKey). k.architecture) keys in
-    let version : x.version ≡ item.version = ap (λ (r : Item). r.version) row in
-    let component : x.component ≡ item.component = ap (λ (r : Item). r.component) row in
-    let source : x.source ≡ item.source = ap (λ (r : Item). r.source) row in
-    let paragraph : x.paragraph ≡ item.paragraph = ap (λ (r : Item). r.paragraph) row in
-    let files : map file_in refs ≡ item.files = ap (λ (p : Item × List Ref). map file_in p.1) e ∙ files_back id 1 item.files in
+    let name : x.«package» ≡ item.«package» = ap (λ (r : ItemRow). r.«package») row ∙ ap (λ (k : ShelfKey). k.«package») keys in
+    let architecture : x.architecture ≡ item.architecture = ap (λ (r : ItemRow). r.architecture) row ∙ ap (λ (k : ShelfKey). k.architecture) keys in
+    let version : x.version ≡ item.version = ap (λ (r : ItemRow). r.version) row in
+    let component : x.component ≡ item.component = ap (λ (r : ItemRow). r.component) row in
+    let source : x.source ≡ item.source = ap (λ (r : ItemRow). r.source) row in
+    let paragraph : x.paragraph ≡ item.paragraph = ap (λ (r : ItemRow). r.paragraph) row in
+    let files : map file_in refs ≡ item.files = ap (λ (p : ItemRow × List Ref). map file_in p.1) e ∙ files_back id 1 item.files in
     λ i. record {
       kind = kind i;
       «package» = name i;
@@ -241,7 +240,7 @@ item_back suites key id x refs item own e =
 -- ---- what the rows show
 
 module _ (t : Tables) (suites : List Suite) (shown : ShelvesValue) (h : AreItems t suites shown) (home : All IsAtHome (entries shown)) (differ : AllPairs (λ s r. s.codename ≢ r.codename) suites) (key : ShelfKey) where
-  stands : (f : Option (ℕ × Item)) (a : Option shelf.Item) → get shown key ≡ a
+  stands : (f : Option (ℕ × ItemRow)) (a : Option shelf.Item) → get shown key ≡ a
       → option_map (kept.shown_in t) f ≡ option_and_then (λ x. option_map (shown_row suites key x.0) a) f
       → option_map (λ _. true) f ≡ option_map (λ _. true) a
       → option_map (λ x. item_with key.kind x.1 (refs_in t x.0)) f ≡ a
@@ -269,7 +268,7 @@ shown_is t suites shown h home differ = same_map key_order_total key_order-IsAnt
 
 module _ (suites : List Suite) (t : Tables) where
   -- at first all rows are left
-  pub all_left : (so_far : ShelvesValue) (left : Numbered Item) → so_far ≡ keyed.empty → left ≡ t.items → AreLeft suites t so_far left
+  pub all_left : (so_far : ShelvesValue) (left : Numbered ItemRow) → so_far ≡ keyed.empty → left ≡ t.items → AreLeft suites t so_far left
   unfolding shown_in
   all_left so_far left none all key =
       ap (λ (m : ShelvesValue). option_or (get m key) (keyed.find key_order key (filter_map (entry_in suites t) left))) none
@@ -278,7 +277,7 @@ module _ (suites : List Suite) (t : Tables) where
       ∙ sym (get-from_entries key_order_total (filter_map (entry_in suites t) t.items) key)
 
   -- one row less
-  pub one_less : (so_far now : ShelvesValue) (x : ℕ × Item) (rest left : Numbered Item) → PutsRow suites x.1 (refs_in t x.0) so_far now → left ≡ x ∷ rest → AreLeft suites t so_far left → AreLeft suites t now rest
+  pub one_less : (so_far now : ShelvesValue) (x : ℕ × ItemRow) (rest left : Numbered ItemRow) → PutsRow suites x.1 (refs_in t x.0) so_far now → left ≡ x ∷ rest → AreLeft suites t so_far left → AreLeft suites t now rest
   one_less so_far now x rest left puts next h key =
       ap (λ (m : ShelvesValue). option_or (get m key) later) puts.put.made
       ∙ ap (λ o. option_or o later) (get-insert key_order_total so_far puts.entry.0 puts.entry.1 key)
@@ -298,7 +297,7 @@ module _ (suites : List Suite) (t : Tables) where
       go false apart = sym (ap (λ b. option_or (get so_far key) (cond b (Some puts.entry.1) later)) apart)
 
   -- at last no row is left
-  pub none_left : (so_far : ShelvesValue) (left : Numbered Item) → length left ≡ 0 → AreLeft suites t so_far left → so_far ≡ shown_in suites t
+  pub none_left : (so_far : ShelvesValue) (left : Numbered ItemRow) → length left ≡ 0 → AreLeft suites t so_far left → so_far ≡ shown_in suites t
   none_left so_far [] none h = same_map key_order_total key_order-IsAntisymmetric so_far (shown_in suites t) (λ key. or_none (get so_far key) ∙ h key)
     where
       or_none : (o : Option shelf.Item) → o ≡ option_or o None
@@ -368,7 +367,7 @@ may_join shelves suite item sound clear = record {
 }
 
 -- a row of a suite and of a kind puts its item on its shelf
-pub row_puts : (suites : List Suite) (x : Item) (refs : List Ref) (old now : ShelvesValue) (suite : ℕ) (kind : Kind) (item : shelf.Item)
+pub row_puts : (suites : List Suite) (x : ItemRow) (refs : List Ref) (old now : ShelvesValue) (suite : ℕ) (kind : Kind) (item : shelf.Item)
     → suite_named suites x.suite ≡ Some suite → kind_numbered x.kind ≡ Some kind → item ≡ item_with kind x refs → IsPut old now (standing suite item) → PutsRow suites x refs old now
 unfolding entry_with
 row_puts suites x refs old now suite kind item named numbered is put = record {
@@ -381,7 +380,7 @@ row_puts suites x refs old now suite kind item named numbered is put = record {
 
 -- ---- rows that may not stand on a shelf
 
-module _ (suites : List Suite) (x : Item) (refs : List Ref) (old : ShelvesValue) where
+module _ (suites : List Suite) (x : ItemRow) (refs : List Ref) (old : ShelvesValue) where
   abbrev shown_as : Option ℕ → Option Kind → Option (ShelfKey × shelf.Item)
   shown_as suite kind = option_and_then (λ s. option_map (λ k. standing s (item_with k x refs)) kind) suite
 

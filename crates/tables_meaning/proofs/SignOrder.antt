@@ -1,40 +1,28 @@
 -- The order of judging is total, and only the same name and print tie.
-use Rattle.std.proofs.Common.{◌≡◌, ℕ, refl}
-use Rattle.std.specs.declared.cmp.Ordering.{Ordering}
-use Rattle.std.specs.declared.cmp.Ordering.TheVariants.{Less, Equal, Greater}
+use Rattle.std.proofs.Common.{◌≡◌, ℕ}
 use Rattle.std.specs.Cmp.{IsTotalOrder, nat_cmp_total, on_total, then_total}
 use Rattle.std.specs.FinMap.{IsAntisymmetric, nat_cmp-IsAntisymmetric}
-use Rattle.std.specs.Ordering.{ordering_then}
-use Rattle.suites.specs.KeyLemmas.{text_order_total, text_order-IsAntisymmetric}
+use Rattle.suites.specs.KeyLemmas.{text_order_total, text_order-IsAntisymmetric, first_tied, second_tied}
 use Rattle.tables_meaning.specs.Kept.{sign_in}
-use Rattle.tables_meaning.specs.Reads.{row_order, sign_order}
-use Rattle.tables.specs.declared.rows.Upload.{Upload}
+use Rattle.tables_meaning.specs.Reads.{row_order}
+use Rattle.keep.specs.Book.{judging_order}
+use Rattle.tables.specs.declared.rows.UploadRow.{UploadRow}
 use Rattle.tables_meaning.proofs.WantLemmas.{Sign}
 
-pub sign_order_total : IsTotalOrder sign_order
-unfolding sign_order
-sign_order_total =
+pub judging_order_total : IsTotalOrder judging_order
+unfolding judging_order
+judging_order_total =
     then_total (on_total (λ (s : Sign). s.0) text_order_total)
     (then_total (on_total (λ (s : Sign). s.1.sha256) text_order_total)
     (then_total (on_total (λ (s : Sign). s.1.sha1) text_order_total)
     (then_total (on_total (λ (s : Sign). s.1.md5) text_order_total) (on_total (λ (s : Sign). s.1.size) nat_cmp_total))))
 
-first_tied : (a b : Ordering) → ordering_then a b ≡ Equal → a ≡ Equal
-first_tied Less b e = e
-first_tied Equal b e = refl
-first_tied Greater b e = e
-
-second_tied : (a b : Ordering) → ordering_then a b ≡ Equal → b ≡ Equal
-second_tied Less b e = cc
-second_tied Equal b e = e
-second_tied Greater b e = cc
-
 same_sign : (a b : Sign) → a.0 ≡ b.0 → a.1.sha256 ≡ b.1.sha256 → a.1.sha1 ≡ b.1.sha1 → a.1.md5 ≡ b.1.md5 → a.1.size ≡ b.1.size → a ≡ b
 same_sign a b n s t m z = λ i. (n i, record { size = z i; md5 = m i; sha1 = t i; sha256 = s i })
 
-pub sign_order-IsAntisymmetric : IsAntisymmetric sign_order
-unfolding sign_order
-sign_order-IsAntisymmetric a b e =
+pub judging_order-IsAntisymmetric : IsAntisymmetric judging_order
+unfolding judging_order
+judging_order-IsAntisymmetric a b e =
     let two = second_tied _ _ e in
     let three = second_tied _ _ two in
     let four = second_tied _ _ three in
@@ -47,4 +35,4 @@ sign_order-IsAntisymmetric a b e =
 
 -- so is that of uploads
 pub row_order_total : IsTotalOrder row_order
-row_order_total = on_total (λ (x : ℕ × Upload). sign_in x.1) sign_order_total
+row_order_total = on_total (λ (x : ℕ × UploadRow). sign_in x.1) judging_order_total

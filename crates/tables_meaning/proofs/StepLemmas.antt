@@ -11,8 +11,8 @@ use Rattle.tables.specs.Bodies.{body_with}
 use Rattle.tables.specs.Rows.{Tables, Numbered, Rises, changed}
 use Rattle.tables.specs.Uploads.{is_upload, with_verdict}
 use Rattle.tables.specs.Wants.{without_wants}
-use Rattle.tables.specs.declared.rows.Body.{Body}
-use Rattle.tables.specs.declared.rows.Upload.{Upload}
+use Rattle.tables.specs.declared.rows.BodyRow.{BodyRow}
+use Rattle.tables.specs.declared.rows.UploadRow.{UploadRow}
 use Rattle.keep.specs.Book.{shown_past}
 use Rattle.keep.specs.Keeping.{AreSteps}
 use Rattle.keep.specs.declared.change.Judgement.{Judgement}
@@ -53,7 +53,7 @@ judged_part : (place : ℕ) (j : Judgement) (t : Tables) → with_judged place j
 unfolding with_judged
 judged_part place j t = go (find (λ x. is_upload j.name j.print x.1) t.uploads)
   where
-    go : (o : Option (ℕ × Upload)) → option_map_or (λ x. without_wants x.0 (with_verdict x.0 place (number_of j.verdict) t)) o t
+    go : (o : Option (ℕ × UploadRow)) → option_map_or (λ x. without_wants x.0 (with_verdict x.0 place (number_of j.verdict) t)) o t
         ≡ uploads_from t (option_map_or (λ x. without_wants x.0 (with_verdict x.0 place (number_of j.verdict) t)) o t)
     go None = refl
     go (Some x) = refl
@@ -62,9 +62,9 @@ judged_rises : (place : ℕ) (j : Judgement) (t : Tables) → Rises t.uploads �
 unfolding with_judged
 judged_rises place j t up = go (find (λ x. is_upload j.name j.print x.1) t.uploads)
   where
-    go : (o : Option (ℕ × Upload)) → Rises (option_map_or (λ x. without_wants x.0 (with_verdict x.0 place (number_of j.verdict) t)) o t).uploads
+    go : (o : Option (ℕ × UploadRow)) → Rises (option_map_or (λ x. without_wants x.0 (with_verdict x.0 place (number_of j.verdict) t)) o t).uploads
     go None = up
-    go (Some x) = rises_changed (λ (y : ℕ × Upload). nat_eq y.0 x.0) (λ u. record u { place = Some place; verdict = Some (number_of j.verdict) }) t.uploads up
+    go (Some x) = rises_changed (λ (y : ℕ × UploadRow). nat_eq y.0 x.0) (λ u. record u { place = Some place; verdict = Some (number_of j.verdict) }) t.uploads up
 
 -- what a judgement leaves
 record IsJudged (t u : Tables) : Type 0 where
@@ -77,7 +77,7 @@ judged_leaves judged (Some j) t = record { is = judged_part (judged + 1) j t; ri
 
 -- ---- steps
 
-abbrev IsArrived : Numbered Body → Step → Type 0
+abbrev IsArrived : Numbered BodyRow → Step → Type 0
 IsArrived bodies s = All (λ f. IsTrue (is_some (body_with f.print bodies))) s.plan.files_added
 
 abbrev IsInside : List Suite → Step → Type 0

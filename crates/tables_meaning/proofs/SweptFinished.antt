@@ -7,18 +7,19 @@ use Rattle.sqlite_keyed.proofs.ListLemmas.{all_weaker, filter_same}
 use Rattle.sums.proofs.Members.{any_some}
 use Rattle.tables.specs.Pieces.{is_of}
 use Rattle.tables.specs.Rows.{Rises, Tables, rows_of, without}
-use Rattle.tables.specs.declared.rows.Arrival.{Arrival}
-use Rattle.tables.specs.declared.rows.Body.{Body}
+use Rattle.tables.specs.declared.rows.ArrivalRow.{ArrivalRow}
+use Rattle.tables.specs.declared.rows.BodyRow.{BodyRow}
 use Rattle.tables.specs.declared.rows.File.{File}
 use Rattle.tables.specs.declared.rows.Piece.{Piece}
 use Rattle.tables_meaning.specs.Finished.{finished, is_of_unfinished, is_unfinished}
 use Rattle.tables_meaning.specs.Kept.{AreArrivals, has_body, is_used}
 use Rattle.tables_meaning.specs.Sweeping.{swept}
-use Rattle.tables_meaning.proofs.BodyLemmas.{any_same, arrival_has, file_has, used_by}
+use Rattle.tables_meaning.proofs.BodyLemmas.{arrival_has, file_has, used_by}
+use Rattle.keep.proofs.Arrivals.{any_same}
 use Rattle.tables_meaning.proofs.FinishedLemmas.{has_unfinished, left_whole, tells}
 use Rattle.tables_meaning.proofs.Searches.{any_parts, filter_same_on, filter_twice, list_any-filter}
 
-and_true : (b : Bool) → (b && true) ≡ b
+pub and_true : (b : Bool) → (b && true) ≡ b
 and_true true = refl
 and_true false = refl
 
@@ -35,15 +36,15 @@ module _ (u : Tables) (up : Rises u.bodies) (whole : UseWhole u) where
   used_whole : (id : ℕ) → is_used u id ≡ true → has_body (finished u) id ≡ true
   used_whole id used = elim (or_cases (arrival_has u id) (file_has u id) (sym (used_by u id) ∙ used)) [
     | inl e ↦
-        let a = any_some (λ (a : Arrival). nat_eq a.body id) (rows_of u.arrivals) e in
-        subst (λ n. has_body (finished u) n ≡ true) (eqb-true a.0.body id a.2) (All-contains (λ (a : Arrival). IsTrue (has_body (finished u) a.body)) (rows_of u.arrivals) a.0 whole.arrivals a.1)
+        let a = any_some (λ (a : ArrivalRow). nat_eq a.body id) (rows_of u.arrivals) e in
+        subst (λ n. has_body (finished u) n ≡ true) (eqb-true a.0.body id a.2) (All-contains (λ (a : ArrivalRow). IsTrue (has_body (finished u) a.body)) (rows_of u.arrivals) a.0 whole.arrivals a.1)
     | inr e ↦
         let f = any_some (λ (f : File). nat_eq f.body id) (rows_of u.files) e in
         subst (λ n. has_body (finished u) n ≡ true) (eqb-true f.0.body id f.2) (All-contains (λ (f : File). IsTrue (has_body (finished u) f.body)) (rows_of u.files) f.0 whole.files f.1)
   ]
 
   -- a body that is not whole is not used
-  abbrev IsHidden : ℕ × Body → Type 0
+  abbrev IsHidden : ℕ × BodyRow → Type 0
   IsHidden x = is_unfinished x ≡ true → is_used u x.0 ≡ false
 
   hidden : AllByRecursion IsHidden u.bodies
@@ -52,10 +53,10 @@ module _ (u : Tables) (up : Rises u.bodies) (whole : UseWhole u) where
       (λ y is un. false_from_ne_true (is_used u y.0) (λ used. both_ways (has_unfinished u.bodies y.0) (left_whole u up y.0 (used_whole y.0 used)) (is ∙ un)))
       u.bodies (tells u.bodies up)
 
-  hidden_at : (x : ℕ × Body) → Contains u.bodies x → IsHidden x
+  hidden_at : (x : ℕ × BodyRow) → Contains u.bodies x → IsHidden x
   hidden_at x c = All-contains IsHidden u.bodies x (All-from_recursion IsHidden u.bodies hidden) c
 
-  abbrev gone : ℕ × Body → Bool
+  abbrev gone : ℕ × BodyRow → Bool
   gone x = not (is_used u x.0)
 
   abbrev goes : Piece → Bool
@@ -71,7 +72,7 @@ module _ (u : Tables) (up : Rises u.bodies) (whole : UseWhole u) where
       (all_weaker IsHidden (λ x. not (gone x) ≡ (not (is_unfinished x) && not (gone x))) (λ x h. each x h (is_unfinished x) refl) u.bodies hidden)
       ∙ filter_twice (λ x. not (is_unfinished x)) (λ x. not (gone x)) u.bodies
     where
-      each : (x : ℕ × Body) → IsHidden x → (b : Bool) → is_unfinished x ≡ b → not (gone x) ≡ (not b && not (gone x))
+      each : (x : ℕ × BodyRow) → IsHidden x → (b : Bool) → is_unfinished x ≡ b → not (gone x) ≡ (not b && not (gone x))
       each x h true e = ap (λ b. not (not b)) (h e)
       each x h false e = refl
 
@@ -80,7 +81,7 @@ module _ (u : Tables) (up : Rises u.bodies) (whole : UseWhole u) where
       any_same (λ x. is_unfinished x && (gone x && is_of x.0 p)) (λ x. is_of x.0 p && is_unfinished x) u.bodies
       (λ x c. each x (hidden_at x c) (is_unfinished x) refl)
     where
-      each : (x : ℕ × Body) → IsHidden x → (b : Bool) → is_unfinished x ≡ b → (b && (gone x && is_of x.0 p)) ≡ (is_of x.0 p && b)
+      each : (x : ℕ × BodyRow) → IsHidden x → (b : Bool) → is_unfinished x ≡ b → (b && (gone x && is_of x.0 p)) ≡ (is_of x.0 p && b)
       each x h true e = ap (λ b. not b && is_of x.0 p) (h e) ∙ sym (and_true (is_of x.0 p))
       each x h false e = sym (and_right (is_of x.0 p) false refl)
 

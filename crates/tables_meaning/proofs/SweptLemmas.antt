@@ -19,11 +19,11 @@ use Rattle.keep.specs.declared.change.Judgement.{Judgement}
 use Rattle.tables.specs.Files.{is_file_at}
 use Rattle.tables.specs.Pieces.{is_of}
 use Rattle.tables.specs.Rows.{Numbered, Tables, rows_of, without}
-use Rattle.tables.specs.declared.rows.Body.{Body}
+use Rattle.tables.specs.declared.rows.BodyRow.{BodyRow}
 use Rattle.tables.specs.declared.rows.File.{File}
 use Rattle.tables.specs.declared.rows.Piece.{Piece}
 use Rattle.tables.specs.declared.meta.TheConstants.{VERSION}
-use Rattle.tables_meaning.specs.Kept.{AreArrivals, AreBodies, AreFiles, AreItems, AreSigned, AreStored, AreUploads, IsKept, arrival_in, arrivals_in, book_in, bytes_of, date_row, files_in, has_body, is_used, pieces_for, pieces_of, print_at}
+use Rattle.tables_meaning.specs.Kept.{AreArrivals, AreBodies, AreFiles, AreItems, AreSigned, AreStored, AreUploads, IsBook, arrival_in, arrivals_in, book_in, bytes_of, date_row, files_in, has_body, is_used, pieces_for, pieces_of, print_at}
 use Rattle.tables_meaning.specs.Sweeping.{swept}
 use Rattle.tables_meaning.proofs.BodyLemmas.{all_if, found, its_arrival, its_file, map_alike, row_of_body}
 use Rattle.tables_meaning.proofs.LikeLemmas.{items_like}
@@ -31,7 +31,7 @@ use Rattle.tables_meaning.proofs.RequestLemmas.{requests, rows_from_uploads, upl
 use Rattle.tables_meaning.proofs.RowLists.{all_filtered, any_kept, ascending_from_pairs, find_kept, pairs_from_ascending}
 use Rattle.tables_meaning.proofs.Searches.{all_in_rows, all_of_rows}
 
-unset : (b : Bool) → not b ≡ true → b ≡ false
+pub unset : (b : Bool) → not b ≡ true → b ≡ false
 unset true e = absurd (true≢false (sym e))
 unset false e = refl
 
@@ -44,7 +44,7 @@ set_if_clear true e = refl
 set_if_clear false e = absurd (true≢false e)
 
 module _ (u : Tables) where
-  abbrev gone : ℕ × Body → Bool
+  abbrev gone : ℕ × BodyRow → Bool
   gone x = not (is_used u x.0)
 
   -- the piece is one of a body that goes
@@ -56,14 +56,14 @@ module _ (u : Tables) where
   used_swept id = refl
 
   -- the number of a used body is that of none that goes
-  kept_number : (id : ℕ) → is_used u id ≡ true → (x : ℕ × Body) → gone x ≡ true → nat_eq x.0 id ≡ false
+  kept_number : (id : ℕ) → is_used u id ≡ true → (x : ℕ × BodyRow) → gone x ≡ true → nat_eq x.0 id ≡ false
   kept_number id used x away =
       false_from_ne_true (nat_eq x.0 id) (λ same. both_ways (is_used u x.0) (unset (is_used u x.0) away) (ap (is_used u) (eqb-true x.0 id same) ∙ used))
 
   pub print_swept : (id : ℕ) → is_used u id ≡ true → print_at (swept u) id ≡ print_at u id
   unfolding swept
   print_swept id used =
-      ap (option_and_then (λ (x : ℕ × Body). x.1.print))
+      ap (option_and_then (λ (x : ℕ × BodyRow). x.1.print))
       (find_kept (λ x. nat_eq x.0 id) gone u.bodies (all_of (λ x. gone x ≡ true → nat_eq x.0 id ≡ false) (kept_number id used) u.bodies))
 
   pub body_swept : (id : ℕ) → is_used u id ≡ true → has_body u id ≡ true → has_body (swept u) id ≡ true
@@ -77,7 +77,7 @@ module _ (u : Tables) where
       any_from_none (λ x. gone x && is_of x.0 p) u.bodies
       (all_of (λ x. (gone x && is_of x.0 p) ≡ false) (λ x. each x (gone x) (nat_eq p.body x.0) refl refl) u.bodies)
     where
-      each : (x : ℕ × Body) (b c : Bool) → gone x ≡ b → nat_eq p.body x.0 ≡ c → (b && c) ≡ false
+      each : (x : ℕ × BodyRow) (b c : Bool) → gone x ≡ b → nat_eq p.body x.0 ≡ c → (b && c) ≡ false
       each x true true e f =
           absurd (both_ways (is_used u x.0) (unset (is_used u x.0) e) (ap (is_used u) (sym (eqb-true p.body x.0 f) ∙ eqb-true p.body id of) ∙ used))
       each x true false e f = refl
@@ -107,7 +107,7 @@ module _ (u : Tables) where
   -- ---- bodies
 
   -- what holds of each body that is used
-  on_left : (P Q : ℕ × Body → Type 0) → ((x : ℕ × Body) → is_used u x.0 ≡ true → P x → Q x) → All P u.bodies → All Q (swept u).bodies
+  on_left : (P Q : ℕ × BodyRow → Type 0) → ((x : ℕ × BodyRow) → is_used u x.0 ≡ true → P x → Q x) → All P u.bodies → All Q (swept u).bodies
   unfolding swept
   on_left P Q f all =
       All-from_recursion Q (without gone u.bodies)
@@ -117,7 +117,7 @@ module _ (u : Tables) where
   apart_swept : AllPairs (λ x y. x.1.print ≢ y.1.print) u.bodies → AllPairs (λ x y. x.1.print ≢ y.1.print) (swept u).bodies
   unfolding swept
   apart_swept h =
-      let R : ℕ × Body → ℕ × Body → Type 0 = λ x y. x.1.print ≢ y.1.print in
+      let R : ℕ × BodyRow → ℕ × BodyRow → Type 0 = λ x y. x.1.print ≢ y.1.print in
       pairs_from_ascending R (without gone u.bodies) (ascending-filter R (λ x. not (gone x)) u.bodies (ascending_from_pairs R u.bodies h))
 
   -- a piece that stays is one of a body that is used
@@ -228,7 +228,7 @@ pub record IsUnswept (t : Tables) (config : ConfigValue) (judged : List Judgemen
 
 module _ (t : Tables) (config : ConfigValue) (judged : List Judgement) (shown : ShelvesValue) (dates : List ℕ) where
   -- where each body is used the rows are those of an archive
-  pub kept_if_used : IsUnswept t config judged shown dates → All (λ x. IsTrue (is_used t x.0)) t.bodies → IsKept t config judged shown dates
+  pub kept_if_used : IsUnswept t config judged shown dates → All (λ x. IsTrue (is_used t x.0)) t.bodies → IsBook t config judged shown dates
   kept_if_used h used = record {
     meta = h.meta;
     read = h.read;
@@ -247,7 +247,7 @@ module _ (t : Tables) (config : ConfigValue) (judged : List Judgement) (shown : 
   }
 
   -- and else they are once the unused ones are away
-  pub kept_if_swept : IsUnswept t config judged shown dates → IsKept (swept t) config judged shown dates
+  pub kept_if_swept : IsUnswept t config judged shown dates → IsBook (swept t) config judged shown dates
   unfolding swept
   kept_if_swept h = record {
     meta = h.meta;

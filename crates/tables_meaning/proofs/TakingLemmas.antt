@@ -17,14 +17,14 @@ use Rattle.sums.specs.declared.print.Print.{Print}
 use Rattle.tables.specs.Arrivals.{is_arrival}
 use Rattle.tables.specs.Bodies.{body_with}
 use Rattle.tables.specs.Rows.{Tables, Changes, Holds, next_in, tables_in}
-use Rattle.tables.specs.declared.rows.Arrival as rows_arrival
-use Rattle.tables.specs.declared.rows.Body.{Body}
+use Rattle.tables.specs.declared.rows.ArrivalRow.{ArrivalRow}
+use Rattle.tables.specs.declared.rows.BodyRow.{BodyRow}
 use Rattle.tables.proofs.BookLemmas.{held_tables, is_archive}
-use Rattle.tables_meaning.specs.Archives.{KeepsArchive, Turns, book_of}
+use Rattle.tables_meaning.specs.Archives.{KeepsArchive, Turns, book_in_database}
 use Rattle.tables_meaning.specs.Cleaning.{counts_row}
 use Rattle.tables_meaning.specs.Coming.{Comes, HasComing, HasSamePieces, IsNoOther, IsSameAs, coming_number, ended_number, with_coming, with_ended, with_finished, with_next_piece}
 use Rattle.tables_meaning.specs.Finished.{AreUnderWay, finished, without_all, without_whole}
-use Rattle.tables_meaning.specs.Kept.{IsKept, book_in, bytes_of, has_body, pieces_for, pieces_of}
+use Rattle.tables_meaning.specs.Kept.{IsBook, book_in, bytes_of, has_body, pieces_for, pieces_of}
 use Rattle.tables_meaning.specs.Making.{number_with, with_bytes, with_delivered}
 use Rattle.tables_meaning.specs.Taking.{HasNoOther, listed_in}
 use Rattle.tables_meaning.specs.Transactions.{MayCommit}
@@ -70,7 +70,7 @@ pub same_archive : (before after : Database) → after ≡ before → {config : 
     → KeepsArchive before config judged shown dates → Turns before after config judged shown dates judged shown dates (λ b. b)
 same_archive before after same {config} {judged} {shown} {dates} keeps = record {
   kept = subst (λ db. KeepsArchive db config judged shown dates) (sym same) keeps;
-  book = ap (λ db. book_of db config judged shown dates) same;
+  book = ap (λ db. book_in_database db config judged shown dates) same;
 }
 
 -- a body without a number has no byte
@@ -107,7 +107,7 @@ module _ (old : State) (settled : IsTrue old.is_open → old.now ≡ old.committ
       record {
         kept = record {
           held = is_archive db new held;
-          kept = subst (λ t. IsKept t config judged shown dates) (sym is) keeps.kept;
+          kept = subst (λ t. IsBook t config judged shown dates) (sym is) keeps.kept;
           coming = subst AreUnderWay (sym (held_tables db new held)) under;
         };
         book = ap (book_in config judged shown dates) is;
@@ -174,7 +174,7 @@ module _ (old : State) (settled : IsTrue old.is_open → old.now ≡ old.committ
       its_pieces =
           sym (pieces_finished was keeps.held.rows.bodies.rise found here)
           ∙ subst (λ n. pieces_of left n ≡ pieces_for n (bytes_of left n)) row.number
-          (All-contains (λ (x : ℕ × Body). pieces_of left x.0 ≡ pieces_for x.0 (bytes_of left x.0)) left.bodies row.body keeps.kept.bodies.pieces row.within)
+          (All-contains (λ (x : ℕ × BodyRow). pieces_of left x.0 ≡ pieces_for x.0 (bytes_of left x.0)) left.bodies row.body keeps.kept.bodies.pieces row.within)
 
       by : (o : Option ℕ) → body ≡ o → IsSameAs o count found was → bytes_of left found ≡ bytes
       by None none same = no_bytes was found (bytes_of left found) its_pieces same ∙ sym (no_number bytes left (sym comes.number ∙ none))
@@ -214,7 +214,7 @@ module _ (old : State) (settled : IsTrue old.is_open → old.now ≡ old.committ
       delivery_turns = record {
         kept = record {
           held = is_archive db (with_finished name body print moment was) (done was held_now);
-          kept = subst (λ t. IsKept t config judged shown dates) (sym all_finished) keeps_delivery.kept;
+          kept = subst (λ t. IsBook t config judged shown dates) (sym all_finished) keeps_delivery.kept;
           coming = finished_under_way (tables_in db) (all_finished ∙ sym rows_are);
         };
         book = ap (book_in config judged shown dates) all_finished ∙ keeps_delivery.book;
@@ -227,7 +227,7 @@ module _ (old : State) (settled : IsTrue old.is_open → old.now ≡ old.committ
     pub delivery_new : (new : Bool)
         → ((t : Tables) → Holds old.now t
         → new ≡ not (list_any (λ x. is_arrival name (ended_number body print t) x.1 && counts_row (span config) moment x.1) (with_ended body print t).arrivals))
-        → new ≡ not (has_arrival (at_moment moment (book_of old.committed config judged shown dates)).arrivals (record { name = name; body = bytes; moment = moment }))
+        → new ≡ not (has_arrival (at_moment moment (book_in_database old.committed config judged shown dates)).arrivals (record { name = name; body = bytes; moment = moment }))
     unfolding at_moment book_in
     delivery_new new answer =
         let number : ended_number body print was ≡ number_with (print_of bytes) (with_bytes (print_of bytes) bytes left) =
@@ -235,5 +235,5 @@ module _ (old : State) (settled : IsTrue old.is_open → old.now ≡ old.committ
         let rows : with_ended body print was ≡ with_bytes (print_of bytes) bytes left =
         (λ i. with_ended (comes.number i) (printed i) (comes.coming.rows i)) ∙ ended_stored bytes left (print_of bytes) whole twice in
         answer was held_now
-        ∙ (λ i. not (list_any (λ (x : ℕ × rows_arrival.Arrival). is_arrival name (number i) x.1 && counts_row (span config) moment x.1) (rows i).arrivals))
+        ∙ (λ i. not (list_any (λ (x : ℕ × ArrivalRow). is_arrival name (number i) x.1 && counts_row (span config) moment x.1) (rows i).arrivals))
         ∙ ap not (keeps_delivery.known (span config) moment)

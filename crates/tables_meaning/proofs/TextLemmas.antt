@@ -20,9 +20,10 @@ use Rattle.sums.proofs.Members.{all_at, contains_map, from_map, here, no_member,
 use Rattle.tables.specs.Dates.{with_new_date}
 use Rattle.tables.specs.Rows.{Numbered, Tables, changed, rows_of}
 use Rattle.tables.specs.Texts.{has_path, with_new_text}
-use Rattle.tables.specs.declared.rows.IndexText as rows_text
+use Rattle.tables.specs.declared.rows.TextRow.{TextRow}
 use Rattle.texts.specs.Indices.{PathText, all_texts, folder_texts, index_text, suite_path, suite_texts, text_at, texts_from}
 use Rattle.texts.specs.Release.{index_path, listed_entry, listed_texts}
+use Rattle.texts.proofs.Apart.{PathsDiffer, found_of_apart, not_equal}
 use Rattle.texts.proofs.Found.{text_at-found, text_at-other}
 use Rattle.tables_meaning.specs.Kept.{book_in}
 use Rattle.tables_meaning.specs.Making.{with_new_dates, with_new_texts}
@@ -30,28 +31,9 @@ use Rattle.tables_meaning.specs.OneBook.{first_same, rest_same}
 
 -- ---- texts by their paths
 
-abbrev pub PathsDiffer : PathText → PathText → Type 0
-PathsDiffer d e = d.0 ≢ e.0
-
 -- No two texts of the configuration stand at one path, whatever its suites show and whenever that last changed.
 abbrev pub HasPathsApart : ConfigValue → Type 0
 HasPathsApart config = (shown : ShelvesValue) (dates : List ℕ) → AllPairs PathsDiffer (all_texts config shown dates)
-
-pub not_equal : (a b : List ℕ) → a ≢ b → bytes_eq a b ≡ false
-not_equal a b h = by_case (bytes_eq a b) refl
-  where
-    by_case : (t : Bool) → bytes_eq a b ≡ t → t ≡ false
-    by_case true e = absurd (h ((bytes_eq-Decides a b).0 e))
-    by_case false e = refl
-
--- a text whose path no other has is found there
-found_apart : (es : List PathText) (e : PathText) → AllPairs PathsDiffer es → Contains es e → text_at e.0 es ≡ Some e.1
-found_apart [] e h at = no_member e at
-found_apart (d ∷ es) e h at = elim (which d e es at) [
-  | inl is ↦ text_at-found e.0 d es ((bytes_eq-Decides d.0 e.0).1 (ap (λ (x : PathText). x.0) is)) ∙ ap (λ (x : PathText). Some x.1) is
-  | inr later ↦ text_at-other e.0 d es (not_equal d.0 e.0 (all_at (PathsDiffer d) es e (pairs_head PathsDiffer d es h) later))
-      ∙ found_apart es e (pairs_tail PathsDiffer d es h) later
-]
 
 abbrev pub paths_of : List PathText → List (List ℕ)
 paths_of = map (λ e. e.0)
@@ -113,7 +95,7 @@ same_paths shown others suite (s ∷ ss) (d ∷ ds) (m ∷ ms) e =
 
 -- ---- rows of texts
 
-abbrev pub entry_of : rows_text.IndexText → PathText
+abbrev pub entry_of : TextRow → PathText
 entry_of x = (x.path, x.body)
 
 -- what a text that is written makes of the text at a path, and what several make of it in turn
@@ -127,15 +109,15 @@ rewritten (x ∷ xs) path body = rewritten xs path (if bytes_eq path x.path then
 abbrev all_written : List IndexText → PathText → PathText
 all_written texts e = (e.0, rewritten texts e.0 e.1)
 
-abbrev set_body : List ℕ → rows_text.IndexText → rows_text.IndexText
+abbrev set_body : List ℕ → TextRow → TextRow
 set_body body r = record r { body = body }
 
-row_written : (x : IndexText) (n : ℕ) (r : rows_text.IndexText) (b : Bool) (rest : Numbered rows_text.IndexText)
+row_written : (x : IndexText) (n : ℕ) (r : TextRow) (b : Bool) (rest : Numbered TextRow)
     → map entry_of (rows_of ((if b then (n, set_body x.text r) else (n, r)) ∷ rest)) ≡ (r.path, if b then x.text else r.body) ∷ map entry_of (rows_of rest)
 row_written x n r true rest = refl
 row_written x n r false rest = refl
 
-rows_written : (x : IndexText) (rows : Numbered rows_text.IndexText)
+rows_written : (x : IndexText) (rows : Numbered TextRow)
     → map entry_of (rows_of (changed (λ r. has_path x.path r.1) (set_body x.text) rows)) ≡ map (written x) (map entry_of (rows_of rows))
 rows_written x [] = refl
 rows_written x (r ∷ rs) =
@@ -211,7 +193,7 @@ module _ (t : Tables) (config : ConfigValue) (judged : List Judgement) (shown : 
           ∙ (all_at (λ (y : IndexText). (book_text (amended (book_in config judged shown dates t) change) y.path ≡ Some y.text) × (book_text (book_in config judged shown dates t) y.path ≢ Some y.text)) change.texts x renewed.named listed).0)
           (elim (renewed.rest e.0) [
             | inl listed ↦ inl listed
-            | inr same ↦ inr (sym (new_is e.0) ∙ sym same ∙ old_is e.0 ∙ found_apart old_texts e (apart shown dates) at)
+            | inr same ↦ inr (sym (new_is e.0) ∙ sym same ∙ old_is e.0 ∙ found_of_apart old_texts e (apart shown dates) at)
           ]),
     )
 

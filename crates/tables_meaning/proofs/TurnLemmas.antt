@@ -20,7 +20,7 @@ use Rattle.keep.specs.declared.change.Change.{Change}
 use Rattle.keep.specs.declared.change.Judgement.{Judgement}
 use Rattle.keep.specs.declared.change.Step.{Step}
 use Rattle.tables_meaning.specs.Amending.{HasAllBodies}
-use Rattle.tables_meaning.specs.Archives.{Amends, KeepsArchive, book_of}
+use Rattle.tables_meaning.specs.Archives.{Amends, KeepsArchive, book_in_database}
 use Rattle.tables_meaning.specs.Changing.{is_within, puts_within}
 use Rattle.tables_meaning.specs.Coming.{Comes, HasComing}
 use Rattle.tables_meaning.specs.Finished.{AreUnderWay, finished}
@@ -63,7 +63,7 @@ all_within suites now steps made test tests same are passed =
 -- what a change makes of a database, whatever archive of this configuration it was, with so many judgements
 abbrev pub AmendsBy : Database → Database → ConfigValue → ℕ → Change → Type 0
 AmendsBy before after config judged change = (prior : List Judgement) (shown : ShelvesValue) (dates : List ℕ)
-    → KeepsArchive before config prior shown dates → length prior ≡ judged → IsSound (book_of before config prior shown dates) change
+    → KeepsArchive before config prior shown dates → length prior ≡ judged → IsSound (book_in_database before config prior shown dates) change
     → Amends before after config prior shown dates change
 
 -- what has come stays so beside a change
@@ -146,7 +146,7 @@ module _ (config : ConfigValue) (judged : ℕ) (change : Change) (small : change
     (inside : All (λ s. All (λ e. e.0.suite < length config.suites) s.plan.put) change.steps) where
   module _ (before after : Database) (arrived : (t : Tables) → Holds before t → HasAllBodies t change.steps) (held : (t : Tables) → Holds before t → Holds after (with_change config judged change t))
       (prior : List Judgement) (shown : ShelvesValue) (dates : List ℕ) (archive : KeepsArchive before config prior shown dates) (count : length prior ≡ judged)
-      (sound : IsSound (book_of before config prior shown dates) change) where
+      (sound : IsSound (book_in_database before config prior shown dates) change) where
     abbrev rows_before : Tables
     rows_before = tables_in before
 
@@ -198,7 +198,7 @@ module _ (config : ConfigValue) (judged : ℕ) (change : Change) (small : change
     pub done_ends : list_any takes_file change.steps ≡ true → {X E : Type 0} (r : Result X E) → OnOk r (IsDone old new (with_change config judged change))
         → OnOk r ((t : Tables) → Holds old.now t → HasAllBodies t change.steps)
         → OnOk r ((prior : List Judgement) (shown : ShelvesValue) (dates : List ℕ) → KeepsArchive old.committed config prior shown dates → length prior ≡ judged
-        → IsSound (book_of old.committed config prior shown dates) change → HasComing (tables_in new.committed) [])
+        → IsSound (book_in_database old.committed config prior shown dates) change → HasComing (tables_in new.committed) [])
     done_ends takes (Ok x) done arrived = λ prior shown dates archive count sound.
         ends old.committed new.committed (λ t was. arrived t (now_held done.was_open t was)) (λ t was. done.held t (now_held done.was_open t was)) prior shown dates archive count sound takes
     done_ends takes (Err e) done arrived = tt

@@ -6,7 +6,7 @@ use Rattle.sqlite_keyed.proofs.ListLemmas.{all_weaker}
 use Rattle.sums.specs.declared.print.Print.{Print}
 use Rattle.tables.specs.Pieces.{is_of}
 use Rattle.tables.specs.Rows.{Numbered, Tables, rows_of}
-use Rattle.tables.specs.declared.rows.Body.{Body}
+use Rattle.tables.specs.declared.rows.BodyRow.{BodyRow}
 use Rattle.tables.specs.declared.rows.Piece.{Piece}
 use Rattle.tables_meaning.specs.Finished.{AreUnderWay, finished, is_unfinished}
 use Rattle.tables_meaning.specs.Kept.{bytes_of, pieces_for, pieces_of}
@@ -18,7 +18,7 @@ has_print o some none = true≢false (sym (ap (λ p. not (is_some p)) none) ∙ 
 -- no body that is not whole is there
 pub whole_under_way : (t : Tables) → AllByRecursion (λ x. is_unfinished x ≡ false) t.bodies → AreUnderWay t
 whole_under_way t whole =
-    let P : ℕ × Body → Type 0 = λ x. x.1.print ≡ None → pieces_of t x.0 ≡ pieces_for x.0 (bytes_of t x.0) in
+    let P : ℕ × BodyRow → Type 0 = λ x. x.1.print ≡ None → pieces_of t x.0 ≡ pieces_for x.0 (bytes_of t x.0) in
     record {
       pieces = All-from_recursion P t.bodies (all_weaker (λ x. is_unfinished x ≡ false) P (λ x some none. absurd (has_print x.1.print some none)) t.bodies whole);
     }
@@ -32,6 +32,6 @@ finished_under_way t same = whole_under_way t (subst (λ (u : Tables). AllByRecu
 pub like_under_way : (t u : Tables) → u.bodies ≡ t.bodies → u.pieces ≡ t.pieces → AreUnderWay t → AreUnderWay u
 unfolding bytes_of
 like_under_way t u bodies pieces h =
-    let AreIn : Numbered Body → Numbered Piece → Type 0 =
+    let AreIn : Numbered BodyRow → Numbered Piece → Type 0 =
     λ bodies pieces. All (λ x. x.1.print ≡ None → filter (is_of x.0) (rows_of pieces) ≡ pieces_for x.0 (flat_map (λ p. p.bytes) (filter (is_of x.0) (rows_of pieces)))) bodies in
     record { pieces = subst₂ AreIn (sym bodies) (sym pieces) h.pieces }

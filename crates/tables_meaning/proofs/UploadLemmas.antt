@@ -12,7 +12,8 @@ use Rattle.records.specs.Values.{ChangesValue}
 use Rattle.sums.specs.Prints.{print as print_of, same_print}
 use Rattle.sums.specs.declared.entries.Entry.{Entry}
 use Rattle.sums.specs.declared.print.Print.{Print}
-use Rattle.keep.specs.Book.{Candidate, candidate_of, has_arrival, is_changes_name, is_judged, is_there, with_arrival}
+use Rattle.keep.specs.Book.{Candidate, candidate_of, has_arrival, is_judged, is_there, with_arrival}
+use Rattle.sums.specs.FileNames.{is_changes_name}
 use Rattle.keep.specs.Keeping.{sign_on}
 use Rattle.keep.specs.declared.arrival.Arrival.{Arrival}
 use Rattle.keep.specs.declared.change.Judgement.{Judgement}
@@ -22,15 +23,15 @@ use Rattle.tables.specs.Bodies.{body_with}
 use Rattle.tables.specs.Rows.{Numbered, Tables, added, changed, next_in, rows_of, with_arrival as put_arrival, with_body, with_piece, with_upload, with_want}
 use Rattle.tables.specs.Uploads.{is_upload}
 use Rattle.tables.specs.Wants.{is_want, with_here}
-use Rattle.tables.specs.declared.rows.Arrival as rows_arrival
+use Rattle.tables.specs.declared.rows.ArrivalRow.{ArrivalRow}
 use Rattle.tables.specs.declared.rows.Piece.{Piece}
-use Rattle.tables.specs.declared.rows.Upload.{Upload}
+use Rattle.tables.specs.declared.rows.UploadRow.{UploadRow}
 use Rattle.tables.specs.declared.rows.Want.{Want}
-use Rattle.tables_meaning.specs.Kept.{AreArrivals, AreBodies, AreNumbered, AreUploads, arrivals_in, arrival_in, bytes_of, has_body, pieces_for, request_of, sign_in, wanted}
+use Rattle.tables_meaning.specs.Kept.{AreArrivals, AreBodies, AreNumbered, AreUploads, arrivals_in, arrival_in, bytes_of, has_body, pieces_for, request_of, sign_in, wanted, Request}
 use Rattle.tables_meaning.specs.Making.{is_here, number_with, with_arrived, with_bytes, with_delivered, with_pieces, with_requested, with_wants}
 use Rattle.tables_meaning.proofs.BodyLemmas.{are_stored, by_number, of_no_print}
 use Rattle.tables_meaning.proofs.Searches.{list_any-map}
-use Rattle.tables_meaning.proofs.WantLemmas.{Sign, Request, is_sign, AreRows, any_row, marked_want, marked_request, with_marked, new_want, new_upload, with_one_more}
+use Rattle.tables_meaning.proofs.WantLemmas.{Sign, is_sign, AreRows, any_row, marked_want, marked_request, with_marked, new_want, new_upload, with_one_more}
 use Rattle.tables_meaning.proofs.RequestLemmas.{judged_by_sign, requests, rows_from_uploads, uploads_from_rows, IsAlone, sign_made, sign_asked, requests_with}
 
 -- ---- the rows that a delivery leaves
@@ -62,7 +63,7 @@ arrived_uploads : (name : List ℕ) (body moment : ℕ) (t : Tables) → (with_a
 unfolding with_arrived
 arrived_uploads name body moment t = go (find (λ x. is_arrival name body x.1) t.arrivals)
   where
-    go : (o : Option (ℕ × rows_arrival.Arrival)) → (option_map_or (λ x. if nat_lt x.1.moment moment then with_moment x.0 moment t else t) o (put_arrival (record { name = name; body = body; moment = moment }) t)).uploads ≡ t.uploads
+    go : (o : Option (ℕ × ArrivalRow)) → (option_map_or (λ x. if nat_lt x.1.moment moment then with_moment x.0 moment t else t) o (put_arrival (record { name = name; body = body; moment = moment }) t)).uploads ≡ t.uploads
     go None = refl
     go (Some x) = elim (nat_lt x.1.moment moment) as (λ b. (if b then with_moment x.0 moment t else t).uploads ≡ t.uploads) [ true ↦ refl | false ↦ refl ]
 
@@ -70,7 +71,7 @@ arrived_wants : (name : List ℕ) (body moment : ℕ) (t : Tables) → (with_arr
 unfolding with_arrived
 arrived_wants name body moment t = go (find (λ x. is_arrival name body x.1) t.arrivals)
   where
-    go : (o : Option (ℕ × rows_arrival.Arrival)) → (option_map_or (λ x. if nat_lt x.1.moment moment then with_moment x.0 moment t else t) o (put_arrival (record { name = name; body = body; moment = moment }) t)).wants ≡ t.wants
+    go : (o : Option (ℕ × ArrivalRow)) → (option_map_or (λ x. if nat_lt x.1.moment moment then with_moment x.0 moment t else t) o (put_arrival (record { name = name; body = body; moment = moment }) t)).wants ≡ t.wants
     go None = refl
     go (Some x) = elim (nat_lt x.1.moment moment) as (λ b. (if b then with_moment x.0 moment t else t).wants ≡ t.wants) [ true ↦ refl | false ↦ refl ]
 
@@ -166,7 +167,7 @@ unfolding with_requested
 requested_new name print entries t h =
     ap (λ b. if b then t else with_wants (next_in t.uploads) entries (with_upload (record { name = name; print = print; place = None; verdict = None }) t)) h
 
-here_beside : (t : Tables) (u : Upload) (e : Entry) → is_here (with_upload u t) e ≡ is_here t e
+here_beside : (t : Tables) (u : UploadRow) (e : Entry) → is_here (with_upload u t) e ≡ is_here t e
 unfolding is_here
 here_beside t u e = refl
 

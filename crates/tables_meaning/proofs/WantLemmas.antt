@@ -19,9 +19,9 @@ use Rattle.keep.proofs.Prints.{same_print-Decides}
 use Rattle.tables.specs.Rows.{Numbered, Rises, added, next_in, rows_of}
 use Rattle.tables.specs.Uploads.{is_judged as has_place}
 use Rattle.tables.specs.Wants.{is_want, is_wanted_by}
-use Rattle.tables.specs.declared.rows.Upload.{Upload}
+use Rattle.tables.specs.declared.rows.UploadRow.{UploadRow}
 use Rattle.tables.specs.declared.rows.Want.{Want}
-use Rattle.tables_meaning.specs.Kept.{is_placed, judged_row, sign_in}
+use Rattle.tables_meaning.specs.Kept.{Request, is_placed, judged_row, sign_in}
 use Rattle.tables_meaning.proofs.Searches.{same_tests, all_from, map_same_on, list_any-map, list_any-filter, any_parts, found_any, slice_any, any_slice, below_next}
 
 -- ---- signs
@@ -29,10 +29,6 @@ use Rattle.tables_meaning.proofs.Searches.{same_tests, all_from, map_same_on, li
 -- a name and a print
 abbrev pub Sign : Type 0
 Sign = List ℕ × Print
-
--- an upload that is not judged: its sign and its entries, each with whether it is there
-abbrev pub Request : Type 0
-Request = (List ℕ × Print) × List (List ℕ × Print × Bool)
 
 -- the second is the first
 abbrev pub is_sign : Sign → Sign → Bool
@@ -55,19 +51,19 @@ entry_in w = (w.name, w.print, w.here)
 abbrev pub wants_of : List Want → ℕ → List (List ℕ × Print × Bool)
 wants_of wants id = map entry_in (filter (is_wanted_by id) wants)
 
-abbrev pub request : List Want → ℕ × Upload → Request
+abbrev pub request : List Want → ℕ × UploadRow → Request
 request wants x = (sign_in x.1, wants_of wants x.0)
 
 -- not judged
-abbrev pub is_waiting : ℕ × Upload → Bool
+abbrev pub is_waiting : ℕ × UploadRow → Bool
 is_waiting x = not (has_place x.1)
 
 -- the upload of a number is there and waits
-abbrev pub waits_as : ℕ → ℕ × Upload → Bool
+abbrev pub waits_as : ℕ → ℕ × UploadRow → Bool
 waits_as id x = nat_eq x.0 id && not (has_place x.1)
 
 -- The rows of the uploads and of their wants are those of these requests and these judged uploads.
-pub record AreRows (uploads : Numbered Upload) (wants : List Want) (verdicts : List Judgement) (requests : List Request) : Type 0 where
+pub record AreRows (uploads : Numbered UploadRow) (wants : List Want) (verdicts : List Judgement) (requests : List Request) : Type 0 where
   pub waiting : map (request wants) (filter is_waiting uploads) ≡ requests
   pub owned : AllByRecursion (λ w. list_any (waits_as w.upload) uploads ≡ true) wants
   pub unjudged : AllByRecursion (λ x. x.1.place ≡ None → x.1.verdict ≡ None) uploads
@@ -78,7 +74,7 @@ pub record AreRows (uploads : Numbered Upload) (wants : List Want) (verdicts : L
 
 -- ---- whether an upload is there
 
-placed_at : (m : ℕ) (u : Upload) → is_placed m u ≡ true → u.place ≡ Some m
+placed_at : (m : ℕ) (u : UploadRow) → is_placed m u ≡ true → u.place ≡ Some m
 placed_at m u t = go u.place refl t
   where
     go : (o : Option ℕ) → u.place ≡ o → option_map_or (λ p. nat_eq p m) o false ≡ true → u.place ≡ Some m
@@ -86,7 +82,7 @@ placed_at m u t = go u.place refl t
     go (Some p) e h = e ∙ ap Some (eqb-true p m h)
 
 -- the place of one that has one, from 1
-placed_somewhere : (p : Upload → Bool) (uploads : Numbered Upload) → AllByRecursion (λ x. x.1.place ≢ Some 0) uploads
+placed_somewhere : (p : UploadRow → Bool) (uploads : Numbered UploadRow) → AllByRecursion (λ x. x.1.place ≢ Some 0) uploads
     → list_any (λ x. not (is_waiting x) && p x.1) uploads ≡ true → (n : ℕ) × (list_any (λ x. is_placed (n + 1) x.1 && p x.1) uploads ≡ true)
 placed_somewhere p [] from_one h = absurd (true≢false (sym h))
 placed_somewhere p (x ∷ uploads) from_one h = go (or_cases (not (is_waiting x) && p x.1) (list_any (λ y. not (is_waiting y) && p y.1) uploads) h) (placed_somewhere p uploads from_one.1)
@@ -102,7 +98,7 @@ placed_somewhere p (x ∷ uploads) from_one h = go (or_cases (not (is_waiting x)
     go (inl e) more = let parts = and_parts (not (is_waiting x)) (p x.1) e in let at = first x.1.place refl parts.0 parts.1 in (at.0, or_left _ _ at.1)
     go (inr e) more = let rest = more e in (rest.0, or_right _ _ rest.1)
 
-no_other : (m : ℕ) (p : Upload → Bool) (u : Upload) (uploads : Numbered Upload) → u.place ≡ Some m
+no_other : (m : ℕ) (p : UploadRow → Bool) (u : UploadRow) (uploads : Numbered UploadRow) → u.place ≡ Some m
     → AllByRecursion (λ y. IsTrue (has_place u) → u.place ≢ y.1.place) uploads → list_any (λ y. is_placed m y.1 && p y.1) uploads ≡ true → ⊥
 no_other m p u [] at apart h = true≢false (sym h)
 no_other m p u (y ∷ uploads) at apart h = elim (or_cases (is_placed m y.1 && p y.1) (list_any (λ z. is_placed m z.1 && p z.1) uploads) h) [
@@ -111,14 +107,14 @@ no_other m p u (y ∷ uploads) at apart h = elim (or_cases (is_placed m y.1 && p
 ]
 
 -- the one at a place
-placed_found : (m : ℕ) (p : Upload → Bool) (uploads : Numbered Upload) → IsAscending (λ x y. IsTrue (has_place x.1) → x.1.place ≢ y.1.place) uploads
-    → list_any (λ x. is_placed m x.1 && p x.1) uploads ≡ true → (u : Upload) × (find (is_placed m) (rows_of uploads) ≡ Some u) × (p u ≡ true)
+placed_found : (m : ℕ) (p : UploadRow → Bool) (uploads : Numbered UploadRow) → IsAscending (λ x y. IsTrue (has_place x.1) → x.1.place ≢ y.1.place) uploads
+    → list_any (λ x. is_placed m x.1 && p x.1) uploads ≡ true → (u : UploadRow) × (find (is_placed m) (rows_of uploads) ≡ Some u) × (p u ≡ true)
 placed_found m p [] apart h = absurd (true≢false (sym h))
 placed_found m p (x ∷ uploads) apart h = go (is_placed m x.1) refl h (placed_found m p uploads apart.1)
   where
     go : (b : Bool) → is_placed m x.1 ≡ b → (b && p x.1) || list_any (λ y. is_placed m y.1 && p y.1) uploads ≡ true
-        → (list_any (λ y. is_placed m y.1 && p y.1) uploads ≡ true → (u : Upload) × (find (is_placed m) (rows_of uploads) ≡ Some u) × (p u ≡ true))
-        → (u : Upload) × (cond b (Some x.1) (find (is_placed m) (rows_of uploads)) ≡ Some u) × (p u ≡ true)
+        → (list_any (λ y. is_placed m y.1 && p y.1) uploads ≡ true → (u : UploadRow) × (find (is_placed m) (rows_of uploads) ≡ Some u) × (p u ≡ true))
+        → (u : UploadRow) × (cond b (Some x.1) (find (is_placed m) (rows_of uploads)) ≡ Some u) × (p u ≡ true)
     go true t e more = (
       x.1,
       refl,
@@ -129,7 +125,7 @@ placed_found m p (x ∷ uploads) apart h = go (is_placed m x.1) refl h (placed_f
     )
     go false t e more = more e
 
-module _ (uploads : Numbered Upload) (wants : List Want) (verdicts : List Judgement) (requests : List Request) (are : AreRows uploads wants verdicts requests) (s : Sign) where
+module _ (uploads : Numbered UploadRow) (wants : List Want) (verdicts : List Judgement) (requests : List Request) (are : AreRows uploads wants verdicts requests) (s : Sign) where
   -- one that waits is there for each request
   pub any_waiting : list_any (λ x. is_waiting x && is_sign s (sign_in x.1)) uploads ≡ list_any (λ r. is_sign s r.0) requests
   any_waiting =
@@ -143,7 +139,7 @@ module _ (uploads : Numbered Upload) (wants : List Want) (verdicts : List Judgem
       let row = placed_found (at.0 + 1) (λ u. is_sign s (sign_in u)) uploads are.placed_apart at.1 in
       go at.0 row.0 (slice_get verdicts at.0) refl (sym (are.places at.0) ∙ row.1) row.2
     where
-      go : (n : ℕ) (u : Upload) (o : Option Judgement) → slice_get verdicts n ≡ o → option_map (judged_row (n + 1)) o ≡ Some u → is_sign s (sign_in u) ≡ true
+      go : (n : ℕ) (u : UploadRow) (o : Option Judgement) → slice_get verdicts n ≡ o → option_map (judged_row (n + 1)) o ≡ Some u → is_sign s (sign_in u) ≡ true
           → list_any (λ j. is_sign s (sign_on j)) verdicts ≡ true
       go n u None e f t = cc
       go n u (Some j) e f t = slice_any (λ i. is_sign s (sign_on i)) verdicts n j e (subst (λ v. is_sign s (sign_in v) ≡ true) (let k : u ≡ judged_row (n + 1) j = cc in k) t)
@@ -199,7 +195,7 @@ wants_marked name print wants id =
     ∙ map_same (λ w. entry_in (mark w)) (λ w. marked_entry (name, print) (entry_in w)) (entry_marked name print) (filter (is_wanted_by id) wants)
     ∙ sym (map-map (marked_entry (name, print)) entry_in (filter (is_wanted_by id) wants))
 
-pub with_marked : (uploads : Numbered Upload) (wants : List Want) (verdicts : List Judgement) (requests : List Request) (name : List ℕ) (print : Print)
+pub with_marked : (uploads : Numbered UploadRow) (wants : List Want) (verdicts : List Judgement) (requests : List Request) (name : List ℕ) (print : Print)
     → AreRows uploads wants verdicts requests → AreRows uploads (map (marked_want name print) wants) verdicts (map (marked_request (name, print)) requests)
 with_marked uploads wants verdicts requests name print are =
     let mark = marked_want name print in
@@ -224,7 +220,7 @@ with_marked uploads wants verdicts requests name print are =
 abbrev pub new_want : ℕ → List ℕ × Print × Bool → Want
 new_want id e = record { upload = id; name = e.0; print = e.1; here = e.2 }
 
-abbrev pub new_upload : Sign → Upload
+abbrev pub new_upload : Sign → UploadRow
 new_upload s = record { name = s.0; print = s.1; place = None; verdict = None }
 
 wants-append : (ws vs : List Want) (id : ℕ) → wants_of (ws ++ vs) id ≡ wants_of ws id ++ wants_of vs id
@@ -239,31 +235,31 @@ all_wants [] id = refl
 all_wants (e ∷ es) id = rw (eq-eqb id id refl) (ap (λ l. e ∷ l) (all_wants es id))
 
 -- an upload that is there is not the next one
-not_next : (uploads : Numbered Upload) (next k : ℕ) → AllByRecursion (λ x. x.0 < next) uploads → list_any (waits_as k) uploads ≡ true → nat_eq k next ≡ false
+not_next : (uploads : Numbered UploadRow) (next k : ℕ) → AllByRecursion (λ x. x.0 < next) uploads → list_any (waits_as k) uploads ≡ true → nat_eq k next ≡ false
 not_next [] next k below h = absurd (true≢false (sym h))
 not_next (x ∷ uploads) next k below h = elim (or_cases (waits_as k x) (list_any (waits_as k) uploads) h) [
   | inl e ↦ let same = eqb-true x.0 k (and_parts (nat_eq x.0 k) (not (has_place x.1)) e).0 in ne_eqb k next (λ q. let l = below.0 in omega (arith, l, same, q))
   | inr e ↦ not_next uploads next k below.1 e
 ]
 
-no_row_named : (s : Sign) (uploads : Numbered Upload) → list_any (λ x. is_sign s (sign_in x.1)) uploads ≡ false → AllByRecursion (λ x. sign_in x.1 ≢ s) uploads
+no_row_named : (s : Sign) (uploads : Numbered UploadRow) → list_any (λ x. is_sign s (sign_in x.1)) uploads ≡ false → AllByRecursion (λ x. sign_in x.1 ≢ s) uploads
 no_row_named s [] h = tt
 no_row_named s (x ∷ uploads) h =
     let parts = or_parts (is_sign s (sign_in x.1)) (list_any (λ y. is_sign s (sign_in y.1)) uploads) h in
     (λ e. both_ways (is_sign s (sign_in x.1)) parts.0 ((is_sign-Decides s (sign_in x.1)).1 e), no_row_named s uploads parts.1)
 
 -- An upload of which no row is there gets one, with its wants behind the others.
-pub with_one_more : (uploads : Numbered Upload) (wants : List Want) (verdicts : List Judgement) (requests : List Request) (s : Sign) (es : List (List ℕ × Print × Bool))
+pub with_one_more : (uploads : Numbered UploadRow) (wants : List Want) (verdicts : List Judgement) (requests : List Request) (s : Sign) (es : List (List ℕ × Print × Bool))
     → Rises uploads → AreRows uploads wants verdicts requests → list_any (λ x. is_sign s (sign_in x.1)) uploads ≡ false
     → AreRows (added uploads (new_upload s)) (wants ++ map (new_want (next_in uploads)) es) verdicts (requests ++ (s, es) ∷ [])
 with_one_more uploads wants verdicts requests s es rise are absent =
     let next = next_in uploads in
-    let row : ℕ × Upload = (next, new_upload s) in
+    let row : ℕ × UploadRow = (next, new_upload s) in
     let ws = wants ++ map (new_want next) es in
     let below = below_next uploads rise in
     let others : AllByRecursion (λ w. nat_eq w.upload next ≡ false) wants =
     all_weaker (λ w. list_any (waits_as w.upload) uploads ≡ true) (λ w. nat_eq w.upload next ≡ false) (λ w h. not_next uploads next w.upload below h) wants are.owned in
-    let old : (x : ℕ × Upload) → x.0 < next → request ws x ≡ request wants x = λ x l.
+    let old : (x : ℕ × UploadRow) → x.0 < next → request ws x ≡ request wants x = λ x l.
     ap (λ l. (sign_in x.1, l)) (wants-append wants (map (new_want next) es) x.0
     ∙ ap (λ l. wants_of wants x.0 ++ l) (no_wants (map (new_want next) es) x.0 (all-map (λ w. nat_eq w.upload x.0 ≡ false) (new_want next) (λ e. ne_eqb next x.0 (λ q. omega (arith, l, q))) es))
     ∙ append-nil (wants_of wants x.0)) in

@@ -13,13 +13,14 @@ use Rattle.records.specs.Values.{ChangesValue}
 use Rattle.records.specs.declared.fault.RecordFault.{RecordFault}
 use Rattle.records.proofs.RecordRead.{changes_of_read}
 use Rattle.sums.specs.declared.print.Print.{Print}
-use Rattle.keep.specs.Book.{candidate_of, candidates, is_changes_name, is_judged}
+use Rattle.keep.specs.Book.{candidate_of, candidates, is_judged}
+use Rattle.sums.specs.FileNames.{is_changes_name}
 use Rattle.keep.specs.declared.arrival.Arrival.{Arrival}
 use Rattle.keep.specs.declared.change.Judgement.{Judgement}
 use Rattle.tables.specs.Rows.{Numbered, Rises, Tables, rows_of}
 use Rattle.tables.specs.Uploads.{is_judged as has_place}
 use Rattle.tables.specs.Wants.{IsNextWanting, is_behind, is_wanted_by, wants_behind}
-use Rattle.tables.specs.declared.rows.Upload.{Upload}
+use Rattle.tables.specs.declared.rows.UploadRow.{UploadRow}
 use Rattle.tables.specs.declared.rows.Want.{Want}
 use Rattle.tables_meaning.specs.Kept.{AreUploads, arrivals_in, request_in, request_of, wants_in}
 use Rattle.tables_meaning.specs.Reads.{next_wanting_in, wanting}
@@ -105,7 +106,7 @@ module _ {X : Type 0} where
       go false f more = more f
 
 -- the row of the next number that wants something
-pub next_one : (t : Tables) (after : Option ℕ) (id : ℕ) (y : ℕ × Upload) → Rises t.uploads → IsNextWanting after (rows_of t.wants) (Some id)
+pub next_one : (t : Tables) (after : Option ℕ) (id : ℕ) (y : ℕ × UploadRow) → Rises t.uploads → IsNextWanting after (rows_of t.wants) (Some id)
     → find (λ x. nat_eq x.0 id) t.uploads ≡ Some y → next_wanting_in t after ≡ Some y
 unfolding next_wanting_in
 next_one t after id y up next e = first_is (wants_behind after (rows_of t.wants)) id next.one next.first t.uploads up y e
@@ -115,7 +116,7 @@ unfolding next_wanting_in
 no_next t after next = none_is (wants_behind after (rows_of t.wants)) next.first t.uploads
 
 -- those that are left
-abbrev pub wanting_behind : Tables → Option ℕ → Numbered Upload
+abbrev pub wanting_behind : Tables → Option ℕ → Numbered UploadRow
 wanting_behind t after = filter (λ x. wants_behind after (rows_of t.wants) x.0) t.uploads
 
 later : (after : Option ℕ) (has : Bool) (k n : ℕ) → is_behind after k ≡ true → (nat_lt k n && has) ≡ ((is_behind after n && has) && nat_lt k n)
@@ -136,7 +137,7 @@ later (Some a) has k n h = go (nat_lt k n) (nat_lt a n) has refl refl
     go false true false e f = refl
     go false false d e f = refl
 
-pub one_less : (t : Tables) (after : Option ℕ) (y : ℕ × Upload) → Rises t.uploads → next_wanting_in t after ≡ Some y → wanting_behind t after ≡ y ∷ wanting_behind t (Some y.0)
+pub one_less : (t : Tables) (after : Option ℕ) (y : ℕ × UploadRow) → Rises t.uploads → next_wanting_in t after ≡ Some y → wanting_behind t after ≡ y ∷ wanting_behind t (Some y.0)
 unfolding next_wanting_in
 one_less t after y up e =
     first_then (wants_behind after (rows_of t.wants)) (λ k. wants_behind (Some k) (rows_of t.wants))
@@ -202,7 +203,7 @@ unjudged_want t judged are =
     (all_unmap HasSome (request_in t) (filter (λ x. not (has_place x.1)) t.uploads) (subst (AllByRecursion HasSome) (sym are.waiting) asked)))
 
 -- the entries of a number that some entry is of
-wanted_waits : (uploads : Numbered Upload) (wants : List Want) → AllByRecursion (λ w. list_any (waits_as w.upload) uploads ≡ true) wants
+wanted_waits : (uploads : Numbered UploadRow) (wants : List Want) → AllByRecursion (λ w. list_any (waits_as w.upload) uploads ≡ true) wants
     → (id : ℕ) → list_any (is_wanted_by id) wants ≡ true → list_any (waits_as id) uploads ≡ true
 wanted_waits uploads [] owned id h = absurd (true≢false (sym h))
 wanted_waits uploads (w ∷ wants) owned id h = elim (or_cases (nat_eq w.upload id) (list_any (is_wanted_by id) wants) h) [
@@ -233,8 +234,8 @@ only_one q (x ∷ xs) up =
 pub wanting_unjudged : (t : Tables) (judged : List Judgement) → Rises t.uploads → AreUploads t judged → wanting t ≡ filter (λ x. not (has_place x.1)) t.uploads
 unfolding wanting
 wanting_unjudged t judged up are =
-    let unjudged = λ (x : ℕ × Upload). not (has_place x.1) in
-    let wanted = λ (x : ℕ × Upload). list_any (is_wanted_by x.0) (rows_of t.wants) in
+    let unjudged = λ (x : ℕ × UploadRow). not (has_place x.1) in
+    let wanted = λ (x : ℕ × UploadRow). list_any (is_wanted_by x.0) (rows_of t.wants) in
     let owned = recursion_from_All (λ w. IsTrue (list_any (waits_as w.upload) t.uploads)) (rows_of t.wants) are.owned in
     filter_same_on wanted unjudged t.uploads
     (all_weaker (λ x. (unjudged x ≡ true → wanted x ≡ true) × (list_any (λ z. nat_eq z.0 x.0 && unjudged z) t.uploads ≡ unjudged x)) (λ x. wanted x ≡ unjudged x)

@@ -8,15 +8,15 @@ use Rattle.tables.specs.Bodies.{body_with}
 use Rattle.tables.specs.Rows.{Tables, Numbered, changed, rows_of, without}
 use Rattle.tables.specs.Uploads.{is_judged, is_upload, without_upload}
 use Rattle.tables.specs.Wants.{with_away, without_wants}
-use Rattle.tables.specs.declared.rows.Arrival.{Arrival}
-use Rattle.tables.specs.declared.rows.Upload.{Upload}
+use Rattle.tables.specs.declared.rows.ArrivalRow.{ArrivalRow}
+use Rattle.tables.specs.declared.rows.UploadRow.{UploadRow}
 use Rattle.tables_meaning.specs.Kept.{print_at}
 use Rattle.tables_meaning.specs.Sweeping.{swept}
 
 -- ---- what counts
 
 -- the arrival of a row counts at a moment
-unfoldable pub counts_row : Option ℕ → ℕ → Arrival → Bool
+unfoldable pub counts_row : Option ℕ → ℕ → ArrivalRow → Bool
 counts_row None moment a = true
 counts_row (Some seconds) moment a = nat_lt moment (a.moment + seconds)
 
@@ -26,7 +26,7 @@ is_current span moment t name print =
     option_map_or (λ body. list_any (λ a. is_arrival name body a && counts_row span moment a) (rows_of t.arrivals)) (body_with print t.bodies) false
 
 -- the upload has no verdict, and its .changes does not count
-abbrev pub has_ended : Option ℕ → ℕ → Tables → Upload → Bool
+abbrev pub has_ended : Option ℕ → ℕ → Tables → UploadRow → Bool
 has_ended span moment t u = not (is_judged u) && not (is_current span moment t u.name u.print)
 
 -- ---- what the statements of a cleaning do, one after another
@@ -37,11 +37,11 @@ without_request name print t =
     option_map_or (λ x. if is_judged x.1 then t else without_upload x.0 (without_wants x.0 t)) (find (λ x. is_upload name print x.1) t.uploads) t
 
 -- An arrival goes: its row, the flags of the wants that it filled, and the upload without a verdict that it was, with its wants.
-unfoldable pub with_gone : ℕ × Arrival → Tables → Tables
+unfoldable pub with_gone : ℕ × ArrivalRow → Tables → Tables
 with_gone x t = option_map_or (λ print. without_request x.1.name print (with_away x.1.name print (without_arrival x.0 t))) (print_at t x.1.body) t
 
 -- the arrivals that do not count
-abbrev pub ended_rows : Option ℕ → ℕ → Tables → Numbered Arrival
+abbrev pub ended_rows : Option ℕ → ℕ → Tables → Numbered ArrivalRow
 ended_rows span moment t = filter (λ x. not (counts_row span moment x.1)) t.arrivals
 
 -- those go one after another, and then the bodies that nothing uses

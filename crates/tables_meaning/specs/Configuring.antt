@@ -10,9 +10,9 @@ use Rattle.tables.specs.Dates.{without_dates}
 use Rattle.tables.specs.Metas.{with_configuration}
 use Rattle.tables.specs.Rows.{Numbered, Tables, added}
 use Rattle.tables.specs.declared.rows.Date.{Date}
-use Rattle.tables.specs.declared.rows.IndexText.{IndexText}
+use Rattle.tables.specs.declared.rows.TextRow.{TextRow}
 use Rattle.tables.specs.Texts.{without_texts}
-use Rattle.tables_meaning.specs.Archives.{KeepsArchive, book_of}
+use Rattle.tables_meaning.specs.Archives.{KeepsArchive, book_in_database}
 use Rattle.tables_meaning.specs.Founding.{with_dates, with_texts}
 use Rattle.tables_meaning.specs.Kept.{date_row}
 
@@ -29,10 +29,10 @@ with_configured config shown dates t = with_indices config shown dates (without_
 pub record Reconfigures (before after : Database) (config other : ConfigValue) (judged : List Judgement) (shown : ShelvesValue) (dates : List ℕ)
     (shown_under : ShelvesValue) (dates_under : List ℕ) : Type 0 where
   pub kept : KeepsArchive after other judged shown_under dates_under
-  pub book : book_of after other judged shown_under dates_under ≡ reconfigured other shown_under dates_under (book_of before config judged shown dates)
+  pub book : book_in_database after other judged shown_under dates_under ≡ reconfigured other shown_under dates_under (book_in_database before config judged shown dates)
 
 -- the rows of texts and of dates that there are then
-abbrev pub new_texts : ConfigValue → ShelvesValue → List ℕ → Numbered IndexText
+abbrev pub new_texts : ConfigValue → ShelvesValue → List ℕ → Numbered TextRow
 new_texts config shown dates = fold (λ now (x : PathText). added now (record { path = x.0; body = x.1 })) [] (all_texts config shown dates)
 
 abbrev pub new_dates : ConfigValue → List ℕ → Numbered Date

@@ -4,12 +4,12 @@ use Rattle.std.specs.List.{list_any}
 use Rattle.tables.specs.Bodies.{without_body}
 use Rattle.tables.specs.Pieces.{is_of, without_pieces}
 use Rattle.tables.specs.Rows.{Tables, without}
-use Rattle.tables.specs.declared.rows.Body.{Body}
+use Rattle.tables.specs.declared.rows.BodyRow.{BodyRow}
 use Rattle.tables.specs.declared.rows.Piece.{Piece}
 use Rattle.tables_meaning.specs.Kept.{bytes_of, pieces_for, pieces_of}
 
 -- the body has no print
-abbrev pub is_unfinished : ℕ × Body → Bool
+abbrev pub is_unfinished : ℕ × BodyRow → Bool
 is_unfinished x = not (is_some x.1.print)
 
 -- the piece is one of such a body

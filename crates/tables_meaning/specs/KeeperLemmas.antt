@@ -13,8 +13,8 @@ use Rattle.suites.specs.declared.key.ShelfKey.{ShelfKey}
 use Rattle.keep.specs.Book.{Book}
 use Rattle.keep.specs.declared.change.Judgement.{Judgement}
 use Rattle.tables.specs.Rows.{Tables, tables_in, tables_of}
-use Rattle.tables_meaning.specs.Kept.{IsKept, book_in}
-use Rattle.tables_meaning.specs.Archives.{KeepsArchive, KeepsBook, KeepsLeft, book_of}
+use Rattle.tables_meaning.specs.Kept.{IsBook, book_in}
+use Rattle.tables_meaning.specs.Archives.{KeepsArchive, KeepsBook, KeepsLeft, book_in_database}
 use Rattle.tables_meaning.specs.Finished.{finished}
 use Rattle.tables_meaning.specs.OneBook.{one_archive, one_book}
 
@@ -33,30 +33,30 @@ left_set = hlevel (props, shelves_set)
 
 -- two archives in one list of rows are one
 pub same_book : {config : ConfigValue} {judged judged' : List Judgement} {shown shown' : ShelvesValue} {dates dates' : List ℕ} (t : Tables)
-    → IsKept t config judged shown dates → IsKept t config judged' shown' dates' → book_in config judged' shown' dates' t ≡ book_in config judged shown dates t
+    → IsBook t config judged shown dates → IsBook t config judged' shown' dates' → book_in config judged' shown' dates' t ≡ book_in config judged shown dates t
 same_book {config} t one two =
     let same = one_archive t config _ _ _ _ _ _ two one two.sound.at_home one.sound.at_home in
     λ i. book_in config (same.0 i) (same.1 i) (same.2 i) t
 
 -- what a database keeps is one book, also of one configuration
 pub left_settled : {config another : ConfigValue} {judged : List Judgement} {shown : ShelvesValue} {dates : List ℕ} {left : Book} (db now : Database) → db.trees ≡ now.trees
-    → ∥ KeepsArchive now config judged shown dates ∥₁ → KeepsBook db another left → left ≡ book_of now config judged shown dates
+    → ∥ KeepsArchive now config judged shown dates ∥₁ → KeepsBook db another left → left ≡ book_in_database now config judged shown dates
 left_settled {config} {another} {judged} {shown} {dates} {left} db now trees is was =
     ∥∥₁_elim is (book_set _ _) (λ here. ∥∥₁_elim was (book_set _ _) (λ w.
     let same = ap tables_of trees in
-    let there : IsKept (finished (tables_in now)) another w.0 w.1 w.2 = subst (λ t. IsKept (finished t) another w.0 w.1 w.2) same w.3.kept in
+    let there : IsBook (finished (tables_in now)) another w.0 w.1 w.2 = subst (λ t. IsBook (finished t) another w.0 w.1 w.2) same w.3.kept in
     w.4 ∙ ap (λ t. book_in another w.0 w.1 w.2 (finished t)) same
     ∙ one_book (finished (tables_in now)) another config w.0 judged w.1 shown w.2 dates there here.kept there.read here.kept.read there.sound.at_home here.kept.sound.at_home))
 
 -- the configuration of a book is its archive's
 own_config : (config : ConfigValue) (judged : List Judgement) (shown : ShelvesValue) (dates : List ℕ) (now : Database)
-    → KeepsBook now config (book_of now config judged shown dates) → KeepsBook now (book_of now config judged shown dates).config (book_of now config judged shown dates)
+    → KeepsBook now config (book_in_database now config judged shown dates) → KeepsBook now (book_in_database now config judged shown dates).config (book_in_database now config judged shown dates)
 unfolding book_in
 own_config config judged shown dates now keeps = keeps
 
 -- trees that are those of an archive keep its book, and nothing else
 pub left_is : {config : ConfigValue} {judged : List Judgement} {shown : ShelvesValue} {dates : List ℕ} (trees : Trees) (now : Database) → trees ≡ now.trees
-    → ∥ KeepsArchive now config judged shown dates ∥₁ → (left : Option Book) → KeepsLeft trees left → left ≡ Some (book_of now config judged shown dates)
+    → ∥ KeepsArchive now config judged shown dates ∥₁ → (left : Option Book) → KeepsLeft trees left → left ≡ Some (book_in_database now config judged shown dates)
 left_is trees now same is (Some b) here = ap Some (left_settled here.0 now (here.1 ∙ same) is here.2)
 left_is {config} {judged} {shown} {dates} trees now same is None none =
-    absurd (none now (sym same) (book_of now config judged shown dates) (own_config config judged shown dates now (∥∥₁_map is (λ h. (judged, shown, dates, h, refl)))))
+    absurd (none now (sym same) (book_in_database now config judged shown dates) (own_config config judged shown dates now (∥∥₁_map is (λ h. (judged, shown, dates, h, refl)))))

@@ -9,7 +9,7 @@ use Rattle.rules.specs.Values.{ConfigValue}
 use Rattle.rules.specs.Verdicts.{number_of}
 use Rattle.rules.specs.declared.suite.Suite.{Suite}
 use Rattle.records.specs.Records.{changes_limit}
-use Rattle.sums.specs.Lines.{is_file_name}
+use Rattle.sums.specs.FileNames.{is_file_name, is_changes_name}
 use Rattle.sums.specs.Prints.{print as print_of}
 use Rattle.sums.specs.declared.entries.Entry.{Entry}
 use Rattle.sums.specs.declared.print.Print.{Print}
@@ -19,7 +19,7 @@ use Rattle.suites.specs.Told.{AreTold}
 use Rattle.suites.specs.declared.item.Item as shelf
 use Rattle.suites.specs.declared.key.ShelfKey.{ShelfKey}
 use Rattle.texts.specs.Indices.{all_texts}
-use Rattle.keep.specs.Book.{Book, Candidate, candidates, is_changes_name, is_judged, is_there, latest}
+use Rattle.keep.specs.Book.{Book, Candidate, candidates, is_judged, is_there, latest}
 use Rattle.keep.specs.Keeping.{IsDeliverable, sign_of}
 use Rattle.keep.specs.declared.arrival.Arrival.{Arrival}
 use Rattle.keep.specs.declared.change.Judgement.{Judgement}
@@ -29,16 +29,17 @@ use Rattle.tables.specs.Items.{is_item}
 use Rattle.tables.specs.Pieces.{is_of}
 use Rattle.tables.specs.Real.{IsRealPrint}
 use Rattle.tables.specs.Refs.{is_ref_of}
-use Rattle.tables.specs.Rows.{Tables, Rises, rows_of}
+use Rattle.tables.specs.Rows.{Tables, Rises, rows_of, Numbered}
 use Rattle.tables.specs.Uploads.{is_judged as has_place}
 use Rattle.tables.specs.Wants.{is_wanted_by}
-use Rattle.tables.specs.declared.rows.Arrival as rows_arrival
+use Rattle.tables.specs.declared.rows.ArrivalRow.{ArrivalRow}
 use Rattle.tables.specs.declared.rows.Date.{Date}
-use Rattle.tables.specs.declared.rows.Item.{Item}
+use Rattle.tables.specs.declared.rows.ItemRow.{ItemRow}
 use Rattle.tables.specs.declared.rows.Piece.{Piece}
 use Rattle.tables.specs.declared.rows.Ref.{Ref}
-use Rattle.tables.specs.declared.rows.Upload.{Upload}
+use Rattle.tables.specs.declared.rows.UploadRow.{UploadRow}
 use Rattle.tables.specs.declared.meta.TheConstants.{VERSION}
+use Rattle.tables.specs.declared.rows.BodyRow.{BodyRow}
 use Rattle.vers.specs.Syntax.{IsVersion}
 
 -- ---- bodies
@@ -70,6 +71,10 @@ pieces_for id bytes = map (λ n. record { body = id; number = n + 1; bytes = pie
 unfoldable pub has_body : Tables → ℕ → Bool
 has_body t id = list_any (λ x. nat_eq x.0 id) t.bodies
 
+-- the print of the body of a number among these
+abbrev pub print_in : Numbered BodyRow → ℕ → Option Print
+print_in bodies id = option_and_then (λ x. x.1.print) (find (λ x. nat_eq x.0 id) bodies)
+
 -- the print of a body
 abbrev pub print_at : Tables → ℕ → Option Print
 print_at t id = option_and_then (λ x. x.1.print) (find (λ x. nat_eq x.0 id) t.bodies)
@@ -99,7 +104,7 @@ pub record AreBodies (t : Tables) : Type 0 where
 
 -- ---- arrivals
 
-abbrev pub arrival_in : Tables → rows_arrival.Arrival → Arrival
+abbrev pub arrival_in : Tables → ArrivalRow → Arrival
 arrival_in t a = record { name = a.name; body = bytes_of t a.body; moment = a.moment }
 
 -- what has arrived
@@ -115,7 +120,7 @@ pub record AreArrivals (t : Tables) : Type 0 where
 -- ---- uploads and what they want
 
 -- the name and the print of an upload
-abbrev pub sign_in : Upload → List ℕ × Print
+abbrev pub sign_in : UploadRow → List ℕ × Print
 sign_in u = (u.name, u.print)
 
 -- the entries of an upload, each with whether it is there
@@ -126,19 +131,23 @@ wants_in t id = map (λ w. (w.name, w.print, w.here)) (filter (is_wanted_by id) 
 abbrev pub wanted : List Arrival → Entry → List ℕ × Print × Bool
 wanted arrivals e = (e.name, e.print, is_there arrivals e)
 
+-- an upload's name and print, and its entries, each with whether it is there
+abbrev pub Request : Type 0
+Request = (List ℕ × Print) × List (List ℕ × Print × Bool)
+
 -- an upload that is not judged, and what it wants
-abbrev pub request_in : Tables → ℕ × Upload → (List ℕ × Print) × List (List ℕ × Print × Bool)
+abbrev pub request_in : Tables → ℕ × UploadRow → Request
 request_in t x = (sign_in x.1, wants_in t x.0)
 
-abbrev pub request_of : List Arrival → Candidate → (List ℕ × Print) × List (List ℕ × Print × Bool)
+abbrev pub request_of : List Arrival → Candidate → Request
 request_of arrivals c = (sign_of c, map (wanted arrivals) c.changes.entries)
 
 -- the row of a judged upload, at its place in the order of judging, from 1
-abbrev pub judged_row : ℕ → Judgement → Upload
+abbrev pub judged_row : ℕ → Judgement → UploadRow
 judged_row place j = record { name = j.name; print = j.print; place = Some place; verdict = Some (number_of j.verdict) }
 
 -- the upload stands at this place in the order of judging
-abbrev pub is_placed : ℕ → Upload → Bool
+abbrev pub is_placed : ℕ → UploadRow → Bool
 is_placed place u = option_map_or (λ p. nat_eq p place) u.place false
 
 -- The name is that of a .changes and may be delivered, and the print is one that a .changes may have.
@@ -171,7 +180,7 @@ abbrev pub codename_at : List Suite → ℕ → List ℕ
 codename_at suites n = option_map_or (λ s. s.codename) (slice_get suites n) []
 
 -- the row of what stands on a shelf
-abbrev pub item_row : List Suite → ShelfKey × shelf.Item → Item
+abbrev pub item_row : List Suite → ShelfKey × shelf.Item → ItemRow
 item_row suites e = record {
   suite = codename_at suites e.0.suite;
   kind = kind_number e.0.kind;
@@ -191,15 +200,15 @@ abbrev pub refs_in : Tables → ℕ → List Ref
 refs_in t id = filter (is_ref_of id) (rows_of t.refs)
 
 -- the row is that of this shelf
-abbrev pub is_on : List Suite → ShelfKey → ℕ × Item → Bool
+abbrev pub is_on : List Suite → ShelfKey → ℕ × ItemRow → Bool
 is_on suites key x = is_item (codename_at suites key.suite) (kind_number key.kind) key.«package» key.architecture x.1
 
 -- a row and the rows of its files
-abbrev pub shown_in : Tables → ℕ × Item → Item × List Ref
+abbrev pub shown_in : Tables → ℕ × ItemRow → ItemRow × List Ref
 shown_in t x = (x.1, refs_in t x.0)
 
 -- the rows of a shelf, under this number
-abbrev pub shown_row : List Suite → ShelfKey → ℕ → shelf.Item → Item × List Ref
+abbrev pub shown_row : List Suite → ShelfKey → ℕ → shelf.Item → ItemRow × List Ref
 shown_row suites key id item = (item_row suites (key, item), refs_for id item)
 
 -- Each shelf of a suite of the configuration has its row, with the rows of its files; there are no other rows, and none
@@ -214,7 +223,7 @@ pub record AreItems (t : Tables) (suites : List Suite) (shown : ShelvesValue) : 
   pub owned : All (λ r. IsTrue (list_any (λ x. nat_eq x.0 r.item) t.items)) (rows_of t.refs)
 
 -- A row that may be that of an item: its version is one (Debian Policy 5.6.12), and its paragraph is text.
-pub record IsReadable (x : Item) : Type 0 where
+pub record IsReadable (x : ItemRow) : Type 0 where
   pub version : IsVersion x.version
   pub paragraph : IsUtf8 x.paragraph
 
@@ -242,7 +251,7 @@ date_row d = record { suite = d.0.codename; moment = d.1 }
 -- The rows are those of an archive of this configuration, with these judged uploads in order, this shown, and these dates.
 -- The configuration is what its text spells, each item stands on its own shelf and is as its records tell it, and the judged
 -- uploads may have been delivered.
-pub record IsKept (t : Tables) (config : ConfigValue) (judged : List Judgement) (shown : ShelvesValue) (dates : List ℕ) : Type 0 where
+pub record IsBook (t : Tables) (config : ConfigValue) (judged : List Judgement) (shown : ShelvesValue) (dates : List ℕ) : Type 0 where
   pub meta : rows_of t.meta ≡ record { version = VERSION; configuration = config.text } ∷ []
   pub read : config_in config.text ≡ Ok config
   pub sound : AreSound shown

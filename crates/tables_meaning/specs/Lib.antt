@@ -14,6 +14,7 @@ pub mod Finished
 pub mod Archives
 pub mod Taking
 pub mod Coming
+pub mod Calls
 pub mod Cleaning
 pub mod OneBook
 pub mod KeeperLemmas

@@ -1,5 +1,5 @@
 -- Tables keep one archive.
-use Rattle.std.proofs.Common.{◌≡◌, ◌<◌, ℕ, zero, suc, ◌+◌, true, List, [], ◌∷◌, length, map, slice_get, find, Option, Some, None, Ok, refl, sym, ap, subst, ◌∙◌, arith, inl, inr}
+use Rattle.std.proofs.Common.{◌≡◌, ◌<◌, ℕ, suc, ◌+◌, true, List, [], ◌∷◌, length, map, slice_get, find, Option, Some, None, Ok, refl, sym, ap, subst, ◌∙◌, arith, inl, inr}
 use Rattle.std.proofs.lemmas.Bool.{cases_lt}
 use Rattle.std.proofs.lemmas.Option.{same_Some}
 use Rattle.std.specs.FinMap.{get, entries, same_map}
@@ -8,10 +8,8 @@ use Rattle.std.specs.Option.{option_and_then, option_map}
 use Rattle.keep.specs.declared.change.Judgement.{Judgement}
 use Rattle.rules.specs.Configuration.{config_in}
 use Rattle.rules.specs.Values.{ConfigValue}
-use Rattle.rules.specs.Verdicts.{number_of}
+use Rattle.rules.proofs.VerdictNumbers.{same_verdict}
 use Rattle.rules.specs.declared.suite.Suite.{Suite}
-use Rattle.rules.specs.declared.verdict.Verdict.{Verdict}
-use Rattle.rules.specs.declared.verdict.Verdict.TheVariants as verdict
 use Rattle.suites.specs.Items.{IsAtHome, standing}
 use Rattle.suites.specs.KeyLemmas.{key_order_total, key_order-IsAntisymmetric}
 use Rattle.suites.specs.Shelves.{ShelvesValue}
@@ -22,11 +20,11 @@ use Rattle.suites.proofs.FileMembers.{entry_shown}
 use Rattle.sums.proofs.Members.{all_at}
 use Rattle.tables.specs.Rows.{Tables}
 use Rattle.tables.specs.declared.rows.Date.{Date}
-use Rattle.tables.specs.declared.rows.Item.{Item}
+use Rattle.tables.specs.declared.rows.ItemRow.{ItemRow}
 use Rattle.tables.specs.declared.rows.Meta.{Meta}
 use Rattle.tables.specs.declared.rows.Ref.{Ref}
-use Rattle.tables.specs.declared.rows.Upload.{Upload}
-use Rattle.tables_meaning.specs.Kept.{AreItems, AreUploads, IsKept, book_in, date_row, is_on, item_row, judged_row, refs_for, shown_row}
+use Rattle.tables.specs.declared.rows.UploadRow.{UploadRow}
+use Rattle.tables_meaning.specs.Kept.{AreItems, AreUploads, IsBook, book_in, date_row, is_on, item_row, judged_row, refs_for, shown_row}
 
 -- ---- lists and what may be absent
 
@@ -55,40 +53,11 @@ same_option f (Some x) (Some y) one e = ap Some (one x y refl refl (same_Some (f
 
 -- ---- judged uploads
 
--- the verdict of a number
-abbrev verdict_at : ℕ → Verdict
-verdict_at zero = verdict.Accepted
-verdict_at (suc zero) = verdict.Unclaimed
-verdict_at (suc (suc zero)) = verdict.ForeignArchitecture
-verdict_at (suc (suc (suc zero))) = verdict.NotAllowed
-verdict_at (suc (suc (suc (suc zero)))) = verdict.ForeignComponent
-verdict_at (suc (suc (suc (suc (suc zero))))) = verdict.BadListing
-verdict_at (suc (suc (suc (suc (suc (suc zero)))))) = verdict.BadDsc
-verdict_at (suc (suc (suc (suc (suc (suc (suc zero))))))) = verdict.BadSidecar
-verdict_at (suc (suc (suc (suc (suc (suc (suc (suc zero)))))))) = verdict.NotInPool
-verdict_at (suc (suc (suc (suc (suc (suc (suc (suc (suc n))))))))) = verdict.OtherContents
-
-number_back : (v : Verdict) → verdict_at (number_of v) ≡ v
-number_back verdict.Accepted = refl
-number_back verdict.Unclaimed = refl
-number_back verdict.ForeignArchitecture = refl
-number_back verdict.NotAllowed = refl
-number_back verdict.ForeignComponent = refl
-number_back verdict.BadListing = refl
-number_back verdict.BadDsc = refl
-number_back verdict.BadSidecar = refl
-number_back verdict.NotInPool = refl
-number_back verdict.OtherContents = refl
-
--- verdicts of one number are one
-pub same_verdict : (v w : Verdict) → number_of v ≡ number_of w → v ≡ w
-same_verdict v w e = sym (number_back v) ∙ ap verdict_at e ∙ number_back w
-
 same_judgement : (n : ℕ) (a b : Judgement) → judged_row n a ≡ judged_row n b → a ≡ b
 same_judgement n a b e =
-    let name : a.name ≡ b.name = ap (λ (u : Upload). u.name) e in
-    let print : a.print ≡ b.print = ap (λ (u : Upload). u.print) e in
-    let verdict : a.verdict ≡ b.verdict = same_verdict a.verdict b.verdict (same_Some _ _ (ap (λ (u : Upload). u.verdict) e)) in
+    let name : a.name ≡ b.name = ap (λ (u : UploadRow). u.name) e in
+    let print : a.print ≡ b.print = ap (λ (u : UploadRow). u.print) e in
+    let verdict : a.verdict ≡ b.verdict = same_verdict a.verdict b.verdict (same_Some _ _ (ap (λ (u : UploadRow). u.verdict) e)) in
     λ i. record { name = name i; print = print i; verdict = verdict i }
 
 pub same_judged : (t : Tables) (judged others : List Judgement) → AreUploads t judged → AreUploads t others → judged ≡ others
@@ -117,15 +86,15 @@ same_item : (suites : List Suite) (key : ShelfKey) (id : ℕ) (x y : shelf.Item)
 unfolding refs_for
 same_item suites key id x y own other e =
     let keys : (standing key.suite x).0 ≡ (standing key.suite y).0 = sym (ap (λ (p : ShelfKey × shelf.Item). p.0) own) ∙ ap (λ (p : ShelfKey × shelf.Item). p.0) other in
-    let row : item_row suites (key, x) ≡ item_row suites (key, y) = ap (λ (p : Item × List Ref). p.0) e in
+    let row : item_row suites (key, x) ≡ item_row suites (key, y) = ap (λ (p : ItemRow × List Ref). p.0) e in
     let kind : x.kind ≡ y.kind = ap (λ (k : ShelfKey). k.kind) keys in
     let name : x.«package» ≡ y.«package» = ap (λ (k : ShelfKey). k.«package») keys in
     let architecture : x.architecture ≡ y.architecture = ap (λ (k : ShelfKey). k.architecture) keys in
-    let version : x.version ≡ y.version = ap (λ (r : Item). r.version) row in
-    let component : x.component ≡ y.component = ap (λ (r : Item). r.component) row in
-    let source : x.source ≡ y.source = ap (λ (r : Item). r.source) row in
-    let paragraph : x.paragraph ≡ y.paragraph = ap (λ (r : Item). r.paragraph) row in
-    let files : x.files ≡ y.files = same_files id 1 x.files y.files (ap (λ (p : Item × List Ref). p.1) e) in
+    let version : x.version ≡ y.version = ap (λ (r : ItemRow). r.version) row in
+    let component : x.component ≡ y.component = ap (λ (r : ItemRow). r.component) row in
+    let source : x.source ≡ y.source = ap (λ (r : ItemRow). r.source) row in
+    let paragraph : x.paragraph ≡ y.paragraph = ap (λ (r : ItemRow). r.paragraph) row in
+    let files : x.files ≡ y.files = same_files id 1 x.files y.files (ap (λ (p : ItemRow × List Ref). p.1) e) in
     λ i. record {
       kind = kind i;
       «package» = name i;
@@ -151,10 +120,10 @@ not_within suites shown key within beyond = by_case (get shown key) refl
 
 module _ (t : Tables) (suites : List Suite) (shown others : ShelvesValue) (h : AreItems t suites shown) (k : AreItems t suites others)
     (home : All IsAtHome (entries shown)) (others_home : All IsAtHome (entries others)) (key : ShelfKey) where
-  same_within : key.suite < length suites → (o : Option (ℕ × Item)) → find (is_on suites key) t.items ≡ o → get shown key ≡ get others key
+  same_within : key.suite < length suites → (o : Option (ℕ × ItemRow)) → find (is_on suites key) t.items ≡ o → get shown key ≡ get others key
   same_within below None e = nothing _ (get shown key) e (h.all key below) ∙ sym (nothing _ (get others key) e (k.all key below))
   same_within below (Some x) e =
-      let as_row : Option (ℕ × Item) → ShelvesValue → Option (Item × List Ref) = λ o m. option_and_then (λ (y : ℕ × Item). option_map (shown_row suites key y.0) (get m key)) o in
+      let as_row : Option (ℕ × ItemRow) → ShelvesValue → Option (ItemRow × List Ref) = λ o m. option_and_then (λ (y : ℕ × ItemRow). option_map (shown_row suites key y.0) (get m key)) o in
       let same : option_map (shown_row suites key x.0) (get shown key) ≡ option_map (shown_row suites key x.0) (get others key) =
       sym (ap (λ o. as_row o shown) e) ∙ sym (h.are key below) ∙ k.are key below ∙ ap (λ o. as_row o others) e in
       same_option (shown_row suites key x.0) (get shown key) (get others key)
@@ -187,12 +156,12 @@ same_dates (s ∷ ss) (d ∷ ds) (c ∷ cs) m n e =
 
 -- tables are those of one configuration text
 pub one_text : (t : Tables) (config other : ConfigValue) (judged judged_too : List Judgement) (shown shown_too : ShelvesValue) (dates dates_too : List ℕ)
-    → IsKept t config judged shown dates → IsKept t other judged_too shown_too dates_too → config.text ≡ other.text
+    → IsBook t config judged shown dates → IsBook t other judged_too shown_too dates_too → config.text ≡ other.text
 one_text t config other judged judged_too shown shown_too dates dates_too h k = ap (λ (m : Meta). m.configuration) (first_same _ _ _ _ (sym h.meta ∙ k.meta))
 
 -- Tables keep one archive of a configuration, where each item stands on its own shelf.
 pub one_archive : (t : Tables) (config : ConfigValue) (judged judged_too : List Judgement) (shown shown_too : ShelvesValue) (dates dates_too : List ℕ)
-    → IsKept t config judged shown dates → IsKept t config judged_too shown_too dates_too → All IsAtHome (entries shown) → All IsAtHome (entries shown_too)
+    → IsBook t config judged shown dates → IsBook t config judged_too shown_too dates_too → All IsAtHome (entries shown) → All IsAtHome (entries shown_too)
     → (judged ≡ judged_too) × (shown ≡ shown_too) × (dates ≡ dates_too)
 one_archive t config judged judged_too shown shown_too dates dates_too h k home home_too = (
   same_judged t judged judged_too h.uploads k.uploads,
@@ -206,10 +175,10 @@ one_configuration config other h k e = let both : Ok config ≡ Ok other = sym h
 
 -- Tables keep one book, where the configurations are those of their texts and each item stands on its own shelf.
 pub one_book : (t : Tables) (config config_too : ConfigValue) (judged judged_too : List Judgement) (shown shown_too : ShelvesValue) (dates dates_too : List ℕ)
-    → IsKept t config judged shown dates → IsKept t config_too judged_too shown_too dates_too → config_in config.text ≡ Ok config → config_in config_too.text ≡ Ok config_too
+    → IsBook t config judged shown dates → IsBook t config_too judged_too shown_too dates_too → config_in config.text ≡ Ok config → config_in config_too.text ≡ Ok config_too
     → All IsAtHome (entries shown) → All IsAtHome (entries shown_too)
     → book_in config judged shown dates t ≡ book_in config_too judged_too shown_too dates_too t
 one_book t config config_too judged judged_too shown shown_too dates dates_too h k read read_too home home_too =
     let one : config_too ≡ config = one_configuration config_too config read_too read (one_text t config_too config judged_too judged shown_too shown dates_too dates k h) in
-    let parts = one_archive t config judged judged_too shown shown_too dates dates_too h (subst (λ (c : ConfigValue). IsKept t c judged_too shown_too dates_too) one k) home home_too in
+    let parts = one_archive t config judged judged_too shown shown_too dates dates_too h (subst (λ (c : ConfigValue). IsBook t c judged_too shown_too dates_too) one k) home home_too in
     λ i. book_in (sym one i) (parts.0 i) (parts.1 i) (parts.2 i) t

@@ -12,7 +12,7 @@ use Rattle.keep.specs.Keeping.{AreSteps, HasEachBody}
 use Rattle.keep.specs.declared.change.Change.{Change}
 use Rattle.keep.specs.declared.change.Judgement.{Judgement}
 use Rattle.keep.specs.declared.change.Step.{Step}
-use Rattle.tables_meaning.specs.Kept.{AreFiles, AreItems, AreNumbered, AreStored, IsKept, book_in}
+use Rattle.tables_meaning.specs.Kept.{AreFiles, AreItems, AreNumbered, AreStored, IsBook, book_in}
 
 -- The rows show what the plan was made for, and the plan can be made: what it puts stands in the suites, whose codenames
 -- differ, and each file that it adds has its body.
@@ -69,7 +69,7 @@ pub record IsStepped (old new : Tables) (suites : List Suite) (shown : ShelvesVa
 
 -- The tables keep what a change leaves, and the book is the amended one where there was each body.
 pub record KeepsChange (t new : Tables) (config : ConfigValue) (judged : List Judgement) (shown : ShelvesValue) (dates : List ℕ) (change : Change) : Type 0 where
-  pub kept : IsKept new config (judged ++ judgements change.steps) (shown_past shown change.steps) (dates_past change.moment dates change.steps)
+  pub kept : IsBook new config (judged ++ judgements change.steps) (shown_past shown change.steps) (dates_past change.moment dates change.steps)
   pub book : HasEachBody (book_in config judged shown dates t) change
       → book_in config (judged ++ judgements change.steps) (shown_past shown change.steps) (dates_past change.moment dates change.steps) new
       ≡ amended (book_in config judged shown dates t) change

@@ -2,7 +2,7 @@
 use Rattle.std.specs.Prelude.{IsTrue, ℕ, nat_eq, not, if◌then◌else◌, List, [], ◌∷◌, map, filter, find, length, Option, None, option_map, unwrap_or}
 use Rattle.std.specs.List.{list_any}
 use Rattle.std.specs.Option.{option_and_then}
-use Rattle.std.specs.Ordering.{ordering_then, nat_cmp, is_gt}
+use Rattle.std.specs.Ordering.{is_gt}
 use Rattle.std.specs.Result.{result_ok}
 use Rattle.std.specs.declared.cmp.Ordering.{Ordering}
 use Rattle.records.specs.Records.{changes_in}
@@ -10,25 +10,16 @@ use Rattle.records.specs.Values.{ChangesValue}
 use Rattle.sqlite.specs.State.{State, IsUnchanged}
 use Rattle.sums.specs.declared.entries.Entry.{Entry}
 use Rattle.sums.specs.declared.print.Print.{Print}
-use Rattle.suites.specs.Keys.{text_order}
 use Rattle.suites.specs.Upload.{UploadValue, has_text}
+use Rattle.keep.specs.Book.{judging_order}
 use Rattle.keep.specs.declared.change.Waiting.{Waiting}
 use Rattle.tables.specs.Bodies.{body_with}
 use Rattle.tables.specs.Rows.{Tables, Numbered, Stands, rows_of}
 use Rattle.tables.specs.Wants.{is_wanted_by, wants_behind}
-use Rattle.tables.specs.declared.rows.Upload.{Upload}
+use Rattle.tables.specs.declared.rows.UploadRow.{UploadRow}
 use Rattle.tables_meaning.specs.Kept.{bytes_of, sign_in}
 
 -- ---- the order of judging
-
--- by the bytes of the name, then by SHA-256, SHA-1, MD5 and size
-unfoldable pub sign_order : List ℕ × Print → List ℕ × Print → Ordering
-sign_order a b =
-    ordering_then (text_order a.0 b.0)
-    (ordering_then (text_order a.1.sha256 b.1.sha256)
-    (ordering_then (text_order a.1.sha1 b.1.sha1)
-    (ordering_then (text_order a.1.md5 b.1.md5)
-    (nat_cmp a.1.size b.1.size))))
 
 -- the list with one more in its place, before those that tie with it
 abbrev pub put_by : {X : Type 0} → (X → X → Ordering) → X → List X → List X
@@ -40,19 +31,19 @@ sorted_by order [] = []
 sorted_by order (x ∷ xs) = put_by order x (sorted_by order xs)
 
 -- the order of two uploads with their numbers
-abbrev pub row_order : ℕ × Upload → ℕ × Upload → Ordering
-row_order x y = sign_order (sign_in x.1) (sign_in y.1)
+abbrev pub row_order : ℕ × UploadRow → ℕ × UploadRow → Ordering
+row_order x y = judging_order (sign_in x.1) (sign_in y.1)
 
 -- the uploads that want something
-unfoldable pub wanting : Tables → Numbered Upload
+unfoldable pub wanting : Tables → Numbered UploadRow
 wanting t = filter (λ x. list_any (is_wanted_by x.0) (rows_of t.wants)) t.uploads
 
 -- the same, in the order of judging
-unfoldable pub wanting_rows : Tables → Numbered Upload
+unfoldable pub wanting_rows : Tables → Numbered UploadRow
 wanting_rows t = sorted_by row_order (wanting t)
 
 -- the first of them behind a number, or of all
-unfoldable pub next_wanting_in : Tables → Option ℕ → Option (ℕ × Upload)
+unfoldable pub next_wanting_in : Tables → Option ℕ → Option (ℕ × UploadRow)
 next_wanting_in t after = find (λ x. wants_behind after (rows_of t.wants) x.0) t.uploads
 
 -- ---- what uploads wait for
@@ -62,7 +53,7 @@ unfoldable pub missing_in : Tables → ℕ → ℕ
 missing_in t id = length (filter (λ w. not w.here) (filter (is_wanted_by id) (rows_of t.wants)))
 
 -- an upload that is not judged, with the number of its entries that have not arrived
-abbrev pub waiting_in : Tables → ℕ × Upload → Waiting
+abbrev pub waiting_in : Tables → ℕ × UploadRow → Waiting
 waiting_in t x = record { name = x.1.name; missing = missing_in t x.0 }
 
 -- ---- the uploads that are due
@@ -75,15 +66,15 @@ bytes_with t print = option_map (bytes_of t) (body_with print t.bodies)
 unfoldable pub text_in : Tables → Entry → List ℕ
 text_in t e = if has_text e.name then unwrap_or (bytes_with t e.print) [] else []
 
-abbrev pub upload_with : Tables → Upload → ChangesValue → UploadValue
+abbrev pub upload_with : Tables → UploadRow → ChangesValue → UploadValue
 upload_with t u c = record { name = u.name; print = u.print; changes = c; texts = map (text_in t) c.entries }
 
 -- the upload as it is judged, where its body is there and is a record
-unfoldable pub upload_in : Tables → Upload → Option UploadValue
+unfoldable pub upload_in : Tables → UploadRow → Option UploadValue
 upload_in t u = option_and_then (λ body. option_map (upload_with t u) (result_ok (changes_in body))) (bytes_with t u.print)
 
 -- the same, where each of its entries has arrived
-abbrev pub due_in : Tables → ℕ × Upload → Option UploadValue
+abbrev pub due_in : Tables → ℕ × UploadRow → Option UploadValue
 due_in t x = if nat_eq (missing_in t x.0) 0 then upload_in t x.1 else None
 
 -- ---- a read that may have nothing to read

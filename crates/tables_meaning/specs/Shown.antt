@@ -1,40 +1,32 @@
 -- What the rows of items and of their files show.
-use Rattle.std.specs.Prelude.{◌≡◌, ℕ, nat_eq, bytes_eq, Bool, ◌&&◌, ◌||◌, not, false, if◌then◌else◌, List, map, position, Option, Some, None, option_map}
+use Rattle.std.specs.Prelude.{◌≡◌, ℕ, bytes_eq, Bool, ◌&&◌, ◌||◌, not, false, List, map, Option, Some, None, option_map}
 use Rattle.std.specs.List.{filter_map, list_any}
 use Rattle.std.specs.Option.{option_and_then, option_map_or, option_or}
 use Rattle.std.specs.FinMap.{from_entries, get, insert}
 use Rattle.std.specs.FinMap as keyed
+use Rattle.rules.specs.Suites.{suite_named}
 use Rattle.rules.specs.declared.suite.Suite.{Suite}
 use Rattle.sums.specs.Prints.{same_print}
 use Rattle.sums.specs.declared.print.Print.{Print}
 use Rattle.suites.specs.Items.{standing}
-use Rattle.suites.specs.Keys.{key_order}
+use Rattle.suites.specs.Keys.{key_order, kind_numbered}
 use Rattle.suites.specs.Pool.{PoolWith}
 use Rattle.suites.specs.Shelves.{ShelvesValue, pool}
 use Rattle.suites.specs.declared.item.Item as shelf
 use Rattle.suites.specs.declared.item.PoolFile.{PoolFile}
 use Rattle.suites.specs.declared.key.Kind.{Kind}
-use Rattle.suites.specs.declared.key.Kind.TheVariants.{Source, Binary}
 use Rattle.suites.specs.declared.key.ShelfKey.{ShelfKey}
 use Rattle.tables.specs.Rows.{Numbered, Tables}
-use Rattle.tables.specs.declared.rows.Item.{Item}
+use Rattle.tables.specs.declared.rows.ItemRow.{ItemRow}
 use Rattle.tables.specs.declared.rows.Ref.{Ref}
 use Rattle.tables_meaning.specs.Kept.{IsReadable, refs_in}
-
--- the position of the suite with a codename
-unfoldable pub suite_named : List Suite → List ℕ → Option ℕ
-suite_named suites name = position (λ s. bytes_eq s.codename name) suites
-
--- the kind with a number
-unfoldable pub kind_numbered : ℕ → Option Kind
-kind_numbered n = if nat_eq n 0 then Some Source else if nat_eq n 1 then Some Binary else None
 
 -- the file of a row
 abbrev pub file_in : Ref → PoolFile
 file_in r = record { path = r.path; print = r.print }
 
 -- the item of a row, of this kind and with these files
-abbrev pub item_with : Kind → Item → List Ref → shelf.Item
+abbrev pub item_with : Kind → ItemRow → List Ref → shelf.Item
 item_with kind x refs = record {
   kind = kind;
   «package» = x.«package»;
@@ -47,11 +39,11 @@ item_with kind x refs = record {
 }
 
 -- what a row with these files shows: its item on its shelf; one of no suite or of no kind shows nothing
-unfoldable pub entry_with : List Suite → Item → List Ref → Option (ShelfKey × shelf.Item)
+unfoldable pub entry_with : List Suite → ItemRow → List Ref → Option (ShelfKey × shelf.Item)
 entry_with suites x refs = option_and_then (λ suite. option_map (λ kind. standing suite (item_with kind x refs)) (kind_numbered x.kind)) (suite_named suites x.suite)
 
 -- what a row of the tables shows
-abbrev pub entry_in : List Suite → Tables → ℕ × Item → Option (ShelfKey × shelf.Item)
+abbrev pub entry_in : List Suite → Tables → ℕ × ItemRow → Option (ShelfKey × shelf.Item)
 entry_in suites t x = entry_with suites x.1 (refs_in t x.0)
 
 -- what all rows show
@@ -80,7 +72,7 @@ pub record IsPut (old new : ShelvesValue) (e : ShelfKey × shelf.Item) : Type 0 
   pub made : new ≡ insert old e.0 e.1
 
 -- what a row with these files shows comes to its shelf
-pub record PutsRow (suites : List Suite) (x : Item) (refs : List Ref) (old new : ShelvesValue) : Type 0 where
+pub record PutsRow (suites : List Suite) (x : ItemRow) (refs : List Ref) (old new : ShelvesValue) : Type 0 where
   pub entry : ShelfKey × shelf.Item
   pub is : entry_with suites x refs ≡ Some entry
   pub put : IsPut old new entry
@@ -91,12 +83,12 @@ pub record MayBePut (old : ShelvesValue) (e : ShelfKey × shelf.Item) : Type 0 w
   pub fits : list_any (may_not_join (pool old) e.1.files) e.1.files ≡ false
 
 -- What a row with these files shows may come to its shelf.
-pub record MayStand (suites : List Suite) (x : Item) (refs : List Ref) (old : ShelvesValue) : Type 0 where
+pub record MayStand (suites : List Suite) (x : ItemRow) (refs : List Ref) (old : ShelvesValue) : Type 0 where
   pub readable : IsReadable x
   pub entry : ShelfKey × shelf.Item
   pub is : entry_with suites x refs ≡ Some entry
   pub may : MayBePut old entry
 
 -- The shelves so far show all but what is left: with the rows that are left they show what all rows show.
-abbrev pub AreLeft : List Suite → Tables → ShelvesValue → Numbered Item → Type 0
+abbrev pub AreLeft : List Suite → Tables → ShelvesValue → Numbered ItemRow → Type 0
 AreLeft suites t so_far left = (key : ShelfKey) → option_or (get so_far key) (keyed.find key_order key (filter_map (entry_in suites t) left)) ≡ get (shown_in suites t) key

@@ -4,7 +4,7 @@ use Rattle.std.specs.Result.{result_ok}
 use Rattle.records.specs.Records.{changes_in}
 use Rattle.sums.specs.declared.entries.Entry.{Entry}
 use Rattle.sums.specs.declared.print.Print.{Print}
-use Rattle.keep.specs.Book.{is_changes_name}
+use Rattle.sums.specs.FileNames.{is_changes_name}
 use Rattle.tables.specs.Bodies.{body_with}
 use Rattle.tables.specs.Rows.{Tables}
 use Rattle.tables_meaning.specs.Kept.{bytes_of}

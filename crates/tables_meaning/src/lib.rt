@@ -1,6 +1,9 @@
 //! What the rows of an archive's tables say: definitions, which the crates that write and read the rows cite, lemmas, and laws.
+//! What a fault of the database is to an archive.
 #![tactic(auto)]
 
+mod fault;
 mod laws;
 
+pub use fault::fault_of;
 pub use laws::{a_database_keeps_one_book, a_kept_book_has_its_files};

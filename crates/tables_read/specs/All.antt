@@ -5,7 +5,7 @@ use Rattle.sums.specs.declared.print.Print.{Print}
 use Rattle.tables.specs.Arrivals.{is_arrival}
 use Rattle.tables.specs.Items.{is_item}
 use Rattle.tables.specs.Rows.{Tables, rows_of}
-use Rattle.tables.specs.declared.rows.Upload.{Upload}
+use Rattle.tables.specs.declared.rows.UploadRow.{UploadRow}
 use Rattle.tables_read.specs.declared.all.AllRows.{AllRows}
 
 -- the tables with exactly these rows
@@ -29,7 +29,7 @@ abbrev pub is_body_there : Tables → ℕ → Bool
 is_body_there t id = list_any (λ x. nat_eq x.0 id) t.bodies
 
 -- what an upload is known by
-abbrev pub name_and_print : Upload → List ℕ × Print
+abbrev pub name_and_print : UploadRow → List ℕ × Print
 name_and_print u = (u.name, u.print)
 
 -- What the keys of the tables keep true, whatever was written.

@@ -2,7 +2,6 @@
 use Rattle.std.proofs.Common.{◌≡◌, ◌≢◌, ℕ, true, false, List, [], ◌∷◌, map, Option, Some, None, refl, sym, ap, subst, ◌∙◌, codes, eqb-true}
 use Rattle.std.proofs.lemmas.Bool.{and_parts, false_from_ne_true}
 use Rattle.sqlite.specs.Effect.{Database, IsDatabase}
-use Rattle.sqlite.specs.Table.{Table}
 use Rattle.sqlite.specs.Values.{or_null}
 use Rattle.sqlite.specs.declared.types.Value.{Value}
 use Rattle.sqlite.specs.declared.types.Value.TheVariants.{Text, Blob}
@@ -20,41 +19,16 @@ use Rattle.tables.specs.Arrivals.{is_arrival}
 use Rattle.tables.specs.Items.{is_item}
 use Rattle.tables.specs.Rows.{Holds, Tables, arrival_cells, body_cells, file_cells, full_body, full_upload, item_cells, piece_cells, ref_cells, stored, upload_cells, want_cells, whole}
 use Rattle.tables.specs.Others.{IsArchiveSchema, Others, others_in, with_others}
-use Rattle.tables.specs.Schema.{arrivals, bodies, files, items, pieces, refers, refs, uploads, wants}
-use Rattle.tables.specs.declared.rows.Arrival.{Arrival}
-use Rattle.tables.specs.declared.rows.Body.{Body}
+use Rattle.tables.specs.Schema.{arrivals_table, bodies_table, files_table, items_table, pieces_table, refers, refs_table, uploads_table, wants_table}
+use Rattle.tables.specs.declared.rows.ArrivalRow.{ArrivalRow}
+use Rattle.tables.specs.declared.rows.BodyRow.{BodyRow}
 use Rattle.tables.specs.declared.rows.File.{File}
-use Rattle.tables.specs.declared.rows.Item.{Item}
-use Rattle.tables.specs.declared.rows.Upload.{Upload}
+use Rattle.tables.specs.declared.rows.ItemRow.{ItemRow}
+use Rattle.tables.specs.declared.rows.UploadRow.{UploadRow}
 use Rattle.tables_read.specs.All.{AreConstrained, name_and_print}
 use Rattle.tables_read.specs.RowKeys.{AreSame, HasNoClash, HasParents, apart, guarded, no_clash_read, owned, parents_read, referred, rows_apart}
 
 -- ---- what the schema has
-
--- the tables with their trees
-abbrev bodies_table : Table
-bodies_table = record bodies { tree = 1 }
-
-abbrev pieces_table : Table
-pieces_table = record pieces { tree = 3 }
-
-abbrev arrivals_table : Table
-arrivals_table = record arrivals { tree = 5 }
-
-abbrev uploads_table : Table
-uploads_table = record uploads { tree = 7 }
-
-abbrev wants_table : Table
-wants_table = record wants { tree = 10 }
-
-abbrev items_table : Table
-items_table = record items { tree = 13 }
-
-abbrev refs_table : Table
-refs_table = record refs { tree = 15 }
-
-abbrev files_table : Table
-files_table = record files { tree = 17 }
 
 -- where the references point: to the tree of a table, by the rowid
 bodies_key : (o : Others) → parent_key (with_others o).tables (refers 1 (codes "bodies")) ≡ Some (1, 0 ∷ [], plain)
@@ -125,7 +99,7 @@ not_null : {X : Type 0} (put : X → Value) → ((x : X) → is_null (put x) ≡
 not_null put some None is = absurd (is refl)
 not_null put some (Some x) is = some x
 
-same_bodies : (x y : ℕ × Body) → x.1.print ≢ None → x.1.print ≡ y.1.print → AreSame (2 ∷ 3 ∷ 4 ∷ 5 ∷ []) (stored body_cells x) (stored body_cells y)
+same_bodies : (x y : ℕ × BodyRow) → x.1.print ≢ None → x.1.print ≡ y.1.print → AreSame (2 ∷ 3 ∷ 4 ∷ 5 ∷ []) (stored body_cells x) (stored body_cells y)
 same_bodies x y some same =
     let there : y.1.print ≢ None = λ none. some (same ∙ none) in (
       (ap (or_null (λ p. whole p.size)) same, not_null (λ p. whole p.size) (λ _. refl) y.1.print there),
@@ -141,21 +115,21 @@ same_bodies x y some same =
       ),
     )
 
-same_arrivals : (x y : ℕ × Arrival) → is_arrival x.1.name x.1.body y.1 ≡ true → AreSame (2 ∷ 3 ∷ []) (stored arrival_cells x) (stored arrival_cells y)
+same_arrivals : (x y : ℕ × ArrivalRow) → is_arrival x.1.name x.1.body y.1 ≡ true → AreSame (2 ∷ 3 ∷ []) (stored arrival_cells x) (stored arrival_cells y)
 same_arrivals x y same =
     let parts = and_parts _ _ same in
     ((ap Text (sym (same_bytes _ _ parts.0)), refl), ((ap whole (sym (eqb-true _ _ parts.1)), refl), tt))
 
-same_uploads : (x y : ℕ × Upload) → name_and_print x.1 ≡ name_and_print y.1 → AreSame (2 ∷ 3 ∷ 4 ∷ 5 ∷ 6 ∷ []) (stored upload_cells x) (stored upload_cells y)
+same_uploads : (x y : ℕ × UploadRow) → name_and_print x.1 ≡ name_and_print y.1 → AreSame (2 ∷ 3 ∷ 4 ∷ 5 ∷ 6 ∷ []) (stored upload_cells x) (stored upload_cells y)
 same_uploads x y same =
     let name : x.1.name ≡ y.1.name = ap (λ (k : List ℕ × Print). k.0) same in
     let print : x.1.print ≡ y.1.print = ap (λ (k : List ℕ × Print). k.1) same in
     ((ap Text name, refl), ((ap (λ p. whole p.size) print, refl), ((ap (λ p. Blob p.md5) print, refl), ((ap (λ p. Blob p.sha1) print, refl), ((ap (λ p. Blob p.sha256) print, refl), tt)))))
 
-same_places : (x y : ℕ × Upload) → x.1.place ≢ None → x.1.place ≡ y.1.place → AreSame (7 ∷ []) (stored upload_cells x) (stored upload_cells y)
+same_places : (x y : ℕ × UploadRow) → x.1.place ≢ None → x.1.place ≡ y.1.place → AreSame (7 ∷ []) (stored upload_cells x) (stored upload_cells y)
 same_places x y some same = ((ap (or_null whole) same, not_null whole (λ _. refl) y.1.place (λ none. some (same ∙ none))), tt)
 
-same_items : (x y : ℕ × Item) → is_item x.1.suite x.1.kind x.1.«package» x.1.architecture y.1 ≡ true → AreSame (2 ∷ 3 ∷ 4 ∷ 5 ∷ []) (stored item_cells x) (stored item_cells y)
+same_items : (x y : ℕ × ItemRow) → is_item x.1.suite x.1.kind x.1.«package» x.1.architecture y.1 ≡ true → AreSame (2 ∷ 3 ∷ 4 ∷ 5 ∷ []) (stored item_cells x) (stored item_cells y)
 same_items x y same =
     let last = and_parts _ _ same in
     let third = and_parts _ _ last.0 in

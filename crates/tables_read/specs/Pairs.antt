@@ -2,16 +2,16 @@
 use Rattle.std.specs.Prelude.{Vec, ℕ}
 use Rattle.std.specs.Global.{Global}
 use Rattle.tables.specs.Rows.{Tables}
-use Rattle.tables.specs.declared.rows.Arrival.{Arrival}
-use Rattle.tables.specs.declared.rows.Body.{Body}
+use Rattle.tables.specs.declared.rows.ArrivalRow.{ArrivalRow}
+use Rattle.tables.specs.declared.rows.BodyRow.{BodyRow}
 use Rattle.tables.specs.declared.rows.Date.{Date}
 use Rattle.tables.specs.declared.rows.File.{File}
-use Rattle.tables.specs.declared.rows.IndexText.{IndexText}
-use Rattle.tables.specs.declared.rows.Item.{Item}
+use Rattle.tables.specs.declared.rows.TextRow.{TextRow}
+use Rattle.tables.specs.declared.rows.ItemRow.{ItemRow}
 use Rattle.tables.specs.declared.rows.Meta.{Meta}
 use Rattle.tables.specs.declared.rows.Piece.{Piece}
 use Rattle.tables.specs.declared.rows.Ref.{Ref}
-use Rattle.tables.specs.declared.rows.Upload.{Upload}
+use Rattle.tables.specs.declared.rows.UploadRow.{UploadRow}
 use Rattle.tables.specs.declared.rows.Want.{Want}
 
 -- rows with their rowids, as code holds them
@@ -19,8 +19,8 @@ abbrev pub Held : Type 0 → Type 0
 Held X = Vec (ℕ × X) Global
 
 abbrev pub Pairs : Type 0
-Pairs = (Held Meta × (Held Body × (Held Piece × Held Arrival)))
-    × ((Held Upload × Held Want) × ((Held Item × (Held Ref × Held File)) × (Held IndexText × Held Date)))
+Pairs = (Held Meta × (Held BodyRow × (Held Piece × Held ArrivalRow)))
+    × ((Held UploadRow × Held Want) × ((Held ItemRow × (Held Ref × Held File)) × (Held TextRow × Held Date)))
 
 -- the tables with exactly these rows
 abbrev pub tables_in : Pairs → Tables

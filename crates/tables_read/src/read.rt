@@ -3,7 +3,7 @@
 ghost use Rattle.std.specs.Prelude.{◌≡◌, ◌⊎◌, false, IfErr, IfOk, IfSome, OnOk, OnErr, None, MatchOption};
 ghost use Rattle.sqlite.specs.Effect.{Database};
 ghost use Rattle.sqlite.specs.Held.{state};
-ghost use Rattle.sqlite.specs.State.{HasCleanDisk, IsUnchanged, Survives};
+ghost use Rattle.sqlite.specs.State.{IsUnchanged};
 ghost use Rattle.tables.specs.Causes.{IsCaused};
 ghost use Rattle.tables.specs.Rows.{Tables, Holds, Fails};
 ghost use Rattle.tables.specs.Others.{IsArchiveSchema};
@@ -12,6 +12,7 @@ ghost use Rattle.tables_read.specs.Layout.{IsTable, IsNoTable};
 ghost use Rattle.tables_read.specs.Pairs.{tables_in};
 ghost use Rattle.tables_read.specs.Reading.{Tells};
 ghost use Rattle.tables.specs.Real.{AreReal};
+ghost use Rattle.tables.specs.Calls.{NeverCommits, OnCleanDisk};
 
 use crate::all::AllRows;
 use crate::in_order::InOrder;
@@ -19,7 +20,9 @@ use crate::stored::Stored;
 use crate::table::table;
 use sqlite::{Connection, Error};
 use std::alloc::Global;
-use tables::rows::{Arrival, Body, Date, File, IndexText, Item, Meta, Piece, Ref, Upload, Want};
+use tables::rows::{
+    ArrivalRow, BodyRow, Date, File, ItemRow, Meta, Piece, Ref, TextRow, UploadRow, Want,
+};
 
 /// Tables that are read one after another: a pair of the first and the others.
 trait Read: Sized + Drop {
@@ -67,14 +70,14 @@ type Numbered<T> = Vec<(u64, T)>;
 
 type Arrived = (
     Numbered<Meta>,
-    (Numbered<Body>, (Numbered<Piece>, Numbered<Arrival>)),
+    (Numbered<BodyRow>, (Numbered<Piece>, Numbered<ArrivalRow>)),
 );
 
-type Judged = (Numbered<Upload>, Numbered<Want>);
+type Judged = (Numbered<UploadRow>, Numbered<Want>);
 
 type Shown = (
-    (Numbered<Item>, (Numbered<Ref>, Numbered<File>)),
-    (Numbered<IndexText>, Numbered<Date>),
+    (Numbered<ItemRow>, (Numbered<Ref>, Numbered<File>)),
+    (Numbered<TextRow>, Numbered<Date>),
 );
 
 /// The rows of the pairs in which they are read.
@@ -104,13 +107,13 @@ pub fn read_all<S: InOrder>(
     requires idle { conn.old.in_transaction ≡ false }
     requires archive { IsArchiveSchema (state S.Store conn.old).now.schema }
     ensures idle { conn.old.in_transaction ≡ false → conn.new.in_transaction ≡ false }
-    ensures some { HasCleanDisk (state S.Store conn.new) → IfOk result (λ o. IfSome o (λ all. Holds (state S.Store conn.old).now (tables_with all))) }
+    ensures some { OnCleanDisk S.Store conn.old conn.new (λ old new. IfOk result (λ o. IfSome o (λ all. Holds old.now (tables_with all)))) }
     // A text or a digest that code cannot hold is none of an archive.
-    ensures none { HasCleanDisk (state S.Store conn.new) → IfOk result (λ o. o ≡ None → (t : Tables) → AreReal t → Holds (state S.Store conn.old).now t → ⊥) }
-    ensures unchanged { HasCleanDisk (state S.Store conn.new) → OnOk result (IsUnchanged (state S.Store conn.old) (state S.Store conn.new)) }
-    ensures err { HasCleanDisk (state S.Store conn.new) → OnErr result (Fails (state S.Store conn.old) (state S.Store conn.new)) }
-    ensures cause { HasCleanDisk (state S.Store conn.new) → IfErr result (IsCaused (state S.Store conn.old) (state S.Store conn.new)) }
-    ensures survives { Survives (state S.Store conn.old) (state S.Store conn.new) (λ _. ⊥) }
+    ensures none { OnCleanDisk S.Store conn.old conn.new (λ old new. IfOk result (λ o. o ≡ None → (t : Tables) → AreReal t → Holds old.now t → ⊥)) }
+    ensures unchanged { OnCleanDisk S.Store conn.old conn.new (λ old new. OnOk result (IsUnchanged old new)) }
+    ensures err { OnCleanDisk S.Store conn.old conn.new (λ old new. OnErr result (Fails old new)) }
+    ensures cause { OnCleanDisk S.Store conn.old conn.new (λ old new. IfErr result (IsCaused old new)) }
+    ensures survives { NeverCommits S.Store conn.old conn.new }
 {
     match <(Arrived, (Judged, Shown))>::read(alloc, conn)? {
         Some(rows) => Ok(Some(all_of(rows))),

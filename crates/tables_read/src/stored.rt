@@ -14,7 +14,9 @@ use crate::cells::Cells;
 use para::{Listed, Text};
 use sqlite::{Error, Row};
 use sums::Print;
-use tables::rows::{Arrival, Body, Date, File, IndexText, Item, Meta, Piece, Ref, Upload, Want};
+use tables::rows::{
+    ArrivalRow, BodyRow, Date, File, ItemRow, Meta, Piece, Ref, TextRow, UploadRow, Want,
+};
 
 /// A row of one of the tables.
 pub trait Stored: Sized + Drop {
@@ -81,12 +83,12 @@ impl Stored for Meta {
 const BODIES: &str = "SELECT rowid, size, md5, sha1, sha256 FROM bodies ORDER BY rowid";
 
 /// The row of these values, which are all there or all absent, if it is one.
-fn body(cells: MaybePrinted) -> Option<Body>
+fn body(cells: MaybePrinted) -> Option<BodyRow>
     ensures some { IfSome result (λ b. seen_in cells ≡ body_seen b) }
-    ensures none { result ≡ None → (b : Body) → seen_in cells ≢ body_seen b }
+    ensures none { result ≡ None → (b : BodyRow) → seen_in cells ≢ body_seen b }
 {
     match cells {
-        (Some(size), (Some(md5), (Some(sha1), (Some(sha256), ())))) => Some(Body {
+        (Some(size), (Some(md5), (Some(sha1), (Some(sha256), ())))) => Some(BodyRow {
             print: Some(Print {
                 size,
                 md5,
@@ -94,12 +96,12 @@ fn body(cells: MaybePrinted) -> Option<Body>
                 sha256,
             }),
         }),
-        (None, (None, (None, (None, ())))) => Some(Body { print: None }),
+        (None, (None, (None, (None, ())))) => Some(BodyRow { print: None }),
         _ => None,
     }
 }
 
-impl Stored for Body {
+impl Stored for BodyRow {
     ghost layout = { body_layout };
 
     ghost is_real = { IsRealBody };
@@ -110,7 +112,7 @@ impl Stored for Body {
         BODIES
     }
 
-    fn from_row(row: &Row) -> Result<Option<Body>, Error> {
+    fn from_row(row: &Row) -> Result<Option<BodyRow>, Error> {
         match <MaybePrinted>::from_cells(row, 1)? {
             Some(cells) => Ok(body(cells)),
             None => Ok(None),
@@ -156,16 +158,16 @@ impl Stored for Piece {
 const ARRIVALS: &str = "SELECT rowid, name, body, moment FROM arrivals ORDER BY rowid";
 
 /// The row of these values.
-fn arrival(cells: (Text, (u64, (u64, ())))) -> Arrival
+fn arrival(cells: (Text, (u64, (u64, ())))) -> ArrivalRow
     ensures { result ≡ record { name = cells.0; body = cells.1.0; moment = cells.1.1.0 } }
 {
     let (name, cells) = cells;
     let (body, cells) = cells;
     let (moment, ()) = cells;
-    Arrival { name, body, moment }
+    ArrivalRow { name, body, moment }
 }
 
-impl Stored for Arrival {
+impl Stored for ArrivalRow {
     ghost layout = { arrival_layout };
 
     ghost is_real = { IsRealArrival };
@@ -176,7 +178,7 @@ impl Stored for Arrival {
         ARRIVALS
     }
 
-    fn from_row(row: &Row) -> Result<Option<Arrival>, Error> {
+    fn from_row(row: &Row) -> Result<Option<ArrivalRow>, Error> {
         match <(Text, (u64, (u64, ())))>::from_cells(row, 1)? {
             Some(cells) => Ok(Some(arrival(cells))),
             None => Ok(None),
@@ -188,7 +190,7 @@ const UPLOADS: &str =
     "SELECT rowid, name, size, md5, sha1, sha256, place, verdict FROM uploads ORDER BY rowid";
 
 /// The row of these values.
-fn upload(cells: (Text, Printed<(Option<u64>, (Option<u64>, ()))>)) -> Upload
+fn upload(cells: (Text, Printed<(Option<u64>, (Option<u64>, ()))>)) -> UploadRow
     ensures { result ≡ record { name = cells.0; place = cells.1.1.1.1.1.0; verdict = cells.1.1.1.1.1.1.0; print = record { size = cells.1.0; md5 = cells.1.1.0; sha1 = cells.1.1.1.0; sha256 = cells.1.1.1.1.0 } } }
 {
     let (name, cells) = cells;
@@ -204,7 +206,7 @@ fn upload(cells: (Text, Printed<(Option<u64>, (Option<u64>, ()))>)) -> Upload
         sha1,
         sha256,
     };
-    Upload {
+    UploadRow {
         name,
         place,
         verdict,
@@ -212,7 +214,7 @@ fn upload(cells: (Text, Printed<(Option<u64>, (Option<u64>, ()))>)) -> Upload
     }
 }
 
-impl Stored for Upload {
+impl Stored for UploadRow {
     ghost layout = { upload_layout };
 
     ghost is_real = { IsRealUpload };
@@ -223,7 +225,7 @@ impl Stored for Upload {
         UPLOADS
     }
 
-    fn from_row(row: &Row) -> Result<Option<Upload>, Error> {
+    fn from_row(row: &Row) -> Result<Option<UploadRow>, Error> {
         match <(Text, Printed<(Option<u64>, (Option<u64>, ()))>)>::from_cells(row, 1)? {
             Some(cells) => Ok(Some(upload(cells))),
             None => Ok(None),
@@ -285,7 +287,7 @@ const ITEMS: &str =
 type Shown = (Text, (Text, (Text, (Listed<u8>, ()))));
 
 /// The row of these values.
-fn item(cells: (Text, (u64, (Text, (Text, Shown))))) -> Item
+fn item(cells: (Text, (u64, (Text, (Text, Shown))))) -> ItemRow
     ensures { result ≡ record { suite = cells.0; kind = cells.1.0; «package» = cells.1.1.0; architecture = cells.1.1.1.0; version = cells.1.1.1.1.0; component = cells.1.1.1.1.1.0; source = cells.1.1.1.1.1.1.0; paragraph = cells.1.1.1.1.1.1.1.0 } }
 {
     let (suite, cells) = cells;
@@ -296,7 +298,7 @@ fn item(cells: (Text, (u64, (Text, (Text, Shown))))) -> Item
     let (component, cells) = cells;
     let (source, cells) = cells;
     let (paragraph, ()) = cells;
-    Item {
+    ItemRow {
         suite,
         kind,
         package,
@@ -308,7 +310,7 @@ fn item(cells: (Text, (u64, (Text, (Text, Shown))))) -> Item
     }
 }
 
-impl Stored for Item {
+impl Stored for ItemRow {
     ghost layout = { item_layout };
 
     ghost is_real = { IsRealItem };
@@ -319,7 +321,7 @@ impl Stored for Item {
         ITEMS
     }
 
-    fn from_row(row: &Row) -> Result<Option<Item>, Error> {
+    fn from_row(row: &Row) -> Result<Option<ItemRow>, Error> {
         match <(Text, (u64, (Text, (Text, Shown))))>::from_cells(row, 1)? {
             Some(cells) => Ok(Some(item(cells))),
             None => Ok(None),
@@ -407,15 +409,15 @@ impl Stored for File {
 const TEXTS: &str = "SELECT rowid, path, body FROM texts ORDER BY rowid";
 
 /// The row of these values.
-fn text(cells: (Text, (Listed<u8>, ()))) -> IndexText
+fn text(cells: (Text, (Listed<u8>, ()))) -> TextRow
     ensures { result ≡ record { path = cells.0; body = cells.1.0 } }
 {
     let (path, cells) = cells;
     let (body, ()) = cells;
-    IndexText { path, body }
+    TextRow { path, body }
 }
 
-impl Stored for IndexText {
+impl Stored for TextRow {
     ghost layout = { text_layout };
 
     ghost is_real = { IsRealText };
@@ -426,7 +428,7 @@ impl Stored for IndexText {
         TEXTS
     }
 
-    fn from_row(row: &Row) -> Result<Option<IndexText>, Error> {
+    fn from_row(row: &Row) -> Result<Option<TextRow>, Error> {
         match <(Text, (Listed<u8>, ()))>::from_cells(row, 1)? {
             Some(cells) => Ok(Some(text(cells))),
             None => Ok(None),

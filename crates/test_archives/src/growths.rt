@@ -1,16 +1,13 @@
 //! Calls of an archive between two marks that are printed. A growth between them may be refused from outside: then the call is refused, or
 //! answers all the same. Where it is refused, the archive is to show what it did, and the call is made again.
 
-use crate::disks::account::difference;
-use crate::disks::task::{Question, Task};
-use crate::disks::work::Pieces;
 use crate::keepers::Places;
 use keep::{KeepFault, Keeper};
 use queue::Archive;
-use test_rows::{Answers, Unread, said, text_of};
 use rules::Config;
 use std::alloc::Global;
-use test_story::{Call, Story};
+use test_rows::{Answers, Unread, said, text_of};
+use test_story::{Call, Pieces, Question, Story, Task, difference};
 
 /// Room for the reply of a request.
 const ROOM: usize = 65_536;

@@ -1,25 +1,22 @@
-//! Archives as rows: stories, told over both keepers, calls and migrations of which a growth may be refused from outside, and archives in files
-//! in memory whose disks stop, fail or are full.
+//! Archives as rows: stories, told over both keepers, and calls and migrations of which a growth may be refused from outside.
 //!
 //! A line is printed for each row that differs, and one for each file. The exit status is 0 where each file has rows, all rows can
 //! be read, and none differs; else 1.
 #![tactic(auto)]
 
-mod disks;
 mod growths;
 mod keepers;
 mod moves;
 
-use crate::disks::Case;
 use crate::growths::Marked;
 use crate::keepers::{Lists, OverLists, OverTables, Tables};
 use crate::moves::Moves;
 use keep::PlainKeeper;
 use keep_tables::TableKeeper;
-use test_rows::report_files;
 use sqlite::MemStore;
 use std::io;
 use std::process::ExitCode;
+use test_rows::report_files;
 
 /// Calls of which a growth may be refused, over plain keepers.
 type MarkedLists = Marked<PlainKeeper, Lists>;
@@ -38,13 +35,12 @@ fn call(rt: &HostRuntime) -> io::Result<bool> {
     Ok(over_lists && over_tables && moved)
 }
 
-/// Tells the stories over both keepers, and what becomes of files.
+/// Tells the stories over both keepers, and makes the calls.
 fn tell(rt: &HostRuntime) -> io::Result<bool> {
     let over_lists = report_files::<OverLists, HostRuntime>(rt, "over lists: ", ".rows")?;
     let over_tables = report_files::<OverTables, HostRuntime>(rt, "over tables: ", ".rows")?;
     let called = call(rt)?;
-    let in_files = report_files::<Case, HostRuntime>(rt, "in files: ", ".disks")?;
-    Ok(over_lists && over_tables && called && in_files)
+    Ok(over_lists && over_tables && called)
 }
 
 fn main(rt: HostRuntime) -> ExitCode {

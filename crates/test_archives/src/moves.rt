@@ -6,10 +6,10 @@ use keep::{KeepFault, LATEST};
 use keep_tables::TableKeeper;
 use old_book::OldBook;
 use queue::Archive;
-use test_rows::{Answers, Unread, number_of, said, text_of};
 use rules::Config;
 use sqlite::Connection;
 use std::alloc::Global;
+use test_rows::{Answers, Unread, number_of, said, text_of};
 use test_story::Story;
 
 /// The archive of an older layout that was read, if one was, and a story over the one that is made of it.

@@ -1,9 +1,9 @@
 //! An answer as it is put together.
 
-use test_rows::{Unread, number_of, text_of};
 use std::alloc::Global;
 use std::fmt::{Debug, Display};
 use std::io::Write;
+use test_rows::{Unread, number_of, text_of};
 
 /// An answer, and why there is none. What is added behind a fault is not looked at.
 #[derive(Drop)]

@@ -9,8 +9,8 @@ use crate::steps::owned;
 use desk::{DeskFault, Served, answer};
 use keep::Keeper;
 use queue::{Archive, Command, Fault, Outcome};
-use test_rows::{Unread, number_of, text_of};
 use std::alloc::{AllocError, Global};
+use test_rows::{Unread, number_of, text_of};
 
 /// How many bytes come a read.
 const MOST: usize = 4096;

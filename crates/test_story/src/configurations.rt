@@ -3,9 +3,9 @@
 use crate::outcomes::printed;
 use keep::{KeepFault, Keeper, LATEST};
 use queue::Archive;
-use test_rows::{Unread, number_of, said};
 use rules::{Config, ConfigFault};
 use std::alloc::Global;
+use test_rows::{Unread, number_of, said};
 
 /// Why an archive gets no other configuration.
 #[derive(Clone, Copy, Debug)]

@@ -1,8 +1,8 @@
 //! The words of a delivery.
 
 use crate::pieces::replace_pieces;
-use test_rows::{Unread, number_of};
 use std::alloc::Global;
+use test_rows::{Unread, number_of};
 
 /// A body, its name and its moment.
 #[derive(Drop)]

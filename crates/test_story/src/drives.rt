@@ -5,8 +5,8 @@ use crate::outcomes::{arrived_text, found_text, number_text, promotion_text, rep
 use crate::steps::{moment_of, owned, sources_of};
 use keep::Keeper;
 use queue::{Archive, Command, Outcome};
-use test_rows::{Unread, number_of, text_of};
 use std::alloc::Global;
+use test_rows::{Unread, number_of, text_of};
 
 /// `deliver NAME [MOMENT] BODY [OLD NEW]..`.
 fn delivery(alloc: Global, words: &[Vec<u8>]) -> Result<Command, Unread> {

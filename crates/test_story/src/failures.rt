@@ -6,9 +6,9 @@ use crate::requests::reply_to;
 use desk::{DeskFault, answer};
 use keep::Keeper;
 use queue::Archive;
-use test_rows::{Unread, said};
 use rules::Config;
 use std::alloc::Global;
+use test_rows::{Unread, said};
 
 /// How many bytes come a read.
 const MOST: usize = 7;

@@ -1,4 +1,7 @@
 //! Keepers of new archives.
+//!
+//! The trait `Makes` is what makes the keepers of a story. A trait that asks for `Keeper` can't be implemented for a keeper over a store of
+//! one type: the check refuses it. So a type that is no keeper implements `Makes` of keepers.
 
 ghost use Rattle.std.specs.Prelude.{◌≤◌};
 

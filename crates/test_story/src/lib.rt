@@ -1,23 +1,30 @@
 //! Stories of archives, as rows: deliveries, runs, copies, promotions, removals, cleanings, configurations, look-ups and requests, over
-//! any keeper.
+//! any keeper; and all that an archive shows.
 #![tactic(auto)]
 
 mod calls;
 mod configurations;
 mod delivery;
+mod differences;
 mod drives;
 mod failures;
 mod keepers;
+mod named;
 mod numbers;
 mod outcomes;
 mod pieces;
 mod readers;
 mod reading;
 mod receptions;
+mod refusals;
 mod requests;
 mod steps;
+mod tasks;
 mod telling;
 
 pub use calls::{Answered, Call};
+pub use differences::difference;
 pub use keepers::Makes;
+pub use refusals::{is_refusal, is_refused_line};
+pub use tasks::{Pieces, Question, Task, add_paths};
 pub use telling::{Story, asked};

@@ -4,9 +4,9 @@ use desk::DeskFault;
 use keep::KeepFault;
 use queue::Fault;
 use records::RecordFault;
-use test_rows::Unread;
 use std::alloc::{AllocError, Global};
 use std::fmt::{Display, Write};
+use test_rows::Unread;
 
 const OF_KEEPERS: [KeepFault; 5] = [
     KeepFault::OutOfMemory,

@@ -1,9 +1,9 @@
 //! What calls of an archive answer, as texts.
 
 use queue::{Arrived, Fault, Promotion, Report, SourceCopy};
-use test_rows::{Unread, said};
 use std::alloc::Global;
 use std::fmt::Display;
+use test_rows::{Unread, said};
 
 /// What is printed of a value.
 pub fn printed<T: Display>(alloc: Global, value: &T) -> Result<Vec<u8>, Unread> {

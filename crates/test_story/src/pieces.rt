@@ -1,7 +1,7 @@
 //! Pieces of texts that a row replaces.
 
-use test_rows::{Unread, text_of};
 use std::alloc::Global;
+use test_rows::{Unread, text_of};
 
 /// Replaces a piece wherever it stands in a text, and says whether it does.
 fn replace_piece(alloc: Global, text: &mut Vec<u8>, piece: &str, by: &str) -> Result<bool, Unread> {

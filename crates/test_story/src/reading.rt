@@ -5,9 +5,9 @@ use desk::Desk;
 use desk::head::{Refusal, Wanted, read_wanted};
 use desk::request::{Request, read_request};
 use queue::ReaderFailed;
-use test_rows::Unread;
 use std::alloc::{AllocError, Global};
 use std::fmt::Write;
+use test_rows::Unread;
 
 /// How many bytes come a read.
 const SIZES: [usize; 4] = [1, 2, 7, 1000];

@@ -4,8 +4,8 @@ use crate::outcomes::arrived_text;
 use crate::readers::Pieces;
 use keep::Keeper;
 use queue::{Archive, Arrived, Fault};
-use test_rows::{Unread, number_of, said, text_of};
 use std::alloc::Global;
+use test_rows::{Unread, number_of, said, text_of};
 
 /// The most bytes a read.
 const MOST: u64 = 8_388_608;

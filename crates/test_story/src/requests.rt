@@ -6,8 +6,8 @@ use crate::readers::Pieces;
 use desk::{Served, answer};
 use keep::Keeper;
 use queue::Archive;
-use test_rows::{Unread, number_of, said};
 use std::alloc::{AllocError, Global};
+use test_rows::{Unread, number_of, said};
 
 /// The most bytes a read.
 const MOST: u64 = 8_388_608;

@@ -6,8 +6,8 @@ use crate::outcomes::{
 };
 use keep::Keeper;
 use queue::Archive;
-use test_rows::{Unread, number_of, said, text_of};
 use std::alloc::Global;
+use test_rows::{Unread, number_of, said, text_of};
 
 /// `deliver NAME [MOMENT] BODY [OLD NEW]..`: `new`, `again`, or the fault.
 pub fn deliver<K: Keeper>(

@@ -14,10 +14,10 @@ use crate::steps::{
 };
 use keep::{KeepFault, Keeper, LATEST};
 use queue::Archive;
-use test_rows::{Answers, Unread, said, text_of};
 use rules::Config;
 use std::alloc::Global;
 use std::marker::PhantomData;
+use test_rows::{Answers, Unread, said, text_of};
 
 /// A story over keepers of one type, and what makes them. The archive is there behind its row.
 #[derive(Drop)]

@@ -1,4 +1,6 @@
 //! Dates of Release.
+//!
+//! A date is written by counting days. A Valid-Until reaches to 2109-12-29, and 2100 has no 29 February.
 
 ghost use Rattle.std.specs.Prelude.{◌≡◌, ◌*◌, ◌≤◌, ◌<◌, ◌-◌, ◌/◌, ◌%◌, pos, IfOk, string_bytes};
 ghost use Rattle.jiff.specs.Words.{civil_nanos};

@@ -1,25 +1,15 @@
 //! Whether an item is the package that its sidecar tells.
 
-ghost use Rattle.std.specs.Prelude.{◌≡◌, ◌↔◌, Ok, IfOk, IsTrue, string_bytes};
+ghost use Rattle.std.specs.Prelude.{◌≡◌, ◌↔◌, Ok, IfOk, IsTrue};
 ghost use Rattle.records.specs.Records.{sidecar_in};
 ghost use Rattle.records.specs.Values.{SidecarValue};
-ghost use Rattle.suites.specs.Told.{IsBinaryOf, deb_file};
+ghost use Rattle.suites.specs.Told.{IsBinaryOf};
 ghost use Rattle.tables_audit.specs.Columns.{has_binary_columns, has_one_at};
 
 use crate::as_recorded::paths::path_of;
 use records::{RecordFault, Sidecar};
 use std::alloc::{AllocError, Global};
-use suites::{Item, PoolFile};
-
-/// The name that a package file has by the fields of its sidecar.
-fn deb_name(alloc: Global, sidecar: &Sidecar) -> Result<String, AllocError>
-    ensures { IfOk result (λ name. string_bytes name ≡ deb_file sidecar.now) }
-{
-    let package = sidecar.package();
-    let version = sidecar.version().without_epoch();
-    let architecture = sidecar.architecture();
-    format!(in alloc; "{package}_{version}_{architecture}.deb")
-}
+use suites::{Item, PoolFile, deb_name};
 
 /// Whether an item has the package, the source, the architecture and the version of a sidecar.
 #[tactic(auto, unfolding(crate::specs::Columns::has_binary_columns))]

@@ -1,6 +1,6 @@
 //! Whether an item is the source that its .dsc tells.
 
-ghost use Rattle.std.specs.Prelude.{◌≡◌, ◌↔◌, ◌∷◌, map, Ok, IfOk, IsTrue, string_bytes};
+ghost use Rattle.std.specs.Prelude.{◌≡◌, ◌↔◌, ◌∷◌, map, Ok, IfOk, IsTrue};
 ghost use Rattle.records.specs.Records.{dsc_in};
 ghost use Rattle.records.specs.Values.{DscValue};
 ghost use Rattle.sums.specs.Prints.{print as print_in};
@@ -12,17 +12,8 @@ use crate::as_recorded::paths::path_of;
 use para::Text;
 use records::{Dsc, RecordFault};
 use std::alloc::{AllocError, Global};
-use suites::{Item, PoolFile};
+use suites::{Item, PoolFile, dsc_name};
 use sums::{Entry, print_of};
-
-/// The name that a .dsc has by its own fields.
-fn dsc_name(alloc: Global, dsc: &Dsc) -> Result<String, AllocError>
-    ensures { IfOk result (λ name. string_bytes name ≡ dsc_file dsc.now) }
-{
-    let source = dsc.source();
-    let version = dsc.version().without_epoch();
-    format!(in alloc; "{source}_{version}.dsc")
-}
 
 /// Whether an item has the package, the source, the architecture and the version of a .dsc.
 #[tactic(auto, unfolding(crate::specs::Columns::has_source_columns))]

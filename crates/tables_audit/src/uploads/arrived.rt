@@ -9,18 +9,18 @@ use crate::uploads::lookups::There;
 use crate::uploads::signs::sign_of_entry;
 use std::alloc::{AllocError, Global};
 use sums::{Entry, Print};
-use tables::rows::{Arrival, Body};
+use tables::rows::{ArrivalRow, BodyRow};
 
 /// An arrival, and the print of its body.
 #[derive(Clone, Copy)]
 pub struct Arrived<'a> {
-    pub arrival: &'a Arrival,
+    pub arrival: &'a ArrivalRow,
     pub print: Print,
 }
 
 /// The print of the body of a number.
 #[tactic(auto, unfolding(crate::specs::Uploads::print_among))]
-fn print_of_body(bodies: &[(u64, Body)], id: u64) -> Option<Print>
+fn print_of_body(bodies: &[(u64, BodyRow)], id: u64) -> Option<Print>
     ensures { result ≡ print_among bodies.now id }
 {
     for (number, body) in bodies {
@@ -32,7 +32,7 @@ fn print_of_body(bodies: &[(u64, Body)], id: u64) -> Option<Print>
 }
 
 /// The print of the body of a number, looked up among all bodies.
-fn print_by_number(bodies: &Rows<'_, (u64, Body)>, id: u64) -> Option<Print>
+fn print_by_number(bodies: &Rows<'_, (u64, BodyRow)>, id: u64) -> Option<Print>
     ensures { result ≡ print_among bodies.now.all.now id }
 {
     print_of_body(bodies.about(id), id)
@@ -41,8 +41,8 @@ fn print_by_number(bodies: &Rows<'_, (u64, Body)>, id: u64) -> Option<Print>
 /// The arrivals with the prints of their bodies, where each has one.
 pub fn arrived_among<'a>(
     alloc: Global,
-    arrivals: &'a [(u64, Arrival)],
-    bodies: &Rows<'_, (u64, Body)>,
+    arrivals: &'a [(u64, ArrivalRow)],
+    bodies: &Rows<'_, (u64, BodyRow)>,
 ) -> Result<Option<Vec<Arrived<'a>>>, AllocError>
     ensures some { IfOk result (λ o. IfSome o (λ arrived. map with_print arrived.items ≡ map (with_print_in bodies.now.all.now) (rows_of arrivals.now))) }
     ensures none { IfOk result (λ o. o ≡ None → Contains (map (λ a. print_among bodies.now.all.now a.body) (rows_of arrivals.now)) None) }

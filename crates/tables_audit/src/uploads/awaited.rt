@@ -3,7 +3,6 @@
 ghost use Rattle.std.specs.Prelude.{◌≡◌, IfOk, map};
 ghost use Rattle.std.specs.List.{filter_map};
 ghost use Rattle.std.specs.Result.{result_ok};
-ghost use Rattle.keep.specs.Book.{is_changes_name};
 ghost use Rattle.records.specs.Records.{changes_in as record_in};
 ghost use Rattle.tables_audit.specs.Uploads.{awaited_view, changes_awaited, found_awaited, has_judgement, printed};
 
@@ -14,13 +13,13 @@ use crate::uploads::lookups::Verdicts;
 use crate::uploads::signs::sign_of_arrived;
 use records::{Changes, RecordFault};
 use std::alloc::{AllocError, Global};
-use sums::Print;
-use tables::rows::Arrival;
+use sums::{Print, is_changes_name};
+use tables::rows::ArrivalRow;
 
 /// A .changes that waits for a verdict: its arrival, its print, and the record that it is.
 #[derive(Drop)]
 pub struct Awaited<'a> {
-    pub arrival: &'a Arrival,
+    pub arrival: &'a ArrivalRow,
     pub print: Print,
     pub changes: Changes,
 }
@@ -34,13 +33,6 @@ fn changes_in(alloc: Global, text: &[u8]) -> Result<Option<Changes>, AllocError>
         Err(RecordFault::OutOfMemory) => Err(AllocError),
         Err(_) => Ok(None),
     }
-}
-
-/// Whether this is the name of a .changes.
-fn is_changes(name: &str) -> bool
-    ensures { result ≡ is_changes_name name.now }
-{
-    name.as_bytes().ends_with(b".changes")
 }
 
 /// Whether what arrived has a verdict.
@@ -61,7 +53,7 @@ fn awaited_changes(
 ) -> Result<Option<Changes>, AllocError>
     ensures { IfOk result (λ changes. changes ≡ changes_awaited pieces.now.all.now.pieces.items judged.now.all.now (printed arrived.now)) }
 {
-    if !is_changes(arrived.arrival.name.as_str()) {
+    if !is_changes_name(arrived.arrival.name.as_str()) {
         return Ok(None);
     }
     if is_judged(judged, arrived) {

@@ -1,36 +1,21 @@
 //! The judged uploads, in the order of their places.
 
-ghost use Rattle.std.specs.Prelude.{◌≡◌, Some, None, All, Contains, MatchBool, IfOk, IfSome, find, map, nat_eq};
+ghost use Rattle.std.specs.Prelude.{◌≡◌, Some, None, All, Contains, MatchBool, IfOk, IfSome, map};
 ghost use Rattle.std.specs.List.{range_with_len};
 ghost use Rattle.std.specs.Option.{option_and_then};
-ghost use Rattle.rules.specs.Verdicts.{number_of};
 ghost use Rattle.tables.specs.Rows.{rows_of};
 ghost use Rattle.tables_audit.specs.Places.{first_at, placed_view};
-ghost use Rattle.tables_audit.specs.Uploads.{IsPlacedWell, judged_at, judgement_in, last_of, later as later_of, verdict_numbered as verdict_of_number};
+ghost use Rattle.tables_audit.specs.Uploads.{IsPlacedWell, judged_at, judgement_in, last_of, later as later_of};
 
 use crate::keyed::Rows;
 use crate::uploads::places::{Placed, by_place, upload_at};
 use keep::Judgement;
 use rules::Verdict;
 use std::alloc::{AllocError, Global};
-use tables::rows::Upload;
-
-/// All verdicts.
-const VERDICTS: [Verdict; 10] = [
-    Verdict::Accepted,
-    Verdict::Unclaimed,
-    Verdict::ForeignArchitecture,
-    Verdict::NotAllowed,
-    Verdict::ForeignComponent,
-    Verdict::BadListing,
-    Verdict::BadDsc,
-    Verdict::BadSidecar,
-    Verdict::NotInPool,
-    Verdict::OtherContents,
-];
+use tables::rows::UploadRow;
 
 /// Whether an upload without a place has no verdict, and one with a place has not the place 0.
-fn is_placed_well(upload: &Upload) -> bool
+fn is_placed_well(upload: &UploadRow) -> bool
     ensures { MatchBool result (IsPlacedWell upload.now) (IsPlacedWell upload.now → ⊥) }
 {
     match upload.place {
@@ -40,7 +25,7 @@ fn is_placed_well(upload: &Upload) -> bool
 }
 
 /// Whether each upload without a place has no verdict, and none has the place 0.
-pub fn are_placed(uploads: &[(u64, Upload)]) -> bool
+pub fn are_placed(uploads: &[(u64, UploadRow)]) -> bool
     ensures { MatchBool result (All IsPlacedWell (rows_of uploads.now)) (All IsPlacedWell (rows_of uploads.now) → ⊥) }
 {
     for (_, upload) in uploads {
@@ -62,7 +47,7 @@ fn later(last: u64, place: Option<u64>) -> u64
 }
 
 /// The last place that an upload has, 0 where none has one.
-pub fn last_place(uploads: &[(u64, Upload)]) -> u64
+pub fn last_place(uploads: &[(u64, UploadRow)]) -> u64
     ensures { result ≡ last_of uploads.now }
 {
     let mut last = 0;
@@ -72,35 +57,15 @@ pub fn last_place(uploads: &[(u64, Upload)]) -> u64
     last
 }
 
-/// The verdict with a number, among some.
-fn verdict_among(verdicts: &[Verdict], number: u64) -> Option<Verdict>
-    ensures { result ≡ find (λ v. nat_eq (number_of v) number) verdicts.now }
-{
-    for verdict in verdicts {
-        if u64::from(verdict.number()) == number {
-            return Some(*verdict);
-        }
-    }
-    None
-}
-
-/// The verdict with a number, 0 to 9.
-#[tactic(auto, unfolding(crate::specs::Uploads::verdict_numbered))]
-fn verdict_numbered(number: u64) -> Option<Verdict>
-    ensures { result ≡ verdict_of_number number }
-{
-    verdict_among(&VERDICTS, number)
-}
-
 /// The judgement that a row tells, where it has the number of a verdict.
 #[tactic(auto, unfolding(crate::specs::Uploads::judgement_in))]
-fn judgement_of(upload: &Upload) -> Result<Option<Judgement>, AllocError>
+fn judgement_of(upload: &UploadRow) -> Result<Option<Judgement>, AllocError>
     ensures { IfOk result (λ judgement. judgement ≡ judgement_in upload.now) }
 {
     let Some(number) = upload.verdict else {
         return Ok(None);
     };
-    let Some(verdict) = verdict_numbered(number) else {
+    let Some(verdict) = Verdict::with_number(number) else {
         return Ok(None);
     };
     Ok(Some(Judgement {
@@ -123,7 +88,7 @@ fn judgement_at(placed: &Rows<'_, Placed<'_>>, place: u64) -> Result<Option<Judg
 /// The judgements at the places from 1 to a last one, where each of them has one.
 pub fn judged_until(
     alloc: Global,
-    uploads: &[(u64, Upload)],
+    uploads: &[(u64, UploadRow)],
     last: u64,
 ) -> Result<Option<Vec<Judgement>>, AllocError>
     ensures some { IfOk result (λ o. IfSome o (λ judged. map Some judged.items ≡ map (judged_at uploads.now) (range_with_len 1 last))) }

@@ -5,13 +5,13 @@ ghost use Rattle.tables_audit.specs.Places.{ArePlaced, first_at, placed_view, pl
 
 use crate::keyed::{Keyed, Rows};
 use std::alloc::{AllocError, Global};
-use tables::rows::Upload;
+use tables::rows::UploadRow;
 
 /// A place, and the upload at it.
 #[derive(Clone, Copy)]
 pub struct Placed<'a> {
     pub place: u64,
-    pub upload: &'a Upload,
+    pub upload: &'a UploadRow,
 }
 
 impl<'a> Keyed for Placed<'a> {
@@ -23,7 +23,7 @@ impl<'a> Keyed for Placed<'a> {
 }
 
 /// Adds an upload with its place, if it has one.
-fn add<'a>(placed: &mut Vec<Placed<'a>>, upload: &'a Upload) -> Result<(), AllocError>
+fn add<'a>(placed: &mut Vec<Placed<'a>>, upload: &'a UploadRow) -> Result<(), AllocError>
     ensures { OnOk result (map placed_view placed.new.items ≡ map placed_view placed.old.items ++ placed_with upload.now upload.now.place) }
 {
     match upload.place {
@@ -36,7 +36,7 @@ fn add<'a>(placed: &mut Vec<Placed<'a>>, upload: &'a Upload) -> Result<(), Alloc
 }
 
 /// The uploads that have a place, with it, in the order of the uploads.
-fn listed<'a>(alloc: Global, uploads: &'a [(u64, Upload)]) -> Result<Vec<Placed<'a>>, AllocError>
+fn listed<'a>(alloc: Global, uploads: &'a [(u64, UploadRow)]) -> Result<Vec<Placed<'a>>, AllocError>
     ensures { IfOk result (λ placed. ArePlaced uploads.now (map placed_view placed.items)) }
 {
     let mut placed = Vec::new(alloc);
@@ -49,7 +49,7 @@ fn listed<'a>(alloc: Global, uploads: &'a [(u64, Upload)]) -> Result<Vec<Placed<
 /// The same in the order of their places.
 pub fn by_place<'a>(
     alloc: Global,
-    uploads: &'a [(u64, Upload)],
+    uploads: &'a [(u64, UploadRow)],
 ) -> Result<Vec<Placed<'a>>, AllocError>
     ensures { IfOk result (λ placed. ArePlaced uploads.now (map placed_view placed.items)) }
 {
@@ -59,7 +59,7 @@ pub fn by_place<'a>(
 }
 
 /// The first upload at a place.
-fn first_at<'a>(placed: &[Placed<'a>], place: u64) -> Option<&'a Upload>
+fn first_at<'a>(placed: &[Placed<'a>], place: u64) -> Option<&'a UploadRow>
     ensures { option_copied result ≡ first_at (map placed_view placed.now) place }
 {
     for one in placed {
@@ -71,7 +71,7 @@ fn first_at<'a>(placed: &[Placed<'a>], place: u64) -> Option<&'a Upload>
 }
 
 /// The first upload at a place, looked up among all.
-pub fn upload_at<'a>(placed: &Rows<'_, Placed<'a>>, place: u64) -> Option<&'a Upload>
+pub fn upload_at<'a>(placed: &Rows<'_, Placed<'a>>, place: u64) -> Option<&'a UploadRow>
     ensures { option_copied result ≡ first_at (map placed_view placed.now.all.now) place }
 {
     first_at(placed.about(place), place)

@@ -1,7 +1,7 @@
 //! Names with prints, in order, so that one is found among many.
 
 ghost use Rattle.std.specs.Prelude.{◌≡◌, IfOk, map};
-ghost use Rattle.tables_meaning.specs.Reads.{sign_order};
+ghost use Rattle.keep.specs.Book.{judging_order};
 ghost use Rattle.tables_audit.specs.Signs.{AreInOrder, SignValue, arrived_sign, entry_sign, has_sign, judgement_sign, print_order, sign_of};
 
 use crate::uploads::arrived::Arrived;
@@ -59,9 +59,9 @@ fn compare_prints(a: &Print, b: &Print) -> Ordering
 }
 
 /// The order: by the bytes of the names, then by the prints.
-#[tactic(auto, unfolding(tables_meaning::specs::Reads::sign_order))]
+#[tactic(auto, unfolding(keep::specs::Book::judging_order))]
 fn compare(a: &Sign<'_>, b: &Sign<'_>) -> Ordering
-    ensures { result ≡ sign_order (sign_of a.now) (sign_of b.now) }
+    ensures { result ≡ judging_order (sign_of a.now) (sign_of b.now) }
 {
     // Most names differ, and then no digest is looked at.
     match a.name.cmp(b.name) {

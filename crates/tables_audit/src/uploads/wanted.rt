@@ -11,7 +11,7 @@ use crate::uploads::arrived::is_there;
 use crate::uploads::awaited::Awaited;
 use crate::uploads::lookups::There;
 use sums::Entry;
-use tables::rows::{Upload, Want};
+use tables::rows::{UploadRow, Want};
 
 /// Whether the row is that of the listed file, with whether it is there.
 fn is_wanted(want: &Want, arrived: &There<'_>, entry: &Entry) -> bool
@@ -62,7 +62,7 @@ fn are_wanted_by(
 
 /// Whether the row and what it wants are those of the .changes.
 fn is_request(
-    row: &(u64, Upload),
+    row: &(u64, UploadRow),
     wants: &Rows<'_, (u64, Want)>,
     arrived: &There<'_>,
     awaited: &Awaited<'_>,
@@ -80,7 +80,7 @@ fn is_request(
 }
 
 /// Whether each upload has a place.
-pub fn have_places(uploads: &[(u64, Upload)]) -> bool
+pub fn have_places(uploads: &[(u64, UploadRow)]) -> bool
     ensures { MatchBool result (filter (λ x. not (has_place x.1)) uploads.now ≡ [])
         (filter (λ x. not (has_place x.1)) uploads.now ≡ [] → ⊥) }
 {
@@ -94,7 +94,7 @@ pub fn have_places(uploads: &[(u64, Upload)]) -> bool
 
 /// Whether the rows without a place are those of the .changes, in their order, with what they want.
 pub fn are_requests(
-    uploads: &[(u64, Upload)],
+    uploads: &[(u64, UploadRow)],
     wants: &Rows<'_, (u64, Want)>,
     arrived: &There<'_>,
     awaited: &[Awaited<'_>],
@@ -121,7 +121,7 @@ pub fn are_requests(
 }
 
 /// Whether the upload of a number is there and has no place.
-fn is_owned(uploads: &[(u64, Upload)], upload: u64) -> bool
+fn is_owned(uploads: &[(u64, UploadRow)], upload: u64) -> bool
     ensures { result ≡ list_any (λ x. nat_eq x.0 upload && not (has_place x.1)) uploads.now }
 {
     for (id, one) in uploads {
@@ -135,14 +135,14 @@ fn is_owned(uploads: &[(u64, Upload)], upload: u64) -> bool
 }
 
 /// Whether the upload of a number, looked up among all, is there and has no place.
-fn is_owned_by_number(uploads: &Rows<'_, (u64, Upload)>, upload: u64) -> bool
+fn is_owned_by_number(uploads: &Rows<'_, (u64, UploadRow)>, upload: u64) -> bool
     ensures { result ≡ list_any (λ x. nat_eq x.0 upload && not (has_place x.1)) uploads.now.all.now }
 {
     is_owned(uploads.about(upload), upload)
 }
 
 /// Whether each entry is that of an upload without a place.
-pub fn are_owned(wants: &[(u64, Want)], uploads: &Rows<'_, (u64, Upload)>) -> bool
+pub fn are_owned(wants: &[(u64, Want)], uploads: &Rows<'_, (u64, UploadRow)>) -> bool
     ensures { MatchBool result
         (All (λ w. IsTrue (list_any (λ x. nat_eq x.0 w.upload && not (has_place x.1)) uploads.now.all.now)) (rows_of wants.now))
         (All (λ w. IsTrue (list_any (λ x. nat_eq x.0 w.upload && not (has_place x.1)) uploads.now.all.now)) (rows_of wants.now) → ⊥) }

@@ -1,12 +1,11 @@
 //! The index texts and the dates after a change, as rows.
 
-ghost use Rattle.std.specs.Prelude.{◌≡◌, if◌then◌else◌, IsTrue, OnOk, OnErr};
-ghost use Rattle.sqlite.specs.State.{HasCleanDisk, KeepsCommit, Survives};
-ghost use Rattle.sqlite.specs.Held.{state};
+ghost use Rattle.std.specs.Prelude.{OnOk};
 ghost use Rattle.keep.specs.Scan.{some_touches};
 ghost use Rattle.tables.specs.Dates.{with_new_date};
 ghost use Rattle.tables_meaning.specs.Making.{with_new_dates, with_new_texts};
 ghost use Rattle.tables_meaning.specs.Amending.{Makes};
+ghost use Rattle.tables.specs.Calls.{CommitsNothing, Inside, IsSame, KeepsCommitted};
 
 use keep::{IndexText, Step, some_changes_suite};
 use rules::Suite;
@@ -19,12 +18,10 @@ pub(crate) fn renew_texts<S: Alter>(
     tx: &mut Transaction<'_, S>,
     texts: &[IndexText],
 ) -> Result<(), Error>
-    ensures same_reference { tx.new.conn.ghost_name ≡ tx.old.conn.ghost_name }
-    ensures ok { HasCleanDisk (state S.Store tx.new.conn.now) → IsTrue (state S.Store tx.old.conn.now).in_transaction
-        → OnOk result (Makes (state S.Store tx.old.conn.now) (state S.Store tx.new.conn.now) (with_new_texts texts.now)) }
-    ensures err { HasCleanDisk (state S.Store tx.new.conn.now) → IsTrue (state S.Store tx.old.conn.now).in_transaction
-        → OnErr result (KeepsCommit (state S.Store tx.old.conn.now) (state S.Store tx.new.conn.now)) }
-    ensures survives { Survives (state S.Store tx.old.conn.now) (state S.Store tx.new.conn.now) (λ _. ⊥) }
+    ensures same_reference { IsSame tx.old tx.new }
+    ensures ok { Inside S.Store tx.old tx.new (λ old new. OnOk result (Makes old new (with_new_texts texts.now))) }
+    ensures err { KeepsCommitted S.Store tx.old tx.new result }
+    ensures survives { CommitsNothing S.Store tx.old tx.new }
 {
     for text in texts {
         update_text(tx, text.path.as_str(), text.text.as_slice())?;
@@ -40,12 +37,10 @@ fn renew_date<S: Alter>(
     moment: u64,
     steps: &[Step],
 ) -> Result<(), Error>
-    ensures same_reference { tx.new.conn.ghost_name ≡ tx.old.conn.ghost_name }
-    ensures ok { HasCleanDisk (state S.Store tx.new.conn.now) → IsTrue (state S.Store tx.old.conn.now).in_transaction
-        → OnOk result (Makes (state S.Store tx.old.conn.now) (state S.Store tx.new.conn.now) (λ t. if some_touches at steps.now then with_new_date suite.now.codename moment t else t)) }
-    ensures err { HasCleanDisk (state S.Store tx.new.conn.now) → IsTrue (state S.Store tx.old.conn.now).in_transaction
-        → OnErr result (KeepsCommit (state S.Store tx.old.conn.now) (state S.Store tx.new.conn.now)) }
-    ensures survives { Survives (state S.Store tx.old.conn.now) (state S.Store tx.new.conn.now) (λ _. ⊥) }
+    ensures same_reference { IsSame tx.old tx.new }
+    ensures ok { Inside S.Store tx.old tx.new (λ old new. OnOk result (Makes old new (λ t. if some_touches at steps.now then with_new_date suite.now.codename moment t else t))) }
+    ensures err { KeepsCommitted S.Store tx.old tx.new result }
+    ensures survives { CommitsNothing S.Store tx.old tx.new }
 {
     if some_changes_suite(steps, at) {
         update_date(tx, suite.codename.as_str(), moment)
@@ -61,12 +56,10 @@ pub(crate) fn renew_dates<S: Alter>(
     moment: u64,
     steps: &[Step],
 ) -> Result<(), Error>
-    ensures same_reference { tx.new.conn.ghost_name ≡ tx.old.conn.ghost_name }
-    ensures ok { HasCleanDisk (state S.Store tx.new.conn.now) → IsTrue (state S.Store tx.old.conn.now).in_transaction
-        → OnOk result (Makes (state S.Store tx.old.conn.now) (state S.Store tx.new.conn.now) (with_new_dates suites.now moment steps.now)) }
-    ensures err { HasCleanDisk (state S.Store tx.new.conn.now) → IsTrue (state S.Store tx.old.conn.now).in_transaction
-        → OnErr result (KeepsCommit (state S.Store tx.old.conn.now) (state S.Store tx.new.conn.now)) }
-    ensures survives { Survives (state S.Store tx.old.conn.now) (state S.Store tx.new.conn.now) (λ _. ⊥) }
+    ensures same_reference { IsSame tx.old tx.new }
+    ensures ok { Inside S.Store tx.old tx.new (λ old new. OnOk result (Makes old new (with_new_dates suites.now moment steps.now))) }
+    ensures err { KeepsCommitted S.Store tx.old tx.new result }
+    ensures survives { CommitsNothing S.Store tx.old tx.new }
 {
     for at in 0..suites.len() {
         renew_date(tx, at, &suites[at], moment, steps)?;

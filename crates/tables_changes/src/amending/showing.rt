@@ -1,24 +1,22 @@
 //! What the suites show after a change, as rows.
 
-ghost use Rattle.std.specs.Prelude.{◌≡◌, fold, IsTrue, IfOk, OnOk, OnErr};
-ghost use Rattle.sqlite.specs.State.{HasCleanDisk, KeepsCommit, Survives};
-ghost use Rattle.sqlite.specs.Held.{state};
-ghost use Rattle.suites.specs.Keys.{kind_number};
+ghost use Rattle.std.specs.Prelude.{◌≡◌, fold, IfOk, OnOk};
 ghost use Rattle.tables.specs.Items.{without_item};
 ghost use Rattle.tables.specs.Refs.{without_refs};
 ghost use Rattle.tables.specs.Rows.{with_ref};
 ghost use Rattle.tables_meaning.specs.Kept.{codename_at, item_row, refs_for};
 ghost use Rattle.tables_meaning.specs.Making.{with_refs, with_shown, without_shown};
 ghost use Rattle.tables_meaning.specs.Amending.{Makes};
+ghost use Rattle.tables.specs.Calls.{CommitsNothing, Inside, IsSame, KeepsCommitted};
 
 use para::{Listed, Text};
 use rules::Suite;
 use sqlite::{Alter, Error, Transaction};
 use std::alloc::{AllocError, Global};
-use suites::{Item, Kind, Plan, PoolFile, ShelfKey};
+use suites::{Item, Plan, PoolFile, ShelfKey};
 use tables::items::{delete_item, insert_item, item_on};
 use tables::refs::{delete_refs, insert_ref};
-use tables::rows;
+use tables::rows::{ItemRow, Ref};
 
 /// The codename of the suite at a position, empty beyond the last.
 fn codename(suites: &[Suite], at: usize) -> &str
@@ -30,24 +28,12 @@ fn codename(suites: &[Suite], at: usize) -> &str
     }
 }
 
-/// The number of a kind in the order of kinds.
-fn kind_number(kind: Kind) -> u64
-    ensures { result ≡ kind_number kind }
-{
-    match kind {
-        Kind::Source => 0,
-        Kind::Binary => 1,
-    }
-}
-
 /// Removes the item of a number, and its files.
 fn remove_item<S: Alter>(tx: &mut Transaction<'_, S>, id: u64) -> Result<(), Error>
-    ensures same_reference { tx.new.conn.ghost_name ≡ tx.old.conn.ghost_name }
-    ensures ok { HasCleanDisk (state S.Store tx.new.conn.now) → IsTrue (state S.Store tx.old.conn.now).in_transaction
-        → OnOk result (Makes (state S.Store tx.old.conn.now) (state S.Store tx.new.conn.now) (λ t. without_item id (without_refs id t))) }
-    ensures err { HasCleanDisk (state S.Store tx.new.conn.now) → IsTrue (state S.Store tx.old.conn.now).in_transaction
-        → OnErr result (KeepsCommit (state S.Store tx.old.conn.now) (state S.Store tx.new.conn.now)) }
-    ensures survives { Survives (state S.Store tx.old.conn.now) (state S.Store tx.new.conn.now) (λ _. ⊥) }
+    ensures same_reference { IsSame tx.old tx.new }
+    ensures ok { Inside S.Store tx.old tx.new (λ old new. OnOk result (Makes old new (λ t. without_item id (without_refs id t)))) }
+    ensures err { KeepsCommitted S.Store tx.old tx.new result }
+    ensures survives { CommitsNothing S.Store tx.old tx.new }
 {
     delete_refs(tx, id)?;
     delete_item(tx, id)
@@ -60,19 +46,17 @@ fn take_down<S: Alter>(
     suites: &[Suite],
     entry: &(ShelfKey, Item),
 ) -> Result<(), Error>
-    ensures same_reference { tx.new.conn.ghost_name ≡ tx.old.conn.ghost_name }
-    ensures ok { HasCleanDisk (state S.Store tx.new.conn.now) → IsTrue (state S.Store tx.old.conn.now).in_transaction
-        → OnOk result (Makes (state S.Store tx.old.conn.now) (state S.Store tx.new.conn.now) (without_shown suites.now entry.now)) }
-    ensures err { HasCleanDisk (state S.Store tx.new.conn.now) → IsTrue (state S.Store tx.old.conn.now).in_transaction
-        → OnErr result (KeepsCommit (state S.Store tx.old.conn.now) (state S.Store tx.new.conn.now)) }
-    ensures survives { Survives (state S.Store tx.old.conn.now) (state S.Store tx.new.conn.now) (λ _. ⊥) }
+    ensures same_reference { IsSame tx.old tx.new }
+    ensures ok { Inside S.Store tx.old tx.new (λ old new. OnOk result (Makes old new (without_shown suites.now entry.now))) }
+    ensures err { KeepsCommitted S.Store tx.old tx.new result }
+    ensures survives { CommitsNothing S.Store tx.old tx.new }
 {
     let key = &entry.0;
     let found = item_on(
         alloc,
         tx,
         codename(suites, key.suite),
-        kind_number(key.kind),
+        key.kind.number(),
         key.package.as_str(),
         key.architecture.as_str(),
     )?;
@@ -89,12 +73,10 @@ fn take_down_all<S: Alter>(
     suites: &[Suite],
     entries: &[(ShelfKey, Item)],
 ) -> Result<(), Error>
-    ensures same_reference { tx.new.conn.ghost_name ≡ tx.old.conn.ghost_name }
-    ensures ok { HasCleanDisk (state S.Store tx.new.conn.now) → IsTrue (state S.Store tx.old.conn.now).in_transaction
-        → OnOk result (Makes (state S.Store tx.old.conn.now) (state S.Store tx.new.conn.now) (λ t. fold (λ now e. without_shown suites.now e now) t entries.now)) }
-    ensures err { HasCleanDisk (state S.Store tx.new.conn.now) → IsTrue (state S.Store tx.old.conn.now).in_transaction
-        → OnErr result (KeepsCommit (state S.Store tx.old.conn.now) (state S.Store tx.new.conn.now)) }
-    ensures survives { Survives (state S.Store tx.old.conn.now) (state S.Store tx.new.conn.now) (λ _. ⊥) }
+    ensures same_reference { IsSame tx.old tx.new }
+    ensures ok { Inside S.Store tx.old tx.new (λ old new. OnOk result (Makes old new (λ t. fold (λ now e. without_shown suites.now e now) t entries.now))) }
+    ensures err { KeepsCommitted S.Store tx.old tx.new result }
+    ensures survives { CommitsNothing S.Store tx.old tx.new }
 {
     for entry in entries {
         take_down(alloc, tx, suites, entry)?;
@@ -107,14 +89,14 @@ fn item_row(
     alloc: Global,
     suites: &[Suite],
     entry: &(ShelfKey, Item),
-) -> Result<rows::Item, AllocError>
+) -> Result<ItemRow, AllocError>
     ensures { IfOk result (λ row. row ≡ item_row suites.now entry.now) }
 {
     let key = &entry.0;
     let item = &entry.1;
-    Ok(rows::Item {
+    Ok(ItemRow {
         suite: Text::new(alloc, codename(suites, key.suite))?,
-        kind: kind_number(key.kind),
+        kind: key.kind.number(),
         package: key.package.try_clone()?,
         architecture: key.architecture.try_clone()?,
         version: Text::new(alloc, item.version.text())?,
@@ -131,15 +113,13 @@ fn put_file<S: Alter>(
     number: u64,
     file: &PoolFile,
 ) -> Result<(), Error>
-    ensures same_reference { tx.new.conn.ghost_name ≡ tx.old.conn.ghost_name }
-    ensures ok { HasCleanDisk (state S.Store tx.new.conn.now) → IsTrue (state S.Store tx.old.conn.now).in_transaction
-        → OnOk result (Makes (state S.Store tx.old.conn.now) (state S.Store tx.new.conn.now) (with_ref (record { item = id; number = number; path = file.now.path; print = file.now.print }))) }
-    ensures err { HasCleanDisk (state S.Store tx.new.conn.now) → IsTrue (state S.Store tx.old.conn.now).in_transaction
-        → OnErr result (KeepsCommit (state S.Store tx.old.conn.now) (state S.Store tx.new.conn.now)) }
-    ensures survives { Survives (state S.Store tx.old.conn.now) (state S.Store tx.new.conn.now) (λ _. ⊥) }
+    ensures same_reference { IsSame tx.old tx.new }
+    ensures ok { Inside S.Store tx.old tx.new (λ old new. OnOk result (Makes old new (with_ref (record { item = id; number = number; path = file.now.path; print = file.now.print })))) }
+    ensures err { KeepsCommitted S.Store tx.old tx.new result }
+    ensures survives { CommitsNothing S.Store tx.old tx.new }
 {
     let path = file.path.try_clone()?;
-    let reference = rows::Ref {
+    let reference = Ref {
         item: id,
         number,
         path,
@@ -150,12 +130,10 @@ fn put_file<S: Alter>(
 
 /// Adds the rows of the files of an item, numbered from 1.
 fn put_files<S: Alter>(tx: &mut Transaction<'_, S>, id: u64, item: &Item) -> Result<(), Error>
-    ensures same_reference { tx.new.conn.ghost_name ≡ tx.old.conn.ghost_name }
-    ensures ok { HasCleanDisk (state S.Store tx.new.conn.now) → IsTrue (state S.Store tx.old.conn.now).in_transaction
-        → OnOk result (Makes (state S.Store tx.old.conn.now) (state S.Store tx.new.conn.now) (with_refs (refs_for id item.now))) }
-    ensures err { HasCleanDisk (state S.Store tx.new.conn.now) → IsTrue (state S.Store tx.old.conn.now).in_transaction
-        → OnErr result (KeepsCommit (state S.Store tx.old.conn.now) (state S.Store tx.new.conn.now)) }
-    ensures survives { Survives (state S.Store tx.old.conn.now) (state S.Store tx.new.conn.now) (λ _. ⊥) }
+    ensures same_reference { IsSame tx.old tx.new }
+    ensures ok { Inside S.Store tx.old tx.new (λ old new. OnOk result (Makes old new (with_refs (refs_for id item.now)))) }
+    ensures err { KeepsCommitted S.Store tx.old tx.new result }
+    ensures survives { CommitsNothing S.Store tx.old tx.new }
 {
     let files = item.files.as_slice();
     for at in 0..files.len() {
@@ -172,12 +150,10 @@ fn put_up<S: Alter>(
     suites: &[Suite],
     entry: &(ShelfKey, Item),
 ) -> Result<(), Error>
-    ensures same_reference { tx.new.conn.ghost_name ≡ tx.old.conn.ghost_name }
-    ensures ok { HasCleanDisk (state S.Store tx.new.conn.now) → IsTrue (state S.Store tx.old.conn.now).in_transaction
-        → OnOk result (Makes (state S.Store tx.old.conn.now) (state S.Store tx.new.conn.now) (with_shown suites.now entry.now)) }
-    ensures err { HasCleanDisk (state S.Store tx.new.conn.now) → IsTrue (state S.Store tx.old.conn.now).in_transaction
-        → OnErr result (KeepsCommit (state S.Store tx.old.conn.now) (state S.Store tx.new.conn.now)) }
-    ensures survives { Survives (state S.Store tx.old.conn.now) (state S.Store tx.new.conn.now) (λ _. ⊥) }
+    ensures same_reference { IsSame tx.old tx.new }
+    ensures ok { Inside S.Store tx.old tx.new (λ old new. OnOk result (Makes old new (with_shown suites.now entry.now))) }
+    ensures err { KeepsCommitted S.Store tx.old tx.new result }
+    ensures survives { CommitsNothing S.Store tx.old tx.new }
 {
     let row = item_row(alloc, suites, entry)?;
     let id = insert_item(tx, &row)?;
@@ -191,12 +167,10 @@ fn put_up_all<S: Alter>(
     suites: &[Suite],
     entries: &[(ShelfKey, Item)],
 ) -> Result<(), Error>
-    ensures same_reference { tx.new.conn.ghost_name ≡ tx.old.conn.ghost_name }
-    ensures ok { HasCleanDisk (state S.Store tx.new.conn.now) → IsTrue (state S.Store tx.old.conn.now).in_transaction
-        → OnOk result (Makes (state S.Store tx.old.conn.now) (state S.Store tx.new.conn.now) (λ t. fold (λ now e. with_shown suites.now e now) t entries.now)) }
-    ensures err { HasCleanDisk (state S.Store tx.new.conn.now) → IsTrue (state S.Store tx.old.conn.now).in_transaction
-        → OnErr result (KeepsCommit (state S.Store tx.old.conn.now) (state S.Store tx.new.conn.now)) }
-    ensures survives { Survives (state S.Store tx.old.conn.now) (state S.Store tx.new.conn.now) (λ _. ⊥) }
+    ensures same_reference { IsSame tx.old tx.new }
+    ensures ok { Inside S.Store tx.old tx.new (λ old new. OnOk result (Makes old new (λ t. fold (λ now e. with_shown suites.now e now) t entries.now))) }
+    ensures err { KeepsCommitted S.Store tx.old tx.new result }
+    ensures survives { CommitsNothing S.Store tx.old tx.new }
 {
     for entry in entries {
         put_up(alloc, tx, suites, entry)?;
@@ -211,12 +185,10 @@ pub(crate) fn change_items<S: Alter>(
     suites: &[Suite],
     plan: &Plan,
 ) -> Result<(), Error>
-    ensures same_reference { tx.new.conn.ghost_name ≡ tx.old.conn.ghost_name }
-    ensures ok { HasCleanDisk (state S.Store tx.new.conn.now) → IsTrue (state S.Store tx.old.conn.now).in_transaction
-        → OnOk result (Makes (state S.Store tx.old.conn.now) (state S.Store tx.new.conn.now) (λ t. fold (λ now e. with_shown suites.now e now) (fold (λ now e. without_shown suites.now e now) t plan.now.dropped) plan.now.put)) }
-    ensures err { HasCleanDisk (state S.Store tx.new.conn.now) → IsTrue (state S.Store tx.old.conn.now).in_transaction
-        → OnErr result (KeepsCommit (state S.Store tx.old.conn.now) (state S.Store tx.new.conn.now)) }
-    ensures survives { Survives (state S.Store tx.old.conn.now) (state S.Store tx.new.conn.now) (λ _. ⊥) }
+    ensures same_reference { IsSame tx.old tx.new }
+    ensures ok { Inside S.Store tx.old tx.new (λ old new. OnOk result (Makes old new (λ t. fold (λ now e. with_shown suites.now e now) (fold (λ now e. without_shown suites.now e now) t plan.now.dropped) plan.now.put))) }
+    ensures err { KeepsCommitted S.Store tx.old tx.new result }
+    ensures survives { CommitsNothing S.Store tx.old tx.new }
 {
     let dropped = plan.dropped.as_slice();
     let put = plan.put.as_slice();

@@ -1,11 +1,10 @@
 //! The steps of a change, as rows.
 
-ghost use Rattle.std.specs.Prelude.{◌≡◌, IsTrue, IfOk, OnOk, OnErr};
-ghost use Rattle.sqlite.specs.State.{HasCleanDisk, KeepsCommit, Survives};
-ghost use Rattle.sqlite.specs.Held.{state};
+ghost use Rattle.std.specs.Prelude.{◌≡◌, IfOk, OnOk};
 ghost use Rattle.tables.specs.Rows.{Tables, Holds};
 ghost use Rattle.tables_meaning.specs.Making.{judged_by, with_plan, with_step, with_steps};
 ghost use Rattle.tables_meaning.specs.Amending.{HasAllBodies, HasBodies, Makes};
+ghost use Rattle.tables.specs.Calls.{CommitsNothing, Inside, IsSame, KeepsCommitted};
 
 use crate::amending::judging::judge_if_any;
 use crate::amending::pooling::change_pool;
@@ -23,14 +22,11 @@ fn make_plan<S: Alter>(
     suites: &[Suite],
     plan: &Plan,
 ) -> Result<(), Error>
-    ensures same_reference { tx.new.conn.ghost_name ≡ tx.old.conn.ghost_name }
-    ensures ok { HasCleanDisk (state S.Store tx.new.conn.now) → IsTrue (state S.Store tx.old.conn.now).in_transaction
-        → OnOk result (Makes (state S.Store tx.old.conn.now) (state S.Store tx.new.conn.now) (with_plan suites.now plan.now)) }
-    ensures err { HasCleanDisk (state S.Store tx.new.conn.now) → IsTrue (state S.Store tx.old.conn.now).in_transaction
-        → OnErr result (KeepsCommit (state S.Store tx.old.conn.now) (state S.Store tx.new.conn.now)) }
-    ensures survives { Survives (state S.Store tx.old.conn.now) (state S.Store tx.new.conn.now) (λ _. ⊥) }
-    ensures bodies { HasCleanDisk (state S.Store tx.new.conn.now) → IsTrue (state S.Store tx.old.conn.now).in_transaction
-        → OnOk result ((t : Tables) → Holds (state S.Store tx.old.conn.now).now t → HasBodies t plan.now.files_added) }
+    ensures same_reference { IsSame tx.old tx.new }
+    ensures ok { Inside S.Store tx.old tx.new (λ old new. OnOk result (Makes old new (with_plan suites.now plan.now))) }
+    ensures err { KeepsCommitted S.Store tx.old tx.new result }
+    ensures survives { CommitsNothing S.Store tx.old tx.new }
+    ensures bodies { Inside S.Store tx.old tx.new (λ old new. OnOk result ((t : Tables) → Holds old.now t → HasBodies t plan.now.files_added)) }
 {
     change_items(alloc, tx, suites, plan)?;
     change_pool(alloc, tx, plan)
@@ -45,14 +41,11 @@ fn make_step<S: Alter>(
     step: &Step,
 ) -> Result<u64, Error>
     ensures judged { IfOk result (λ after. after ≡ judged_by judged step.now) }
-    ensures same_reference { tx.new.conn.ghost_name ≡ tx.old.conn.ghost_name }
-    ensures ok { HasCleanDisk (state S.Store tx.new.conn.now) → IsTrue (state S.Store tx.old.conn.now).in_transaction
-        → OnOk result (Makes (state S.Store tx.old.conn.now) (state S.Store tx.new.conn.now) (with_step suites.now judged step.now)) }
-    ensures err { HasCleanDisk (state S.Store tx.new.conn.now) → IsTrue (state S.Store tx.old.conn.now).in_transaction
-        → OnErr result (KeepsCommit (state S.Store tx.old.conn.now) (state S.Store tx.new.conn.now)) }
-    ensures survives { Survives (state S.Store tx.old.conn.now) (state S.Store tx.new.conn.now) (λ _. ⊥) }
-    ensures bodies { HasCleanDisk (state S.Store tx.new.conn.now) → IsTrue (state S.Store tx.old.conn.now).in_transaction
-        → OnOk result ((t : Tables) → Holds (state S.Store tx.old.conn.now).now t → HasBodies t step.now.plan.files_added) }
+    ensures same_reference { IsSame tx.old tx.new }
+    ensures ok { Inside S.Store tx.old tx.new (λ old new. OnOk result (Makes old new (with_step suites.now judged step.now))) }
+    ensures err { KeepsCommitted S.Store tx.old tx.new result }
+    ensures survives { CommitsNothing S.Store tx.old tx.new }
+    ensures bodies { Inside S.Store tx.old tx.new (λ old new. OnOk result ((t : Tables) → Holds old.now t → HasBodies t step.now.plan.files_added)) }
 {
     let after = judge_if_any(alloc, tx, judged, &step.judgement)?;
     make_plan(alloc, tx, suites, &step.plan)?;
@@ -67,14 +60,11 @@ pub(crate) fn make_steps<S: Alter>(
     judged: u64,
     steps: &[Step],
 ) -> Result<(), Error>
-    ensures same_reference { tx.new.conn.ghost_name ≡ tx.old.conn.ghost_name }
-    ensures ok { HasCleanDisk (state S.Store tx.new.conn.now) → IsTrue (state S.Store tx.old.conn.now).in_transaction
-        → OnOk result (Makes (state S.Store tx.old.conn.now) (state S.Store tx.new.conn.now) (with_steps suites.now judged steps.now)) }
-    ensures err { HasCleanDisk (state S.Store tx.new.conn.now) → IsTrue (state S.Store tx.old.conn.now).in_transaction
-        → OnErr result (KeepsCommit (state S.Store tx.old.conn.now) (state S.Store tx.new.conn.now)) }
-    ensures survives { Survives (state S.Store tx.old.conn.now) (state S.Store tx.new.conn.now) (λ _. ⊥) }
-    ensures bodies { HasCleanDisk (state S.Store tx.new.conn.now) → IsTrue (state S.Store tx.old.conn.now).in_transaction
-        → OnOk result ((t : Tables) → Holds (state S.Store tx.old.conn.now).now t → HasAllBodies t steps.now) }
+    ensures same_reference { IsSame tx.old tx.new }
+    ensures ok { Inside S.Store tx.old tx.new (λ old new. OnOk result (Makes old new (with_steps suites.now judged steps.now))) }
+    ensures err { KeepsCommitted S.Store tx.old tx.new result }
+    ensures survives { CommitsNothing S.Store tx.old tx.new }
+    ensures bodies { Inside S.Store tx.old tx.new (λ old new. OnOk result ((t : Tables) → Holds old.now t → HasAllBodies t steps.now)) }
 {
     let mut judged = judged;
     for step in steps {

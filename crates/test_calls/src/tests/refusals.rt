@@ -1,12 +1,12 @@
 //! What a refusal leaves of an archive over a disk.
 
 use super::checks::{BOX, config_of, same};
-use test_failing::DiskKeeper;
 use keep::{KeepFault, Keeper};
 use queue::{Archive, Arrived, Fault};
 use std::alloc::Global;
 use std::process::Abort;
 use std::test::Fail;
+use test_failing::DiskKeeper;
 
 /// The name of a file, and the answer to its delivery.
 type Row = (&'static str, Result<Arrived, Fault>);

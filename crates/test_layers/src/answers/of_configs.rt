@@ -2,8 +2,8 @@
 
 use crate::out::Out;
 use records::Changes;
-use test_rows::Unread;
 use rules::{Config, Days, Place, Suite, Verdict, component_of_section, judge};
+use test_rows::Unread;
 
 /// `config TEXT [OLD NEW]..`: `read`, or the fault.
 fn config(out: &mut Out, words: &[Vec<u8>]) {

@@ -4,10 +4,10 @@ use crate::out::Out;
 use command_line::{LineFault, line};
 use para::ParaFault;
 use records::{FieldName, RecordFault};
-use test_rows::Unread;
 use rules::ConfigFault;
 use std::fmt::Display;
 use sums::ListFault;
+use test_rows::Unread;
 use vers::VersionFault;
 
 const PARAGRAPH_FAULTS: [ParaFault; 11] = [

@@ -4,10 +4,10 @@ ghost use Rattle.std.specs.Prelude.{◌≤◌, All, IfOk};
 
 use super::of_configs::config_of;
 use crate::out::Out;
-use test_rows::{Unread, number_of};
 use rules::Config;
 use std::alloc::Global;
 use suites::Shelves;
+use test_rows::{Unread, number_of};
 use texts::{date_text, index_text};
 
 /// The last moment at which a suite may have changed.

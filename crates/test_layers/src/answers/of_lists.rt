@@ -5,8 +5,8 @@ ghost use Rattle.sums.specs.Prints.{same_print};
 
 use crate::out::Out;
 use para::{Paragraph, read_one};
-use test_rows::Unread;
 use sums::{Entry, ListKind, Print, Printer, is_file_name, print_of, read_lists};
+use test_rows::Unread;
 
 const LIMIT: usize = 1_048_576;
 

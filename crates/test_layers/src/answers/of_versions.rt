@@ -1,9 +1,9 @@
 //! Versions.
 
 use crate::out::Out;
-use test_rows::Unread;
 use std::alloc::Global;
 use std::cmp::Ordering;
+use test_rows::Unread;
 use vers::{Version, VersionFault};
 
 /// `version TEXT`: `version`, or the fault.

@@ -3,8 +3,9 @@ use Rattle.std.proofs.lemmas.List.{get_or_default}
 use Rattle.sqlite.specs.State.{HasCleanDisk}
 use Rattle.sqlite.specs.Held.{state}
 use Rattle.tables.proofs.TransactionLemmas.{keeps_if_failed, keeps_then, on_err}
+use Rattle.tables.proofs.ReadLemmas.{survives_none}
 use Rattle.copying.specs.Placed.{with_body_at}
-use Rattle.copying.proofs.WriteLemmas.{all_written, none_yet, one_more, survives_both, survives_none}
+use Rattle.copying.proofs.WriteLemmas.{all_written, none_yet, one_more, survives_both}
 use Rattle.copying.proofs.rows.write_bodies.Goals as goal
 
 pub loop-row-init : goal.loop-row-init

@@ -2,8 +2,9 @@ use Rattle.std.proofs.Common.{◌∙◌, refl, arith}
 use Rattle.sqlite.specs.State.{HasCleanDisk}
 use Rattle.sqlite.specs.Held.{state}
 use Rattle.tables.proofs.TransactionLemmas.{keeps_if_failed, keeps_then, on_err}
+use Rattle.tables.proofs.ReadLemmas.{survives_none}
 use Rattle.copying.specs.Placed.{with_file_of}
-use Rattle.copying.proofs.WriteLemmas.{all_written, none_yet, one_more, survives_both, survives_none}
+use Rattle.copying.proofs.WriteLemmas.{all_written, none_yet, one_more, survives_both}
 use Rattle.copying.proofs.rows.write_files.Goals as goal
 
 pub loop-row-init : goal.loop-row-init

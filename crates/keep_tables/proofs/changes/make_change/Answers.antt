@@ -5,7 +5,7 @@ use Rattle.tables.specs.Rows.{tables_in}
 use Rattle.tables.proofs.TransactionLemmas.{on_ok}
 use Rattle.tables_meaning.proofs.AmendLemmas.{err_then}
 use Rattle.tables_meaning.proofs.TurnLemmas.{all_within}
-use Rattle.tables_changes.specs.Swept.{needs_sweep}
+use Rattle.tables_bodies.specs.Swept.{needs_sweep}
 use Rattle.keep_tables.proofs.SweptChanges.{made_amends, made_crash, made_ends, made_keeps, made_open, survives_beside, undone_twice}
 use Rattle.keep_tables.proofs.changes.make_change.Goals as goal
 

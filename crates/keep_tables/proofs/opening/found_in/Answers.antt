@@ -2,7 +2,7 @@ use Rattle.std.proofs.Common.{rules, ◌≡◌, true, false, sym, ap, subst, ◌
 use Rattle.std.proofs.lemmas.Bool.{iff_false}
 use Rattle.tables_read.specs.All.{tables_with}
 use Rattle.tables_meaning.specs.Finished.{finished}
-use Rattle.tables_meaning.specs.Kept.{IsKept}
+use Rattle.tables_meaning.specs.Kept.{IsBook}
 use Rattle.keep_tables.specs.Finishing.{are_named, unfinished_ids}
 use Rattle.tables_audit.specs.Whole.{KeepsSome}
 use Rattle.keep_tables.proofs.FinishLemmas.{constrained_whole, named_none, readable_whole}
@@ -28,7 +28,7 @@ returns-in_default-clause-none c keys up same readable under config judged shown
     let none : are_named t (unfinished_ids t.bodies) ≡ false = sym (c.are_named.ensures ∙ ap (are_named t) (c.deref-2.ensures.value ∙ ids)) ∙ c.if-are_named.false in
     let is : whole ≡ finished t = c.finished_rows-whole.ensures in
     c.in_ok-held.ensures.none (constrained_whole t whole is keys none) c.in_default.is (readable_whole t whole is readable) config judged shown dates
-    (subst (λ u. IsKept u config judged shown dates) (sym is) h)
+    (subst (λ u. IsBook u config judged shown dates) (sym is) h)
 
 pub returns-clause-some : goal.returns-clause-some
 returns-clause-some c keys =
@@ -37,7 +37,7 @@ returns-clause-some c keys =
     let ids : c.in_ok-unfinished.unfinished.items ≡ unfinished_ids t.bodies = search rules in
     let none : are_named t (unfinished_ids t.bodies) ≡ false = sym (c.are_named.ensures ∙ ap (are_named t) (c.deref-2.ensures.value ∙ ids)) ∙ c.if-are_named.false in
     let is : whole ≡ finished t = c.finished_rows-whole.ensures in
-    let kept : IsKept whole c.in-Some.held.config c.in-Some.held.judged.items c.in-Some.held.shelves c.in-Some.held.dates.items =
+    let kept : IsBook whole c.in-Some.held.config c.in-Some.held.judged.items c.in-Some.held.shelves c.in-Some.held.dates.items =
     at_some _ _ c.in-Some.held c.in-Some.is (c.in_ok-held.ensures.some (constrained_whole t whole is keys none)) in
     (subst (λ u. KeepsSome u c.in-Some.held.config c.in-Some.held.judged.items c.in-Some.held.dates.items) is ∣ (c.in-Some.held.shelves, kept) ∣₁, c.are_under_way.ensures.0 c.if-not-are_under_way.false, ids)
 

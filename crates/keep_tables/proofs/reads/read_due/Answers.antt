@@ -5,7 +5,7 @@ use Rattle.sqlite.specs.State.{HasCleanDisk}
 use Rattle.keep.specs.Book.{at_moment, due}
 use Rattle.keep.proofs.Signs.{signs_of}
 use Rattle.tables.specs.Rows.{tables_in}
-use Rattle.tables_meaning.specs.Archives.{book_of}
+use Rattle.tables_meaning.specs.Archives.{book_in_database}
 use Rattle.tables_meaning.proofs.ReadCalls.{open_after, read_after, rows_after, undone_either}
 use Rattle.keep_tables.proofs.MomentReads.{dues_at}
 use Rattle.keep_tables.proofs.reads.read_due.Goals as goal
@@ -47,7 +47,7 @@ returns-clause-signs g c clean config judged shown dates keeps same =
     let settled = c.is_autocommit-settled.ensures.settled (c.is_autocommit-settled.ensures.value ∙ ap not c.requires.idle) in
     let early : HasCleanDisk mid = omega (arith, c.due_uploads.ensures.survives.clean, clean) in
     let rows = rows_after old mid new c.in_ok-probe.ensures.ok settled early keeps in
-    let b = at_moment c.args.moment (book_of old.committed config judged shown dates) in
+    let b = at_moment c.args.moment (book_in_database old.committed config judged shown dates) in
     IfOk-weaker c.due_uploads.result _ _
     (λ uploads is. ap (map (λ u. (u.name, u.print))) (is ∙ dues_at old.committed config judged shown dates keeps c.args.seconds same c.args.moment) ∙ signs_of b.arrivals (due b))
     (c.due_uploads.ensures.ok clean (tables_in old.committed) rows)

@@ -3,7 +3,7 @@ use Rattle.sqlite.specs.Held.{state}
 use Rattle.sqlite.specs.State.{HasCleanDisk}
 use Rattle.texts.specs.Indices.{all_texts, index_text}
 use Rattle.tables.specs.Rows.{rows_of, tables_in}
-use Rattle.tables.specs.declared.rows.IndexText.{IndexText}
+use Rattle.tables.specs.declared.rows.TextRow.{TextRow}
 use Rattle.tables_meaning.specs.Finished.{finished}
 use Rattle.tables_meaning.specs.Kept.{book_in}
 use Rattle.tables_meaning.proofs.ReadCalls.{is_open_after, read_after, rows_after, text_is}
@@ -47,7 +47,7 @@ returns-in-Some-clause-text g c clean config judged shown dates keeps =
     let early : HasCleanDisk mid = omega (arith, c.select_text.ensures.survives.clean, clean) in
     let rows = rows_after old mid new c.in_ok-probe.ensures.ok settled early keeps in
     let found = (c.in_ok-text.ensures.ok clean (tables_in old.committed) rows).0 in
-    ap Some c.into_vec.ensures ∙ ap (option_map (λ (x : IndexText). x.body)) (sym c.in-Some.is ∙ found) ∙ text_is c.args.path.now (rows_of (tables_in old.committed).texts) (all_texts config shown dates) keeps.kept.texts
+    ap Some c.into_vec.ensures ∙ ap (option_map (λ (x : TextRow). x.body)) (sym c.in-Some.is ∙ found) ∙ text_is c.args.path.now (rows_of (tables_in old.committed).texts) (all_texts config shown dates) keeps.kept.texts
 
 pub returns-in-None-clause-read : goal.returns-in-None-clause-read
 returns-in-None-clause-read g c =
@@ -77,4 +77,4 @@ returns-in-None-clause-text g c clean config judged shown dates keeps =
     let early : HasCleanDisk mid = omega (arith, c.select_text.ensures.survives.clean, clean) in
     let rows = rows_after old mid new c.in_ok-probe.ensures.ok settled early keeps in
     let found = (c.in_ok-text.ensures.ok clean (tables_in old.committed) rows).0 in
-    ap (option_map (λ (x : IndexText). x.body)) (sym c.in-None.is ∙ found) ∙ text_is c.args.path.now (rows_of (tables_in old.committed).texts) (all_texts config shown dates) keeps.kept.texts
+    ap (option_map (λ (x : TextRow). x.body)) (sym c.in-None.is ∙ found) ∙ text_is c.args.path.now (rows_of (tables_in old.committed).texts) (all_texts config shown dates) keeps.kept.texts

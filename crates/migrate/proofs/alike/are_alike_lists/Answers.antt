@@ -1,4 +1,4 @@
-use Rattle.std.proofs.Common.{rules, ◌≡◌, ◌<◌, map, length, get_or, IsTrue, sym, ap, subst, ◌∙◌}
+use Rattle.std.proofs.Common.{rules, ◌<◌, length, get_or, IsTrue, sym, ap, subst, ◌∙◌}
 use Rattle.std.proofs.lemmas.List.{get_or-map}
 use Rattle.migrate.proofs.alike.are_alike_lists.Goals as goal
 

@@ -9,7 +9,6 @@ use Rattle.keep.specs.Book.{latest}
 use Rattle.tables_meaning.specs.Founding.{Founds}
 use Rattle.tables_meaning.proofs.AmendLemmas.{survives_both}
 use Rattle.tables_meaning.proofs.FoundLemmas.{keeps_if_founded}
-use Rattle.tables.proofs.TransactionLemmas.{keeps_if_changed}
 use Rattle.tables_read.specs.All.{tables_with}
 use Rattle.copying.specs.Copying.{AreRising}
 use Rattle.migrating.specs.Migrating.{moved_rows}

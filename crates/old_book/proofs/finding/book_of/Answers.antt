@@ -1,8 +1,8 @@
 use Rattle.std.proofs.Common.{◌≡◌, [], true, true≢false, sym, ap, subst, ◌∙◌}
-use Rattle.tables_read.specs.All.{AreConstrained, tables_with}
+use Rattle.tables_read.specs.All.{tables_with}
 use Rattle.tables_audit.proofs.WholeLemmas.{at_some}
 use Rattle.tables_audit.specs.Parts.{UploadsFit}
-use Rattle.tables_meaning.specs.Kept.{IsKept}
+use Rattle.tables_meaning.specs.Kept.{IsBook}
 use Rattle.old_book.specs.Old.{HasText}
 use Rattle.old_book.specs.Settling.{settled, unjudged, with_configuration}
 use Rattle.old_book.proofs.BookLemmas.{bodies_kept, constrained_rows, no_old_archive, old_archive, rising_rows}
@@ -36,8 +36,8 @@ returns-in-Some-2-clause-some c =
     let rows = tables_with c.in_ok-rows.rows in
     let has : HasText t.meta text = subst (λ m. HasText m text) c.deref.ensures.value (at_some _ _ c.in-Some.text c.in-Some.is c.in_ok-text.ensures.some) in
     let is : rows ≡ with_configuration text (settled t) = c.in_ok-rows.ensures ∙ ap (λ a. with_configuration text (settled (tables_with a))) c.in_ok-are_listed.ensures.same in
-    let kept : IsKept rows held.config held.judged.items held.shelves held.dates.items = at_some _ _ held c.in-Some-2.is (c.in_ok-held.ensures.some (constrained_rows t text has rows is c.requires.keys)) in
-    let whole = bodies_kept t text held.config held.judged.items held.shelves held.dates.items (subst (λ r. IsKept r held.config held.judged.items held.shelves held.dates.items) is kept) in
+    let kept : IsBook rows held.config held.judged.items held.shelves held.dates.items = at_some _ _ held c.in-Some-2.is (c.in_ok-held.ensures.some (constrained_rows t text has rows is c.requires.keys)) in
+    let whole = bodies_kept t text held.config held.judged.items held.shelves held.dates.items (subst (λ r. IsBook r held.config held.judged.items held.shelves held.dates.items) is kept) in
     let wants : UploadsFit (unjudged t) [] = (c.in_ok-are_listed.ensures.fit c.requires.keys whole).0 c.if-not-branch.false in
     let old = old_archive t text has rows is held.config held.judged.items held.shelves held.dates.items c.requires.rising wants kept in
     record { archive = old.0; same = old.1 }
@@ -50,5 +50,5 @@ invariant_of-result c =
     let rows = tables_with c.in_ok-rows.rows in
     let has : HasText t.meta text = subst (λ m. HasText m text) c.deref.ensures.value (at_some _ _ c.in-Some.text c.in-Some.is c.in_ok-text.ensures.some) in
     let is : rows ≡ with_configuration text (settled t) = c.in_ok-rows.ensures ∙ ap (λ a. with_configuration text (settled (tables_with a))) c.in_ok-are_listed.ensures.same in
-    let kept : IsKept rows held.config held.judged.items held.shelves held.dates.items = at_some _ _ held c.in-Some-2.is (c.in_ok-held.ensures.some (constrained_rows t text has rows is c.requires.keys)) in
+    let kept : IsBook rows held.config held.judged.items held.shelves held.dates.items = at_some _ _ held c.in-Some-2.is (c.in_ok-held.ensures.some (constrained_rows t text has rows is c.requires.keys)) in
     record { kept = ∣ kept ∣₁; rising = if_rising rows (rising_rows t text has rows is c.requires.rising) }

@@ -1,4 +1,4 @@
-use Rattle.std.proofs.Common.{◌≡◌, true, true≢false, sym, ◌∙◌}
+use Rattle.std.proofs.Common.{true, true≢false, sym, ◌∙◌}
 use Rattle.tables_read.specs.All.{tables_with}
 use Rattle.old_book.proofs.RisingLemmas.{if_rising, rising_if}
 use Rattle.old_book.proofs.finding.old_book_in.Goals as goal

@@ -1,5 +1,5 @@
 use Rattle.std.proofs.Common.{◌≡◌, drop}
-use Rattle.tables_audit.specs.Files.{print_in}
+use Rattle.tables_meaning.specs.Kept.{print_in}
 use Rattle.tables_audit.proofs.files.print_of.Given as goal
 
 -- what has not been looked at decides

@@ -3,7 +3,7 @@ use Rattle.tables.specs.Rows.{rows_of}
 use Rattle.tables.specs.declared.meta.TheConstants.{VERSION}
 use Rattle.tables_read.specs.All.{tables_with}
 use Rattle.rules.specs.Configuration.{config_in}
-use Rattle.tables_meaning.specs.Kept.{IsKept}
+use Rattle.tables_meaning.specs.Kept.{IsBook}
 use Rattle.tables_audit.proofs.WholeLemmas.{if_ok, if_some, no_other, whole}
 use Rattle.tables_audit.proofs.whole.archive_in.Goals as goal
 
@@ -15,7 +15,7 @@ returns-clause-some c keys =
     let found : (rows_of t.meta ≡ record { version = VERSION; configuration = c.in-Some.config.text } ∷ []) × (config_in c.in-Some.config.text ≡ Ok c.in-Some.config) = search rules in
     if_ok _ _ c.held_of.result
     (λ o h. if_some _ _ o
-    (λ held parts. subst (λ g. IsKept t g held.judged.items held.shelves held.dates.items) (sym parts.0)
+    (λ held parts. subst (λ g. IsBook t g held.judged.items held.shelves held.dates.items) (sym parts.0)
     (whole t c.in-Some.config held.judged.items held.shelves held.dates.items keys found.0 found.1 arrived.0 arrived.1 parts.1))
     h)
     (c.held_of.ensures.some keys arrived.0)

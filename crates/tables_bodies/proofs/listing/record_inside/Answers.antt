@@ -8,14 +8,14 @@ use Rattle.tables_meaning.proofs.EndedLemmas.{goes_itself, keeps_if_going, liste
 use Rattle.tables_meaning.proofs.ReadsLemmas.{rests_itself}
 use Rattle.tables_bodies.proofs.listing.record_inside.Goals as goal
 
-pub returns-then-not-is_changes-clause-ok : goal.returns-then-not-is_changes-clause-ok
-returns-then-not-is_changes-clause-ok g c clean up t was = (
-  listed_none c.args.name.now (bytes_so_far t c.args.body) (sym c.is_changes.ensures ∙ c.if-not-is_changes.true),
+pub returns-then-not-is_changes_name-clause-ok : goal.returns-then-not-is_changes_name-clause-ok
+returns-then-not-is_changes_name-clause-ok g c clean up t was = (
+  listed_none c.args.name.now (bytes_so_far t c.args.body) (sym c.is_changes_name.ensures ∙ c.if-not-is_changes_name.true),
   (rests_itself (state g.S.Store c.args.tx.now.conn.now)).unchanged up,
 )
 
-pub returns-then-not-is_changes-clause-goes_on : goal.returns-then-not-is_changes-clause-goes_on
-returns-then-not-is_changes-clause-goes_on g c clean inside up = goes_itself (state g.S.Store c.args.tx.now.conn.now) up inside
+pub returns-then-not-is_changes_name-clause-goes_on : goal.returns-then-not-is_changes_name-clause-goes_on
+returns-then-not-is_changes_name-clause-goes_on g c clean inside up = goes_itself (state g.S.Store c.args.tx.now.conn.now) up inside
 
 pub returns-clause-ok : goal.returns-clause-ok
 returns-clause-ok g c clean up t was =

@@ -6,7 +6,7 @@ use Rattle.tables.proofs.TransactionLemmas.{keeps_if_changed, on_err, on_ok}
 use Rattle.tables_meaning.specs.Amending.{HasAllBodies}
 use Rattle.tables_meaning.specs.Transactions.{IsDone, IsUndone, MayCommit}
 use Rattle.tables_meaning.proofs.AmendLemmas.{begun_inside, commit_undone, crash_from, done_from, held_from, undone_by, undone_from, undone_from_if_err}
-use Rattle.tables_changes.specs.Swept.{with_made}
+use Rattle.tables_bodies.specs.Swept.{with_made}
 use Rattle.tables_changes.proofs.amending.amend.Goals as goal
 
 pub returns-in_err-amend_inside-clause-undone : goal.returns-in_err-amend_inside-clause-undone

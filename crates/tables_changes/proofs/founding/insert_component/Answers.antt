@@ -4,8 +4,9 @@ use Rattle.sqlite.specs.Held.{state}
 use Rattle.sqlite.proofs.StateLemmas.{survives_then}
 use Rattle.texts.specs.Release.{listed_entry}
 use Rattle.tables.proofs.TransactionLemmas.{keeps_then, on_err}
+use Rattle.tables.proofs.ReadLemmas.{survives_none}
 use Rattle.tables_meaning.specs.Founding.{Continues, component_texts, from_root, with_path_text, with_texts}
-use Rattle.tables_meaning.proofs.FoundLemmas.{continues_as, continues_if_changed, continues_none, continues_then, no_texts, survives_none, text_more}
+use Rattle.tables_meaning.proofs.FoundLemmas.{continues_as, continues_if_changed, continues_none, continues_then, no_texts, text_more}
 use Rattle.tables_changes.proofs.founding.insert_component.Goals as goal
 
 pub loop-architecture-init : goal.loop-architecture-init

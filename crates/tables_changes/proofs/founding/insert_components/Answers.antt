@@ -4,8 +4,9 @@ use Rattle.std.proofs.Math.Seq.{take_all}
 use Rattle.sqlite.specs.Held.{state}
 use Rattle.sqlite.proofs.StateLemmas.{survives_then}
 use Rattle.tables.proofs.TransactionLemmas.{keeps_then, on_err}
+use Rattle.tables.proofs.ReadLemmas.{survives_none}
 use Rattle.tables_meaning.specs.Founding.{Continues, component_texts, components_texts, with_texts}
-use Rattle.tables_meaning.proofs.FoundLemmas.{continues_as, continues_none, continues_then, no_texts, survives_none, texts_more}
+use Rattle.tables_meaning.proofs.FoundLemmas.{continues_as, continues_none, continues_then, no_texts, texts_more}
 use Rattle.tables_changes.proofs.founding.insert_components.Goals as goal
 
 pub loop-component-init : goal.loop-component-init

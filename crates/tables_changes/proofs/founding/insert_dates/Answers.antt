@@ -7,9 +7,10 @@ use Rattle.sqlite.proofs.StateLemmas.{survives_then}
 use Rattle.rules.specs.declared.suite.Suite.{Suite}
 use Rattle.tables.proofs.TransactionLemmas.{keeps_if_failed, keeps_then, on_err}
 use Rattle.tables.specs.Rows.{with_date}
+use Rattle.tables.proofs.ReadLemmas.{survives_none}
 use Rattle.tables_meaning.specs.Founding.{Continues, with_dates}
 use Rattle.tables_meaning.specs.Kept.{date_row}
-use Rattle.tables_meaning.proofs.FoundLemmas.{continues_as, continues_if_changed, continues_none, continues_then, no_dates, suite_date_more, survives_none}
+use Rattle.tables_meaning.proofs.FoundLemmas.{continues_as, continues_if_changed, continues_none, continues_then, no_dates, suite_date_more}
 use Rattle.tables_changes.proofs.founding.insert_dates.Goals as goal
 
 pub loop-position-init : goal.loop-position-init

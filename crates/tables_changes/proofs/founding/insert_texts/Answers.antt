@@ -7,8 +7,9 @@ use Rattle.sqlite.proofs.StateLemmas.{survives_then}
 use Rattle.rules.specs.declared.suite.Suite.{Suite}
 use Rattle.texts.specs.Indices.{texts_from}
 use Rattle.tables.proofs.TransactionLemmas.{keeps_then, on_err}
+use Rattle.tables.proofs.ReadLemmas.{survives_none}
 use Rattle.tables_meaning.specs.Founding.{Continues, suite_texts_at, with_texts}
-use Rattle.tables_meaning.proofs.FoundLemmas.{continues_as, continues_none, continues_then, no_suites, suite_more, survives_none}
+use Rattle.tables_meaning.proofs.FoundLemmas.{continues_as, continues_none, continues_then, no_suites, suite_more}
 use Rattle.tables_changes.proofs.founding.insert_texts.Goals as goal
 
 pub loop-position-init : goal.loop-position-init

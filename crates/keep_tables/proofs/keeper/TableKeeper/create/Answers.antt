@@ -4,7 +4,7 @@ use Rattle.std.specs.Prelude.{All, ◌≤◌}
 use Rattle.sqlite.specs.Held.{state}
 use Rattle.tables.specs.Schema.{no_schema}
 use Rattle.tables.specs.Rows.{tables_in}
-use Rattle.tables_meaning.specs.Archives.{KeepsArchive, book_of}
+use Rattle.tables_meaning.specs.Archives.{KeepsArchive, book_in_database}
 use Rattle.tables_meaning.specs.Founding.{first_dates}
 use Rattle.tables_meaning.specs.Shown.{shown_in}
 use Rattle.tables_meaning.proofs.CallLemmas.{kept_here}
@@ -41,4 +41,4 @@ returns-in-Ok-create-clause-made g c clean =
     let dates : c.in-Ok.dates.items ≡ first_dates config c.args.moment =
     c.in-Ok.ensures.items_if_clones_equal (λ y e. e) ∙ ap (λ suites. replicate (length suites) c.args.moment) c.suites.ensures in
     let made = c.in-Ok-create.ensures.done clean in
-    (made.is_open, (λ i. book_of db config (c.new.ensures.items i) (shown_in config.suites (tables_in db)) (dates i)) ∙ founded_here db config c.args.moment c.text.ensures.read c.requires (made.held free))
+    (made.is_open, (λ i. book_in_database db config (c.new.ensures.items i) (shown_in config.suites (tables_in db)) (dates i)) ∙ founded_here db config c.args.moment c.text.ensures.read c.requires (made.held free))

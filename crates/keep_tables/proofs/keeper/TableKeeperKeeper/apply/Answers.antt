@@ -7,7 +7,7 @@ use Rattle.suites.specs.Shelves.{ShelvesValue}
 use Rattle.keep.specs.Book.{dates_past, judgements}
 use Rattle.keep.proofs.Staying.{on_err}
 use Rattle.tables.specs.Rows.{tables_in}
-use Rattle.tables_meaning.specs.Archives.{KeepsArchive, book_of}
+use Rattle.tables_meaning.specs.Archives.{KeepsArchive, book_in_database}
 use Rattle.tables_meaning.specs.Kept.{book_in}
 use Rattle.tables_meaning.specs.KeeperLemmas.{book_set, left_set, shelves_set}
 use Rattle.tables_meaning.specs.Making.{takes_file}
@@ -36,7 +36,7 @@ returns-in_err-judged-clause-err g c =
     let k = c.args.self.now in
     let db = (state g.S.Store k.conn).committed in
     λ clean up. on_err c.from_residual-in_err-judged.result
-    (ap (λ j. book_of db k.config j (shown_in k.config.suites (tables_in db)) k.dates.items) c.in_err-judged.ensures.same)
+    (ap (λ j. book_in_database db k.config j (shown_in k.config.suites (tables_in db)) k.dates.items) c.in_err-judged.ensures.same)
 
 pub make_change-requires-clause-archive : goal.make_change-requires-clause-archive
 make_change-requires-clause-archive g c clean up = ∥∥₁_map (c.args.self.now.kept clean up) (λ was. was.held)
@@ -154,7 +154,7 @@ returns-in-Ok-clause-ok g c clean bodies apart has each =
     let early : HasCleanDisk old = omega (arith, c.make_change.ensures.crash.clean, clean) in
     let was_open = (c.in-Ok.ensures.open clean).0 in
     ∥∥₁_elim (c.args.self.now.kept early was_open) (book_set _ _) (λ was.
-    (λ i. book_of new.committed config (judged i) (shown_in config.suites (tables_in new.committed)) (dates i))
+    (λ i. book_in_database new.committed config (judged i) (shown_in config.suites (tables_in new.committed)) (dates i))
     ∙ done_book old.committed new.committed (amends_turns old.committed new.committed (c.in-Ok.ensures.done clean _ _ _ was count (c.requires.sound early was_open)) each))
 
 pub returns-in-Ok-clause-shown : goal.returns-in-Ok-clause-shown
@@ -172,8 +172,8 @@ pub returns-in-Err-clause-err : goal.returns-in-Err-clause-err
 returns-in-Err-clause-err g c clean up =
     let k = c.args.self.now in
     let db = (state g.S.Store k.conn).committed in
-    ap (λ db. book_of db k.config c.room_for_judgements.new.judged.items (shown_in k.config.suites (tables_in db)) k.dates.items) ((c.in-Err.ensures.undone clean).committed up)
-    ∙ ap (λ j. book_of db k.config j (shown_in k.config.suites (tables_in db)) k.dates.items) c.in_ok-judged.ensures.same
+    ap (λ db. book_in_database db k.config c.room_for_judgements.new.judged.items (shown_in k.config.suites (tables_in db)) k.dates.items) ((c.in-Err.ensures.undone clean).committed up)
+    ∙ ap (λ j. book_in_database db k.config j (shown_in k.config.suites (tables_in db)) k.dates.items) c.in_ok-judged.ensures.same
 
 pub returns-in-Ok-clause-crash : goal.returns-in-Ok-clause-crash
 returns-in-Ok-clause-crash g c clean left might =

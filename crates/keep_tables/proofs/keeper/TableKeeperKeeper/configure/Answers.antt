@@ -4,7 +4,7 @@ use Rattle.std.proofs.Props.{props}
 use Rattle.sqlite.specs.Held.{state}
 use Rattle.sqlite.specs.State.{HasCleanDisk}
 use Rattle.tables.specs.Rows.{tables_in}
-use Rattle.tables_meaning.specs.Archives.{KeepsArchive, book_of}
+use Rattle.tables_meaning.specs.Archives.{KeepsArchive, book_in_database}
 use Rattle.tables_meaning.specs.Configuring.{Reconfigures}
 use Rattle.tables_meaning.specs.Kept.{book_in}
 use Rattle.tables_meaning.specs.KeeperLemmas.{book_set, left_set}
@@ -118,7 +118,7 @@ returns-in-Ok-clause-ok g c clean =
 pub returns-in-Err-clause-err : goal.returns-in-Err-clause-err
 returns-in-Err-clause-err g c clean up =
     let k = c.args.self.now in
-    ap (λ db. book_of db k.config k.judged.items (shown_in k.config.suites (tables_in db)) k.dates.items) ((c.in-Err.ensures.undone clean).committed up)
+    ap (λ db. book_in_database db k.config k.judged.items (shown_in k.config.suites (tables_in db)) k.dates.items) ((c.in-Err.ensures.undone clean).committed up)
 
 pub returns-in-Ok-clause-crash : goal.returns-in-Ok-clause-crash
 unfolding book_in

@@ -4,7 +4,7 @@ use Rattle.std.proofs.Props.{props}
 use Rattle.sqlite.specs.Held.{state}
 use Rattle.sqlite.specs.State.{HasCleanDisk}
 use Rattle.tables.specs.Rows.{tables_in}
-use Rattle.tables_meaning.specs.Archives.{KeepsArchive, book_of}
+use Rattle.tables_meaning.specs.Archives.{KeepsArchive, book_in_database}
 use Rattle.tables_meaning.specs.Coming.{Comes}
 use Rattle.tables_meaning.specs.Kept.{book_in}
 use Rattle.tables_meaning.specs.KeeperLemmas.{book_set, left_set}
@@ -161,7 +161,7 @@ returns-in-Err-clause-stays g c =
         stays = c.take_piece.ensures.crash.closes;
         config = refl;
       };
-      same = λ clean up. ap (λ db. book_of db c.args.self.now.config c.args.self.now.judged.items (shown_in c.args.self.now.config.suites (tables_in db)) c.args.self.now.dates.items) ((c.in-Err.ensures.undone clean).committed up);
+      same = λ clean up. ap (λ db. book_in_database db c.args.self.now.config c.args.self.now.judged.items (shown_in c.args.self.now.config.suites (tables_in db)) c.args.self.now.dates.items) ((c.in-Err.ensures.undone clean).committed up);
       crash = λ clean left might.
           let early : HasCleanDisk old = omega (arith, c.take_piece.ensures.crash.clean, clean) in
           elim (c.take_piece.ensures.crash.crash clean might.0 might.1) [

@@ -47,8 +47,11 @@ returns-in_err-apply-clause-crash g c clean left may =
     let clean_now = c.in_err-apply.ensures.lasts.clean clean in
     elim (c.in_err-apply.ensures.crash clean left may) [
       | inl before ↦ inl (reads.crash clean_now left before)
-      | inr made ↦ inr (reads.lasts.was_open clean_now made.0, once_amended c.args.moment (g.K.Keeper.book c.args.self.now.keeper) (g.K.Keeper.book c.renewed_texts.new.keeper) c.args.steps c.from_vec.result
-          (λ book. left ≡ Some book) (reads.same clean_now made.0) made.1)
+      | inr made ↦ inr (
+        reads.lasts.was_open clean_now made.0,
+        once_amended c.args.moment (g.K.Keeper.book c.args.self.now.keeper) (g.K.Keeper.book c.renewed_texts.new.keeper) c.args.steps c.from_vec.result
+            (λ book. left ≡ Some book) (reads.same clean_now made.0) made.1,
+      )
     ]
 
 pub returns-clause-crash : goal.returns-clause-crash
@@ -58,6 +61,9 @@ returns-clause-crash g c clean left may =
     let clean_now = c.in_ok-apply.ensures.lasts.clean clean_made in
     elim (c.in_ok-apply.ensures.crash clean_made left (c.hold.ensures.reads.crash clean left may)) [
       | inl before ↦ inl (reads.crash clean_now left before)
-      | inr made ↦ inr (reads.lasts.was_open clean_now made.0, once_amended c.args.moment (g.K.Keeper.book c.args.self.now.keeper) (g.K.Keeper.book c.renewed_texts.new.keeper) c.args.steps c.from_vec.result
-          (λ book. left ≡ Some book) (reads.same clean_now made.0) made.1)
+      | inr made ↦ inr (
+        reads.lasts.was_open clean_now made.0,
+        once_amended c.args.moment (g.K.Keeper.book c.args.self.now.keeper) (g.K.Keeper.book c.renewed_texts.new.keeper) c.args.steps c.from_vec.result
+            (λ book. left ≡ Some book) (reads.same clean_now made.0) made.1,
+      )
     ]

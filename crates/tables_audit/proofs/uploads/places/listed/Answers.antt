@@ -1,7 +1,7 @@
 use Rattle.std.proofs.Common.{map, subst}
 use Rattle.std.proofs.lemmas.List.{take_all}
 use Rattle.tables.specs.Rows.{Numbered}
-use Rattle.tables.specs.declared.rows.Upload.{Upload}
+use Rattle.tables.specs.declared.rows.UploadRow.{UploadRow}
 use Rattle.tables_audit.specs.Places.{ArePlaced, placed_view}
 use Rattle.tables_audit.proofs.PlacesLemmas.{none_placed, placed_more}
 use Rattle.tables_audit.proofs.uploads.places.listed.Goals as goal
@@ -15,4 +15,4 @@ loop-upload-preserved c =
 
 pub returns : goal.returns
 returns c =
-    subst (λ (us : Numbered Upload). ArePlaced us (map placed_view c.loop-upload.placed.items)) (take_all c.loop-upload.upload-index c.args.uploads.now c.loop-upload-test.false) c.loop-upload.invariant
+    subst (λ (us : Numbered UploadRow). ArePlaced us (map placed_view c.loop-upload.placed.items)) (take_all c.loop-upload.upload-index c.args.uploads.now c.loop-upload-test.false) c.loop-upload.invariant

@@ -1,6 +1,6 @@
 use Rattle.std.proofs.Common.{rules, ◌∙◌}
 use Rattle.std.proofs.lemmas.Fn.{always_returns_same}
-use Rattle.tables_meaning.specs.Reads.{sign_order}
+use Rattle.keep.specs.Book.{judging_order}
 use Rattle.tables_audit.specs.Signs.{sign_of}
 use Rattle.tables_audit.specs.declared.uploads.signs.Sign.{Sign}
 use Rattle.tables_audit.proofs.SignsLemmas.{found_among}
@@ -10,5 +10,5 @@ pub returns : goal.returns
 returns c =
     let facts = c.binary_search_by.ensures in
     let wanted = sign_of c.args.sign.now in
-    let by_sign = facts.position (λ (x : Sign). sign_order (sign_of x) wanted) (always_returns_same _ _ _ (λ a r g called. search rules)) in
+    let by_sign = facts.position (λ (x : Sign). judging_order (sign_of x) wanted) (always_returns_same _ _ _ (λ a r g called. search rules)) in
     c.is_ok.ensures.value ∙ found_among wanted c.args.signs.now c.binary_search_by.result c.requires facts.bound by_sign

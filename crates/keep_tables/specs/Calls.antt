@@ -1,0 +1,50 @@
+-- What the contracts say of the calls that take a connection and give a keeper, or the connection beside a fault: a word for each clause.
+use Rattle.std.specs.Prelude.{◌≡◌, ◌≢◌, ◌⊎◌, Result, IsErrAnd, IfErr, IsTrue, true}
+use Rattle.sqlite_trees.specs.declared.store.Store.{Ghosts}
+use Rattle.sqlite.specs.Held.{Held, state}
+use Rattle.sqlite.specs.State.{HasCleanDisk}
+use Rattle.keep.specs.Keeping.{MoreFaults}
+use Rattle.keep.specs.declared.fault.KeepFault.{KeepFault}
+use Rattle.keep.specs.declared.fault.KeepFault.TheVariants.{NoArchive, OutOfMemory}
+use Rattle.rules.specs.Values.{ConfigValue}
+use Rattle.tables.specs.Causes.{MayFail}
+use Rattle.tables.specs.Schema.{no_schema}
+use Rattle.tables_meaning.specs.Archives.{KeepsBook}
+use Rattle.tables_meaning.specs.Transactions.{IsUndone}
+use Rattle.keep_tables.specs.Keepers.{connection_of, table_book}
+use Rattle.keep_tables.specs.Opened.{HasUnfinished, IsNoArchive}
+use Rattle.keep_tables.specs.declared.keeper.TableKeeper.{TableKeeper}
+
+module _ {S T : Type 0} (store : Ghosts S) (connection : Held S) (result : Result T (Held S × KeepFault)) where
+  -- after a fault what was committed stays
+  abbrev pub GivesBack : Type 0
+  GivesBack = IfErr result (λ e. HasCleanDisk (state store e.0) → IsUndone (state store connection) (state store e.0))
+
+  -- an opening answers that there is no archive only in a transaction, or where the database keeps none
+  abbrev pub RefusesNoArchive : Type 0
+  RefusesNoArchive = IfErr result (λ e. e.1 ≡ NoArchive → HasCleanDisk (state store e.0) → (connection.in_transaction ≡ true) ⊎ IsNoArchive (state store connection).now)
+
+  -- another fault of an opening has a cause: memory, the store, or a body that is not whole
+  abbrev pub SaysWhy : Type 0
+  SaysWhy = IfErr result (λ e. HasCleanDisk (state store e.0) → (e.1 ≡ NoArchive) ⊎ ((e.1 ≡ OutOfMemory) ⊎ (MayFail (state store connection) (state store e.0) ⊎ HasUnfinished (state store connection).now)))
+
+  -- within a transaction there is no opening, and the connection is given back as it was
+  abbrev pub RefusesBusy : Type 0
+  RefusesBusy = connection.in_transaction ≡ true → IsErrAnd result (λ e. (e.1 ≡ NoArchive) × (e.0 ≡ connection))
+
+  -- nothing is made within a transaction, or where the database has some object, and the connection is given back as it was
+  abbrev pub RefusesTaken : Type 0
+  RefusesTaken = (connection.in_transaction ≡ true) ⊎ ((state store connection).now.schema ≢ no_schema) → IsErrAnd result (λ e. (e.1 ≡ NoArchive) × (e.0 ≡ connection))
+
+  -- and only there it is refused so
+  abbrev pub RefusesOnlyTaken : Type 0
+  RefusesOnlyTaken = IfErr result (λ e. e.1 ≡ NoArchive → (connection.in_transaction ≡ true) ⊎ ((state store connection).now.schema ≢ no_schema))
+
+module _ {S : Type 0} {store : Ghosts S} (keeper : TableKeeper S store) where
+  -- only a failure that the store counted since shuts the connection
+  abbrev pub IsShutByFailure : Held S → Type 0
+  IsShutByFailure connection = HasCleanDisk (connection_of keeper) → IsTrue (connection_of keeper).is_open ⊎ MoreFaults (state store connection).faults (connection_of keeper).faults
+
+  -- while the connection is open its tables keep the keeper's book, under this configuration
+  abbrev pub KeepsItsBook : ConfigValue → Type 0
+  KeepsItsBook config = HasCleanDisk (connection_of keeper) → IsTrue (connection_of keeper).is_open → KeepsBook (connection_of keeper).committed config (table_book keeper)

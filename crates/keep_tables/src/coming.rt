@@ -1,0 +1,193 @@
+//! A body that comes: the one that was begun last, and a keeper's calls on it over the connection alone.
+
+ghost use Rattle.std.specs.Prelude.{◌≡◌, [], Some, None, true, false, option_map, ◌≤◌, ◌<◌, ◌+◌, ◌%◌, ◌++◌, Option, length, not, IfOk, OnOk};
+ghost use Rattle.std.specs.Option.{option_and_then, option_map_or};
+ghost use Rattle.sums.specs.Prints.{Holds, print as print_of};
+ghost use Rattle.keep.specs.Book.{latest, span};
+ghost use Rattle.tables.specs.Rows.{tables_in};
+ghost use Rattle.tables_meaning.specs.Coming.{Comes, HasComing};
+ghost use Rattle.tables_bodies.specs.declared.coming.Begun.{Begun};
+ghost use Rattle.keep_tables.specs.AtOnce.{arrives_at_once};
+ghost use Rattle.tables.specs.Calls.{OnCleanDisk};
+ghost use Rattle.tables_meaning.specs.Calls.{BookStays, CommitsOnly, Delivers, OverOnePiece, OverWhole, StaysOpen, Undoes, WithComing, WithPieces, has_delivery};
+
+use keep::PIECE_SIZE;
+use sqlite::{Alter, Connection, Error, ErrorCode};
+use std::alloc::Global;
+use sums::Printer;
+use tables::probe::probe;
+use tables_bodies::{
+    Begun, Finished, OnePiece, finish_body, remove_all, store_piece, take_one_piece,
+};
+
+/// A body without a byte.
+pub(crate) fn begun() -> Begun
+    ensures empty { (result.body ≡ None) × (result.pieces ≡ 0) × (result.is_coming ≡ true) }
+    ensures printer { Holds result.printer [] }
+{
+    Begun {
+        body: None,
+        pieces: 0,
+        printer: Printer::new(),
+        is_coming: true,
+    }
+}
+
+/// The number of the body that was begun, where it has one.
+pub(crate) fn number_of(begun: &Option<Begun>) -> Option<u64>
+    ensures { result ≡ option_and_then (λ b. b.body) begun.now }
+{
+    match begun {
+        Some(begun) => begun.body,
+        None => None,
+    }
+}
+
+/// Whether a body is coming.
+pub(crate) fn is_coming(begun: &Option<Begun>) -> bool
+    ensures { result ≡ option_map_or (λ b. b.is_coming) begun.now false }
+{
+    match begun {
+        Some(begun) => begun.is_coming,
+        None => false,
+    }
+}
+
+/// No body is coming then. What was begun keeps its number, by which its rows go.
+pub(crate) fn stop(begun: &mut Option<Begun>)
+    ensures { begun.new ≡ option_map (λ (b : Begun). record b { is_coming = false }) begun.old }
+{
+    if let Some(begun) = begun {
+        begun.is_coming = false;
+    }
+}
+
+/// Nothing is begun where the rows of what came went.
+pub(crate) fn forget_if(begun: &mut Option<Begun>, went: bool)
+    ensures { begun.new ≡ (if went then None else begun.old) }
+{
+    if went {
+        *begun = None;
+    }
+}
+
+/// Whether a body is one piece, and nothing is begun that has a row.
+pub(crate) fn is_one_piece(begun: &Option<Begun>, body: &[u8]) -> bool
+    ensures { result ≡ arrives_at_once begun.now body.now }
+{
+    if body.is_empty() || body.len() > PIECE_SIZE {
+        return false;
+    }
+    number_of(begun).is_none()
+}
+
+/// Takes the rows of a body away that came so far.
+pub(crate) fn forget_body<S: Alter>(conn: &mut Connection<S>, id: u64) -> Result<(), Error>
+    requires idle { conn.old.in_transaction ≡ false }
+    ensures idle { conn.new.in_transaction ≡ false }
+    ensures open { StaysOpen S.Store conn.old conn.new result }
+    ensures done { OnCleanDisk S.Store conn.old conn.new (λ old new. WithPieces old.committed (Some id) (λ config judged shown dates count bytes. OnOk result (BookStays old.committed new.committed config judged shown dates
+        × HasComing (tables_in new.committed) []))) }
+    ensures undone { Undoes S.Store conn.old conn.new result }
+    ensures crash { CommitsOnly S.Store conn.old conn.new (λ old db. WithPieces old.committed (Some id) (λ config judged shown dates count bytes. BookStays old.committed db config judged shown dates)) }
+{
+    // For the prover alone: outside a transaction the connection has what is committed.
+    let _idle = conn.is_autocommit();
+    remove_all(conn, &[id])
+}
+
+/// Makes room for a body: the rows of the one before it go, which has this number, or the database is asked whether it serves.
+pub(crate) fn clear<S: Alter>(
+    alloc: Global,
+    conn: &mut Connection<S>,
+    body: Option<u64>,
+) -> Result<(), Error>
+    requires idle { conn.old.in_transaction ≡ false }
+    ensures idle { conn.new.in_transaction ≡ false }
+    ensures open { StaysOpen S.Store conn.old conn.new result }
+    ensures done { OnCleanDisk S.Store conn.old conn.new (λ old new. WithPieces old.committed body (λ config judged shown dates count bytes. OnOk result (BookStays old.committed new.committed config judged shown dates
+        × HasComing (tables_in new.committed) []))) }
+    ensures undone { Undoes S.Store conn.old conn.new result }
+    ensures crash { CommitsOnly S.Store conn.old conn.new (λ old db. WithPieces old.committed body (λ config judged shown dates count bytes. BookStays old.committed db config judged shown dates)) }
+{
+    match body {
+        Some(id) => forget_body(conn, id),
+        None => probe(alloc, conn),
+    }
+}
+
+/// Stores the next piece of the body that is coming, under the number behind so many. Answers the number of the body.
+pub(crate) fn take_piece<S: Alter>(
+    conn: &mut Connection<S>,
+    body: Option<u64>,
+    count: u64,
+    bytes: &[u8],
+) -> Result<u64, Error>
+    requires idle { conn.old.in_transaction ≡ false }
+    ensures idle { conn.new.in_transaction ≡ false }
+    ensures open { StaysOpen S.Store conn.old conn.new result }
+    ensures done { OnCleanDisk S.Store conn.old conn.new (λ old new. WithComing old.committed body count (λ config judged shown dates so_far. length so_far % 65536 ≡ 0
+        → 0 < length bytes.now → length bytes.now ≤ 65536 → IfOk result (λ id. BookStays old.committed new.committed config judged shown dates
+        × Comes (tables_in new.committed) (Some id) (count + 1) (so_far ++ bytes.now)))) }
+    ensures counted { OnOk result (count < 18_446_744_073_709_551_615) }
+    ensures undone { Undoes S.Store conn.old conn.new result }
+    ensures crash { CommitsOnly S.Store conn.old conn.new (λ old db. WithComing old.committed body count (λ config judged shown dates so_far. length so_far % 65536 ≡ 0
+        → 0 < length bytes.now → length bytes.now ≤ 65536 → BookStays old.committed db config judged shown dates)) }
+{
+    // For the prover alone: outside a transaction the connection has what is committed.
+    let _idle = conn.is_autocommit();
+    let Some(number) = count.checked_add(1) else {
+        return Err(Error::SqliteFailure(ErrorCode::TooBig));
+    };
+    store_piece(conn, body, number, bytes)
+}
+
+/// Takes the body that came as one that has arrived, and says whether that is new at the moment.
+pub(crate) fn finish_delivery<S: Alter>(
+    alloc: Global,
+    conn: &mut Connection<S>,
+    finished: &Finished<'_>,
+) -> Result<bool, Error>
+    requires idle { conn.old.in_transaction ≡ false }
+    requires in_time { finished.now.moment ≤ latest }
+    ensures idle { conn.new.in_transaction ≡ false }
+    ensures open { StaysOpen S.Store conn.old conn.new result }
+    ensures done { OnCleanDisk S.Store conn.old conn.new (λ old new. OverWhole old.committed finished.now.body finished.now.pieces finished.now.print finished.now.name.now (λ config judged shown dates body. OnOk result (Delivers old.committed new.committed config judged shown dates (record { name = finished.now.name.now; body = body; moment = finished.now.moment })
+        × HasComing (tables_in new.committed) []))) }
+    ensures new { OnCleanDisk S.Store conn.old conn.new (λ old new. OverWhole old.committed finished.now.body finished.now.pieces finished.now.print finished.now.name.now (λ config judged shown dates body. finished.now.span ≡ span config
+        → IfOk result (λ new. new ≡ not (has_delivery old.committed config judged shown dates (record { name = finished.now.name.now; body = body; moment = finished.now.moment }))))) }
+    ensures undone { Undoes S.Store conn.old conn.new result }
+    ensures crash { CommitsOnly S.Store conn.old conn.new (λ old db. OverWhole old.committed finished.now.body finished.now.pieces finished.now.print finished.now.name.now (λ config judged shown dates body. Delivers old.committed db config judged shown dates (record { name = finished.now.name.now; body = body; moment = finished.now.moment }))) }
+{
+    // For the prover alone: outside a transaction the connection has what is committed.
+    let _idle = conn.is_autocommit();
+    if finished.pieces >= u64::MAX {
+        return Err(Error::SqliteFailure(ErrorCode::TooBig));
+    }
+    finish_body(alloc, conn, finished)
+}
+
+/// Takes a file whose body is one piece as one that has arrived, where no other body is coming, and says whether that is new at the
+/// moment.
+pub(crate) fn deliver_at_once<S: Alter>(
+    alloc: Global,
+    conn: &mut Connection<S>,
+    file: &OnePiece<'_>,
+) -> Result<bool, Error>
+    requires idle { conn.old.in_transaction ≡ false }
+    requires in_time { file.now.moment ≤ latest }
+    requires one_piece { (0 < length file.now.bytes.now) × (length file.now.bytes.now ≤ 65536) }
+    requires printed { file.now.print ≡ print_of file.now.bytes.now }
+    ensures idle { conn.new.in_transaction ≡ false }
+    ensures open { StaysOpen S.Store conn.old conn.new result }
+    ensures done { OnCleanDisk S.Store conn.old conn.new (λ old new. OverOnePiece old.committed file.now.name.now file.now.bytes.now (λ config judged shown dates. OnOk result (Delivers old.committed new.committed config judged shown dates (record { name = file.now.name.now; body = file.now.bytes.now; moment = file.now.moment })
+        × HasComing (tables_in new.committed) []))) }
+    ensures new { OnCleanDisk S.Store conn.old conn.new (λ old new. OverOnePiece old.committed file.now.name.now file.now.bytes.now (λ config judged shown dates. file.now.span ≡ span config
+        → IfOk result (λ new. new ≡ not (has_delivery old.committed config judged shown dates (record { name = file.now.name.now; body = file.now.bytes.now; moment = file.now.moment }))))) }
+    ensures undone { Undoes S.Store conn.old conn.new result }
+    ensures crash { CommitsOnly S.Store conn.old conn.new (λ old db. OverOnePiece old.committed file.now.name.now file.now.bytes.now (λ config judged shown dates. Delivers old.committed db config judged shown dates (record { name = file.now.name.now; body = file.now.bytes.now; moment = file.now.moment }))) }
+{
+    // For the prover alone: outside a transaction the connection has what is committed.
+    let _idle = conn.is_autocommit();
+    take_one_piece(alloc, conn, file)
+}

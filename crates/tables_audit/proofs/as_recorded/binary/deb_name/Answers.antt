@@ -1,9 +1,0 @@
-use Rattle.std.proofs.Common.{◌∙◌, rules}
-use Rattle.std.proofs.lemmas.Result.{IfOk-weaker}
-use Rattle.tables_audit.proofs.RecordedLemmas.{deb_written}
-use Rattle.tables_audit.proofs.as_recorded.binary.deb_name.Goals as goal
-
-pub returns : goal.returns
-returns c =
-    IfOk-weaker c.format.result _ _ (λ text wrote. wrote ∙ deb_written c.args.sidecar.now c.package-package.result.now c.without_epoch-version.result.now c.architecture-architecture.result.now (search rules) (search rules) (search rules))
-    c.format.ensures.ok

@@ -1,5 +1,0 @@
-use Rattle.tables_read.proofs.Meaning.{arrival_rows}
-use Rattle.tables_read.proofs.stored.ArrivalStored.rows_text.Goals as goal
-
-pub returns : goal.returns
-returns c = arrival_rows

@@ -1,5 +1,0 @@
-use Rattle.tables_read.proofs.Meaning.{body_rows}
-use Rattle.tables_read.proofs.stored.BodyStored.rows_text.Goals as goal
-
-pub returns : goal.returns
-returns c = body_rows

@@ -1,5 +1,0 @@
-use Rattle.tables_read.proofs.Meaning.{item_rows}
-use Rattle.tables_read.proofs.stored.ItemStored.rows_text.Goals as goal
-
-pub returns : goal.returns
-returns c = item_rows

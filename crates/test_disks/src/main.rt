@@ -1,0 +1,27 @@
+//! Archives as rows, in files in memory: whose disks stop, fail or are full; databases that are no archive; and archives of older layouts.
+//!
+//! A line is printed for each row that differs, and one for each file. The exit status is 0 where each file has rows, all rows can
+//! be read, and none differs; else 1.
+#![tactic(auto)]
+
+mod account;
+mod failing;
+mod files;
+mod image;
+mod interrupted;
+mod steps;
+mod tampered;
+mod trial;
+mod work;
+
+use crate::files::Case;
+use std::process::ExitCode;
+use test_rows::report_files;
+
+fn main(rt: HostRuntime) -> ExitCode {
+    match report_files::<Case, HostRuntime>(&rt, "in files: ", ".disks") {
+        Ok(true) => ExitCode::from(0),
+        Ok(false) => ExitCode::from(1),
+        Err(_) => ExitCode::from(3),
+    }
+}

@@ -1,0 +1,194 @@
+//! What is done with a database, over any store: each function that names the store of files takes the prover minutes.
+
+use keep::{KeepFault, LATEST};
+use keep_tables::{InOrder, TableKeeper, fault_of};
+use old_book::OldBook;
+use queue::Archive;
+use rules::Config;
+use sqlite::{Alter, Connection};
+use std::alloc::Global;
+use test_rows::{Unread, said};
+use test_story::{Pieces, Task};
+
+/// What came of work: what was told, or the fault where there was no archive or no database; or why a row can't be read.
+pub type Answer = Result<Result<Pieces, KeepFault>, Unread>;
+
+/// Of what an archive is made.
+#[derive(Clone, Copy)]
+pub enum Making<'a> {
+    /// Of a configuration: it is new, and made at 0.
+    New(&'a [u8]),
+    /// Of what an archive of an older layout holds, under a configuration, with all arrivals as of a moment.
+    Migrated {
+        old: &'a OldBook,
+        config: &'a [u8],
+        moment: u64,
+    },
+}
+
+/// What is done with a database.
+#[derive(Clone, Copy)]
+pub enum Work<'a> {
+    /// A task of the archive that is there.
+    Open(Task<'a>),
+    /// A task of an archive that is made.
+    Make(Making<'a>, Task<'a>),
+    /// Opens the archive, and copies the log into the database file.
+    Reopen,
+    /// Runs a list of statements past the archive, and copies the log.
+    Run(&'a str),
+    /// Counts the rows that a query answers.
+    Count(&'a str),
+    /// Opens the archive in a transaction, and again behind its end.
+    OpenTwice,
+}
+
+/// What came of a task with the archive of a keeper, where there is one; and the connection.
+fn with_archive<S: Alter + Drop>(
+    alloc: Global,
+    keeper: Result<TableKeeper<S>, (Connection<S>, KeepFault)>,
+    task: Task<'_>,
+) -> (Connection<S>, Answer) {
+    match keeper {
+        Ok(keeper) => {
+            let mut archive = Archive::new(alloc, keeper);
+            let answer = match task.perform(alloc, &mut archive) {
+                Ok(pieces) => Ok(Ok(pieces)),
+                Err(unread) => Err(unread),
+            };
+            (archive.into_keeper().into_connection(), answer)
+        }
+        Err((connection, fault)) => (connection, Ok(Err(fault))),
+    }
+}
+
+impl<'a> Making<'a> {
+    /// The text of the configuration.
+    fn config(self) -> &'a [u8] {
+        match self {
+            Making::New(config) | Making::Migrated { config, .. } => config,
+        }
+    }
+}
+
+/// The keeper of an archive that is made, of a configuration that can be read.
+fn made<S: Alter + Drop>(
+    alloc: Global,
+    connection: Connection<S>,
+    making: Making<'_>,
+) -> Result<TableKeeper<S>, (Connection<S>, KeepFault)> {
+    let Ok(config) = Config::read(alloc, making.config()) else {
+        return Err((connection, KeepFault::OutOfMemory));
+    };
+    match making {
+        Making::New(_) => TableKeeper::create(alloc, connection, config, 0),
+        Making::Migrated { old, moment, .. } => {
+            migrate::migrate(alloc, connection, old, config, moment.min(LATEST))
+        }
+    }
+}
+
+/// Runs a list of statements.
+fn run<S: Alter>(alloc: Global, connection: &mut Connection<S>, list: &str) -> Answer {
+    match connection.execute_batch(list) {
+        Ok(()) => Ok(Ok(Vec::new(alloc))),
+        Err(error) => Ok(Err(fault_of(error))),
+    }
+}
+
+/// How many rows a query answers.
+fn counted<S: Alter>(alloc: Global, connection: &mut Connection<S>, query: &str) -> Answer {
+    match connection.query_all(query, &[]) {
+        Ok(rows) => number(alloc, rows.len()),
+        Err(error) => Ok(Err(fault_of(error))),
+    }
+}
+
+/// A number, as it is printed.
+fn number(alloc: Global, number: usize) -> Answer {
+    let text = said(alloc, number.to_string(alloc)?.as_str())?;
+    Ok(Ok(vec![in alloc; text]?))
+}
+
+/// A fault of a keeper, as it is printed.
+pub fn told_fault(alloc: Global, fault: KeepFault) -> Result<Vec<u8>, Unread> {
+    match fault {
+        KeepFault::OutOfMemory => Err(Unread::OutOfMemory),
+        fault => said(alloc, fault.to_string(alloc)?.as_str()),
+    }
+}
+
+/// A word where work was done, or the fault.
+pub fn word_or_fault(
+    alloc: Global,
+    word: &str,
+    answer: &Result<Pieces, KeepFault>,
+) -> Result<Vec<u8>, Unread> {
+    match answer {
+        Ok(_) => said(alloc, word),
+        Err(fault) => told_fault(alloc, *fault),
+    }
+}
+
+/// What came of two openings.
+fn both(alloc: Global, within: Answer, behind: Answer) -> Answer {
+    let mut text = word_or_fault(alloc, "open", &within?)?;
+    text.push(b' ')?;
+    text.extend_from_slice(word_or_fault(alloc, "open", &behind?)?.as_slice())?;
+    Ok(Ok(vec![in alloc; text]?))
+}
+
+/// Opens the archive in a transaction, and again behind its end.
+fn opened_twice<S: InOrder + Drop>(
+    alloc: Global,
+    connection: Connection<S>,
+) -> (Connection<S>, Answer) {
+    let mut connection = connection;
+    let has_begun = connection.execute_batch("BEGIN").is_ok();
+    let (mut connection, within) = with_archive(
+        alloc,
+        TableKeeper::open(alloc, connection),
+        Task::Nothing,
+    );
+    if !has_begun || connection.execute_batch("COMMIT").is_err() {
+        return (connection, Ok(Err(KeepFault::Disk)));
+    }
+    let (connection, behind) = with_archive(
+        alloc,
+        TableKeeper::open(alloc, connection),
+        Task::Nothing,
+    );
+    (connection, both(alloc, within, behind))
+}
+
+impl Work<'_> {
+    /// Whether the log is copied into the database file then.
+    pub fn copies_log(self) -> bool {
+        matches!(self, Work::Reopen | Work::Run(_))
+    }
+
+    /// Does it, and gives the connection back.
+    pub fn perform<S: InOrder + Drop>(
+        self,
+        alloc: Global,
+        connection: Connection<S>,
+    ) -> (Connection<S>, Answer) {
+        let mut connection = connection;
+        match self {
+            Work::Open(task) => with_archive(alloc, TableKeeper::open(alloc, connection), task),
+            Work::Make(making, task) => with_archive(alloc, made(alloc, connection, making), task),
+            Work::Reopen => {
+                with_archive(alloc, TableKeeper::open(alloc, connection), Task::Nothing)
+            }
+            Work::Run(list) => {
+                let answer = run(alloc, &mut connection, list);
+                (connection, answer)
+            }
+            Work::Count(query) => {
+                let answer = counted(alloc, &mut connection, query);
+                (connection, answer)
+            }
+            Work::OpenTwice => opened_twice(alloc, connection),
+        }
+    }
+}
