@@ -162,7 +162,7 @@ fn disconnect<D: Disk + Drop>(connection: Connection<FileStore<D>>) {
 fn fault_of_layout(layout: u64) -> OpenFault {
     match layout.cmp(&LAYOUT) {
         Ordering::Less if layout > 0 => OpenFault::Older(layout),
-        Ordering::Less | Ordering::Equal => OpenFault::Keeper(KeepFault::Tables),
+        Ordering::Less | Ordering::Equal => OpenFault::Keeper(KeepFault::NoArchive),
         Ordering::Greater => OpenFault::Later(layout),
     }
 }
@@ -170,7 +170,7 @@ fn fault_of_layout(layout: u64) -> OpenFault {
 /// Why no archive of a database is opened, where the keeper has this fault. Tables that are not those of an archive are asked for their
 /// layout.
 fn open_fault<S: Alter>(connection: &mut Connection<S>, fault: KeepFault) -> OpenFault {
-    if fault != KeepFault::Tables {
+    if fault != KeepFault::NoArchive {
         return OpenFault::Keeper(fault);
     }
     match layout_of(connection) {

@@ -6,7 +6,7 @@ use Rattle.std.specs.Prelude.{if◌then◌else◌}
 use Rattle.std.specs.List.{AllByRecursion, cons_option, join_with_byte, list_any, onto_first}
 use Rattle.command_line.specs.declared.list.BatchFault.TheVariants.{Line}
 use Rattle.command_line.specs.Grammar.{AskFor, HasLines, IsBadAt, IsGoodLine, SpellsList}
-use Rattle.command_line.specs.Lists.{Meaning, asked, asked_by_lines, asked_by_list, fault_behind, is_bad, is_newline, lines_in, list_fault}
+use Rattle.command_line.specs.Lists.{RequestBytes, asked, asked_by_lines, asked_by_list, fault_behind, is_bad, is_newline, lines_in, list_fault}
 use Rattle.command_line.proofs.LineLemmas.{command_back, good_line, line_good, not_asked, passed_over}
 
 -- ---- lines
@@ -68,7 +68,7 @@ good_ask (line ∷ more) k h = by_kind (is_bad line) refl h (good_ask more (k + 
     by_kind true e n rec = absurd (none-some (Line (k + 1)) (sym n))
     by_kind false e n rec = by_line (good_line line e) (rec n)
 
-asks_good : (ls : List (List ℕ)) (ms : List Meaning) (k : ℕ) → AskFor ls ms → (fault_behind k ls ≡ None) × (asked_by_lines ls ≡ ms)
+asks_good : (ls : List (List ℕ)) (ms : List RequestBytes) (k : ℕ) → AskFor ls ms → (fault_behind k ls ≡ None) × (asked_by_lines ls ≡ ms)
 asks_good [] ms k h = (refl, sym h)
 asks_good (line ∷ more) ms k (inl (p, h)) =
     let rest = asks_good more ms (k + 1) h in (
@@ -81,10 +81,10 @@ asks_good (line ∷ more) ms k (inr (m, others, c, e, h)) =
       rw (command_back line m c) (ap (λ l. m ∷ l) rest.1 ∙ sym e),
     )
 
-pub as_list : (list : List ℕ) (ms : List Meaning) → list_fault list ≡ None → asked_by_list list ≡ ms → SpellsList list ms
+pub as_list : (list : List ℕ) (ms : List RequestBytes) → list_fault list ≡ None → asked_by_list list ≡ ms → SpellsList list ms
 as_list list ms good e = record { lines = lines_in list; has_lines = its_lines list; ask = rw (sym e) (good_ask (lines_in list) 0 good) }
 
-pub list_back : (list : List ℕ) (ms : List Meaning) → SpellsList list ms → (list_fault list ≡ None) × (asked_by_list list ≡ ms)
+pub list_back : (list : List ℕ) (ms : List RequestBytes) → SpellsList list ms → (list_fault list ≡ None) × (asked_by_list list ≡ ms)
 list_back list ms s = by_lines s.lines s.has_lines s.ask
   where
     by_lines : (ls : List (List ℕ)) → HasLines list ls → AskFor ls ms → (list_fault list ≡ None) × (asked_by_list list ≡ ms)

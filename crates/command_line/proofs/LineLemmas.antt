@@ -9,8 +9,9 @@ use Rattle.std.specs.Prelude.{IfSome, if◌then◌else◌, is_some}
 use Rattle.std.specs.Option.{option_and_then}
 use Rattle.std.specs.List.{list_any, position_or_len, before_first, after_first}
 use Rattle.std.specs.Str.{bytes_eq, is_utf8}
-use Rattle.command_line.specs.Grammar.{IsCommand, IsGoodLine, IsMeaning, IsOneWord, IsPassedOver, print_meaning}
-use Rattle.command_line.specs.Lists.{Meaning, putting, running, copying, promoting, removing, cleaning, waiting_list, verdict_list, asked, command_by, command_in, command_of, copy_of, is_bad, is_passed_over, is_space, is_word, lone, parted, promotion_of, put_of, removal_of, two_words, worded}
+use Rattle.command_line.specs.Grammar.{IsCommand, IsGoodLine, IsAskable, IsOneWord, IsPassedOver, print_request}
+use Rattle.command_line.specs.Lists.{RequestBytes, asked, command_by, command_in, command_of, copy_of, is_bad, is_passed_over, is_space, is_word, lone, parted, promotion_of, put_of, removal_of, two_words, worded}
+use Rattle.command_line.specs.declared.request.Request.TheVariants as request
 use Rattle.command_line.proofs.ListLemmas.{as_text}
 
 -- ---- a text with a space, and a text with none
@@ -127,17 +128,17 @@ two text =
     (λ e. tt))
 
 -- this is asked for by the line that is this command and a space in front of this rest
-abbrev Asks : List ℕ → List ℕ → Meaning → Type 0
-Asks command rest m = IsMeaning m × (command ++ 32 ∷ rest ≡ print_meaning m)
+abbrev Asks : List ℕ → List ℕ → RequestBytes → Type 0
+Asks command rest m = IsAskable m × (command ++ 32 ∷ rest ≡ print_request m)
 
 put_asks : (rest : List ℕ) → IfSome (put_of rest) (Asks (codes "put") rest)
 unfolding put_of
-put_asks rest = by_test _ (length rest == 0) None (Some (putting rest)) (λ e. tt) (λ e. (grind (arith, nat_tests), refl))
+put_asks rest = by_test _ (length rest == 0) None (Some (request.Put rest)) (λ e. tt) (λ e. (grind (arith, nat_tests), refl))
 
 copy_asks : (rest : List ℕ) → IfSome (copy_of rest) (Asks (codes "copy") rest)
 unfolding copy_of
 copy_asks rest =
-    and_then _ _ (parted rest) _ (parts rest) (λ p c. and_then _ _ (two_words p.1) _ (two p.1) (λ w k. by_test _ (is_word p.0) (Some (copying p.0 w.0 w.1)) None
+    and_then _ _ (parted rest) _ (parts rest) (λ p c. and_then _ _ (two_words p.1) _ (two p.1) (λ w k. by_test _ (is_word p.0) (Some (request.Copy p.0 w.0 w.1)) None
     (λ e. ((word p.0 e, k.0, k.1), ap (λ l. codes "copy" ++ 32 ∷ l) (c.whole ∙ ap (λ l. p.0 ++ 32 ∷ l) k.2)))
     (λ e. tt)))
 
@@ -155,7 +156,7 @@ same : (a b : List ℕ) → bytes_eq a b ≡ true → a ≡ b
 same a b e = (bytes_eq-Decides a b).0 e
 
 -- the command is this one, and the rest asks for something behind it
-named : (command name rest : List ℕ) (r : Option Meaning) → bytes_eq command name ≡ true → IfSome r (Asks name rest) → IfSome r (Asks command rest)
+named : (command name rest : List ℕ) (r : Option RequestBytes) → bytes_eq command name ≡ true → IfSome r (Asks name rest) → IfSome r (Asks command rest)
 named command name rest r e h = IfSome_then r h (λ m k. (k.0, ap (λ l. l ++ 32 ∷ rest) (same command name e) ∙ k.1))
 
 worded_asks : (command rest : List ℕ) → IfSome (worded command rest) (Asks command rest)
@@ -166,7 +167,7 @@ worded_asks command rest =
     by_test _ (bytes_eq command (codes "promote")) _ _ (λ e. named command (codes "promote") rest _ e (promotion_asks rest)) (λ _.
     by_test _ (bytes_eq command (codes "remove")) _ _ (λ e. named command (codes "remove") rest _ e (removal_asks rest)) (λ _. tt))))
 
-lone_asks : (line : List ℕ) → IfSome (lone line) (λ m. IsMeaning m × (line ≡ print_meaning m))
+lone_asks : (line : List ℕ) → IfSome (lone line) (λ m. IsAskable m × (line ≡ print_request m))
 unfolding lone
 lone_asks line =
     by_test _ (bytes_eq line (codes "run")) _ _ (λ e. (tt, same line (codes "run") e)) (λ _.
@@ -174,15 +175,15 @@ lone_asks line =
     by_test _ (bytes_eq line (codes "waiting")) _ _ (λ e. (tt, same line (codes "waiting") e)) (λ _.
     by_test _ (bytes_eq line (codes "verdicts")) _ _ (λ e. (tt, same line (codes "verdicts") e)) (λ _. tt))))
 
-command_asks : (text : List ℕ) → IfSome (command_of text) (λ m. IsMeaning m × (text ≡ print_meaning m))
+command_asks : (text : List ℕ) → IfSome (command_of text) (λ m. IsAskable m × (text ≡ print_request m))
 unfolding command_of
 command_asks text = by_parts (parted text) (parts text)
   where
-    by_parts : (r : Option (List ℕ × List ℕ)) → IfSome r (λ p. IsCut text p.0 p.1) → IfSome (command_by r text) (λ m. IsMeaning m × (text ≡ print_meaning m))
+    by_parts : (r : Option (List ℕ × List ℕ)) → IfSome r (λ p. IsCut text p.0 p.1) → IfSome (command_by r text) (λ m. IsAskable m × (text ≡ print_request m))
     by_parts None h = lone_asks text
     by_parts (Some p) h = IfSome_then (worded p.0 p.1) (worded_asks p.0 p.1) (λ m k. (k.0, h.whole ∙ k.1))
 
-pub as_printed : (text : List ℕ) (m : Meaning) → command_of text ≡ Some m → IsMeaning m × (text ≡ print_meaning m)
+pub as_printed : (text : List ℕ) (m : RequestBytes) → command_of text ≡ Some m → IsAskable m × (text ≡ print_request m)
 as_printed text m h = at_some _ (command_of text) m (command_asks text) h
 
 -- ---- what a printed line asks for
@@ -199,34 +200,34 @@ lone-back : (line : List ℕ) → list_any is_space line ≡ false → command_o
 unfolding command_of
 lone-back line h = ap (λ r. command_by r line) (no_parts line h)
 
-put-back : (path : List ℕ) → 0 < length path → put_of path ≡ Some (putting path)
+put-back : (path : List ℕ) → 0 < length path → put_of path ≡ Some (request.Put path)
 unfolding put_of
 put-back path h = let full : (length path == 0) ≡ false = grind (arith, nat_tests) in rw full refl
 
-copy-back : (from to source : List ℕ) → IsOneWord from → IsOneWord to → IsOneWord source → copy_of (from ++ 32 ∷ (to ++ 32 ∷ source)) ≡ Some (copying from to source)
+copy-back : (from to source : List ℕ) → IsOneWord from → IsOneWord to → IsOneWord source → copy_of (from ++ 32 ∷ (to ++ 32 ∷ source)) ≡ Some (request.Copy from to source)
 unfolding copy_of
 copy-back from to source h1 h2 h3 = rw (parted-cut from (to ++ 32 ∷ source) h1.no_space) (rw (two-back to source h2 h3) (rw (word-test from h1) refl))
 
-promotion-back : (from to : List ℕ) → IsOneWord from → IsOneWord to → promotion_of (from ++ 32 ∷ to) ≡ Some (promoting from to)
+promotion-back : (from to : List ℕ) → IsOneWord from → IsOneWord to → promotion_of (from ++ 32 ∷ to) ≡ Some (request.Promote from to tt)
 unfolding promotion_of
 promotion-back from to h1 h2 = rw (two-back from to h1 h2) refl
 
-removal-back : (suite name : List ℕ) → IsOneWord suite → IsOneWord name → removal_of (suite ++ 32 ∷ name) ≡ Some (removing suite name)
+removal-back : (suite name : List ℕ) → IsOneWord suite → IsOneWord name → removal_of (suite ++ 32 ∷ name) ≡ Some (request.Remove suite name)
 unfolding removal_of
 removal-back suite name h1 h2 = rw (two-back suite name h1 h2) refl
 
-printed_asks : (m : Meaning) → IsMeaning m → command_of (print_meaning m) ≡ Some m
+printed_asks : (m : RequestBytes) → IsAskable m → command_of (print_request m) ≡ Some m
 unfolding worded lone
-printed_asks (putting path) h = worded-back (codes "put") path refl ∙ put-back path h
-printed_asks running h = lone-back (codes "run") refl
-printed_asks (copying from to source) h = worded-back (codes "copy") (from ++ 32 ∷ (to ++ 32 ∷ source)) refl ∙ copy-back from to source h.0 h.1 h.2
-printed_asks (promoting from to) h = worded-back (codes "promote") (from ++ 32 ∷ to) refl ∙ promotion-back from to h.0 h.1
-printed_asks (removing suite name) h = worded-back (codes "remove") (suite ++ 32 ∷ name) refl ∙ removal-back suite name h.0 h.1
-printed_asks cleaning h = lone-back (codes "clean") refl
-printed_asks waiting_list h = lone-back (codes "waiting") refl
-printed_asks verdict_list h = lone-back (codes "verdicts") refl
+printed_asks (request.Put path) h = worded-back (codes "put") path refl ∙ put-back path h
+printed_asks request.Run h = lone-back (codes "run") refl
+printed_asks (request.Copy from to source) h = worded-back (codes "copy") (from ++ 32 ∷ (to ++ 32 ∷ source)) refl ∙ copy-back from to source h.0 h.1 h.2
+printed_asks (request.Promote from to sources) h = worded-back (codes "promote") (from ++ 32 ∷ to) refl ∙ promotion-back from to h.0 h.1
+printed_asks (request.Remove suite name) h = worded-back (codes "remove") (suite ++ 32 ∷ name) refl ∙ removal-back suite name h.0 h.1
+printed_asks request.Clean h = lone-back (codes "clean") refl
+printed_asks request.Waiting h = lone-back (codes "waiting") refl
+printed_asks request.Verdicts h = lone-back (codes "verdicts") refl
 
-pub read_back : (text : List ℕ) (m : Meaning) → IsMeaning m → text ≡ print_meaning m → command_of text ≡ Some m
+pub read_back : (text : List ℕ) (m : RequestBytes) → IsAskable m → text ≡ print_request m → command_of text ≡ Some m
 read_back text m h e = ap command_of e ∙ printed_asks m h
 
 -- ---- a line of a list
@@ -247,33 +248,33 @@ in_utf8 : (line : List ℕ) → IfSome (command_in line) (IsCommand line)
 unfolding command_in
 in_utf8 line =
     by_test _ (is_utf8 line) (command_of line) None
-    (λ e. IfSome_then (command_of line) (command_asks line) (λ m h. record { utf8 = IsUtf8-from_is_utf8 line e; is_meaning = h.0; printed = h.1 }))
+    (λ e. IfSome_then (command_of line) (command_asks line) (λ m h. record { utf8 = IsUtf8-from_is_utf8 line e; is_askable = h.0; printed = h.1 }))
     (λ e. tt)
 
 line_asks : (line : List ℕ) → IfSome (asked line) (IsCommand line)
 unfolding asked
 line_asks line = by_test _ (is_passed_over line) None (command_in line) (λ e. tt) (λ e. in_utf8 line)
 
-pub as_command : (line : List ℕ) (m : Meaning) → asked line ≡ Some m → IsCommand line m
+pub as_command : (line : List ℕ) (m : RequestBytes) → asked line ≡ Some m → IsCommand line m
 as_command line m h = at_some _ (asked line) m (line_asks line) h
 
-letters_first : (m : Meaning) → is_passed_over (print_meaning m) ≡ false
-letters_first (putting path) = refl
-letters_first running = refl
-letters_first (copying from to source) = refl
-letters_first (promoting from to) = refl
-letters_first (removing suite name) = refl
-letters_first cleaning = refl
-letters_first waiting_list = refl
-letters_first verdict_list = refl
+letters_first : (m : RequestBytes) → is_passed_over (print_request m) ≡ false
+letters_first (request.Put path) = refl
+letters_first request.Run = refl
+letters_first (request.Copy from to source) = refl
+letters_first (request.Promote from to sources) = refl
+letters_first (request.Remove suite name) = refl
+letters_first request.Clean = refl
+letters_first request.Waiting = refl
+letters_first request.Verdicts = refl
 
-not_passed_over : (line : List ℕ) (m : Meaning) → IsCommand line m → is_passed_over line ≡ false
+not_passed_over : (line : List ℕ) (m : RequestBytes) → IsCommand line m → is_passed_over line ≡ false
 not_passed_over line m h = ap is_passed_over h.printed ∙ letters_first m
 
-in_back : (line : List ℕ) (m : Meaning) → IsCommand line m → command_in line ≡ Some m
-in_back line m h = as_text line h.utf8 ∙ read_back line m h.is_meaning h.printed
+in_back : (line : List ℕ) (m : RequestBytes) → IsCommand line m → command_in line ≡ Some m
+in_back line m h = as_text line h.utf8 ∙ read_back line m h.is_askable h.printed
 
-pub command_back : (line : List ℕ) (m : Meaning) → IsCommand line m → asked line ≡ Some m
+pub command_back : (line : List ℕ) (m : RequestBytes) → IsCommand line m → asked line ≡ Some m
 unfolding asked
 command_back line m h = rw (not_passed_over line m h) (in_back line m h)
 
@@ -282,7 +283,7 @@ pub good_line : (line : List ℕ) → is_bad line ≡ false → IsGoodLine line
 unfolding is_bad
 good_line line h = by_kind (is_passed_over line) (command_in line) refl (in_utf8 line) h
   where
-    by_kind : (t : Bool) (r : Option Meaning) → is_passed_over line ≡ t → IfSome r (IsCommand line) → (not t && not (is_some r)) ≡ false → IsGoodLine line
+    by_kind : (t : Bool) (r : Option RequestBytes) → is_passed_over line ≡ t → IfSome r (IsCommand line) → (not t && not (is_some r)) ≡ false → IsGoodLine line
     by_kind true r e k n = inl (passes_over line e)
     by_kind false None e k n = absurd (cc)
     by_kind false (Some m) e k n = inr (m, k)

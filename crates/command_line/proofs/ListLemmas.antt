@@ -9,7 +9,7 @@ use Rattle.std.proofs.lemmas.List.Elements.{filter_map-append}
 use Rattle.std.proofs.lemmas.List.Folds.{list_any_at}
 use Rattle.std.proofs.lemmas.List.Sums.{passes_at_first}
 use Rattle.std.proofs.lemmas.Str.{IsUtf8-from_is_utf8, is_utf8-from_IsUtf8}
-use Rattle.command_line.specs.Lists.{Meaning, asked, asked_by_lines, command_in, command_of, is_space, parted}
+use Rattle.command_line.specs.Lists.{RequestBytes, asked, asked_by_lines, command_in, command_of, is_space, parted}
 
 -- ---- parting
 
@@ -62,7 +62,7 @@ one_more ls i d h =
     ∙ ap asked_by_lines (map-append (λ (w : Bor (List ℕ)). w.now) (take i ls) (get_or ls i d ∷ []))
     ∙ filter_map-append asked (texts (take i ls)) ((get_or ls i d).now ∷ [])
 
-pub single_some : (line : List ℕ) (one : Meaning) → Some one ≡ asked line → asked_by_lines (line ∷ []) ≡ one ∷ []
+pub single_some : (line : List ℕ) (one : RequestBytes) → Some one ≡ asked line → asked_by_lines (line ∷ []) ≡ one ∷ []
 single_some line one e = ap (λ o. cons_option o []) (sym e)
 
 pub single_none : (line : List ℕ) → None ≡ asked line → asked_by_lines (line ∷ []) ≡ []

@@ -9,7 +9,9 @@ use Rattle.std.specs.Borrow.{Bor}
 use Rattle.clap.specs.Words.{Row, Text, all_of, first_of}
 use Rattle.keep.specs.Book.{latest}
 use Rattle.command_line.specs.declared.parsed.CommandLine.{CommandLine}
-use Rattle.command_line.specs.declared.parsed.CommandLine.TheVariants.{Try, Compare, Init, Put, Run, Copy, Promote, Remove, Clean, Batch, Configure, Migrate, Show, Waiting, Verdicts, Configuration, Serve}
+use Rattle.command_line.specs.declared.parsed.CommandLine.TheVariants.{Try, Compare, Init, Ask, Batch, Configure, Migrate, Show, Configuration, Serve}
+use Rattle.command_line.specs.declared.request.Request.{Request}
+use Rattle.command_line.specs.declared.request.Request.TheVariants as request
 
 -- the most connections that one call of the program serves
 abbrev pub most_connections : ℕ
@@ -51,6 +53,23 @@ pub record IsNumber (id : Text) (rows : List Row) (least most n : ℕ) : Type 0 
 abbrev pub IsMoment : List Row → ℕ → Type 0
 IsMoment rows at = IsNumber (codes "at") rows 0 latest at
 
+-- the command and each value of a request are those that were found
+abbrev pub IsRequested : Option (Text × List Row) → Bor (List ℕ) → ℕ → Request (Bor (List ℕ)) (Vec (Bor (List ℕ)) Global) (Option (Vec (Bor (List ℕ)) Global)) → Type 0
+IsRequested found db at (request.Put paths) = IsNamed found (codes "put") (λ rows.
+    IsWord (codes "db") rows db × IsMoment rows at × HasPaths rows paths)
+IsRequested found db at request.Run = IsNamed found (codes "run") (λ rows. IsWord (codes "db") rows db × IsMoment rows at)
+IsRequested found db at (request.Copy from to source) = IsNamed found (codes "copy") (λ rows.
+    IsWord (codes "db") rows db × IsMoment rows at × IsWord (codes "FROM") rows from × IsWord (codes "TO") rows to
+    × IsWord (codes "SOURCE") rows source)
+IsRequested found db at (request.Promote from to sources) = IsNamed found (codes "promote") (λ rows.
+    IsWord (codes "db") rows db × IsMoment rows at × IsWord (codes "FROM") rows from × IsWord (codes "TO") rows to
+    × AreWords (codes "SOURCE") rows sources)
+IsRequested found db at (request.Remove suite name) = IsNamed found (codes "remove") (λ rows.
+    IsWord (codes "db") rows db × IsMoment rows at × IsWord (codes "SUITE") rows suite × IsWord (codes "PACKAGE") rows name)
+IsRequested found db at request.Clean = IsNamed found (codes "clean") (λ rows. IsWord (codes "db") rows db × IsMoment rows at)
+IsRequested found db at request.Waiting = IsNamed found (codes "waiting") (λ rows. IsWord (codes "db") rows db × IsMoment rows at)
+IsRequested found db at request.Verdicts = IsNamed found (codes "verdicts") (λ rows. IsWord (codes "db") rows db × (at ≡ 0))
+
 -- the command and each value are those that were found
 abbrev pub IsLine : Option (Text × List Row) → CommandLine → Type 0
 IsLine found (Try paths) = IsNamed found (codes "try") (λ rows. HasPaths rows paths)
@@ -58,18 +77,7 @@ IsLine found (Compare left right) = IsNamed found (codes "compare") (λ rows.
     IsWord (codes "A") rows left × IsWord (codes "B") rows right)
 IsLine found (Init db at conf) = IsNamed found (codes "init") (λ rows.
     IsWord (codes "db") rows db × IsMoment rows at × IsWord (codes "CONF") rows conf)
-IsLine found (Put db at paths) = IsNamed found (codes "put") (λ rows.
-    IsWord (codes "db") rows db × IsMoment rows at × HasPaths rows paths)
-IsLine found (Run db at) = IsNamed found (codes "run") (λ rows. IsWord (codes "db") rows db × IsMoment rows at)
-IsLine found (Copy db at from to source) = IsNamed found (codes "copy") (λ rows.
-    IsWord (codes "db") rows db × IsMoment rows at × IsWord (codes "FROM") rows from × IsWord (codes "TO") rows to
-    × IsWord (codes "SOURCE") rows source)
-IsLine found (Promote db at from to sources) = IsNamed found (codes "promote") (λ rows.
-    IsWord (codes "db") rows db × IsMoment rows at × IsWord (codes "FROM") rows from × IsWord (codes "TO") rows to
-    × AreWords (codes "SOURCE") rows sources)
-IsLine found (Remove db at suite name) = IsNamed found (codes "remove") (λ rows.
-    IsWord (codes "db") rows db × IsMoment rows at × IsWord (codes "SUITE") rows suite × IsWord (codes "PACKAGE") rows name)
-IsLine found (Clean db at) = IsNamed found (codes "clean") (λ rows. IsWord (codes "db") rows db × IsMoment rows at)
+IsLine found (Ask db at asked) = IsRequested found db at asked
 IsLine found (Batch db at list) = IsNamed found (codes "batch") (λ rows.
     IsWord (codes "db") rows db × IsMoment rows at × IsWord (codes "LIST") rows list)
 IsLine found (Configure db at conf) = IsNamed found (codes "configure") (λ rows.
@@ -78,10 +86,8 @@ IsLine found (Migrate from db at conf) = IsNamed found (codes "migrate") (λ row
     IsWord (codes "from") rows from × IsWord (codes "db") rows db × IsMoment rows at × IsWord (codes "CONF") rows conf)
 IsLine found (Show db path) = IsNamed found (codes "show") (λ rows.
     IsWord (codes "db") rows db × IsWord (codes "PATH") rows path)
-IsLine found (Waiting db at) = IsNamed found (codes "waiting") (λ rows. IsWord (codes "db") rows db × IsMoment rows at)
-IsLine found (Verdicts db) = IsNamed found (codes "verdicts") (λ rows. IsWord (codes "db") rows db)
 IsLine found (Configuration db) = IsNamed found (codes "configuration") (λ rows. IsWord (codes "db") rows db)
-IsLine found (Serve db at moments log address count) = IsNamed found (codes "serve") (λ rows.
-    IsWord (codes "db") rows db × IsMoment rows at × IsOptionalWord (codes "moments") rows moments
-    × (log ≡ is_true (codes "log") rows) × IsWord (codes "ADDRESS") rows address
-    × IsNumber (codes "COUNT") rows 1 most_connections count)
+IsLine found (Serve db serving) = IsNamed found (codes "serve") (λ rows.
+    IsWord (codes "db") rows db × IsMoment rows serving.at × IsOptionalWord (codes "moments") rows serving.moments
+    × (serving.log ≡ is_true (codes "log") rows) × IsWord (codes "ADDRESS") rows serving.address
+    × IsNumber (codes "COUNT") rows 1 most_connections serving.count)

@@ -3,32 +3,26 @@ use Rattle.std.specs.Prelude.{ℕ, ◌+◌, ◌==◌, ◌&&◌, Bool, true, not,
 use Rattle.std.specs.Option.{option_and_then}
 use Rattle.std.specs.List.{list_any, slice_split, before_first, after_first, filter_map}
 use Rattle.std.specs.Str.{bytes_eq, is_utf8}
-use Rattle.command_line.specs.declared.list.Entry.{Entry}
-use Rattle.command_line.specs.declared.list.Entry.TheVariants as entry
+use Rattle.std.specs.Borrow.{Bor}
 use Rattle.command_line.specs.declared.list.BatchFault.{BatchFault}
 use Rattle.command_line.specs.declared.list.BatchFault.TheVariants.{Line}
+use Rattle.command_line.specs.declared.request.Request.{Request}
+use Rattle.command_line.specs.declared.request.Request.TheVariants as request
 
--- what a line asks for
-pub data Meaning : Type 0 where
-  putting : (path : List ℕ) → Meaning
-  running : Meaning
-  copying : (from to source : List ℕ) → Meaning
-  promoting : (from to : List ℕ) → Meaning
-  removing : (suite name : List ℕ) → Meaning
-  cleaning : Meaning
-  waiting_list : Meaning
-  verdict_list : Meaning
+-- what a line asks for, without where its words lie in memory
+abbrev pub RequestBytes : Type 0
+RequestBytes = Request (List ℕ) (List ℕ) (Unit {0})
 
--- the same of an entry, without where its words lie in memory
-abbrev pub asked_by : Entry → Meaning
-asked_by (entry.Put path) = putting path.now
-asked_by entry.Run = running
-asked_by (entry.Copy from to source) = copying from.now to.now source.now
-asked_by (entry.Promote from to) = promoting from.now to.now
-asked_by (entry.Remove suite name) = removing suite.now name.now
-asked_by entry.Clean = cleaning
-asked_by entry.Waiting = waiting_list
-asked_by entry.Verdicts = verdict_list
+-- the same of a request
+abbrev pub bytes_of : Request (Bor (List ℕ)) (Bor (List ℕ)) (Unit {0}) → RequestBytes
+bytes_of (request.Put path) = request.Put path.now
+bytes_of request.Run = request.Run
+bytes_of (request.Copy from to source) = request.Copy from.now to.now source.now
+bytes_of (request.Promote from to sources) = request.Promote from.now to.now tt
+bytes_of (request.Remove suite name) = request.Remove suite.now name.now
+bytes_of request.Clean = request.Clean
+bytes_of request.Waiting = request.Waiting
+bytes_of request.Verdicts = request.Verdicts
 
 -- ---- a line
 
@@ -48,25 +42,25 @@ unfoldable pub two_words : List ℕ → Option (List ℕ × List ℕ)
 two_words text = option_and_then (λ parts. if is_word parts.0 && is_word parts.1 then Some parts else None) (parted text)
 
 -- PATH, which may hold spaces
-unfoldable pub put_of : List ℕ → Option Meaning
-put_of path = if length path == 0 then None else Some (putting path)
+unfoldable pub put_of : List ℕ → Option RequestBytes
+put_of path = if length path == 0 then None else Some (request.Put path)
 
 -- FROM TO SOURCE
-unfoldable pub copy_of : List ℕ → Option Meaning
+unfoldable pub copy_of : List ℕ → Option RequestBytes
 copy_of text =
-    option_and_then (λ parts. option_and_then (λ more. if is_word parts.0 then Some (copying parts.0 more.0 more.1) else None) (two_words parts.1))
+    option_and_then (λ parts. option_and_then (λ more. if is_word parts.0 then Some (request.Copy parts.0 more.0 more.1) else None) (two_words parts.1))
     (parted text)
 
 -- FROM TO
-unfoldable pub promotion_of : List ℕ → Option Meaning
-promotion_of text = option_and_then (λ words. Some (promoting words.0 words.1)) (two_words text)
+unfoldable pub promotion_of : List ℕ → Option RequestBytes
+promotion_of text = option_and_then (λ words. Some (request.Promote words.0 words.1 tt)) (two_words text)
 
 -- SUITE PACKAGE
-unfoldable pub removal_of : List ℕ → Option Meaning
-removal_of text = option_and_then (λ words. Some (removing words.0 words.1)) (two_words text)
+unfoldable pub removal_of : List ℕ → Option RequestBytes
+removal_of text = option_and_then (λ words. Some (request.Remove words.0 words.1)) (two_words text)
 
 -- a command with what stands behind its space
-unfoldable pub worded : List ℕ → List ℕ → Option Meaning
+unfoldable pub worded : List ℕ → List ℕ → Option RequestBytes
 worded command rest =
     if bytes_eq command (codes "put") then put_of rest
     else (if bytes_eq command (codes "copy") then copy_of rest
@@ -74,23 +68,23 @@ worded command rest =
     else (if bytes_eq command (codes "remove") then removal_of rest else None)))
 
 -- a command that is one word
-unfoldable pub lone : List ℕ → Option Meaning
+unfoldable pub lone : List ℕ → Option RequestBytes
 lone line =
-    if bytes_eq line (codes "run") then Some running
-    else (if bytes_eq line (codes "clean") then Some cleaning
-    else (if bytes_eq line (codes "waiting") then Some waiting_list
-    else (if bytes_eq line (codes "verdicts") then Some verdict_list else None)))
+    if bytes_eq line (codes "run") then Some request.Run
+    else (if bytes_eq line (codes "clean") then Some request.Clean
+    else (if bytes_eq line (codes "waiting") then Some request.Waiting
+    else (if bytes_eq line (codes "verdicts") then Some request.Verdicts else None)))
 
-abbrev pub command_by : Option (List ℕ × List ℕ) → List ℕ → Option Meaning
+abbrev pub command_by : Option (List ℕ × List ℕ) → List ℕ → Option RequestBytes
 command_by None line = lone line
 command_by (Some parts) line = worded parts.0 parts.1
 
 -- the command that a text is, if it is one
-unfoldable pub command_of : List ℕ → Option Meaning
+unfoldable pub command_of : List ℕ → Option RequestBytes
 command_of text = command_by (parted text) text
 
 -- the command that bytes are, which are a text then
-unfoldable pub command_in : List ℕ → Option Meaning
+unfoldable pub command_in : List ℕ → Option RequestBytes
 command_in line = if is_utf8 line then command_of line else None
 
 -- ---- the lines of a list
@@ -101,7 +95,7 @@ is_passed_over [] = true
 is_passed_over (b ∷ bs) = b == 35
 
 -- what a line of a list asks for, if it is not passed over
-unfoldable pub asked : List ℕ → Option Meaning
+unfoldable pub asked : List ℕ → Option RequestBytes
 asked line = if is_passed_over line then None else command_in line
 
 -- a line that is neither passed over nor a command
@@ -121,7 +115,7 @@ fault_behind count [] = None
 fault_behind count (line ∷ more) = if is_bad line then Some (Line (count + 1)) else fault_behind (count + 1) more
 
 -- what lines ask for, in their order
-abbrev pub asked_by_lines : List (List ℕ) → List Meaning
+abbrev pub asked_by_lines : List (List ℕ) → List RequestBytes
 asked_by_lines ls = filter_map asked ls
 
 -- why a list is refused: its first bad line
@@ -129,5 +123,5 @@ abbrev pub list_fault : List ℕ → Option BatchFault
 list_fault list = fault_behind 0 (lines_in list)
 
 -- what a list asks for
-abbrev pub asked_by_list : List ℕ → List Meaning
+abbrev pub asked_by_list : List ℕ → List RequestBytes
 asked_by_list list = asked_by_lines (lines_in list)

@@ -7,13 +7,15 @@ mod laws;
 mod list;
 mod parsed;
 mod readings;
+mod request;
 mod values;
 mod version;
 mod words;
 
 pub use arguments::MOST_CONNECTIONS;
 pub use laws::{lines_of_commands, lists_of_commands};
-pub use list::{BatchFault, Entry, read_list};
-pub use parsed::{CommandLine, LineFault};
+pub use list::{BatchFault, read_list};
+pub use parsed::{CommandLine, LineFault, Serving};
+pub use request::{LineRequest, ListRequest, Request};
 pub use version::VERSION;
 pub use words::line;

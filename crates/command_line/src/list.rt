@@ -3,44 +3,12 @@
 ghost use Rattle.std.specs.Prelude.{◌≡◌, ◌⊎◌, Some, None, map, is_some, IfOk, IfErr};
 ghost use Rattle.std.specs.Option.{option_map};
 ghost use Rattle.std.specs.List.{list_any};
-ghost use Rattle.command_line.specs.Lists.{asked, asked_by, asked_by_lines, asked_by_list, command_in, command_of, copy_of, fault_behind, is_bad, is_passed_over, is_space, is_word, lines_in, list_fault, lone, parted, promotion_of, put_of, removal_of, two_words, worded};
+ghost use Rattle.command_line.specs.Lists.{asked, asked_by_lines, asked_by_list, bytes_of, command_in, command_of, copy_of, fault_behind, is_bad, is_passed_over, is_space, is_word, lines_in, list_fault, lone, parted, promotion_of, put_of, removal_of, two_words, worded};
 ghost use Rattle.command_line.specs.declared.list.BatchFault.TheVariants.{OutOfMemory};
 
+use crate::request::{ListRequest, Request};
 use std::alloc::{AllocError, Global};
 use std::str;
-
-/// A command of a list.
-#[derive(Clone, Copy, Debug)]
-pub enum Entry<'a> {
-    /// Delivers the file at a path.
-    Put {
-        path: &'a str,
-    },
-    /// Runs the queue.
-    Run,
-    /// Copies a source's packages from a suite to another.
-    Copy {
-        from: &'a str,
-        to: &'a str,
-        source: &'a str,
-    },
-    /// Copies all packages that a suite shows to another.
-    Promote {
-        from: &'a str,
-        to: &'a str,
-    },
-    /// Removes all items of a package's name from a suite.
-    Remove {
-        suite: &'a str,
-        name: &'a str,
-    },
-    /// Takes away the arrivals that do not count any more.
-    Clean,
-    /// Lists the uploads that have no verdict.
-    Waiting,
-    /// Lists the verdicts of all runs.
-    Verdicts,
-}
 
 /// Why a list is not read.
 #[derive(Clone, Copy, Debug, PartialEq, Eq)]
@@ -97,25 +65,25 @@ fn two_words(text: &str) -> Option<(&str, &str)>
 
 /// `PATH`, which may hold spaces.
 #[tactic(auto, unfolding(crate::specs::Lists::put_of))]
-fn put_of(path: &str) -> Option<Entry<'_>>
-    ensures { option_map asked_by result ≡ put_of path.now }
+fn put_of(path: &str) -> Option<ListRequest<'_>>
+    ensures { option_map bytes_of result ≡ put_of path.now }
 {
     if path.is_empty() {
         None
     } else {
-        Some(Entry::Put { path })
+        Some(Request::Put { path })
     }
 }
 
 /// `FROM TO SOURCE`.
 #[tactic(auto, unfolding(crate::specs::Lists::copy_of))]
-fn copy_of(text: &str) -> Option<Entry<'_>>
-    ensures { option_map asked_by result ≡ copy_of text.now }
+fn copy_of(text: &str) -> Option<ListRequest<'_>>
+    ensures { option_map bytes_of result ≡ copy_of text.now }
 {
     let (from, rest) = parted(text)?;
     let (to, source) = two_words(rest)?;
     if is_word(from) {
-        Some(Entry::Copy { from, to, source })
+        Some(Request::Copy { from, to, source })
     } else {
         None
     }
@@ -123,26 +91,30 @@ fn copy_of(text: &str) -> Option<Entry<'_>>
 
 /// `FROM TO`.
 #[tactic(auto, unfolding(crate::specs::Lists::promotion_of))]
-fn promotion_of(text: &str) -> Option<Entry<'_>>
-    ensures { option_map asked_by result ≡ promotion_of text.now }
+fn promotion_of(text: &str) -> Option<ListRequest<'_>>
+    ensures { option_map bytes_of result ≡ promotion_of text.now }
 {
     let (from, to) = two_words(text)?;
-    Some(Entry::Promote { from, to })
+    Some(Request::Promote {
+        from,
+        to,
+        sources: (),
+    })
 }
 
 /// `SUITE PACKAGE`.
 #[tactic(auto, unfolding(crate::specs::Lists::removal_of))]
-fn removal_of(text: &str) -> Option<Entry<'_>>
-    ensures { option_map asked_by result ≡ removal_of text.now }
+fn removal_of(text: &str) -> Option<ListRequest<'_>>
+    ensures { option_map bytes_of result ≡ removal_of text.now }
 {
     let (suite, name) = two_words(text)?;
-    Some(Entry::Remove { suite, name })
+    Some(Request::Remove { suite, name })
 }
 
 /// A command with what stands behind its space.
 #[tactic(auto, unfolding(crate::specs::Lists::worded))]
-fn worded<'a>(command: &str, rest: &'a str) -> Option<Entry<'a>>
-    ensures { option_map asked_by result ≡ worded command.now rest.now }
+fn worded<'a>(command: &str, rest: &'a str) -> Option<ListRequest<'a>>
+    ensures { option_map bytes_of result ≡ worded command.now rest.now }
 {
     if command == "put" {
         put_of(rest)
@@ -159,17 +131,17 @@ fn worded<'a>(command: &str, rest: &'a str) -> Option<Entry<'a>>
 
 /// A command that is one word.
 #[tactic(auto, unfolding(crate::specs::Lists::lone))]
-fn lone(line: &str) -> Option<Entry<'_>>
-    ensures { option_map asked_by result ≡ lone line.now }
+fn lone(line: &str) -> Option<ListRequest<'_>>
+    ensures { option_map bytes_of result ≡ lone line.now }
 {
     if line == "run" {
-        Some(Entry::Run)
+        Some(Request::Run)
     } else if line == "clean" {
-        Some(Entry::Clean)
+        Some(Request::Clean)
     } else if line == "waiting" {
-        Some(Entry::Waiting)
+        Some(Request::Waiting)
     } else if line == "verdicts" {
-        Some(Entry::Verdicts)
+        Some(Request::Verdicts)
     } else {
         None
     }
@@ -177,8 +149,8 @@ fn lone(line: &str) -> Option<Entry<'_>>
 
 /// The command that a text is, if it is one.
 #[tactic(auto, unfolding(crate::specs::Lists::command_of))]
-fn command_of(text: &str) -> Option<Entry<'_>>
-    ensures { option_map asked_by result ≡ command_of text.now }
+fn command_of(text: &str) -> Option<ListRequest<'_>>
+    ensures { option_map bytes_of result ≡ command_of text.now }
 {
     match parted(text) {
         Some((command, rest)) => worded(command, rest),
@@ -187,8 +159,8 @@ fn command_of(text: &str) -> Option<Entry<'_>>
 }
 
 /// The command that bytes are, which are a text then.
-fn command_in(line: &[u8]) -> Option<Entry<'_>>
-    ensures { option_map asked_by result ≡ command_in line.now }
+fn command_in(line: &[u8]) -> Option<ListRequest<'_>>
+    ensures { option_map bytes_of result ≡ command_in line.now }
 {
     match str::from_utf8(line) {
         Ok(text) => command_of(text),
@@ -215,8 +187,8 @@ fn is_passed_over(line: &[u8]) -> bool
 
 /// What a line of a list asks for, if it is not passed over.
 #[tactic(auto, unfolding(crate::specs::Lists::asked))]
-fn asked(line: &[u8]) -> Option<Entry<'_>>
-    ensures { option_map asked_by result ≡ asked line.now }
+fn asked(line: &[u8]) -> Option<ListRequest<'_>>
+    ensures { option_map bytes_of result ≡ asked line.now }
 {
     if is_passed_over(line) {
         None
@@ -255,28 +227,28 @@ fn lines_fault(lines: &[&[u8]]) -> Option<BatchFault>
 }
 
 /// What these lines ask for.
-fn entries_of<'a>(alloc: Global, lines: &[&'a [u8]]) -> Result<Vec<Entry<'a>>, AllocError>
-    ensures { IfOk result (λ entries. map asked_by entries.items ≡ asked_by_lines (map (λ line. line.now) lines.now)) }
+fn requests_of<'a>(alloc: Global, lines: &[&'a [u8]]) -> Result<Vec<ListRequest<'a>>, AllocError>
+    ensures { IfOk result (λ requests. map bytes_of requests.items ≡ asked_by_lines (map (λ line. line.now) lines.now)) }
 {
-    let mut entries = Vec::new(alloc);
+    let mut requests = Vec::new(alloc);
     for line in lines {
-        if let Some(entry) = asked(line) {
-            entries.push(entry)?;
+        if let Some(request) = asked(line) {
+            requests.push(request)?;
         }
     }
-    Ok(entries)
+    Ok(requests)
 }
 
 /// What these lines ask for, where none of them is bad.
-fn read_lines<'a>(alloc: Global, lines: &[&'a [u8]]) -> Result<Vec<Entry<'a>>, BatchFault>
+fn read_lines<'a>(alloc: Global, lines: &[&'a [u8]]) -> Result<Vec<ListRequest<'a>>, BatchFault>
     ensures good { IfOk result (λ _. fault_behind 0 (map (λ line. line.now) lines.now) ≡ None) }
-    ensures read { IfOk result (λ entries. map asked_by entries.items ≡ asked_by_lines (map (λ line. line.now) lines.now)) }
+    ensures read { IfOk result (λ requests. map bytes_of requests.items ≡ asked_by_lines (map (λ line. line.now) lines.now)) }
     ensures refused { IfErr result (λ e. (e ≡ OutOfMemory) ⊎ (fault_behind 0 (map (λ line. line.now) lines.now) ≡ Some e)) }
 {
     if let Some(fault) = lines_fault(lines) {
         return Err(fault);
     }
-    Ok(entries_of(alloc, lines)?)
+    Ok(requests_of(alloc, lines)?)
 }
 
 /// Reads a list of commands, one a line, each as one of
@@ -295,11 +267,11 @@ fn read_lines<'a>(alloc: Global, lines: &[&'a [u8]]) -> Result<Vec<Entry<'a>>, B
 /// with one space between the words. PATH is all that stands behind `put` and its space, so that it may hold spaces; no
 /// other word may. A line that is empty or begins with `#` is passed over. A last line needs no newline. A list with any
 /// other line, or with a command that is not UTF-8, is refused with the number of the first of these lines, from 1.
-pub fn read_list<'a>(alloc: Global, list: &'a [u8]) -> Result<Vec<Entry<'a>>, BatchFault>
+pub fn read_list<'a>(alloc: Global, list: &'a [u8]) -> Result<Vec<ListRequest<'a>>, BatchFault>
     // A list that is read has no bad line.
     ensures good { IfOk result (λ _. list_fault list.now ≡ None) }
     // It gives what its lines ask for.
-    ensures read { IfOk result (λ entries. map asked_by entries.items ≡ asked_by_list list.now) }
+    ensures read { IfOk result (λ requests. map bytes_of requests.items ≡ asked_by_list list.now) }
     // A list is refused for its first bad line, or for want of memory.
     ensures refused { IfErr result (λ e. (e ≡ OutOfMemory) ⊎ (list_fault list.now ≡ Some e)) }
 {

@@ -1,9 +1,24 @@
 //! What a command line says.
 
+use crate::request::LineRequest;
 use clap::Error;
 use clap::error::ErrorKind;
 use std::alloc::AllocError;
 use std::fmt;
+
+/// How an archive is served.
+#[derive(Clone, Copy, Debug)]
+pub struct Serving<'a> {
+    /// The moment of the first connection, in seconds since 1970-01-01 00:00:00 UTC.
+    pub at: u64,
+    /// The file that the moments of later ones are read from: each has the greatest that it has held so far.
+    pub moments: Option<&'a str>,
+    /// Whether each connection has a line on standard error.
+    pub log: bool,
+    pub address: &'a str,
+    /// How many connections are answered, one after the other.
+    pub count: u64,
+}
 
 /// What a line asks for. Moments are in seconds since 1970-01-01 00:00:00 UTC.
 #[derive(Debug, Drop)]
@@ -23,44 +38,11 @@ pub enum CommandLine<'a> {
         at: u64,
         conf: &'a str,
     },
-    /// Delivers files to the archive of a database file.
-    Put {
+    /// Asks the archive of a database file at a moment. For `verdicts`, which takes none, it is 0.
+    Ask {
         db: &'a str,
         at: u64,
-        paths: Vec<&'a str>,
-    },
-    /// Runs the queue.
-    Run {
-        db: &'a str,
-        at: u64,
-    },
-    /// Copies a source's packages from a suite to another.
-    Copy {
-        db: &'a str,
-        at: u64,
-        from: &'a str,
-        to: &'a str,
-        source: &'a str,
-    },
-    /// Copies several sources from a suite to another in one change: those that are named, or else all that it shows.
-    Promote {
-        db: &'a str,
-        at: u64,
-        from: &'a str,
-        to: &'a str,
-        sources: Option<Vec<&'a str>>,
-    },
-    /// Removes all items of a package's name from a suite.
-    Remove {
-        db: &'a str,
-        at: u64,
-        suite: &'a str,
-        name: &'a str,
-    },
-    /// Takes away the arrivals that do not count any more.
-    Clean {
-        db: &'a str,
-        at: u64,
+        request: LineRequest<'a>,
     },
     /// Does the commands of a list, which is a file, or standard input where it is `-`.
     Batch {
@@ -87,28 +69,14 @@ pub enum CommandLine<'a> {
         db: &'a str,
         path: &'a str,
     },
-    /// Lists the uploads that have no verdict.
-    Waiting {
-        db: &'a str,
-        at: u64,
-    },
-    /// Lists the verdicts of all runs.
-    Verdicts {
-        db: &'a str,
-    },
     /// Prints the configuration.
     Configuration {
         db: &'a str,
     },
-    /// Serves so many connections, one after the other. With `moments`, each has the greatest moment that the file at that
-    /// path has held so far; with `log`, each has a line on standard error.
+    /// Serves the archive of a database file over HTTP.
     Serve {
         db: &'a str,
-        at: u64,
-        moments: Option<&'a str>,
-        log: bool,
-        address: &'a str,
-        count: u64,
+        serving: Serving<'a>,
     },
 }
 

@@ -5,7 +5,8 @@ ghost use Rattle.clap.specs.Words.{found_of, rows_of};
 ghost use Rattle.command_line.specs.CommandLines.{IsLine};
 
 use crate::arguments::MOST_CONNECTIONS;
-use crate::parsed::{CommandLine, LineFault};
+use crate::parsed::{CommandLine, LineFault, Serving};
+use crate::request::Request;
 use crate::values::{is_set, lacking, moment, number, optional, paths, required, sources};
 use clap::ArgMatches;
 use std::alloc::Global;
@@ -40,31 +41,36 @@ fn read_init<'a>(alloc: Global, found: &ArgMatches<'a>) -> Result<CommandLine<'a
 fn read_put<'a>(alloc: Global, found: &ArgMatches<'a>) -> Result<CommandLine<'a>, LineFault>
     ensures { IfOk result (IsLine (Some (codes "put", rows_of (found_of found.now)))) }
 {
-    Ok(CommandLine::Put {
+    Ok(CommandLine::Ask {
         db: required(alloc, found, "db")?,
         at: moment(alloc, found)?,
-        paths: paths(alloc, found)?,
+        request: Request::Put {
+            path: paths(alloc, found)?,
+        },
     })
 }
 
 fn read_run<'a>(alloc: Global, found: &ArgMatches<'a>) -> Result<CommandLine<'a>, LineFault>
     ensures { IfOk result (IsLine (Some (codes "run", rows_of (found_of found.now)))) }
 {
-    Ok(CommandLine::Run {
+    Ok(CommandLine::Ask {
         db: required(alloc, found, "db")?,
         at: moment(alloc, found)?,
+        request: Request::Run,
     })
 }
 
 fn read_copy<'a>(alloc: Global, found: &ArgMatches<'a>) -> Result<CommandLine<'a>, LineFault>
     ensures { IfOk result (IsLine (Some (codes "copy", rows_of (found_of found.now)))) }
 {
-    Ok(CommandLine::Copy {
+    Ok(CommandLine::Ask {
         db: required(alloc, found, "db")?,
         at: moment(alloc, found)?,
-        from: required(alloc, found, "FROM")?,
-        to: required(alloc, found, "TO")?,
-        source: required(alloc, found, "SOURCE")?,
+        request: Request::Copy {
+            from: required(alloc, found, "FROM")?,
+            to: required(alloc, found, "TO")?,
+            source: required(alloc, found, "SOURCE")?,
+        },
     })
 }
 
@@ -73,32 +79,37 @@ fn read_promote<'a>(alloc: Global, found: &ArgMatches<'a>) -> Result<CommandLine
 {
     let from = required(alloc, found, "FROM")?;
     let to = required(alloc, found, "TO")?;
-    Ok(CommandLine::Promote {
+    Ok(CommandLine::Ask {
         db: required(alloc, found, "db")?,
         at: moment(alloc, found)?,
-        from,
-        to,
-        sources: sources(alloc, found)?,
+        request: Request::Promote {
+            from,
+            to,
+            sources: sources(alloc, found)?,
+        },
     })
 }
 
 fn read_remove<'a>(alloc: Global, found: &ArgMatches<'a>) -> Result<CommandLine<'a>, LineFault>
     ensures { IfOk result (IsLine (Some (codes "remove", rows_of (found_of found.now)))) }
 {
-    Ok(CommandLine::Remove {
+    Ok(CommandLine::Ask {
         db: required(alloc, found, "db")?,
         at: moment(alloc, found)?,
-        suite: required(alloc, found, "SUITE")?,
-        name: required(alloc, found, "PACKAGE")?,
+        request: Request::Remove {
+            suite: required(alloc, found, "SUITE")?,
+            name: required(alloc, found, "PACKAGE")?,
+        },
     })
 }
 
 fn read_clean<'a>(alloc: Global, found: &ArgMatches<'a>) -> Result<CommandLine<'a>, LineFault>
     ensures { IfOk result (IsLine (Some (codes "clean", rows_of (found_of found.now)))) }
 {
-    Ok(CommandLine::Clean {
+    Ok(CommandLine::Ask {
         db: required(alloc, found, "db")?,
         at: moment(alloc, found)?,
+        request: Request::Clean,
     })
 }
 
@@ -145,17 +156,20 @@ fn read_show<'a>(alloc: Global, found: &ArgMatches<'a>) -> Result<CommandLine<'a
 fn read_waiting<'a>(alloc: Global, found: &ArgMatches<'a>) -> Result<CommandLine<'a>, LineFault>
     ensures { IfOk result (IsLine (Some (codes "waiting", rows_of (found_of found.now)))) }
 {
-    Ok(CommandLine::Waiting {
+    Ok(CommandLine::Ask {
         db: required(alloc, found, "db")?,
         at: moment(alloc, found)?,
+        request: Request::Waiting,
     })
 }
 
 fn read_verdicts<'a>(alloc: Global, found: &ArgMatches<'a>) -> Result<CommandLine<'a>, LineFault>
     ensures { IfOk result (IsLine (Some (codes "verdicts", rows_of (found_of found.now)))) }
 {
-    Ok(CommandLine::Verdicts {
+    Ok(CommandLine::Ask {
         db: required(alloc, found, "db")?,
+        at: 0,
+        request: Request::Verdicts,
     })
 }
 
@@ -175,11 +189,13 @@ fn read_serve<'a>(alloc: Global, found: &ArgMatches<'a>) -> Result<CommandLine<'
 {
     Ok(CommandLine::Serve {
         db: required(alloc, found, "db")?,
-        at: moment(alloc, found)?,
-        moments: optional(found, "moments"),
-        log: is_set(found, "log"),
-        address: required(alloc, found, "ADDRESS")?,
-        count: number(alloc, found, "COUNT", 1, MOST_CONNECTIONS)?,
+        serving: Serving {
+            at: moment(alloc, found)?,
+            moments: optional(found, "moments"),
+            log: is_set(found, "log"),
+            address: required(alloc, found, "ADDRESS")?,
+            count: number(alloc, found, "COUNT", 1, MOST_CONNECTIONS)?,
+        },
     })
 }
 

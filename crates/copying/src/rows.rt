@@ -4,7 +4,7 @@ ghost use Rattle.std.specs.Prelude.{OnOk};
 ghost use Rattle.tables_read.specs.All.{tables_with};
 ghost use Rattle.copying.specs.Copying.{AreRising, Copies};
 ghost use Rattle.copying.specs.Placed.{Writes, each, with_body_at, with_upload_at, with_item_at, with_piece_of, with_arrival_at, with_want_of, with_ref_of, with_file_of, with_arrived, with_uploaded, with_shown};
-ghost use Rattle.tables.specs.Calls.{CommitsNothing, Inside, IsSame, KeepsCommitted, Writes};
+ghost use Rattle.tables.specs.Calls.{CommitsNothing, Inside, IsSame, KeepsCommitted};
 
 use crate::bodies::insert_body;
 use crate::items::insert_item;

@@ -4,7 +4,7 @@ pub mod Files
 pub mod Unjudged
 pub mod Prints
 pub mod Arrivals
-pub mod Uploads
+pub mod UploadLemmas
 pub mod Amending
 pub mod Kept
 pub mod Signs

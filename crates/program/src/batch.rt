@@ -13,12 +13,12 @@
 
 ghost use Rattle.std.specs.Prelude.{◌≡◌, ◌+◌, nat_le};
 
-use crate::answers::{print_arrived, print_report};
-use crate::database::{InFile, close, is_of_database, open_archive};
-use crate::doing::{body_of, file_name, read_of};
+use crate::database::{InFile, Opening, close, is_of_database, open_archive};
 use crate::fault::Stop;
+use crate::files::{body_of, file_name, read_of};
+use crate::print::{print_arrived, print_report};
 use crate::shown::Shown;
-use command_line::{Entry, read_list};
+use command_line::{ListRequest, Request, read_list};
 use keep::Keeper;
 use queue::{Archive, Command, Fault, Outcome, Promotion, Report};
 use std::alloc::{AllocError, Global};
@@ -29,17 +29,10 @@ use std::rt::Files;
 /// The most bytes that the bodies of a group have.
 const MOST_BYTES: u64 = 16_777_216;
 
-/// The database whose archive is open, and the moment of all commands, in seconds since 1970-01-01 00:00:00 UTC.
-#[derive(Clone, Copy)]
-struct Opening<'o> {
-    db: &'o str,
-    at: u64,
-}
-
 /// Deliveries that are made by one call, or one other command, and their lines of the list.
 #[derive(Drop)]
 struct Group<'l> {
-    entries: Vec<Entry<'l>>,
+    requests: Vec<ListRequest<'l>>,
     commands: Vec<Command>,
     /// How many bytes the bodies have.
     bytes: u64,
@@ -61,31 +54,31 @@ fn size_of(command: &Command) -> u64 {
 }
 
 /// Whether a line delivers a file.
-fn is_delivery(entry: &Entry<'_>) -> bool {
-    matches!(entry, Entry::Put { .. })
+fn is_delivery(request: &ListRequest<'_>) -> bool {
+    matches!(request, Request::Put { .. })
 }
 
 impl<'l> Group<'l> {
     /// A group without commands.
     fn new(alloc: Global) -> Group<'l> {
         Group {
-            entries: Vec::new(alloc),
+            requests: Vec::new(alloc),
             commands: Vec::new(alloc),
             bytes: 0,
         }
     }
 
     /// Adds a command, and its line of the list.
-    fn push(&mut self, entry: Entry<'l>, command: Command) -> Result<(), AllocError> {
+    fn push(&mut self, request: ListRequest<'l>, command: Command) -> Result<(), AllocError> {
         self.bytes = self.bytes.saturating_add(size_of(&command));
-        self.entries.push(entry)?;
+        self.requests.push(request)?;
         self.commands.push(command)?;
         Ok(())
     }
 
     /// Takes all commands away.
     fn clear(&mut self) {
-        self.entries.clear();
+        self.requests.clear();
         self.commands.clear();
         self.bytes = 0;
     }
@@ -176,27 +169,27 @@ fn removing(alloc: Global, at: u64, suite: &str, name: &str) -> Result<Command, 
 fn command_of<'a, R: Files + AllocGlobal, E: Write>(
     rt: &R,
     opening: Opening<'_>,
-    entry: &Entry<'_>,
+    request: &ListRequest<'_>,
     err: &mut E,
 ) -> Result<Option<Command>, Stop<'a>> {
     let (alloc, at) = (rt.alloc(), opening.at);
-    let command = match entry {
-        Entry::Put { path } => return delivery(rt, opening, path, err),
-        Entry::Run => Command::Run { moment: at },
-        Entry::Copy { from, to, source } => copying(alloc, at, from, to, source)?,
-        Entry::Promote { from, to } => promoting(alloc, at, from, to)?,
-        Entry::Remove { suite, name } => removing(alloc, at, suite, name)?,
-        Entry::Clean => Command::Clean { moment: at },
-        Entry::Waiting => Command::Waiting { moment: at },
-        Entry::Verdicts => Command::Verdicts,
+    let command = match request {
+        Request::Put { path } => return delivery(rt, opening, path, err),
+        Request::Run => Command::Run { moment: at },
+        Request::Copy { from, to, source } => copying(alloc, at, from, to, source)?,
+        Request::Promote { from, to, .. } => promoting(alloc, at, from, to)?,
+        Request::Remove { suite, name } => removing(alloc, at, suite, name)?,
+        Request::Clean => Command::Clean { moment: at },
+        Request::Waiting => Command::Waiting { moment: at },
+        Request::Verdicts => Command::Verdicts,
     };
     Ok(Some(command))
 }
 
 /// The name that a line delivers its file under.
-fn name_of<'l>(entry: &Entry<'l>) -> &'l str {
-    match entry {
-        Entry::Put { path } => file_name(path),
+fn name_of<'l>(request: &ListRequest<'l>) -> &'l str {
+    match request {
+        Request::Put { path } => file_name(path),
         _ => "",
     }
 }
@@ -205,22 +198,22 @@ fn name_of<'l>(entry: &Entry<'l>) -> &'l str {
 /// and a fault of the keeper end the program instead.
 fn print_refused<'a, W: Write>(
     fault: Fault,
-    entry: &Entry<'_>,
+    request: &ListRequest<'_>,
     out: &mut W,
 ) -> Result<bool, Stop<'a>> {
     if matches!(fault, Fault::OutOfMemory | Fault::Keeper(_)) {
         return Err(Stop::Refused(fault));
     }
-    match entry {
-        Entry::Copy { from, to, source } => {
+    match request {
+        Request::Copy { from, to, source } => {
             let (from, to, source) = (Shown(from), Shown(to), Shown(source));
             writeln!(out, "refused {fault} {from} {to} {source}")?;
         }
-        Entry::Promote { from, to } => {
+        Request::Promote { from, to, .. } => {
             let (from, to) = (Shown(from), Shown(to));
             writeln!(out, "refused {fault} {from} {to}")?;
         }
-        Entry::Remove { suite, name } => {
+        Request::Remove { suite, name } => {
             let (suite, name) = (Shown(suite), Shown(name));
             writeln!(out, "refused {fault} {suite} {name}")?;
         }
@@ -232,7 +225,7 @@ fn print_refused<'a, W: Write>(
 /// Prints the lines that a command answers, and says whether it was done.
 fn print_lines<'a, W: Write>(
     done: &Result<Report, Fault>,
-    entry: &Entry<'_>,
+    request: &ListRequest<'_>,
     out: &mut W,
 ) -> Result<bool, Stop<'a>> {
     match done {
@@ -240,14 +233,14 @@ fn print_lines<'a, W: Write>(
             print_report(report, out)?;
             Ok(true)
         }
-        Err(fault) => print_refused(*fault, entry, out),
+        Err(fault) => print_refused(*fault, request, out),
     }
 }
 
 /// Prints `COUNT SOURCE` for each source of a promotion, and says whether it was done.
 fn print_promotion<'a, W: Write>(
     done: &Result<Promotion, Fault>,
-    entry: &Entry<'_>,
+    request: &ListRequest<'_>,
     out: &mut W,
 ) -> Result<bool, Stop<'a>> {
     match done {
@@ -255,24 +248,24 @@ fn print_promotion<'a, W: Write>(
             print_report(&promotion.report, out)?;
             Ok(true)
         }
-        Err(fault) => print_refused(*fault, entry, out),
+        Err(fault) => print_refused(*fault, request, out),
     }
 }
 
 /// Prints `copied COUNT SOURCE`, `removed COUNT PACKAGE` or `cleaned COUNT`, and says whether the command was done.
 fn print_count<'a, W: Write>(
     done: &Result<u64, Fault>,
-    entry: &Entry<'_>,
+    request: &ListRequest<'_>,
     out: &mut W,
 ) -> Result<bool, Stop<'a>> {
     match done {
         Ok(count) => {
-            match entry {
-                Entry::Copy { source, .. } => {
+            match request {
+                Request::Copy { source, .. } => {
                     let source = Shown(source);
                     writeln!(out, "copied {count} {source}")?;
                 }
-                Entry::Remove { name, .. } => {
+                Request::Remove { name, .. } => {
                     let name = Shown(name);
                     writeln!(out, "removed {count} {name}")?;
                 }
@@ -280,25 +273,25 @@ fn print_count<'a, W: Write>(
             }
             Ok(true)
         }
-        Err(fault) => print_refused(*fault, entry, out),
+        Err(fault) => print_refused(*fault, request, out),
     }
 }
 
 /// Prints what the command of a line answered, and says whether it was done.
 fn print_outcome<'a, W: Write>(
     outcome: &Outcome,
-    entry: &Entry<'_>,
+    request: &ListRequest<'_>,
     out: &mut W,
 ) -> Result<bool, Stop<'a>> {
     match outcome {
-        Outcome::Deliver(done) => print_arrived(*done, name_of(entry), out),
+        Outcome::Deliver(done) => print_arrived(*done, name_of(request), out),
         Outcome::Run(done) | Outcome::Waiting(done) | Outcome::Verdicts(done) => {
-            print_lines(done, entry, out)
+            print_lines(done, request, out)
         }
         Outcome::Copy(done) | Outcome::Remove(done) | Outcome::Clean(done) => {
-            print_count(done, entry, out)
+            print_count(done, request, out)
         }
-        Outcome::Promote(done) => print_promotion(done, entry, out),
+        Outcome::Promote(done) => print_promotion(done, request, out),
         // No line asks for a file.
         Outcome::Fetch(_) => Ok(true),
     }
@@ -307,12 +300,12 @@ fn print_outcome<'a, W: Write>(
 /// Prints what each command answered, up to one that ends the program, and says whether all were done.
 fn print_outcomes<'a, W: Write>(
     outcomes: &[Outcome],
-    entries: &[Entry<'_>],
+    requests: &[ListRequest<'_>],
     out: &mut W,
 ) -> Result<bool, Stop<'a>> {
     let mut all = true;
-    for (outcome, entry) in outcomes.iter().zip(entries) {
-        if !print_outcome(outcome, entry, out)? {
+    for (outcome, request) in outcomes.iter().zip(requests) {
+        if !print_outcome(outcome, request, out)? {
             all = false;
         }
     }
@@ -328,7 +321,7 @@ fn make_group<'a, K: Keeper, W: Write>(
     out: &mut W,
 ) -> Result<bool, Stop<'a>> {
     let outcomes = archive.drive(alloc, &group.commands)?;
-    let printed = print_outcomes(&outcomes, &group.entries, out);
+    let printed = print_outcomes(&outcomes, &group.requests, out);
     group.clear();
     out.flush()?;
     printed
@@ -341,20 +334,20 @@ fn take_line<'a, 'l, R: Files + AllocGlobal, K: Keeper, W: Write, E: Write>(
     rt: &R,
     archive: &mut Archive<K>,
     opening: Opening<'_>,
-    entry: &Entry<'l>,
+    request: &ListRequest<'l>,
     group: &mut Group<'l>,
     out: &mut W,
     err: &mut E,
 ) -> Result<bool, Stop<'a>> {
-    let Some(command) = command_of(rt, opening, entry, err)? else {
+    let Some(command) = command_of(rt, opening, request, err)? else {
         return Ok(false);
     };
     let mut all = true;
-    if !is_delivery(entry) || !has_room(group.bytes, size_of(&command)) {
+    if !is_delivery(request) || !has_room(group.bytes, size_of(&command)) {
         all = make_group(rt.alloc(), archive, group, out)?;
     }
-    group.push(*entry, command)?;
-    if !is_delivery(entry) {
+    group.push(*request, command)?;
+    if !is_delivery(request) {
         let done = make_group(rt.alloc(), archive, group, out)?;
         all = all && done;
     }
@@ -367,14 +360,14 @@ fn make_lines<'a, R: Files + AllocGlobal, K: Keeper, W: Write, E: Write>(
     rt: &R,
     archive: &mut Archive<K>,
     opening: Opening<'_>,
-    entries: &[Entry<'_>],
+    requests: &[ListRequest<'_>],
     out: &mut W,
     err: &mut E,
 ) -> Result<bool, Stop<'a>> {
     let mut all = true;
     let mut group = Group::new(rt.alloc());
-    for entry in entries {
-        if !take_line(rt, archive, opening, entry, &mut group, out, err)? {
+    for request in requests {
+        if !take_line(rt, archive, opening, request, &mut group, out, err)? {
             all = false;
         }
     }
@@ -382,22 +375,20 @@ fn make_lines<'a, R: Files + AllocGlobal, K: Keeper, W: Write, E: Write>(
     Ok(all && last)
 }
 
-/// Reads a list of commands, and makes them all at a moment, in seconds since 1970-01-01 00:00:00 UTC, over one opening of
-/// the archive of a database file. It prints what each answers, in the order of the list, and says whether all were done.
-/// The whole list is read before the database is opened: one with a bad line ends the program before anything is done.
+/// Reads a list of commands, and makes them all at one moment, over one opening of the archive of a database file. It prints what each
+/// answers, in the order of the list, and says whether all were done. The whole list is read before the database is opened: one with a
+/// bad line ends the program before anything is done.
 pub fn batch_file<'a, K: Keeper + Drop, F: InFile<K>, W: Write, E: Write>(
     rt: &HostRuntime,
-    db: &str,
-    at: u64,
+    opening: Opening<'_>,
     list: &'a str,
     out: &mut W,
     err: &mut E,
 ) -> Result<bool, Stop<'a>> {
     let text = read_of(list_at(rt, list), list)?;
-    let entries = read_list(rt.alloc(), &text)?;
-    let mut archive = open_archive::<K, F>(rt, db)?;
-    let opening = Opening { db, at };
-    let done = make_lines(rt, &mut archive, opening, &entries, out, err);
+    let requests = read_list(rt.alloc(), &text)?;
+    let mut archive = open_archive::<K, F>(rt, opening.db)?;
+    let done = make_lines(rt, &mut archive, opening, &requests, out, err);
     close::<K, F>(archive);
     done
 }

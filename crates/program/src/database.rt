@@ -31,6 +31,13 @@ pub enum OpenFault {
     Later(u64),
 }
 
+/// The database file whose archive is asked, and the moment at which it is, in seconds since 1970-01-01 00:00:00 UTC.
+#[derive(Clone, Copy)]
+pub struct Opening<'o> {
+    pub db: &'o str,
+    pub at: u64,
+}
+
 /// What opens, makes and closes the keepers of archives in database files. Only what implements it names a store of files, since each
 /// function that does takes the prover long.
 pub trait InFile<K> {
@@ -153,7 +160,7 @@ pub fn open_archive<'a, K: Keeper + Drop, F: InFile<K>>(
     path: &str,
 ) -> Result<Archive<K>, Stop<'a>> {
     if would_make(rt, path) || is_blank(rt, path)? {
-        return Err(Stop::NoArchive(KeepFault::Tables));
+        return Err(Stop::NoArchive(KeepFault::NoArchive));
     }
     let _ = share_mode(rt, path);
     let keeper = F::opened(rt, path)?;
@@ -183,7 +190,7 @@ fn old_archive<'a, K, F: InFile<K>>(
     to: &str,
 ) -> Result<F::Old, Stop<'a>> {
     if would_make(rt, from) || is_of_database(rt, from, to)? {
-        return Err(Stop::NoArchive(KeepFault::Tables));
+        return Err(Stop::NoArchive(KeepFault::NoArchive));
     }
     Ok(F::old(rt, from)?)
 }

@@ -75,8 +75,8 @@ impl From<OpenFault> for Stop<'_> {
     fn from(fault: OpenFault) -> Self {
         match fault {
             OpenFault::Keeper(fault) => Stop::NoArchive(fault),
-            OpenFault::Older(layout) => Stop::Older(KeepFault::Tables, layout),
-            OpenFault::Later(layout) => Stop::Later(KeepFault::Tables, layout),
+            OpenFault::Older(layout) => Stop::Older(KeepFault::NoArchive, layout),
+            OpenFault::Later(layout) => Stop::Later(KeepFault::NoArchive, layout),
         }
     }
 }
@@ -115,9 +115,9 @@ impl Stop<'_> {
     pub fn status(&self) -> u8 {
         match self {
             Stop::Unreadable(_) | Stop::NotFound => 1,
-            Stop::NoArchive(KeepFault::Tables | KeepFault::Configuration)
-            | Stop::Older(KeepFault::Tables, _)
-            | Stop::Later(KeepFault::Tables, _) => 1,
+            Stop::NoArchive(KeepFault::NoArchive | KeepFault::Configuration)
+            | Stop::Older(KeepFault::NoArchive, _)
+            | Stop::Later(KeepFault::NoArchive, _) => 1,
             Stop::BadLine(_) => 2,
             Stop::NoArchive(_) | Stop::Older(..) | Stop::Later(..) => 3,
             Stop::Refused(Fault::OutOfMemory | Fault::Keeper(_)) => 3,

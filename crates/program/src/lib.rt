@@ -2,20 +2,22 @@
 //! archive served over HTTP.
 #![tactic(auto)]
 
-mod answers;
+mod ask;
 mod batch;
 mod client;
+mod configured;
 mod database;
-mod doing;
 mod fault;
+mod files;
+mod line;
 mod log;
 mod moments;
+mod print;
 mod serving;
+mod serving_file;
 mod shown;
-mod words;
 
-pub use client::Patience;
 pub use database::{InFile, OpenFault, close, create_archive, open_archive};
-pub use doing::{act, explain};
 pub use fault::Stop;
-pub use serving::{serve, serve_within};
+pub use line::{act, explain};
+pub use serving::serve;

@@ -84,20 +84,6 @@ pub fn serve<'a, R: Clock + Files + AllocGlobal, K: Keeper>(
     ensures served { HasServed K.Keeper count (IsClientsWithin moment moment) archive.old.keeper archive.new.keeper }
 {
     keep_room(rt.alloc());
-    serve_within(rt, archive, listener, count, moment, patience())
-}
-
-/// The same, with this patience.
-pub fn serve_within<'a, R: Clock + Files + AllocGlobal, K: Keeper>(
-    rt: &R,
-    archive: &mut Archive<K>,
-    listener: &TcpListener,
-    count: u64,
-    moment: u64,
-    patience: Patience,
-) -> Result<(), Stop<'a>>
-    ensures served { HasServed K.Keeper count (IsClientsWithin moment moment) archive.old.keeper archive.new.keeper }
-{
     let mut moments = Moments::new(moment, None);
     let mut no_log: Option<Log<'_, Vec<u8>>> = None;
     serve_at(
@@ -106,7 +92,7 @@ pub fn serve_within<'a, R: Clock + Files + AllocGlobal, K: Keeper>(
         listener,
         count,
         &mut moments,
-        patience,
+        patience(),
         &mut no_log,
     )
 }
@@ -132,7 +118,14 @@ pub fn serve_at<'a, R: Clock + Files + AllocGlobal, K: Keeper, E: Write>(
             // What comes of the connection is its client's alone.
             Ok(stream) => {
                 let moment = moments.next(rt);
-                if leaves_shut(rt, &desk, archive, &stream, moment, patience, log) {
+                let visit = Visit {
+                    rt,
+                    desk: &desk,
+                    stream: &stream,
+                    moment,
+                    patience,
+                };
+                if leaves_shut(&visit, archive, log) {
                     return Err(Stop::Shut(count - served - 1));
                 }
             }
@@ -142,6 +135,16 @@ pub fn serve_at<'a, R: Clock + Files + AllocGlobal, K: Keeper, E: Write>(
         }
     }
     Ok(())
+}
+
+/// A connection that was accepted, and how it is answered.
+#[derive_where(Clone, Copy)]
+struct Visit<'v, R> {
+    rt: &'v R,
+    desk: &'v Desk,
+    stream: &'v TcpStream,
+    moment: u64,
+    patience: Patience,
 }
 
 /// Whether a connection can't be accepted for now alone.
@@ -168,21 +171,17 @@ fn accepted<R: Clock>(rt: &R, listener: &TcpListener) -> io::Result<TcpStream> {
 
 /// Answers one connection, and says whether the keeper is shut behind it.
 fn leaves_shut<R: Clock + AllocGlobal, K: Keeper, E: Write>(
-    rt: &R,
-    desk: &Desk,
+    visit: &Visit<'_, R>,
     archive: &mut Archive<K>,
-    stream: &TcpStream,
-    moment: u64,
-    patience: Patience,
     log: &mut Option<Log<'_, E>>,
 ) -> bool
-    ensures served { HasServed K.Keeper 1 (IsClientsWithin moment moment) archive.old.keeper archive.new.keeper }
+    ensures served { HasServed K.Keeper 1 (IsClientsWithin visit.now.moment visit.now.moment) archive.old.keeper archive.new.keeper }
 {
-    let end = answer_client(rt, desk, archive, stream, moment, patience, log);
+    let end = answer_client(visit, archive, log);
     if !is_insufficient_storage(&end) {
         return false;
     }
-    is_shut(rt.alloc(), archive)
+    is_shut(visit.rt.alloc(), archive)
 }
 
 /// Whether a status is 507.
@@ -210,31 +209,28 @@ fn is_shut<K: Keeper>(alloc: Global, archive: &mut Archive<K>) -> bool
 
 /// Answers one connection, lets its client read the reply, and writes its line.
 fn answer_client<R: Clock + AllocGlobal, K: Keeper, E: Write>(
-    rt: &R,
-    desk: &Desk,
+    visit: &Visit<'_, R>,
     archive: &mut Archive<K>,
-    stream: &TcpStream,
-    moment: u64,
-    patience: Patience,
     log: &mut Option<Log<'_, E>>,
 ) -> io::Result<Result<Served, DeskFault>>
-    ensures served { HasServed K.Keeper 1 (IsClientsWithin moment moment) archive.old.keeper archive.new.keeper }
+    ensures served { HasServed K.Keeper 1 (IsClientsWithin visit.now.moment visit.now.moment) archive.old.keeper archive.new.keeper }
 {
+    let rt = visit.rt;
     let client = Client {
         rt,
-        stream,
+        stream: visit.stream,
         accepted: Instant::now(rt)?,
-        patience,
+        patience: visit.patience,
         is_lost: Cell::new(false),
     };
     let (mut line, sent) = (FirstLine::new(rt.alloc()), Cell::new(0));
-    let end = answered(desk, archive, &client, moment, &mut line, &sent);
+    let end = answered(visit, archive, &client, &mut line, &sent);
     if let Ok(Served::Status(_)) = end {
         let _ = part(&client);
     }
     if let Some(log) = log {
         let ended = Ended {
-            moment,
+            moment: visit.moment,
             line: line.as_bytes(),
             end,
             sent: sent.get(),
@@ -247,14 +243,13 @@ fn answer_client<R: Clock + AllocGlobal, K: Keeper, E: Write>(
 
 /// Answers the request of a client. The request and the reply go through a buffer each, where there is memory for it.
 fn answered<R: Clock + AllocGlobal, K: Keeper>(
-    desk: &Desk,
+    visit: &Visit<'_, R>,
     archive: &mut Archive<K>,
     client: &Client<'_, R>,
-    moment: u64,
     line: &mut FirstLine,
     sent: &Cell<u64>,
 ) -> Result<Served, DeskFault>
-    ensures served { HasServed K.Keeper 1 (IsClientsWithin moment moment) archive.old.keeper archive.new.keeper }
+    ensures served { HasServed K.Keeper 1 (IsClientsWithin visit.now.moment visit.now.moment) archive.old.keeper archive.new.keeper }
 {
     let mut reader = FromClient {
         client,
@@ -262,33 +257,32 @@ fn answered<R: Clock + AllocGlobal, K: Keeper>(
         has_begun: false,
     };
     if let Ok(mut buffered) = BufReader::with_capacity(client.rt.alloc(), MOST_AHEAD, &mut reader) {
-        return replied(desk, archive, client, moment, &mut buffered, sent);
+        return replied(visit, archive, client, &mut buffered, sent);
     }
-    replied(desk, archive, client, moment, &mut reader, sent)
+    replied(visit, archive, client, &mut reader, sent)
 }
 
 /// Answers the request of this reader. The reply goes through a buffer, where there is memory for one.
 fn replied<R: Clock + AllocGlobal, K: Keeper, I: Read>(
-    desk: &Desk,
+    visit: &Visit<'_, R>,
     archive: &mut Archive<K>,
     client: &Client<'_, R>,
-    moment: u64,
     reader: &mut I,
     sent: &Cell<u64>,
 ) -> Result<Served, DeskFault>
     requires foreign { I.remaining reader.old ≡ None }
-    ensures served { HasServed K.Keeper 1 (IsClientsWithin moment moment) archive.old.keeper archive.new.keeper }
+    ensures served { HasServed K.Keeper 1 (IsClientsWithin visit.now.moment visit.now.moment) archive.old.keeper archive.new.keeper }
 {
-    let alloc = client.rt.alloc();
+    let alloc = visit.rt.alloc();
     let writer = ToClient { client, sent };
     match BufWriter::new(alloc, writer) {
         Ok(buffered) => {
-            let mut one = connection(reader, buffered, moment);
-            attended(alloc, desk, archive, slice::from_mut(&mut one))
+            let mut one = connection(reader, buffered, visit.moment);
+            attended(alloc, visit.desk, archive, slice::from_mut(&mut one))
         }
         Err(_) => {
-            let mut one = connection(reader, writer, moment);
-            attended(alloc, desk, archive, slice::from_mut(&mut one))
+            let mut one = connection(reader, writer, visit.moment);
+            attended(alloc, visit.desk, archive, slice::from_mut(&mut one))
         }
     }
 }

@@ -2,7 +2,8 @@
 use Rattle.std.proofs.Common.{◌≡◌, ◌||◌, Bool, true, false, List, [], ◌∷◌, ◌++◌, map, refl, sym, ap, ◌∙◌, append_assoc, append-nil}
 use Rattle.std.specs.List.{list_any}
 use Rattle.std.proofs.lemmas.List.{map-append}
-use Rattle.suites.proofs.HeldLemmas.{any-append, or_right, or_left, or_none}
+use Rattle.suites.proofs.HeldLemmas.{any-append, or_none}
+use Rattle.std.proofs.lemmas.Bool.{or_right, or_left}
 
 module _ {A X : Type 0} (shows : A → X) (test : X → Bool) where
   -- one more that fails the test

@@ -17,7 +17,8 @@ use Rattle.keep.specs.Book.{dates_after, touches}
 use Rattle.sums.proofs.Booleans.{neither}
 use Rattle.sums.proofs.Members.{which, no_member, any_true, any_false, any_none, any_some, all_at}
 use Rattle.suites.specs.Change.{IsChange, with_all, without}
-use Rattle.suites.proofs.HeldLemmas.{by_pushes, or_left, or_true}
+use Rattle.suites.proofs.HeldLemmas.{by_pushes, or_true}
+use Rattle.std.proofs.lemmas.Bool.{or_left}
 use Rattle.suites.specs.KeyLemmas.{key_order_total, key_order-IsAntisymmetric}
 use Rattle.suites.specs.Keys.{key_order}
 use Rattle.suites.specs.Shelves.{ShelvesValue, ShelvesWith, is_above, is_at_least, is_covered, shown}

@@ -81,7 +81,7 @@ impl Places<PlainKeeper> for Lists {
     ) -> Result<PlainKeeper, (Option<PlainKeeper>, KeepFault)> {
         match place {
             Some(keeper) => Ok(keeper),
-            None => Err((None, KeepFault::Tables)),
+            None => Err((None, KeepFault::NoArchive)),
         }
     }
 }

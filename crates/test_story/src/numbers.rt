@@ -12,7 +12,7 @@ const OF_KEEPERS: [KeepFault; 5] = [
     KeepFault::OutOfMemory,
     KeepFault::Disk,
     KeepFault::Size,
-    KeepFault::Tables,
+    KeepFault::NoArchive,
     KeepFault::Configuration,
 ];
 

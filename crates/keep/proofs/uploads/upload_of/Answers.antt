@@ -1,7 +1,7 @@
 use Rattle.std.proofs.Common.{◌∙◌, sym, subst}
 use Rattle.suites.specs.Upload.{IsUpload}
 use Rattle.keep.specs.Scan.{candidate_view, counted}
-use Rattle.keep.proofs.Uploads.{complete_upload, upload_made}
+use Rattle.keep.proofs.UploadLemmas.{complete_upload, upload_made}
 use Rattle.keep.proofs.uploads.upload_of.Goals as goal
 
 pub new-requires : goal.new-requires

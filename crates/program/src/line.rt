@@ -1,22 +1,20 @@
 //! What the program does for a line.
-//!
-//! A file of the system that says it has no byte is delivered as one without a byte. What is no regular file, as a pipe, has no length
-//! beforehand. It is read whole, up to one byte more than a delivery may have, so that a longer one is refused as too large (Q2). So is
-//! each file of `try`.
 
+use crate::ask::{ask_file, configuration_file, show_file};
 use crate::batch::batch_file;
-use crate::database::InFile;
+use crate::configured::{configure, init, migrate};
+use crate::database::{InFile, Opening};
 use crate::fault::Stop;
+use crate::files::{body_of, file_name};
+use crate::serving_file::serve_file;
 use crate::shown::Shown;
-use crate::words::{self, Serving, Word};
 use command_line::{CommandLine, LineFault, line};
 use keep::{Keeper, PlainKeeper};
 use queue::{Archive, Fault};
 use rules::Config;
 use std::alloc::{AllocError, Global};
 use std::cmp::Ordering;
-use std::fs::File;
-use std::io::{self, Read, Write};
+use std::io::{self, Write};
 use std::rt::Files;
 use vers::Version;
 
@@ -25,49 +23,6 @@ const BOX: &[u8] = b"Codename: box\nArchitectures: amd64 source\nComponents: mai
 
 /// The index that `try` prints.
 const BOX_PACKAGES: &str = "dists/box/main/binary-amd64/Packages";
-
-/// One byte more than a delivered body may have, so that a longer file is refused as one.
-const MOST_READ: u64 = 4_194_305;
-
-/// The text behind a path's last slash.
-pub fn file_name(path: &str) -> &str {
-    match path.rsplit_once('/') {
-        Some((_, name)) => name,
-        None => path,
-    }
-}
-
-fn read_file<R: Files + AllocGlobal>(rt: &R, path: &str) -> io::Result<Vec<u8>> {
-    let mut body = Vec::new(rt.alloc());
-    File::open(rt, path)?
-        .take(MOST_READ)
-        .read_to_end(&mut body)?;
-    Ok(body)
-}
-
-/// A file that was given, open to be read.
-pub fn opened<'a, R: Files>(rt: &R, path: &'a str) -> Result<R::File, Stop<'a>> {
-    match File::open(rt, path) {
-        Ok(file) => Ok(file),
-        Err(_) => Err(Stop::Unreadable(Shown(path))),
-    }
-}
-
-/// What was read of a file that was given, or why the program ends.
-pub fn read_of<'a>(read: io::Result<Vec<u8>>, path: &'a str) -> Result<Vec<u8>, Stop<'a>> {
-    match read {
-        Ok(body) => Ok(body),
-        Err(error) if error.kind() == io::ErrorKind::OutOfMemory => {
-            Err(Stop::Refused(Fault::OutOfMemory))
-        }
-        Err(_) => Err(Stop::Unreadable(Shown(path))),
-    }
-}
-
-/// The bytes of a file that was given.
-pub fn body_of<'a, R: Files + AllocGlobal>(rt: &R, path: &'a str) -> Result<Vec<u8>, Stop<'a>> {
-    read_of(read_file(rt, path), path)
-}
 
 /// An archive of its own, with the configuration that `try` has.
 fn box_archive(alloc: Global) -> Result<Archive<PlainKeeper>, Fault> {
@@ -150,100 +105,23 @@ fn done<'a, K: Keeper + Drop, F: InFile<K>, W: Write, E: Write>(
     out: &mut W,
     err: &mut E,
 ) -> Result<bool, Stop<'a>> {
-    let (db, word) = match line {
-        CommandLine::Try { paths } => {
-            try_upload(rt, paths, out)?;
-            return Ok(true);
+    match line {
+        CommandLine::Try { paths } => try_upload(rt, paths, out)?,
+        CommandLine::Compare { left, right } => compare(rt.alloc(), left, right, out)?,
+        CommandLine::Init { db, at, conf } => init::<K, F>(rt, db, *at, conf)?,
+        CommandLine::Ask { db, at, request } => {
+            return ask_file::<K, F, W>(rt, Opening { db, at: *at }, request, out);
         }
-        CommandLine::Compare { left, right } => {
-            compare(rt.alloc(), left, right, out)?;
-            return Ok(true);
-        }
-        CommandLine::Init { db, at, conf } => {
-            words::init::<K, F>(rt, db, *at, conf)?;
-            return Ok(true);
-        }
-        CommandLine::Put { db, at, paths } => (*db, Word::Put { at: *at, paths }),
-        CommandLine::Run { db, at } => (*db, Word::Run { at: *at }),
-        CommandLine::Copy {
-            db,
-            at,
-            from,
-            to,
-            source,
-        } => (
-            *db,
-            Word::Copy {
-                at: *at,
-                from,
-                to,
-                source,
-            },
-        ),
-        CommandLine::Promote {
-            db,
-            at,
-            from,
-            to,
-            sources,
-        } => (
-            *db,
-            Word::Promote {
-                at: *at,
-                from,
-                to,
-                sources,
-            },
-        ),
-        CommandLine::Remove {
-            db,
-            at,
-            suite,
-            name,
-        } => (
-            *db,
-            Word::Remove {
-                at: *at,
-                suite,
-                name,
-            },
-        ),
-        CommandLine::Clean { db, at } => (*db, Word::Clean { at: *at }),
         CommandLine::Batch { db, at, list } => {
-            return batch_file::<K, F, W, E>(rt, db, *at, list, out, err);
+            return batch_file::<K, F, W, E>(rt, Opening { db, at: *at }, list, out, err);
         }
-        CommandLine::Configure { db, at, conf } => {
-            words::configure::<K, F>(rt, db, *at, conf)?;
-            return Ok(true);
-        }
-        CommandLine::Migrate { from, db, at, conf } => {
-            words::migrate::<K, F>(rt, from, db, *at, conf)?;
-            return Ok(true);
-        }
-        CommandLine::Show { db, path } => (*db, Word::Show { path }),
-        CommandLine::Waiting { db, at } => (*db, Word::Waiting { at: *at }),
-        CommandLine::Verdicts { db } => (*db, Word::Verdicts),
-        CommandLine::Configuration { db } => (*db, Word::Configuration),
-        CommandLine::Serve {
-            db,
-            at,
-            moments,
-            log,
-            address,
-            count,
-        } => {
-            let serving = Serving {
-                at: *at,
-                moments: *moments,
-                log: *log,
-                address,
-                count: *count,
-            };
-            words::serve_file::<K, F, E>(rt, db, serving, err)?;
-            return Ok(true);
-        }
-    };
-    words::ask_file::<K, F, W>(rt, db, word, out)
+        CommandLine::Configure { db, at, conf } => configure::<K, F>(rt, db, *at, conf)?,
+        CommandLine::Migrate { from, db, at, conf } => migrate::<K, F>(rt, from, db, *at, conf)?,
+        CommandLine::Show { db, path } => show_file::<K, F, W>(rt, db, path, out)?,
+        CommandLine::Configuration { db } => configuration_file::<K, F, W>(rt, db, out)?,
+        CommandLine::Serve { db, serving } => serve_file::<K, F, E>(rt, db, *serving, err)?,
+    }
+    Ok(true)
 }
 
 /// The same, with its output written out.

@@ -9,9 +9,9 @@ ghost use Rattle.queue.specs.Configuring.{Endures, LeavesConfigured};
 ghost use Rattle.queue.specs.Steps.{IsUndone};
 ghost use Rattle.program.specs.declared.fault.Stop.TheVariants.{NoArchive};
 
-use crate::database::{is_of_database, length_of};
-use crate::doing::{body_of, file_name, opened};
+use crate::database::{Opening, is_of_database, length_of};
 use crate::fault::Stop;
+use crate::files::{body_of, file_name, opened};
 use crate::shown::Shown;
 use keep::Keeper;
 use queue::{Archive, Arrived, Fault, Promotion, Report};
@@ -72,23 +72,21 @@ fn put_file<'a, R: Files + AllocGlobal, K: Keeper, W: Write>(
     print_arrived(arrived, name, out)
 }
 
-/// Delivers files at a moment, in seconds since 1970-01-01 00:00:00 UTC, each under the text behind its path's last
-/// slash, and prints a line for each. It goes on behind a file that is refused, and says whether all were taken. Each
-/// file is read while it is delivered. The files of the database itself can't be read.
+/// Delivers files, each under the text behind its path's last slash, and prints a line for each. It goes on behind a file that is
+/// refused, and says whether all were taken. Each file is read while it is delivered. The files of the database itself can't be read.
 pub fn put_files<'a, R: Files + AllocGlobal, K: Keeper, W: Write>(
     rt: &R,
     archive: &mut Archive<K>,
-    db: &str,
-    at: u64,
+    opening: Opening<'_>,
     paths: &[&'a str],
     out: &mut W,
 ) -> Result<bool, Stop<'a>> {
     let mut all = true;
     for path in paths {
-        if is_of_database(rt, db, path)? {
+        if is_of_database(rt, opening.db, path)? {
             return Err(Stop::Unreadable(Shown(path)));
         }
-        if !put_file(rt, archive, at, path, out)? {
+        if !put_file(rt, archive, opening.at, path, out)? {
             all = false;
         }
     }

@@ -1,0 +1,59 @@
+//! The commands that read a configuration: they make an archive, or give it another.
+
+use crate::database::{InFile, close, create_archive, migrate_archive, open_archive};
+use crate::fault::Stop;
+use crate::files::body_of;
+use crate::print;
+use keep::{Keeper, LATEST};
+use queue::Fault;
+use rules::Config;
+
+/// Makes an archive in a database file at a moment, in seconds since 1970-01-01 00:00:00 UTC, with the configuration of
+/// a file.
+pub fn init<'a, K: Keeper + Drop, F: InFile<K>>(
+    rt: &HostRuntime,
+    db: &str,
+    at: u64,
+    conf: &'a str,
+) -> Result<(), Stop<'a>> {
+    let text = body_of(rt, conf)?;
+    let config = Config::read(rt.alloc(), &text)?;
+    let archive = create_archive::<K, F>(rt, db, config, at)?;
+    close::<K, F>(archive);
+    Ok(())
+}
+
+/// Gives the archive of a database file another configuration, that of a file, at a moment, in seconds since 1970-01-01 00:00:00 UTC. It
+/// is read before the database is opened.
+pub fn configure<'a, K: Keeper + Drop, F: InFile<K>>(
+    rt: &HostRuntime,
+    db: &str,
+    at: u64,
+    conf: &'a str,
+) -> Result<(), Stop<'a>> {
+    if at > LATEST {
+        return Err(Stop::Refused(Fault::Moment));
+    }
+    let text = body_of(rt, conf)?;
+    let config = Config::read(rt.alloc(), &text)?;
+    let mut archive = open_archive::<K, F>(rt, db)?;
+    let done = print::configure(rt.alloc(), &mut archive, config, at);
+    close::<K, F>(archive);
+    done
+}
+
+/// Makes an archive in a database file, with the configuration of a file, of the archive of an older layout in another database file, with
+/// all arrivals as of a moment, in seconds since 1970-01-01 00:00:00 UTC.
+pub fn migrate<'a, K: Keeper + Drop, F: InFile<K>>(
+    rt: &HostRuntime,
+    from: &str,
+    db: &str,
+    at: u64,
+    conf: &'a str,
+) -> Result<(), Stop<'a>> {
+    let text = body_of(rt, conf)?;
+    let config = Config::read(rt.alloc(), &text)?;
+    let archive = migrate_archive::<K, F>(rt, from, db, config, at)?;
+    close::<K, F>(archive);
+    Ok(())
+}

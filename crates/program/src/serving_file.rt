@@ -1,0 +1,103 @@
+//! The archive of a database file, served over HTTP.
+//!
+//! After a 507 `serve` asks the archive for the empty path. If that is answered by a fault of the disk, the keeper is shut. The archive is
+//! then opened again, and the rest of the connections is answered from what is in the file: the book before the failed call, or with it. A
+//! full disk shuts no keeper.
+//!
+//! The listener is made before the archive is opened, and ends last, so that clients wait in the system's queue meanwhile. If both fail,
+//! the fault of the database is reported. A `Desk` is made after each opening. If there is no memory for it, `serve` ends with Q0 and
+//! status 3, before a connection is accepted.
+
+ghost use Rattle.desk.specs.Connections.{HasServed, IsClientsWithin};
+
+use crate::database::{InFile, close, open_archive};
+use crate::fault::Stop;
+use crate::log::Log;
+use crate::moments::Moments;
+use crate::serving::{keep_room, patience, serve_at};
+use command_line::Serving;
+use keep::Keeper;
+use queue::Archive;
+use std::io::{self, Write};
+use std::net::TcpListener;
+use std::os::fd::AsFd;
+
+/// Serves so many connections of a listener, or says that there is none.
+fn serve_listener<'a, K: Keeper, E: Write>(
+    rt: &HostRuntime,
+    archive: &mut Archive<K>,
+    listener: &io::Result<TcpListener>,
+    left: u64,
+    moments: &mut Moments<'_>,
+    log: &mut Option<Log<'_, E>>,
+) -> Result<(), Stop<'a>>
+    ensures served { HasServed K.Keeper left (IsClientsWithin moments.old.greatest moments.new.greatest) archive.old.keeper archive.new.keeper }
+{
+    match listener {
+        Ok(listener) => serve_at(rt, archive, listener, left, moments, patience(), log),
+        Err(_) => Err(Stop::CannotListen),
+    }
+}
+
+/// Opens the archive of a database file and serves so many connections. Answers how many are left where its keeper is shut
+/// before, and else none.
+fn serve_some<'a, K: Keeper + Drop, F: InFile<K>, E: Write>(
+    rt: &HostRuntime,
+    db: &str,
+    listener: &io::Result<TcpListener>,
+    left: u64,
+    moments: &mut Moments<'_>,
+    log: &mut Option<Log<'_, E>>,
+) -> Result<u64, Stop<'a>> {
+    let mut archive = open_archive::<K, F>(rt, db)?;
+    let served = serve_listener(rt, &mut archive, listener, left, moments, log);
+    close::<K, F>(archive);
+    match served {
+        Ok(()) => Ok(0),
+        Err(Stop::Shut(left)) => Ok(left),
+        Err(stop) => Err(stop),
+    }
+}
+
+/// What an opening of an archive that was served before ends with.
+fn again<'a>(stop: Stop<'a>) -> Stop<'a> {
+    match stop {
+        Stop::NoArchive(fault) | Stop::Older(fault, _) | Stop::Later(fault, _) => Stop::Lost(fault),
+        stop => stop,
+    }
+}
+
+/// The log, where one is wanted, on an output that is standard error.
+fn log_on<'l, E: Write>(rt: &HostRuntime, is_wanted: bool, err: &'l mut E) -> Option<Log<'l, E>> {
+    if !is_wanted {
+        return None;
+    }
+    let stderr = rt.stderr();
+    Some(Log::new(err, stderr.as_fd().try_clone_to_owned().ok()))
+}
+
+/// Serves the archive of a database file. The listener is made before the file is opened, so that clients wait meanwhile, and
+/// ends behind it. Where the keeper is shut by a disk that fails, the file is opened again, and the rest of the connections is
+/// answered from what is found then.
+pub fn serve_file<'a, K: Keeper + Drop, F: InFile<K>, E: Write>(
+    rt: &HostRuntime,
+    db: &str,
+    serving: Serving<'_>,
+    err: &mut E,
+) -> Result<(), Stop<'a>> {
+    keep_room(rt.alloc());
+    let listener = TcpListener::bind(rt, serving.address);
+    let mut moments = Moments::new(serving.at, serving.moments);
+    let mut log = log_on(rt, serving.log, err);
+    let mut left = serve_some::<K, F, E>(rt, db, &listener, serving.count, &mut moments, &mut log)?;
+    for _ in 1..serving.count {
+        if left == 0 {
+            break;
+        }
+        left = match serve_some::<K, F, E>(rt, db, &listener, left, &mut moments, &mut log) {
+            Ok(left) => left,
+            Err(stop) => return Err(again(stop)),
+        };
+    }
+    Ok(())
+}
