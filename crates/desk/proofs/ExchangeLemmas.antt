@@ -27,6 +27,7 @@ use Rattle.desk.specs.declared.head.Refusal.{Refusal}
 use Rattle.desk.specs.declared.head.Refusal.TheVariants.{BadRequest, NotFound, MethodNotAllowed, LengthRequired, PayloadTooLarge, HeadTooLarge, NotImplemented, OutOfMemory}
 use Rattle.desk.specs.declared.reply.Reply.{Reply}
 use Rattle.desk.proofs.RequestLemmas.{read_behind, reads_behind, received_whole}
+use Rattle.sums.specs.Lines.{most_size}
 
 -- a reader that tells nothing behind some bytes told nothing before them
 unknown_before : (old mid : Option (List ℕ)) (front : List ℕ) → Consumes old mid front → mid ≡ None → old ≡ None
@@ -193,7 +194,7 @@ module _ {K : Type 0} (g : Ghosts K) where
       ]
 
     -- one whose whole body was read, and that is refused by its name, its body or its moment
-    refused_whole : (e : Fault) → LeavesReceived g old new name n moment before after → n ≤ 4194304 → IsRefusedFor old new name n moment e × IsAsBefore g before after → IsCarriedOut g old new before after (delivery name n) moment (Some (fault_message e))
+    refused_whole : (e : Fault) → LeavesReceived g old new name n moment before after → n ≤ most_size → IsRefusedFor old new name n moment e × IsAsBefore g before after → IsCarriedOut g old new before after (delivery name n) moment (Some (fault_message e))
     refused_whole e leaves small h = elim h.0 [
       | inl whole ↦ record {
         course = Called (delivery name n) whole.0 moment (Err e);
@@ -206,7 +207,7 @@ module _ {K : Type 0} (g : Ghosts K) where
     ]
 
     -- one that was refused
-    pub received_not : (e : Fault) → LeavesReceived g old new name n moment before after → n ≤ 4194304 → IsReceived g old new name n moment before after (Err e) → IsCarriedOut g old new before after (delivery name n) moment (reception_message e)
+    pub received_not : (e : Fault) → LeavesReceived g old new name n moment before after → n ≤ most_size → IsReceived g old new name n moment before after (Err e) → IsCarriedOut g old new before after (delivery name n) moment (reception_message e)
     received_not fault.OutOfMemory leaves small h = record {
       course = Short;
       read = record { front = h.0.front; read = h.0.read; short = h.0.short };

@@ -1,5 +1,5 @@
 -- Lemmas on the fields of a head, its target and its parameters' texts.
-use Rattle.std.proofs.Common.{◌≡◌, ℕ, ◌+◌, ◌-◌, ◌*◌, ◌<◌, ◌≤◌, ◌&&◌, ◌||◌, ◌==◌, Bool, true, false, List, [], ◌∷◌, map, drop, take, length, get_or, Option, None, Some, is_some, Result, Ok, Err, codes, refl, sym, ap, ◌∙◌, rules, arith, if◌then◌else◌}
+use Rattle.std.proofs.Common.{◌≡◌, ℕ, ◌+◌, ◌-◌, ◌*◌, ◌<◌, ◌≤◌, ◌||◌, ◌==◌, Bool, true, false, List, [], ◌∷◌, map, drop, take, length, get_or, Option, None, Some, is_some, Result, Ok, Err, codes, refl, sym, ap, ◌∙◌, rules, arith, if◌then◌else◌}
 use Rattle.std.proofs.lemmas.Bool.Decides.{nat_tests}
 use Rattle.std.proofs.lemmas.List.{drop_more}
 use Rattle.std.proofs.lemmas.Str.{is_utf8-from_IsUtf8, IsUtf8-from_is_utf8}
@@ -16,10 +16,8 @@ use Rattle.percent_encoding.specs.Percent.{percent_decode}
 use Rattle.desk.specs.declared.head.Refusal.{Refusal}
 use Rattle.desk.specs.declared.head.Refusal.TheVariants.{BadRequest}
 use Rattle.desk.specs.Want.{decoded, is_named, is_path, one_length, length_value}
-
-pub both : (a b : Bool) → (a && b) ≡ true → (a ≡ true) × (b ≡ true)
-both true b h = (refl, h)
-both false b h = cc
+use Rattle.sums.proofs.Booleans.{both}
+use Rattle.sums.proofs.Digits.{all_digits}
 
 -- a path begins with a slash
 pub first_slash : (target : List ℕ) → is_path target ≡ true → get_or target 0 0 ≡ 47
@@ -135,15 +133,6 @@ refused_at head fields i d found r within named none value =
     length_at head fields i d found within ∙ refused_found found (header_bytes head (get_or fields i d)) (map (header_bytes head) (drop (i + 1) fields)) r none named value
 
 -- ---- digits
-
-digit_range : (c : ℕ) → is_ascii_digit c ≡ true → (digit_value c + 48 ≡ c) × (digit_value c < 10)
-digit_range c h = (grind (arith, nat_tests), grind (arith, nat_tests))
-
-pub all_digits : (bs : List ℕ) → list_all is_ascii_digit bs ≡ true → AllDigits 10 bs
-all_digits [] h = tt
-all_digits (c ∷ cs) h =
-    let p = both (is_ascii_digit c) (list_all is_ascii_digit cs) h in
-    ((digit_range c p.0).1, all_digits cs p.1)
 
 -- a byte that is a digit is what its value says
 pub digit_byte : (text : List ℕ) (i : ℕ) → list_all is_ascii_digit text ≡ true → i < length text → (48 ≤ get_or text i 0) × (get_or text i 0 ≤ 57) × (digit_value (get_or text i 0) ≡ get_or text i 0 - 48)

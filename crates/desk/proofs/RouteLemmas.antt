@@ -13,13 +13,13 @@ use Rattle.desk.specs.Want.{◌>>=◌, Want, asked_at, beside, command_at, found
 use Rattle.desk.specs.declared.head.Refusal.{Refusal}
 use Rattle.desk.specs.declared.head.Refusal.TheVariants.{NotFound}
 use Rattle.desk.specs.Paths.{Place, to_incoming, to_run, to_copy, to_queue, to_clean, to_verdicts, to_dists, to_pool, to_remove, to_promote, print_path, IsPlace, IsPart, IsRest, is_byte, route_of, wanted_of}
-use Rattle.desk.proofs.FieldLemmas.{both}
 use Rattle.desk.proofs.SeekLemmas.{led, led_first, led_found, first_or, or_found, skip, enter, part_first, end_found, rest_first, last_first, last_found, cut_found, slash_any}
 use Rattle.matchit.specs.Rows.{RowsOf}
 use Rattle.matchit.specs.Route.{Scan}
 use Rattle.matchit.specs.Router.{RouteOf, InsertsRead, nearest, route_from}
 use Rattle.matchit.specs.declared.error.InsertError.{InsertError}
 use Rattle.matchit.specs.declared.error.InsertError.TheVariants.{Conflict, InvalidParam, InvalidParamSegment, InvalidCatchAll, OutOfMemory}
+use Rattle.sums.proofs.Booleans.{both}
 
 -- what was read is a route that conflicts with none of the rows
 abbrev pub Joins : {T : Type 0} → Result Scan InsertError → RowsOf (RouteOf T) → Type 0

@@ -8,7 +8,7 @@ use Rattle.std.specs.List.{ends_with, list_all, list_any}
 use Rattle.matchit.specs.Rows.{RowsOf}
 use Rattle.matchit.specs.Seek.{own, step, or_else, seek, first, param_step, has_slash, segment, longest_suffix, with_suffix, cuts}
 use Rattle.desk.specs.Paths.{is_byte, is_slash, IsPart}
-use Rattle.desk.proofs.FieldLemmas.{both}
+use Rattle.sums.proofs.Booleans.{both}
 
 -- ---- texts with and without a slash
 

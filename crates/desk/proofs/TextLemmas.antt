@@ -12,8 +12,8 @@ use Rattle.matchit.specs.Seek.{first}
 use Rattle.desk.specs.declared.routes.Route.{Route}
 use Rattle.desk.specs.Paths.{Place, to_incoming, to_run, to_copy, to_queue, to_clean, to_verdicts, to_dists, to_pool, to_remove, to_promote, print_path, is_byte}
 use Rattle.desk.specs.Want.{parameters, routes}
-use Rattle.desk.proofs.FieldLemmas.{both}
 use Rattle.desk.proofs.RouteLemmas.{route_found, place_row, place_parameters, parameters_are}
+use Rattle.sums.proofs.Booleans.{both}
 
 -- both sides of a slash
 utf8_cut : (a b : List ℕ) → IsUtf8 (a ++ 47 ∷ b) → IsUtf8 a × IsUtf8 b

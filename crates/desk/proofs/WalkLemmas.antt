@@ -7,8 +7,8 @@ use Rattle.std.specs.List.{list_all}
 use Rattle.matchit.specs.Params.{walk, wild_from, wild_stop, part_of, after_token}
 use Rattle.matchit.specs.Seek.{segment, has_slash}
 use Rattle.desk.specs.Paths.{is_byte}
-use Rattle.desk.proofs.FieldLemmas.{both}
 use Rattle.desk.proofs.SeekLemmas.{segment_cut}
+use Rattle.sums.proofs.Booleans.{both}
 
 drop_sum : (m n : ℕ) (l : List ℕ) → drop (m + n) l ≡ drop n (drop m l)
 drop_sum m n l = sym (drop-drop n m l)

@@ -13,6 +13,7 @@ use Rattle.desk.specs.declared.head.Refusal.TheVariants.{BadRequest, NotFound, M
 use Rattle.desk.specs.declared.routes.Route.{Route}
 use Rattle.desk.specs.Want.{◌>>=◌, Want, delivery, queue_run, copying, fetching, waiting_list, cleaning, verdict_list, removing, promoting, asked_at, content_length, is_named, is_path, method_of, pass, wanted_by, with_length}
 use Rattle.desk.specs.Request.{Gives, HeadAsks, IsHead, body_length}
+use Rattle.sums.specs.Lines.{most_size}
 
 -- what is said of a result is said of it in other words
 pub gives_map : {X Y : Type 0} (view : X → Y) (r : Result X Refusal) (P Q : Result Y Refusal → Type 0) → Gives view r P → ((x : Result Y Refusal) → P x → Q x) → Gives view r Q
@@ -92,18 +93,18 @@ module _ (method target : List ℕ) (fields : List (List ℕ × List ℕ)) where
 same_Ok : {X E : Type 0} (a b : X) → ◌≡◌ {A = Result X E} (Ok a) (Ok b) → a ≡ b
 same_Ok a b e = cc
 
-small_delivery : (name : List ℕ) (length : ℕ) (want : Want) (b : Bool) → nat_le length 4194304 ≡ b → (if b then Ok (delivery name length) else Err PayloadTooLarge) ≡ Ok want
-    → body_length want ≤ 4194304
-small_delivery name length want true small is = subst (λ (w : Want). body_length w ≤ 4194304) (same_Ok (delivery name length) want is) (leb-true length 4194304 small)
+small_delivery : (name : List ℕ) (length : ℕ) (want : Want) (b : Bool) → nat_le length most_size ≡ b → (if b then Ok (delivery name length) else Err PayloadTooLarge) ≡ Ok want
+    → body_length want ≤ most_size
+small_delivery name length want true small is = subst (λ (w : Want). body_length w ≤ most_size) (same_Ok (delivery name length) want is) (leb-true length most_size small)
 small_delivery name length want false small is = absurd (cc)
 
-small_other : (w want : Want) (b : Bool) → body_length w ≡ 0 → (if b then Ok w else Err BadRequest) ≡ Ok want → body_length want ≤ 4194304
-small_other w want true none is = subst (λ (x : Want). body_length x ≤ 4194304) (same_Ok w want is) (omega (arith, none))
+small_other : (w want : Want) (b : Bool) → body_length w ≡ 0 → (if b then Ok w else Err BadRequest) ≡ Ok want → body_length want ≤ most_size
+small_other w want true none is = subst (λ (x : Want). body_length x ≤ most_size) (same_Ok w want is) (omega (arith, none))
 small_other w want false none is = absurd (cc)
 
-small_length : (w : Want) (length : Option ℕ) (want : Want) → with_length w length ≡ Ok want → body_length want ≤ 4194304
+small_length : (w : Want) (length : Option ℕ) (want : Want) → with_length w length ≡ Ok want → body_length want ≤ most_size
 small_length (delivery name n) None want is = absurd (cc)
-small_length (delivery name n) (Some length) want is = small_delivery name length want (nat_le length 4194304) refl is
+small_length (delivery name n) (Some length) want is = small_delivery name length want (nat_le length most_size) refl is
 small_length queue_run length want is = small_other queue_run want (unwrap_or length 0 == 0) refl is
 small_length (copying a b c) length want is = small_other (copying a b c) want (unwrap_or length 0 == 0) refl is
 small_length (fetching p k) length want is = small_other (fetching p k) want (unwrap_or length 0 == 0) refl is
@@ -114,25 +115,25 @@ small_length (removing a b) length want is = small_other (removing a b) want (un
 small_length (promoting a b) length want is = small_other (promoting a b) want (unwrap_or length 0 == 0) refl is
 
 small_behind : (right : Bool) (e : Refusal) (w : Want) (length : Result (Option ℕ) Refusal) (want : Want) → (pass right e >>= (λ _. length >>= (λ n. with_length w n))) ≡ Ok want
-    → body_length want ≤ 4194304
+    → body_length want ≤ most_size
 small_behind false e w length want is = absurd (cc)
 small_behind true e w (Err other) want is = absurd (cc)
 small_behind true e w (Ok n) want is = small_length w n want is
 
 small_by : (path plain : Bool) (found : Result (Route × Want) Refusal) (right : Route → Bool) (length : Result (Option ℕ) Refusal) (want : Want)
     → (pass path BadRequest >>= (λ _. pass plain NotImplemented >>= (λ _. found >>= (λ f. pass (right f.0) (MethodNotAllowed (method_of f.0)) >>= (λ _. length >>= (λ n. with_length f.1 n)))))) ≡ Ok want
-    → body_length want ≤ 4194304
+    → body_length want ≤ most_size
 small_by false plain found right length want is = absurd (cc)
 small_by true false found right length want is = absurd (cc)
 small_by true true (Err e) right length want is = absurd (cc)
 small_by true true (Ok f) right length want is = small_behind (right f.0) (MethodNotAllowed (method_of f.0)) f.1 length want is
 
-small_wanted : (method target : List ℕ) (fields : List (List ℕ × List ℕ)) (want : Want) → wanted_by method target fields ≡ Ok want → body_length want ≤ 4194304
+small_wanted : (method target : List ℕ) (fields : List (List ℕ × List ℕ)) (want : Want) → wanted_by method target fields ≡ Ok want → body_length want ≤ most_size
 unfolding wanted_by
 small_wanted method target fields want is =
     small_by (is_path target) (not (list_any (is_named (codes "transfer-encoding")) fields)) (asked_at target) (λ r. bytes_eq method (method_of r)) (content_length fields) want is
 
-pub small_body : (head : List ℕ) (want : Want) → HeadAsks head (Ok want) → body_length want ≤ 4194304
+pub small_body : (head : List ℕ) (want : Want) → HeadAsks head (Ok want) → body_length want ≤ most_size
 small_body head want asked = elim asked [
   | inl it ↦ small_wanted it.0.method it.0.target (map name_and_value it.0.fields) want (sym it.2)
   | inr none ↦ absurd (refused_asks none.1)

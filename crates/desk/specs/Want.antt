@@ -18,6 +18,7 @@ use Rattle.desk.specs.declared.routes.Route.{Route}
 use Rattle.desk.specs.declared.routes.Route.TheVariants as at
 use Rattle.desk.specs.declared.head.Refusal.{Refusal}
 use Rattle.desk.specs.declared.head.Refusal.TheVariants.{BadRequest, NotFound, MethodNotAllowed, LengthRequired, PayloadTooLarge, NotImplemented}
+use Rattle.sums.specs.Lines.{most_size}
 
 -- what a request wants of the archive, without a delivery's body
 pub data Want : Type 0 where
@@ -158,7 +159,7 @@ content_length fields = one_length (map (λ f. f.1) (filter (is_named (codes "co
 -- the command with its body's length, which only a delivery may have
 abbrev pub with_length : Want → Option ℕ → Result Want Refusal
 with_length (delivery name n) None = Err LengthRequired
-with_length (delivery name n) (Some length) = if nat_le length 4194304 then Ok (delivery name length) else Err PayloadTooLarge
+with_length (delivery name n) (Some length) = if nat_le length most_size then Ok (delivery name length) else Err PayloadTooLarge
 with_length queue_run length = if unwrap_or length 0 == 0 then Ok queue_run else Err BadRequest
 with_length (copying a b c) length = if unwrap_or length 0 == 0 then Ok (copying a b c) else Err BadRequest
 with_length (fetching p k) length = if unwrap_or length 0 == 0 then Ok (fetching p k) else Err BadRequest

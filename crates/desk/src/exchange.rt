@@ -13,6 +13,7 @@ ghost use Rattle.queue.specs.Commands.{copies_of, found, lines_of, is_new};
 ghost use Rattle.queue.specs.Histories.{Copies, Stored, Lines, Count, Found};
 ghost use Rattle.queue.specs.Receiving.{IsAsBefore};
 ghost use Rattle.queue.specs.Steps.{Lasts};
+ghost use Rattle.sums.specs.Lines.{most_size};
 
 use crate::fault_text::{FaultText, record_text};
 use crate::head::{Refusal, Wanted};
@@ -164,7 +165,7 @@ fn carry_out<K: Keeper, R: Read>(
     reader: &mut R,
     moment: u64,
 ) -> Result<Reply, ReaderFailed>
-    requires { body_length (want_of wanted.now) ≤ 4194304 }
+    requires { body_length (want_of wanted.now) ≤ most_size }
     ensures lasts { Lasts K.Keeper archive.old.keeper archive.new.keeper }
     ensures carried_out { IfOk result (λ reply. IsCarriedOut K.Keeper (R.remaining reader.old) (R.remaining reader.new)
         archive.old.keeper archive.new.keeper (want_of wanted.now) moment (Some (message_of reply))) }

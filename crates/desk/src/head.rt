@@ -20,12 +20,10 @@ use httparse::spans::{EMPTY_HEADER_SPAN, HeaderSpan, RequestSpans, Span, parse_r
 use matchit::Params;
 use percent_encoding::percent_decode;
 use std::alloc::{AllocError, Global};
+use sums::MOST_SIZE;
 
 /// The most header fields that a head may have.
 const MAX_FIELDS: usize = 32;
-
-/// The greatest length of a delivered body.
-const MAX_BODY: u64 = 4_194_304;
 
 /// Why a request is refused before the archive hears of it.
 #[derive(Debug, Drop)]
@@ -341,7 +339,7 @@ fn with_length(wanted: Wanted, length: Option<u64>) -> Result<Wanted, Refusal>
     match (wanted, length) {
         (Wanted::Deliver { .. }, None) => Err(Refusal::LengthRequired),
         (Wanted::Deliver { name, .. }, Some(length)) => {
-            if length > MAX_BODY {
+            if length > MOST_SIZE {
                 return Err(Refusal::PayloadTooLarge);
             }
             Ok(Wanted::Deliver {

@@ -12,7 +12,7 @@ use Rattle.queue.specs.Answers.{IsFaithful}
 use Rattle.queue.specs.Archives.{Stands, book_of}
 use Rattle.queue.specs.Configuring.{reopened}
 use Rattle.queue.specs.Histories.{Call, History, opened_with}
-use Rattle.queue.proofs.RenewedPaths.{codenames_apart}
+use Rattle.suites.proofs.MovedEntries.{codenames_apart}
 use Rattle.queue.proofs.Reopening.{book_of-files, goes_on, opens_itself}
 
 -- a book that has its files has them under a configuration that keeps all that is shown

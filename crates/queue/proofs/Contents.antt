@@ -1,5 +1,5 @@
 -- The bodies of what the plain archive has stay among those that are known.
-use Rattle.std.proofs.Common.{◌≡◌, ℕ, Bool, true, false, cond, ◌||◌, List, [], ◌∷◌, ◌++◌, map, flat_map, Some, option_to_list, refl, sym, ap, ◌∙◌, subst, inl, inr}
+use Rattle.std.proofs.Common.{◌≡◌, ℕ, Bool, true, false, cond, ◌||◌, List, [], ◌∷◌, ◌++◌, map, Some, option_to_list, refl, sym, ap, ◌∙◌, subst, inl, inr}
 use Rattle.std.specs.Prelude.{Contains}
 use Rattle.std.specs.FinMap.{entries, get, values, get-from_entries}
 use Rattle.std.specs.List.{list_any}
@@ -11,6 +11,7 @@ use Rattle.rules.specs.Values.{ConfigValue}
 use Rattle.rules.specs.declared.verdict.Verdict.{Verdict}
 use Rattle.rules.specs.declared.verdict.Verdict.TheVariants.{Accepted}
 use Rattle.sums.proofs.Members.{here, there, which, no_member, from_map}
+use Rattle.suites.proofs.ListMembers.{from_flat_map}
 use Rattle.suites.specs.Held.{held_behind, held}
 use Rattle.suites.specs.Items.{Admitted, FileWith, on_shelf}
 use Rattle.suites.specs.KeyLemmas.{key_order_total, key_order-IsAntisymmetric, text_order_total, text_order-IsAntisymmetric}
@@ -32,13 +33,6 @@ abbrev pub AreMadeOf : List (List ℕ) → List (Admitted (List ℕ)) → Type 0
 AreMadeOf bodies items = (e : Admitted (List ℕ)) → Contains items e → (file : FileWith (List ℕ)) → Contains e.1.files file → Contains bodies file.contents
 
 -- ---- members
-
-pub from_flat_map : {X A : Type 0} (f : X → List A) (y : A) (xs : List X) → Contains (flat_map f xs) y → (x : X) × Contains xs x × Contains (f x) y
-from_flat_map f y [] h = no_member y h
-from_flat_map f y (x ∷ xs) h = elim (Contains-append_cases (f x) (flat_map f xs) y h) [
-  | inl p ↦ (x, here x xs, p)
-  | inr q ↦ let r = from_flat_map f y xs q in (r.0, there x r.0 xs r.1, r.2)
-]
 
 cond_member : {X : Type 0} (b : Bool) (x y : X) (xs held : List X) → Contains (cond b held (x ∷ held)) y → (Contains held y → Contains xs y) → Contains (x ∷ xs) y
 cond_member true x y xs held at more = there x y xs (more at)

@@ -1,6 +1,6 @@
 -- Finite maps with a function on their values.
 use Rattle.std.proofs.Common.{◌≡◌, Bool, true, false, cond, List, [], ◌∷◌, map, length, Some, option_map, refl, sym, ap, ◌∙◌, subst, arith, inl, inr, true≢false}
-use Rattle.std.specs.Prelude.{Contains, T}
+use Rattle.std.specs.Prelude.{Contains}
 use Rattle.std.specs.Cmp.{IsTotalOrder, tied_itself}
 use Rattle.std.specs.FinMap.{FinMap, IsAntisymmetric, entries, entries_sorted, get, find, put, empty, from_entries, entries-insert, get-entries, get-from_entries, is_sorted, len-empty, len-entries}
 use Rattle.std.specs.FinMap.Entries.{below_all, by_order}
@@ -10,6 +10,8 @@ use Rattle.std.specs.declared.cmp.Ordering.TheVariants.{Less, Equal, Greater}
 use Rattle.std.proofs.lemmas.Option.{same_Some}
 use Rattle.sums.proofs.Booleans.{both}
 use Rattle.sums.proofs.Members.{here, there, which, no_member}
+use Rattle.suites.proofs.PoolLookups.{tie}
+use Rattle.suites.proofs.ShownLemmas.{true_from_T}
 
 no_elements : {X : Type 0} (xs : List X) → length xs ≡ 0 → xs ≡ []
 no_elements [] h = refl
@@ -53,19 +55,10 @@ module _ {K X Y : Type 0} (R : K → K → Ordering) (f : X → Y) where
 
 -- ---- members
 
-pub tie : (o : Ordering) → is_eq o ≡ true → o ≡ Equal
-tie Less h = cc
-tie Equal h = refl
-tie Greater h = cc
-
 pub less_apart : (r s : Ordering) → r ≡ ordering_reverse s → is_lt s ≡ true → is_eq r ≡ false
 less_apart r Less e h = ap is_eq e
 less_apart r Equal e h = cc
 less_apart r Greater e h = cc
-
-pub true_from_T : (b : Bool) → T b → b ≡ true
-true_from_T true h = refl
-true_from_T false h = absurd h
 
 module _ {K : Type 0} {R : K → K → Ordering} (total : IsTotalOrder R) (same : IsAntisymmetric R) where
   pub tied_keys : (p q : K) → eq_by_cmp R p q ≡ true → p ≡ q

@@ -17,7 +17,7 @@ use Rattle.sums.specs.declared.entries.Entry.{Entry}
 use Rattle.queue.specs.Archives.{whole_of}
 use Rattle.queue.proofs.Contents.{AreBrought}
 use Rattle.queue.proofs.ContentsListed.{HasItsBodies, find_member, find_none}
-use Rattle.queue.proofs.VerdictPrints.{same_print-equal}
+use Rattle.suites.proofs.Prints.{same_print-equal}
 
 pub found_by : {X : Type 0} (p : X → Bool) (xs : List X) → list_any p xs ≡ true → (o : Option X) → find p xs ≡ o → (x : X) × (find p xs ≡ Some x) × Contains xs x × (p x ≡ true)
 found_by p xs h None e = let m = any_some p xs h in absurd (find_none p xs m.0 e m.1 m.2)

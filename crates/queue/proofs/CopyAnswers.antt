@@ -8,6 +8,7 @@ use Rattle.std.proofs.lemmas.List.Quantifiers.{position-Some}
 use Rattle.std.proofs.lemmas.Option.{same_Some}
 use Rattle.rules.specs.Values.{ConfigValue}
 use Rattle.rules.specs.declared.suite.Suite.{Suite}
+use Rattle.rules.specs.Suites as rules
 use Rattle.suites.specs.Plan as plans
 use Rattle.suites.specs.Shelves.{ShelvesValue}
 use Rattle.suites.specs.Told.{AreTold}
@@ -37,7 +38,7 @@ place_in p (x ∷ xs) i h = (position-Some p (x ∷ xs) i x h).0
 
 -- a suite that is named is one of the configuration
 pub named_place : (config : ConfigValue) (name : List ℕ) (i : ℕ) → suite_named config name ≡ Some i → i < length config.suites
-unfolding suite_named
+unfolding rules.suite_named
 named_place config name i h = place_in (λ (s : Suite). bytes_eq s.codename name) config.suites i h
 
 pub late_fault : (book : Book) (from to source : List ℕ) (moment : ℕ) → latest < moment → copy_fault book from to source moment ≡ Some Moment

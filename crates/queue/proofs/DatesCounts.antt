@@ -19,12 +19,12 @@ use Rattle.suites.proofs.HeldLemmas.{by_pushes}
 use Rattle.suites.specs.KeyLemmas.{key_order_total, key_order-IsAntisymmetric}
 use Rattle.suites.specs.Keys.{key_order}
 use Rattle.suites.specs.Shelves.{ShelvesValue, ShelvesWith, is_covered, shown}
-use Rattle.suites.proofs.ShownLemmas.{shown-push}
+use Rattle.suites.proofs.ShownLemmas.{shown-push, true_from_T}
 use Rattle.suites.specs.declared.item.Item.{Item}
 use Rattle.suites.specs.declared.key.ShelfKey.{ShelfKey}
 use Rattle.suites.specs.declared.plan.Plan.{Plan}
 use Rattle.queue.specs.Archives.{BodyItem, version_with}
-use Rattle.queue.proofs.ContentsMaps.{find-Contains, find-map, on_value, tied_keys, true_from_T}
+use Rattle.queue.proofs.ContentsMaps.{find-Contains, find-map, on_value, tied_keys}
 use Rattle.queue.proofs.Dates.{ArePrinted, Grows, IsHeir, above-other, has_version, same_version, some_printed, taken_out, with_all_apart}
 use Rattle.queue.proofs.ShownPrints.{printed_item}
 

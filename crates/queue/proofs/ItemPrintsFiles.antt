@@ -1,5 +1,5 @@
 -- The files of the items of an upload are those of entries.
-use Rattle.std.proofs.Common.{◌≡◌, ◌⊎◌, ℕ, Bool, true, false, cond, List, [], ◌∷◌, ◌++◌, map, filter, filter_map, Option, Some, None, option_map, option_to_list, Result, Ok, Err, codes, refl, sym, ap, ap₂, ◌∙◌, subst, inl, inr}
+use Rattle.std.proofs.Common.{◌≡◌, ◌⊎◌, ℕ, true, List, [], ◌∷◌, ◌++◌, map, filter_map, Option, Some, None, option_map, option_to_list, Result, Ok, Err, codes, refl, sym, ap, ap₂, ◌∙◌, subst, inl, inr}
 use Rattle.std.specs.Prelude.{Contains}
 use Rattle.std.specs.List.{cons_option}
 use Rattle.std.specs.Result.{result_ok}
@@ -11,47 +11,13 @@ use Rattle.records.specs.Values.{ChangesValue, DscValue, SidecarValue}
 use Rattle.records.specs.declared.fault.RecordFault.{RecordFault}
 use Rattle.sums.proofs.Members.{here, there, which, no_member, from_map}
 use Rattle.sums.specs.declared.entries.Entry.{Entry}
+use Rattle.suites.proofs.ListMembers.{from_filter, only}
 use Rattle.suites.specs.Items.{FileWith, ItemWith, file_with, item_with}
 use Rattle.suites.specs.Upload.{UploadValue, Part, parts, parts_with, dsc_parts, sidecar_parts, has_suffix, file_at, package_file, stem, source_item, binary_item, items_of}
 use Rattle.suites.specs.declared.key.Kind.TheVariants.{Source, Binary}
 use Rattle.queue.proofs.ContentsListed.{from_zip, named_entry}
 
 -- ---- members
-
-kept_or_not : {X : Type 0} (p : X → Bool) (x y : X) (xs : List X) (b : Bool) → p x ≡ b → Contains (cond b (x ∷ filter p xs) (filter p xs)) y
-    → (Contains (filter p xs) y → Contains xs y × (p y ≡ true)) → Contains (x ∷ xs) y × (p y ≡ true)
-kept_or_not p x y xs true t h more = elim (which x y (filter p xs) h) [
-  | inl same ↦ (subst (λ z. Contains (x ∷ xs) z) same (here x xs), ap p (sym same) ∙ t)
-  | inr rest ↦ let m = more rest in (there x y xs m.0, m.1)
-]
-kept_or_not p x y xs false t h more = let m = more h in (there x y xs m.0, m.1)
-
--- a member of what is kept is a member that passes
-pub from_filter : {X : Type 0} (p : X → Bool) (y : X) (xs : List X) → Contains (filter p xs) y → Contains xs y × (p y ≡ true)
-from_filter p y [] h = no_member y h
-from_filter p y (x ∷ xs) h = kept_or_not p x y xs (p x) refl h (from_filter p y xs)
-
-kept : {X : Type 0} (p : X → Bool) (x y : X) (xs : List X) (b : Bool) → p x ≡ b → p y ≡ true → Contains (x ∷ xs) y
-    → (Contains xs y → Contains (filter p xs) y) → Contains (cond b (x ∷ filter p xs) (filter p xs)) y
-kept p x y xs true t e h more = elim (which x y xs h) [
-  | inl same ↦ subst (λ z. Contains (x ∷ filter p xs) z) same (here x (filter p xs))
-  | inr rest ↦ there x y (filter p xs) (more rest)
-]
-kept p x y xs false t e h more = elim (which x y xs h) [
-  | inl same ↦ cc (sym t ∙ (ap p same ∙ e))
-  | inr rest ↦ more rest
-]
-
-pub to_filter : {X : Type 0} (p : X → Bool) (y : X) (xs : List X) → Contains xs y → p y ≡ true → Contains (filter p xs) y
-to_filter p y [] h e = no_member y h
-to_filter p y (x ∷ xs) h e = kept p x y xs (p x) refl e h (λ r. to_filter p y xs r e)
-
-pub only : {X : Type 0} (o : Option X) (x : X) → Contains (option_to_list o) x → o ≡ Some x
-only None x h = no_member x h
-only (Some y) x h = elim (which y x [] h) [
-  | inl same ↦ ap Some same
-  | inr none ↦ no_member x none
-]
 
 consed : {X Y : Type 0} (h : X → Option Y) (x : X) (xs : List X) (y : Y) (o : Option Y) → h x ≡ o → Contains (cons_option o (filter_map h xs)) y
     → (Contains (filter_map h xs) y → (z : X) × Contains xs z × (h z ≡ Some y)) → (z : X) × Contains (x ∷ xs) z × (h z ≡ Some y)

@@ -1,37 +1,33 @@
 -- What the lists of an accepted upload say of its files.
-use Rattle.std.proofs.Common.{◌≡◌, ◌≢◌, ◌⊎◌, ℕ, Bool, true, false, cond, not, ◌||◌, ◌&&◌, List, [], ◌++◌, filter, codes, Option, Some, None, is_some, unwrap_or, Result, Ok, refl, sym, ap, ◌∙◌, subst, inl, inr, arith}
+use Rattle.std.proofs.Common.{◌≡◌, ◌≢◌, ◌⊎◌, ℕ, Bool, true, false, cond, not, ◌&&◌, List, [], ◌++◌, Option, Some, None, is_some, unwrap_or, Ok, refl, sym, ap, ◌∙◌, subst, inl, inr, arith}
 use Rattle.std.specs.Prelude.{AllPairs, Contains}
 use Rattle.std.specs.FinMap.{get}
-use Rattle.std.specs.List.{list_any, list_all}
+use Rattle.std.specs.List.{list_any}
 use Rattle.std.specs.Option.{option_map_or, option_or}
-use Rattle.std.specs.Str.{bytes_eq}
 use Rattle.records.proofs.RecordRead.{dsc_of_read}
 use Rattle.records.specs.Records.{dsc_in}
 use Rattle.records.specs.Values.{ChangesValue, DscValue}
 use Rattle.rules.specs.Judgement.{rule_rows, suite_of, suite_rows}
 use Rattle.rules.specs.Values.{ConfigValue}
-use Rattle.rules.specs.Verdicts.{Row, first_row, number_of}
+use Rattle.rules.specs.Verdicts.{Row, first_row}
 use Rattle.rules.specs.declared.suite.Suite.{Suite}
 use Rattle.rules.specs.declared.verdict.Verdict.{Verdict}
 use Rattle.rules.specs.declared.verdict.Verdict.TheVariants as verdict
-use Rattle.sums.proofs.Booleans.{neither, passed}
-use Rattle.sums.proofs.Members.{there, any_false, all_true, by_name}
+use Rattle.sums.proofs.Booleans.{passed}
+use Rattle.sums.proofs.Members.{there, any_false}
 use Rattle.sums.specs.Prints.{print as print_of, same_print}
 use Rattle.sums.specs.declared.entries.Entry.{Entry}
+use Rattle.suites.proofs.AcceptedLists.{at_ok, both_listed}
+use Rattle.suites.proofs.Joining.{row_passed}
+use Rattle.suites.proofs.Prints.{same_print-equal}
 use Rattle.suites.specs.Pool.{PoolWith}
 use Rattle.suites.specs.Upload.{UploadValue, Part, dsc_parts, entry_named}
-use Rattle.suites.specs.Verdict.{Telling, differs_from_dsc, has_bad_dsc, has_bad_listing, has_bad_sidecar, has_entry, has_other_contents, is_missing_file, is_package_part, lacks_source_file, match_ok, path_of, upload_rows, verdict_with}
-use Rattle.vers.specs.Syntax.{without_epoch}
+use Rattle.suites.specs.Verdict.{Telling, differs_from_dsc, has_bad_dsc, has_bad_listing, has_bad_sidecar, has_other_contents, is_missing_file, lacks_source_file, match_ok, path_of, upload_rows, verdict_with}
 use Rattle.queue.specs.Archives.{WholeUpload, by_body, contents_of, listed_body}
-use Rattle.queue.proofs.ContentsListed.{HasItsBodies, HasNoListed, listed_cases, entry_body, named_entry}
-use Rattle.queue.proofs.ItemPrintsFiles.{IsInDsc, IsListedBy, to_filter}
-use Rattle.queue.proofs.VerdictPrints.{same_print-equal}
+use Rattle.queue.proofs.ContentsListed.{HasItsBodies, HasNoListed, listed_cases, entry_body}
+use Rattle.queue.proofs.ItemPrintsFiles.{IsInDsc, IsListedBy}
 
 -- ---- no row applies
-
-row_passed : (b : Bool) (v rest : Verdict) → number_of v ≢ 0 → cond b v rest ≡ verdict.Accepted → (b ≡ false) × (rest ≡ verdict.Accepted)
-row_passed true v rest refusal e = absurd (refusal (ap number_of e))
-row_passed false v rest refusal e = (refl, e)
 
 none_of_suite : (foreign banned other : Bool) (rest : Verdict)
     → cond foreign verdict.ForeignArchitecture (cond banned verdict.NotAllowed (cond other verdict.ForeignComponent rest)) ≡ verdict.Accepted → rest ≡ verdict.Accepted
@@ -66,53 +62,6 @@ no_row_applies tell files config u h =
     record { dsc = dsc.0; sidecar = sidecar.0; missing = missing.0; taken = taken.0 }
 
 -- ---- what the .dsc lists
-
-at_ok : {V E : Type 0} (test : V → Bool) (v : V) (r : Result V E) → r ≡ Ok v → match_ok r test ≡ false → test v ≡ false
-at_ok test v r e h = ap (λ r. match_ok r test) (sym e) ∙ h
-
--- the .dsc is of another source or version, or of another name
-abbrev is_other_dsc : ChangesValue → List ℕ → DscValue → Bool
-is_other_dsc c name d =
-    not (bytes_eq d.source c.source) || not (bytes_eq d.version c.version)
-    || not (bytes_eq name (d.source ++ codes "_" ++ without_epoch d.version ++ codes ".dsc"))
-
-abbrev lists_part : DscValue → Bool
-lists_part d = list_any (λ e. is_package_part e.name) d.entries
-
-abbrev lists_sources : ChangesValue → DscValue → Bool
-lists_sources c d = list_all (has_entry d.entries) (filter (λ e. not (is_package_part e.name)) c.entries)
-
-plain_entries : (c : ChangesValue) (name : List ℕ) (d : DscValue) → differs_from_dsc c name d ≡ false → lists_part d ≡ false
-unfolding differs_from_dsc
-plain_entries c name d h =
-    (neither (is_other_dsc c name d) (lists_part d) (neither (is_other_dsc c name d || lists_part d) (not (lists_sources c d)) h).0).1
-
-source_entries : (c : ChangesValue) (name : List ℕ) (d : DscValue) → differs_from_dsc c name d ≡ false → lists_sources c d ≡ true
-unfolding differs_from_dsc
-source_entries c name d h =
-    passed (lists_sources c d) (neither (is_other_dsc c name d || lists_part d) (not (lists_sources c d)) h).1
-
--- an entry of the list with that name and print
-print_found : (e f : Entry) (entries : List Entry) (found : Option Entry) → entry_named e.name entries ≡ found → AllPairs (λ a b. a.name ≢ b.name) entries → Contains entries f → e.name ≡ f.name
-    → option_map_or (λ g. same_print g.print e.print) found false ≡ true → e.print ≡ f.print
-print_found e f entries None found names listed same h = cc
-print_found e f entries (Some g) found names listed same h =
-    let n = named_entry e.name entries g found in
-    sym (same_print-equal g.print e.print h) ∙ ap (λ x. x.print) (by_name (λ x. x.name) entries g f names n.0 listed (n.1 ∙ same))
-
-has_entry-print : (e f : Entry) (entries : List Entry) → AllPairs (λ a b. a.name ≢ b.name) entries → Contains entries f → e.name ≡ f.name → has_entry entries e ≡ true → e.print ≡ f.print
-unfolding has_entry
-has_entry-print e f entries names listed same h = print_found e f entries (entry_named e.name entries) refl names listed same h
-
--- a file that both list has one print
-both_listed : (c : ChangesValue) (name : List ℕ) (d : DscValue) (e f : Entry) → differs_from_dsc c name d ≡ false → AllPairs (λ a b. a.name ≢ b.name) d.entries
-    → Contains c.entries e → Contains d.entries f → e.name ≡ f.name → e.print ≡ f.print
-both_listed c name d e f h names p q same =
-    let plain : is_package_part f.name ≡ false = any_false (λ (e : Entry). is_package_part e.name) d.entries f (plain_entries c name d h) q in
-    let source : not (is_package_part e.name) ≡ true = ap not (ap is_package_part same ∙ plain) in
-    has_entry-print e f d.entries names q same
-    (all_true (has_entry d.entries) (filter (λ e. not (is_package_part e.name)) c.entries) e (source_entries c name d h)
-    (to_filter (λ (e : Entry). not (is_package_part e.name)) e c.entries p source))
 
 dsc_names : (text : List ℕ) (d : DscValue) → dsc_in text ≡ Ok d → AllPairs (λ a b. a.name ≢ b.name) d.entries
 dsc_names text d h = let read = dsc_of_read text d h in read.made.entries.listed.names

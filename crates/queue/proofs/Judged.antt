@@ -1,5 +1,6 @@
 -- An upload has a verdict exactly where it was complete at a run that was done.
 use Rattle.std.proofs.Common.{◌≡◌, ℕ, Bool, true, false, cond, not, ◌&&◌, ◌||◌, ◌==◌, List, [], ◌∷◌, ◌++◌, map, filter, fold, Option, Some, None, Result, Ok, Err, refl, sym, ap, subst, ◌∙◌}
+use Rattle.std.proofs.lemmas.Bool.{and_parts}
 use Rattle.std.specs.Prelude.{Contains, IfSome, option_to_list, bytes_eq}
 use Rattle.std.specs.Ordering.{is_gt}
 use Rattle.std.specs.List.{AllByRecursion, list_any, flat_map}
@@ -15,7 +16,6 @@ use Rattle.rules.specs.Values.{ConfigValue}
 use Rattle.sums.specs.Prints.{print as print_of, same_print}
 use Rattle.sums.specs.declared.print.Print.{Print}
 use Rattle.keep.specs.Book.{Book, Candidate, at_moment, candidate_of, candidates, due, in_order, is_complete, is_judged, candidate_order, put_in_order, unjudged, upload_of}
-use Rattle.sums.specs.FileNames.{is_changes_name}
 use Rattle.keep.specs.Keeping.{NoCollision}
 use Rattle.keep.specs.declared.arrival.Arrival.{Arrival}
 use Rattle.queue.specs.Before.{before_each, before_each-push}
@@ -26,13 +26,9 @@ use Rattle.queue.specs.declared.fault.Fault.{Fault}
 use Rattle.queue.proofs.Lists.{all_filter_map, all_front, all_weaker, by_steps, filter_agree_on}
 use Rattle.queue.proofs.Known.{ArrivalsHave, StepsHave, Knows, arrived_have, counting_have, counting_known, faithful_knows, with_empty, has_empty}
 use Rattle.queue.proofs.Steps.{step_of, archive-push}
+use Rattle.sums.specs.FileNames.{is_changes_name}
 
 -- ---- prints and candidates
-
-and_true : (a b : Bool) → (a && b) ≡ true → (a ≡ true) × (b ≡ true)
-and_true true true h = (refl, refl)
-and_true true false h = absurd (cc)
-and_true false b h = absurd (cc)
 
 both_true : (a b : Bool) → a ≡ true → b ≡ true → (a && b) ≡ true
 both_true a b ha hb = ap (λ x. x && b) ha ∙ hb
@@ -40,9 +36,9 @@ both_true a b ha hb = ap (λ x. x && b) ha ∙ hb
 pub same_print-Decides : (p q : Print) → Decides (same_print p q) (p ≡ q)
 same_print-Decides p q = (
   λ h.
-      let last = and_true ((p.size == q.size) && bytes_eq p.md5 q.md5 && bytes_eq p.sha1 q.sha1) (bytes_eq p.sha256 q.sha256) h in
-      let third = and_true ((p.size == q.size) && bytes_eq p.md5 q.md5) (bytes_eq p.sha1 q.sha1) last.0 in
-      let first = and_true (p.size == q.size) (bytes_eq p.md5 q.md5) third.0 in
+      let last = and_parts ((p.size == q.size) && bytes_eq p.md5 q.md5 && bytes_eq p.sha1 q.sha1) (bytes_eq p.sha256 q.sha256) h in
+      let third = and_parts ((p.size == q.size) && bytes_eq p.md5 q.md5) (bytes_eq p.sha1 q.sha1) last.0 in
+      let first = and_parts (p.size == q.size) (bytes_eq p.md5 q.md5) third.0 in
       equal_fields p q ((Decides-eqb p.size q.size).0 first.0) ((bytes_eq-Decides p.md5 q.md5).0 first.1)
       ((bytes_eq-Decides p.sha1 q.sha1).0 third.1) ((bytes_eq-Decides p.sha256 q.sha256).0 last.1),
   λ e. subst (λ (r : Print). same_print p r ≡ true) e
@@ -88,7 +84,7 @@ some_same x y e = cc
 
 twin_is : (c d : Candidate) → IsRead c → IsRead d → is_twin c d ≡ true → d ≡ c
 twin_is c d hc hd h =
-    let parts = and_true (bytes_eq d.name c.name) (bytes_eq d.body c.body) h in
+    let parts = and_parts (bytes_eq d.name c.name) (bytes_eq d.body c.body) h in
     let names : d.name ≡ c.name = (bytes_eq-Decides d.name c.name).0 parts.0 in
     let bodies : d.body ≡ c.body = (bytes_eq-Decides d.body c.body).0 parts.1 in
     let records : d.changes ≡ c.changes = some_same _ _ (sym hd ∙ ap (λ body. result_ok (changes_in body)) bodies ∙ hc) in

@@ -34,9 +34,7 @@ pub mod PromotionAnswers
 pub mod CopiesInARow
 pub mod Runs
 pub mod Openings
-pub mod RenewedLists
 pub mod RenewedShelves
-pub mod RenewedPaths
 pub mod RenewedTexts
 pub mod ReadLemmas
 pub mod RenewedSteps

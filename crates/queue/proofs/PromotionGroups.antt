@@ -17,6 +17,8 @@ use Rattle.std.proofs.lemmas.Slice.Eq.{bytes_eq-Decides}
 use Rattle.rules.specs.Values.{ConfigValue}
 use Rattle.rules.specs.declared.suite.Suite.{Suite}
 use Rattle.sums.proofs.Members.{from_map}
+use Rattle.suites.proofs.ListMembers.{from_flat_map}
+use Rattle.suites.proofs.ShownLemmas.{true_from_T}
 use Rattle.suites.specs.Items.{standing}
 use Rattle.suites.specs.KeyLemmas.{key_order_total, key_order-IsAntisymmetric}
 use Rattle.suites.specs.Keys.{key_order}
@@ -27,8 +29,6 @@ use Rattle.suites.specs.declared.item.Item.{Item}
 use Rattle.suites.specs.declared.key.ShelfKey.{ShelfKey}
 use Rattle.queue.specs.Copies.{is_item_of, shows_source}
 use Rattle.queue.specs.Promotions.{keys_in}
-use Rattle.queue.proofs.Contents.{from_flat_map}
-use Rattle.queue.proofs.ContentsMaps.{true_from_T}
 use Rattle.queue.proofs.DatesCounts.{T_from_true, find_filter, shown_elsewhere, sorted_filter}
 
 -- ---- groups

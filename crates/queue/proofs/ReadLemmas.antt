@@ -1,13 +1,8 @@
 -- Reads of a keeper one after the other.
-use Rattle.std.proofs.Common.{◌≤◌, ℕ, Option, inl, inr, refl, ◌∙◌, arith}
+use Rattle.std.proofs.Common.{ℕ, Option, inl, inr, refl, ◌∙◌, arith}
+use Rattle.keep.proofs.Staying.{more_behind, more_before}
 use Rattle.keep.specs.Book.{Book}
-use Rattle.keep.specs.Keeping.{Lasts, MoreFaults, Reads}
-
-more_behind : (a b c : ℕ) → MoreFaults a b → b ≤ c → MoreFaults a c
-more_behind a b c more counts = omega (arith, more, counts)
-
-pub more_before : (a b c : ℕ) → a ≤ b → MoreFaults b c → MoreFaults a c
-more_before a b c counts more = omega (arith, more, counts)
+use Rattle.keep.specs.Keeping.{Lasts, Reads}
 
 module _ {K : Type 0} {is_clean is_open : K → Type 0} {faults : K → ℕ} {book : K → Book} where
   pub lasts_itself : (a : K) → Lasts is_clean is_open faults book a a

@@ -7,17 +7,16 @@ use Rattle.std.proofs.lemmas.Option.{same_Some}
 use Rattle.para.specs.Fault.{many_fault, one_fault}
 use Rattle.para.specs.Fields.{fields_in}
 use Rattle.para.specs.declared.fault.ParaFault.TheVariants as para_faults
-use Rattle.records.specs.Records.{changes_in}
+use Rattle.records.specs.Records.{changes_in, changes_limit}
 use Rattle.records.specs.Values.{ChangesValue}
 use Rattle.records.specs.declared.fault.RecordFault.{RecordFault}
 use Rattle.records.specs.declared.fault.RecordFault.TheVariants as record_faults
-use Rattle.sums.specs.FileNames.{is_file_name, is_changes_name}
 use Rattle.keep.specs.Book.{Book, latest}
 use Rattle.keep.specs.declared.keeper.Keeper.{Ghosts}
 use Rattle.queue.specs.Answers.{IsFaithful, IsKept, IsStep, answer}
 use Rattle.queue.specs.Archives.{book_of}
 use Rattle.queue.specs.Commands.{is_new, stored}
-use Rattle.queue.specs.Deliveries.{IsKeepers, delivery_fault, fault_of_read, most_bytes, or_else, record_fault}
+use Rattle.queue.specs.Deliveries.{IsKeepers, delivery_fault, fault_of_read, or_else, record_fault}
 use Rattle.queue.specs.Histories.{Delivery, History, Stored, followed}
 use Rattle.queue.specs.Receiving.{Gave, GaveUpTo, HasArrived, HasRead, IsAsBefore, IsCutOff, IsLeft, IsLeftBy, IsReceived, MayBeKept, WasShort}
 use Rattle.queue.specs.Steps.{Does, IsUndone, Lasts}
@@ -26,6 +25,8 @@ use Rattle.queue.specs.declared.fault.Fault.{Fault}
 use Rattle.queue.specs.declared.fault.Fault.TheVariants.{OutOfMemory, BadName, TooLarge, Record, Keeper, Moment, UnknownSuite, SameSuite, NothingToCopy, Ended, ReaderFailed, NothingToRemove}
 use Rattle.queue.proofs.StepAnswers.{delivered_left, delivered_step, refused_delivery}
 use Rattle.queue.proofs.Steps.{book_of-refused}
+use Rattle.sums.specs.FileNames.{is_changes_name, is_file_name}
+use Rattle.sums.specs.Lines.{most_size}
 
 -- ---- the fault of a delivery
 
@@ -33,30 +34,30 @@ pub bad_name : (name body : List ℕ) (moment : ℕ) → is_file_name name ≡ f
 unfolding delivery_fault
 bad_name name body moment is = rw is refl
 
-pub too_large : (name body : List ℕ) (moment : ℕ) → is_file_name name ≡ true → most_bytes < length body → delivery_fault name body moment ≡ Some TooLarge
+pub too_large : (name body : List ℕ) (moment : ℕ) → is_file_name name ≡ true → most_size < length body → delivery_fault name body moment ≡ Some TooLarge
 unfolding delivery_fault
-too_large name body moment is large = rw (is, lt-ltb most_bytes (length body) large) refl
+too_large name body moment is large = rw (is, lt-ltb most_size (length body) large) refl
 
-pub too_late : (name body : List ℕ) (moment : ℕ) → is_file_name name ≡ true → is_changes_name name ≡ false → length body ≤ most_bytes → latest < moment → delivery_fault name body moment ≡ Some Moment
+pub too_late : (name body : List ℕ) (moment : ℕ) → is_file_name name ≡ true → is_changes_name name ≡ false → length body ≤ most_size → latest < moment → delivery_fault name body moment ≡ Some Moment
 unfolding delivery_fault record_fault
-too_late name body moment is plain small late = rw (is, le-ltb most_bytes (length body) small, plain, lt-ltb latest moment late) refl
+too_late name body moment is plain small late = rw (is, le-ltb most_size (length body) small, plain, lt-ltb latest moment late) refl
 
-pub no_fault : (name body : List ℕ) (moment : ℕ) → is_file_name name ≡ true → is_changes_name name ≡ false → length body ≤ most_bytes → moment ≤ latest → delivery_fault name body moment ≡ None
+pub no_fault : (name body : List ℕ) (moment : ℕ) → is_file_name name ≡ true → is_changes_name name ≡ false → length body ≤ most_size → moment ≤ latest → delivery_fault name body moment ≡ None
 unfolding delivery_fault record_fault
-no_fault name body moment is plain small in_time = rw (is, le-ltb most_bytes (length body) small, plain, le-ltb latest moment in_time) refl
+no_fault name body moment is plain small in_time = rw (is, le-ltb most_size (length body) small, plain, le-ltb latest moment in_time) refl
 
 -- a text that is too long for a record
-long_record : (body : List ℕ) → 1048576 < length body → changes_in body ≡ Err (record_faults.Paragraph para_faults.TooLong)
+long_record : (body : List ℕ) → changes_limit < length body → changes_in body ≡ Err (record_faults.Paragraph para_faults.TooLong)
 unfolding changes_in fields_in one_fault many_fault
-long_record body long = rw (lt-ltb 1048576 (length body) long) refl
+long_record body long = rw (lt-ltb changes_limit (length body) long) refl
 
-pub too_long : (name body : List ℕ) (moment : ℕ) → is_file_name name ≡ true → is_changes_name name ≡ true → length body ≤ most_bytes → 1048576 < length body
+pub too_long : (name body : List ℕ) (moment : ℕ) → is_file_name name ≡ true → is_changes_name name ≡ true → length body ≤ most_size → changes_limit < length body
     → delivery_fault name body moment ≡ Some (Record (record_faults.Paragraph para_faults.TooLong))
 unfolding delivery_fault record_fault
-too_long name body moment is changes small long = rw (is, le-ltb most_bytes (length body) small, changes, long_record body long) refl
+too_long name body moment is changes small long = rw (is, le-ltb most_size (length body) small, changes, long_record body long) refl
 
 -- whatever body of this size comes may be kept under a name that is none of a .changes
-pub may_be_kept : (name : List ℕ) (n : ℕ) → is_file_name name ≡ true → is_changes_name name ≡ false → n ≤ most_bytes → MayBeKept name n
+pub may_be_kept : (name : List ℕ) (n : ℕ) → is_file_name name ≡ true → is_changes_name name ≡ false → n ≤ most_size → MayBeKept name n
 may_be_kept name n is plain small body size = record { file_name = is; small = omega (arith, size, small); a_record = λ changes. absurd (no_both (is_changes_name name) changes plain) }
   where
     no_both : (b : Bool) → b ≡ true → b ≡ false → ⊥
@@ -86,7 +87,7 @@ record_kind false read e is = absurd (cc)
 delivery_kind : (name body : List ℕ) (moment : ℕ) (e : Fault) → delivery_fault name body moment ≡ Some e → IsOfDelivery e
 unfolding delivery_fault record_fault
 delivery_kind name body moment e is =
-    kind_of (is_file_name name) (nat_lt most_bytes (length body)) (nat_lt latest moment) (record_fault name body) e (λ f read. record_kind (is_changes_name name) (changes_in body) f read) is
+    kind_of (is_file_name name) (nat_lt most_size (length body)) (nat_lt latest moment) (record_fault name body) e (λ f read. record_kind (is_changes_name name) (changes_in body) f read) is
 
 -- a front of all the bytes is all of them
 whole_front : (other front rest : List ℕ) (n : ℕ) → length other ≡ n → length front ≡ n → other ≡ front ++ rest → other ≡ front
@@ -171,7 +172,7 @@ module _ {K : Type 0} (g : Ghosts K) (old new : Option (List ℕ)) (name : List 
     }
 
     -- a body that was read and stored
-    pub received_new : (fresh : Bool) (told : Arrived) → is_new told ≡ fresh → is_file_name name ≡ true → is_changes_name name ≡ false → n ≤ most_bytes → moment ≤ latest
+    pub received_new : (fresh : Bool) (told : Arrived) → is_new told ≡ fresh → is_file_name name ≡ true → is_changes_name name ≡ false → n ≤ most_size → moment ≤ latest
         → (g.is_clean after → g.is_open after) → HasArrived old new n (g.is_clean after) (g.book before) (g.book after) name moment fresh
         → IsReceived g old new name n moment before after (Ok told)
     received_new fresh told is named plain small in_time served here = (
@@ -184,7 +185,7 @@ module _ {K : Type 0} (g : Ghosts K) (old new : Option (List ℕ)) (name : List 
     )
 
     -- one that was not stored
-    pub received_not : (e : Fault) → is_file_name name ≡ true → is_changes_name name ≡ false → n ≤ most_bytes → moment ≤ latest → HasRead g.may_fail old new n e → IsUndone g before after
+    pub received_not : (e : Fault) → is_file_name name ≡ true → is_changes_name name ≡ false → n ≤ most_size → moment ≤ latest → HasRead g.may_fail old new n e → IsUndone g before after
         → IsReceived g old new name n moment before after (Err e)
     received_not OutOfMemory named plain small in_time h same = (h, as_before same)
     received_not (Keeper fault) named plain small in_time h same = (
@@ -205,12 +206,12 @@ module _ {K : Type 0} (g : Ghosts K) (old new : Option (List ℕ)) (name : List 
     received_not NothingToRemove named plain small in_time h same = absurd h
 
     -- a body that was read whole, and then delivered
-    module _ (body : List ℕ) (gave : Gave old new n body) (small : n ≤ most_bytes) where
+    module _ (body : List ℕ) (gave : Gave old new n body) (small : n ≤ most_size) where
       all_of_it : GaveUpTo old new n
       all_of_it = record { front = body; read = gave.0; short = omega (arith, gave.1) }
 
       refused_for : (e : Fault) → IsUndone g before after → (delivery_fault name body moment ≡ Some e) ⊎ ⊥
-          → ((other : List ℕ) × Gave old new n other × (n ≤ most_bytes) × (delivery_fault name other moment ≡ Some e)) × IsAsBefore g before after
+          → ((other : List ℕ) × Gave old new n other × (n ≤ most_size) × (delivery_fault name other moment ≡ Some e)) × IsAsBefore g before after
       refused_for e same told = elim told [ inl is ↦ ((body, gave, small, is), as_before same) | inr none ↦ absurd none ]
 
       free_of : delivery_fault name body moment ≡ None → IsCutOff old new name n moment
@@ -246,7 +247,7 @@ module _ {K : Type 0} (g : Ghosts K) (old new : Option (List ℕ)) (name : List 
 
   -- what a crash leaves of a body that was being stored
   pub left_stored : (h : History) (was_open : Type 0) (book : Book) (left : Option Book) → IsKept was_open book h → is_file_name name ≡ true → is_changes_name name ≡ false
-      → n ≤ most_bytes → moment ≤ latest → was_open × ((left ≡ Some book) ⊎ IsLeft old new n book left name moment)
+      → n ≤ most_size → moment ≤ latest → was_open × ((left ≡ Some book) ⊎ IsLeft old new n book left name moment)
       → (left ≡ Some (book_of h)) ⊎ IsLeftBy h old new name n moment left
   left_stored h was_open book left kept named plain small in_time made = elim made.1 [
     | inl is ↦ inl (is ∙ ap Some (kept.stands made.0))

@@ -16,16 +16,19 @@ use Rattle.rules.specs.Configuration.{config_in}
 use Rattle.rules.specs.declared.suite.Suite.{Suite}
 use Rattle.suites.specs.Shelves.{ShelvesValue}
 use Rattle.sums.proofs.Members.{all_at, all_from, contains_map, from_map, here, there, which, no_member, pairs_head}
+use Rattle.texts.proofs.Walk.{indices_by_place}
 use Rattle.texts.specs.Indices.{PathText, index_text, suite_texts, text_at, texts_from}
 use Rattle.texts.specs.Release.{index_of, indices_of, release_text}
 use Rattle.texts.proofs.Found.{found_front, none_front, text_at-found, text_at-other}
-use Rattle.queue.specs.Renewal.{folder_of, index_after, path_in, place_path, place_text, places_in, renewed_at, renewed_folder, renewed_from, renewed_index, renewed_suite, some_changes_index, text_after}
+use Rattle.queue.specs.Renewal.{folder_of, index_after, path_in, renewed_at, renewed_folder, renewed_from, renewed_index, renewed_suite, some_changes_index, text_after}
+use Rattle.texts.specs.Places.{place_path, place_text, places_in, place_entry}
 use Rattle.queue.specs.declared.renewal.Folder.{Folder}
-use Rattle.queue.specs.declared.renewal.Place.{Place}
-use Rattle.queue.proofs.RenewedLists.{PathsDiffer, found_of_apart, into_flat, none_of_others, pairs_across, pairs_append, pairs_map, pairs_none, same_map_over}
-use Rattle.queue.proofs.RenewedPaths.{AreNamed, IsNamed, config_named, folders, index_or_release, places_apart}
+use Rattle.texts.specs.declared.places.Place.{Place}
+use Rattle.texts.proofs.Apart.{PathsDiffer, found_of_apart, none_of_others}
+use Rattle.texts.proofs.Pairs.{into_flat, pairs_across, pairs_append, pairs_map, pairs_none, same_map_over}
+use Rattle.texts.proofs.Paths.{AreNamed, IsNamed, config_named, folders, index_or_release, places_apart, named_rest}
 use Rattle.queue.proofs.RenewedShelves.{same_past, untouched_index}
-use Rattle.queue.proofs.RenewedTexts.{Listed, all_apart, entries_are, entries_of, in_folder, indices_by_place, named_rest, of_folder, one_covers, placed, released}
+use Rattle.queue.proofs.RenewedTexts.{Listed, all_apart, entries_are, entries_of, of_folder, one_covers, placed, released}
 
 -- ---- look-ups in two lists of texts that have the same paths
 
@@ -96,7 +99,7 @@ module _ (old : List ℕ → Option (List ℕ)) (shown shelves : ShelvesValue) (
 
     indices_are : map (index_after old shelves steps f) places ≡ indices_of s shelves suite
     indices_are =
-        same_map_over (index_after old shelves steps f) (λ p. index_of (in_folder shelves suite p)) places (λ p at. ap (λ (t : List ℕ). index_of (place_path p, t)) (after_is p at))
+        same_map_over (index_after old shelves steps f) (λ p. index_of (place_entry shelves suite p)) places (λ p at. ap (λ (t : List ℕ). index_of (place_path p, t)) (after_is p at))
         ∙ sym (indices_by_place shelves suite s)
 
     member : (moment : ℕ) (t : IndexText) → Contains (renewed_suite old shelves steps moment suite s) t
@@ -160,7 +163,7 @@ module _ (old : List ℕ → Option (List ℕ)) (shown shelves : ShelvesValue) (
     untouched h =
         let same : (p : Place) → place_text shown suite p ≡ place_text shelves suite p = λ p. sym (past suite p (untouched_index suite p steps h)) in
         let indices : indices_of s shown suite ≡ indices_of s shelves suite =
-        indices_by_place shown suite s ∙ same_map_over (λ p. index_of (in_folder shown suite p)) (λ p. index_of (in_folder shelves suite p)) places (λ p at. ap (λ (t : List ℕ). index_of (place_path p, t)) (same p)) ∙ sym (indices_by_place shelves suite s) in
+        indices_by_place shown suite s ∙ same_map_over (λ p. index_of (place_entry shown suite p)) (λ p. index_of (place_entry shelves suite p)) places (λ p at. ap (λ (t : List ℕ). index_of (place_path p, t)) (same p)) ∙ sym (indices_by_place shelves suite s) in
         ap (λ is. (path_in f (codes "Release"), release_text s date is) ∷ map (placed shown f) places) indices
         ∙ ap (λ (es : List PathText). released shelves suite s date ∷ es) (same_map_over (placed shown f) (placed shelves f) places (λ p at. ap (λ (t : List ℕ). (path_in f (place_path p), t)) (same p)))
 

@@ -16,9 +16,10 @@ use Rattle.sums.specs.Prints.{print}
 use Rattle.sums.specs.declared.print.Print.{Print}
 use Rattle.suites.specs.Shelves.{ShelvesValue}
 use Rattle.texts.specs.declared.index.Index.{Index}
-use Rattle.queue.specs.Renewal.{folder_of, index_after, path_in, place_path, place_text, print_kept, renewed_folder, renewed_from, renewed_index, renewed_suite, some_changes_index, text_after}
+use Rattle.queue.specs.Renewal.{folder_of, index_after, path_in, print_kept, renewed_folder, renewed_from, renewed_index, renewed_suite, some_changes_index, text_after}
+use Rattle.texts.specs.Places.{place_path, place_text}
 use Rattle.queue.specs.declared.renewal.Folder.{Folder}
-use Rattle.queue.specs.declared.renewal.Place.{Place}
+use Rattle.texts.specs.declared.places.Place.{Place}
 
 abbrev index : List ℕ → Print → Index
 index path print = record { path = path; print = print }

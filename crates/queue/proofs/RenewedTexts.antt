@@ -4,7 +4,6 @@ use Rattle.std.proofs.Common.{◌≡◌, ◌≢◌, ◌⊎◌, inl, inr, ℕ, �
 use Rattle.std.proofs.Props.{props}
 use Rattle.std.specs.List.{flat_map}
 use Rattle.std.specs.Prelude.{AllPairs, Contains}
-use Rattle.std.proofs.lemmas.List.{map-append}
 use Rattle.std.proofs.lemmas.List.Elements.{Contains-append_cases}
 use Rattle.std.proofs.lemmas.Slice.Eq.{bytes_eq-Decides}
 use Rattle.keep.specs.Book.{is_kept}
@@ -15,24 +14,19 @@ use Rattle.rules.specs.declared.suite.Suite.{Suite}
 use Rattle.suites.specs.Shelves.{ShelvesValue}
 use Rattle.sums.specs.Prints.{print}
 use Rattle.sums.specs.declared.print.Print.{Print}
-use Rattle.sums.proofs.Members.{all_at, here, there, which, no_member, pairs_head, pairs_tail}
+use Rattle.sums.proofs.Members.{all_at, here, there, which, no_member, pairs_head}
+use Rattle.texts.proofs.Walk.{map_twice, listed_by_place}
 use Rattle.texts.specs.Indices.{PathText, folder_texts, suite_path, suite_texts}
-use Rattle.texts.specs.Release.{index_of, indices_of, listed_entry, listed_texts, release_text}
+use Rattle.texts.specs.Release.{indices_of, release_text}
 use Rattle.texts.specs.declared.index.Index.{Index}
-use Rattle.queue.specs.Renewal.{folder_of, index_after, path_in, place_at, place_path, place_text, places_in, renewed_at, renewed_folder, renewed_from, renewed_index, renewed_suite, some_changes_index, text_to_keep}
+use Rattle.queue.specs.Renewal.{folder_of, index_after, path_in, renewed_at, renewed_folder, renewed_from, renewed_index, renewed_suite, some_changes_index, text_to_keep}
+use Rattle.texts.specs.Places.{place_path, place_text, places_in, place_entry}
 use Rattle.queue.specs.declared.renewal.Folder.{Folder}
-use Rattle.queue.specs.declared.renewal.Place.{Place}
-use Rattle.queue.proofs.RenewedLists.{in_flat, pairs_append, pairs_flat, pairs_none, pairs_one}
-use Rattle.queue.proofs.RenewedPaths.{AreNamed, NoSlash, folders, index_or_release, places_apart}
-
-pub map_twice : {A B C : Type 0} (f : B → C) (g : A → B) (xs : List A) → map f (map g xs) ≡ map (λ x. f (g x)) xs
-map_twice f g [] = refl
-map_twice f g (x ∷ xs) = ap (λ ys. f (g x) ∷ ys) (map_twice f g xs)
+use Rattle.texts.specs.declared.places.Place.{Place}
+use Rattle.texts.proofs.Pairs.{in_flat, pairs_append, pairs_flat, pairs_none, pairs_one}
+use Rattle.texts.proofs.Paths.{AreNamed, NoSlash, folders, index_or_release, places_apart, named_rest}
 
 -- ---- the texts of a suite, place by place
-
-abbrev pub in_folder : ShelvesValue → ℕ → Place → PathText
-in_folder shelves suite p = (place_path p, place_text shelves suite p)
 
 abbrev pub placed : ShelvesValue → Folder → Place → PathText
 placed shelves f p = (path_in f (place_path p), place_text shelves f.suite p)
@@ -43,30 +37,11 @@ released shelves suite s date = (path_in (folder_of suite s) (codes "Release"), 
 abbrev pub entries_of : ShelvesValue → ℕ → Suite → ℕ → List PathText
 entries_of shelves suite s date = released shelves suite s date ∷ map (placed shelves (folder_of suite s)) (places_in s.components s.architectures)
 
-of_component : (shelves : ShelvesValue) (suite : ℕ) (c : List ℕ) (architectures : List (List ℕ)) → map (listed_entry shelves suite c) architectures ≡ map (in_folder shelves suite) (map (place_at c) architectures)
-of_component shelves suite c architectures = sym (map_twice (in_folder shelves suite) (place_at c) architectures)
-
-by_place : (shelves : ShelvesValue) (suite : ℕ) (components architectures : List (List ℕ))
-    → flat_map (λ c. map (listed_entry shelves suite c) architectures) components ≡ map (in_folder shelves suite) (places_in components architectures)
-by_place shelves suite [] architectures = refl
-by_place shelves suite (c ∷ cs) architectures =
-    ap (λ es. es ++ flat_map (λ c. map (listed_entry shelves suite c) architectures) cs) (of_component shelves suite c architectures)
-    ∙ ap (λ es. map (in_folder shelves suite) (map (place_at c) architectures) ++ es) (by_place shelves suite cs architectures)
-    ∙ sym (map-append (in_folder shelves suite) (map (place_at c) architectures) (places_in cs architectures))
-
-listed_by_place : (shelves : ShelvesValue) (suite : ℕ) (s : Suite) → listed_texts s shelves suite ≡ map (in_folder shelves suite) (places_in s.components s.architectures)
-unfolding listed_texts
-listed_by_place shelves suite s = by_place shelves suite s.components s.architectures
-
 pub entries_are : (shelves : ShelvesValue) (suite : ℕ) (s : Suite) (date : ℕ) → suite_texts shelves suite s date ≡ entries_of shelves suite s date
 unfolding suite_texts folder_texts
 entries_are shelves suite s date =
     ap (λ (es : List PathText). released shelves suite s date ∷ map (λ (e : PathText). (suite_path s e.0, e.1)) es) (listed_by_place shelves suite s)
-    ∙ ap (λ (es : List PathText). released shelves suite s date ∷ es) (map_twice (λ (e : PathText). (suite_path s e.0, e.1)) (in_folder shelves suite) (places_in s.components s.architectures))
-
-pub indices_by_place : (shelves : ShelvesValue) (suite : ℕ) (s : Suite) → indices_of s shelves suite ≡ map (λ p. index_of (in_folder shelves suite p)) (places_in s.components s.architectures)
-unfolding indices_of
-indices_by_place shelves suite s = ap (map index_of) (listed_by_place shelves suite s) ∙ map_twice index_of (in_folder shelves suite) (places_in s.components s.architectures)
+    ∙ ap (λ (es : List PathText). released shelves suite s date ∷ es) (map_twice (λ (e : PathText). (suite_path s e.0, e.1)) (place_entry shelves suite) (places_in s.components s.architectures))
 
 -- ---- what is renewed
 
@@ -123,9 +98,6 @@ one_apart kept path text = by_case (is_kept kept text)
     by_case : (b : Bool) → AllPairs TextsDiffer (if b then [] else text_to_keep path text ∷ [])
     by_case true = pairs_none TextsDiffer
     by_case false = pairs_one TextsDiffer (text_to_keep path text)
-
-pub named_rest : (s : Suite) (rest : List Suite) → AreNamed (s ∷ rest) → AreNamed rest
-named_rest s rest named = record { each = λ t at. named.each t (there s t rest at); apart = pairs_tail (λ (x y : Suite). x.codename ≢ y.codename) s rest named.apart }
 
 module _ (old : List ℕ → Option (List ℕ)) (shelves : ShelvesValue) (steps : List Step) where
   -- a text of a place, or Release

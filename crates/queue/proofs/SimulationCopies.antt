@@ -11,6 +11,7 @@ use Rattle.rules.specs.Suites.{keeps_architecture, keeps_component}
 use Rattle.rules.specs.Values.{ConfigValue}
 use Rattle.rules.specs.declared.suite.Suite.{Suite}
 use Rattle.sums.proofs.Members.{from_map}
+use Rattle.suites.proofs.ListMembers.{from_flat_map, from_filter}
 use Rattle.suites.specs.Items.{Admitted, on_shelf, standing}
 use Rattle.suites.specs.Plan as plans
 use Rattle.suites.specs.Pool.{AreAgreed, files_of}
@@ -22,10 +23,9 @@ use Rattle.queue.specs.Amending.{steps_at}
 use Rattle.queue.specs.Answers.{IsFaithful, IsStep, answer, count_of_new}
 use Rattle.queue.specs.Archives.{BodyItem, PlainArchive, Stands, acted, acts_of, archive, book_from, book_of, copied, is_kept_by, is_shown_of, items_copied, printed, shown_by_print, shown_in, suite_named, version_with, with_admitted}
 use Rattle.queue.specs.Histories.{Copying, Count, History, arrivals_after, arrived, followed}
-use Rattle.queue.proofs.Contents.{AreMadeOf, both_known, from_flat_map, shown_member}
+use Rattle.queue.proofs.Contents.{AreMadeOf, both_known, shown_member}
 use Rattle.queue.proofs.Dates.{shown_grows}
 use Rattle.queue.proofs.DatesCounts.{count-put, shown_elsewhere}
-use Rattle.queue.proofs.ItemPrintsFiles.{from_filter}
 use Rattle.queue.proofs.Kept.{stands_kept}
 use Rattle.queue.proofs.Known.{archive_has, faithful_knows, has_empty, known, with_empty}
 use Rattle.queue.proofs.ShownPrints.{entries-shown_by_print, get-shown_by_print, printed_item}

@@ -16,6 +16,7 @@ use Rattle.rules.specs.declared.verdict.Verdict.TheVariants.{Accepted}
 use Rattle.sums.proofs.Members.{there, which, no_member, any_true, contains_map}
 use Rattle.sums.specs.Prints.{print as print_of, same_print}
 use Rattle.sums.specs.declared.print.Print.{Print}
+use Rattle.suites.proofs.Prints.{same_print-equal}
 use Rattle.suites.specs.Items.{Admitted, FileWith}
 use Rattle.suites.specs.KeyLemmas.{text_order_total, text_order-IsAntisymmetric}
 use Rattle.suites.specs.Plan.{admitted_if}
@@ -33,7 +34,7 @@ use Rattle.queue.proofs.ItemPrintsFiles.{items_listed}
 use Rattle.queue.proofs.ItemPrintsRows.{listed_contents, no_row_applies}
 use Rattle.queue.proofs.PoolPrints.{files-shown_by_print, get-pool, printed_file}
 use Rattle.queue.proofs.Simulation.{AreSimulated, handed}
-use Rattle.queue.proofs.VerdictPrints.{equal-same_print, same_print-equal}
+use Rattle.queue.proofs.VerdictPrints.{equal-same_print}
 
 -- a body of one of the arrivals
 abbrev pub HasCome : List Arrival → List ℕ → Type 0

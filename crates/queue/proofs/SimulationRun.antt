@@ -7,7 +7,6 @@ use Rattle.std.specs.Result.{result_ok}
 use Rattle.std.proofs.Math.Seq.{drop-append_seam}
 use Rattle.std.proofs.lemmas.Option.{same_Some}
 use Rattle.keep.specs.Book.{Book, Candidate, amended, at_moment, candidate_of, candidates, due, in_order, is_complete, judgements, candidate_order, latest, put_in_order, span, upload_of}
-use Rattle.sums.specs.FileNames.{is_changes_name}
 use Rattle.keep.specs.Keeping.{HasEachBody, NoCollision}
 use Rattle.keep.specs.declared.arrival.Arrival.{Arrival}
 use Rattle.keep.specs.declared.change.Step.{Step}
@@ -16,6 +15,7 @@ use Rattle.records.specs.Records.{changes_in}
 use Rattle.records.specs.Values.{ChangesValue}
 use Rattle.rules.specs.Values.{ConfigValue}
 use Rattle.sums.proofs.Members.{here, there, which, no_member}
+use Rattle.suites.proofs.ListMembers.{from_filter}
 use Rattle.suites.specs.Items.{Admitted, FileWith}
 use Rattle.suites.specs.Pool.{AreAgreed, files_of}
 use Rattle.suites.specs.Shelves.{AreSound}
@@ -28,7 +28,7 @@ use Rattle.queue.specs.Histories as histories
 use Rattle.queue.specs.Judging.{AreJudged}
 use Rattle.queue.proofs.Contents.{AreMadeOf}
 use Rattle.queue.proofs.ContentsWhole.{whole_of-arrived, whole_of-bodies, whole_of-brought}
-use Rattle.queue.proofs.ItemPrintsFiles.{from_filter, from_filter_map}
+use Rattle.queue.proofs.ItemPrintsFiles.{from_filter_map}
 use Rattle.queue.proofs.Judged.{due_faithful}
 use Rattle.queue.proofs.Kept.{stands_kept}
 use Rattle.queue.proofs.Known.{ItemHas, ItemsHave, archive_has, faithful_knows, has_empty, known, with_empty}
@@ -36,6 +36,7 @@ use Rattle.queue.proofs.Lists.{at_contained}
 use Rattle.queue.proofs.Simulation.{AreHanded, AreSimulated, acted-wholes, handed, simulated}
 use Rattle.queue.proofs.SimulationFiles.{AreArrived, AreFrom, AreStored, amended-simulated, bodies-simulated, handed_stored, shown_stored}
 use Rattle.queue.proofs.Steps.{book_of-followed}
+use Rattle.sums.specs.FileNames.{is_changes_name}
 
 -- ---- what is due
 

@@ -6,7 +6,6 @@ use Rattle.std.proofs.lemmas.Simd.{map-map}
 use Rattle.std.proofs.lemmas.Bool.{lt-ltb, le-ltb, ltb-false}
 use Rattle.std.proofs.lemmas.Grind.{flat_map-append}
 use Rattle.std.proofs.lemmas.List.Elements.{Contains-append_right}
-use Rattle.sums.specs.FileNames.{is_file_name, is_changes_name}
 use Rattle.records.specs.Records.{changes_in}
 use Rattle.records.specs.Values.{ChangesValue}
 use Rattle.records.specs.declared.fault.RecordFault.{RecordFault}
@@ -19,7 +18,7 @@ use Rattle.keep.specs.declared.fault.KeepFault.{KeepFault}
 use Rattle.keep.specs.declared.fault.KeepFault.TheVariants as keep_faults
 use Rattle.queue.specs.Answers.{IsAnswer, IsFaithful, IsKept, IsStep, answer, delivery_answer, found_at, is_refused, line_on_waiting, report_line, waiting_line}
 use Rattle.queue.specs.Archives.{Stands, book_of, book_from}
-use Rattle.queue.specs.Deliveries.{IsKeepers, delivery_fault, fault_of_read, most_bytes, or_else, record_fault}
+use Rattle.queue.specs.Deliveries.{IsKeepers, delivery_fault, fault_of_read, or_else, record_fault}
 use Rattle.queue.specs.Fault.{of_keeper}
 use Rattle.queue.specs.Histories.{Call, Delivery, QueueRun, Lookup, WaitingList, Cleaning, VerdictList, Reply, Stored, Lines, Count, Found, History, arrived, bodies_of, bodies_of_call, calls_of, counting, followed, waiting_after}
 use Rattle.queue.specs.declared.fault.Fault.{Fault}
@@ -29,6 +28,8 @@ use Rattle.queue.proofs.Kept.{IsSame, stands_kept}
 use Rattle.queue.proofs.Known.{known, apart_with_empty}
 use Rattle.queue.proofs.Lists.{contains_later}
 use Rattle.queue.proofs.Steps.{book_of-refused, book_of-cleaned, book_of-delivered, book_of-looked_up, book_of-waited, book_of-listed}
+use Rattle.sums.specs.FileNames.{is_changes_name, is_file_name}
+use Rattle.sums.specs.Lines.{most_size}
 
 -- ---- refusals
 
@@ -111,7 +112,7 @@ record_apart own false read is = absurd (cc)
 delivery_apart : (name body : List ℕ) (moment : ℕ) (own : KeepFault) → delivery_fault name body moment ≡ Some (Keeper own) → ⊥
 unfolding delivery_fault record_fault
 delivery_apart name body moment own is =
-    faults_apart own (is_file_name name) (nat_lt most_bytes (length body)) (nat_lt latest moment) (record_fault name body) (record_apart own (is_changes_name name) (changes_in body)) is
+    faults_apart own (is_file_name name) (nat_lt most_size (length body)) (nat_lt latest moment) (record_fault name body) (record_apart own (is_changes_name name) (changes_in body)) is
 
 -- the fault of a delivery is the answer
 pub refused_delivery : (may_fail : Bool) (h : History) (name body : List ℕ) (moment : ℕ) (fault : Fault) → (fault ≡ OutOfMemory) ⊎ (delivery_fault name body moment ≡ Some fault)
@@ -145,10 +146,10 @@ read_of false read is named = absurd (cc)
 pub deliverable : (name body : List ℕ) (moment : ℕ) → delivery_fault name body moment ≡ None → IsDeliverable name body
 unfolding delivery_fault record_fault
 deliverable name body moment none =
-    let parts = none_of (is_file_name name) (nat_lt most_bytes (length body)) (nat_lt latest moment) (record_fault name body) none in
+    let parts = none_of (is_file_name name) (nat_lt most_size (length body)) (nat_lt latest moment) (record_fault name body) none in
     record {
       file_name = parts.0;
-      small = ltb-false most_bytes (length body) parts.1;
+      small = ltb-false most_size (length body) parts.1;
       a_record = read_of (is_changes_name name) (changes_in body) parts.2;
     }
 

@@ -1,5 +1,5 @@
 -- The verdict on an upload that is handed over whole is the one by prints.
-use Rattle.std.proofs.Common.{◌≡◌, ℕ, Bool, true, false, not, ◌==◌, ◌&&◌, ◌||◌, codes, is_some, List, [], ◌∷◌, ◌++◌, Option, Some, None, option_map, unwrap_or, refl, sym, ap, ap₂, ◌∙◌}
+use Rattle.std.proofs.Common.{◌≡◌, ℕ, Bool, true, false, not, ◌==◌, ◌&&◌, codes, is_some, List, [], ◌∷◌, ◌++◌, Option, Some, None, option_map, unwrap_or, refl, sym, ap, ap₂, ◌∙◌}
 use Rattle.std.specs.Prelude.{Contains}
 use Rattle.std.specs.FinMap.{get}
 use Rattle.std.specs.List.{list_any}
@@ -8,6 +8,7 @@ use Rattle.std.specs.Str.{bytes_eq}
 use mathlib.Core.Path.{fun_ext}
 use Rattle.std.proofs.lemmas.Bool.Decides.{Decides-eqb}
 use Rattle.std.proofs.lemmas.Slice.Eq.{bytes_eq-Decides}
+use Rattle.keep.proofs.Arrivals.{any_same}
 use Rattle.keep.specs.Keeping.{NoCollision}
 use Rattle.records.specs.Records.{dsc_in}
 use Rattle.records.specs.Values.{ChangesValue, DscValue}
@@ -15,11 +16,11 @@ use Rattle.rules.specs.Judgement.{rule_rows}
 use Rattle.rules.specs.Values.{ConfigValue}
 use Rattle.rules.specs.Verdicts.{first_row}
 use Rattle.rules.specs.declared.verdict.Verdict.TheVariants as verdict
-use Rattle.sums.proofs.Booleans.{both}
-use Rattle.sums.proofs.Members.{here, there}
+use Rattle.sums.proofs.Members.{there}
 use Rattle.sums.specs.Prints.{print as print_of, same_print}
 use Rattle.sums.specs.declared.entries.Entry.{Entry}
 use Rattle.sums.specs.declared.print.Print.{Print}
+use Rattle.suites.proofs.Prints.{same_print-equal}
 use Rattle.suites.specs.Shelves.{pool}
 use Rattle.suites.specs.Upload.{UploadValue, Part, dsc_parts, entry_named, has_suffix}
 use Rattle.suites.specs.Verdict.{by_print, has_bad_dsc, has_bad_listing, has_bad_sidecar, has_other_contents, is_missing_file, is_taken, lacks_source_file, match_ok, path_of, verdict_on, verdict_with}
@@ -34,20 +35,6 @@ pub record AreKnown (bodies : List (List ℕ)) (a : PlainArchive) (w : WholeUplo
   pub brought : (body : List ℕ) → Contains w.bodies body → Contains bodies body
 
 -- ---- prints that are the same
-
-equal_fields : (a b : Print) → a.size ≡ b.size → a.md5 ≡ b.md5 → a.sha1 ≡ b.sha1 → a.sha256 ≡ b.sha256 → a ≡ b
-equal_fields a b size md5 sha1 sha256 = λ i. record { size = size i; md5 = md5 i; sha1 = sha1 i; sha256 = sha256 i }
-
-pub same_print-equal : (a b : Print) → same_print a b ≡ true → a ≡ b
-same_print-equal a b h =
-    let last = both ((a.size == b.size) && bytes_eq a.md5 b.md5 && bytes_eq a.sha1 b.sha1) (bytes_eq a.sha256 b.sha256) h in
-    let third = both ((a.size == b.size) && bytes_eq a.md5 b.md5) (bytes_eq a.sha1 b.sha1) last.0 in
-    let first = both (a.size == b.size) (bytes_eq a.md5 b.md5) third.0 in
-    equal_fields a b
-    ((Decides-eqb a.size b.size).0 first.0)
-    ((bytes_eq-Decides a.md5 b.md5).0 first.1)
-    ((bytes_eq-Decides a.sha1 b.sha1).0 third.1)
-    ((bytes_eq-Decides a.sha256 b.sha256).0 last.1)
 
 same_print-itself : (a : Print) → same_print a a ≡ true
 same_print-itself a =
@@ -66,10 +53,6 @@ same_test : (a b : Bool) → (a ≡ true → b ≡ true) → (b ≡ true → a �
 same_test true b f g = sym (f refl)
 same_test false true f g = g refl
 same_test false false f g = refl
-
-any_same : {X : Type 0} (p q : X → Bool) (xs : List X) → ((x : X) → Contains xs x → p x ≡ q x) → list_any p xs ≡ list_any q xs
-any_same p q [] h = refl
-any_same p q (x ∷ xs) h = ap₂ (λ (a b : Bool). a || b) (h x (here x xs)) (any_same p q xs (λ y k. h y (there x y xs k)))
 
 map_or-map : {X Y : Type 0} (f : X → Y) (test : Y → Bool) (o : Option X) → option_map_or test (option_map f o) false ≡ option_map_or (λ x. test (f x)) o false
 map_or-map f test None = refl

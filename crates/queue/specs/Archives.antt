@@ -1,5 +1,5 @@
 -- The plain archive, to which each upload is handed whole and once.
-use Rattle.std.specs.Prelude.{◌≡◌, ℕ, nat_eq, Bool, false, ◌&&◌, ◌||◌, not, if◌then◌else◌, List, [], ◌∷◌, ◌++◌, map, filter, find, zip, bytes_eq, Option, Some, None, option_map, option_to_list, unwrap_or, Result, Ok, position, slice_get}
+use Rattle.std.specs.Prelude.{◌≡◌, ℕ, nat_eq, Bool, false, ◌&&◌, ◌||◌, not, if◌then◌else◌, List, [], ◌∷◌, ◌++◌, map, filter, find, zip, bytes_eq, Option, Some, None, option_map, option_to_list, unwrap_or, Result, Ok, slice_get}
 use Rattle.std.specs.Option.{option_map_or, option_or}
 use Rattle.std.specs.List.{list_any, flat_map, fold, enumerate_from}
 use Rattle.std.specs.FinMap.{entries, values, get}
@@ -8,6 +8,7 @@ use Rattle.rules.specs.Values.{ConfigValue}
 use Rattle.rules.specs.Judgement.{component}
 use Rattle.rules.specs.Suites.{keeps_architecture, keeps_component}
 use Rattle.rules.specs.declared.suite.Suite.{Suite}
+use Rattle.rules.specs.Suites as rules
 use Rattle.sums.specs.Prints.{print as print_of}
 use Rattle.sums.specs.declared.entries.Entry.{Entry}
 use Rattle.suites.specs.Items.{ItemWith, Admitted, on_shelf, item_with, item_of}
@@ -109,8 +110,8 @@ whole config moment a w =
 -- ---- copies
 
 -- the position of the suite with a codename
-unfoldable pub suite_named : ConfigValue → List ℕ → Option ℕ
-suite_named config name = position (λ s. bytes_eq s.codename name) config.suites
+abbrev pub suite_named : ConfigValue → List ℕ → Option ℕ
+suite_named config name = rules.suite_named config.suites name
 
 -- whether a suite shows the item and it is of the source package
 unfoldable pub is_shown_of : ℕ → List ℕ → ShelfKey × BodyItem → Bool

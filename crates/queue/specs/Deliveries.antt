@@ -1,6 +1,5 @@
 -- Which deliveries are refused, whatever the archive holds.
 use Rattle.std.specs.Prelude.{ℕ, Bool, IsTrue, ⊤, not, nat_lt, if◌then◌else◌, List, length, Option, Some, None, Result, Ok, Err}
-use Rattle.sums.specs.FileNames.{is_file_name, is_changes_name}
 use Rattle.keep.specs.Book.{latest}
 use Rattle.keep.specs.declared.fault.KeepFault.{KeepFault}
 use Rattle.keep.specs.declared.fault.KeepFault.TheVariants as keep_faults
@@ -9,10 +8,8 @@ use Rattle.records.specs.Values.{ChangesValue}
 use Rattle.records.specs.declared.fault.RecordFault.{RecordFault}
 use Rattle.queue.specs.declared.fault.Fault.{Fault}
 use Rattle.queue.specs.declared.fault.Fault.TheVariants.{OutOfMemory, BadName, TooLarge, Record, Keeper, Moment}
-
--- the most bytes of a delivered body
-abbrev pub most_bytes : ℕ
-most_bytes = 4194304
+use Rattle.sums.specs.FileNames.{is_changes_name, is_file_name}
+use Rattle.sums.specs.Lines.{most_size}
 
 abbrev pub fault_of_read : Result ChangesValue RecordFault → Option Fault
 fault_of_read (Ok changes) = None
@@ -31,7 +28,7 @@ or_else (Some fault) other = Some fault
 unfoldable pub delivery_fault : List ℕ → List ℕ → ℕ → Option Fault
 delivery_fault name body moment =
     if not (is_file_name name) then Some BadName
-    else (if nat_lt most_bytes (length body) then Some TooLarge
+    else (if nat_lt most_size (length body) then Some TooLarge
     else or_else (record_fault name body) (if nat_lt latest moment then Some Moment else None))
 
 -- a fault of the disk or of size

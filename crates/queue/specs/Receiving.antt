@@ -7,12 +7,13 @@ use Rattle.keep.specs.declared.keeper.Keeper.{Ghosts}
 use Rattle.queue.specs.Answers.{IsFaithful, IsKept, answer}
 use Rattle.queue.specs.Archives.{book_of}
 use Rattle.queue.specs.Commands.{stored}
-use Rattle.queue.specs.Deliveries.{IsOfDisk, delivery_fault, most_bytes}
+use Rattle.queue.specs.Deliveries.{IsOfDisk, delivery_fault}
 use Rattle.queue.specs.Histories.{Delivery, History, followed}
 use Rattle.queue.specs.Steps.{Does, Leaves}
 use Rattle.queue.specs.declared.command.Arrived.{Arrived}
 use Rattle.queue.specs.declared.fault.Fault.{Fault}
 use Rattle.queue.specs.declared.fault.Fault.TheVariants.{OutOfMemory, Keeper, Ended, ReaderFailed}
+use Rattle.sums.specs.Lines.{most_size}
 
 -- ---- what a reader gave
 
@@ -94,8 +95,8 @@ module _ {K : Type 0} (g : Ghosts K) (before after : K) (gave gives : Option (Li
 -- The fault is that of the delivery: the whole body was read, or of one that is too large nothing.
 abbrev pub IsRefusedFor : Option (List ℕ) → Option (List ℕ) → List ℕ → ℕ → ℕ → Fault → Type 0
 IsRefusedFor old new name n moment fault =
-    ((body : List ℕ) × Gave old new n body × (n ≤ most_bytes) × (delivery_fault name body moment ≡ Some fault))
-    ⊎ ((most_bytes < n) × Keeps old new × ((body : List ℕ) → length body ≡ n → delivery_fault name body moment ≡ Some fault))
+    ((body : List ℕ) × Gave old new n body × (n ≤ most_size) × (delivery_fault name body moment ≡ Some fault))
+    ⊎ ((most_size < n) × Keeps old new × ((body : List ℕ) → length body ≡ n → delivery_fault name body moment ≡ Some fault))
 
 -- A keeper's fault comes only where no body that goes on as it began is refused by itself.
 pub record IsCutOff (old new : Option (List ℕ)) (name : List ℕ) (n moment : ℕ) : Type 0 where

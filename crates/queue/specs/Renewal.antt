@@ -13,11 +13,13 @@ use Rattle.suites.specs.Shelves.{ShelvesValue}
 use Rattle.suites.specs.declared.item.Item.{Item}
 use Rattle.suites.specs.declared.key.ShelfKey.{ShelfKey}
 use Rattle.suites.specs.declared.plan.Plan.{Plan}
-use Rattle.texts.specs.Release.{index_of, index_path, is_source, listed_text, release_text}
+use Rattle.texts.specs.Release.{index_of, is_source, release_text}
 use Rattle.texts.specs.Stanzas.{is_in_packages, is_in_sources}
+use Rattle.texts.specs.Indices as indices
+use Rattle.texts.specs.Places.{place_path, place_text, places_in}
 use Rattle.texts.specs.declared.index.Index.{Index}
+use Rattle.texts.specs.declared.places.Place.{Place}
 use Rattle.queue.specs.declared.renewal.Folder.{Folder}
-use Rattle.queue.specs.declared.renewal.Place.{Place}
 
 -- ---- which indices a step changes
 
@@ -48,26 +50,13 @@ text_to_keep path text = record { path = path; text = text; print = print text; 
 unfoldable pub renewed_at : Option (List ℕ) → List ℕ → List ℕ → List IndexText
 renewed_at kept path text = if is_kept kept text then [] else text_to_keep path text ∷ []
 
-abbrev pub place_at : List ℕ → List ℕ → Place
-place_at component architecture = record { component = component; architecture = architecture }
-
--- the places of a suite's indices: for each component in its order, each architecture in its order
-abbrev pub places_in : List (List ℕ) → List (List ℕ) → List Place
-places_in components architectures = flat_map (λ c. map (place_at c) architectures) components
-
-abbrev pub place_path : Place → List ℕ
-place_path place = index_path place.component place.architecture
-
-abbrev pub place_text : ShelvesValue → ℕ → Place → List ℕ
-place_text shelves suite place = listed_text shelves suite place.component place.architecture
-
 -- the suite at a position, as it is told apart in paths
 abbrev pub folder_of : ℕ → Suite → Folder
 folder_of suite s = record { suite = suite; codename = s.codename; places = places_in s.components s.architectures }
 
 -- the path of a text of the suite
 abbrev pub path_in : Folder → List ℕ → List ℕ
-path_in folder path = codes "dists/" ++ folder.codename ++ codes "/" ++ path
+path_in folder path = indices.path_in folder.codename path
 
 -- the index of this path and this print
 abbrev pub index_with : List ℕ → Print → Index

@@ -24,7 +24,7 @@ use keep::{Configured, IndexText, KeepFault, Keeper, LATEST};
 use rules::{Config, Suite};
 use std::alloc::{AllocError, Global};
 use suites::{Shelves, moved_shelves, place_named};
-use texts::{indices_of, release};
+use texts::{indices_of, path_in, release};
 
 /// The date at a position.
 fn date_at(dates: &[u64], position: usize) -> Option<u64>
@@ -52,11 +52,10 @@ fn date_of(suites: &[Suite], dates: &[u64], codename: &str) -> Option<u64>
 }
 
 /// The whole path of a text in the folder of a suite, without a leading slash.
-fn path_in(alloc: Global, suite: &Suite, path: &str) -> Result<String, AllocError>
+fn path_of(alloc: Global, suite: &Suite, path: &str) -> Result<String, AllocError>
     ensures { IfOk result (λ whole. string_bytes whole ≡ suite_path suite.now path.now) }
 {
-    let codename = suite.codename.as_str();
-    format!(in alloc; "dists/{codename}/{path}")
+    path_in(alloc, suite.codename.as_str(), path)
 }
 
 /// The Release of the suite at a position of a configuration, of a date.
@@ -102,7 +101,7 @@ fn date_under<K: Keeper>(
     let Some(date) = date_of(keeper.config().suites(), keeper.dates(), codename) else {
         return Ok(moment);
     };
-    let path = path_in(alloc, suite, "Release")?;
+    let path = path_of(alloc, suite, "Release")?;
     let text = release_of(alloc, config, shelves, position, date)?;
     if keeper.keeps_text(alloc, &IndexText::new(path, text))? {
         Ok(date)

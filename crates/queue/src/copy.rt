@@ -9,37 +9,19 @@ ghost use Rattle.queue.specs.Copies.{is_item_of, shows_source, suites_fault, Are
 use crate::fault::Fault;
 use keep::Step;
 use para::Listed;
-use rules::{Config, Suite};
+use rules::Config;
 use std::alloc::{AllocError, Global};
 use suites::{Item, Plan, ShelfKey, Shelves, plan_copy};
-
-/// Whether the suite has the codename.
-fn has_codename(suite: &Suite, codename: &str) -> bool
-    ensures { result ≡ bytes_eq suite.now.codename codename.now }
-{
-    suite.codename.as_str() == codename
-}
-
-/// The position of the suite with a codename.
-#[tactic(auto, unfolding(crate::specs::Archives::suite_named))]
-pub fn suite_named(config: &Config, codename: &str) -> Option<usize>
-    ensures { result ≡ suite_named config.now codename.now }
-{
-    config
-        .suites()
-        .iter()
-        .position(|suite| has_codename(suite, codename))
-}
 
 /// The positions of two suites, by their codenames. Refused where there is no such suite, and where they are the same.
 pub fn two_suites(config: &Config, from: &str, to: &str) -> Result<(usize, usize), Fault>
     ensures suites { IfOk result (λ places. AreSuites config.now from.now to.now places.0 places.1) }
     ensures refused { IfErr result (λ e. suites_fault (suite_named config.now from.now) (suite_named config.now to.now) ≡ Some e) }
 {
-    let Some(from) = suite_named(config, from) else {
+    let Some(from) = config.suite_named(from) else {
         return Err(Fault::UnknownSuite);
     };
-    let Some(to) = suite_named(config, to) else {
+    let Some(to) = config.suite_named(to) else {
         return Err(Fault::UnknownSuite);
     };
     if from == to {

@@ -1,25 +1,13 @@
 //! Which deliveries are refused, whatever the archive holds.
 
 ghost use Rattle.std.specs.Prelude.{◌≡◌, ◌⊎◌, ◌≤◌, Some, None, MatchResult, OnOk};
-ghost use Rattle.sums.specs.FileNames.{is_changes_name};
 ghost use Rattle.queue.specs.Deliveries.{delivery_fault, record_fault};
 
 use crate::fault::Fault;
 use keep::LATEST;
 use records::Changes;
 use std::alloc::Global;
-use sums::is_file_name;
-
-/// The most bytes of a delivered body.
-const MOST_BYTES: usize = 4_194_304;
-
-/// Whether a file of this name has to be a .changes.
-#[tactic(auto, unfolding(sums::specs::FileNames::is_changes_name))]
-pub fn is_changes_name(name: &str) -> bool
-    ensures { result ≡ is_changes_name name.now }
-{
-    name.as_bytes().ends_with(b".changes")
-}
+use sums::{MOST_SIZE, is_changes_name, is_file_name};
 
 /// Refuses the body of a .changes that is none.
 #[tactic(auto, unfolding(crate::specs::Deliveries::record_fault))]
@@ -43,7 +31,7 @@ pub fn check_delivery(alloc: Global, name: &str, body: &[u8], moment: u64) -> Re
     if !is_file_name(name) {
         return Err(Fault::BadName);
     }
-    if body.len() > MOST_BYTES {
+    if body.len() as u64 > MOST_SIZE {
         return Err(Fault::TooLarge);
     }
     check_record(alloc, name, body)?;

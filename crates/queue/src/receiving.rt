@@ -7,30 +7,24 @@
 
 ghost use Rattle.std.specs.Prelude.{◌≡◌, ◌<◌, ◌≤◌, ℕ, List, Some, true, length, IsErrAnd, OnErr};
 ghost use Rattle.std.specs.Io.KnownBytes.{Keeps};
-ghost use Rattle.sums.specs.FileNames.{is_changes_name as is_changes_name_of, is_file_name as is_file_name_of};
 ghost use Rattle.queue.specs.Commands.{is_new, stored};
-ghost use Rattle.queue.specs.Deliveries.{delivery_fault, most_bytes};
+ghost use Rattle.queue.specs.Deliveries.{delivery_fault};
 ghost use Rattle.queue.specs.Receiving.{IsReceived, LeavesReceived};
 ghost use Rattle.queue.specs.Steps.{IsServed, IsUndone, Lasts};
+ghost use Rattle.sums.specs.FileNames.{is_changes_name as is_changes_name_of, is_file_name as is_file_name_of};
+ghost use Rattle.sums.specs.Lines.{most_size};
 
 use crate::archive::Archive;
 use crate::command::Arrived;
-use crate::delivery::is_changes_name;
 use crate::fault::Fault;
 use crate::reading::{collect, skip};
 use crate::storing::store;
 use keep::{Keeper, LATEST};
 use para::ParaFault;
-use records::RecordFault;
+use records::{MOST_CHANGES, RecordFault};
 use std::alloc::Global;
 use std::io::Read;
-use sums::is_file_name;
-
-/// The most bytes of a delivered body.
-const MOST_BYTES: u64 = 4_194_304;
-
-/// The most bytes of a body that is a .changes.
-const MOST_OF_RECORD: usize = 1_048_576;
+use sums::{MOST_SIZE, is_changes_name, is_file_name};
 
 /// What is answered to a delivery that is new, or that was there.
 fn arrived(fresh: bool) -> Arrived
@@ -59,14 +53,14 @@ impl<K: Keeper> Archive<K> {
         // What the reader gave, and what came of it.
         ensures received { IsReceived K.Keeper (R.remaining reader.old) (R.remaining reader.new) name.now size moment self.old.keeper self.new.keeper result }
         // Of a body of more than 4194304 bytes nothing is read, and the answer is the fault of the delivery itself.
-        ensures large { most_bytes < size → Keeps (R.remaining reader.old) (R.remaining reader.new)
+        ensures large { most_size < size → Keeps (R.remaining reader.old) (R.remaining reader.new)
             × IsErrAnd result (λ e. (body : List ℕ) → length body ≡ size → delivery_fault name.now body moment ≡ Some e) }
         // A refusal leaves the book as it was, whatever the history.
         ensures err { OnErr result (IsUndone K.Keeper self.old.keeper self.new.keeper) }
         // A crash leaves what it would have left before, what the history left, or that with the body that the reader gave.
         ensures crash { LeavesReceived K.Keeper (R.remaining reader.old) (R.remaining reader.new) name.now size moment self.old.keeper self.new.keeper }
     {
-        if size > MOST_BYTES {
+        if size > MOST_SIZE {
             if is_file_name(name) {
                 return Err(Fault::TooLarge);
             }
@@ -101,14 +95,14 @@ impl<K: Keeper> Archive<K> {
     ) -> Result<Arrived, Fault>
         requires named { is_file_name_of name.now ≡ true }
         requires a_record { is_changes_name_of name.now ≡ true }
-        requires small { whole ≤ most_bytes }
+        requires small { whole ≤ most_size }
         ensures lasts { Lasts K.Keeper self.old.keeper self.new.keeper }
         ensures served { IsServed K.Keeper self.new.keeper (stored result) }
         ensures received { IsReceived K.Keeper (R.remaining reader.old) (R.remaining reader.new) name.now whole moment self.old.keeper self.new.keeper result }
         ensures err { OnErr result (IsUndone K.Keeper self.old.keeper self.new.keeper) }
         ensures crash { LeavesReceived K.Keeper (R.remaining reader.old) (R.remaining reader.new) name.now whole moment self.old.keeper self.new.keeper }
     {
-        if whole > MOST_OF_RECORD {
+        if whole > MOST_CHANGES {
             skip(reader, whole)?;
             return Err(Fault::Record(RecordFault::Paragraph(ParaFault::TooLong)));
         }

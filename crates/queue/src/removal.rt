@@ -5,7 +5,6 @@ ghost use Rattle.queue.specs.Archives.{suite_named};
 ghost use Rattle.queue.specs.Removals.{shows_package, suite_fault, IsRemoval};
 ghost use Rattle.suites.specs.Plan.{is_removed};
 
-use crate::copy::suite_named;
 use crate::fault::Fault;
 use rules::Config;
 use std::alloc::Global;
@@ -16,7 +15,7 @@ pub fn place_of(config: &Config, codename: &str) -> Result<usize, Fault>
     ensures suite { IfOk result (λ place. suite_named config.now codename.now ≡ Some place) }
     ensures refused { IfErr result (λ e. suite_fault (suite_named config.now codename.now) ≡ Some e) }
 {
-    let Some(place) = suite_named(config, codename) else {
+    let Some(place) = config.suite_named(codename) else {
         return Err(Fault::UnknownSuite);
     };
     Ok(place)

@@ -13,7 +13,8 @@ ghost use Rattle.sums.specs.Prints.{print};
 ghost use Rattle.texts.specs.Positions.{release_at};
 ghost use Rattle.texts.specs.Release.{index_of};
 ghost use Rattle.queue.specs.Steps.{Reads};
-ghost use Rattle.queue.specs.Renewal.{changes_index, folder_of, index_after, index_with, is_listed, path_in, place_at, place_path, place_text, places_in, print_kept, renewed_at, renewed_folder, renewed_from, renewed_index, renewed_suite, some_changes_index, text_after};
+ghost use Rattle.queue.specs.Renewal.{changes_index, folder_of, index_after, index_with, is_listed, path_in, print_kept, renewed_at, renewed_folder, renewed_from, renewed_index, renewed_suite, some_changes_index, text_after};
+ghost use Rattle.texts.specs.Places.{place_at, place_path, place_text, places_in};
 
 use crate::printed::{PrintedText, print_next};
 use keep::{IndexText, KeepFault, Keeper, Step, some_changes_suite};
@@ -22,14 +23,9 @@ use rules::Suite;
 use std::alloc::{AllocError, Global};
 use suites::{Item, Plan, ShelfKey, Shelves};
 use sums::{Print, print_of};
-use texts::{Index, index_path, listed_text, lists_package, lists_source, release};
-
-/// What tells an index of a suite from its others.
-#[derive(Drop)]
-pub struct Place {
-    pub component: Text,
-    pub architecture: Text,
-}
+use texts::{
+    Index, Place, index_path, listed_text, lists_package, lists_source, path_in, places_of, release,
+};
 
 /// A suite as its paths name it: its position in the configuration, its codename, and the places of its indices.
 #[derive(Drop)]
@@ -37,39 +33,6 @@ pub struct Folder {
     pub suite: usize,
     pub codename: Text,
     pub places: Listed<Place>,
-}
-
-/// Appends the places of a component.
-fn push_places(
-    alloc: Global,
-    component: &str,
-    architectures: &[Text],
-    places: &mut Vec<Place>,
-) -> Result<(), AllocError>
-    ensures { OnOk result (places.new.items ≡ places.old.items ++ map (place_at component.now) architectures.now) }
-{
-    for architecture in architectures {
-        places.push(Place {
-            component: Text::new(alloc, component)?,
-            architecture: architecture.try_clone()?,
-        })?;
-    }
-    Ok(())
-}
-
-/// The places of a suite's indices: for each component in its order, each architecture in its order.
-fn places_of(
-    alloc: Global,
-    components: &[Text],
-    architectures: &[Text],
-) -> Result<Listed<Place>, AllocError>
-    ensures { IfOk result (λ places. places ≡ places_in components.now architectures.now) }
-{
-    let mut places = Vec::new(alloc);
-    for component in components {
-        push_places(alloc, component.as_str(), architectures, &mut places)?;
-    }
-    Ok(Listed::from_vec(places))
 }
 
 /// The folder of the suite at a position.
@@ -88,11 +51,10 @@ fn folder_of(alloc: Global, position: usize, suite: &Suite) -> Result<Folder, Al
 }
 
 /// The path of a text of the suite, without a leading slash.
-fn path_in(alloc: Global, folder: &Folder, path: &str) -> Result<String, AllocError>
+fn path_of(alloc: Global, folder: &Folder, path: &str) -> Result<String, AllocError>
     ensures { IfOk result (λ whole. string_bytes whole ≡ path_in folder.now path.now) }
 {
-    let codename = folder.codename.as_str();
-    format!(in alloc; "dists/{codename}/{path}")
+    path_in(alloc, folder.codename.as_str(), path)
 }
 
 /// Whether the index of a suite's place lists the item, which stands on the shelf.
@@ -221,7 +183,7 @@ fn renew_index<K: Keeper>(
     let component = place.component.as_str();
     let architecture = place.architecture.as_str();
     let path = index_path(alloc, component, architecture)?;
-    let whole = path_in(alloc, folder, path.as_str())?;
+    let whole = path_of(alloc, folder, path.as_str())?;
     if !some_changes_index(amendment.steps, folder.suite, place) {
         return index_kept(alloc, keeper, path, whole);
     }
@@ -265,6 +227,17 @@ fn renew_indices<K: Keeper>(
     Ok(indices)
 }
 
+/// Whether a text is kept at a whole path. Its print tells it, so that the text is not read.
+fn has_text<K: Keeper>(alloc: Global, keeper: &mut K, path: &str) -> Result<bool, KeepFault>
+    ensures reads { Reads K.Keeper keeper.old keeper.new }
+    ensures served { K.is_clean keeper.new → OnOk result (K.is_open keeper.new) }
+    ensures there { K.is_clean keeper.new → IfOk result (λ there. there ≡ is_some (text_at (K.book keeper.old) path.now)) }
+    ensures cause { IfErr result (MayAnswer K.may_fail) }
+{
+    let found = keeper.text_print(alloc, path)?;
+    Ok(found.is_some())
+}
+
 /// Appends the texts of a suite that an amendment makes other than the kept ones: those of its indices, and Release with its
 /// moment as its date. A suite without a Release has none.
 #[tactic(auto, unfolding(crate::specs::Renewal::renewed_folder))]
@@ -283,8 +256,8 @@ fn renew_folder<K: Keeper>(
     ensures texts { K.is_clean keeper.new → OnOk result (texts.new.items ≡ texts.old.items ++ renewed_folder (text_at (K.book keeper.old)) amendment.now.shelves.now amendment.now.steps.now folder.now (release_at (K.book keeper.old).config folder.now.suite amendment.now.moment)) }
     ensures cause { IfErr result (MayAnswer K.may_fail) }
 {
-    let path = path_in(alloc, folder, "Release")?;
-    if keeper.text(alloc, path.as_str())?.is_none() {
+    let path = path_of(alloc, folder, "Release")?;
+    if !has_text(alloc, keeper, path.as_str())? {
         return Ok(());
     }
     let indices = renew_indices(alloc, keeper, printed, amendment, folder, texts)?;

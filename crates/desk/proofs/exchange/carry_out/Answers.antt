@@ -9,6 +9,7 @@ use Rattle.queue.specs.Receiving.{IsReceived, LeavesReceived}
 use Rattle.queue.proofs.Runs.{leaves_read, leaves_step}
 use Rattle.desk.proofs.ExchangeLemmas.{received_done, received_not, reply_missing, reply_told, without_body}
 use Rattle.desk.proofs.exchange.carry_out.Goals as goal
+use Rattle.sums.specs.Lines.{most_size}
 
 pub returns-in-Ok-clause-carried_out : goal.returns-in-Ok-clause-carried_out
 returns-in-Ok-clause-carried_out g c =
@@ -21,7 +22,7 @@ returns-in-Err-clause-carried_out g c =
     c.args.archive.now.keeper c.receive.new.self.keeper (Err c.in-Err.fault)) c.as_str.ensures.value c.in-Err.ensures.received in
     let left = subst (λ (name : List ℕ). LeavesReceived g.K.Keeper (g.R.Read.remaining c.args.reader.now) (g.R.Read.remaining c.receive.new.reader) name c.in-Deliver.length c.args.moment
     c.args.archive.now.keeper c.receive.new.self.keeper) c.as_str.ensures.value c.in-Err.ensures.crash in
-    let small : c.in-Deliver.length ≤ 4194304 = subst (λ (w : Wanted). body_length (want_of w) ≤ 4194304) c.in-Deliver.is c.requires in
+    let small : c.in-Deliver.length ≤ most_size = subst (λ (w : Wanted). body_length (want_of w) ≤ most_size) c.in-Deliver.is c.requires in
     rw c.in-Deliver.is (reply_told g.K.Keeper _ _ _ _ (delivery _ c.in-Deliver.length) c.args.moment c.reception_reply.result _ c.reception_reply.ensures
     (received_not g.K.Keeper _ _ _ _ _ c.in-Deliver.length c.args.moment c.in-Err.fault left small received))
 
@@ -31,7 +32,7 @@ returns-in-Err-clause-err g c =
     c.args.archive.now.keeper c.receive.new.self.keeper (Err c.in-Err.fault)) c.as_str.ensures.value c.in-Err.ensures.received in
     let left = subst (λ (name : List ℕ). LeavesReceived g.K.Keeper (g.R.Read.remaining c.args.reader.now) (g.R.Read.remaining c.receive.new.reader) name c.in-Deliver.length c.args.moment
     c.args.archive.now.keeper c.receive.new.self.keeper) c.as_str.ensures.value c.in-Err.ensures.crash in
-    let small : c.in-Deliver.length ≤ 4194304 = subst (λ (w : Wanted). body_length (want_of w) ≤ 4194304) c.in-Deliver.is c.requires in
+    let small : c.in-Deliver.length ≤ most_size = subst (λ (w : Wanted). body_length (want_of w) ≤ most_size) c.in-Deliver.is c.requires in
     rw c.in-Deliver.is (reply_missing g.K.Keeper _ _ _ _ (delivery _ c.in-Deliver.length) c.args.moment c.reception_reply.result _ c.reception_reply.ensures
     (received_not g.K.Keeper _ _ _ _ _ c.in-Deliver.length c.args.moment c.in-Err.fault left small received))
 

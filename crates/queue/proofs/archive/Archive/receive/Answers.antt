@@ -7,9 +7,9 @@ use Rattle.queue.proofs.archive.Archive.receive.Goals as goal
 pub returns-then-is_file_name-clause-received : goal.returns-then-is_file_name-clause-received
 returns-then-is_file_name-clause-received g c = (
   inr (
-    c.if-size-gt-MOST_BYTES.true,
+    c.if-size-gt-MOST_SIZE.true,
     Keeps-same _,
-    λ body size. too_large c.args.name.now body c.args.moment (sym c.if-is_file_name.ensures) (omega (arith, size, c.if-size-gt-MOST_BYTES.true)),
+    λ body size. too_large c.args.name.now body c.args.moment (sym c.if-is_file_name.ensures) (omega (arith, size, c.if-size-gt-MOST_SIZE.true)),
   ),
   λ h kept clean. kept,
 )
@@ -21,17 +21,17 @@ returns-then-is_file_name-clause-large g c large =
 pub returns-then-is_file_name-clause-crash : goal.returns-then-is_file_name-clause-crash
 returns-then-is_file_name-clause-crash g c h kept clean left may = inl may
 
-pub returns-then-size-gt-MOST_BYTES-clause-received : goal.returns-then-size-gt-MOST_BYTES-clause-received
-returns-then-size-gt-MOST_BYTES-clause-received g c = (
-  inr (c.if-size-gt-MOST_BYTES.true, Keeps-same _, λ body size. bad_name c.args.name.now body c.args.moment (sym c.if-is_file_name.ensures)),
+pub returns-then-size-gt-MOST_SIZE-clause-received : goal.returns-then-size-gt-MOST_SIZE-clause-received
+returns-then-size-gt-MOST_SIZE-clause-received g c = (
+  inr (c.if-size-gt-MOST_SIZE.true, Keeps-same _, λ body size. bad_name c.args.name.now body c.args.moment (sym c.if-is_file_name.ensures)),
   λ h kept clean. kept,
 )
 
-pub returns-then-size-gt-MOST_BYTES-clause-large : goal.returns-then-size-gt-MOST_BYTES-clause-large
-returns-then-size-gt-MOST_BYTES-clause-large g c large = (Keeps-same _, λ body size. bad_name c.args.name.now body c.args.moment (sym c.if-is_file_name.ensures))
+pub returns-then-size-gt-MOST_SIZE-clause-large : goal.returns-then-size-gt-MOST_SIZE-clause-large
+returns-then-size-gt-MOST_SIZE-clause-large g c large = (Keeps-same _, λ body size. bad_name c.args.name.now body c.args.moment (sym c.if-is_file_name.ensures))
 
-pub returns-then-size-gt-MOST_BYTES-clause-crash : goal.returns-then-size-gt-MOST_BYTES-clause-crash
-returns-then-size-gt-MOST_BYTES-clause-crash g c h kept clean left may = inl may
+pub returns-then-size-gt-MOST_SIZE-clause-crash : goal.returns-then-size-gt-MOST_SIZE-clause-crash
+returns-then-size-gt-MOST_SIZE-clause-crash g c h kept clean left may = inl may
 
 pub returns-in_err-skip-clause-received : goal.returns-in_err-skip-clause-received
 returns-in_err-skip-clause-received g c =
@@ -44,7 +44,7 @@ returns-in_err-skip-clause-crash g c h kept clean left may = inl may
 pub returns-then-not-is_file_name-clause-received : goal.returns-then-not-is_file_name-clause-received
 returns-then-not-is_file_name-clause-received g c =
     let read = c.in_ok-skip.ensures.ok in (
-      inl (read.0, read.1, omega (arith, c.if-size-gt-MOST_BYTES.false), bad_name c.args.name.now read.0 c.args.moment (sym c.if-not-is_file_name.ensures)),
+      inl (read.0, read.1, omega (arith, c.if-size-gt-MOST_SIZE.false), bad_name c.args.name.now read.0 c.args.moment (sym c.if-not-is_file_name.ensures)),
       λ h kept clean. kept,
     )
 
@@ -65,8 +65,8 @@ returns-then-moment-gt-LATEST-clause-received g c =
       inl (
         read.0,
         read.1,
-        omega (arith, c.if-size-gt-MOST_BYTES.false),
-        too_late c.args.name.now read.0 c.args.moment (sym c.if-not-is_file_name.ensures) (sym c.if-is_changes_name.ensures) (omega (arith, read.1.1, c.if-size-gt-MOST_BYTES.false)) c.if-moment-gt-LATEST.true,
+        omega (arith, c.if-size-gt-MOST_SIZE.false),
+        too_late c.args.name.now read.0 c.args.moment (sym c.if-not-is_file_name.ensures) (sym c.if-is_changes_name.ensures) (omega (arith, read.1.1, c.if-size-gt-MOST_SIZE.false)) c.if-moment-gt-LATEST.true,
       ),
       λ h kept clean. kept,
     )
@@ -75,30 +75,30 @@ pub returns-then-moment-gt-LATEST-clause-crash : goal.returns-then-moment-gt-LAT
 returns-then-moment-gt-LATEST-clause-crash g c h kept clean left may = inl may
 
 pub store-requires-clause-may_be_kept : goal.store-requires-clause-may_be_kept
-store-requires-clause-may_be_kept g c = may_be_kept c.args.name.now c.args.size (sym c.if-not-is_file_name.ensures) (sym c.if-is_changes_name.ensures) (omega (arith, c.if-size-gt-MOST_BYTES.false))
+store-requires-clause-may_be_kept g c = may_be_kept c.args.name.now c.args.size (sym c.if-not-is_file_name.ensures) (sym c.if-is_changes_name.ensures) (omega (arith, c.if-size-gt-MOST_SIZE.false))
 
 pub returns-in-Ok-clause-received : goal.returns-in-Ok-clause-received
 returns-in-Ok-clause-received g c =
     received_new g.K.Keeper _ _ c.args.name.now c.args.size c.args.moment _ _ c.store.ensures.lasts c.in-Ok.fresh c.arrived.result c.arrived.ensures
-    (sym c.if-not-is_file_name.ensures) (sym c.if-is_changes_name.ensures) (omega (arith, c.if-size-gt-MOST_BYTES.false)) (omega (arith, c.if-moment-gt-LATEST.false))
+    (sym c.if-not-is_file_name.ensures) (sym c.if-is_changes_name.ensures) (omega (arith, c.if-size-gt-MOST_SIZE.false)) (omega (arith, c.if-moment-gt-LATEST.false))
     c.in-Ok.ensures.served c.in-Ok.ensures.stored
 
 pub returns-in-Err-clause-received : goal.returns-in-Err-clause-received
 returns-in-Err-clause-received g c =
     received_not g.K.Keeper _ _ c.args.name.now c.args.size c.args.moment _ _ c.store.ensures.lasts c.in-Err.fault
-    (sym c.if-not-is_file_name.ensures) (sym c.if-is_changes_name.ensures) (omega (arith, c.if-size-gt-MOST_BYTES.false)) (omega (arith, c.if-moment-gt-LATEST.false))
+    (sym c.if-not-is_file_name.ensures) (sym c.if-is_changes_name.ensures) (omega (arith, c.if-size-gt-MOST_SIZE.false)) (omega (arith, c.if-moment-gt-LATEST.false))
     c.in-Err.ensures.refused c.in-Err.ensures.same
 
 pub returns-in-Ok-clause-crash : goal.returns-in-Ok-clause-crash
 returns-in-Ok-clause-crash g c h kept clean left may = elim (c.store.ensures.crash clean left may) [
   | inl before ↦ inl before
   | inr made ↦ inr (left_stored g.K.Keeper _ _ c.args.name.now c.args.size c.args.moment h _ (g.K.Keeper.book c.args.self.now.keeper) left kept
-      (sym c.if-not-is_file_name.ensures) (sym c.if-is_changes_name.ensures) (omega (arith, c.if-size-gt-MOST_BYTES.false)) (omega (arith, c.if-moment-gt-LATEST.false)) made)
+      (sym c.if-not-is_file_name.ensures) (sym c.if-is_changes_name.ensures) (omega (arith, c.if-size-gt-MOST_SIZE.false)) (omega (arith, c.if-moment-gt-LATEST.false)) made)
 ]
 
 pub returns-in-Err-clause-crash : goal.returns-in-Err-clause-crash
 returns-in-Err-clause-crash g c h kept clean left may = elim (c.store.ensures.crash clean left may) [
   | inl before ↦ inl before
   | inr made ↦ inr (left_stored g.K.Keeper _ _ c.args.name.now c.args.size c.args.moment h _ (g.K.Keeper.book c.args.self.now.keeper) left kept
-      (sym c.if-not-is_file_name.ensures) (sym c.if-is_changes_name.ensures) (omega (arith, c.if-size-gt-MOST_BYTES.false)) (omega (arith, c.if-moment-gt-LATEST.false)) made)
+      (sym c.if-not-is_file_name.ensures) (sym c.if-is_changes_name.ensures) (omega (arith, c.if-size-gt-MOST_SIZE.false)) (omega (arith, c.if-moment-gt-LATEST.false)) made)
 ]

@@ -11,20 +11,20 @@ returns-in_err-skip-clause-received g c =
 pub returns-in_err-skip-clause-crash : goal.returns-in_err-skip-clause-crash
 returns-in_err-skip-clause-crash g c h kept clean left may = inl may
 
-pub returns-then-whole-gt-MOST_OF_RECORD-clause-received : goal.returns-then-whole-gt-MOST_OF_RECORD-clause-received
-returns-then-whole-gt-MOST_OF_RECORD-clause-received g c =
+pub returns-then-whole-gt-MOST_CHANGES-clause-received : goal.returns-then-whole-gt-MOST_CHANGES-clause-received
+returns-then-whole-gt-MOST_CHANGES-clause-received g c =
     let read = c.in_ok-skip.ensures.ok in (
       inl (
         read.0,
         read.1,
         c.requires.small,
-        too_long c.args.name.now read.0 c.args.moment c.requires.named c.requires.a_record (omega (arith, read.1.1, c.requires.small)) (omega (arith, read.1.1, c.if-whole-gt-MOST_OF_RECORD.true)),
+        too_long c.args.name.now read.0 c.args.moment c.requires.named c.requires.a_record (omega (arith, read.1.1, c.requires.small)) (omega (arith, read.1.1, c.if-whole-gt-MOST_CHANGES.true)),
       ),
       λ h kept clean. kept,
     )
 
-pub returns-then-whole-gt-MOST_OF_RECORD-clause-crash : goal.returns-then-whole-gt-MOST_OF_RECORD-clause-crash
-returns-then-whole-gt-MOST_OF_RECORD-clause-crash g c h kept clean left may = inl may
+pub returns-then-whole-gt-MOST_CHANGES-clause-crash : goal.returns-then-whole-gt-MOST_CHANGES-clause-crash
+returns-then-whole-gt-MOST_CHANGES-clause-crash g c h kept clean left may = inl may
 
 pub returns-in_err-body-clause-received : goal.returns-in_err-body-clause-received
 returns-in_err-body-clause-received g c =

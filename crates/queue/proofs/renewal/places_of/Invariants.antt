@@ -1,7 +1,0 @@
-use Rattle.std.proofs.Common.{◌≡◌, map, take}
-use Rattle.std.specs.List.{flat_map}
-use Rattle.queue.specs.Renewal.{place_at}
-use Rattle.queue.proofs.renewal.places_of.Given as goal
-
-abbrev pub invariant-loop-component : goal.invariant-loop-component
-invariant-loop-component l = l.places.items ≡ flat_map (λ c. map (place_at c) l.architectures) (take l.component-index l.components)
