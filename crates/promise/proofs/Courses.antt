@@ -17,7 +17,7 @@ use Rattle.queue.specs.declared.command.Command.{Command}
 use Rattle.queue.specs.declared.command.Outcome.{Outcome}
 use Rattle.queue.proofs.Kept.{stands_kept}
 use Rattle.queue.proofs.Openings.{faithful_anew, fresh_stands}
-use Rattle.queue.proofs.ReadLemmas.{more_before}
+use Rattle.keep.proofs.Staying.{more_before}
 use Rattle.queue.proofs.Reopening.{opens_itself}
 use Rattle.promise.proofs.Refusals.{both_then}
 
