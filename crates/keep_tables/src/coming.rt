@@ -1,6 +1,6 @@
 //! A body that comes: the one that was begun last, and a keeper's calls on it over the connection alone.
 
-ghost use Rattle.std.specs.Prelude.{◌≡◌, [], Some, None, true, false, option_map, ◌≤◌, ◌<◌, ◌+◌, ◌%◌, ◌++◌, Option, length, not, IfOk, OnOk};
+ghost use Rattle.std.specs.Prelude.{if◌then◌else◌, ◌≡◌, [], Some, None, true, false, option_map, ◌≤◌, ◌<◌, ◌+◌, ◌%◌, ◌++◌, Option, length, not, IfOk, OnOk};
 ghost use Rattle.std.specs.Option.{option_and_then, option_map_or};
 ghost use Rattle.sums.specs.Prints.{Holds, print as print_of};
 ghost use Rattle.keep.specs.Book.{latest, span};

@@ -1,6 +1,6 @@
 //! Whether what has arrived counts still.
 
-ghost use Rattle.std.specs.Prelude.{◌≡◌, ◌≤◌, false, Some, IfOk};
+ghost use Rattle.std.specs.Prelude.{if◌then◌else◌, ◌≡◌, ◌≤◌, false, Some, IfOk};
 ghost use Rattle.keep.specs.Book.{span};
 ghost use Rattle.tables_bodies.specs.Counting.{arrival_counts};
 ghost use Rattle.keep_tables.specs.Moments.{found_current, is_had, still_counts};

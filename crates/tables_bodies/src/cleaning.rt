@@ -3,7 +3,7 @@
 //! A cleaning that takes nothing is a transaction as any other. To read first what ended would spare that a commit, and cost each other
 //! cleaning the reading.
 
-ghost use Rattle.std.specs.Prelude.{◌≡◌, false, filter, fold, length, not, IfOk, OnOk};
+ghost use Rattle.std.specs.Prelude.{if◌then◌else◌, ◌≡◌, false, filter, fold, length, not, IfOk, OnOk};
 ghost use Rattle.sqlite.specs.State.{Survives};
 ghost use Rattle.sqlite.specs.Held.{state};
 ghost use Rattle.tables.specs.Arrivals.{without_arrival};

@@ -1,6 +1,6 @@
 //! The index texts and the dates after a change, as rows.
 
-ghost use Rattle.std.specs.Prelude.{OnOk};
+ghost use Rattle.std.specs.Prelude.{if◌then◌else◌, OnOk};
 ghost use Rattle.keep.specs.Scan.{some_touches};
 ghost use Rattle.tables.specs.Dates.{with_new_date};
 ghost use Rattle.tables_meaning.specs.Making.{with_new_dates, with_new_texts};
