@@ -29,7 +29,7 @@ fn migrate_inside<S: Alter>(
     requires alike { AreAlike (old_config old.now) config.now }
     requires moment { moment ≤ LATEST }
     ensures same_reference { IsSame tx.old tx.new }
-    ensures ok { Inside S.Store tx.old tx.new (λ old new. OnOk result (Founds old new (migrated_rows old.now config.now moment))) }
+    ensures ok { Inside S.Store tx.old tx.new (λ before after. OnOk result (Founds before after (migrated_rows old.now config.now moment))) }
     ensures err { KeepsCommitted S.Store tx.old tx.new result }
     ensures survives { CommitsNothing S.Store tx.old tx.new }
 {
@@ -51,7 +51,7 @@ pub fn write_archive<S: Alter>(
     requires alike { AreAlike (old_config old.now) config.now }
     requires moment { moment ≤ LATEST }
     ensures idle { conn.new.in_transaction ≡ false }
-    ensures done { OnCleanDisk S.Store conn.old conn.new (λ old new. OnOk result (IsFounded old new (migrated_rows old.now config.now moment))) }
+    ensures done { OnCleanDisk S.Store conn.old conn.new (λ before after. OnOk result (IsFounded before after (migrated_rows old.now config.now moment))) }
     ensures undone { Undoes S.Store conn.old conn.new result }
     ensures crash { Survives (state S.Store conn.old) (state S.Store conn.new) (MayFound (state S.Store conn.old) (migrated_rows old.now config.now moment)) }
 {

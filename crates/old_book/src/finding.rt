@@ -82,7 +82,7 @@ fn book_as<S: Alter>(
 fn book_in<S: Alter>(alloc: Global, from: &mut Connection<S>) -> Result<Option<OldBook>, Error>
     requires idle { from.old.in_transaction ≡ false }
     ensures idle { from.new.in_transaction ≡ false }
-    ensures some { OnCleanDisk S.Store from.old from.new (λ old new. IfOk result (λ o. IfSome o (λ old. IsOldBookIn old.now old))) }
+    ensures some { OnCleanDisk S.Store from.old from.new (λ old new. IfOk result (λ o. IfSome o (IsOldBookIn old.now))) }
     ensures none { OnCleanDisk S.Store from.old from.new (λ old new. IfOk result (λ o. o ≡ None → IsNoOldArchive old.now)) }
     ensures unchanged { OnCleanDisk S.Store from.old from.new (λ old new. OnOk result (IsUnchanged old new)) }
     ensures err { OnCleanDisk S.Store from.old from.new (λ old new. OnErr result (Fails old new)) }
