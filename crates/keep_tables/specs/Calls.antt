@@ -3,17 +3,12 @@ use Rattle.std.specs.Prelude.{◌≡◌, ◌≢◌, ◌⊎◌, Result, IsErrAnd,
 use Rattle.sqlite_trees.specs.declared.store.Store.{Ghosts}
 use Rattle.sqlite.specs.Held.{Held, state}
 use Rattle.sqlite.specs.State.{HasCleanDisk}
-use Rattle.keep.specs.Keeping.{MoreFaults}
 use Rattle.keep.specs.declared.fault.KeepFault.{KeepFault}
 use Rattle.keep.specs.declared.fault.KeepFault.TheVariants.{NoArchive, OutOfMemory}
-use Rattle.rules.specs.Values.{ConfigValue}
 use Rattle.tables.specs.Causes.{MayFail}
 use Rattle.tables.specs.Schema.{no_schema}
-use Rattle.tables_meaning.specs.Archives.{KeepsBook}
 use Rattle.tables_meaning.specs.Transactions.{IsUndone}
-use Rattle.keep_tables.specs.Keepers.{connection_of, table_book}
 use Rattle.keep_tables.specs.Opened.{HasUnfinished, IsNoArchive}
-use Rattle.keep_tables.specs.declared.keeper.TableKeeper.{TableKeeper}
 
 module _ {S T : Type 0} (store : Ghosts S) (connection : Held S) (result : Result T (Held S × KeepFault)) where
   -- after a fault what was committed stays
@@ -39,12 +34,3 @@ module _ {S T : Type 0} (store : Ghosts S) (connection : Held S) (result : Resul
   -- and only there it is refused so
   abbrev pub RefusesOnlyTaken : Type 0
   RefusesOnlyTaken = IfErr result (λ e. e.1 ≡ NoArchive → (connection.in_transaction ≡ true) ⊎ ((state store connection).now.schema ≢ no_schema))
-
-module _ {S : Type 0} {store : Ghosts S} (keeper : TableKeeper S store) where
-  -- only a failure that the store counted since shuts the connection
-  abbrev pub IsShutByFailure : Held S → Type 0
-  IsShutByFailure connection = HasCleanDisk (connection_of keeper) → IsTrue (connection_of keeper).is_open ⊎ MoreFaults (state store connection).faults (connection_of keeper).faults
-
-  -- while the connection is open its tables keep the keeper's book, under this configuration
-  abbrev pub KeepsItsBook : ConfigValue → Type 0
-  KeepsItsBook config = HasCleanDisk (connection_of keeper) → IsTrue (connection_of keeper).is_open → KeepsBook (connection_of keeper).committed config (table_book keeper)

@@ -5,3 +5,4 @@ pub mod Moments
 pub mod AtHand
 pub mod AtOnce
 pub mod Calls
+pub mod KeeperCalls

@@ -13,7 +13,8 @@ ghost use Rattle.promise.specs.Lists.{GoOn};
 ghost use Rattle.queue.specs.Commands.{call_of, kind_of_command, kind_of_outcome, outcome_of};
 ghost use Rattle.queue.specs.Configuring.{IsLeftConfigured};
 ghost use Rattle.queue.specs.Steps.{IsServedLast};
-ghost use Rattle.keep_tables.specs.Calls.{GivesBack, IsShutByFailure, KeepsItsBook, RefusesBusy, RefusesNoArchive, SaysWhy};
+ghost use Rattle.keep_tables.specs.Calls.{GivesBack, RefusesBusy, RefusesNoArchive, SaysWhy};
+ghost use Rattle.keep_tables.specs.KeeperCalls.{IsShutByFailure, KeepsItsBook};
 
 use crate::commands::make_commands;
 use keep::{KeepFault, Keeper, LATEST};

@@ -10,7 +10,8 @@ ghost use Rattle.queue.specs.Answers.{IsRun};
 ghost use Rattle.queue.specs.Commands.{call_of, kind_of_command, kind_of_outcome, outcome_of};
 ghost use Rattle.queue.specs.Histories.{bodies_of, opened_with};
 ghost use Rattle.queue.specs.Steps.{IsLeftAlong, IsServedLast};
-ghost use Rattle.keep_tables.specs.Calls.{GivesBack, IsShutByFailure, KeepsItsBook, RefusesOnlyTaken, RefusesTaken};
+ghost use Rattle.keep_tables.specs.Calls.{GivesBack, RefusesOnlyTaken, RefusesTaken};
+ghost use Rattle.keep_tables.specs.KeeperCalls.{IsShutByFailure, KeepsItsBook};
 
 use crate::commands::make_commands;
 use keep::{KeepFault, Keeper, LATEST};
