@@ -19,6 +19,7 @@ BEFORE = [
     "tests.test_using",
     "tests.test_wrong_bodies",
     "tests.test_with_sidecars",
+    "tests.test_upload",
 ]
 GATE = ["rt", "ci"]
 # The memory that a check takes at most, in bytes, over the four that take the most side by side.
@@ -44,6 +45,11 @@ BEHIND = [
     "tests.test_soak",
     "tests.test_using_program",
     "tests.test_using_proxy",
+    "tests.test_using_words",
+    "tests.test_listing",
+    "tests.test_export",
+    "tests.test_web_pages",
+    "tests.test_packaging",
     "tests.refuse_growths --lists",
 ]
 COUNTS = re.compile(r"(\d+) passed, (\d+) failed$")

@@ -27,14 +27,24 @@ PIECES = {
     "configuration": "Codename: box\n",
     "first commands": "archive init --db box.db",
     "commands": "archive try PATH..",
+    "upload": "upload http:",
+    "upload with a login": "upload https:",
     "curl": "for file in $(cat files)",
     "dput.cf": "[box]\n",
     "dput": "dput box ready/",
     "lists": "/queue http:",
+    "check": "passed over Uploader in box",
+    "json": '{"missing":1,',
+    "signed tree": "archive export --db box.db --signed www",
     "trusted": "deb [trusted=yes]",
-    "promote": "archive promote --db box.db",
+    "promote": '--at "$(date +%s)" box lab',
     "promote by HTTP": "/promote/box/lab",
-    "remove": "archive remove --db box.db",
+    "three suites": "Codename: testing\n",
+    "promote to stable": '--at "$(date +%s)" testing stable',
+    "go back": '--at "$(date +%s)" previous stable hello',
+    "promote to stable by HTTP": "/promote/testing/stable",
+    "go back by HTTP": "/copy/previous/stable/hello",
+    "remove": '--at "$(date +%s)" box hello',
     "again": "again.changes",
     "remove by HTTP": "/remove/box/hello",
     "serve": '--at "$(date +%s)" 127.0.0.1:8080 1000\n',
@@ -58,6 +68,8 @@ PIECES = {
     "cached": "cache.example.org:3142",
     "mirror": "debmirror --method",
     "copy": "copy=copies/",
+    "reserve": "fallocate -l",
+    "anew": "> accepted",
     "look": 'archive verdicts --db "$copy"',
     "pack": "VACUUM",
     "notes": "CREATE TABLE notes",
@@ -152,7 +164,8 @@ class Room:
             os.mkdir(f"{self.folder}/{name}")
         self.home, self.work = f"{self.folder}/home", f"{self.folder}/work"
         os.symlink(os.path.abspath(PROGRAM), f"{self.folder}/bin/archive")
-        os.symlink(ROOT / "bin/with_sidecars", f"{self.folder}/bin/with_sidecars")
+        for name in ("with_sidecars", "upload"):
+            os.symlink(ROOT / "bin" / name, f"{self.folder}/bin/{name}")
         self.variables = {
             "PATH": f"{self.folder}/bin:{os.environ['PATH']}:/usr/sbin:/sbin",
             "HOME": self.home,

@@ -26,9 +26,11 @@ COMMANDS = {
     "remove": ["--db", "a.db", "--at", "0", "box", "hello"],
     "configure": ["--db", "a.db", "--at", "0", CONF.name],
     "show": ["--db", "a.db", "dists/box/Release"],
+    "list": ["--db", "a.db", "box"],
     "waiting": ["--db", "a.db", "--at", "0"],
     "verdicts": ["--db", "a.db"],
     "configuration": ["--db", "a.db"],
+    "export": ["--db", "a.db", "www"],
     "serve": ["--db", "a.db", "--at", "0", "127.0.0.1:0", "1"],
 }
 
@@ -36,6 +38,7 @@ COMMANDS = {
 USAGES = {
     "try": "try <PATH>...",
     "compare": "compare <A> <B>",
+    "check": "check <CONF>",
     "init": "init --db <FILE> --at <N> <CONF>",
     "put": "put --db <FILE> --at <N> <PATH>...",
     "run": "run --db <FILE> --at <N>",
@@ -47,10 +50,23 @@ USAGES = {
     "configure": "configure --db <FILE> --at <N> <CONF>",
     "migrate": "migrate --from <FILE> --db <FILE> --at <N> <CONF>",
     "show": "show --db <FILE> <PATH>",
+    "list": "list --db <FILE> <SUITE>",
     "waiting": "waiting --db <FILE> --at <N>",
     "verdicts": "verdicts --db <FILE>",
     "configuration": "configuration --db <FILE>",
-    "serve": "serve .*--db <FILE> --at <N>.* <ADDRESS> <COUNT>",
+    "export": "export --db <FILE> <DIR>",
+    "serve": "serve --db <FILE> --at <N> <ADDRESS> <COUNT>",
+}
+
+# The options that each command may be given or not.
+OPTIONS = {
+    "run": ["--strict"],
+    "batch": ["--strict"],
+    "list": ["--json"],
+    "waiting": ["--json"],
+    "verdicts": ["--json"],
+    "export": ["--at <N>", "--signed", "--by-hash"],
+    "serve": ["--moments <MOMENTS>", "--log", "--export <DIR>", "--signed"],
 }
 
 
@@ -210,10 +226,12 @@ class Help(Words):
                 for word in re.findall(r"<\w+>(?:\.\.\.)?", usage):
                     self.assertRegex(printed, rf"(?m)^ +(?:-\w, )?(?:--\w+ )?{re.escape(word)}\s+[A-Za-z].*\w", word)
 
-    def test_the_help_of_serve_has_its_options(self):
-        printed = self.ran("serve", "--help")[1]
-        self.assertRegex(printed, r"(?m)^ +--moments <MOMENTS>\s+[A-Za-z]")
-        self.assertRegex(printed, r"(?m)^ +--log\s+[A-Za-z]")
+    def test_the_help_of_a_command_has_its_options(self):
+        for command, options in OPTIONS.items():
+            printed = self.ran(command, "--help")[1]
+            for option in options:
+                with self.subTest(command, option=option):
+                    self.assertRegex(printed, rf"(?m)^ +{option}\s+[A-Za-z]")
 
     def test_usage_begins_with_archive_where_words_are_refused(self):
         for command in USAGES:
@@ -223,8 +241,10 @@ class Help(Words):
                 self.assertRegex(told, rf"(?m)^Usage: archive {self.pattern(command)}$")
 
     def pattern(self, command):
-        """A pattern of a command's usage. Only that of `serve` has options that may be left out."""
-        return r"serve (?:\[OPTIONS\] )?--db <FILE> --at <N> <ADDRESS> <COUNT>" if command == "serve" else re.escape(USAGES[command])
+        """A pattern of a command's usage: it may say of options that may be left out that they are there."""
+        word, words = USAGES[command].split(" ", 1)
+        options = r"(?:\[OPTIONS\] )?" if command in OPTIONS else ""
+        return f"{word} {options}{re.escape(words)}"
 
 
 if __name__ == "__main__":

@@ -81,7 +81,7 @@ class Pages(unittest.TestCase):
             self.assertEqual(len(self.other(pages.check_lengths, "README.md", text)), count)
 
     def test_a_page_of_too_many_words_is_refused(self):
-        for path, most in (("docs/DEFINITIONS.md", 3000), ("docs/DECISIONS.md", 2500)):
+        for path, most in (("docs/DEFINITIONS.md", 3500), ("docs/DECISIONS.md", 2500)):
             for count, wanted in ((most, 0), (most + 1, 1)):
                 self.assertEqual(len(self.other(pages.check_lengths, path, "word " * count)), wanted, path)
 

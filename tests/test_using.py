@@ -36,15 +36,15 @@ class Using(snippets.Case):
     @unittest.skipUnless(shutil.which("systemd-analyze"), "there is no systemd-analyze")
     def test_the_units_are_right(self):
         # The programs need not be installed here.
-        self.room.write("units/box.service", snippet("box.service", {"/usr/local/bin/archive": "/bin/true"}))
-        self.room.write("units/queue.service", snippet("queue.service"))
-        self.room.write("units/queue.service.d/sign.conf", snippet("sign.conf", {"/srv/box/sign": "/bin/true"}))
-        self.room.write("units/queue.timer", snippet("queue.timer"))
-        self.room.write("units/clean.service", snippet("clean.service"))
-        self.room.write("units/clean.timer", snippet("clean.timer"))
+        self.room.write("units/boqitsel.service", snippet("box.service", {"/usr/local/bin/archive": "/bin/true"}))
+        self.room.write("units/boqitsel-queue.service", snippet("queue.service"))
+        self.room.write("units/boqitsel-queue.service.d/sign.conf", snippet("sign.conf", {"/srv/box/sign": "/bin/true"}))
+        self.room.write("units/boqitsel-queue.timer", snippet("queue.timer"))
+        self.room.write("units/boqitsel-clean.service", snippet("clean.service"))
+        self.room.write("units/boqitsel-clean.timer", snippet("clean.timer"))
         self.room.variables["SYSTEMD_UNIT_PATH"] = f"{self.room.folder}/units:"
-        for name in ("box.service", "queue.service", "queue.timer", "clean.service", "clean.timer"):
-            self.assertEqual(self.passes("systemd-analyze", "verify", f"{self.room.folder}/units/{name}"), "")
+        for name in (".service", "-queue.service", "-queue.timer", "-clean.service", "-clean.timer"):
+            self.assertEqual(self.passes("systemd-analyze", "verify", f"{self.room.folder}/units/boqitsel{name}"), "")
 
     @unittest.skipUnless(shutil.which("nginx") and shutil.which("openssl"), "there is no nginx, or no openssl")
     def test_the_text_for_nginx_is_right(self):

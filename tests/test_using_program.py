@@ -17,6 +17,7 @@ from tests import snippets
 from tests.program import PROGRAM, mounted, put_of
 from tests.snippets import ROOT, built, commands_of, free_port, needs, snippet
 from tests.test_configurations import arm64_upload
+from tests.test_upload import Proxy
 from uploads import uploads
 
 HELLO = uploads.Package("hello", source=True)
@@ -24,6 +25,11 @@ CHANGES = "hello_1.0-1_amd64.changes"
 PACKAGES = "dists/box/main/binary-amd64/Packages"
 # The seconds of 90 days.
 DAYS = 90 * 86_400
+
+
+def hello(version):
+    """The package hello of this version, with its source."""
+    return uploads.Package("hello", version=version, source=True)
 
 
 @unittest.skipUnless(os.path.exists(PROGRAM), f"there is no program {PROGRAM}")
@@ -43,6 +49,11 @@ class Case(snippets.Case):
         lab = "\nCodename: lab\nArchitectures: amd64 source\nComponents: main\n"
         self.room.write("work/box.conf", snippet("configuration") + lab)
         self.shell("rm -f box.db*; archive init --db box.db --at 1 box.conf")
+
+    def made_with_three(self):
+        """Makes the archive of the page that has testing, stable and previous. Its testing takes the uploads of the tests, too."""
+        self.room.write("work/box.conf", snippet("three suites", {"AlsoAcceptFor: unstable": "AlsoAcceptFor: unstable box"}))
+        self.shell("archive init --db box.db --at 1 box.conf")
 
     def ready(self, package=HELLO, folder="ready"):
         """Makes the upload of a package, by with_sidecars. Its paths are in the file `files`."""
@@ -85,12 +96,13 @@ class Commands(Case):
         self.assertIn("\nFilename: pool/main/h/hello/hello_1.0-1_amd64.deb\n", printed)
 
     @needs("make", "dpkg-deb")
-    def test_both_programs_are_installed(self):
+    def test_the_programs_are_installed(self):
         prefix = f"{self.room.folder}/prefix"
         self.shell(f"make -s install PREFIX={prefix} PROGRAM={os.path.abspath(PROGRAM)}", cwd=ROOT)
-        self.assertEqual(sorted(os.listdir(f"{prefix}/bin")), ["archive", "with_sidecars"])
+        self.assertEqual(sorted(os.listdir(f"{prefix}/bin")), ["archive", "upload", "with_sidecars"])
         self.assertEqual(self.shell(f"{prefix}/bin/archive compare 1.0 1.1"), "less\n")
-        self.assertIn("with_sidecars FILE.changes FOLDER", self.shell(f"{prefix}/bin/with_sidecars --help"))
+        self.assertIn("with_sidecars [--section SECTION] FILE.changes.. FOLDER", self.shell(f"{prefix}/bin/with_sidecars --help"))
+        self.assertIn("upload URL FILE.changes", self.shell(f"{prefix}/bin/upload --help"))
 
     def test_the_commands_are_those_of_the_program(self):
         listed = set(re.findall(r"^  (\w+)  ", self.shell("archive --help"), re.M)) - {"help"}
@@ -99,7 +111,7 @@ class Commands(Case):
         for _, word, *words in lines:
             told = self.shell(f"archive {word} --help")
             usage = re.search(r"^Usage: archive \w+(.*)$", told, re.M)[1].replace("[OPTIONS]", "")
-            wanted = " ".join(words).replace("[--moments MOMENTS] [--log] ", "")
+            wanted = re.sub(r"\[--[^]]*\] ?", "", " ".join(words))
             self.assertEqual(re.sub(r"[<>]", "", usage).replace("...", "..").replace("]..", "..]").split(), wanted.split())
             for option in re.findall(r"--\w+", " ".join(words)):
                 self.assertIn(option, told)
@@ -190,6 +202,58 @@ class Rules(Case):
         shown = self.shell(f"archive show --db box.db {PACKAGES}")
         self.assertEqual(re.findall("^Version: (.*)$", shown, re.M), ["0.9-1"])
 
+    def versions(self, suite):
+        """The versions of hello that a suite shows for amd64."""
+        shown = self.shell(f"archive show --db box.db dists/{suite}/main/binary-amd64/Packages")
+        return re.findall("^Version: (.*)$", shown, re.M)
+
+    @needs("dpkg-deb")
+    def test_an_older_version_does_not_come_to_a_suite_that_promotions_fill(self):
+        self.made_with_three()
+        for version in ("1.0-1", "1.1-1"):
+            self.judged(hello(version), f"ready{version}")
+            self.shell("archive promote --db box.db --at 1 testing stable")
+        # As the page says that it does not help.
+        self.shell("archive remove --db box.db --at 1 stable hello")
+        again = {"ready/hello_1.0-1": "ready1.0-1/hello_1.0-1"}
+        self.assertEqual(self.shell(snippet("again", again)), "new again.changes\naccepted again.changes\n")
+        self.assertEqual([self.versions(it) for it in ("testing", "stable")], [["1.1-1"], []])
+        # And as it says what does where no suite has the older one.
+        self.shell("archive remove --db box.db --at 1 testing hello")
+        again |= {"again.changes\narchive put": "new.changes\narchive put", "again.changes\narchive run": "new.changes\narchive run"}
+        self.assertEqual(self.shell(snippet("again", again)), "new new.changes\naccepted new.changes\n")
+        self.shell("archive promote --db box.db --at 1 testing stable hello")
+        newer = {"ready/hello_1.0-1": "ready1.1-1/hello_1.1-1", "again.changes\narchive put": "newer.changes\narchive put"}
+        newer["again.changes\narchive run"] = "newer.changes\narchive run"
+        self.assertEqual(self.shell(snippet("again", newer)), "new newer.changes\naccepted newer.changes\n")
+        self.assertEqual([self.versions(it) for it in ("testing", "stable")], [["1.1-1"], ["1.0-1"]])
+
+    @needs("dpkg-deb")
+    def test_testing_and_stable(self):
+        self.made_with_three()
+        self.judged(hello("1.0-1"), "ready1.0-1")
+        self.assertEqual(self.shell(snippet("promote to stable")), "2 hello\n")
+        self.judged(hello("1.1-1"), "ready1.1-1")
+        # Of nobody an upload is taken in the suites that promotions fill.
+        self.ready(hello("1.2-1"), "ready1.2-1")
+        path = pathlib.Path(self.room.work, "ready1.2-1/hello_1.2-1_amd64.changes")
+        path.write_text(snippets.changed(path.read_text(), {"Distribution: box": "Distribution: stable"}))
+        self.shell("archive put --db box.db --at 1 $(cat files)")
+        self.assertEqual(self.shell("archive run --db box.db --at 1"), f"refused 3 {path.name}\n")
+        self.assertEqual(self.shell(snippet("promote to stable")), "2 hello\n2 hello\n")
+        self.assertEqual([self.versions(it) for it in ("testing", "stable", "previous")], [["1.1-1"], ["1.1-1"], ["1.0-1"]])
+        printed = self.shell(snippet("go back"))
+        self.assertEqual(printed, "Package: hello\nVersion: 1.0-1\n2\n2\n")
+        self.assertEqual([self.versions(it) for it in ("testing", "stable", "previous")], [["1.1-1"], ["1.0-1"], ["1.0-1"]])
+        # Some packages alone, of which stable shows one that previous gets.
+        self.assertEqual(self.shell("archive promote --db box.db --at 1 stable previous hello; archive promote --db box.db --at 1 testing stable hello"), "0 hello\n2 hello\n")
+        self.assertEqual(self.room.run("archive promote --db box.db --at 1 stable previous world")[:2], (1, "refused Q8 world\n"))
+        self.shell(snippet("go back"))
+        # Where there is none before it, nothing is taken out.
+        self.shell("archive remove --db box.db --at 1 previous hello")
+        self.fails(snippet("go back"))
+        self.assertEqual(self.versions("stable"), ["1.0-1"])
+
     @needs("dpkg-deb")
     def test_what_counts_no_more_is_taken_away(self):
         self.made_with_days()
@@ -251,9 +315,10 @@ class Serving(Case):
         self.ready()
         port = self.serve("--log")
         text = snippet("curl", self.at(port))
-        self.assertEqual(self.shell(text), "new\n" * len(self.names()))
+        paths = self.room.read("work/files").split()
+        self.assertEqual(self.shell(text), "".join(f"{path}: new\n" for path in paths))
         self.check_quick(self.wait_for(f"(?m)(^\\d+ PUT .*\n){{{len(self.names())}}}"))
-        self.assertEqual(self.shell(text), "again\n" * len(self.names()))
+        self.assertEqual(self.shell(text), "".join(f"{path}: again\n" for path in paths))
         self.assertEqual(self.shell(snippet("lists", self.at(port))), f"0 {CHANGES}\n")
         self.shell(f"curl -sS --fail-with-body -X POST http://127.0.0.1:{port}/queue/run")
         self.assertEqual(self.shell(snippet("lists", self.at(port))), f"accepted {CHANGES}\n")
@@ -267,13 +332,47 @@ class Serving(Case):
         """Checks that the log has such a line as the page's, with other numbers."""
         self.wait_for("(?m)^" + re.sub(r"(?<= )\\?\d+(?= |$)|^\d+", r"\\d+", re.escape(line.strip()).replace(r"\ ", " ")) + "$")
 
+    @needs("dpkg-deb")
+    def test_uploading_in_one_command(self):
+        text = snippet("upload", {**self.at(self.serve()), "../hello_1.0-1_amd64.changes": built(self.room.folder, HELLO)})
+        self.ready()
+        for word in ("new", "again"):
+            self.assertEqual(self.shell(text), "".join(f"{word} {it}\n" for it in self.names()) + f"accepted {CHANGES}\n")
+        self.spoil()
+        done = self.room.run(snippets.changed(text, {f"{self.room.folder}/{CHANGES}": f"ready/{CHANGES}"}))
+        self.assertEqual((done[0], done[1].splitlines()[-2:][0]), (1, f"refused Q3 C4 {CHANGES}"), done)
+        path = pathlib.Path(self.room.folder, CHANGES)
+        path.write_text(snippets.changed(path.read_text(), {"Distribution: box": "Distribution: lab"}))
+        status, printed, told = self.room.run(text)
+        self.assertEqual((status, told), (1, ""))
+        self.assertEqual(printed.splitlines()[len(self.names()):][-4:-2], [f"refused 1 {CHANGES}", "No suite takes the distribution: it is no suite's Codename or Suite, and in no AlsoAcceptFor."])
+
+    @needs("dpkg-deb")
+    def test_uploading_where_one_connection_in_three_is_cut(self):
+        proxy = Proxy(self.serve())
+        self.addCleanup(proxy.close)
+        text = snippet("upload", {**self.at(proxy.port), "../hello_1.0-1_amd64.changes": built(self.room.folder, HELLO)})
+        self.ready()
+        for _ in range(3):
+            status, printed, told = self.room.run(text)
+            self.assertEqual((status, printed.splitlines()[-1]), (0, f"accepted {CHANGES}"), told)
+        self.assertEqual(set(proxy.cuts), {None, "accept", "request", "reply", "answer"})
+        self.room.end(self.process)
+        self.assertEqual(self.shell("archive verdicts --db box.db"), f"accepted {CHANGES}\n")
+        self.assertEqual(self.shell("archive put --db box.db --at 4000000000 $(cat files)"), "".join(f"again {it}\n" for it in self.names()))
+
     @needs("dpkg-deb", "curl")
     def test_a_refusal_by_curl_tells_the_fault(self):
         self.ready()
+        names = self.names()
         self.spoil()
+        self.room.write("work/files", f"ready/{names[0]}\nready/{CHANGES}\nready/{names[1]}\n")
         text = snippet("curl", self.at(self.serve()))
-        self.room.start(["sh", "-ec", text])
-        self.wait_for("Q3 C4\n")
+        began = time.monotonic()
+        _, printed, told = self.room.run(text)
+        self.assertLess(time.monotonic() - began, 25)
+        self.assertEqual(printed, f"ready/{names[0]}: new\nready/{CHANGES}: Q3 C4\n")
+        self.assertIn("422", told)
 
     def spoil(self):
         """Has the .changes be of another format, which is refused, and be the one file that is uploaded."""
@@ -288,10 +387,10 @@ class Serving(Case):
         self.room.write("home/.dput.cf", snippet("dput.cf", self.at(port)))
         dput = snippet("dput")
         status, printed, told = self.room.run(dput)
-        self.assertEqual((status, printed.count("done.")), (0, len(self.names())), told)
+        self.assertEqual((status, printed.count("done."), printed.count(f"accepted {CHANGES}\n")), (0, len(self.names()), 1), told)
         status, printed, told = self.room.run(snippets.changed(dput, {"dput ": "dput --force "}))
-        self.assertEqual((status, printed.count("done.")), (0, len(self.names())), told)
-        self.assertEqual(self.shell(snippet("lists", self.at(port))), f"0 {CHANGES}\n")
+        self.assertEqual((status, printed.count("done."), printed.count("accepted")), (0, len(self.names()), 0), told)
+        self.assertEqual(self.shell(snippet("lists", self.at(port))), f"accepted {CHANGES}\n")
         self.spoil()
         printed = self.fails(snippets.changed(dput, {"dput ": "dput --force "}))[1]
         self.assertIn("Upload failed: 422 Unprocessable Entity\n", printed)
@@ -324,6 +423,29 @@ class Serving(Case):
         port = self.serve()
         self.assertEqual(self.shell(snippet("promote by HTTP", self.at(port))), "2 hello\n")
         self.assertEqual(self.shell(snippet("promote by HTTP", self.at(port))), "0 hello\n")
+
+    @needs("dpkg-deb", "apt-get", "curl")
+    def test_apt_sees_testing_and_stable(self):
+        self.shell("rm box.db*")
+        self.made_with_three()
+        port = self.serve()
+        self.room.apt(snippet("trusted", {**self.at(port), "/ box main": "/ stable main"}))
+        for version, printed in (("1.0-1", "2 hello\n"), ("1.1-1", "2 hello\n2 hello\n")):
+            text = snippet("upload", {**self.at(port), "../hello_1.0-1_amd64.changes": built(self.room.folder, hello(version))})
+            self.assertTrue(self.shell(text).endswith(f"accepted hello_{version}_amd64.changes\n"))
+            self.assertEqual(self.shell(snippet("promote to stable by HTTP", self.at(port))), printed)
+            self.check_apt_gets(version)
+        self.assertEqual(self.shell(snippet("go back by HTTP", self.at(port))), "2\n2\n")
+        self.check_apt_gets("1.0-1")
+        self.assertEqual(self.shell(snippet("promote to stable by HTTP", self.at(port))), "0 hello\n2 hello\n")
+        self.check_apt_gets("1.1-1")
+
+    def check_apt_gets(self, version):
+        """Checks that apt gets this version of hello behind an update."""
+        self.shell("apt-get update && apt-get download hello")
+        body = pathlib.Path(self.room.work, f"hello_{version}_amd64.deb").read_bytes()
+        self.assertEqual(body, pathlib.Path(self.room.folder, f"hello_{version}_amd64.deb").read_bytes())
+        self.shell("rm hello_*.deb")
 
     @needs("dpkg-deb", "apt-get")
     def test_a_release_expires_and_is_renewed(self):
@@ -364,7 +486,7 @@ class Serving(Case):
         self.updates(False)
         self.systemctl()
         self.assertEqual(self.shell(snippet("another configuration", {"cd /srv/box\n": "", "runuser -u archive -- ": ""})), "")
-        self.assertEqual(self.room.read("work/systemctl.log"), "stop box\nstart box\n")
+        self.assertEqual(self.room.read("work/systemctl.log"), "stop boqitsel\nstart boqitsel\n")
         self.assertEqual(self.room.read("work/old.conf"), snippet("configuration"))
         self.assertEqual(self.shell("archive configuration --db box.db"), snippet("configuration", {"amd64 source": "amd64 arm64 source"}))
         for name, body in arm64_upload().items():
@@ -396,6 +518,52 @@ class Serving(Case):
         self.assertEqual(moment, ["/bin/sh", "-c", "date +%s > now.new && mv now.new now"])
 
 
+class Anew(Case):
+    """An archive that is made anew of what builders kept."""
+
+    def revision(self, number, has_upstream):
+        """Makes the upload of a revision of hello, of which the first alone lists the upstream's source."""
+        package = hello(f"1.0-{number}")
+        files = {f"hello_1.0-{number}_amd64.deb": uploads.deb_of(package), **uploads.source_of(package)}
+        if not has_upstream:
+            del files["hello_1.0.orig.tar.gz"]
+        name = f"hello_1.0-{number}_amd64.changes"
+        for path, body in {**files, name: uploads.changes_of("hello", package.version, files)}.items():
+            pathlib.Path(self.room.folder, path).write_bytes(body)
+        self.shell(f"with_sidecars ../{name} ready > {number}.files")
+        return name
+
+    def judged(self, db, *numbers):
+        """Puts uploads, and answers what one run says of them."""
+        for number in numbers:
+            self.shell(f"archive put --db {db} --at 1 $(cat {number}.files)")
+        return self.shell(f"archive run --db {db} --at 1")
+
+    @needs("dpkg-deb")
+    def test_it_shows_what_the_old_one_did(self):
+        self.made()
+        self.shell("mv box.db old.db; rm -f box.db-wal; rm -rf ready")
+        first, fix, tenth = (self.revision(number, number == "1") for number in ("1", "1.1", "10"))
+        self.assertEqual(self.judged("old.db", "10"), f"refused 8 {tenth}\n")
+        for number, name in (("1", first), ("1.1", fix)):
+            self.assertEqual(self.judged("old.db", number), f"accepted {name}\n")
+        printed = self.shell(snippet("anew"))
+        self.assertEqual(re.findall("^accepted .*|^refused .*", printed, re.M), [f"accepted {first}", f"accepted {fix}"])
+        for path in (PACKAGES, "dists/box/main/source/Sources"):
+            shown = [self.shell(f"archive show --db {db} {path}") for db in ("old.db", "new.db")]
+            self.assertEqual(shown[0], shown[1])
+
+    @needs("dpkg-deb")
+    def test_one_run_for_all_refuses_later_revisions(self):
+        """Until they come under another name."""
+        self.made()
+        first, fix, tenth = (self.revision(number, number == "1") for number in ("1", "1.1", "10"))
+        self.assertEqual(self.judged("box.db", "1", "1.1", "10"), f"refused 8 {fix}\nrefused 8 {tenth}\naccepted {first}\n")
+        again = snippet("again", {"ready/hello_1.0-1_amd64.changes": f"ready/{tenth}"})
+        self.assertEqual(self.shell(again), "new again.changes\naccepted again.changes\n")
+        self.assertIn("\nVersion: 1.0-10\n", self.shell(f"archive show --db box.db {PACKAGES}"))
+
+
 class Copies(Case):
     def setUp(self):
         super().setUp()
@@ -403,7 +571,7 @@ class Copies(Case):
 
     def systemctl(self):
         """A systemctl that knows one word: it sends a signal to what serves."""
-        text = f'#!/bin/sh -e\n[ "$1 $3" = "kill box" ]\nkill -s "${{2#--signal=}}" {self.process.pid}\n'
+        text = f'#!/bin/sh -e\n[ "$1 $3" = "kill boqitsel" ]\nkill -s "${{2#--signal=}}" {self.process.pid}\n'
         self.room.write("bin/systemctl", text, 0o755)
 
     def put(self, number):
@@ -495,6 +663,11 @@ class Copies(Case):
         self.shell("archive show --db box.db pool/main/h/hello/hello_1.0-1_amd64.deb | cmp - ready/hello_1.0-1_amd64.deb")
 
     @needs("sqlite3")
+    def test_sqlite3_copies_nothing_while_it_serves(self):
+        self.serve()
+        self.assertIn("database is locked", self.fails("sqlite3 box.db '.backup copied.db'")[1])
+
+    @needs("sqlite3")
     def test_what_stands_beside_is_passed_over(self):
         """Until it stands on a table of the archive, or refers to one."""
         self.shell(snippet("notes") + "sqlite3 box.db ANALYZE")
@@ -561,6 +734,25 @@ class Refusals(Case):
             self.assertEqual((status, told), (3, "archive: Q4 K2\n"))
             self.shell(f"rm {folder}/filler")
             self.assertEqual(self.shell(put), "new large_1.0-1_amd64.deb\n")
+
+    @unittest.skipUnless(os.geteuid() == 0 and shutil.which("mount"), "only root can mount a file system that fills")
+    def test_a_full_disk_of_its_own(self):
+        """What does not fit fills it, so that a small file is refused, too, until the reserve is taken away, or the archive was elsewhere."""
+        self.shell("head -c 2500000 /dev/zero > large_1.0-1_amd64.deb; echo small > small_1.0-1_amd64.deb")
+        for has_reserve in (True, False):
+            with mounted(4_000_000) as folder:
+                if not folder:
+                    self.skipTest("no file system can be mounted here")
+                self.shell(f"cp box.db {folder}/")
+                self.shell(snippet("reserve", {"16M reserve": f"2M {folder}/reserve"}))
+                put = f"archive put --db {folder}/box.db --at 4000000000"
+                for name in ("large", "small"):
+                    self.assertEqual(self.fails(f"{put} {name}_1.0-1_amd64.deb")[0], 3, name)
+                if has_reserve:
+                    self.shell(f"rm {folder}/reserve")
+                else:
+                    self.shell(f"mkdir other; mv {folder}/box.db* other/; archive verdicts --db other/box.db; mv other/box.db* {folder}/")
+                self.assertEqual(self.shell(f"{put} small_1.0-1_amd64.deb"), "new small_1.0-1_amd64.deb\n")
 
 
 if __name__ == "__main__":

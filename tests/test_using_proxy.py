@@ -5,6 +5,7 @@ import os
 import pathlib
 import subprocess
 import sys
+import threading
 import time
 import unittest
 
@@ -108,6 +109,21 @@ class Proxy(unittest.TestCase):
         self.site.queue()
         self.assertEqual(self.site.sure(f"curl -sS {login} {self.site.url}/verdicts"), "accepted hello_1.0-1_amd64.changes\n")
 
+    @needs("htpasswd")
+    def test_uploading_in_one_command_with_a_login(self):
+        """It waits for the run of the timer, since the proxy lets nobody ask for one."""
+        self.site.log_in()
+        self.site.write("home/.archive-login", f"ann:{PASSWORD}\n", 0o600)
+        text = snippet("upload with a login", {"https://archive.example.org": self.site.url, "../hello_1.0-1_amd64.changes": built(self.site.folder, HELLO)})
+        timer = threading.Timer(5, self.site.queue)
+        timer.start()
+        self.addCleanup(timer.cancel)
+        status, printed, told = self.site.run(text)
+        self.assertEqual((status, printed.splitlines()[-1]), (0, "accepted hello_1.0-1_amd64.changes"), told)
+        self.site.write("home/.archive-login", "ann:a wrong one\n", 0o600)
+        status, printed, told = self.site.run(text)
+        self.assertEqual((status, printed.splitlines()), (1, ["refused 401 Unauthorized verdicts", "Give --login USER:PASSWORD, or another one."]), told)
+
     def test_what_is_not_listed_cannot_be_reached(self):
         self.site.write("uploaders", f"ann:{{PLAIN}}{PASSWORD}\n")
         for path, words, wanted in (
@@ -184,6 +200,16 @@ class Proxy(unittest.TestCase):
         self.site.sign()
         self.check_installs(snippet("signed", changes))
         self.site.sure("apt-get download another")
+        # A suite that has a folder is signed, too, and one that has none is handed out as it is.
+        conf = snippet("configuration") + "".join(f"\nCodename: {it}\nArchitectures: amd64 source\nComponents: main\n" for it in ("lab", "old"))
+        self.site.write("work/more.conf", conf)
+        self.site.end(self.site.serving)
+        self.site.sure('archive configure --db box.db --at "$(date +%s)" more.conf; mkdir signed/dists/lab')
+        self.site.serve()
+        self.site.sure(f"curl -sS --fail -X POST http://127.0.0.1:{self.site.behind}/promote/box/lab")
+        self.site.sign()
+        self.check_installs(snippet("signed", {**changes, "/ box main": "/ lab main"}))
+        self.assertEqual([self.status(f"dists/{it}") for it in ("lab/InRelease", "old/InRelease", "old/Release")], ["200", "404", "200"])
         # Another key is none.
         self.site.sure("mkdir -m 700 other; GNUPGHOME=$PWD/other gpg -q --batch --passphrase '' --quick-generate-key other default sign never")
         self.site.sure("GNUPGHOME=$PWD/other gpg -q --export > other.gpg; GNUPGHOME=$PWD/other gpgconf --kill all")

@@ -106,8 +106,13 @@ def run(*words, cwd=None):
     return subprocess.run(words, cwd=cwd, capture_output=True, text=True, check=False)
 
 
-def with_sidecars(changes, folder):
-    return run(sys.executable, TOOL, changes, folder)
+def with_sidecars(*words):
+    return run(sys.executable, TOOL, *words)
+
+
+def told(*lines):
+    """What with_sidecars says on standard error."""
+    return "".join(f"with_sidecars: {line}\n" for line in lines)
 
 
 @unittest.skipUnless(shutil.which("dpkg-deb"), "dpkg-deb is missing")
@@ -129,14 +134,14 @@ class Uploads(unittest.TestCase):
         run("dpkg-deb", "--root-owner-group", "--build", tree, self.built / name).check_returncode()
         return name
 
-    def changes(self, package="hello", version="1.0-1", more=(), armoured=False):
+    def changes(self, package="hello", version="1.0-1", more=(), armoured=False, name="hello_1.0-1_amd64.changes"):
         """Builds a package and its .changes, which lists more files by name."""
         deb = self.build(package, version)
         bodies = {name: (self.built / name).read_bytes() for name in [deb, *more]}
         text = HEAD.format(package=package, version=version)
         for field, digest in (("Checksums-Sha1", "sha1"), ("Checksums-Sha256", "sha256"), ("Files", "md5")):
             text += list_of(field, digest, bodies)
-        changes = self.built / "hello_1.0-1_amd64.changes"
+        changes = self.built / name
         changes.write_text(ARMOURED.format(text=text) if armoured else text)
         return changes
 
@@ -184,7 +189,9 @@ class Uploads(unittest.TestCase):
     def test_a_signature_and_a_buildinfo_are_left_out(self):
         (self.built / "hello_1.0-1_amd64.buildinfo").write_text("Format: 1.0\n")
         done = with_sidecars(self.changes(more=["hello_1.0-1_amd64.buildinfo"], armoured=True), self.ready)
-        self.assertEqual((done.stderr, done.returncode), ("", 0))
+        signature = "took the signature off hello_1.0-1_amd64.changes: the archive reads none"
+        buildinfo = "left out hello_1.0-1_amd64.buildinfo: the archive takes no .buildinfo"
+        self.assertEqual((done.stderr, done.returncode), (told(signature, buildinfo), 0))
         self.assertFalse((self.ready / "hello_1.0-1_amd64.buildinfo").exists())
         text = (self.ready / "hello_1.0-1_amd64.changes").read_text()
         self.assertTrue(text.startswith("Format: 1.8\n"))
@@ -197,31 +204,77 @@ class Uploads(unittest.TestCase):
         good = changes.read_text()
         deb = self.built / "hello_1.0-1_all.deb"
         rows = [
-            (good.replace("Files:", "Fields:"), "with_sidecars: no field Files\n"),
-            (good.replace(f" {deb.stat().st_size} ", " 7 "), f"with_sidecars: {deb.name} is not the file that Checksums-Sha1 lists\n"),
-            (ARMOURED.format(text=good).partition("-----BEGIN PGP SIGNATURE")[0], "with_sidecars: a signature without an end\n"),
-            (good + "\nFormat: 1.8\n", "with_sidecars: not a field of one paragraph: \n"),
+            (good.replace("Files:", "Fields:"), "no field Files"),
+            (good.replace(f" {deb.stat().st_size} ", " 7 "), f"{deb.name} is not the file that Checksums-Sha1 lists"),
+            (ARMOURED.format(text=good).partition("-----BEGIN PGP SIGNATURE")[0], "a signature without an end"),
+            (good + "\nFormat: 1.8\n", "not a field of one paragraph: "),
         ]
         for text, wanted in rows:
             changes.write_text(text)
             done = with_sidecars(changes, self.ready)
-            self.assertEqual((done.stdout, done.stderr, done.returncode), ("", wanted, 1))
+            self.assertEqual((done.stdout, done.stderr, done.returncode), ("", told(f"{changes.name}: {wanted}"), 1))
         changes.write_text(good)
         self.assertEqual(with_sidecars(changes, self.built).returncode, 1)
         self.assertEqual(with_sidecars(self.built / "none.changes", self.ready).returncode, 1)
-        self.assertEqual(run(sys.executable, TOOL).returncode, 2)
+        for words in ((), (changes,), ("--section", changes, self.ready), ("--section", "-", changes, self.ready), ("--other", changes, self.ready)):
+            self.assertEqual(with_sidecars(*words).returncode, 2, words)
         self.assertFalse(self.ready.exists())
+
+    def test_several_and_one_of_them_fails(self):
+        """Those that can be made are made, and the others are said."""
+        first = self.changes(name="first.changes")
+        second = self.changes("world", name="second.changes")
+        third = self.changes("third", name="third.changes")
+        third.write_text(third.read_text().replace("Files:", "Fields:"))
+        done = with_sidecars(third, first, self.built / "none.changes", second, self.ready)
+        self.assertEqual(done.returncode, 1)
+        self.assertEqual(done.stderr.splitlines()[0], "with_sidecars: third.changes: no field Files")
+        self.assertRegex(done.stderr, "\nwith_sidecars: none.changes: .*No such file.*\n$")
+        paths = done.stdout.splitlines()
+        names = ["hello_1.0-1_all.deb", "hello_1.0-1_all.control", "first.changes", "world_1.0-1_all.deb", "world_1.0-1_all.control", "second.changes"]
+        self.assertEqual(paths, [str(self.ready / name) for name in names])
+        self.check_lists(paths[:3])
+        self.check_lists(paths[3:])
+
+    def test_several_with_one_name_and_other_contents(self):
+        first, other = self.changes(), self.room / "other"
+        shutil.copytree(self.built, other)
+        other_changes = other / first.name
+        done = with_sidecars(first, other_changes, self.ready)
+        self.assertEqual((done.stderr, done.returncode), ("", 0))
+        text = (self.ready / first.name).read_text()
+        other_changes.write_text(first.read_text().replace("First.", "Second."))
+        done = with_sidecars(first, other_changes, self.ready)
+        wanted = f"{first.name}: another .changes has a {first.name} with other contents: give it another folder"
+        self.assertEqual((done.stderr, done.returncode), (told(wanted), 1))
+        self.assertEqual((self.ready / first.name).read_text(), text)
+
+    def test_a_section_for_files_without_one(self):
+        changes = self.changes()
+        text = changes.read_text()
+        for place, words, wanted in (
+            ("- optional", (), "- optional"),
+            ("- optional", ("--section", "contrib/utils"), "contrib/utils optional"),
+            ("utils optional", ("--section=contrib/utils",), "utils optional"),
+        ):
+            changes.write_text(text.replace("utils optional", place))
+            done = with_sidecars(*words, changes, self.ready)
+            self.assertEqual((done.stderr, done.returncode), ("", 0))
+            self.check_lists(done.stdout.splitlines())
+            lines = fields_of((self.ready / changes.name).read_text())["Files"][1:]
+            self.assertEqual([" ".join(line.split()[2:4]) for line in lines], [wanted] * 2)
 
     def test_help(self):
         done = run(sys.executable, TOOL, "--help")
         self.assertEqual((done.stderr, done.returncode), ("", 0))
-        self.assertIn("with_sidecars FILE.changes FOLDER\n", done.stdout)
+        self.assertIn("with_sidecars [--section SECTION] FILE.changes.. FOLDER\n", done.stdout)
 
     def test_a_package_under_another_name(self):
         deb = self.built / self.build("hallo", "1.0-1")
         deb.rename(self.built / "other_1.0-1_all.deb")
         done = with_sidecars(self.changes(more=["other_1.0-1_all.deb"]), self.ready)
-        self.assertEqual(done.stderr, "with_sidecars: other_1.0-1_all.deb is not named by its own fields, as hallo_1.0-1_all.deb\n")
+        wanted = "other_1.0-1_all.deb is not named by its own fields, as hallo_1.0-1_all.deb"
+        self.assertEqual(done.stderr, told(f"hello_1.0-1_amd64.changes: {wanted}"))
 
     @unittest.skipUnless(shutil.which("dpkg-buildpackage"), "dpkg-buildpackage is missing")
     def test_what_dpkg_buildpackage_makes(self):
@@ -248,7 +301,9 @@ class Uploads(unittest.TestCase):
             if body is signed:
                 changes.write_text(text.replace(f" {len(unsigned)} ", f" {len(signed)} "))
             done = with_sidecars(changes, self.ready)
-            self.assertEqual((done.stderr, done.returncode), ("", 0))
+            signature = [f"took the signature off {dsc.name}: the archive reads none"] * (body is signed)
+            buildinfo = f"left out {changes.stem}.buildinfo: the archive takes no .buildinfo"
+            self.assertEqual((done.stderr, done.returncode), (told(*signature, buildinfo), 0))
             self.assertEqual((self.ready / "hello_1.0-1.dsc").read_bytes(), unsigned)
             self.check_lists(done.stdout.splitlines())
         self.check_accepted(done.stdout.splitlines(), ["Package: hello"])

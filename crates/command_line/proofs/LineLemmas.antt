@@ -9,8 +9,9 @@ use Rattle.std.specs.Prelude.{IfSome, if◌then◌else◌, is_some}
 use Rattle.std.specs.Option.{option_and_then}
 use Rattle.std.specs.List.{list_any, position_or_len, before_first, after_first}
 use Rattle.std.specs.Str.{bytes_eq, is_utf8}
+use Rattle.sums.specs.Lines.{is_space}
 use Rattle.command_line.specs.Grammar.{IsCommand, IsGoodLine, IsAskable, IsOneWord, IsPassedOver, print_request}
-use Rattle.command_line.specs.Lists.{RequestBytes, asked, command_by, command_in, command_of, copy_of, is_bad, is_passed_over, is_space, is_word, lone, parted, promotion_of, put_of, removal_of, two_words, worded}
+use Rattle.command_line.specs.Lists.{RequestBytes, asked, command_by, command_in, command_of, copy_of, is_bad, is_one_word, is_passed_over, lone, parted, promotion_of, put_of, removal_of, two_words, worded}
 use Rattle.command_line.specs.declared.request.Request.TheVariants as request
 use Rattle.command_line.proofs.ListLemmas.{as_text}
 
@@ -88,8 +89,8 @@ both : (a b : Bool) → (a && b) ≡ true → (a ≡ true) × (b ≡ true)
 both true b h = (refl, h)
 both false b h = absurd (cc)
 
-word : (text : List ℕ) → is_word text ≡ true → IsOneWord text
-unfolding is_word
+word : (text : List ℕ) → is_one_word text ≡ true → IsOneWord text
+unfolding is_one_word
 word text h = by_kind (length text == 0) (list_any is_space text) refl refl h
   where
     by_kind : (t s : Bool) → (length text == 0) ≡ t → list_any is_space text ≡ s → (not t && not s) ≡ true → IsOneWord text
@@ -97,8 +98,8 @@ word text h = by_kind (length text == 0) (list_any is_space text) refl refl h
     by_kind false true e k n = absurd (cc)
     by_kind false false e k n = record { some = grind (arith, nat_tests); no_space = k }
 
-word-test : (text : List ℕ) → IsOneWord text → is_word text ≡ true
-unfolding is_word
+word-test : (text : List ℕ) → IsOneWord text → is_one_word text ≡ true
+unfolding is_one_word
 word-test text w =
     let some : 0 < length text = w.some in
     let full : (length text == 0) ≡ false = grind (arith, nat_tests) in
@@ -123,8 +124,8 @@ module _ {A : Type 0} (P : A → Type 0) where
 two : (text : List ℕ) → IfSome (two_words text) (λ w. IsOneWord w.0 × IsOneWord w.1 × (text ≡ w.0 ++ 32 ∷ w.1))
 unfolding two_words
 two text =
-    and_then _ _ (parted text) _ (parts text) (λ p c. by_test _ (is_word p.0 && is_word p.1) (Some p) None
-    (λ e. let t = both (is_word p.0) (is_word p.1) e in (word p.0 t.0, word p.1 t.1, c.whole))
+    and_then _ _ (parted text) _ (parts text) (λ p c. by_test _ (is_one_word p.0 && is_one_word p.1) (Some p) None
+    (λ e. let t = both (is_one_word p.0) (is_one_word p.1) e in (word p.0 t.0, word p.1 t.1, c.whole))
     (λ e. tt))
 
 -- this is asked for by the line that is this command and a space in front of this rest
@@ -138,7 +139,7 @@ put_asks rest = by_test _ (length rest == 0) None (Some (request.Put rest)) (λ 
 copy_asks : (rest : List ℕ) → IfSome (copy_of rest) (Asks (codes "copy") rest)
 unfolding copy_of
 copy_asks rest =
-    and_then _ _ (parted rest) _ (parts rest) (λ p c. and_then _ _ (two_words p.1) _ (two p.1) (λ w k. by_test _ (is_word p.0) (Some (request.Copy p.0 w.0 w.1)) None
+    and_then _ _ (parted rest) _ (parts rest) (λ p c. and_then _ _ (two_words p.1) _ (two p.1) (λ w k. by_test _ (is_one_word p.0) (Some (request.Copy p.0 w.0 w.1)) None
     (λ e. ((word p.0 e, k.0, k.1), ap (λ l. codes "copy" ++ 32 ∷ l) (c.whole ∙ ap (λ l. p.0 ++ 32 ∷ l) k.2)))
     (λ e. tt)))
 

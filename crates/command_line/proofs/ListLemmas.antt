@@ -1,5 +1,5 @@
 -- A text that is parted at a space, the command of a line, and one line more.
-use Rattle.std.proofs.Common.{◌≡◌, ◌<◌, ℕ, ◌+◌, Bool, true, false, not, ◌||◌, List, [], ◌∷◌, ◌++◌, length, map, take, get_or, Option, Some, None, Bor, refl, sym, ap, ◌∙◌, cond, arith}
+use Rattle.std.proofs.Common.{◌≡◌, ◌<◌, ℕ, ◌+◌, Bool, true, false, not, ◌||◌, List, [], ◌∷◌, ◌++◌, length, take, get_or, Option, Some, None, Bor, refl, sym, ap, ◌∙◌, cond, arith}
 use Rattle.std.specs.Prelude.{MatchOption}
 use Rattle.std.specs.Option.{option_map}
 use Rattle.std.specs.List.{list_any, position_or_len, before_first, after_first, cons_option}
@@ -9,7 +9,9 @@ use Rattle.std.proofs.lemmas.List.Elements.{filter_map-append}
 use Rattle.std.proofs.lemmas.List.Folds.{list_any_at}
 use Rattle.std.proofs.lemmas.List.Sums.{passes_at_first}
 use Rattle.std.proofs.lemmas.Str.{IsUtf8-from_is_utf8, is_utf8-from_IsUtf8}
-use Rattle.command_line.specs.Lists.{RequestBytes, asked, asked_by_lines, command_in, command_of, is_space, parted}
+use Rattle.sums.specs.Lines.{is_space}
+use Rattle.records.proofs.Different.{texts}
+use Rattle.command_line.specs.Lists.{RequestBytes, asked, asked_by_lines, command_in, command_of, parted}
 
 -- ---- parting
 
@@ -51,9 +53,6 @@ unfolding command_in
 as_no_text line h = ap (λ b. cond b (command_of line) None) (no_utf8 line h)
 
 -- ---- lines in their order
-
-abbrev pub texts : List (Bor (List ℕ)) → List (List ℕ)
-texts ls = map (λ line. line.now) ls
 
 pub one_more : (ls : List (Bor (List ℕ))) (i : ℕ) (d : Bor (List ℕ)) → i < length ls
     → asked_by_lines (texts (take (i + 1) ls)) ≡ asked_by_lines (texts (take i ls)) ++ asked_by_lines ((get_or ls i d).now ∷ [])

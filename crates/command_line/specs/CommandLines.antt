@@ -1,5 +1,5 @@
 -- What a command line says, as clap reads its words.
-use Rattle.std.specs.Prelude.{◌≡◌, ◌≢◌, ◌≤◌, ℕ, Bool, false, codes, List, [], map, Option, Some, Ok}
+use Rattle.std.specs.Prelude.{◌≡◌, ◌≢◌, ◌≤◌, ℕ, Bool, false, codes, List, [], map, Option, Some, None, Ok}
 use Rattle.std.specs.Option.{option_map, option_map_or}
 use Rattle.std.specs.Str.{bytes_eq}
 use Rattle.std.specs.Str.Parse.{ParsesUnsigned}
@@ -9,7 +9,7 @@ use Rattle.std.specs.Borrow.{Bor}
 use Rattle.clap.specs.Words.{Row, Text, all_of, first_of}
 use Rattle.keep.specs.Book.{latest}
 use Rattle.command_line.specs.declared.parsed.CommandLine.{CommandLine}
-use Rattle.command_line.specs.declared.parsed.CommandLine.TheVariants.{Try, Compare, Init, Ask, Batch, Configure, Migrate, Show, Configuration, Serve}
+use Rattle.command_line.specs.declared.parsed.CommandLine.TheVariants.{Try, Compare, Check, Init, Ask, Batch, Configure, Migrate, Show, List as Listing, Configuration, Export, Serve}
 use Rattle.command_line.specs.declared.request.Request.{Request}
 use Rattle.command_line.specs.declared.request.Request.TheVariants as request
 
@@ -33,6 +33,10 @@ IsOptionalWord id rows word = option_map (λ text. text.now) word ≡ first_of i
 abbrev pub is_true : Text → List Row → Bool
 is_true id rows = option_map_or (λ text. bytes_eq text (codes "true")) (first_of id rows) false
 
+-- whether the words give this flag: those of a command that has no such flag never do
+abbrev pub is_given : Text → Option (Text × List Row) → Bool
+is_given id found = option_map_or (λ (named : Text × List Row). is_true id named.1) found false
+
 -- the words are those that this argument was given, if it was given any
 abbrev pub AreWords : Text → List Row → Option (Vec (Bor (List ℕ)) Global) → Type 0
 AreWords id rows words = option_map (λ given. map (λ word. word.now) given.items) words ≡ all_of id rows
@@ -52,6 +56,11 @@ pub record IsNumber (id : Text) (rows : List Row) (least most n : ℕ) : Type 0 
 -- the moment that was handed in
 abbrev pub IsMoment : List Row → ℕ → Type 0
 IsMoment rows at = IsNumber (codes "at") rows 0 latest at
+
+-- the moment that was handed in, where one was
+abbrev pub IsOptionalMoment : List Row → Option ℕ → Type 0
+IsOptionalMoment rows (Some at) = IsMoment rows at
+IsOptionalMoment rows None = first_of (codes "at") rows ≡ None
 
 -- the command and each value of a request are those that were found
 abbrev pub IsRequested : Option (Text × List Row) → Bor (List ℕ) → ℕ → Request (Bor (List ℕ)) (Vec (Bor (List ℕ)) Global) (Option (Vec (Bor (List ℕ)) Global)) → Type 0
@@ -75,19 +84,27 @@ abbrev pub IsLine : Option (Text × List Row) → CommandLine → Type 0
 IsLine found (Try paths) = IsNamed found (codes "try") (λ rows. HasPaths rows paths)
 IsLine found (Compare left right) = IsNamed found (codes "compare") (λ rows.
     IsWord (codes "A") rows left × IsWord (codes "B") rows right)
+IsLine found (Check conf) = IsNamed found (codes "check") (λ rows. IsWord (codes "CONF") rows conf)
 IsLine found (Init db at conf) = IsNamed found (codes "init") (λ rows.
     IsWord (codes "db") rows db × IsMoment rows at × IsWord (codes "CONF") rows conf)
-IsLine found (Ask db at asked) = IsRequested found db at asked
-IsLine found (Batch db at list) = IsNamed found (codes "batch") (λ rows.
-    IsWord (codes "db") rows db × IsMoment rows at × IsWord (codes "LIST") rows list)
+IsLine found (Ask db at asked strict json) =
+    IsRequested found db at asked × (strict ≡ is_given (codes "strict") found) × (json ≡ is_given (codes "json") found)
+IsLine found (Batch db at list strict) = IsNamed found (codes "batch") (λ rows.
+    IsWord (codes "db") rows db × IsMoment rows at × IsWord (codes "LIST") rows list × (strict ≡ is_true (codes "strict") rows))
 IsLine found (Configure db at conf) = IsNamed found (codes "configure") (λ rows.
     IsWord (codes "db") rows db × IsMoment rows at × IsWord (codes "CONF") rows conf)
 IsLine found (Migrate from db at conf) = IsNamed found (codes "migrate") (λ rows.
     IsWord (codes "from") rows from × IsWord (codes "db") rows db × IsMoment rows at × IsWord (codes "CONF") rows conf)
 IsLine found (Show db path) = IsNamed found (codes "show") (λ rows.
     IsWord (codes "db") rows db × IsWord (codes "PATH") rows path)
+IsLine found (Listing db suite json) = IsNamed found (codes "list") (λ rows.
+    IsWord (codes "db") rows db × IsWord (codes "SUITE") rows suite × (json ≡ is_true (codes "json") rows))
 IsLine found (Configuration db) = IsNamed found (codes "configuration") (λ rows. IsWord (codes "db") rows db)
+IsLine found (Export db at dir signed by_hash) = IsNamed found (codes "export") (λ rows.
+    IsWord (codes "db") rows db × IsOptionalMoment rows at × IsWord (codes "DIR") rows dir × (signed ≡ is_true (codes "signed") rows)
+    × (by_hash ≡ is_true (codes "by-hash") rows))
 IsLine found (Serve db serving) = IsNamed found (codes "serve") (λ rows.
     IsWord (codes "db") rows db × IsMoment rows serving.at × IsOptionalWord (codes "moments") rows serving.moments
-    × (serving.log ≡ is_true (codes "log") rows) × IsWord (codes "ADDRESS") rows serving.address
+    × (serving.log ≡ is_true (codes "log") rows) × IsOptionalWord (codes "export") rows serving.export
+    × (serving.signed ≡ is_true (codes "signed") rows) × IsWord (codes "ADDRESS") rows serving.address
     × IsNumber (codes "COUNT") rows 1 most_connections serving.count)

@@ -1,7 +1,9 @@
 -- The grammar of a list of commands: a printer from what is asked for to its line, a fact that says what can be asked for, and the lists that are made of such lines.
 use Rattle.std.specs.Prelude.{◌≡◌, ◌⊎◌, ℕ, ◌+◌, ◌<◌, false, List, [], ◌∷◌, ◌++◌, length, codes, IsUtf8}
 use Rattle.std.specs.List.{AllByRecursion, join_with_byte, list_any}
-use Rattle.command_line.specs.Lists.{RequestBytes, is_newline, is_space}
+use Rattle.para.specs.Bytes.{is_newline}
+use Rattle.sums.specs.Lines.{is_space}
+use Rattle.command_line.specs.Lists.{RequestBytes}
 use Rattle.command_line.specs.declared.request.Request.TheVariants as request
 
 -- ---- a line

@@ -4,6 +4,8 @@ use Rattle.std.specs.Option.{option_and_then}
 use Rattle.std.specs.List.{list_any, slice_split, before_first, after_first, filter_map}
 use Rattle.std.specs.Str.{bytes_eq, is_utf8}
 use Rattle.std.specs.Borrow.{Bor}
+use Rattle.para.specs.Bytes.{is_newline}
+use Rattle.sums.specs.Lines.{is_space}
 use Rattle.command_line.specs.declared.list.BatchFault.{BatchFault}
 use Rattle.command_line.specs.declared.list.BatchFault.TheVariants.{Line}
 use Rattle.command_line.specs.declared.request.Request.{Request}
@@ -26,12 +28,9 @@ bytes_of request.Verdicts = request.Verdicts
 
 -- ---- a line
 
-abbrev pub is_space : ℕ → Bool
-is_space b = b == 32
-
 -- a word: one byte or more, none of them a space
-unfoldable pub is_word : List ℕ → Bool
-is_word text = not (length text == 0) && not (list_any is_space text)
+unfoldable pub is_one_word : List ℕ → Bool
+is_one_word text = not (length text == 0) && not (list_any is_space text)
 
 -- what stands before the first space of a text, and behind it, where it has one
 unfoldable pub parted : List ℕ → Option (List ℕ × List ℕ)
@@ -39,7 +38,7 @@ parted text = if list_any is_space text then Some (before_first is_space text, a
 
 -- two words with one space between
 unfoldable pub two_words : List ℕ → Option (List ℕ × List ℕ)
-two_words text = option_and_then (λ parts. if is_word parts.0 && is_word parts.1 then Some parts else None) (parted text)
+two_words text = option_and_then (λ parts. if is_one_word parts.0 && is_one_word parts.1 then Some parts else None) (parted text)
 
 -- PATH, which may hold spaces
 unfoldable pub put_of : List ℕ → Option RequestBytes
@@ -48,7 +47,7 @@ put_of path = if length path == 0 then None else Some (request.Put path)
 -- FROM TO SOURCE
 unfoldable pub copy_of : List ℕ → Option RequestBytes
 copy_of text =
-    option_and_then (λ parts. option_and_then (λ more. if is_word parts.0 then Some (request.Copy parts.0 more.0 more.1) else None) (two_words parts.1))
+    option_and_then (λ parts. option_and_then (λ more. if is_one_word parts.0 then Some (request.Copy parts.0 more.0 more.1) else None) (two_words parts.1))
     (parted text)
 
 -- FROM TO
@@ -101,9 +100,6 @@ asked line = if is_passed_over line then None else command_in line
 -- a line that is neither passed over nor a command
 unfoldable pub is_bad : List ℕ → Bool
 is_bad line = not (is_passed_over line) && not (is_some (command_in line))
-
-abbrev pub is_newline : ℕ → Bool
-is_newline b = b == 10
 
 -- the pieces between the newlines of a list, of which the last is empty where the list ends in a newline
 abbrev pub lines_in : List ℕ → List (List ℕ)

@@ -35,13 +35,17 @@ from_rule = record (word_rule (codes "from")) { long = Some (codes "from"); valu
 abbrev pub at_rule : Rule
 at_rule = record (word_rule (codes "at")) { long = Some (codes "at"); value_names = 1; parser = Some (parser.Unsigned 0 latest) }
 
--- --moments MOMENTS, which may be left out
-abbrev pub moments_rule : Rule
-moments_rule = record (new_rule (codes "moments")) { long = Some (codes "moments"); value_names = 1; action = Some Set }
+-- --at N, which may be left out
+abbrev pub pages_at_rule : Rule
+pages_at_rule = record at_rule { required = false }
 
--- --log
-abbrev pub log_rule : Rule
-log_rule = record (new_rule (codes "log")) { long = Some (codes "log"); action = Some SetTrue }
+-- --NAME and a value behind it, which may be left out
+abbrev pub option_rule : Text → Rule
+option_rule name = record (new_rule name) { long = Some name; value_names = 1; action = Some Set }
+
+-- --NAME, which has no value
+abbrev pub flag_rule : Text → Rule
+flag_rule name = record (new_rule name) { long = Some name; action = Some SetTrue }
 
 -- COUNT
 abbrev pub count_rule : Rule
@@ -79,8 +83,11 @@ promote_app =
 abbrev pub remove_app : App
 remove_app = with_rule (with_rule (timed_app (codes "remove")) (word_rule (codes "SUITE"))) (word_rule (codes "PACKAGE"))
 
+abbrev pub run_app : App
+run_app = with_rule (timed_app (codes "run")) (flag_rule (codes "strict"))
+
 abbrev pub batch_app : App
-batch_app = with_rule (timed_app (codes "batch")) (word_rule (codes "LIST"))
+batch_app = with_rule (with_rule (timed_app (codes "batch")) (flag_rule (codes "strict"))) (word_rule (codes "LIST"))
 
 abbrev pub configure_app : App
 configure_app = with_rule (timed_app (codes "configure")) (word_rule (codes "CONF"))
@@ -88,13 +95,34 @@ configure_app = with_rule (timed_app (codes "configure")) (word_rule (codes "CON
 abbrev pub migrate_app : App
 migrate_app = with_rule (with_rule (with_rule (with_rule (new_app (codes "migrate")) from_rule) db_rule) at_rule) (word_rule (codes "CONF"))
 
+abbrev pub check_app : App
+check_app = with_rule (new_app (codes "check")) (word_rule (codes "CONF"))
+
 abbrev pub show_app : App
 show_app = with_rule (db_app (codes "show")) (word_rule (codes "PATH"))
 
+abbrev pub list_app : App
+list_app = with_rule (with_rule (db_app (codes "list")) (flag_rule (codes "json"))) (word_rule (codes "SUITE"))
+
+abbrev pub waiting_app : App
+waiting_app = with_rule (timed_app (codes "waiting")) (flag_rule (codes "json"))
+
+abbrev pub verdicts_app : App
+verdicts_app = with_rule (db_app (codes "verdicts")) (flag_rule (codes "json"))
+
+abbrev pub export_app : App
+export_app =
+    with_rule (with_rule (with_rule (with_rule (db_app (codes "export")) pages_at_rule) (flag_rule (codes "signed"))) (flag_rule (codes "by-hash")))
+    (word_rule (codes "DIR"))
+
+-- the options of `serve` alone
+abbrev pub serve_options : App
+serve_options =
+    with_rule (with_rule (with_rule (with_rule (timed_app (codes "serve")) (option_rule (codes "moments"))) (flag_rule (codes "log"))) (option_rule (codes "export")))
+    (flag_rule (codes "signed"))
+
 abbrev pub serve_app : App
-serve_app =
-    with_rule (with_rule (with_rule (with_rule (timed_app (codes "serve")) moments_rule) log_rule) (word_rule (codes "ADDRESS")))
-    count_rule
+serve_app = with_rule (with_rule serve_options (word_rule (codes "ADDRESS"))) count_rule
 
 -- `archive`, its name not among the words, with its version: one command is wanted, and where there are no words, help is given
 abbrev pub new_archive : App
@@ -112,7 +140,7 @@ abbrev pub with_changes : App → App
 with_changes app =
     with_subcommand (with_subcommand (with_subcommand (with_subcommand (with_subcommand (with_subcommand (with_subcommand (with_subcommand (with_subcommand (with_subcommand app init_app.top)
     put_app.top)
-    (timed_app (codes "run")).top)
+    run_app.top)
     copy_app.top)
     promote_app.top)
     remove_app.top)
@@ -124,13 +152,19 @@ with_changes app =
 -- with the commands that ask an archive, and the one that serves it
 abbrev pub with_questions : App → App
 with_questions app =
-    with_subcommand (with_subcommand (with_subcommand (with_subcommand (with_subcommand app show_app.top) (timed_app (codes "waiting")).top)
-    (db_app (codes "verdicts")).top)
+    with_subcommand (with_subcommand (with_subcommand (with_subcommand (with_subcommand (with_subcommand (with_subcommand app show_app.top) list_app.top)
+    waiting_app.top)
+    verdicts_app.top)
     (db_app (codes "configuration")).top)
+    export_app.top)
     serve_app.top
 
+-- with the commands that need no archive
+abbrev pub with_others : App → App
+with_others app = with_subcommand (with_subcommand (with_subcommand app try_app.top) compare_app.top) check_app.top
+
 abbrev pub archive_app : App
-archive_app = with_questions (with_changes (with_subcommand (with_subcommand new_archive try_app.top) compare_app.top))
+archive_app = with_questions (with_changes (with_others new_archive))
 
 -- a command that a parse reads so, and that may be used
 pub record IsCommand (app : App) (c : Command) : Type 0 where

@@ -3,9 +3,9 @@
 //! clap promises for the program's own arguments that a required one is there, and not for those of a command. So each command asks for its
 //! values again. A line that lacked one would be refused (L2): tests know of none.
 
-ghost use Rattle.std.specs.Prelude.{◌≡◌, false};
+ghost use Rattle.std.specs.Prelude.{◌≡◌, codes, false};
 ghost use Rattle.clap.specs.Words.{rule_of};
-ghost use Rattle.command_line.specs.Shape.{at_rule, count_rule, db_rule, from_rule, log_rule, many_rule, moments_rule, path_rule, word_rule};
+ghost use Rattle.command_line.specs.Shape.{at_rule, count_rule, db_rule, flag_rule, from_rule, many_rule, option_rule, pages_at_rule, path_rule, word_rule};
 
 use clap::{Arg, ArgAction, value_parser};
 use keep::LATEST;
@@ -83,29 +83,122 @@ pub fn at<'a>(alloc: Global) -> Arg<'a>
     .value_parser(value_parser!(u64).range(0..=LATEST as i64))
 }
 
-/// `--moments MOMENTS`, a file whose numbers the moments of later connections are.
-pub fn moments<'a>(alloc: Global) -> Arg<'a>
-    ensures rule { rule_of result ≡ moments_rule }
+/// `--at N`, the moment of a page, which may be left out.
+pub fn pages_at<'a>(alloc: Global) -> Arg<'a>
+    ensures rule { rule_of result ≡ pages_at_rule }
     ensures local { result.global ≡ false }
 {
-    Arg::new(alloc, "moments")
-        .long("moments")
-        .value_name("MOMENTS")
+    Arg::new(alloc, "at")
+        .long("at")
+        .value_name("N")
         .action(ArgAction::Set)
-        .help("A file with a number: each connection has the greatest moment that was read so far")
+        .value_parser(value_parser!(u64).range(0..=LATEST as i64))
+        .help("The moment of uploads.html; without it all that was not cleaned counts")
+}
+
+/// `--NAME`, a value behind it, and what that means. It may be left out.
+pub fn option<'a>(alloc: Global, name: &'a str, value: &'a str, meaning: &'a str) -> Arg<'a>
+    ensures rule { rule_of result ≡ option_rule name.now }
+    ensures local { result.global ≡ false }
+{
+    Arg::new(alloc, name)
+        .long(name)
+        .value_name(value)
+        .action(ArgAction::Set)
+        .help(meaning)
+}
+
+/// `--moments MOMENTS`, a file whose numbers the moments of later connections are.
+pub fn moments<'a>(alloc: Global) -> Arg<'a>
+    ensures rule { rule_of result ≡ option_rule (codes "moments") }
+    ensures local { result.global ≡ false }
+{
+    option(
+        alloc,
+        "moments",
+        "MOMENTS",
+        "A file with a number: each connection has the greatest moment that was read so far",
+    )
+}
+
+/// `--export DIR`, a folder that is exported to behind each request that may change what suites show.
+pub fn export<'a>(alloc: Global) -> Arg<'a>
+    ensures rule { rule_of result ≡ option_rule (codes "export") }
+    ensures local { result.global ≡ false }
+{
+    option(
+        alloc,
+        "export",
+        "DIR",
+        "A folder that is exported to behind each connection with a POST",
+    )
+}
+
+/// `--NAME`, and what it means.
+pub fn flag<'a>(alloc: Global, name: &'a str, meaning: &'a str) -> Arg<'a>
+    ensures rule { rule_of result ≡ flag_rule name.now }
+    ensures local { result.global ≡ false }
+{
+    Arg::new(alloc, name)
+        .long(name)
+        .action(ArgAction::SetTrue)
+        .help(meaning)
 }
 
 /// `--log`.
 pub fn log<'a>(alloc: Global) -> Arg<'a>
-    ensures rule { rule_of result ≡ log_rule }
+    ensures rule { rule_of result ≡ flag_rule (codes "log") }
     ensures local { result.global ≡ false }
 {
-    Arg::new(alloc, "log")
-        .long("log")
-        .action(ArgAction::SetTrue)
-        .help(
-            "Prints a line for each connection: moment, method, path, status, bytes, milliseconds",
-        )
+    flag(
+        alloc,
+        "log",
+        "Prints a line for each connection: moment, method, path, status, bytes, milliseconds",
+    )
+}
+
+/// `--json`.
+pub fn json<'a>(alloc: Global) -> Arg<'a>
+    ensures rule { rule_of result ≡ flag_rule (codes "json") }
+    ensures local { result.global ≡ false }
+{
+    flag(alloc, "json", "Prints a line of JSON for each")
+}
+
+/// `--strict`.
+pub fn strict<'a>(alloc: Global) -> Arg<'a>
+    ensures rule { rule_of result ≡ flag_rule (codes "strict") }
+    ensures local { result.global ≡ false }
+{
+    flag(
+        alloc,
+        "strict",
+        "Ends with status 1 where a run refuses an upload",
+    )
+}
+
+/// `--signed`.
+pub fn signed<'a>(alloc: Global) -> Arg<'a>
+    ensures rule { rule_of result ≡ flag_rule (codes "signed") }
+    ensures local { result.global ≡ false }
+{
+    flag(
+        alloc,
+        "signed",
+        "A suite is shown once InRelease lies in the folder of its new state",
+    )
+}
+
+/// `--by-hash`.
+pub fn by_hash<'a>(alloc: Global) -> Arg<'a>
+    ensures rule { rule_of result ≡ flag_rule (codes "by-hash") }
+    ensures local { result.global ≡ false }
+{
+    flag(
+        alloc,
+        "by-hash",
+        "Each index text also stands under its SHA-256, also those of the last two states",
+    )
 }
 
 /// How many connections to serve.

@@ -2,9 +2,12 @@
 
 ghost use Rattle.std.specs.Prelude.{IfOk, codes};
 ghost use Rattle.clap.specs.Words.{App, with_rule, with_subcommand};
-ghost use Rattle.command_line.specs.Shape.{archive_app, new_archive, IsCommand, try_app, compare_app, init_app, put_app, db_app, timed_app, copy_app, promote_app, remove_app, batch_app, configure_app, migrate_app, show_app, serve_app, word_rule, moments_rule, log_rule, with_changes, with_questions};
+ghost use Rattle.command_line.specs.Shape.{archive_app, new_archive, IsCommand, try_app, compare_app, check_app, init_app, put_app, run_app, db_app, timed_app, copy_app, promote_app, remove_app, batch_app, configure_app, migrate_app, show_app, list_app, waiting_app, verdicts_app, export_app, serve_app, serve_options, word_rule, with_changes, with_others, with_questions};
 
-use crate::arguments::{at, count, db, from, log, many, moments, paths, word};
+use crate::arguments::{
+    at, by_hash, count, db, export, from, json, log, many, moments, pages_at, paths, signed,
+    strict, word,
+};
 use crate::version::VERSION;
 use clap::Command;
 use std::alloc::{AllocError, Global};
@@ -26,6 +29,14 @@ fn compare_command<'a>(alloc: Global) -> Result<Command<'a>, AllocError>
         .about("Says how two versions compare: less, equal or greater")
         .arg(word(alloc, "A", "A version"))?
         .arg(word(alloc, "B", "The version that it is compared with"))
+}
+
+fn check_command<'a>(alloc: Global) -> Result<Command<'a>, AllocError>
+    ensures { IfOk result (IsCommand check_app) }
+{
+    Command::new(alloc, "check")
+        .about("Reads a configuration, prints what it says, and which fields are passed over")
+        .arg(word(alloc, "CONF", "The file of the configuration"))
 }
 
 /// A command on the archive of a database, and what it does.
@@ -86,13 +97,14 @@ fn put_command<'a>(alloc: Global) -> Result<Command<'a>, AllocError>
 }
 
 fn run_command<'a>(alloc: Global) -> Result<Command<'a>, AllocError>
-    ensures { IfOk result (IsCommand (timed_app (codes "run"))) }
+    ensures { IfOk result (IsCommand run_app) }
 {
     timed_command(
         alloc,
         "run",
         "Runs the queue: a line for each upload that is judged",
-    )
+    )?
+    .arg(strict(alloc))
 }
 
 fn copy_command<'a>(alloc: Global) -> Result<Command<'a>, AllocError>
@@ -153,13 +165,17 @@ fn clean_command<'a>(alloc: Global) -> Result<Command<'a>, AllocError>
 fn batch_command<'a>(alloc: Global) -> Result<Command<'a>, AllocError>
     ensures { IfOk result (IsCommand batch_app) }
 {
-    worded_command(
+    timed_command(
         alloc,
         "batch",
         "Does the commands of a list over one opening, prints what each answers",
+    )?
+    .arg(strict(alloc))?
+    .arg(word(
+        alloc,
         "LIST",
         "The file of the list, a command a line; - is standard input",
-    )
+    ))
 }
 
 fn configure_command<'a>(alloc: Global) -> Result<Command<'a>, AllocError>
@@ -195,20 +211,29 @@ fn show_command<'a>(alloc: Global) -> Result<Command<'a>, AllocError>
     ))
 }
 
+fn list_command<'a>(alloc: Global) -> Result<Command<'a>, AllocError>
+    ensures { IfOk result (IsCommand list_app) }
+{
+    db_command(alloc, "list", "Lists what a suite shows, an item a line")?
+        .arg(json(alloc))?
+        .arg(word(alloc, "SUITE", "The suite that shows it"))
+}
+
 fn waiting_command<'a>(alloc: Global) -> Result<Command<'a>, AllocError>
-    ensures { IfOk result (IsCommand (timed_app (codes "waiting"))) }
+    ensures { IfOk result (IsCommand waiting_app) }
 {
     timed_command(
         alloc,
         "waiting",
         "Lists the uploads without a verdict, each with how many files it lacks",
-    )
+    )?
+    .arg(json(alloc))
 }
 
 fn verdicts_command<'a>(alloc: Global) -> Result<Command<'a>, AllocError>
-    ensures { IfOk result (IsCommand (db_app (codes "verdicts"))) }
+    ensures { IfOk result (IsCommand verdicts_app) }
 {
-    db_command(alloc, "verdicts", "Lists the verdicts of all runs")
+    db_command(alloc, "verdicts", "Lists the verdicts of all runs")?.arg(json(alloc))
 }
 
 fn configuration_command<'a>(alloc: Global) -> Result<Command<'a>, AllocError>
@@ -221,9 +246,27 @@ fn configuration_command<'a>(alloc: Global) -> Result<Command<'a>, AllocError>
     )
 }
 
+fn export_command<'a>(alloc: Global) -> Result<Command<'a>, AllocError>
+    ensures { IfOk result (IsCommand export_app) }
+{
+    db_command(
+        alloc,
+        "export",
+        "Writes what the suites show into a folder that any web server can show",
+    )?
+    .arg(pages_at(alloc))?
+    .arg(signed(alloc))?
+    .arg(by_hash(alloc))?
+    .arg(word(
+        alloc,
+        "DIR",
+        "The folder, which is made where it is not there",
+    ))
+}
+
 /// The command that serves, with its options alone.
-fn logged_command<'a>(alloc: Global) -> Result<Command<'a>, AllocError>
-    ensures { IfOk result (IsCommand (with_rule (with_rule (timed_app (codes "serve")) moments_rule) log_rule)) }
+fn serve_with_options<'a>(alloc: Global) -> Result<Command<'a>, AllocError>
+    ensures { IfOk result (IsCommand serve_options) }
 {
     timed_command(
         alloc,
@@ -231,13 +274,15 @@ fn logged_command<'a>(alloc: Global) -> Result<Command<'a>, AllocError>
         "Answers HTTP connections, one after the other",
     )?
     .arg(moments(alloc))?
-    .arg(log(alloc))
+    .arg(log(alloc))?
+    .arg(export(alloc))?
+    .arg(signed(alloc))
 }
 
 fn serve_command<'a>(alloc: Global) -> Result<Command<'a>, AllocError>
     ensures { IfOk result (IsCommand serve_app) }
 {
-    logged_command(alloc)?
+    serve_with_options(alloc)?
         .arg(word(alloc, "ADDRESS", "Where to listen, such as 127.0.0.1:8080"))?
         .arg(count(alloc))
 }
@@ -291,18 +336,31 @@ fn with_asking<'a>(
     ensures { (app : App) → IfOk command.entry (IsCommand app) → IfOk result (IsCommand (with_questions app)) }
 {
     let command = with(command, show_command(alloc));
+    let command = with(command, list_command(alloc));
     let command = with(command, waiting_command(alloc));
     let command = with(command, verdicts_command(alloc));
     let command = with(command, configuration_command(alloc));
+    let command = with(command, export_command(alloc));
     with(command, serve_command(alloc))
+}
+
+/// A command with those subcommands that need no archive.
+fn with_none<'a>(
+    alloc: Global,
+    command: Result<Command<'a>, AllocError>,
+) -> Result<Command<'a>, AllocError>
+    ensures { (app : App) → IfOk command.entry (IsCommand app) → IfOk result (IsCommand (with_others app)) }
+{
+    let command = with(command, try_command(alloc));
+    let command = with(command, compare_command(alloc));
+    with(command, check_command(alloc))
 }
 
 /// The commands of the program.
 pub fn commands<'a>(alloc: Global) -> Result<Command<'a>, AllocError>
     ensures { IfOk result (IsCommand archive_app) }
 {
-    let command = with(archive(alloc), try_command(alloc));
-    let command = with(command, compare_command(alloc));
+    let command = with_none(alloc, archive(alloc));
     let command = with_changing(alloc, command);
     with_asking(alloc, command)
 }

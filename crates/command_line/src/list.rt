@@ -3,7 +3,8 @@
 ghost use Rattle.std.specs.Prelude.{◌≡◌, ◌⊎◌, Some, None, map, is_some, IfOk, IfErr};
 ghost use Rattle.std.specs.Option.{option_map};
 ghost use Rattle.std.specs.List.{list_any};
-ghost use Rattle.command_line.specs.Lists.{asked, asked_by_lines, asked_by_list, bytes_of, command_in, command_of, copy_of, fault_behind, is_bad, is_passed_over, is_space, is_word, lines_in, list_fault, lone, parted, promotion_of, put_of, removal_of, two_words, worded};
+ghost use Rattle.sums.specs.Lines.{is_space};
+ghost use Rattle.command_line.specs.Lists.{asked, asked_by_lines, asked_by_list, bytes_of, command_in, command_of, copy_of, fault_behind, is_bad, is_one_word, is_passed_over, lines_in, list_fault, lone, parted, promotion_of, put_of, removal_of, two_words, worded};
 ghost use Rattle.command_line.specs.declared.list.BatchFault.TheVariants.{OutOfMemory};
 
 use crate::request::{ListRequest, Request};
@@ -41,9 +42,9 @@ fn has_space(text: &str) -> bool
 }
 
 /// Whether a text is a word: one byte or more, none of them a space.
-#[tactic(auto, unfolding(crate::specs::Lists::is_word))]
-fn is_word(text: &str) -> bool
-    ensures { result ≡ is_word text.now }
+#[tactic(auto, unfolding(crate::specs::Lists::is_one_word))]
+fn is_one_word(text: &str) -> bool
+    ensures { result ≡ is_one_word text.now }
 {
     let empty = text.is_empty();
     let space = has_space(text);
@@ -56,7 +57,7 @@ fn two_words(text: &str) -> Option<(&str, &str)>
     ensures { option_map (λ words. (words.0.now, words.1.now)) result ≡ two_words text.now }
 {
     let (first, second) = parted(text)?;
-    if is_word(first) && is_word(second) {
+    if is_one_word(first) && is_one_word(second) {
         Some((first, second))
     } else {
         None
@@ -82,7 +83,7 @@ fn copy_of(text: &str) -> Option<ListRequest<'_>>
 {
     let (from, rest) = parted(text)?;
     let (to, source) = two_words(rest)?;
-    if is_word(from) {
+    if is_one_word(from) {
         Some(Request::Copy { from, to, source })
     } else {
         None

@@ -15,6 +15,10 @@ pub struct Serving<'a> {
     pub moments: Option<&'a str>,
     /// Whether each connection has a line on standard error.
     pub log: bool,
+    /// The folder that is exported to behind each connection with a POST.
+    pub export: Option<&'a str>,
+    /// Whether that shows a suite only once its new state is signed.
+    pub signed: bool,
     pub address: &'a str,
     /// How many connections are answered, one after the other.
     pub count: u64,
@@ -38,17 +42,27 @@ pub enum CommandLine<'a> {
         at: u64,
         conf: &'a str,
     },
+    /// Says what the configuration of a file says, and which of its fields are passed over.
+    Check {
+        conf: &'a str,
+    },
     /// Asks the archive of a database file at a moment. For `verdicts`, which takes none, it is 0.
     Ask {
         db: &'a str,
         at: u64,
         request: LineRequest<'a>,
+        /// Whether an upload that the run refuses makes the exit status 1.
+        strict: bool,
+        /// Whether each line that is printed is one of JSON.
+        json: bool,
     },
     /// Does the commands of a list, which is a file, or standard input where it is `-`.
     Batch {
         db: &'a str,
         at: u64,
         list: &'a str,
+        /// Whether an upload that a run refuses makes the exit status 1.
+        strict: bool,
     },
     /// Gives the archive of a database file the configuration of a file.
     Configure {
@@ -69,9 +83,27 @@ pub enum CommandLine<'a> {
         db: &'a str,
         path: &'a str,
     },
+    /// Lists what a suite shows.
+    List {
+        db: &'a str,
+        suite: &'a str,
+        /// Whether each item is a line of JSON.
+        json: bool,
+    },
     /// Prints the configuration.
     Configuration {
         db: &'a str,
+    },
+    /// Writes what the suites show into a folder.
+    Export {
+        db: &'a str,
+        /// The moment of the page on uploads, where one was given.
+        at: Option<u64>,
+        dir: &'a str,
+        /// Whether a suite is shown only once its new state is signed.
+        signed: bool,
+        /// Whether each index text also stands under its SHA-256.
+        by_hash: bool,
     },
     /// Serves the archive of a database file over HTTP.
     Serve {

@@ -7,7 +7,9 @@ ghost use Rattle.command_line.specs.CommandLines.{IsLine};
 use crate::arguments::MOST_CONNECTIONS;
 use crate::parsed::{CommandLine, LineFault, Serving};
 use crate::request::Request;
-use crate::values::{is_set, lacking, moment, number, optional, paths, required, sources};
+use crate::values::{
+    is_set, lacking, moment, number, optional, optional_moment, paths, required, sources,
+};
 use clap::ArgMatches;
 use std::alloc::Global;
 
@@ -25,6 +27,14 @@ fn read_compare<'a>(alloc: Global, found: &ArgMatches<'a>) -> Result<CommandLine
     Ok(CommandLine::Compare {
         left: required(alloc, found, "A")?,
         right: required(alloc, found, "B")?,
+    })
+}
+
+fn read_check<'a>(alloc: Global, found: &ArgMatches<'a>) -> Result<CommandLine<'a>, LineFault>
+    ensures { IfOk result (IsLine (Some (codes "check", rows_of (found_of found.now)))) }
+{
+    Ok(CommandLine::Check {
+        conf: required(alloc, found, "CONF")?,
     })
 }
 
@@ -47,6 +57,8 @@ fn read_put<'a>(alloc: Global, found: &ArgMatches<'a>) -> Result<CommandLine<'a>
         request: Request::Put {
             path: paths(alloc, found)?,
         },
+        strict: is_set(found, "strict"),
+        json: is_set(found, "json"),
     })
 }
 
@@ -57,6 +69,8 @@ fn read_run<'a>(alloc: Global, found: &ArgMatches<'a>) -> Result<CommandLine<'a>
         db: required(alloc, found, "db")?,
         at: moment(alloc, found)?,
         request: Request::Run,
+        strict: is_set(found, "strict"),
+        json: is_set(found, "json"),
     })
 }
 
@@ -71,6 +85,8 @@ fn read_copy<'a>(alloc: Global, found: &ArgMatches<'a>) -> Result<CommandLine<'a
             to: required(alloc, found, "TO")?,
             source: required(alloc, found, "SOURCE")?,
         },
+        strict: is_set(found, "strict"),
+        json: is_set(found, "json"),
     })
 }
 
@@ -87,6 +103,8 @@ fn read_promote<'a>(alloc: Global, found: &ArgMatches<'a>) -> Result<CommandLine
             to,
             sources: sources(alloc, found)?,
         },
+        strict: is_set(found, "strict"),
+        json: is_set(found, "json"),
     })
 }
 
@@ -100,6 +118,8 @@ fn read_remove<'a>(alloc: Global, found: &ArgMatches<'a>) -> Result<CommandLine<
             suite: required(alloc, found, "SUITE")?,
             name: required(alloc, found, "PACKAGE")?,
         },
+        strict: is_set(found, "strict"),
+        json: is_set(found, "json"),
     })
 }
 
@@ -110,6 +130,8 @@ fn read_clean<'a>(alloc: Global, found: &ArgMatches<'a>) -> Result<CommandLine<'
         db: required(alloc, found, "db")?,
         at: moment(alloc, found)?,
         request: Request::Clean,
+        strict: is_set(found, "strict"),
+        json: is_set(found, "json"),
     })
 }
 
@@ -120,6 +142,7 @@ fn read_batch<'a>(alloc: Global, found: &ArgMatches<'a>) -> Result<CommandLine<'
         db: required(alloc, found, "db")?,
         at: moment(alloc, found)?,
         list: required(alloc, found, "LIST")?,
+        strict: is_set(found, "strict"),
     })
 }
 
@@ -153,6 +176,16 @@ fn read_show<'a>(alloc: Global, found: &ArgMatches<'a>) -> Result<CommandLine<'a
     })
 }
 
+fn read_list<'a>(alloc: Global, found: &ArgMatches<'a>) -> Result<CommandLine<'a>, LineFault>
+    ensures { IfOk result (IsLine (Some (codes "list", rows_of (found_of found.now)))) }
+{
+    Ok(CommandLine::List {
+        db: required(alloc, found, "db")?,
+        suite: required(alloc, found, "SUITE")?,
+        json: is_set(found, "json"),
+    })
+}
+
 fn read_waiting<'a>(alloc: Global, found: &ArgMatches<'a>) -> Result<CommandLine<'a>, LineFault>
     ensures { IfOk result (IsLine (Some (codes "waiting", rows_of (found_of found.now)))) }
 {
@@ -160,6 +193,8 @@ fn read_waiting<'a>(alloc: Global, found: &ArgMatches<'a>) -> Result<CommandLine
         db: required(alloc, found, "db")?,
         at: moment(alloc, found)?,
         request: Request::Waiting,
+        strict: is_set(found, "strict"),
+        json: is_set(found, "json"),
     })
 }
 
@@ -170,6 +205,8 @@ fn read_verdicts<'a>(alloc: Global, found: &ArgMatches<'a>) -> Result<CommandLin
         db: required(alloc, found, "db")?,
         at: 0,
         request: Request::Verdicts,
+        strict: is_set(found, "strict"),
+        json: is_set(found, "json"),
     })
 }
 
@@ -184,6 +221,18 @@ fn read_configuration<'a>(
     })
 }
 
+fn read_export<'a>(alloc: Global, found: &ArgMatches<'a>) -> Result<CommandLine<'a>, LineFault>
+    ensures { IfOk result (IsLine (Some (codes "export", rows_of (found_of found.now)))) }
+{
+    Ok(CommandLine::Export {
+        db: required(alloc, found, "db")?,
+        at: optional_moment(alloc, found)?,
+        dir: required(alloc, found, "DIR")?,
+        signed: is_set(found, "signed"),
+        by_hash: is_set(found, "by-hash"),
+    })
+}
+
 fn read_serve<'a>(alloc: Global, found: &ArgMatches<'a>) -> Result<CommandLine<'a>, LineFault>
     ensures { IfOk result (IsLine (Some (codes "serve", rows_of (found_of found.now)))) }
 {
@@ -193,6 +242,8 @@ fn read_serve<'a>(alloc: Global, found: &ArgMatches<'a>) -> Result<CommandLine<'
             at: moment(alloc, found)?,
             moments: optional(found, "moments"),
             log: is_set(found, "log"),
+            export: optional(found, "export"),
+            signed: is_set(found, "signed"),
             address: required(alloc, found, "ADDRESS")?,
             count: number(alloc, found, "COUNT", 1, MOST_CONNECTIONS)?,
         },
@@ -210,6 +261,7 @@ pub fn command_of<'a>(
     match name {
         "try" => read_try(alloc, found),
         "compare" => read_compare(alloc, found),
+        "check" => read_check(alloc, found),
         "init" => read_init(alloc, found),
         "put" => read_put(alloc, found),
         "run" => read_run(alloc, found),
@@ -221,9 +273,11 @@ pub fn command_of<'a>(
         "configure" => read_configure(alloc, found),
         "migrate" => read_migrate(alloc, found),
         "show" => read_show(alloc, found),
+        "list" => read_list(alloc, found),
         "waiting" => read_waiting(alloc, found),
         "verdicts" => read_verdicts(alloc, found),
         "configuration" => read_configuration(alloc, found),
+        "export" => read_export(alloc, found),
         "serve" => read_serve(alloc, found),
         _ => Err(lacking(alloc)),
     }

@@ -3,7 +3,7 @@
 ghost use Rattle.std.specs.Prelude.{◌≡◌, codes, IfOk};
 ghost use Rattle.std.specs.Option.{option_map};
 ghost use Rattle.clap.specs.Words.{first_of, found_of, rows_of};
-ghost use Rattle.command_line.specs.CommandLines.{AreWords, HasPaths, IsMoment, IsNumber, IsOptionalWord, IsWord, is_true};
+ghost use Rattle.command_line.specs.CommandLines.{AreWords, HasPaths, IsMoment, IsNumber, IsOptionalMoment, IsOptionalWord, IsWord, is_true};
 
 use crate::commands::commands;
 use crate::parsed::LineFault;
@@ -83,6 +83,16 @@ pub fn moment(alloc: Global, found: &ArgMatches<'_>) -> Result<u64, LineFault>
     ensures { IfOk result (IsMoment (rows_of (found_of found.now))) }
 {
     number(alloc, found, "at", 0, LATEST)
+}
+
+/// The moment, in seconds since 1970-01-01 00:00:00 UTC, where one was given.
+pub fn optional_moment(alloc: Global, found: &ArgMatches<'_>) -> Result<Option<u64>, LineFault>
+    ensures { IfOk result (IsOptionalMoment (rows_of (found_of found.now))) }
+{
+    match word_value(found, "at") {
+        Some(_) => Ok(Some(moment(alloc, found)?)),
+        None => Ok(None),
+    }
 }
 
 fn texts<'a>(

@@ -19,21 +19,24 @@ use std::alloc::Global;
 /// ```text
 /// try PATH..
 /// compare A B
+/// check CONF
 /// init --db FILE --at N CONF
 /// put --db FILE --at N PATH..
-/// run --db FILE --at N
+/// run --db FILE --at N [--strict]
 /// copy --db FILE --at N FROM TO SOURCE
 /// promote --db FILE --at N FROM TO [SOURCE..]
 /// remove --db FILE --at N SUITE PACKAGE
 /// clean --db FILE --at N
-/// batch --db FILE --at N LIST
+/// batch --db FILE --at N [--strict] LIST
 /// configure --db FILE --at N CONF
 /// migrate --from FILE --db FILE --at N CONF
 /// show --db FILE PATH
-/// waiting --db FILE --at N
-/// verdicts --db FILE
+/// list --db FILE [--json] SUITE
+/// waiting --db FILE --at N [--json]
+/// verdicts --db FILE [--json]
 /// configuration --db FILE
-/// serve --db FILE --at N [--moments MOMENTS] [--log] ADDRESS COUNT
+/// export --db FILE [--at N] [--signed] [--by-hash] DIR
+/// serve --db FILE --at N [--moments MOMENTS] [--log] [--export DIR] [--signed] ADDRESS COUNT
 /// ```
 ///
 /// where `PATH..` is one path or more, `[SOURCE..]` any number of sources, N is 0 to 4102444799 and COUNT 1 to 1000000. It is

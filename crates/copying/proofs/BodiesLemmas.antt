@@ -13,19 +13,19 @@ use Rattle.tables.proofs.HoldsLemmas.{with_bodies}
 use Rattle.tables.proofs.FullLemmas.{raw, raw_cells, raw_rows, full_rows_as}
 use Rattle.tables.proofs.BodiesLemmas.{begun_body, storing, whole_body}
 use Rattle.copying.specs.Placed.{with_body_at}
-use Rattle.copying.specs.declared.bodies.TheConstants.{INSERT_BODY, INSERT_BEGUN}
-use Rattle.copying.proofs.Meaning.{insert_body_terms, insert_body_is, insert_body_plain, insert_begun_terms, insert_begun_is, insert_begun_plain}
+use Rattle.copying.specs.declared.bodies.TheConstants.{COPY_BODY, COPY_BEGUN}
+use Rattle.copying.proofs.Meaning.{copy_body_terms, copy_body_is, copy_body_plain, copy_begun_terms, copy_begun_is, copy_begun_plain}
 use Rattle.copying.proofs.PlaceLemmas.{places_row, placed_of}
 
 body_cast : (id : ℕ) (p : Print) → cast_row bodies_table (whole id ∷ (Null ∷ print_cells p)) ≡ stored body_cells (id, whole_body p)
 body_cast id p = rw (cast_null, cast_int (pos id), cast_int (pos p.size))
 
-pub inserts_body : (old new : State) (id : ℕ) (p : Print) (r : Result ℕ Error) → ExecutesInside 0 INSERT_BODY.now (whole id ∷ print_cells p) old new r
+pub copies_body : (old new : State) (id : ℕ) (p : Print) (r : Result ℕ Error) → ExecutesInside 0 COPY_BODY.now (whole id ∷ print_cells p) old new r
     → OnOk r (Changes old new (with_body_at (id, whole_body p)))
-inserts_body old new id p (Ok count) h = record {
+copies_body old new id p (Ok count) h = record {
   held = λ t was.
       let put =
-      puts INSERT_BODY.now 1 insert_body_terms 6 insert_body_is insert_body_plain _ _ _ _ _ _ 1 (λ _. refl) (lit≤ tt)
+      puts COPY_BODY.now 1 copy_body_terms 6 copy_body_is copy_body_plain _ _ _ _ _ _ 1 (λ _. refl) (lit≤ tt)
       old new (whole id ∷ print_cells p) (whole id ∷ (Null ∷ print_cells p)) count refl was.schema h.0 in
       let r = raw_rows storing t.bodies (old.now.trees 1) was.rows.bodies in
       let now = places_row (raw_cells storing) bodies_table _ (id, raw storing (whole_body p)) (body_cast id p) old new put r.of r.has in
@@ -35,17 +35,17 @@ inserts_body old new id p (Ok count) h = record {
       };
   shown = h.1;
 }
-inserts_body old new id p (Err e) h = tt
+copies_body old new id p (Err e) h = tt
 
 begun_cast : (id : ℕ) → cast_row bodies_table (whole id ∷ (Null ∷ Null ∷ Null ∷ Null ∷ Null ∷ [])) ≡ stored body_cells (id, begun_body)
 begun_cast id = rw (cast_null, cast_int (pos id)) refl
 
-pub inserts_begun : (old new : State) (id : ℕ) (r : Result ℕ Error) → ExecutesInside 0 INSERT_BEGUN.now (whole id ∷ []) old new r
+pub copies_begun : (old new : State) (id : ℕ) (r : Result ℕ Error) → ExecutesInside 0 COPY_BEGUN.now (whole id ∷ []) old new r
     → OnOk r (Changes old new (with_body_at (id, begun_body)))
-inserts_begun old new id (Ok count) h = record {
+copies_begun old new id (Ok count) h = record {
   held = λ t was.
       let put =
-      puts INSERT_BEGUN.now 1 insert_begun_terms 6 insert_begun_is insert_begun_plain _ _ _ _ _ _ 1 (λ _. refl) (lit≤ tt)
+      puts COPY_BEGUN.now 1 copy_begun_terms 6 copy_begun_is copy_begun_plain _ _ _ _ _ _ 1 (λ _. refl) (lit≤ tt)
       old new (whole id ∷ []) (whole id ∷ (Null ∷ Null ∷ Null ∷ Null ∷ Null ∷ [])) count refl was.schema h.0 in
       let r = raw_rows storing t.bodies (old.now.trees 1) was.rows.bodies in
       let now = places_row (raw_cells storing) bodies_table _ (id, raw storing begun_body) (begun_cast id) old new put r.of r.has in
@@ -55,4 +55,4 @@ inserts_begun old new id (Ok count) h = record {
       };
   shown = h.1;
 }
-inserts_begun old new id (Err e) h = tt
+copies_begun old new id (Err e) h = tt

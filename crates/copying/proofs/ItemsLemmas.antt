@@ -12,19 +12,19 @@ use Rattle.tables.proofs.InsertLemmas.{puts}
 use Rattle.tables.proofs.HoldsLemmas.{with_items}
 use Rattle.tables.proofs.ItemsLemmas.{item_params}
 use Rattle.copying.specs.Placed.{with_item_at}
-use Rattle.copying.specs.declared.items.TheConstants.{INSERT_ITEM}
-use Rattle.copying.proofs.Meaning.{insert_item_terms, insert_item_is, insert_item_plain}
+use Rattle.copying.specs.declared.items.TheConstants.{COPY_ITEM}
+use Rattle.copying.proofs.Meaning.{copy_item_terms, copy_item_is, copy_item_plain}
 use Rattle.copying.proofs.PlaceLemmas.{places_row}
 
 item_cast : (id : ℕ) (x : ItemRow) → cast_row items_table (whole id ∷ Null ∷ item_params x) ≡ stored item_cells (id, x)
 item_cast id x = rw (cast_null, cast_int (pos id), cast_int (pos x.kind))
 
-pub inserts_item : (old new : State) (id : ℕ) (x : ItemRow) (r : Result ℕ Error) → ExecutesInside 0 INSERT_ITEM.now (whole id ∷ item_params x) old new r
+pub copies_item : (old new : State) (id : ℕ) (x : ItemRow) (r : Result ℕ Error) → ExecutesInside 0 COPY_ITEM.now (whole id ∷ item_params x) old new r
     → OnOk r (Changes old new (with_item_at (id, x)))
-inserts_item old new id x (Ok count) h = record {
+copies_item old new id x (Ok count) h = record {
   held = λ t was.
       let put =
-      puts INSERT_ITEM.now 6 insert_item_terms 10 insert_item_is insert_item_plain _ _ _ _ _ _ 13 (λ _. refl) (lit≤ tt)
+      puts COPY_ITEM.now 6 copy_item_terms 10 copy_item_is copy_item_plain _ _ _ _ _ _ 13 (λ _. refl) (lit≤ tt)
       old new (whole id ∷ item_params x) (whole id ∷ Null ∷ item_params x) count refl was.schema h.0 in
       record {
         schema = put.schema_is;
@@ -32,4 +32,4 @@ inserts_item old new id x (Ok count) h = record {
       };
   shown = h.1;
 }
-inserts_item old new id x (Err e) h = tt
+copies_item old new id x (Err e) h = tt

@@ -16,8 +16,8 @@ use Rattle.tables.proofs.HoldsLemmas.{with_uploads}
 use Rattle.tables.proofs.FullLemmas.{raw, raw_cells, raw_rows, full_rows_as}
 use Rattle.tables.proofs.UploadsLemmas.{storing}
 use Rattle.copying.specs.Placed.{with_upload_at}
-use Rattle.copying.specs.declared.uploads.TheConstants.{INSERT_UPLOAD}
-use Rattle.copying.proofs.Meaning.{insert_upload_terms, insert_upload_is, insert_upload_plain}
+use Rattle.copying.specs.declared.uploads.TheConstants.{COPY_UPLOAD}
+use Rattle.copying.proofs.Meaning.{copy_upload_terms, copy_upload_is, copy_upload_plain}
 use Rattle.copying.proofs.PlaceLemmas.{places_row, placed_of}
 
 -- the values of a row, its number aside
@@ -36,12 +36,12 @@ cast_some (Some n) = cast_int (pos n)
 upload_cast : (id : ℕ) (u : UploadRow) → cast_row uploads_table (whole id ∷ Null ∷ upload_params u) ≡ stored upload_cells (id, u)
 upload_cast id u = rw (cast_null, cast_int (pos id), cast_int (pos u.print.size), cast_some u.place, cast_some u.verdict)
 
-pub inserts_upload : (old new : State) (id : ℕ) (u : UploadRow) (r : Result ℕ Error) → ExecutesInside 0 INSERT_UPLOAD.now (whole id ∷ upload_params u) old new r
+pub copies_upload : (old new : State) (id : ℕ) (u : UploadRow) (r : Result ℕ Error) → ExecutesInside 0 COPY_UPLOAD.now (whole id ∷ upload_params u) old new r
     → OnOk r (Changes old new (with_upload_at (id, u)))
-inserts_upload old new id u (Ok count) h = record {
+copies_upload old new id u (Ok count) h = record {
   held = λ t was.
       let put =
-      puts INSERT_UPLOAD.now 4 insert_upload_terms 9 insert_upload_is insert_upload_plain _ _ _ _ _ _ 7 (λ _. refl) (lit≤ tt)
+      puts COPY_UPLOAD.now 4 copy_upload_terms 9 copy_upload_is copy_upload_plain _ _ _ _ _ _ 7 (λ _. refl) (lit≤ tt)
       old new (whole id ∷ upload_params u) (whole id ∷ Null ∷ upload_params u) count refl was.schema h.0 in
       let r = raw_rows storing t.uploads (old.now.trees 7) was.rows.uploads in
       let now = places_row (raw_cells storing) uploads_table _ (id, raw storing u) (upload_cast id u) old new put r.of r.has in
@@ -51,4 +51,4 @@ inserts_upload old new id u (Ok count) h = record {
       };
   shown = h.1;
 }
-inserts_upload old new id u (Err e) h = tt
+copies_upload old new id u (Err e) h = tt

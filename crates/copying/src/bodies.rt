@@ -9,10 +9,10 @@ use sqlite::{Alter, Error, Transaction, params};
 use sums::Print;
 use tables::rows::BodyRow;
 
-const INSERT_BODY: &str =
+const COPY_BODY: &str =
     "INSERT INTO bodies (id, size, md5, sha1, sha256) VALUES (?1, ?2, ?3, ?4, ?5)";
 
-const INSERT_BEGUN: &str = "INSERT INTO bodies (id) VALUES (?1)";
+const COPY_BEGUN: &str = "INSERT INTO bodies (id) VALUES (?1)";
 
 /// Adds a whole body under its number.
 fn insert_whole<S: Alter>(tx: &mut Transaction<'_, S>, id: u64, print: &Print) -> Result<(), Error>
@@ -26,7 +26,7 @@ fn insert_whole<S: Alter>(tx: &mut Transaction<'_, S>, id: u64, print: &Print) -
     let md5: &[u8] = &print.md5;
     let sha1: &[u8] = &print.sha1;
     let sha256: &[u8] = &print.sha256;
-    tx.execute(INSERT_BODY, params![id, size, md5, sha1, sha256])?;
+    tx.execute(COPY_BODY, params![id, size, md5, sha1, sha256])?;
     Ok(())
 }
 
@@ -38,7 +38,7 @@ fn insert_begun<S: Alter>(tx: &mut Transaction<'_, S>, id: u64) -> Result<(), Er
     ensures survives { CommitsNothing S.Store tx.old tx.new }
 {
     let id = whole(id)?;
-    tx.execute(INSERT_BEGUN, params![id])?;
+    tx.execute(COPY_BEGUN, params![id])?;
     Ok(())
 }
 

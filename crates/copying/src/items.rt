@@ -7,7 +7,7 @@ use crate::number::whole;
 use sqlite::{Alter, Error, Transaction, params};
 use tables::rows::ItemRow;
 
-const INSERT_ITEM: &str =
+const COPY_ITEM: &str =
     "INSERT INTO items (id, suite, kind, package, architecture, version, component, source, paragraph) VALUES (?1, ?2, ?3, ?4, ?5, ?6, ?7, ?8, ?9)";
 
 /// Adds an item under its number.
@@ -31,7 +31,7 @@ pub(crate) fn insert_item<S: Alter>(
     let source = item.source.as_str();
     let paragraph = item.paragraph.as_slice();
     tx.execute(
-        INSERT_ITEM,
+        COPY_ITEM,
         params![
             id,
             suite,

@@ -7,7 +7,7 @@ use crate::number::{some_whole, whole};
 use sqlite::{Alter, Error, Transaction, params};
 use tables::rows::UploadRow;
 
-const INSERT_UPLOAD: &str =
+const COPY_UPLOAD: &str =
     "INSERT INTO uploads (id, name, size, md5, sha1, sha256, place, verdict) VALUES (?1, ?2, ?3, ?4, ?5, ?6, ?7, ?8)";
 
 /// Adds an upload under its number, with its place and its verdict.
@@ -30,7 +30,7 @@ pub(crate) fn insert_upload<S: Alter>(
     let place = some_whole(upload.place)?;
     let verdict = some_whole(upload.verdict)?;
     tx.execute(
-        INSERT_UPLOAD,
+        COPY_UPLOAD,
         params![id, name, size, md5, sha1, sha256, place, verdict],
     )?;
     Ok(())

@@ -1,5 +1,5 @@
 -- From what was read to what a connection asks for.
-use Rattle.std.proofs.Common.{◌≡◌, ℕ, ◌<◌, List, [], ◌++◌, Option, None, Some, Result, Ok, Err, OnErr, length, false, refl, sym, ap, subst, ◌∙◌, inl, inr, append-nil}
+use Rattle.std.proofs.Common.{◌≡◌, ℕ, ◌<◌, List, [], ◌++◌, Option, None, Some, Ok, Err, length, false, refl, sym, ap, subst, ◌∙◌, inl, inr, append-nil}
 use Rattle.std.specs.Io.KnownBytes.{Consumes, IsAtEnd}
 use Rattle.std.proofs.KnownBytes.{Consumes-trans}
 use Rattle.desk.specs.declared.head.Refusal.{Refusal}
@@ -24,11 +24,6 @@ given_of (Some xs) (Some ys) used h = h
 pub rest_at_end : (new : Option (List ℕ)) → IsAtEnd new → rest_of new ≡ []
 rest_at_end None h = refl
 rest_at_end (Some ys) h = h
-
--- what is said of an exit by `?`
-pub on_err : {T E P : Type 0} (r : Result T E) → P → OnErr r P
-on_err (Ok x) p = tt
-on_err (Err e) p = p
 
 -- the head did not end within its limit
 pub received_long : (old new : Option (List ℕ)) (head : List ℕ) → Consumes old new head → NotEarlier head → ends_head head ≡ false → length head ≡ 8192

@@ -1,16 +1,17 @@
 //! One connection: its request, the call of the archive that it asks for, and the reply.
-ghost use Rattle.std.specs.Prelude.{◌≡◌, ◌≤◌, Bool, Some, None, IfOk, OnErr, MatchResult, map};
+ghost use Rattle.std.specs.Prelude.{◌≡◌, ◌≤◌, ℕ, Bool, List, Some, None, IfOk, OnErr, MatchResult, map};
 ghost use Rattle.std.specs.Option.{option_map};
 ghost use Rattle.desk.specs.Answer.{text_message};
-ghost use Rattle.desk.specs.Calls.{done_message, fault_message, reception_message};
+ghost use Rattle.desk.specs.Calls.{done_message, fault_message, outcome_message, reception_message};
 ghost use Rattle.desk.specs.Exchange.{Broken, Course, HasWritten, IsAnswered, IsCarriedOut, IsHandled, LeavesBehind, LeavesCourse, reply_of};
 ghost use Rattle.desk.specs.Incoming.{ReadsBeginning, ReadsUpTo};
 ghost use Rattle.desk.specs.Message.{message_of};
 ghost use Rattle.desk.specs.Reply.{line};
 ghost use Rattle.desk.specs.Request.{body_length, want_of};
+ghost use Rattle.desk.specs.Want.{Want, fetching};
 ghost use Rattle.queue.specs.Answers.{copy_line};
-ghost use Rattle.queue.specs.Commands.{copies_of, found, lines_of, is_new};
-ghost use Rattle.queue.specs.Histories.{Copies, Stored, Lines, Count, Found};
+ghost use Rattle.queue.specs.Commands.{copies_of, counted, found, is_new, lines_of, promoted, reported};
+ghost use Rattle.queue.specs.Histories.{Stored};
 ghost use Rattle.queue.specs.Receiving.{IsAsBefore};
 ghost use Rattle.queue.specs.Steps.{Lasts};
 ghost use Rattle.sums.specs.Lines.{most_size};
@@ -180,43 +181,25 @@ fn carry_out<K: Keeper, R: Read>(
                 Err(fault) => reception_reply(fault),
             }
         }
-        Wanted::Run => match archive.run(alloc, moment) {
-            Ok(report) => Ok(report_reply(report)),
-            Err(fault) => Ok(fault_reply(fault)),
-        },
+        Wanted::Run => Ok(report_reply(archive.run(alloc, moment))),
         Wanted::Copy { from, to, source } => {
-            match archive.copy(alloc, from.as_str(), to.as_str(), source.as_str(), moment) {
-                Ok(items) => Ok(Reply::new(StatusCode::OK, Body::Number(items))),
-                Err(fault) => Ok(fault_reply(fault)),
-            }
+            let copied = archive.copy(alloc, from.as_str(), to.as_str(), source.as_str(), moment);
+            Ok(count_reply(copied))
         }
-        Wanted::Fetch { path, is_pool } => match archive.fetch(alloc, path.as_str()) {
-            Ok(found) => Ok(fetch_reply(found, *is_pool)),
-            Err(fault) => Ok(fault_reply(fault)),
-        },
-        Wanted::Waiting => match archive.waiting(alloc, moment) {
-            Ok(report) => Ok(report_reply(report)),
-            Err(fault) => Ok(fault_reply(fault)),
-        },
-        Wanted::Clean => match archive.clean(alloc, moment) {
-            Ok(count) => Ok(Reply::new(StatusCode::OK, Body::Number(count))),
-            Err(fault) => Ok(fault_reply(fault)),
-        },
-        Wanted::Verdicts => match archive.verdicts(alloc) {
-            Ok(report) => Ok(report_reply(report)),
-            Err(fault) => Ok(fault_reply(fault)),
-        },
+        Wanted::Fetch { path, is_pool } => {
+            let fetched = archive.fetch(alloc, path.as_str());
+            Ok(fetch_reply(fetched, *is_pool))
+        }
+        Wanted::Waiting => Ok(report_reply(archive.waiting(alloc, moment))),
+        Wanted::Clean => Ok(count_reply(archive.clean(alloc, moment))),
+        Wanted::Verdicts => Ok(report_reply(archive.verdicts(alloc))),
         Wanted::Remove { suite, name } => {
-            match archive.remove(alloc, suite.as_str(), name.as_str(), moment) {
-                Ok(items) => Ok(Reply::new(StatusCode::OK, Body::Number(items))),
-                Err(fault) => Ok(fault_reply(fault)),
-            }
+            let dropped = archive.remove(alloc, suite.as_str(), name.as_str(), moment);
+            Ok(count_reply(dropped))
         }
         Wanted::Promote { from, to } => {
-            match archive.promote(alloc, from.as_str(), to.as_str(), &None, moment) {
-                Ok(promotion) => Ok(promotion_reply(promotion)),
-                Err(fault) => Ok(fault_reply(fault)),
-            }
+            let copied = archive.promote(alloc, from.as_str(), to.as_str(), &None, moment);
+            Ok(promotion_reply(copied))
         }
     }
 }
@@ -230,31 +213,50 @@ fn arrived_reply(arrived: Arrived) -> Reply
     }
 }
 
-fn report_reply(report: Report) -> Reply
-    ensures { (is_pool : Bool) → message_of result ≡ done_message is_pool (Lines (lines_of report)) }
+/// The reply to a call that answers lines.
+fn report_reply(outcome: Result<Report, Fault>) -> Reply
+    ensures { (want : Want) → message_of result ≡ outcome_message want (reported outcome) }
 {
-    Reply::new(StatusCode::OK, Body::Lines(report.lines))
+    match outcome {
+        Ok(report) => Reply::new(StatusCode::OK, Body::Lines(report.lines)),
+        Err(fault) => fault_reply(fault),
+    }
 }
 
-fn promotion_reply(promotion: Promotion) -> Reply
-    requires { lines_of promotion.report ≡ map copy_line (copies_of promotion) }
-    ensures { (is_pool : Bool) → message_of result ≡ done_message is_pool (Copies (copies_of promotion)) }
+/// The reply to a call that answers a number.
+fn count_reply(outcome: Result<u64, Fault>) -> Reply
+    ensures { (want : Want) → message_of result ≡ outcome_message want (counted outcome) }
 {
-    let Promotion { copies: _, report } = promotion;
-    Reply::new(StatusCode::OK, Body::Lines(report.lines))
+    match outcome {
+        Ok(count) => Reply::new(StatusCode::OK, Body::Number(count)),
+        Err(fault) => fault_reply(fault),
+    }
 }
 
-fn fetch_reply(found: Option<Vec<u8>>, is_pool: bool) -> Reply
-    ensures { message_of result ≡ done_message is_pool (Found (option_map (λ body. body.items) found)) }
+/// The reply to a promotion.
+fn promotion_reply(outcome: Result<Promotion, Fault>) -> Reply
+    requires { IfOk outcome (λ promotion. lines_of promotion.report ≡ map copy_line (copies_of promotion)) }
+    ensures { (want : Want) → message_of result ≡ outcome_message want (promoted outcome) }
 {
-    match found {
-        Some(bytes) => Reply {
+    match outcome {
+        Ok(promotion) => Reply::new(StatusCode::OK, Body::Lines(promotion.report.lines)),
+        Err(fault) => fault_reply(fault),
+    }
+}
+
+/// The reply to a fetch, of a file of the pool or of an index text.
+fn fetch_reply(outcome: Result<Option<Vec<u8>>, Fault>, is_pool: bool) -> Reply
+    ensures { (path : List ℕ) → message_of result ≡ outcome_message (fetching path is_pool) (found outcome) }
+{
+    match outcome {
+        Ok(Some(bytes)) => Reply {
             status: StatusCode::OK,
             allow: None,
             is_binary: is_pool,
             body: Body::Bytes(bytes),
         },
-        None => Reply::to_refusal(Refusal::NotFound),
+        Ok(None) => Reply::to_refusal(Refusal::NotFound),
+        Err(fault) => fault_reply(fault),
     }
 }
 

@@ -25,22 +25,27 @@ pub fn one_request()
     ensures { (bytes used more : List ℕ) (asked other : Asked) → IsRequest bytes used asked → IsRequest bytes more other → (more ≡ used) × (other ≡ asked) }
 {}
 
-/// What each path with a route asks for: with a name of one byte or more without a slash, `/incoming/NAME` is a delivery
-/// of that name, its escapes undone, and so on. Nothing is done: the law is the contract.
-pub fn paths_with_a_route()
+/// What each path asks for by which something is changed: with a name of one byte or more without a slash, `/incoming/NAME` is a
+/// delivery of that name, its escapes undone, and so on. Nothing is done: the law is the contract.
+pub fn paths_that_change()
     ensures incoming { (name : List ℕ) → IsPart name → asked_at (codes "/incoming/" ++ name) ≡ beside Deliver (wanted_of (to_incoming name)) }
     ensures run { asked_at (codes "/queue/run") ≡ beside Run (wanted_of to_run) }
     ensures copy { (from to source : List ℕ) → IsPart from → IsPart to → IsPart source →
         asked_at (codes "/copy/" ++ (from ++ 47 ∷ (to ++ 47 ∷ source))) ≡ beside Copy (wanted_of (to_copy from to source)) }
-    ensures waiting { asked_at (codes "/queue") ≡ beside Waiting (wanted_of to_queue) }
+    ensures promote { (from to : List ℕ) → IsPart from → IsPart to →
+        asked_at (codes "/promote/" ++ (from ++ 47 ∷ to)) ≡ beside Promote (wanted_of (to_promote from to)) }
+    ensures remove { (suite name : List ℕ) → IsPart suite → IsPart name →
+        asked_at (codes "/remove/" ++ (suite ++ 47 ∷ name)) ≡ beside Remove (wanted_of (to_remove suite name)) }
     ensures clean { asked_at (codes "/queue/clean") ≡ beside Clean (wanted_of to_clean) }
+{}
+
+/// What each path asks for by which nothing is changed: `/queue` is the uploads that wait, `/dists/REST` the index text at a path of
+/// one byte or more, its escapes undone, and so on. Nothing is done: the law is the contract.
+pub fn paths_that_ask()
+    ensures waiting { asked_at (codes "/queue") ≡ beside Waiting (wanted_of to_queue) }
     ensures verdicts { asked_at (codes "/verdicts") ≡ beside Verdicts (wanted_of to_verdicts) }
     ensures dists { (rest : List ℕ) → IsRest rest → asked_at (codes "/dists/" ++ rest) ≡ beside Dists (wanted_of (to_dists rest)) }
     ensures pool { (rest : List ℕ) → IsRest rest → asked_at (codes "/pool/" ++ rest) ≡ beside Pool (wanted_of (to_pool rest)) }
-    ensures remove { (suite name : List ℕ) → IsPart suite → IsPart name →
-        asked_at (codes "/remove/" ++ (suite ++ 47 ∷ name)) ≡ beside Remove (wanted_of (to_remove suite name)) }
-    ensures promote { (from to : List ℕ) → IsPart from → IsPart to →
-        asked_at (codes "/promote/" ++ (from ++ 47 ∷ to)) ≡ beside Promote (wanted_of (to_promote from to)) }
 {}
 
 /// Every other path has no route. Nothing is done: the law is the contract.

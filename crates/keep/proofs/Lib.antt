@@ -12,3 +12,4 @@ pub mod Staying
 pub mod Pieces
 pub mod Moments
 pub mod Searches
+pub mod Lists

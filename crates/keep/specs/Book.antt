@@ -19,7 +19,7 @@ use Rattle.suites.specs.Pool.{AreAgreed, files_of}
 use Rattle.suites.specs.Shelves.{ShelvesValue, pool}
 use Rattle.suites.specs.Upload.{UploadValue, has_text}
 use Rattle.suites.specs.declared.plan.Plan.{Plan}
-use Rattle.texts.specs.Calendar.{latest as last_moment}
+pub use Rattle.texts.specs.Calendar.{latest}
 use Rattle.texts.specs.Indices.{index_text}
 use Rattle.keep.specs.declared.arrival.Arrival.{Arrival}
 use Rattle.keep.specs.declared.change.Judgement.{Judgement}
@@ -37,10 +37,6 @@ pub record Book : Type 0 where
   pub shown : ShelvesValue
   pub files : List ℕ → Option (List ℕ)
   pub dates : List ℕ
-
--- the last moment that may be handed in, 2099-12-31 23:59:59 UTC
-abbrev pub latest : ℕ
-latest = last_moment
 
 -- ---- arrivals
 
@@ -62,6 +58,11 @@ with_arrival arrivals a =
     if has_arrival arrivals a then map (λ b. if is_same_pair a b then at_latest a.moment b else b) arrivals
     else arrivals ++ a ∷ []
 
+-- the arrival of a body that is delivered under a file name at a moment
+abbrev pub delivery : (name body : List ℕ) → ℕ → Arrival
+delivery name body moment = record { name = name; body = body; moment = moment }
+
+-- the book with what such a delivery brings
 abbrev pub with_delivery : Book → Arrival → Book
 with_delivery book a = record book { arrivals = with_arrival book.arrivals a }
 
@@ -87,6 +88,10 @@ ended span moment arrivals = filter (λ a. not (counts span moment a)) arrivals
 -- The book with the arrivals that count at a moment, and no others: what a cleaning at that moment leaves.
 unfoldable pub at_moment : ℕ → Book → Book
 at_moment moment book = record book { arrivals = current (span book.config) moment book.arrivals }
+
+-- whether an arrival of the name and body of this delivery counts at its moment
+abbrev pub has_delivery : Book → Arrival → Bool
+has_delivery book a = has_arrival (at_moment a.moment book).arrivals a
 
 -- ---- uploads
 

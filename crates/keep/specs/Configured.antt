@@ -2,9 +2,10 @@
 use Rattle.std.specs.Prelude.{◌≡◌, ℕ, Bool, true, if◌then◌else◌, List, map, codes, slice_get, Option, None}
 use Rattle.std.specs.Option.{option_and_then, option_map_or}
 use Rattle.std.specs.List.{enumerate_from}
+use Rattle.rules.specs.Suites.{suite_named}
 use Rattle.rules.specs.Values.{ConfigValue}
 use Rattle.rules.specs.declared.suite.Suite.{Suite}
-use Rattle.suites.specs.Moved.{all_stay, moved, place_named}
+use Rattle.suites.specs.Moved.{all_stay, moved}
 use Rattle.suites.specs.Shelves.{ShelvesValue}
 use Rattle.texts.specs.Indices.{suite_path}
 use Rattle.texts.specs.Release.{indices_of, release_text}
@@ -24,7 +25,7 @@ shown_under config book = moved book.config.suites config.suites book.shown
 
 -- the date of the suite with a codename
 unfoldable pub date_of : Book → List ℕ → Option ℕ
-date_of book codename = option_and_then (λ n. slice_get book.dates n) (place_named book.config.suites codename)
+date_of book codename = option_and_then (λ n. slice_get book.dates n) (suite_named book.config.suites codename)
 
 -- the Release of the suite at a position, of a date, where this is shown
 abbrev pub release_with : ShelvesValue → ℕ × Suite → ℕ → List ℕ

@@ -1,5 +1,5 @@
 -- What the calls of a keeper ask and answer.
-use Rattle.std.specs.Prelude.{◌≡◌, ◌≢◌, ◌≤◌, ◌<◌, ◌%◌, ◌+◌, ◌-◌, ◌^◌, min, Option, All, AllPairs, ℕ, Bool, true, IsTrue, List, [], ◌∷◌, map, take, length, Ok, Contains, ⊤, ◌⊎◌, Some, is_some}
+use Rattle.std.specs.Prelude.{◌≡◌, ◌≢◌, ◌≤◌, ◌<◌, ◌%◌, ◌+◌, ◌-◌, ◌^◌, min, Option, All, AllPairs, ℕ, Bool, true, IsTrue, not, List, [], ◌∷◌, map, take, length, Ok, Contains, ⊤, ◌⊎◌, Some, is_some}
 use Rattle.std.specs.FinMap.{get}
 use Rattle.records.specs.Values.{ChangesValue}
 use Rattle.records.specs.Records.{changes_in}
@@ -9,7 +9,7 @@ use Rattle.sums.specs.declared.print.Print.{Print}
 use Rattle.suites.specs.Plan.{IsStep, applied}
 use Rattle.suites.specs.Shelves.{ShelvesValue, pool}
 use Rattle.suites.specs.Told.{AreTold}
-use Rattle.keep.specs.Book.{Book, Candidate, amended, at_moment, due, judgements, shown_past, stored_body, text_at}
+use Rattle.keep.specs.Book.{Book, Candidate, amended, at_moment, delivery, due, has_delivery, judgements, shown_past, stored_body, text_at, with_delivery}
 use Rattle.keep.specs.declared.arrival.Arrival.{Arrival}
 use Rattle.keep.specs.declared.change.Step.{Step}
 use Rattle.keep.specs.declared.change.Change.{Change}
@@ -108,6 +108,23 @@ Apart book P = (bodies : List (List ℕ)) → NoCollision bodies → HasBodies b
 -- the same, where this body is among them
 abbrev pub ApartWith : Book → List ℕ → Type 0 → Type 0
 ApartWith book body P = (bodies : List (List ℕ)) → NoCollision bodies → HasBodies bodies book → Contains bodies body → P
+
+-- whatever body is coming
+abbrev pub OverComing : Option (List ℕ) → (List ℕ → Type 0) → Type 0
+OverComing coming P = (body : List ℕ) → coming ≡ Some body → P body
+
+module _ (book : Book) (name : List ℕ) (moment : ℕ) where
+  -- the answer tells whether a delivery of this body is new: whether no arrival of its name and body counts at the moment
+  abbrev pub TellsNew : Bool → List ℕ → Type 0
+  TellsNew new body = ApartWith book body (new ≡ not (has_delivery book (delivery name body moment)))
+
+  -- the other book is this one with the delivery of this body
+  abbrev pub TakesDelivery : Book → List ℕ → Type 0
+  TakesDelivery after body = ApartWith book body (after ≡ with_delivery book (delivery name body moment))
+
+  -- what a crash left is this book with the delivery of this body
+  abbrev pub IsLeftDelivered : Option Book → List ℕ → Type 0
+  IsLeftDelivered left body = ApartWith book body (left ≡ Some (with_delivery book (delivery name body moment)))
 
 -- Want of memory may always be answered, a fault of the disk or of size only by a keeper that can fail, and that the
 -- tables are not what is needed by no call of a keeper.

@@ -11,11 +11,11 @@
 //!
 //! `arrive` is a method of the trait: `begin`, the pieces, `finish`. So a body in memory and one that a reader gives take one way.
 
-ghost use Rattle.std.specs.Prelude.{◌≡◌, ◌≤◌, All, ◌++◌, ◌⊎◌, [], ℕ, Bool, List, Option, Some, None, IfOk, IfErr, OnOk, OnErr, length, map, not};
+ghost use Rattle.std.specs.Prelude.{◌≡◌, ◌≤◌, All, ◌++◌, ◌⊎◌, [], ℕ, Bool, List, Option, Some, None, IfOk, IfErr, OnOk, OnErr, length, map};
 ghost use Rattle.std.specs.Option.{option_map};
-ghost use Rattle.keep.specs.Book.{Book, amended, at_moment, due, ended, has_arrival, is_kept, latest, shown_past, span, text_at, upload_of, waiting_list, with_delivery};
+ghost use Rattle.keep.specs.Book.{Book, amended, at_moment, due, ended, is_kept, latest, shown_past, span, text_at, upload_of, waiting_list};
 ghost use Rattle.keep.specs.Configured.{IsConfiguration, reconfigured};
-ghost use Rattle.keep.specs.Keeping.{Apart, ApartWith, Endures, HasEachBody, IsDeliverable, IsSound, IsWholeFor, Lasts, Leaves, MayAnswer, Reads, Stays, TakesPiece, sign_of};
+ghost use Rattle.keep.specs.Keeping.{Apart, Endures, HasEachBody, IsDeliverable, IsLeftDelivered, IsSound, IsWholeFor, Lasts, Leaves, MayAnswer, OverComing, Reads, Stays, TakesDelivery, TakesPiece, TellsNew, sign_of};
 ghost use Rattle.sums.specs.Prints.{print as print_of};
 
 use crate::change::{Change, IndexText, Judgement, Waiting};
@@ -91,14 +91,12 @@ pub trait Keeper {
         ensures lasts { Lasts is_clean is_open faults book self.old self.new }
         ensures served { is_clean self.new → OnOk result (is_open self.new) }
         ensures ended { coming self.new ≡ None }
-        ensures new { is_clean self.new → IfOk result (λ new. (body : List ℕ) → coming self.old ≡ Some body → ApartWith (book self.old) body
-            (new ≡ not (has_arrival (at_moment moment (book self.old)).arrivals (record { name = name.now; body = body; moment = moment })))) }
-        ensures ok { is_clean self.new → OnOk result ((body : List ℕ) → coming self.old ≡ Some body → ApartWith (book self.old) body
-            (book self.new ≡ with_delivery (book self.old) (record { name = name.now; body = body; moment = moment }))) }
+        ensures new { is_clean self.new → IfOk result (λ new. OverComing (coming self.old) (TellsNew (book self.old) name.now moment new)) }
+        ensures ok { is_clean self.new → OnOk result (OverComing (coming self.old) (TakesDelivery (book self.old) name.now moment (book self.new))) }
         ensures err { is_clean self.new → is_open self.new → OnErr result (book self.new ≡ book self.old) }
         ensures cause { IfErr result (MayAnswer may_fail) }
-        ensures crash { Leaves is_clean is_open may_leave self.old self.new (λ left. (body : List ℕ) → coming self.old ≡ Some body → ApartWith (book self.old) body
-            (left ≡ Some (with_delivery (book self.old) (record { name = name.now; body = body; moment = moment })))) };
+        ensures crash { Leaves is_clean is_open may_leave self.old self.new (λ left.
+            OverComing (coming self.old) (IsLeftDelivered (book self.old) name.now moment left)) };
 
     /// Forgets the body that is coming. Where none was begun nothing changes.
     fn abandon(&mut self) -> Result<(), KeepFault>
@@ -122,14 +120,11 @@ pub trait Keeper {
         requires deliverable { IsDeliverable name.now body.now }
         ensures lasts { Lasts is_clean is_open faults book self.old self.new }
         ensures served { is_clean self.new → OnOk result (is_open self.new) }
-        ensures new { is_clean self.new → IfOk result (λ new. ApartWith (book self.old) body.now
-            (new ≡ not (has_arrival (at_moment moment (book self.old)).arrivals (record { name = name.now; body = body.now; moment = moment })))) }
-        ensures ok { is_clean self.new → OnOk result (ApartWith (book self.old) body.now
-            (book self.new ≡ with_delivery (book self.old) (record { name = name.now; body = body.now; moment = moment }))) }
+        ensures new { is_clean self.new → IfOk result (λ new. TellsNew (book self.old) name.now moment new body.now) }
+        ensures ok { is_clean self.new → OnOk result (TakesDelivery (book self.old) name.now moment (book self.new) body.now) }
         ensures err { is_clean self.new → is_open self.new → OnErr result (book self.new ≡ book self.old) }
         ensures cause { IfErr result (MayAnswer may_fail) }
-        ensures crash { Leaves is_clean is_open may_leave self.old self.new (λ left. (left ≡ Some (book self.old)) ⊎ ApartWith (book self.old) body.now
-            (left ≡ Some (with_delivery (book self.old) (record { name = name.now; body = body.now; moment = moment })))) }
+        ensures crash { Leaves is_clean is_open may_leave self.old self.new (λ left. (left ≡ Some (book self.old)) ⊎ IsLeftDelivered (book self.old) name.now moment left body.now) }
     {
         self.begin(alloc)?;
         let mut rest = body;

@@ -2,7 +2,8 @@
 use Rattle.std.specs.Prelude.{◌≡◌, ◌≢◌, ◌⊎◌, Result, IsErrAnd, IfErr, IsTrue, true}
 use Rattle.sqlite_trees.specs.declared.store.Store.{Ghosts}
 use Rattle.sqlite.specs.Held.{Held, state}
-use Rattle.sqlite.specs.State.{HasCleanDisk}
+use Rattle.sqlite.specs.State.{State, HasCleanDisk, Survives}
+use Rattle.sqlite.specs.Tree.{Trees}
 use Rattle.keep.specs.declared.fault.KeepFault.{KeepFault}
 use Rattle.keep.specs.declared.fault.KeepFault.TheVariants.{NoArchive, OutOfMemory}
 use Rattle.tables.specs.Causes.{MayFail}
@@ -15,6 +16,14 @@ module _ {S T : Type 0} (store : Ghosts S) (connection : Held S) (result : Resul
   abbrev pub GivesBack : Type 0
   GivesBack = IfErr result (λ e. HasCleanDisk (state store e.0) → IsUndone (state store connection) (state store e.0))
 
+  -- beside a fault a crash leaves what it could leave before, or trees that are this of what there was
+  abbrev pub FaultLeaves : (State → Trees → Type 0) → Type 0
+  FaultLeaves P = IfErr result (λ e. Survives (state store connection) (state store e.0) (P (state store connection)))
+
+  -- it is refused for this fault, and the connection is given back as it was
+  abbrev pub Refuses : KeepFault → Type 0
+  Refuses fault = IsErrAnd result (λ e. (e.1 ≡ fault) × (e.0 ≡ connection))
+
   -- an opening answers that there is no archive only in a transaction, or where the database keeps none
   abbrev pub RefusesNoArchive : Type 0
   RefusesNoArchive = IfErr result (λ e. e.1 ≡ NoArchive → HasCleanDisk (state store e.0) → (connection.in_transaction ≡ true) ⊎ IsNoArchive (state store connection).now)
@@ -25,11 +34,11 @@ module _ {S T : Type 0} (store : Ghosts S) (connection : Held S) (result : Resul
 
   -- within a transaction there is no opening, and the connection is given back as it was
   abbrev pub RefusesBusy : Type 0
-  RefusesBusy = connection.in_transaction ≡ true → IsErrAnd result (λ e. (e.1 ≡ NoArchive) × (e.0 ≡ connection))
+  RefusesBusy = connection.in_transaction ≡ true → Refuses NoArchive
 
   -- nothing is made within a transaction, or where the database has some object, and the connection is given back as it was
   abbrev pub RefusesTaken : Type 0
-  RefusesTaken = (connection.in_transaction ≡ true) ⊎ ((state store connection).now.schema ≢ no_schema) → IsErrAnd result (λ e. (e.1 ≡ NoArchive) × (e.0 ≡ connection))
+  RefusesTaken = (connection.in_transaction ≡ true) ⊎ ((state store connection).now.schema ≢ no_schema) → Refuses NoArchive
 
   -- and only there it is refused so
   abbrev pub RefusesOnlyTaken : Type 0

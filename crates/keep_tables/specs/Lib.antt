@@ -6,3 +6,4 @@ pub mod AtHand
 pub mod AtOnce
 pub mod Calls
 pub mod KeeperCalls
+pub mod ConnectionCalls

@@ -1,18 +1,32 @@
 -- What an opening finds: the archive of a database, or none.
-use Rattle.std.specs.Prelude.{◌≡◌, ◌≢◌, ℕ, List, [], filter, IsTrue}
+use Rattle.std.specs.Prelude.{◌≡◌, ◌≢◌, ℕ, List, [], filter, Option, Result, IfOk, IfSome, IsTrue}
 use Rattle.sqlite.specs.Effect.{Database}
-use Rattle.sqlite.specs.State.{State}
+use Rattle.sqlite.specs.State.{State, IsUnchanged}
 use Rattle.rules.specs.Values.{ConfigValue}
 use Rattle.keep.specs.declared.change.Judgement.{Judgement}
 use Rattle.tables.specs.Rows.{Tables, Holds, IsArchive, tables_in}
 use Rattle.tables_meaning.specs.Finished.{AreUnderWay, finished, is_unfinished}
+use Rattle.tables_meaning.specs.Shown.{shown_in}
 use Rattle.tables_audit.specs.Whole.{KeepsNone, KeepsSome}
 use Rattle.keep_tables.specs.Finishing.{unfinished_ids}
+use Rattle.keep_tables.specs.declared.opening.Found.{Found}
 
 -- The database keeps an archive of this configuration, with these judged uploads and these dates, once the bodies that are not
 -- whole are away. Their pieces are as those of whole ones.
 abbrev pub IsArchiveOf : Database → ConfigValue → List Judgement → List ℕ → Type 0
 IsArchiveOf db config judged dates = IsArchive db × KeepsSome (finished (tables_in db)) config judged dates × AreUnderWay (tables_in db)
+
+-- if an archive is found it is this
+abbrev pub IfFound : {T E : Type 0} → Result (Option T) E → (T → Type 0) → Type 0
+IfFound result P = IfOk result (λ o. IfSome o P)
+
+-- All is as before, the database keeps the archive that was found, and these are the bodies that are not whole.
+abbrev pub FindsArchive : State → State → Found → Type 0
+FindsArchive old new found = IsUnchanged old new × IsArchiveOf old.now found.held.config found.held.judged.items found.held.dates.items × (found.unfinished.items ≡ unfinished_ids (tables_in old.now).bodies)
+
+-- The rows show what was found to be shown.
+abbrev pub ShowsFound : Tables → Found → Type 0
+ShowsFound t found = found.held.shelves ≡ shown_in found.held.config.suites t
 
 -- The database keeps no archive, whatever it shows: where the pieces of the bodies that are not whole are as those of whole ones,
 -- the rows without these bodies are those of none.

@@ -2,20 +2,13 @@
 //!
 //! A change that puts an item into no suite, or a file without a body into the pool, is refused as a failure of the disk.
 
-ghost use Rattle.std.specs.Prelude.{◌≡◌, ◌≤◌, [], ℕ, List, true, false, IsTrue, OnOk};
-ghost use Rattle.std.specs.List.{list_all, list_any};
-ghost use Rattle.sqlite.specs.Held.{state};
-ghost use Rattle.sqlite.specs.State.{HasCleanDisk};
+ghost use Rattle.std.specs.Prelude.{◌≡◌, ◌≤◌, true, false};
+ghost use Rattle.std.specs.List.{list_all};
 ghost use Rattle.keep.specs.Book.{latest};
-ghost use Rattle.keep.specs.declared.change.Judgement.{Judgement};
-ghost use Rattle.suites.specs.Shelves.{ShelvesValue};
-ghost use Rattle.tables.specs.Rows.{IsArchive, tables_in};
-ghost use Rattle.tables_meaning.specs.Archives.{Amends, KeepsArchive};
+ghost use Rattle.tables.specs.Rows.{IsArchive};
 ghost use Rattle.tables_meaning.specs.Changing.{is_within, puts_within};
-ghost use Rattle.tables_meaning.specs.Coming.{HasComing};
-ghost use Rattle.tables_meaning.specs.Making.{takes_file};
-ghost use Rattle.tables.specs.Calls.{OnCleanDisk};
-ghost use Rattle.tables_meaning.specs.Calls.{CommitsOnly, OverSound, StaysComing, StaysOpen, Undoes, WhileOpen};
+ghost use Rattle.tables_meaning.specs.Calls.{CommitsOnly, StaysOpen, Undoes, WhileOpen};
+ghost use Rattle.keep_tables.specs.ConnectionCalls.{EndsComing, HasChange, MakesChange, NothingComes, OnCommitted, SparesComing};
 
 use keep::{Change, Step};
 use rules::Config;
@@ -79,18 +72,15 @@ pub(crate) fn make_change<S: Alter>(
     requires idle { conn.old.in_transaction ≡ false }
     requires in_time { change.now.moment ≤ latest }
     requires archive { WhileOpen S.Store conn.old (λ now. ∥ IsArchive now.committed ∥₁) }
-    requires whole { whole ≡ true → HasCleanDisk (state S.Store conn.old) → IsTrue (state S.Store conn.old).is_open → ∥ HasComing (tables_in (state S.Store conn.old).committed) [] ∥₁ }
+    requires whole { whole ≡ true → WhileOpen S.Store conn.old (λ now. ∥ NothingComes now.committed ∥₁) }
     ensures idle { conn.new.in_transaction ≡ false }
     ensures open { StaysOpen S.Store conn.old conn.new result }
-    ensures done { OnCleanDisk S.Store conn.old conn.new (λ old new. OverSound old.committed config.now judged change.now (λ before shown dates. OnOk result (Amends old.committed new.committed config.now before shown dates change.now))) }
+    ensures done { OnCommitted S.Store conn.old conn.new (MakesChange result config.now judged change.now) }
     // Where it takes a file away nothing is coming any more, and else what is coming stays so.
-    ensures ends { OnCleanDisk S.Store conn.old conn.new (λ old new. list_any takes_file change.now.steps ≡ true
-        → OverSound old.committed config.now judged change.now (λ before shown dates. OnOk result (HasComing (tables_in new.committed) []))) }
-    ensures beside { OnCleanDisk S.Store conn.old conn.new (λ old new. list_any takes_file change.now.steps ≡ false
-        → (before : List Judgement) (shown : ShelvesValue) (dates : List ℕ) → KeepsArchive old.committed config.now before shown dates
-        → OnOk result (StaysComing old.committed new.committed)) }
+    ensures ends { OnCommitted S.Store conn.old conn.new (EndsComing result config.now judged change.now) }
+    ensures beside { OnCommitted S.Store conn.old conn.new (SparesComing result config.now change.now) }
     ensures undone { Undoes S.Store conn.old conn.new result }
-    ensures crash { CommitsOnly S.Store conn.old conn.new (λ old db. OverSound old.committed config.now judged change.now (λ before shown dates. Amends old.committed db config.now before shown dates change.now)) }
+    ensures crash { CommitsOnly S.Store conn.old conn.new (λ old db. HasChange config.now judged change.now old.committed db) }
 {
     let steps = change.steps.as_slice();
     let inside = stands_inside(steps, config.suites().len());

@@ -1,12 +1,10 @@
 //! A cleaning, over the connection alone.
 
-ghost use Rattle.std.specs.Prelude.{◌≡◌, ◌≤◌, [], length, false, IfOk, OnOk};
-ghost use Rattle.keep.specs.Book.{at_moment, ended, latest, span};
-ghost use Rattle.tables.specs.Rows.{tables_in};
-ghost use Rattle.tables_meaning.specs.Archives.{Turns, book_in_database};
-ghost use Rattle.tables_meaning.specs.Coming.{HasComing};
-ghost use Rattle.tables.specs.Calls.{OnCleanDisk};
-ghost use Rattle.tables_meaning.specs.Calls.{CommitsOnly, StaysOpen, Undoes, WithBook};
+ghost use Rattle.std.specs.Prelude.{◌≡◌, ◌≤◌, length, false, IfOk, OnOk};
+ghost use Rattle.keep.specs.Book.{ended, latest, span};
+ghost use Rattle.tables_meaning.specs.Archives.{book_in_database};
+ghost use Rattle.tables_meaning.specs.Calls.{CommitsOnly, StaysOpen, Undoes};
+ghost use Rattle.keep_tables.specs.ConnectionCalls.{NothingComes, OnCommitted, OverSpan, TurnsTo};
 
 use sqlite::{Alter, Connection, Error};
 use std::alloc::Global;
@@ -24,13 +22,10 @@ pub(crate) fn clean_up<S: Alter>(
     requires in_time { moment ≤ latest }
     ensures idle { conn.new.in_transaction ≡ false }
     ensures open { StaysOpen S.Store conn.old conn.new result }
-    ensures done { OnCleanDisk S.Store conn.old conn.new (λ old new. WithBook old.committed (λ config judged shown dates. seconds ≡ span config
-        → OnOk result (Turns old.committed new.committed config judged shown dates judged shown dates (at_moment moment) × HasComing (tables_in new.committed) []))) }
-    ensures count { OnCleanDisk S.Store conn.old conn.new (λ old new. WithBook old.committed (λ config judged shown dates. seconds ≡ span config
-        → IfOk result (λ count. count ≡ length (ended (span config) moment (book_in_database old.committed config judged shown dates).arrivals)))) }
+    ensures done { OnCommitted S.Store conn.old conn.new (λ old new. OverSpan old seconds (λ config judged shown dates. OnOk result (TurnsTo moment old new config judged shown dates × NothingComes new))) }
+    ensures count { OnCommitted S.Store conn.old conn.new (λ old new. OverSpan old seconds (λ config judged shown dates. IfOk result (λ count. count ≡ length (ended (span config) moment (book_in_database old config judged shown dates).arrivals)))) }
     ensures undone { Undoes S.Store conn.old conn.new result }
-    ensures crash { CommitsOnly S.Store conn.old conn.new (λ old db. WithBook old.committed (λ config judged shown dates. seconds ≡ span config
-        → Turns old.committed db config judged shown dates judged shown dates (at_moment moment))) }
+    ensures crash { CommitsOnly S.Store conn.old conn.new (λ old db. OverSpan old.committed seconds (TurnsTo moment old.committed db)) }
 {
     // For the prover alone: outside a transaction the connection has what is committed.
     let _idle = conn.is_autocommit();

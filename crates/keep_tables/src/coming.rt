@@ -1,15 +1,16 @@
 //! A body that comes: the one that was begun last, and a keeper's calls on it over the connection alone.
 
-ghost use Rattle.std.specs.Prelude.{if◌then◌else◌, ◌≡◌, [], Some, None, true, false, option_map, ◌≤◌, ◌<◌, ◌+◌, ◌%◌, ◌++◌, Option, length, not, IfOk, OnOk};
+ghost use Rattle.std.specs.Prelude.{if◌then◌else◌, ◌≡◌, [], Some, None, true, false, option_map, ◌≤◌, ◌<◌, ◌+◌, ◌%◌, ◌++◌, length, IfOk, OnOk};
 ghost use Rattle.std.specs.Option.{option_and_then, option_map_or};
 ghost use Rattle.sums.specs.Prints.{Holds, print as print_of};
-ghost use Rattle.keep.specs.Book.{latest, span};
+ghost use Rattle.keep.specs.Book.{latest};
 ghost use Rattle.tables.specs.Rows.{tables_in};
-ghost use Rattle.tables_meaning.specs.Coming.{Comes, HasComing};
+ghost use Rattle.tables_meaning.specs.Coming.{Comes};
+ghost use Rattle.tables_bodies.specs.AtOnce.{FitsOnePiece};
 ghost use Rattle.tables_bodies.specs.declared.coming.Begun.{Begun};
 ghost use Rattle.keep_tables.specs.AtOnce.{arrives_at_once};
-ghost use Rattle.tables.specs.Calls.{OnCleanDisk};
-ghost use Rattle.tables_meaning.specs.Calls.{BookStays, CommitsOnly, Delivers, OverOnePiece, OverWhole, StaysOpen, Undoes, WithComing, WithPieces, has_delivery};
+ghost use Rattle.tables_meaning.specs.Calls.{BookStays, CommitsOnly, Delivers, StaysOpen, Undoes, WithComing, WithPieces};
+ghost use Rattle.keep_tables.specs.ConnectionCalls.{Arrives, NothingComes, OnCommitted, OverFile, OverFinished, SaysNew};
 
 use keep::PIECE_SIZE;
 use sqlite::{Alter, Connection, Error, ErrorCode};
@@ -86,8 +87,7 @@ pub(crate) fn forget_body<S: Alter>(conn: &mut Connection<S>, id: u64) -> Result
     requires idle { conn.old.in_transaction ≡ false }
     ensures idle { conn.new.in_transaction ≡ false }
     ensures open { StaysOpen S.Store conn.old conn.new result }
-    ensures done { OnCleanDisk S.Store conn.old conn.new (λ old new. WithPieces old.committed (Some id) (λ config judged shown dates count bytes. OnOk result (BookStays old.committed new.committed config judged shown dates
-        × HasComing (tables_in new.committed) []))) }
+    ensures done { OnCommitted S.Store conn.old conn.new (λ old new. WithPieces old (Some id) (λ config judged shown dates count bytes. OnOk result (BookStays old new config judged shown dates × NothingComes new))) }
     ensures undone { Undoes S.Store conn.old conn.new result }
     ensures crash { CommitsOnly S.Store conn.old conn.new (λ old db. WithPieces old.committed (Some id) (λ config judged shown dates count bytes. BookStays old.committed db config judged shown dates)) }
 {
@@ -105,8 +105,7 @@ pub(crate) fn clear<S: Alter>(
     requires idle { conn.old.in_transaction ≡ false }
     ensures idle { conn.new.in_transaction ≡ false }
     ensures open { StaysOpen S.Store conn.old conn.new result }
-    ensures done { OnCleanDisk S.Store conn.old conn.new (λ old new. WithPieces old.committed body (λ config judged shown dates count bytes. OnOk result (BookStays old.committed new.committed config judged shown dates
-        × HasComing (tables_in new.committed) []))) }
+    ensures done { OnCommitted S.Store conn.old conn.new (λ old new. WithPieces old body (λ config judged shown dates count bytes. OnOk result (BookStays old new config judged shown dates × NothingComes new))) }
     ensures undone { Undoes S.Store conn.old conn.new result }
     ensures crash { CommitsOnly S.Store conn.old conn.new (λ old db. WithPieces old.committed body (λ config judged shown dates count bytes. BookStays old.committed db config judged shown dates)) }
 {
@@ -126,9 +125,9 @@ pub(crate) fn take_piece<S: Alter>(
     requires idle { conn.old.in_transaction ≡ false }
     ensures idle { conn.new.in_transaction ≡ false }
     ensures open { StaysOpen S.Store conn.old conn.new result }
-    ensures done { OnCleanDisk S.Store conn.old conn.new (λ old new. WithComing old.committed body count (λ config judged shown dates so_far. length so_far % 65536 ≡ 0
-        → 0 < length bytes.now → length bytes.now ≤ 65536 → IfOk result (λ id. BookStays old.committed new.committed config judged shown dates
-        × Comes (tables_in new.committed) (Some id) (count + 1) (so_far ++ bytes.now)))) }
+    ensures done { OnCommitted S.Store conn.old conn.new (λ old new. WithComing old body count (λ config judged shown dates so_far. length so_far % 65536 ≡ 0
+        → 0 < length bytes.now → length bytes.now ≤ 65536 → IfOk result (λ id. BookStays old new config judged shown dates
+        × Comes (tables_in new) (Some id) (count + 1) (so_far ++ bytes.now)))) }
     ensures counted { OnOk result (count < 18_446_744_073_709_551_615) }
     ensures undone { Undoes S.Store conn.old conn.new result }
     ensures crash { CommitsOnly S.Store conn.old conn.new (λ old db. WithComing old.committed body count (λ config judged shown dates so_far. length so_far % 65536 ≡ 0
@@ -152,12 +151,10 @@ pub(crate) fn finish_delivery<S: Alter>(
     requires in_time { finished.now.moment ≤ latest }
     ensures idle { conn.new.in_transaction ≡ false }
     ensures open { StaysOpen S.Store conn.old conn.new result }
-    ensures done { OnCleanDisk S.Store conn.old conn.new (λ old new. OverWhole old.committed finished.now.body finished.now.pieces finished.now.print finished.now.name.now (λ config judged shown dates body. OnOk result (Delivers old.committed new.committed config judged shown dates (record { name = finished.now.name.now; body = body; moment = finished.now.moment })
-        × HasComing (tables_in new.committed) []))) }
-    ensures new { OnCleanDisk S.Store conn.old conn.new (λ old new. OverWhole old.committed finished.now.body finished.now.pieces finished.now.print finished.now.name.now (λ config judged shown dates body. finished.now.span ≡ span config
-        → IfOk result (λ new. new ≡ not (has_delivery old.committed config judged shown dates (record { name = finished.now.name.now; body = body; moment = finished.now.moment }))))) }
+    ensures done { OnCommitted S.Store conn.old conn.new (λ old new. OverFinished old finished.now (Arrives result old new)) }
+    ensures new { OnCommitted S.Store conn.old conn.new (λ old new. OverFinished old finished.now (SaysNew result finished.now.span old)) }
     ensures undone { Undoes S.Store conn.old conn.new result }
-    ensures crash { CommitsOnly S.Store conn.old conn.new (λ old db. OverWhole old.committed finished.now.body finished.now.pieces finished.now.print finished.now.name.now (λ config judged shown dates body. Delivers old.committed db config judged shown dates (record { name = finished.now.name.now; body = body; moment = finished.now.moment }))) }
+    ensures crash { CommitsOnly S.Store conn.old conn.new (λ old db. OverFinished old.committed finished.now (λ delivery config judged shown dates. Delivers old.committed db config judged shown dates delivery)) }
 {
     // For the prover alone: outside a transaction the connection has what is committed.
     let _idle = conn.is_autocommit();
@@ -176,16 +173,14 @@ pub(crate) fn deliver_at_once<S: Alter>(
 ) -> Result<bool, Error>
     requires idle { conn.old.in_transaction ≡ false }
     requires in_time { file.now.moment ≤ latest }
-    requires one_piece { (0 < length file.now.bytes.now) × (length file.now.bytes.now ≤ 65536) }
+    requires one_piece { FitsOnePiece file.now.bytes.now }
     requires printed { file.now.print ≡ print_of file.now.bytes.now }
     ensures idle { conn.new.in_transaction ≡ false }
     ensures open { StaysOpen S.Store conn.old conn.new result }
-    ensures done { OnCleanDisk S.Store conn.old conn.new (λ old new. OverOnePiece old.committed file.now.name.now file.now.bytes.now (λ config judged shown dates. OnOk result (Delivers old.committed new.committed config judged shown dates (record { name = file.now.name.now; body = file.now.bytes.now; moment = file.now.moment })
-        × HasComing (tables_in new.committed) []))) }
-    ensures new { OnCleanDisk S.Store conn.old conn.new (λ old new. OverOnePiece old.committed file.now.name.now file.now.bytes.now (λ config judged shown dates. file.now.span ≡ span config
-        → IfOk result (λ new. new ≡ not (has_delivery old.committed config judged shown dates (record { name = file.now.name.now; body = file.now.bytes.now; moment = file.now.moment }))))) }
+    ensures done { OnCommitted S.Store conn.old conn.new (λ old new. OverFile old file.now (Arrives result old new)) }
+    ensures new { OnCommitted S.Store conn.old conn.new (λ old new. OverFile old file.now (SaysNew result file.now.span old)) }
     ensures undone { Undoes S.Store conn.old conn.new result }
-    ensures crash { CommitsOnly S.Store conn.old conn.new (λ old db. OverOnePiece old.committed file.now.name.now file.now.bytes.now (λ config judged shown dates. Delivers old.committed db config judged shown dates (record { name = file.now.name.now; body = file.now.bytes.now; moment = file.now.moment }))) }
+    ensures crash { CommitsOnly S.Store conn.old conn.new (λ old db. OverFile old.committed file.now (λ delivery config judged shown dates. Delivers old.committed db config judged shown dates delivery)) }
 {
     // For the prover alone: outside a transaction the connection has what is committed.
     let _idle = conn.is_autocommit();

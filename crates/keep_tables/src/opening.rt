@@ -1,7 +1,7 @@
 //! Opens an archive that a database keeps.
 
-ghost use Rattle.std.specs.Prelude.{◌≡◌, ◌≢◌, [], None, false, IfOk, IfErr, IfSome, OnErr};
-ghost use Rattle.sqlite.specs.State.{HasCleanDisk, IsUnchanged, Survives};
+ghost use Rattle.std.specs.Prelude.{◌≡◌, ◌≢◌, None, false, IfOk, IfErr, OnErr};
+ghost use Rattle.sqlite.specs.State.{HasCleanDisk, Survives};
 ghost use Rattle.sqlite.specs.Held.{state};
 ghost use Rattle.keep.specs.declared.fault.KeepFault.TheVariants.{NoArchive};
 ghost use Rattle.tables.specs.Causes.{IsCaused};
@@ -9,18 +9,18 @@ ghost use Rattle.tables.specs.Rows.{Fails, Rises, Stands, tables_in};
 ghost use Rattle.tables.specs.Others.{IsArchiveSchema};
 ghost use Rattle.tables_read.specs.All.{AreConstrained, tables_with};
 ghost use Rattle.tables_meaning.specs.Kept.{AreReadable};
-ghost use Rattle.tables_meaning.specs.Archives.{KeepsArchive, KeepsFinished};
-ghost use Rattle.tables_meaning.specs.Coming.{HasComing};
+ghost use Rattle.tables_meaning.specs.Archives.{KeepsArchive};
 ghost use Rattle.tables_meaning.specs.Finished.{AreUnderWay, finished};
 ghost use Rattle.tables_meaning.specs.Shown.{shown_in};
 ghost use Rattle.tables_meaning.specs.Transactions.{MayCommit};
-ghost use Rattle.keep_tables.specs.Keepers.{config_in_use, table_book};
-ghost use Rattle.keep_tables.specs.Finishing.{unfinished_ids};
 ghost use Rattle.tables_audit.specs.Whole.{KeepsNone, KeepsSome};
-ghost use Rattle.keep_tables.specs.Opened.{HasUnfinished, IsArchiveOf, IsFinished, IsFound, IsNoArchive};
+ghost use Rattle.keep_tables.specs.Finishing.{unfinished_ids};
+ghost use Rattle.keep_tables.specs.Opened.{HasUnfinished, FindsArchive, IfFound, IsFound, IsNoArchive, ShowsFound};
 ghost use Rattle.tables.specs.Calls.{NeverCommits, OnCleanDisk};
 ghost use Rattle.tables_meaning.specs.Calls.{WhileOpen};
-ghost use Rattle.keep_tables.specs.Calls.{GivesBack, RefusesBusy, RefusesNoArchive, SaysWhy};
+ghost use Rattle.keep_tables.specs.Calls.{FaultLeaves, GivesBack, RefusesBusy, RefusesNoArchive, SaysWhy};
+ghost use Rattle.keep_tables.specs.ConnectionCalls.{NothingComes};
+ghost use Rattle.keep_tables.specs.KeeperCalls.{KeeperLeaves, OpensFinished};
 
 mod unfinished;
 
@@ -44,9 +44,9 @@ struct Found {
 /// The archive with these rows, once the bodies that are not whole are away, where they are those of one: the pieces of these
 /// bodies have to be as those of whole ones.
 fn found_in(alloc: Global, all: AllRows) -> Result<Option<Found>, AllocError>
-    ensures some { AreConstrained (tables_with all) → IfOk result (λ o. IfSome o (λ found. KeepsSome (finished (tables_with all)) found.held.config found.held.judged.items found.held.dates.items
-        × AreUnderWay (tables_with all) × (found.unfinished.items ≡ unfinished_ids (tables_with all).bodies))) }
-    ensures shown { AreConstrained (tables_with all) → IfOk result (λ o. IfSome o (λ found. found.held.shelves ≡ shown_in found.held.config.suites (tables_with all))) }
+    ensures some { AreConstrained (tables_with all) → IfFound result (λ found. KeepsSome (finished (tables_with all)) found.held.config found.held.judged.items found.held.dates.items
+        × AreUnderWay (tables_with all) × (found.unfinished.items ≡ unfinished_ids (tables_with all).bodies)) }
+    ensures shown { AreConstrained (tables_with all) → IfFound result (ShowsFound (tables_with all)) }
     ensures none { AreConstrained (tables_with all) → Rises (tables_with all).bodies → IfOk result (λ o. o ≡ None → AreReadable (tables_with all) → AreUnderWay (tables_with all)
         → KeepsNone (finished (tables_with all))) }
 {
@@ -69,9 +69,8 @@ fn archive_of<S: InOrder>(alloc: Global, conn: &mut Connection<S>) -> Result<Opt
     requires idle { conn.old.in_transaction ≡ false }
     requires archive { IsArchiveSchema (state S.Store conn.old).now.schema }
     ensures idle { conn.old.in_transaction ≡ false → conn.new.in_transaction ≡ false }
-    ensures some { OnCleanDisk S.Store conn.old conn.new (λ old new. IfOk result (λ o. IfSome o (λ found. IsUnchanged old new
-        × IsArchiveOf old.now found.held.config found.held.judged.items found.held.dates.items × (found.unfinished.items ≡ unfinished_ids (tables_in old.now).bodies)))) }
-    ensures shown { OnCleanDisk S.Store conn.old conn.new (λ old new. IfOk result (λ o. IfSome o (λ found. found.held.shelves ≡ shown_in found.held.config.suites (tables_in old.now)))) }
+    ensures some { OnCleanDisk S.Store conn.old conn.new (λ old new. IfFound result (FindsArchive old new)) }
+    ensures shown { OnCleanDisk S.Store conn.old conn.new (λ old new. IfFound result (ShowsFound (tables_in old.now))) }
     ensures none { OnCleanDisk S.Store conn.old conn.new (λ old new. IfOk result (λ o. o ≡ None → Stands old new × IsNoArchive old.now)) }
     ensures err { OnCleanDisk S.Store conn.old conn.new (λ old new. OnErr result (Fails old new)) }
     ensures cause { OnCleanDisk S.Store conn.old conn.new (λ old new. IfErr result (IsCaused old new)) }
@@ -89,9 +88,8 @@ fn archive_of<S: InOrder>(alloc: Global, conn: &mut Connection<S>) -> Result<Opt
 fn find_archive<S: InOrder>(alloc: Global, conn: &mut Connection<S>) -> Result<Option<Found>, Error>
     requires idle { conn.old.in_transaction ≡ false }
     ensures idle { conn.old.in_transaction ≡ false → conn.new.in_transaction ≡ false }
-    ensures some { OnCleanDisk S.Store conn.old conn.new (λ old new. IfOk result (λ o. IfSome o (λ found. IsUnchanged old new
-        × IsArchiveOf old.now found.held.config found.held.judged.items found.held.dates.items × (found.unfinished.items ≡ unfinished_ids (tables_in old.now).bodies)))) }
-    ensures shown { OnCleanDisk S.Store conn.old conn.new (λ old new. IfOk result (λ o. IfSome o (λ found. found.held.shelves ≡ shown_in found.held.config.suites (tables_in old.now)))) }
+    ensures some { OnCleanDisk S.Store conn.old conn.new (λ old new. IfFound result (FindsArchive old new)) }
+    ensures shown { OnCleanDisk S.Store conn.old conn.new (λ old new. IfFound result (ShowsFound (tables_in old.now))) }
     ensures none { OnCleanDisk S.Store conn.old conn.new (λ old new. IfOk result (λ o. o ≡ None → Stands old new × IsNoArchive old.now)) }
     ensures err { OnCleanDisk S.Store conn.old conn.new (λ old new. OnErr result (Fails old new)) }
     ensures cause { OnCleanDisk S.Store conn.old conn.new (λ old new. IfErr result (IsCaused old new)) }
@@ -111,7 +109,7 @@ fn keeper_over<S: Alter + Drop>(
 ) -> TableKeeper<S>
     requires idle { connection.in_transaction ≡ false }
     requires kept { WhileOpen S.Store connection (λ now. ∥ KeepsArchive now.committed held.config held.judged.items (shown_in held.config.suites (tables_in now.committed)) held.dates.items ∥₁) }
-    requires whole { WhileOpen S.Store connection (λ now. HasComing (tables_in now.committed) []) }
+    requires whole { WhileOpen S.Store connection (λ now. NothingComes now.committed) }
     requires shown { WhileOpen S.Store connection (λ now. held.shelves ≡ shown_in held.config.suites (tables_in now.committed)) }
     ensures conn { result.conn ≡ connection }
     ensures held { (result.config ≡ held.config) × (result.judged ≡ held.judged) × (result.dates ≡ held.dates) }
@@ -133,14 +131,13 @@ fn keeper_of<S: Alter + Drop>(
 ) -> Result<TableKeeper<S>, (Connection<S>, KeepFault)>
     requires idle { connection.in_transaction ≡ false }
     requires found { HasCleanDisk (state S.Store connection) → IsFound (state S.Store connection) found.held.config found.held.judged.items found.held.dates.items found.unfinished.items }
-    requires shown { HasCleanDisk (state S.Store connection) → found.held.shelves ≡ shown_in found.held.config.suites (tables_in (state S.Store connection).now) }
-    ensures opened { IfOk result (λ keeper. HasCleanDisk (state S.Store keeper.conn) → IsFinished (state S.Store connection) (state S.Store keeper.conn)
-        × KeepsFinished (state S.Store connection).committed (config_in_use keeper) (table_book keeper)) }
+    requires shown { HasCleanDisk (state S.Store connection) → ShowsFound (tables_in (state S.Store connection).now) found }
+    ensures opened { OpensFinished S.Store connection result }
     ensures fault { IfErr result (λ e. e.1 ≢ NoArchive) }
     ensures told { IfErr result (λ e. HasCleanDisk (state S.Store e.0) → HasUnfinished (state S.Store connection).now) }
     ensures undone { GivesBack S.Store connection result }
-    ensures crash { IfOk result (λ keeper. Survives (state S.Store connection) (state S.Store keeper.conn) (MayCommit (state S.Store connection) finished)) }
-    ensures crash_undone { IfErr result (λ e. Survives (state S.Store connection) (state S.Store e.0) (MayCommit (state S.Store connection) finished)) }
+    ensures crash { KeeperLeaves S.Store connection result (λ was. MayCommit was finished) }
+    ensures crash_undone { FaultLeaves S.Store connection result (λ was. MayCommit was finished) }
 {
     let Found { held, unfinished } = found;
     if unfinished.is_empty() {
@@ -162,15 +159,14 @@ impl<S: InOrder + Drop> TableKeeper<S> {
         alloc: Global,
         mut connection: Connection<S>,
     ) -> Result<TableKeeper<S>, (Connection<S>, KeepFault)>
-        ensures opened { IfOk result (λ keeper. HasCleanDisk (state S.Store keeper.conn) → IsFinished (state S.Store connection) (state S.Store keeper.conn)
-            × KeepsFinished (state S.Store connection).committed (config_in_use keeper) (table_book keeper)) }
+        ensures opened { OpensFinished S.Store connection result }
         ensures refused { RefusesNoArchive S.Store connection result }
         ensures told { SaysWhy S.Store connection result }
         ensures busy { RefusesBusy S.Store connection result }
         ensures undone { GivesBack S.Store connection result }
-        ensures crash { IfOk result (λ keeper. Survives (state S.Store connection) (state S.Store keeper.conn) (MayCommit (state S.Store connection) finished)) }
+        ensures crash { KeeperLeaves S.Store connection result (λ was. MayCommit was finished) }
         ensures crash_refused { IfErr result (λ e. e.1 ≡ NoArchive → Survives (state S.Store connection) (state S.Store e.0) (λ _. ⊥)) }
-        ensures crash_undone { IfErr result (λ e. Survives (state S.Store connection) (state S.Store e.0) (MayCommit (state S.Store connection) finished)) }
+        ensures crash_undone { FaultLeaves S.Store connection result (λ was. MayCommit was finished) }
     {
         if !connection.is_autocommit() {
             return Err((connection, KeepFault::NoArchive));

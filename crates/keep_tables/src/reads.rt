@@ -3,7 +3,7 @@
 ghost use Rattle.std.specs.Prelude.{◌≡◌, ℕ, List, Some, map, false, IsTrue, IfOk, IfSome, OnOk};
 ghost use Rattle.std.specs.Option.{option_map};
 ghost use Rattle.sqlite.specs.Held.{state};
-ghost use Rattle.keep.specs.Book.{at_moment, due, is_kept, span, text_at, upload_of, waiting_list};
+ghost use Rattle.keep.specs.Book.{at_moment, due, is_kept, text_at, upload_of, waiting_list};
 ghost use Rattle.keep.specs.Keeping.{sign_of};
 ghost use Rattle.keep.specs.declared.change.Judgement.{Judgement};
 ghost use Rattle.sums.specs.Prints.{print as print_of};
@@ -11,6 +11,7 @@ ghost use Rattle.suites.specs.Shelves.{ShelvesValue};
 ghost use Rattle.tables_meaning.specs.Archives.{IsRead, KeepsArchive, book_in_database};
 ghost use Rattle.tables.specs.Calls.{OnCleanDisk};
 ghost use Rattle.tables_meaning.specs.Calls.{IsOpenOverArchive, WithBook};
+ghost use Rattle.keep_tables.specs.ConnectionCalls.{OverSpan};
 
 use crate::shelves::read_shelves;
 use crate::text_prints::is_of_another;
@@ -36,11 +37,11 @@ pub fn read_due<S: Alter>(
     ensures idle { conn.new.in_transaction ≡ false }
     ensures read { IsRead (state S.Store conn.old) (state S.Store conn.new) }
     ensures open { IsOpenOverArchive S.Store conn.old conn.new result }
-    ensures uploads { OnCleanDisk S.Store conn.old conn.new (λ old new. WithBook old.committed (λ config judged shown dates. seconds ≡ span config
-        → IfOk result (λ uploads. uploads.items ≡ map (upload_of (at_moment moment (book_in_database old.committed config judged shown dates)).arrivals) (due (at_moment moment (book_in_database old.committed config judged shown dates)))))) }
+    ensures uploads { OnCleanDisk S.Store conn.old conn.new (λ old new. OverSpan old.committed seconds (λ config judged shown dates.
+        IfOk result (λ uploads. uploads.items ≡ map (upload_of (at_moment moment (book_in_database old.committed config judged shown dates)).arrivals) (due (at_moment moment (book_in_database old.committed config judged shown dates)))))) }
     // By their names and prints.
-    ensures signs { OnCleanDisk S.Store conn.old conn.new (λ old new. WithBook old.committed (λ config judged shown dates. seconds ≡ span config
-        → IfOk result (λ uploads. map (λ u. (u.name, u.print)) uploads.items ≡ map sign_of (due (at_moment moment (book_in_database old.committed config judged shown dates)))))) }
+    ensures signs { OnCleanDisk S.Store conn.old conn.new (λ old new. OverSpan old.committed seconds (λ config judged shown dates.
+        IfOk result (λ uploads. map (λ u. (u.name, u.print)) uploads.items ≡ map sign_of (due (at_moment moment (book_in_database old.committed config judged shown dates)))))) }
 {
     // For the prover alone: outside a transaction the connection has what is committed.
     let _settled = conn.is_autocommit();
@@ -59,8 +60,8 @@ pub fn read_waiting<S: Alter>(
     ensures idle { conn.new.in_transaction ≡ false }
     ensures read { IsRead (state S.Store conn.old) (state S.Store conn.new) }
     ensures open { IsOpenOverArchive S.Store conn.old conn.new result }
-    ensures waiting { OnCleanDisk S.Store conn.old conn.new (λ old new. WithBook old.committed (λ config judged shown dates. seconds ≡ span config
-        → IfOk result (λ all. all.items ≡ waiting_list (at_moment moment (book_in_database old.committed config judged shown dates))))) }
+    ensures waiting { OnCleanDisk S.Store conn.old conn.new (λ old new. OverSpan old.committed seconds (λ config judged shown dates.
+        IfOk result (λ all. all.items ≡ waiting_list (at_moment moment (book_in_database old.committed config judged shown dates))))) }
 {
     // For the prover alone: outside a transaction the connection has what is committed.
     let _settled = conn.is_autocommit();

@@ -2,6 +2,7 @@
 use Rattle.std.specs.Prelude.{ℕ}
 use Rattle.rules.specs.Values.{ConfigValue}
 use Rattle.keep.specs.Book.{Book}
+use Rattle.keep.specs.Configured.{AreAlike}
 use Rattle.tables.specs.Rows.{Tables}
 use Rattle.tables_read.specs.All.{tables_with}
 use Rattle.tables_meaning.specs.Kept.{book_in}
@@ -11,6 +12,10 @@ use Rattle.migrating.specs.Migrating.{moved_book, moved_rows}
 -- the configuration that the book had
 abbrev pub old_config : OldBook → ConfigValue
 old_config old = old.held.config
+
+-- the configuration has the suites that the book had, in their order; only for how long arrivals count, and a Release is valid, may differ
+abbrev pub HasItsSuites : OldBook → ConfigValue → Type 0
+HasItsSuites old config = AreAlike (old_config old) config
 
 -- the rows that are written, under another configuration and with arrivals as of a moment
 abbrev pub migrated_rows : OldBook → ConfigValue → ℕ → Tables

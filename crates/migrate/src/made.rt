@@ -1,15 +1,15 @@
 //! The archive that a migration makes.
 
-ghost use Rattle.std.specs.Prelude.{◌≡◌, ◌≤◌, false, IsTrue, IfOk, IfErr, IsErrAnd};
-ghost use Rattle.sqlite.specs.State.{HasCleanDisk, Survives};
+ghost use Rattle.std.specs.Prelude.{◌≡◌, ◌≤◌, false, IsTrue, IfOk, IfErr};
+ghost use Rattle.sqlite.specs.State.{HasCleanDisk};
 ghost use Rattle.sqlite.specs.Held.{state};
-ghost use Rattle.keep.specs.Configured.{AreAlike};
 ghost use Rattle.keep.specs.declared.fault.KeepFault.TheVariants.{Configuration as NotAlike};
 ghost use Rattle.tables.specs.Schema.{no_schema};
 ghost use Rattle.tables_meaning.specs.Founding.{MayFound};
 ghost use Rattle.keep_tables.specs.Keepers.{connection_of, table_book};
-ghost use Rattle.migrate.specs.Migrated.{migrated_book, migrated_rows, old_config};
-ghost use Rattle.keep_tables.specs.Calls.{GivesBack, RefusesOnlyTaken, RefusesTaken};
+ghost use Rattle.migrate.specs.Migrated.{HasItsSuites, migrated_book, migrated_rows};
+ghost use Rattle.keep_tables.specs.Calls.{FaultLeaves, GivesBack, Refuses, RefusesOnlyTaken, RefusesTaken};
+ghost use Rattle.keep_tables.specs.KeeperCalls.{KeeperLeaves};
 
 use crate::alike::are_alike;
 use crate::writing::write_archive;
@@ -38,13 +38,13 @@ pub fn migrate<S: Alter + Drop>(
     ensures made { IfOk result (λ keeper. HasCleanDisk (connection_of keeper) → IsTrue (connection_of keeper).is_open × (table_book keeper ≡ migrated_book old.now config moment)) }
     ensures taken { RefusesTaken S.Store to result }
     ensures free { RefusesOnlyTaken S.Store to result }
-    ensures unlike { to.in_transaction ≡ false → (state S.Store to).now.schema ≡ no_schema → ¬ AreAlike (old_config old.now) config
-        → IsErrAnd result (λ e. (e.1 ≡ NotAlike) × (e.0 ≡ to)) }
-    ensures differs { IfErr result (λ e. e.1 ≡ NotAlike → ¬ AreAlike (old_config old.now) config × (e.0 ≡ to)) }
-    ensures alike { IfOk result (λ _. AreAlike (old_config old.now) config) }
+    ensures unlike { to.in_transaction ≡ false → (state S.Store to).now.schema ≡ no_schema → ¬ HasItsSuites old.now config
+        → Refuses S.Store to result NotAlike }
+    ensures differs { IfErr result (λ e. e.1 ≡ NotAlike → ¬ HasItsSuites old.now config × (e.0 ≡ to)) }
+    ensures alike { IfOk result (λ _. HasItsSuites old.now config) }
     ensures undone { GivesBack S.Store to result }
-    ensures crash { IfOk result (λ keeper. Survives (state S.Store to) (connection_of keeper) (MayFound (state S.Store to) (migrated_rows old.now config moment))) }
-    ensures crash_undone { IfErr result (λ e. Survives (state S.Store to) (state S.Store e.0) (MayFound (state S.Store to) (migrated_rows old.now config moment))) }
+    ensures crash { KeeperLeaves S.Store to result (λ was. MayFound was (migrated_rows old.now config moment)) }
+    ensures crash_undone { FaultLeaves S.Store to result (λ was. MayFound was (migrated_rows old.now config moment)) }
 {
     let free = to.is_autocommit();
     let empty = is_without_tables(&to);

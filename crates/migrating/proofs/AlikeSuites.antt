@@ -13,7 +13,7 @@ use Rattle.rules.specs.Suites.{keeps_architecture, keeps_component, suite_named}
 use Rattle.rules.specs.Values.{ConfigValue}
 use Rattle.rules.specs.declared.suite.Suite.{Suite}
 use Rattle.suites.specs.KeyLemmas.{key_order_total, key_order-IsAntisymmetric}
-use Rattle.suites.specs.Moved.{all_stay, moved, moved_entry, place_in, place_named, stays_kept}
+use Rattle.suites.specs.Moved.{all_stay, moved, moved_entry, place_in, stays_kept}
 use Rattle.suites.specs.Shelves.{ShelvesValue}
 use Rattle.suites.specs.Told.{AreTold, is_kept_by}
 use Rattle.suites.specs.declared.item.Item.{Item}
@@ -30,8 +30,8 @@ first_timeless : (name : List ℕ) (suites : List Suite) → position_or_len (λ
 first_timeless name [] = refl
 first_timeless name (s ∷ suites) = ap (λ n. cond (not (bytes_eq s.codename name)) (1 + n) 0) (first_timeless name suites)
 
-place_timeless : (suites : List Suite) (name : List ℕ) → place_named (map without_days suites) name ≡ place_named suites name
-unfolding place_named
+place_timeless : (suites : List Suite) (name : List ℕ) → suite_named (map without_days suites) name ≡ suite_named suites name
+unfolding suite_named
 place_timeless suites name =
     let count = length-map suites without_days in
     let first = first_timeless name suites in
@@ -51,8 +51,7 @@ kept_timeless suites e = ap (λ o. option_map_or keeps o false) (slice_get-map w
 -- ---- a suite by its own codename
 
 module _ (suites : List Suite) (apart : AllPairs (λ s r. s.codename ≢ r.codename) suites) where
-  own_place : (n : ℕ) (s : Suite) → slice_get suites n ≡ Some s → place_named suites s.codename ≡ Some n
-  unfolding place_named suite_named
+  own_place : (n : ℕ) (s : Suite) → slice_get suites n ≡ Some s → suite_named suites s.codename ≡ Some n
   own_place n s e =
       let name : codename_at suites n ≡ s.codename = ap (λ o. option_map_or (λ (x : Suite). x.codename) o []) e in
       sym (ap (suite_named suites) name) ∙ suite_back suites apart n (below suites n s e)
@@ -64,7 +63,7 @@ module _ (suites : List Suite) (apart : AllPairs (λ s r. s.codename ≢ r.coden
     where
       by_case : (o : Option Suite) → slice_get suites e.0.suite ≡ o
           → option_map_or (λ s. keeps_component s e.1.component && keeps_architecture s e.1.architecture) o false ≡ true
-          → option_and_then (λ s. place_named suites s.codename) o ≡ Some e.0.suite
+          → option_and_then (λ s. suite_named suites s.codename) o ≡ Some e.0.suite
       by_case None is h = cc
       by_case (Some s) is h = own_place e.0.suite s is
 
@@ -86,9 +85,9 @@ pub alike_length : (config other : ConfigValue) → AreAlike config other → le
 alike_length config other alike = sym (length-map config.suites without_days) ∙ ap length alike ∙ length-map other.suites without_days
 
 module _ (config other : ConfigValue) (shown : ShelvesValue) (read : config_in config.text ≡ Ok config) (told : AreTold config.suites shown) (alike : AreAlike config other) where
-  same_places : (name : List ℕ) → place_named other.suites name ≡ place_named config.suites name
+  same_places : (name : List ℕ) → suite_named other.suites name ≡ suite_named config.suites name
   same_places name =
-      sym (place_timeless other.suites name) ∙ sym (ap (λ (suites : List Suite). place_named suites name) alike) ∙ place_timeless config.suites name
+      sym (place_timeless other.suites name) ∙ sym (ap (λ (suites : List Suite). suite_named suites name) alike) ∙ place_timeless config.suites name
 
   kept_alike : (e : ShelfKey × Item) → is_kept_by config.suites e ≡ true → is_kept_by other.suites e ≡ true
   kept_alike e kept =

@@ -14,7 +14,7 @@ use Rattle.tables_audit.specs.Parts.{BodiesFit, UploadsFit}
 use Rattle.tables_audit.specs.Whole.{KeepsNone}
 use Rattle.copying.specs.Copying.{AreRising}
 use Rattle.old_book.specs.Old.{HasText, IsOldArchive, KeepsNoOld}
-use Rattle.old_book.specs.Settling.{has_judged, settled, unjudged, unjudged_uploads, with_configuration}
+use Rattle.old_book.specs.Settling.{has_judged, settled, unjudged, unjudged_uploads, with_meta_row}
 use Rattle.old_book.proofs.ConstrainedLemmas.{constrained_renewed, constrained_unjudged}
 use Rattle.old_book.proofs.MetaLemmas.{one_text}
 
@@ -53,12 +53,12 @@ listed_in t uploads items o is some none keys bodies =
 -- ---- as those of an archive of today
 
 pub rows_renewed : (t : Tables) (text : List ℕ) (meta : Numbered Meta) (wants : Numbered Want) → meta ≡ (1, record { version = VERSION; configuration = text }) ∷ []
-    → wants ≡ without (λ w. has_judged t.uploads w.1.upload) t.wants → record t { meta = meta; wants = wants } ≡ with_configuration text (settled t)
+    → wants ≡ without (λ w. has_judged t.uploads w.1.upload) t.wants → record t { meta = meta; wants = wants } ≡ with_meta_row text (settled t)
 rows_renewed t text meta wants m w = λ i. record t { meta = m i; wants = w i }
 
 -- the bodies of an archive are whole
 pub bodies_kept : (t : Tables) (text : List ℕ) (config : ConfigValue) (judged : List Judgement) (shown : ShelvesValue) (dates : List ℕ)
-    → IsBook (with_configuration text (settled t)) config judged shown dates → BodiesFit t
+    → IsBook (with_meta_row text (settled t)) config judged shown dates → BodiesFit t
 unfolding bytes_of is_used
 bodies_kept t text config judged shown dates kept = record { whole = kept.bodies.whole; pieces = kept.bodies.pieces; used = kept.bodies.used }
 
@@ -66,7 +66,7 @@ abbrev first_configuration : List Meta → List ℕ
 first_configuration [] = []
 first_configuration (r ∷ rs) = r.configuration
 
-module _ (t : Tables) (text : List ℕ) (has : HasText t.meta text) (rows : Tables) (is : rows ≡ with_configuration text (settled t)) where
+module _ (t : Tables) (text : List ℕ) (has : HasText t.meta text) (rows : Tables) (is : rows ≡ with_meta_row text (settled t)) where
   pub constrained_rows : AreConstrained t → AreConstrained rows
   constrained_rows keys = subst AreConstrained (sym is) (constrained_renewed t text keys)
 
@@ -75,17 +75,17 @@ module _ (t : Tables) (text : List ℕ) (has : HasText t.meta text) (rows : Tabl
 
   -- an archive of these rows is an old one
   pub old_archive : (config : ConfigValue) (judged : List Judgement) (shown : ShelvesValue) (dates : List ℕ) → AreRising t → UploadsFit (unjudged t) [] → IsBook rows config judged shown dates
-      → IsOldArchive t config judged shown dates × (rows ≡ with_configuration config.text (settled t))
+      → IsOldArchive t config judged shown dates × (rows ≡ with_meta_row config.text (settled t))
   old_archive config judged shown dates up wants here =
-      let kept : IsBook (with_configuration text (settled t)) config judged shown dates = subst (λ r. IsBook r config judged shown dates) is here in
+      let kept : IsBook (with_meta_row text (settled t)) config judged shown dates = subst (λ r. IsBook r config judged shown dates) is here in
       let same : text ≡ config.text = ap first_configuration kept.meta in (
         record {
           text = subst (HasText t.meta) same has;
           rising = up;
           listed = wants;
-          kept = subst (λ x. IsBook (with_configuration x (settled t)) config judged shown dates) same kept;
+          kept = subst (λ x. IsBook (with_meta_row x (settled t)) config judged shown dates) same kept;
         },
-        is ∙ ap (λ x. with_configuration x (settled t)) same,
+        is ∙ ap (λ x. with_meta_row x (settled t)) same,
       )
 
   -- and without one there is no old one
@@ -93,4 +93,4 @@ module _ (t : Tables) (text : List ℕ) (has : HasText t.meta text) (rows : Tabl
   no_old_archive readable none config judged shown dates old =
       let same : config.text ≡ text = one_text t.meta config.text text old.text has in
       none (subst AreReadable (sym is) readable) config judged shown dates
-      (subst (λ r. IsBook r config judged shown dates) (sym is) (subst (λ x. IsBook (with_configuration x (settled t)) config judged shown dates) same old.kept))
+      (subst (λ r. IsBook r config judged shown dates) (sym is) (subst (λ x. IsBook (with_meta_row x (settled t)) config judged shown dates) same old.kept))

@@ -15,7 +15,7 @@ use Rattle.tables.specs.declared.rows.UploadRow.{UploadRow}
 use Rattle.tables.specs.declared.rows.Want.{Want}
 use Rattle.tables_read.specs.All.{AreConstrained, is_body_there, name_and_print}
 use Rattle.copying.specs.Copying.{anew, arrived_at, copied}
-use Rattle.old_book.specs.Settling.{as_unjudged, settled, unjudged, unjudged_uploads, with_configuration}
+use Rattle.old_book.specs.Settling.{as_unjudged, settled, unjudged, unjudged_uploads, with_meta_row}
 
 -- ---- rows numbered anew are the same rows
 
@@ -83,7 +83,7 @@ constrained_unjudged t keys = record {
 rows_left : {X : Type 0} (P : X → Type 0) (p : ℕ × X → _) (xs : Numbered X) → All P (rows_of xs) → All P (rows_of (without p xs))
 rows_left P p xs h = All-map P (λ x. x.1) (without p xs) (All-filter _ (λ x. P x.1) xs (all_unmapped P (λ x. x.1) xs h))
 
-pub constrained_renewed : (t : Tables) (text : List ℕ) → AreConstrained t → AreConstrained (with_configuration text (settled t))
+pub constrained_renewed : (t : Tables) (text : List ℕ) → AreConstrained t → AreConstrained (with_meta_row text (settled t))
 constrained_renewed t text keys = record {
   bodies_apart = keys.bodies_apart;
   pieces_owned = keys.pieces_owned;

@@ -11,7 +11,7 @@ use Rattle.tables_meaning.specs.Kept.{AreReadable, IsBook}
 use Rattle.tables_audit.specs.Parts.{UploadsFit}
 use Rattle.copying.specs.Copying.{AreRising}
 use Rattle.old_rows.specs.Layouts.{AreShown, Asked, ShowsNone, older_layouts}
-use Rattle.old_book.specs.Settling.{settled, unjudged, with_configuration}
+use Rattle.old_book.specs.Settling.{settled, unjudged, with_meta_row}
 use Rattle.old_book.specs.Text.{without_days}
 
 -- the row of meta has a configuration, and this is its text without the fields KeepDays and ValidDays
@@ -32,7 +32,7 @@ pub record IsOldArchive (t : Tables) (config : ConfigValue) (judged : List Judge
   pub text : HasText t.meta config.text
   pub rising : AreRising t
   pub listed : UploadsFit (unjudged t) []
-  pub kept : IsBook (with_configuration config.text (settled t)) config judged shown dates
+  pub kept : IsBook (with_meta_row config.text (settled t)) config judged shown dates
 
 -- rows that keep no old archive
 abbrev pub KeepsNoOld : Tables → Type 0

@@ -29,6 +29,6 @@ judged_ids uploads = map (λ x. x.0) (filter (λ x. has_place x.1) uploads)
 abbrev pub settled : Tables → Tables
 settled t = record t { wants = without (λ w. has_judged t.uploads w.1.upload) t.wants }
 
--- the one row of meta, with another text
-abbrev pub with_configuration : List ℕ → Tables → Tables
-with_configuration text t = record t { meta = (1, record { version = VERSION; configuration = text }) ∷ [] }
+-- the one row of meta is that of this layout with this text
+abbrev pub with_meta_row : List ℕ → Tables → Tables
+with_meta_row text t = record t { meta = (1, record { version = VERSION; configuration = text }) ∷ [] }

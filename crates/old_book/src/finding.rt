@@ -99,13 +99,13 @@ impl OldBook {
     ghost use Rattle.keep.specs.declared.fault.KeepFault.TheVariants.{NoArchive};
     ghost use Rattle.tables.specs.Rows.{Stands, Tables};
     ghost use Rattle.old_book.specs.Old.{IsOldBook};
-    ghost use Rattle.old_book.specs.Settling.{settled, with_configuration};
+    ghost use Rattle.old_book.specs.Settling.{settled, with_meta_row};
 
     /// The book of an archive of an older layout, from its database. The fault is `KeepFault::NoArchive` only where a transaction is begun or
     /// the queries of no older layout show rows that keep one. The database is as before.
     pub fn read<S: Alter>(alloc: Global, from: &mut Connection<S>) -> Result<OldBook, KeepFault>
         ensures read { IfOk result (λ old. HasCleanDisk (state S.Store from.new) → (t : Tables) × IsOldBook (state S.Store from.old).now t old.held.config old.held.judged.items old.held.shelves old.held.dates.items
-            × (tables_with old.rows ≡ with_configuration old.held.config.text (settled t))) }
+            × (tables_with old.rows ≡ with_meta_row old.held.config.text (settled t))) }
         ensures refused { IfErr result (λ e. e ≡ NoArchive → HasCleanDisk (state S.Store from.new) → (from.old.in_transaction ≡ true) ⊎ IsNoOldArchive (state S.Store from.old).now) }
         ensures unchanged { OnCleanDisk S.Store from.old from.new (λ old new. OnOk result (Stands old new)) }
         ensures unchanged_refused { OnCleanDisk S.Store from.old from.new (λ old new. IfErr result (λ e. e ≡ NoArchive → Stands old new)) }

@@ -3,7 +3,7 @@
 ghost use Rattle.std.specs.Prelude.{◌≡◌, ℕ, [], ◌∷◌, List, IfOk, IfSome, None};
 ghost use Rattle.tables_read.specs.All.{tables_with};
 ghost use Rattle.old_book.specs.Old.{HasText, HasTextIn};
-ghost use Rattle.old_book.specs.Settling.{settled, with_configuration};
+ghost use Rattle.old_book.specs.Settling.{settled, with_meta_row};
 
 use crate::settling::settle;
 use crate::without_days::without_days;
@@ -50,7 +50,7 @@ fn meta_with(alloc: Global, text: Vec<u8>) -> Result<Vec<(u64, Meta)>, AllocErro
 
 /// The rows without the wants of judged uploads, and with this text of the configuration.
 pub fn renewed(alloc: Global, mut all: AllRows, text: Vec<u8>) -> Result<AllRows, AllocError>
-    ensures { IfOk result (λ rows. tables_with rows ≡ with_configuration text.items (settled (tables_with all))) }
+    ensures { IfOk result (λ rows. tables_with rows ≡ with_meta_row text.items (settled (tables_with all))) }
 {
     settle(alloc, &all.uploads, &mut all.wants)?;
     all.meta = meta_with(alloc, text)?;

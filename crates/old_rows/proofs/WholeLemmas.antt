@@ -1,12 +1,12 @@
 -- What is shown of each table is shown of all.
 use Rattle.old_rows.specs.Layouts.{Asked, AreShown}
-use Rattle.old_rows.specs.Pairs.{Pairs, tables_in}
+use Rattle.old_rows.specs.Pairs.{ShownPairs, tables_shown}
 use Rattle.old_rows.specs.Shown.{IsShown}
 use Rattle.sqlite.specs.Effect.{Database}
 use Rattle.tables.specs.Rows.{meta_cells, piece_cells, want_cells, ref_cells, file_cells, text_cells, date_cells}
 use Rattle.tables_read.specs.Layouts.{arrival_seen, body_seen, item_seen, upload_seen}
 
-module _ (asked : Asked) (db : Database) (rows : Pairs) where
+module _ (asked : Asked) (db : Database) (rows : ShownPairs) where
   abbrev IsEach : Type 0
   IsEach =
       IsShown meta_cells asked.meta db rows.0.items
@@ -21,5 +21,5 @@ module _ (asked : Asked) (db : Database) (rows : Pairs) where
       × (IsShown text_cells asked.texts db rows.1.1.1.1.1.1.1.1.1.0.items
       × IsShown date_cells asked.dates db rows.1.1.1.1.1.1.1.1.1.1.items)))))))))
 
-  pub all_shown : IsEach → AreShown asked db (tables_in rows)
+  pub all_shown : IsEach → AreShown asked db (tables_shown rows)
   all_shown h = record { meta = h.0; bodies = h.1.0; pieces = h.1.1.0; arrivals = h.1.1.1.0; uploads = h.1.1.1.1.0; wants = h.1.1.1.1.1.0; items = h.1.1.1.1.1.1.0; refs = h.1.1.1.1.1.1.1.0; files = h.1.1.1.1.1.1.1.1.0; texts = h.1.1.1.1.1.1.1.1.1.0; dates = h.1.1.1.1.1.1.1.1.1.1 }

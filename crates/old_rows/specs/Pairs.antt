@@ -1,4 +1,4 @@
--- The rows of all tables, in the pairs in which they are read.
+-- The rows that queries show of all tables, in pairs: those of one table, and those of the tables behind it.
 use Rattle.tables.specs.Rows.{Tables}
 use Rattle.tables.specs.declared.rows.ArrivalRow.{ArrivalRow}
 use Rattle.tables.specs.declared.rows.BodyRow.{BodyRow}
@@ -13,12 +13,12 @@ use Rattle.tables.specs.declared.rows.UploadRow.{UploadRow}
 use Rattle.tables.specs.declared.rows.Want.{Want}
 use Rattle.tables_read.specs.Pairs.{Held}
 
-abbrev pub Pairs : Type 0
-Pairs = Held Meta × (Held BodyRow × (Held Piece × (Held ArrivalRow × (Held UploadRow × (Held Want × (Held ItemRow × (Held Ref × (Held File × (Held TextRow × (Held Date))))))))))
+abbrev pub ShownPairs : Type 0
+ShownPairs = Held Meta × (Held BodyRow × (Held Piece × (Held ArrivalRow × (Held UploadRow × (Held Want × (Held ItemRow × (Held Ref × (Held File × (Held TextRow × (Held Date))))))))))
 
 -- the tables with exactly these rows
-abbrev pub tables_in : Pairs → Tables
-tables_in rows = record {
+abbrev pub tables_shown : ShownPairs → Tables
+tables_shown rows = record {
   meta = rows.0.items;
   bodies = rows.1.0.items;
   pieces = rows.1.1.0.items;

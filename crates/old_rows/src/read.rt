@@ -2,7 +2,7 @@
 
 ghost use Rattle.std.specs.Prelude.{◌≡◌, ◌⊎◌, false, IfOk, IfSome, MatchOption, None, OnErr, OnOk};
 ghost use Rattle.old_rows.specs.Layouts.{Asked as Texts, AreSelects, AreShown, ShowsNone};
-ghost use Rattle.old_rows.specs.Pairs.{tables_in};
+ghost use Rattle.old_rows.specs.Pairs.{tables_shown};
 ghost use Rattle.old_rows.specs.Shown.{IsNotShown, IsShown, Says};
 ghost use Rattle.sqlite.specs.Effect.{Database};
 ghost use Rattle.sqlite.specs.Held.{state};
@@ -94,9 +94,9 @@ type Arrived = (
     ),
 );
 
-/// The rows of the pairs in which they are read.
+/// The rows of the pairs in which queries show them.
 fn all_of(rows: Arrived) -> AllRows
-    ensures { tables_with result ≡ tables_in rows }
+    ensures { tables_with result ≡ tables_shown rows }
 {
     let (meta, (bodies, (pieces, (arrivals, judged)))) = rows;
     let (uploads, (wants, shown)) = judged;

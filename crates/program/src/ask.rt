@@ -8,18 +8,28 @@ use keep::Keeper;
 use queue::Archive;
 use std::io::Write;
 
+/// How an archive is asked.
+#[derive(Clone, Copy)]
+pub struct Manner {
+    /// Whether an upload that a run refuses counts as something that was not taken.
+    pub strict: bool,
+    /// Whether each line that is printed is one of JSON.
+    pub json: bool,
+}
+
 /// Asks an archive, and says whether all that was given was taken.
 fn ask<'a, K: Keeper, W: Write>(
     rt: &HostRuntime,
     archive: &mut Archive<K>,
     opening: Opening<'_>,
     request: &LineRequest<'a>,
+    manner: Manner,
     out: &mut W,
 ) -> Result<bool, Stop<'a>> {
     let (alloc, at) = (rt.alloc(), opening.at);
     match request {
         Request::Put { path } => return print::put_files(rt, archive, opening, path, out),
-        Request::Run => print::run(alloc, archive, at, out)?,
+        Request::Run => return print::run(alloc, archive, at, manner.strict, out),
         Request::Copy { from, to, source } => {
             print::copy(alloc, archive, at, from, to, source, out)?;
         }
@@ -28,8 +38,8 @@ fn ask<'a, K: Keeper, W: Write>(
         }
         Request::Remove { suite, name } => print::remove(alloc, archive, at, suite, name, out)?,
         Request::Clean => print::clean(alloc, archive, at, out)?,
-        Request::Waiting => print::waiting(alloc, archive, at, out)?,
-        Request::Verdicts => print::verdicts(alloc, archive, out)?,
+        Request::Waiting => print::waiting(alloc, archive, at, manner.json, out)?,
+        Request::Verdicts => print::verdicts(alloc, archive, manner.json, out)?,
     }
     Ok(true)
 }
@@ -39,10 +49,11 @@ pub fn ask_file<'a, K: Keeper + Drop, F: InFile<K>, W: Write>(
     rt: &HostRuntime,
     opening: Opening<'_>,
     request: &LineRequest<'a>,
+    manner: Manner,
     out: &mut W,
 ) -> Result<bool, Stop<'a>> {
     let mut archive = open_archive::<K, F>(rt, opening.db)?;
-    let done = ask(rt, &mut archive, opening, request, out);
+    let done = ask(rt, &mut archive, opening, request, manner, out);
     close::<K, F>(archive);
     done
 }
@@ -56,6 +67,20 @@ pub fn show_file<'a, K: Keeper + Drop, F: InFile<K>, W: Write>(
 ) -> Result<(), Stop<'a>> {
     let mut archive = open_archive::<K, F>(rt, db)?;
     let done = print::show(rt.alloc(), &mut archive, path, out);
+    close::<K, F>(archive);
+    done
+}
+
+/// Prints a line for each item that a suite of the archive of a database file shows, or an object of JSON.
+pub fn list_file<'a, K: Keeper + Drop, F: InFile<K>, W: Write>(
+    rt: &HostRuntime,
+    db: &str,
+    suite: &str,
+    json: bool,
+    out: &mut W,
+) -> Result<(), Stop<'a>> {
+    let mut archive = open_archive::<K, F>(rt, db)?;
+    let done = print::list(rt.alloc(), &mut archive, suite, json, out);
     close::<K, F>(archive);
     done
 }

@@ -16,7 +16,7 @@ ghost use Rattle.std.specs.Prelude.{◌≡◌, ◌+◌, nat_le};
 use crate::database::{InFile, Opening, close, is_of_database, open_archive};
 use crate::fault::Stop;
 use crate::files::{body_of, file_name, read_of};
-use crate::print::{print_arrived, print_report};
+use crate::print::{has_refused, print_arrived, print_report};
 use crate::shown::Shown;
 use command_line::{ListRequest, Request, read_list};
 use keep::Keeper;
@@ -32,6 +32,8 @@ const MOST_BYTES: u64 = 16_777_216;
 /// Deliveries that are made by one call, or one other command, and their lines of the list.
 #[derive(Drop)]
 struct Group<'l> {
+    /// Whether a run that refuses an upload counts as not done.
+    is_strict: bool,
     requests: Vec<ListRequest<'l>>,
     commands: Vec<Command>,
     /// How many bytes the bodies have.
@@ -60,8 +62,9 @@ fn is_delivery(request: &ListRequest<'_>) -> bool {
 
 impl<'l> Group<'l> {
     /// A group without commands.
-    fn new(alloc: Global) -> Group<'l> {
+    fn new(alloc: Global, is_strict: bool) -> Group<'l> {
         Group {
+            is_strict,
             requests: Vec::new(alloc),
             commands: Vec::new(alloc),
             bytes: 0,
@@ -237,6 +240,20 @@ fn print_lines<'a, W: Write>(
     }
 }
 
+/// Prints the lines that a run answers, and says whether it was done: where it is strict, also whether no upload was refused.
+fn print_run<'a, W: Write>(
+    done: &Result<Report, Fault>,
+    request: &ListRequest<'_>,
+    is_strict: bool,
+    out: &mut W,
+) -> Result<bool, Stop<'a>> {
+    let is_done = print_lines(done, request, out)?;
+    match done {
+        Ok(report) if is_strict => Ok(is_done && !has_refused(report)),
+        _ => Ok(is_done),
+    }
+}
+
 /// Prints `COUNT SOURCE` for each source of a promotion, and says whether it was done.
 fn print_promotion<'a, W: Write>(
     done: &Result<Promotion, Fault>,
@@ -281,13 +298,13 @@ fn print_count<'a, W: Write>(
 fn print_outcome<'a, W: Write>(
     outcome: &Outcome,
     request: &ListRequest<'_>,
+    is_strict: bool,
     out: &mut W,
 ) -> Result<bool, Stop<'a>> {
     match outcome {
         Outcome::Deliver(done) => print_arrived(*done, name_of(request), out),
-        Outcome::Run(done) | Outcome::Waiting(done) | Outcome::Verdicts(done) => {
-            print_lines(done, request, out)
-        }
+        Outcome::Run(done) => print_run(done, request, is_strict, out),
+        Outcome::Waiting(done) | Outcome::Verdicts(done) => print_lines(done, request, out),
         Outcome::Copy(done) | Outcome::Remove(done) | Outcome::Clean(done) => {
             print_count(done, request, out)
         }
@@ -301,11 +318,12 @@ fn print_outcome<'a, W: Write>(
 fn print_outcomes<'a, W: Write>(
     outcomes: &[Outcome],
     requests: &[ListRequest<'_>],
+    is_strict: bool,
     out: &mut W,
 ) -> Result<bool, Stop<'a>> {
     let mut all = true;
     for (outcome, request) in outcomes.iter().zip(requests) {
-        if !print_outcome(outcome, request, out)? {
+        if !print_outcome(outcome, request, is_strict, out)? {
             all = false;
         }
     }
@@ -321,7 +339,7 @@ fn make_group<'a, K: Keeper, W: Write>(
     out: &mut W,
 ) -> Result<bool, Stop<'a>> {
     let outcomes = archive.drive(alloc, &group.commands)?;
-    let printed = print_outcomes(&outcomes, &group.requests, out);
+    let printed = print_outcomes(&outcomes, &group.requests, group.is_strict, out);
     group.clear();
     out.flush()?;
     printed
@@ -361,11 +379,12 @@ fn make_lines<'a, R: Files + AllocGlobal, K: Keeper, W: Write, E: Write>(
     archive: &mut Archive<K>,
     opening: Opening<'_>,
     requests: &[ListRequest<'_>],
+    is_strict: bool,
     out: &mut W,
     err: &mut E,
 ) -> Result<bool, Stop<'a>> {
     let mut all = true;
-    let mut group = Group::new(rt.alloc());
+    let mut group = Group::new(rt.alloc(), is_strict);
     for request in requests {
         if !take_line(rt, archive, opening, request, &mut group, out, err)? {
             all = false;
@@ -376,19 +395,20 @@ fn make_lines<'a, R: Files + AllocGlobal, K: Keeper, W: Write, E: Write>(
 }
 
 /// Reads a list of commands, and makes them all at one moment, over one opening of the archive of a database file. It prints what each
-/// answers, in the order of the list, and says whether all were done. The whole list is read before the database is opened: one with a
-/// bad line ends the program before anything is done.
+/// answers, in the order of the list, and says whether all were done; where it is strict, also whether no run refused an upload. The whole
+/// list is read before the database is opened: one with a bad line ends the program before anything is done.
 pub fn batch_file<'a, K: Keeper + Drop, F: InFile<K>, W: Write, E: Write>(
     rt: &HostRuntime,
     opening: Opening<'_>,
     list: &'a str,
+    is_strict: bool,
     out: &mut W,
     err: &mut E,
 ) -> Result<bool, Stop<'a>> {
     let text = read_of(list_at(rt, list), list)?;
     let requests = read_list(rt.alloc(), &text)?;
     let mut archive = open_archive::<K, F>(rt, opening.db)?;
-    let done = make_lines(rt, &mut archive, opening, &requests, out, err);
+    let done = make_lines(rt, &mut archive, opening, &requests, is_strict, out, err);
     close::<K, F>(archive);
     done
 }

@@ -1,12 +1,15 @@
-//! The commands that read a configuration: they make an archive, or give it another.
+//! The commands that read a configuration: they make an archive, give it another, or say what it says.
 
 use crate::database::{InFile, close, create_archive, migrate_archive, open_archive};
 use crate::fault::Stop;
 use crate::files::body_of;
 use crate::print;
+use checking::{check_lines, unknown_fields};
 use keep::{Keeper, LATEST};
 use queue::Fault;
 use rules::Config;
+use std::io::Write;
+use std::rt::Files;
 
 /// Makes an archive in a database file at a moment, in seconds since 1970-01-01 00:00:00 UTC, with the configuration of
 /// a file.
@@ -21,6 +24,20 @@ pub fn init<'a, K: Keeper + Drop, F: InFile<K>>(
     let archive = create_archive::<K, F>(rt, db, config, at)?;
     close::<K, F>(archive);
     Ok(())
+}
+
+/// Prints what the configuration of a file says, and which of its fields are passed over. It says whether none is.
+pub fn check<'a, R: Files + AllocGlobal, W: Write>(
+    rt: &R,
+    conf: &'a str,
+    out: &mut W,
+) -> Result<bool, Stop<'a>> {
+    let text = body_of(rt, conf)?;
+    let config = Config::read(rt.alloc(), &text)?;
+    let passed_over = unknown_fields(rt.alloc(), &text)?;
+    let lines = check_lines(rt.alloc(), &config, &passed_over)?;
+    print::print_lines(&lines, out)?;
+    Ok(passed_over.is_empty())
 }
 
 /// Gives the archive of a database file another configuration, that of a file, at a moment, in seconds since 1970-01-01 00:00:00 UTC. It

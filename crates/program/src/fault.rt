@@ -3,6 +3,7 @@
 use crate::database::OpenFault;
 use crate::shown::Shown;
 use command_line::BatchFault;
+use exporting::ExportFault;
 use keep::KeepFault;
 use queue::Fault;
 use rules::ConfigFault;
@@ -39,6 +40,9 @@ pub enum Stop<'a> {
     NotFound,
     #[error("archive: {0}")]
     NoVersion(VersionFault),
+    /// A path below the folder of an export can't be written.
+    #[error("archive: {0}")]
+    Unplaced(ExportFault),
     /// The address can't be used, or a connection can't be accepted.
     #[error("archive: cannot listen")]
     CannotListen,
@@ -93,6 +97,17 @@ impl From<VersionFault> for Stop<'_> {
     }
 }
 
+impl From<ExportFault> for Stop<'_> {
+    fn from(fault: ExportFault) -> Self {
+        match fault {
+            ExportFault::Archive(fault) => Stop::Refused(fault),
+            ExportFault::Unwritten => Stop::Unwritten,
+            ExportFault::OutOfMemory => Stop::Refused(Fault::OutOfMemory),
+            place => Stop::Unplaced(place),
+        }
+    }
+}
+
 impl From<BatchFault> for Stop<'_> {
     fn from(fault: BatchFault) -> Self {
         match fault {
@@ -110,8 +125,8 @@ impl From<io::Error> for Stop<'_> {
 
 impl Stop<'_> {
     /// The exit status: 1 where something is refused or can't be read, 2 for a list with a bad line, 3 for want of memory,
-    /// a disk that fails, a size that is too large, an address that can't be used, an archive that can't be served on, or
-    /// an output that fails.
+    /// a disk that fails, a size that is too large, an address that can't be used, an archive that can't be served on, a path
+    /// that can't be written, or an output that fails.
     pub fn status(&self) -> u8 {
         match self {
             Stop::Unreadable(_) | Stop::NotFound => 1,
@@ -126,7 +141,8 @@ impl Stop<'_> {
             Stop::NoConfig(_) => 1,
             Stop::NoVersion(VersionFault::OutOfMemory) => 3,
             Stop::NoVersion(_) => 1,
-            Stop::CannotListen | Stop::Shut(_) | Stop::Lost(_) | Stop::Unwritten => 3,
+            Stop::CannotListen | Stop::Shut(_) | Stop::Lost(_) => 3,
+            Stop::Unplaced(_) | Stop::Unwritten => 3,
         }
     }
 }

@@ -1,14 +1,16 @@
 //! What the program does for a line.
 
-use crate::ask::{ask_file, configuration_file, show_file};
+use crate::ask::{Manner, ask_file, configuration_file, list_file, show_file};
 use crate::batch::batch_file;
-use crate::configured::{configure, init, migrate};
+use crate::configured::{check, configure, init, migrate};
 use crate::database::{InFile, Opening};
+use crate::export::export_file;
 use crate::fault::Stop;
 use crate::files::{body_of, file_name};
 use crate::serving_file::serve_file;
 use crate::shown::Shown;
 use command_line::{CommandLine, LineFault, line};
+use exporting::Export;
 use keep::{Keeper, PlainKeeper};
 use queue::{Archive, Fault};
 use rules::Config;
@@ -98,7 +100,7 @@ fn compare<'a, W: Write>(
     Ok(())
 }
 
-/// Does a line over keepers of this type, and says whether all that was given was taken.
+/// Does a line over keepers of this type, and says whether all that was given was taken, and nothing passed over.
 fn done<'a, K: Keeper + Drop, F: InFile<K>, W: Write, E: Write>(
     rt: &HostRuntime,
     line: &CommandLine<'a>,
@@ -109,16 +111,50 @@ fn done<'a, K: Keeper + Drop, F: InFile<K>, W: Write, E: Write>(
         CommandLine::Try { paths } => try_upload(rt, paths, out)?,
         CommandLine::Compare { left, right } => compare(rt.alloc(), left, right, out)?,
         CommandLine::Init { db, at, conf } => init::<K, F>(rt, db, *at, conf)?,
-        CommandLine::Ask { db, at, request } => {
-            return ask_file::<K, F, W>(rt, Opening { db, at: *at }, request, out);
+        CommandLine::Check { conf } => return check(rt, conf, out),
+        CommandLine::Ask {
+            db,
+            at,
+            request,
+            strict,
+            json,
+        } => {
+            let manner = Manner {
+                strict: *strict,
+                json: *json,
+            };
+            return ask_file::<K, F, W>(rt, Opening { db, at: *at }, request, manner, out);
         }
-        CommandLine::Batch { db, at, list } => {
-            return batch_file::<K, F, W, E>(rt, Opening { db, at: *at }, list, out, err);
+        CommandLine::Batch {
+            db,
+            at,
+            list,
+            strict,
+        } => {
+            return batch_file::<K, F, W, E>(rt, Opening { db, at: *at }, list, *strict, out, err);
         }
         CommandLine::Configure { db, at, conf } => configure::<K, F>(rt, db, *at, conf)?,
         CommandLine::Migrate { from, db, at, conf } => migrate::<K, F>(rt, from, db, *at, conf)?,
         CommandLine::Show { db, path } => show_file::<K, F, W>(rt, db, path, out)?,
+        CommandLine::List { db, suite, json } => {
+            list_file::<K, F, W>(rt, db, suite, *json, out)?;
+        }
         CommandLine::Configuration { db } => configuration_file::<K, F, W>(rt, db, out)?,
+        CommandLine::Export {
+            db,
+            at,
+            dir,
+            signed,
+            by_hash,
+        } => {
+            let asked = Export {
+                folder: dir,
+                at: at.unwrap_or(0),
+                signed: *signed,
+                by_hash: *by_hash,
+            };
+            export_file::<K, F, W>(rt, db, &asked, out)?;
+        }
         CommandLine::Serve { db, serving } => serve_file::<K, F, E>(rt, db, *serving, err)?,
     }
     Ok(true)
@@ -137,10 +173,10 @@ fn finished<'a, K: Keeper + Drop, F: InFile<K>, W: Write, E: Write>(
 }
 
 /// Does a line over keepers of this type, which `F` opens and makes, and answers the exit status: 0 where it is done; 1 where
-/// something is refused or a file can't be read; 2 where a list has a bad line; 3 where memory runs out, a disk fails or is full,
-/// the address can't be used, or an output fails. What was refused is a line on `err`, or two where the archive is of another layout, but
-/// for the files of a `put` and the commands of a list, which have their lines on `out`; where an output fails nothing more is printed.
-/// The log of a `serve` is on `err` too.
+/// something is refused, a field of a configuration is passed over or a file can't be read; 2 where a list has a bad line; 3 where memory
+/// runs out, a disk fails or is full, the address can't be used, a path can't be written, or an output fails. What was refused is a line on
+/// `err`, or two where the archive is of another layout, but for the files of a `put`, the uploads of a run and the commands of a list, which
+/// have their lines on `out`; where an output fails nothing more is printed. The log of a `serve` is on `err` too.
 pub fn act<K: Keeper + Drop, F: InFile<K>, W: Write, E: Write>(
     rt: &HostRuntime,
     line: &CommandLine<'_>,

@@ -124,15 +124,25 @@ impl<'l, E: Write> Log<'l, E> {
         is_told
     }
 
-    /// Writes the line of a connection. One that there is no memory for, or that can't be written at once, is left out, and before the next
-    /// that is written stands how many were.
-    pub fn write_line(&mut self, alloc: Global, ended: &Ended<'_>) {
-        let is_written = match line_of(alloc, ended) {
+    /// Writes a line, if there is memory for it. One that is not written is left out, and counted.
+    fn write(&mut self, alloc: Global, line: Result<String, AllocError>) {
+        let is_written = match line {
             Ok(line) => self.has_told(alloc) && self.is_taken(line.as_bytes()),
             Err(_) => false,
         };
         if !is_written {
             self.left_out = self.left_out.saturating_add(1);
         }
+    }
+
+    /// Writes the line of a connection. One that there is no memory for, or that can't be written at once, is left out, and before the next
+    /// that is written stands how many were.
+    pub fn write_line(&mut self, alloc: Global, ended: &Ended<'_>) {
+        self.write(alloc, line_of(alloc, ended));
+    }
+
+    /// Writes a text as a line, in the same way.
+    pub fn write_text(&mut self, alloc: Global, text: &str) {
+        self.write(alloc, format!(in alloc; "{text}\n"));
     }
 }

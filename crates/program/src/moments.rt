@@ -55,6 +55,13 @@ impl<'p> Moments<'p> {
         }
     }
 
+    /// The moment of the last connection.
+    pub fn last(&self) -> u64
+        ensures { result ≡ self.now.greatest }
+    {
+        self.greatest
+    }
+
     /// The moment of the next connection. A file that can't be read, that holds no moment or that is no regular file changes nothing.
     pub fn next<R: Files + AllocGlobal>(&mut self, rt: &R) -> u64
         ensures is { result ≡ self.new.greatest }

@@ -1,32 +1,50 @@
 //! What the program prints of an archive, over any keeper.
 
-ghost use Rattle.std.specs.Prelude.{◌≡◌, ◌≤◌, true, false, OnOk, OnErr, IfErr};
+ghost use Rattle.std.specs.Prelude.{◌≡◌, ◌≤◌, true, false, OnOk, OnErr, IfErr, IfOk, Some};
 ghost use Rattle.std.specs.Io.KnownBytes.{Appends};
 ghost use Rattle.keep.specs.Book.{latest};
 ghost use Rattle.keep.specs.Configured.{configured, keeps_shown};
 ghost use Rattle.keep.specs.declared.fault.KeepFault.TheVariants.{Configuration as NotKept};
 ghost use Rattle.queue.specs.Configuring.{Endures, LeavesConfigured};
-ghost use Rattle.queue.specs.Steps.{IsUndone};
+ghost use Rattle.queue.specs.Steps.{IsUndone, Reads};
+ghost use Rattle.rules.specs.Suites.{suite_named};
 ghost use Rattle.program.specs.declared.fault.Stop.TheVariants.{NoArchive};
 
 use crate::database::{Opening, is_of_database, length_of};
 use crate::fault::Stop;
 use crate::files::{body_of, file_name, opened};
 use crate::shown::Shown;
-use keep::Keeper;
+use keep::{Keeper, LATEST};
+use listing::{shown_json, shown_lines, verdict_json, waiting_json};
 use queue::{Archive, Arrived, Fault, Promotion, Report};
 use rules::Config;
 use std::alloc::{AllocError, Global};
 use std::io::{self, Write};
 use std::rt::Files;
+use suites::Shelves;
 
-/// Prints the lines of a report, as they are shown.
-pub fn print_report<W: Write>(report: &Report, out: &mut W) -> io::Result<()> {
-    for line in &report.lines {
+/// Prints lines, as they are shown.
+pub fn print_lines<W: Write>(lines: &[String], out: &mut W) -> io::Result<()> {
+    for line in lines {
         let line = Shown(line);
         writeln!(out, "{line}")?;
     }
     Ok(())
+}
+
+/// Prints the lines of a report, as they are shown.
+pub fn print_report<W: Write>(report: &Report, out: &mut W) -> io::Result<()> {
+    print_lines(&report.lines, out)
+}
+
+/// Whether the report of a run says of an upload that it is refused.
+pub fn has_refused(report: &Report) -> bool {
+    for line in &report.lines {
+        if line.starts_with("refused ") {
+            return true;
+        }
+    }
+    false
 }
 
 /// Prints `new NAME`, `again NAME` or `refused FAULT NAME`, with the name as it is shown, and says whether a delivery was taken. Want
@@ -93,16 +111,18 @@ pub fn put_files<'a, R: Files + AllocGlobal, K: Keeper, W: Write>(
     Ok(all)
 }
 
-/// Runs the queue at a moment, and prints the lines of the report.
+/// Runs the queue at a moment, and prints the lines of the report. It says whether all uploads were taken that count: where it is strict,
+/// those that the run judged.
 pub fn run<'a, K: Keeper, W: Write>(
     alloc: Global,
     archive: &mut Archive<K>,
     at: u64,
+    strict: bool,
     out: &mut W,
-) -> Result<(), Stop<'a>> {
+) -> Result<bool, Stop<'a>> {
     let report = archive.run(alloc, at)?;
     print_report(&report, out)?;
-    Ok(())
+    Ok(!strict || !has_refused(&report))
 }
 
 /// Whether each source of a promotion was shown.
@@ -210,26 +230,90 @@ pub fn show<'a, K: Keeper, W: Write>(
     }
 }
 
-/// Prints a line for each upload that has no verdict.
+/// An object of JSON for each upload that has no verdict, of what counts at a moment.
+fn waiting_objects<K: Keeper>(
+    alloc: Global,
+    archive: &mut Archive<K>,
+    at: u64,
+) -> Result<Vec<String>, Fault> {
+    if at > LATEST {
+        return Err(Fault::Moment);
+    }
+    let uploads = archive.keeper.waiting(alloc, at)?;
+    Ok(waiting_json(alloc, &uploads)?)
+}
+
+/// Prints a line for each upload that has no verdict, or an object of JSON.
 pub fn waiting<'a, K: Keeper, W: Write>(
     alloc: Global,
     archive: &mut Archive<K>,
     at: u64,
+    json: bool,
     out: &mut W,
 ) -> Result<(), Stop<'a>> {
-    let report = archive.waiting(alloc, at)?;
-    print_report(&report, out)?;
+    if json {
+        print_lines(&waiting_objects(alloc, archive, at)?, out)?;
+    } else {
+        print_report(&archive.waiting(alloc, at)?, out)?;
+    }
     Ok(())
 }
 
-/// Prints the lines of all runs.
+/// An object of JSON for each upload that runs have judged.
+fn verdict_objects<K: Keeper>(
+    alloc: Global,
+    archive: &mut Archive<K>,
+) -> Result<Vec<String>, Fault> {
+    let judged = archive.keeper.verdicts(alloc)?;
+    Ok(verdict_json(alloc, &judged)?)
+}
+
+/// Prints the lines of all runs, or an object of JSON for each upload that they judged.
 pub fn verdicts<'a, K: Keeper, W: Write>(
     alloc: Global,
     archive: &mut Archive<K>,
+    json: bool,
     out: &mut W,
 ) -> Result<(), Stop<'a>> {
-    let report = archive.verdicts(alloc)?;
-    print_report(&report, out)?;
+    if json {
+        print_lines(&verdict_objects(alloc, archive)?, out)?;
+    } else {
+        print_report(&archive.verdicts(alloc)?, out)?;
+    }
+    Ok(())
+}
+
+/// What a suite shows, by its codename, and its position in the configuration. Refused for a codename that no suite has.
+fn shelves_of<K: Keeper>(
+    alloc: Global,
+    archive: &mut Archive<K>,
+    suite: &str,
+) -> Result<(usize, Shelves), Fault>
+    ensures reads { Reads K.Keeper archive.old.keeper archive.new.keeper }
+    ensures place { IfOk result (λ found. suite_named (K.book archive.old.keeper).config.suites suite.now ≡ Some found.0) }
+    ensures shelves { K.is_clean archive.new.keeper → IfOk result (λ found. found.1 ≡ (K.book archive.old.keeper).shown) }
+{
+    let Some(place) = archive.keeper.config().suite_named(suite) else {
+        return Err(Fault::UnknownSuite);
+    };
+    let shelves = archive.keeper.shelves(alloc)?;
+    Ok((place, shelves))
+}
+
+/// Prints a line for each item that a suite shows, by its codename, or an object of JSON. Refused for a codename that no suite has.
+pub fn list<'a, K: Keeper, W: Write>(
+    alloc: Global,
+    archive: &mut Archive<K>,
+    suite: &str,
+    json: bool,
+    out: &mut W,
+) -> Result<(), Stop<'a>> {
+    let (place, shelves) = shelves_of(alloc, archive, suite)?;
+    if json {
+        print_lines(&shown_json(alloc, &shelves, place)?, out)?;
+    } else {
+        print_lines(&shown_lines(alloc, &shelves, place)?, out)?;
+    }
     Ok(())
 }
 

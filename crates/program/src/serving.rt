@@ -20,6 +20,7 @@ use crate::client::{Client, FirstLine, FromClient, Patience, ToClient};
 use crate::fault::Stop;
 use crate::log::{Ended, Log};
 use crate::moments::Moments;
+use crate::notes::Notes;
 use desk::{Connection, Desk, DeskFault, Served, attend};
 use http::StatusCode;
 use keep::{KeepFault, Keeper};
@@ -85,7 +86,8 @@ pub fn serve<'a, R: Clock + Files + AllocGlobal, K: Keeper>(
 {
     keep_room(rt.alloc());
     let mut moments = Moments::new(moment, None);
-    let mut no_log: Option<Log<'_, Vec<u8>>> = None;
+    let mut unread = Vec::<u8>::new(rt.alloc());
+    let mut notes = Notes::new(Log::new(&mut unread, None), false);
     serve_at(
         rt,
         archive,
@@ -93,11 +95,11 @@ pub fn serve<'a, R: Clock + Files + AllocGlobal, K: Keeper>(
         count,
         &mut moments,
         patience(),
-        &mut no_log,
+        &mut notes,
     )
 }
 
-/// The same, at the moments, with a line of the log for each connection where there is one.
+/// The same, at the moments, with notes of each connection.
 pub fn serve_at<'a, R: Clock + Files + AllocGlobal, K: Keeper, E: Write>(
     rt: &R,
     archive: &mut Archive<K>,
@@ -105,7 +107,7 @@ pub fn serve_at<'a, R: Clock + Files + AllocGlobal, K: Keeper, E: Write>(
     count: u64,
     moments: &mut Moments<'_>,
     patience: Patience,
-    log: &mut Option<Log<'_, E>>,
+    notes: &mut Notes<'_, E>,
 ) -> Result<(), Stop<'a>>
     // Each moment is one that they have now or had on the way.
     ensures served { HasServed K.Keeper count (IsClientsWithin moments.old.greatest moments.new.greatest) archive.old.keeper archive.new.keeper }
@@ -125,7 +127,7 @@ pub fn serve_at<'a, R: Clock + Files + AllocGlobal, K: Keeper, E: Write>(
                     moment,
                     patience,
                 };
-                if leaves_shut(&visit, archive, log) {
+                if leaves_shut(&visit, archive, notes) {
                     return Err(Stop::Shut(count - served - 1));
                 }
             }
@@ -173,11 +175,11 @@ fn accepted<R: Clock>(rt: &R, listener: &TcpListener) -> io::Result<TcpStream> {
 fn leaves_shut<R: Clock + AllocGlobal, K: Keeper, E: Write>(
     visit: &Visit<'_, R>,
     archive: &mut Archive<K>,
-    log: &mut Option<Log<'_, E>>,
+    notes: &mut Notes<'_, E>,
 ) -> bool
     ensures served { HasServed K.Keeper 1 (IsClientsWithin visit.now.moment visit.now.moment) archive.old.keeper archive.new.keeper }
 {
-    let end = answer_client(visit, archive, log);
+    let end = answer_client(visit, archive, notes);
     if !is_insufficient_storage(&end) {
         return false;
     }
@@ -207,11 +209,11 @@ fn is_shut<K: Keeper>(alloc: Global, archive: &mut Archive<K>) -> bool
     )
 }
 
-/// Answers one connection, lets its client read the reply, and writes its line.
+/// Answers one connection, lets its client read the reply, and notes it.
 fn answer_client<R: Clock + AllocGlobal, K: Keeper, E: Write>(
     visit: &Visit<'_, R>,
     archive: &mut Archive<K>,
-    log: &mut Option<Log<'_, E>>,
+    notes: &mut Notes<'_, E>,
 ) -> io::Result<Result<Served, DeskFault>>
     ensures served { HasServed K.Keeper 1 (IsClientsWithin visit.now.moment visit.now.moment) archive.old.keeper archive.new.keeper }
 {
@@ -228,7 +230,8 @@ fn answer_client<R: Clock + AllocGlobal, K: Keeper, E: Write>(
     if let Ok(Served::Status(_)) = end {
         let _ = part(&client);
     }
-    if let Some(log) = log {
+    notes.note_line(line.as_bytes());
+    if notes.is_logged() {
         let ended = Ended {
             moment: visit.moment,
             line: line.as_bytes(),
@@ -236,7 +239,7 @@ fn answer_client<R: Clock + AllocGlobal, K: Keeper, E: Write>(
             sent: sent.get(),
             lasted: client.accepted.elapsed(rt)?,
         };
-        log.write_line(rt.alloc(), &ended);
+        notes.write_line(rt.alloc(), &ended);
     }
     Ok(end)
 }

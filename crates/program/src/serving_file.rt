@@ -4,6 +4,9 @@
 //! then opened again, and the rest of the connections is answered from what is in the file: the book before the failed call, or with it. A
 //! full disk shuts no keeper.
 //!
+//! With a folder to export to, connections are served one by one, and the folder is exported to behind each that had a POST, before the next
+//! is accepted: a reply does not wait for it. It is a look at each suite's Release where nothing changed.
+//!
 //! The listener is made before the archive is opened, and ends last, so that clients wait in the system's queue meanwhile. If both fail,
 //! the fault of the database is reported. A `Desk` is made after each opening. If there is no memory for it, `serve` ends with Q0 and
 //! status 3, before a connection is accepted.
@@ -14,8 +17,10 @@ use crate::database::{InFile, close, open_archive};
 use crate::fault::Stop;
 use crate::log::Log;
 use crate::moments::Moments;
+use crate::notes::Notes;
 use crate::serving::{keep_room, patience, serve_at};
 use command_line::Serving;
+use exporting::Export;
 use keep::Keeper;
 use queue::Archive;
 use std::io::{self, Write};
@@ -29,14 +34,66 @@ fn serve_listener<'a, K: Keeper, E: Write>(
     listener: &io::Result<TcpListener>,
     left: u64,
     moments: &mut Moments<'_>,
-    log: &mut Option<Log<'_, E>>,
+    notes: &mut Notes<'_, E>,
 ) -> Result<(), Stop<'a>>
     ensures served { HasServed K.Keeper left (IsClientsWithin moments.old.greatest moments.new.greatest) archive.old.keeper archive.new.keeper }
 {
     match listener {
-        Ok(listener) => serve_at(rt, archive, listener, left, moments, patience(), log),
+        Ok(listener) => serve_at(rt, archive, listener, left, moments, patience(), notes),
         Err(_) => Err(Stop::CannotListen),
     }
+}
+
+/// A folder that is exported to, and whether a suite is shown there only once its new state is signed.
+#[derive(Clone, Copy)]
+struct Tree<'t> {
+    folder: &'t str,
+    is_signed: bool,
+}
+
+/// Exports into a folder, as of a moment. An export that fails has a line among the notes, and ends nothing.
+fn export_to<K: Keeper, E: Write>(
+    rt: &HostRuntime,
+    archive: &mut Archive<K>,
+    tree: Tree<'_>,
+    at: u64,
+    notes: &mut Notes<'_, E>,
+) {
+    let asked = Export {
+        folder: tree.folder,
+        at,
+        signed: tree.is_signed,
+        by_hash: false,
+    };
+    if let Err(fault) = exporting::export(rt, archive, &asked, &mut io::sink()) {
+        let stop = Stop::from(fault);
+        if let Ok(line) = format!(in rt.alloc(); "{stop}") {
+            notes.write_text(rt.alloc(), &line);
+        }
+    }
+}
+
+/// Serves so many connections of a listener, one by one, and exports behind each that had a POST.
+fn serve_and_export<'a, K: Keeper, E: Write>(
+    rt: &HostRuntime,
+    archive: &mut Archive<K>,
+    listener: &io::Result<TcpListener>,
+    left: u64,
+    moments: &mut Moments<'_>,
+    tree: Tree<'_>,
+    notes: &mut Notes<'_, E>,
+) -> Result<(), Stop<'a>> {
+    for served in 0..left {
+        match serve_listener(rt, archive, listener, 1, moments, notes) {
+            Ok(()) => {}
+            Err(Stop::Shut(_)) => return Err(Stop::Shut(left - served - 1)),
+            Err(stop) => return Err(stop),
+        }
+        if notes.takes_post() {
+            export_to(rt, archive, tree, moments.last(), notes);
+        }
+    }
+    Ok(())
 }
 
 /// Opens the archive of a database file and serves so many connections. Answers how many are left where its keeper is shut
@@ -47,10 +104,14 @@ fn serve_some<'a, K: Keeper + Drop, F: InFile<K>, E: Write>(
     listener: &io::Result<TcpListener>,
     left: u64,
     moments: &mut Moments<'_>,
-    log: &mut Option<Log<'_, E>>,
+    tree: Option<Tree<'_>>,
+    notes: &mut Notes<'_, E>,
 ) -> Result<u64, Stop<'a>> {
     let mut archive = open_archive::<K, F>(rt, db)?;
-    let served = serve_listener(rt, &mut archive, listener, left, moments, log);
+    let served = match tree {
+        Some(tree) => serve_and_export(rt, &mut archive, listener, left, moments, tree, notes),
+        None => serve_listener(rt, &mut archive, listener, left, moments, notes),
+    };
     close::<K, F>(archive);
     match served {
         Ok(()) => Ok(0),
@@ -67,13 +128,22 @@ fn again<'a>(stop: Stop<'a>) -> Stop<'a> {
     }
 }
 
-/// The log, where one is wanted, on an output that is standard error.
-fn log_on<'l, E: Write>(rt: &HostRuntime, is_wanted: bool, err: &'l mut E) -> Option<Log<'l, E>> {
-    if !is_wanted {
-        return None;
-    }
+/// Notes on an output that is standard error.
+fn notes_on<'l, E: Write>(rt: &HostRuntime, is_logged: bool, err: &'l mut E) -> Notes<'l, E> {
     let stderr = rt.stderr();
-    Some(Log::new(err, stderr.as_fd().try_clone_to_owned().ok()))
+    let log = Log::new(err, stderr.as_fd().try_clone_to_owned().ok());
+    Notes::new(log, is_logged)
+}
+
+/// The folder that a serving exports to, if it does.
+fn tree_of<'t>(serving: &Serving<'t>) -> Option<Tree<'t>> {
+    match serving.export {
+        Some(folder) => Some(Tree {
+            folder,
+            is_signed: serving.signed,
+        }),
+        None => None,
+    }
 }
 
 /// Serves the archive of a database file. The listener is made before the file is opened, so that clients wait meanwhile, and
@@ -88,13 +158,30 @@ pub fn serve_file<'a, K: Keeper + Drop, F: InFile<K>, E: Write>(
     keep_room(rt.alloc());
     let listener = TcpListener::bind(rt, serving.address);
     let mut moments = Moments::new(serving.at, serving.moments);
-    let mut log = log_on(rt, serving.log, err);
-    let mut left = serve_some::<K, F, E>(rt, db, &listener, serving.count, &mut moments, &mut log)?;
+    let tree = tree_of(&serving);
+    let mut notes = notes_on(rt, serving.log, err);
+    let mut left = serve_some::<K, F, E>(
+        rt,
+        db,
+        &listener,
+        serving.count,
+        &mut moments,
+        tree,
+        &mut notes,
+    )?;
     for _ in 1..serving.count {
         if left == 0 {
             break;
         }
-        left = match serve_some::<K, F, E>(rt, db, &listener, left, &mut moments, &mut log) {
+        left = match serve_some::<K, F, E>(
+            rt,
+            db,
+            &listener,
+            left,
+            &mut moments,
+            tree,
+            &mut notes,
+        ) {
             Ok(left) => left,
             Err(stop) => return Err(again(stop)),
         };

@@ -1,8 +1,8 @@
 //! The commands that follow the making or the opening of an archive.
 
 ghost use Rattle.std.specs.Prelude.{◌≡◌, IfOk, OnErr, map};
-ghost use Rattle.queue.specs.Commands.{call_of, kind_of_command, kind_of_outcome, outcome_of};
-ghost use Rattle.queue.specs.Steps.{DoesAll, IsServedLast, Lasts, LeavesRun};
+ghost use Rattle.queue.specs.Commands.{AreOfKinds, call_of, outcome_of};
+ghost use Rattle.queue.specs.Steps.{DoesAll, IsOpenBehind, Lasts, LeavesRun};
 
 use keep::Keeper;
 use queue::{Archive, Command, Outcome};
@@ -16,8 +16,8 @@ pub fn make_commands<K: Keeper>(
     commands: &[Command],
 ) -> (Archive<K>, Result<Vec<Outcome>, AllocError>)
     ensures lasts { Lasts K.Keeper archive.keeper result.0.keeper }
-    ensures kinds { IfOk result.1 (λ outcomes. map kind_of_outcome outcomes.items ≡ map kind_of_command commands.now) }
-    ensures served { IfOk result.1 (λ outcomes. IsServedLast K.Keeper result.0.keeper (map outcome_of outcomes.items)) }
+    ensures kinds { IfOk result.1 (AreOfKinds commands.now) }
+    ensures served { IfOk result.1 (IsOpenBehind K.Keeper result.0.keeper) }
     ensures once { IfOk result.1 (λ outcomes. DoesAll K.Keeper archive.keeper (map call_of commands.now) (map outcome_of outcomes.items) result.0.keeper) }
     ensures crash { IfOk result.1 (λ outcomes. LeavesRun K.Keeper archive.keeper (map call_of commands.now) (map outcome_of outcomes.items) result.0.keeper) }
     ensures err { OnErr result.1 (result.0 ≡ archive) }

@@ -1,18 +1,12 @@
 //! An archive that a database keeps, another configuration for it, and commands in order behind that.
 
-ghost use Rattle.std.specs.Prelude.{◌≡◌, ◌⊎◌, ◌≤◌, true, false, Option, IsTrue, IfOk, IfErr, OnOk, OnErr, map};
-ghost use Rattle.sqlite.specs.Held.{state};
-ghost use Rattle.sqlite.specs.State.{HasCleanDisk};
-ghost use Rattle.keep.specs.Book.{Book};
-ghost use Rattle.keep.specs.Configured.{configured, keeps_shown};
+ghost use Rattle.std.specs.Prelude.{◌≡◌, ◌⊎◌, ◌≤◌, true, IfOk, IfErr};
 ghost use Rattle.keep.specs.Keeping.{MayAnswer};
 ghost use Rattle.keep.specs.declared.fault.KeepFault.TheVariants.{Configuration as NotKept};
-ghost use Rattle.tables_meaning.specs.Archives.{KeepsFinished};
-ghost use Rattle.keep_tables.specs.Keepers.{config_in_use, connection_of, table_book};
-ghost use Rattle.promise.specs.Lists.{GoOn};
-ghost use Rattle.queue.specs.Commands.{call_of, kind_of_command, kind_of_outcome, outcome_of};
-ghost use Rattle.queue.specs.Configuring.{IsLeftConfigured};
-ghost use Rattle.queue.specs.Steps.{IsServedLast};
+ghost use Rattle.keep_tables.specs.Keepers.{config_in_use};
+ghost use Rattle.promise.specs.Configured.{GoesOnConfigured, HasIfTaken, IfMade};
+ghost use Rattle.queue.specs.Commands.{AreOfKinds};
+ghost use Rattle.queue.specs.Steps.{IsOpenBehind};
 ghost use Rattle.keep_tables.specs.Calls.{GivesBack, RefusesBusy, RefusesNoArchive, SaysWhy};
 ghost use Rattle.keep_tables.specs.KeeperCalls.{IsShutByFailure, KeepsItsBook};
 
@@ -46,25 +40,19 @@ pub fn drive_configured<S: InOrder + Drop>(
     (Connection<S>, KeepFault),
 >
     requires in_time { moment ≤ LATEST }
-    ensures kinds { IfOk result (λ r. IfOk r.1 (λ made. IfOk made (λ outcomes. map kind_of_outcome outcomes.items ≡ map kind_of_command commands.now))) }
+    ensures kinds { IfOk result (λ r. IfMade r.1 (AreOfKinds commands.now)) }
     // The database kept a book. The configuration is taken only where it keeps all that this book shows, and then the commands go on
     // behind the configured book, also over a crash; where memory is wanting for the outcomes no command was made, and the connection is
     // open. Where it is refused the book is as it was, and a crash leaves that book, or the configured one.
-    ensures once { IfOk result (λ r. HasCleanDisk (connection_of r.0.keeper) → (b : Book) × KeepsFinished (state S.Store connection).committed b.config b
-        × IfOk r.1 (λ made. (keeps_shown config b ≡ true)
-        × IfOk made (λ outcomes. GoOn (configured config moment b) (map call_of commands.now) (map outcome_of outcomes.items) r.0.keeper)
-        × OnErr made (IsTrue (connection_of r.0.keeper).is_open × (table_book r.0.keeper ≡ configured config moment b)))
-        × IfErr r.1 (λ fault. (fault ≡ NotKept → keeps_shown config b ≡ false)
-        × (IsTrue (connection_of r.0.keeper).is_open → table_book r.0.keeper ≡ b)
-        × ((left : Option Book) → ⟦<TableKeeper<S> as Keeper>⟧.may_leave r.0.keeper left → IsLeftConfigured config moment b left))) }
+    ensures once { IfOk result (λ r. GoesOnConfigured r.0.keeper config moment connection commands.now r.1) }
     // A configuration is refused for what is shown, or for a fault of the keeper's own.
     ensures cause { IfOk result (λ r. IfErr r.1 (λ fault. (fault ≡ NotKept) ⊎ MayAnswer true fault)) }
     // Where the last is done the connection is open.
-    ensures served { IfOk result (λ r. IfOk r.1 (λ made. IfOk made (λ outcomes. IsServedLast ⟦<TableKeeper<S> as Keeper>⟧ r.0.keeper (map outcome_of outcomes.items)))) }
+    ensures served { IfOk result (λ r. IfMade r.1 (IsOpenBehind ⟦<TableKeeper<S> as Keeper>⟧ r.0.keeper)) }
     // Only a counted failure shuts the connection.
     ensures open { IfOk result (λ r. IsShutByFailure r.0.keeper connection) }
     ensures kept { IfOk result (λ r. KeepsItsBook r.0.keeper (config_in_use r.0.keeper)) }
-    ensures given { IfOk result (λ r. HasCleanDisk (connection_of r.0.keeper) → OnOk r.1 (config_in_use r.0.keeper ≡ config)) }
+    ensures given { IfOk result (λ r. HasIfTaken r.0.keeper config r.1) }
     // What an opening is refused for.
     ensures refused { RefusesNoArchive S.Store connection result }
     ensures told { SaysWhy S.Store connection result }

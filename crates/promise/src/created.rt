@@ -1,15 +1,12 @@
 //! An archive that is made in a database, and commands in order.
 
-ghost use Rattle.std.specs.Prelude.{◌≡◌, ◌≤◌, true, Option, IsTrue, IfOk, OnErr, map};
+ghost use Rattle.std.specs.Prelude.{◌≡◌, ◌≤◌, IfOk, OnErr};
 ghost use Rattle.sqlite.specs.State.{HasCleanDisk};
-ghost use Rattle.keep.specs.Book.{Book};
-ghost use Rattle.keep.specs.Keeping.{NoCollision};
 ghost use Rattle.keep.specs.Plain.{fresh_book};
 ghost use Rattle.keep_tables.specs.Keepers.{connection_of, table_book};
-ghost use Rattle.queue.specs.Answers.{IsRun};
-ghost use Rattle.queue.specs.Commands.{call_of, kind_of_command, kind_of_outcome, outcome_of};
-ghost use Rattle.queue.specs.Histories.{bodies_of, opened_with};
-ghost use Rattle.queue.specs.Steps.{IsLeftAlong, IsServedLast};
+ghost use Rattle.promise.specs.Lists.{IsCutAlong, RunsFrom};
+ghost use Rattle.queue.specs.Commands.{AreOfKinds};
+ghost use Rattle.queue.specs.Steps.{IsOpenBehind};
 ghost use Rattle.keep_tables.specs.Calls.{GivesBack, RefusesOnlyTaken, RefusesTaken};
 ghost use Rattle.keep_tables.specs.KeeperCalls.{IsShutByFailure, KeepsItsBook};
 
@@ -33,24 +30,21 @@ pub fn drive_created<S: Alter + Drop>(
     commands: &[Command],
 ) -> Result<(Archive<TableKeeper<S>>, Result<Vec<Outcome>, AllocError>), (Connection<S>, KeepFault)>
     requires in_time { moment ≤ LATEST }
-    ensures kinds { IfOk result (λ r. IfOk r.1 (λ outcomes. map kind_of_outcome outcomes.items ≡ map kind_of_command commands.now)) }
+    ensures kinds { IfOk result (λ r. IfOk r.1 (AreOfKinds commands.now)) }
     // Where the disk returned what was written, and no two of the delivered bodies have one print, each outcome is the answer of
     // the plain archive at its place, or want of memory or a failure of the disk; and while the connection is open its tables keep
     // the book that these calls leave.
-    ensures once { IfOk result (λ r. HasCleanDisk (connection_of r.0.keeper) → IfOk r.1 (λ outcomes. NoCollision (bodies_of (map call_of commands.now))
-        → IsRun true (opened_with (fresh_book config moment)) (map call_of commands.now) (map outcome_of outcomes.items) (IsTrue (connection_of r.0.keeper).is_open) (table_book r.0.keeper))) }
+    ensures once { IfOk result (λ r. RunsFrom r.0.keeper (fresh_book config moment) commands.now r.1) }
     // Only a counted failure shuts the connection.
     ensures open { IfOk result (λ r. IsShutByFailure r.0.keeper connection) }
     ensures kept { IfOk result (λ r. KeepsItsBook r.0.keeper config) }
     // Where memory is wanting for the outcomes no command was made.
     ensures none { IfOk result (λ r. HasCleanDisk (connection_of r.0.keeper) → OnErr r.1 (table_book r.0.keeper ≡ fresh_book config moment)) }
     // Where the last is done the connection is open.
-    ensures served { IfOk result (λ r. IfOk r.1 (λ outcomes. IsServedLast ⟦<TableKeeper<S> as Keeper>⟧ r.0.keeper (map outcome_of outcomes.items))) }
+    ensures served { IfOk result (λ r. IfOk r.1 (IsOpenBehind ⟦<TableKeeper<S> as Keeper>⟧ r.0.keeper)) }
     // A crash during the list or behind it leaves what the archive and the first of the commands leave, none, some or all of them; or that
     // with the whole command that follows them besides.
-    ensures crash { IfOk result (λ r. HasCleanDisk (connection_of r.0.keeper) → IfOk r.1 (λ outcomes. NoCollision (bodies_of (map call_of commands.now))
-        → (left : Option Book) → ⟦<TableKeeper<S> as Keeper>⟧.may_leave r.0.keeper left
-        → IsLeftAlong (opened_with (fresh_book config moment)) (map call_of commands.now) (map outcome_of outcomes.items) left)) }
+    ensures crash { IfOk result (λ r. IsCutAlong r.0.keeper (fresh_book config moment) commands.now r.1) }
     // What a making is refused for.
     ensures taken { RefusesTaken S.Store connection result }
     ensures free { RefusesOnlyTaken S.Store connection result }

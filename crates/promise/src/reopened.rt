@@ -1,14 +1,14 @@
 //! An archive that a database keeps, and commands in order behind the book that it has.
 
-ghost use Rattle.std.specs.Prelude.{◌≡◌, IfOk, OnErr, map};
+ghost use Rattle.std.specs.Prelude.{◌≡◌, IfOk, OnErr};
 ghost use Rattle.sqlite.specs.Held.{state};
 ghost use Rattle.sqlite.specs.State.{HasCleanDisk};
 ghost use Rattle.keep.specs.Book.{Book};
 ghost use Rattle.tables_meaning.specs.Archives.{KeepsFinished};
 ghost use Rattle.keep_tables.specs.Keepers.{config_in_use, connection_of, table_book};
-ghost use Rattle.promise.specs.Lists.{GoOn};
-ghost use Rattle.queue.specs.Commands.{call_of, kind_of_command, kind_of_outcome, outcome_of};
-ghost use Rattle.queue.specs.Steps.{IsServedLast};
+ghost use Rattle.promise.specs.Lists.{GoesOn};
+ghost use Rattle.queue.specs.Commands.{AreOfKinds};
+ghost use Rattle.queue.specs.Steps.{IsOpenBehind};
 ghost use Rattle.keep_tables.specs.Calls.{GivesBack, RefusesBusy, RefusesNoArchive, SaysWhy};
 ghost use Rattle.keep_tables.specs.KeeperCalls.{IsShutByFailure, KeepsItsBook};
 
@@ -27,14 +27,14 @@ pub fn drive_opened<S: InOrder + Drop>(
     connection: Connection<S>,
     commands: &[Command],
 ) -> Result<(Archive<TableKeeper<S>>, Result<Vec<Outcome>, AllocError>), (Connection<S>, KeepFault)>
-    ensures kinds { IfOk result (λ r. IfOk r.1 (λ outcomes. map kind_of_outcome outcomes.items ≡ map kind_of_command commands.now)) }
+    ensures kinds { IfOk result (λ r. IfOk r.1 (AreOfKinds commands.now)) }
     // The database kept a book, behind which the commands go on, also over a crash. Where memory is wanting for the outcomes, no
     // command was made.
     ensures once { IfOk result (λ r. HasCleanDisk (connection_of r.0.keeper) → (b : Book) × KeepsFinished (state S.Store connection).committed (config_in_use r.0.keeper) b
-        × IfOk r.1 (λ outcomes. GoOn b (map call_of commands.now) (map outcome_of outcomes.items) r.0.keeper)
+        × IfOk r.1 (GoesOn r.0.keeper b commands.now)
         × OnErr r.1 (table_book r.0.keeper ≡ b)) }
     // Where the last is done the connection is open.
-    ensures served { IfOk result (λ r. IfOk r.1 (λ outcomes. IsServedLast ⟦<TableKeeper<S> as Keeper>⟧ r.0.keeper (map outcome_of outcomes.items))) }
+    ensures served { IfOk result (λ r. IfOk r.1 (IsOpenBehind ⟦<TableKeeper<S> as Keeper>⟧ r.0.keeper)) }
     // Only a counted failure shuts the connection.
     ensures open { IfOk result (λ r. IsShutByFailure r.0.keeper connection) }
     ensures kept { IfOk result (λ r. KeepsItsBook r.0.keeper (config_in_use r.0.keeper)) }

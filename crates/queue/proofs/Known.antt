@@ -30,11 +30,12 @@ use Rattle.suites.specs.declared.key.ShelfKey.{ShelfKey}
 use Rattle.keep.specs.Book.{Book, Candidate, at_latest, body_for, counts, current, has_arrival, is_same_pair, span, with_arrival}
 use Rattle.keep.specs.Keeping.{HasBodies, NoCollision}
 use Rattle.keep.specs.declared.arrival.Arrival.{Arrival}
+use Rattle.keep.proofs.Lists.{all_filter}
 use Rattle.queue.specs.Histories.{Call, Delivery, QueueRun, Copying, Lookup, WaitingList, Cleaning, Removing, Promoting, VerdictList, Reply, Step, History, arrived, arrivals_after, bodies_of, bodies_of_call, calls_of, counting, due_after}
 use Rattle.queue.specs.Archives.{PlainArchive, Act, Whole, Copy, Remove, Promote, WholeUpload, BodyItem, acted, acts_of, archive, archive_of, all_acts, book_from, book_of, contents_of, copied, copied_all, items_copied, items_given, listed_body, pool_in, removed, shown_in, sources_in, suite_named, whole, whole_of, with_bodies, with_admitted}
 use Rattle.queue.specs.Answers.{IsFaithful}
 use Rattle.queue.specs.declared.fault.Fault.{Fault}
-use Rattle.queue.proofs.Lists.{all_append, all_front, all_back, all_weaker, all_map, all_unmap, all_filter, all_filter_map, all_flat_map, all_from_flat_map, all_from_contained, all_always, at_contained, at_some, by_steps, contains_cases, contains_later, find_have, map_have, or_have, unwrap_or_has}
+use Rattle.queue.proofs.Lists.{all_append, all_front, all_back, all_weaker, all_map, all_unmap, all_filter_map, all_flat_map, all_from_flat_map, all_from_contained, all_always, at_contained, at_some, by_steps, contains_cases, contains_later, find_have, map_have, or_have, unwrap_or_has}
 use Rattle.queue.proofs.Steps.{arrived-push, archive-push}
 
 -- the contents of each file

@@ -1,5 +1,5 @@
 -- What definitions see of commands and of what they answer.
-use Rattle.std.specs.Prelude.{ℕ, Bool, true, false, List, map, Option, Result, Ok, Err, String, string_bytes}
+use Rattle.std.specs.Prelude.{◌≡◌, ℕ, Bool, true, false, List, map, Option, Result, Ok, Err, String, string_bytes}
 use Rattle.std.specs.Option.{option_map}
 use Rattle.std.specs.declared.vec.Vec.{Vec}
 use Rattle.std.specs.declared.alloc.Global.{Global}
@@ -102,3 +102,7 @@ kind_of_outcome (outcome.Clean result) = CleaningUp
 kind_of_outcome (outcome.Remove result) = RemovingPackage
 kind_of_outcome (outcome.Promote result) = PromotingSources
 kind_of_outcome (outcome.Verdicts result) = ListingVerdicts
+
+-- as many outcomes as commands, each of the kind of the command at its place
+abbrev pub AreOfKinds : List Command → Vec Outcome Global → Type 0
+AreOfKinds commands outcomes = map kind_of_outcome outcomes.items ≡ map kind_of_command commands

@@ -1,5 +1,5 @@
 -- Which promotions are refused, the steps of one that is not, and the copies in a row that it stands for.
-use Rattle.std.specs.Prelude.{◌≡◌, ⊤, ℕ, nat_eq, nat_lt, if◌then◌else◌, List, [], ◌∷◌, map, filter, length, Option, Some, None, Result, Ok}
+use Rattle.std.specs.Prelude.{◌≡◌, ◌⊎◌, ⊤, ℕ, Bool, true, nat_eq, nat_lt, if◌then◌else◌, List, [], ◌∷◌, map, filter, length, Option, Some, None, Result, Ok}
 use Rattle.std.specs.FinMap.{entries}
 use Rattle.std.specs.List.{fold}
 use Rattle.std.specs.declared.alloc.Global.{Global}
@@ -10,9 +10,10 @@ use Rattle.rules.specs.Values.{ConfigValue}
 use Rattle.suites.specs.Plan.{IsStep, after_copy}
 use Rattle.suites.specs.Shelves.{ShelvesValue}
 use Rattle.suites.specs.declared.key.ShelfKey.{ShelfKey}
-use Rattle.queue.specs.Answers.{answer}
+use Rattle.queue.specs.Answers.{answer, is_free_copy}
 use Rattle.queue.specs.Archives.{each_once, suite_named}
 use Rattle.queue.specs.Copies.{shows_source, suites_fault}
+use Rattle.queue.specs.Deliveries.{IsKeepers}
 use Rattle.queue.specs.Histories.{Copying, Count, History, Reply, followed}
 use Rattle.queue.specs.declared.fault.Fault.{Fault}
 use Rattle.queue.specs.declared.fault.Fault.TheVariants.{Moment}
@@ -21,6 +22,11 @@ use Rattle.queue.specs.declared.fault.Fault.TheVariants.{Moment}
 unfoldable pub promotion_fault : ConfigValue → List ℕ → List ℕ → ℕ → Option Fault
 promotion_fault config from to moment =
     if nat_lt latest moment then Some Moment else suites_fault (suite_named config from) (suite_named config to)
+
+-- what a promotion is refused for: the fault by its moment and the configuration, or else one of the keeper's own
+abbrev pub IsPromotionFault : Bool → ConfigValue → (from to : List ℕ) → ℕ → Fault → Type 0
+IsPromotionFault may_fail config from to moment fault =
+    (promotion_fault config from to moment ≡ Some fault) ⊎ IsKeepers may_fail (is_free_copy config from to moment ≡ true) fault
 
 -- ---- on what the keeper shows
 

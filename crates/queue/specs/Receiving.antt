@@ -1,8 +1,8 @@
 -- A delivery whose body a reader gives: what was read of it, and what becomes of it.
-use Rattle.std.specs.Prelude.{◌≡◌, ◌≤◌, ◌<◌, ◌%◌, ◌⊎◌, ◌++◌, [], ◌∷◌, ℕ, Bool, IsTrue, not, List, length, Option, Some, None, Result, Ok, Err}
+use Rattle.std.specs.Prelude.{◌≡◌, ◌≤◌, ◌<◌, ◌%◌, ◌⊎◌, ◌++◌, [], ◌∷◌, ℕ, Bool, IsTrue, List, length, Option, Some, None, Result, Ok, Err}
 use Rattle.std.specs.Io.KnownBytes.{Consumes, IsAtEnd, Keeps}
-use Rattle.keep.specs.Book.{Book, at_moment, has_arrival, with_delivery}
-use Rattle.keep.specs.Keeping.{ApartWith, IsDeliverable}
+use Rattle.keep.specs.Book.{Book}
+use Rattle.keep.specs.Keeping.{IsDeliverable, IsLeftDelivered, TakesDelivery, TellsNew}
 use Rattle.keep.specs.declared.keeper.Keeper.{Ghosts}
 use Rattle.queue.specs.Answers.{IsFaithful, IsKept, answer}
 use Rattle.queue.specs.Archives.{book_of}
@@ -72,14 +72,14 @@ MayBeKept name n = (body : List ℕ) → length body ≡ n → IsDeliverable nam
 pub record HasArrived (gave gives : Option (List ℕ)) (n : ℕ) (is_clean : Type 0) (old after : Book) (name : List ℕ) (moment : ℕ) (new : Bool) : Type 0 where
   pub body : List ℕ
   pub gave_it : Gave gave gives n body
-  pub arrives : is_clean → ApartWith old body (after ≡ with_delivery old (record { name = name; body = body; moment = moment }))
-  pub is_new : is_clean → ApartWith old body (new ≡ not (has_arrival (at_moment moment old).arrivals (record { name = name; body = body; moment = moment })))
+  pub arrives : is_clean → TakesDelivery old name moment after body
+  pub is_new : is_clean → TellsNew old name moment new body
 
 -- What a crash left is the book with the body that the reader gave.
 pub record IsLeft (gave gives : Option (List ℕ)) (n : ℕ) (old : Book) (left : Option Book) (name : List ℕ) (moment : ℕ) : Type 0 where
   pub body : List ℕ
   pub gave_it : Gave gave gives n body
-  pub arrives : ApartWith old body (left ≡ Some (with_delivery old (record { name = name; body = body; moment = moment })))
+  pub arrives : IsLeftDelivered old name moment left body
 
 module _ {K : Type 0} (g : Ghosts K) (before after : K) (gave gives : Option (List ℕ)) (n : ℕ) (name : List ℕ) (moment : ℕ) where
   -- The keeper then has the body that the reader gave, and it is new or not.

@@ -1,11 +1,15 @@
 -- What a call of the archive leaves of its keeper.
-use Rattle.std.specs.Prelude.{◌≡◌, ◌⊎◌, ⊤, ℕ, List, [], ◌∷◌, Option, Some, Result, Ok, Err}
+use Rattle.std.specs.Prelude.{◌≡◌, ◌⊎◌, ⊤, ℕ, List, [], ◌∷◌, map, Option, Some, Result, Ok, Err}
+use Rattle.std.specs.declared.alloc.Global.{Global}
+use Rattle.std.specs.declared.vec.Vec.{Vec}
 use Rattle.keep.specs.Book.{Book}
 use Rattle.keep.specs.Keeping as keeping
 use Rattle.keep.specs.declared.keeper.Keeper.{Ghosts}
 use Rattle.queue.specs.Answers.{IsFaithful, IsKept, IsRun, IsStep, answer}
 use Rattle.queue.specs.Archives.{book_of}
+use Rattle.queue.specs.Commands.{outcome_of}
 use Rattle.queue.specs.Histories.{Call, Delivery, Reply, History, followed}
+use Rattle.queue.specs.declared.command.Outcome.{Outcome}
 use Rattle.queue.specs.declared.fault.Fault.{Fault}
 
 -- What was left is the book that the history leaves with the first of these calls behind it, none, some or all of them; or that
@@ -81,3 +85,7 @@ module _ {K : Type 0} (g : Ghosts K) (new : K) where
   IsServedLast [] = ⊤
   IsServedLast (outcome ∷ []) = IsServed outcome
   IsServedLast (outcome ∷ next ∷ rest) = IsServedLast (next ∷ rest)
+
+  -- the same of the outcomes of commands
+  abbrev pub IsOpenBehind : Vec Outcome Global → Type 0
+  IsOpenBehind outcomes = IsServedLast (map outcome_of outcomes.items)

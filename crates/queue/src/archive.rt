@@ -16,7 +16,7 @@ ghost use Rattle.queue.specs.Copies.{copy_fault};
 ghost use Rattle.queue.specs.Histories.{Delivery, QueueRun, Copying, Lookup, WaitingList, Cleaning, Removing, Promoting, VerdictList};
 ghost use Rattle.keep.specs.Book.{latest};
 ghost use Rattle.queue.specs.Deliveries.{delivery_fault, IsKeepers};
-ghost use Rattle.queue.specs.Promotions.{promotion_fault};
+ghost use Rattle.queue.specs.Promotions.{IsPromotionFault, promotion_fault};
 ghost use Rattle.queue.specs.Removals.{removal_fault};
 ghost use Rattle.keep.specs.Configured.{configured, keeps_shown};
 ghost use Rattle.keep.specs.Keeping.{MayAnswer};
@@ -228,8 +228,7 @@ impl<K: Keeper> Archive<K> {
         ensures done { IfOk result (λ _. promotion_fault (K.book self.old.keeper).config from.now to.now moment ≡ None) }
         ensures late { latest < moment → result ≡ Err Fault.Moment }
         // The fault by the moment and the configuration, or else one of the keeper's own.
-        ensures refused { IfErr result (λ e. (promotion_fault (K.book self.old.keeper).config from.now to.now moment ≡ Some e)
-            ⊎ IsKeepers K.may_fail (is_free_copy (K.book self.old.keeper).config from.now to.now moment ≡ true) e) }
+        ensures refused { IfErr result (IsPromotionFault K.may_fail (K.book self.old.keeper).config from.now to.now moment) }
     {
         if moment > LATEST {
             return Err(Fault::Moment);

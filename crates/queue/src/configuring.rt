@@ -12,18 +12,18 @@ ghost use Rattle.keep.specs.Book.{latest};
 ghost use Rattle.keep.specs.Configured.{IsConfiguration, date_under, dates_under, keeps_shown, shown_under};
 ghost use Rattle.keep.specs.Keeping.{MayAnswer};
 ghost use Rattle.keep.specs.declared.fault.KeepFault.TheVariants.{Configuration};
+ghost use Rattle.rules.specs.Suites.{suite_named};
 ghost use Rattle.rules.specs.declared.suite.Suite.{Suite as SuiteValue};
 ghost use Rattle.queue.specs.Steps.{Reads};
 ghost use Rattle.std.specs.FinMap.{values};
-ghost use Rattle.suites.specs.Moved.{place_named as place_named_in};
 ghost use Rattle.suites.specs.Pool.{AreAgreed, files_of};
 ghost use Rattle.texts.specs.Indices.{suite_path};
 ghost use Rattle.texts.specs.Positions.{indices_at, release_at};
 
 use keep::{Configured, IndexText, KeepFault, Keeper, LATEST};
-use rules::{Config, Suite};
+use rules::{Config, Suite, position_of_named};
 use std::alloc::{AllocError, Global};
-use suites::{Shelves, moved_shelves, place_named};
+use suites::{Shelves, moved_shelves};
 use texts::{indices_of, path_in, release};
 
 /// The date at a position.
@@ -42,10 +42,10 @@ fn date_at(dates: &[u64], position: usize) -> Option<u64>
 /// The date that the suite with a codename has.
 fn date_of(suites: &[Suite], dates: &[u64], codename: &str) -> Option<u64>
     requires { ∥ All (λ date. date ≤ latest) dates.now ∥₁ }
-    ensures date { result ≡ option_and_then (λ n. slice_get dates.now n) (place_named_in suites.now codename.now) }
+    ensures date { result ≡ option_and_then (λ n. slice_get dates.now n) (suite_named suites.now codename.now) }
     ensures in_range { IfSome result (λ date. date ≤ latest) }
 {
-    match place_named(suites, codename) {
+    match position_of_named(suites, codename) {
         Some(place) => date_at(dates, place),
         None => None,
     }

@@ -7,9 +7,9 @@
 
 ghost use Rattle.std.specs.Prelude.{◌≡◌, IfOk, OnErr, map};
 ghost use Rattle.queue.specs.Answers.{IsFaithful, IsKept, IsRun};
-ghost use Rattle.queue.specs.Commands.{call_of, kind_of_command, kind_of_outcome, outcome_of};
+ghost use Rattle.queue.specs.Commands.{AreOfKinds, call_of, kind_of_command, kind_of_outcome, outcome_of};
 ghost use Rattle.queue.specs.Histories.{History};
-ghost use Rattle.queue.specs.Steps.{Does, IsServed, IsServedLast, Lasts, LeavesCall, LeavesRun};
+ghost use Rattle.queue.specs.Steps.{Does, IsOpenBehind, IsServed, Lasts, LeavesCall, LeavesRun};
 
 use crate::archive::Archive;
 use crate::command::{Command, Outcome};
@@ -59,9 +59,9 @@ impl<K: Keeper> Archive<K> {
     /// made. An `Err` means that none was made, for want of memory for the outcomes.
     pub fn drive(&mut self, alloc: Global, commands: &[Command]) -> Result<Vec<Outcome>, AllocError>
         ensures lasts { Lasts K.Keeper self.old.keeper self.new.keeper }
-        ensures kinds { IfOk result (λ outcomes. map kind_of_outcome outcomes.items ≡ map kind_of_command commands.now) }
+        ensures kinds { IfOk result (AreOfKinds commands.now) }
         // Where the last is done the keeper is open.
-        ensures served { IfOk result (λ outcomes. IsServedLast K.Keeper self.new.keeper (map outcome_of outcomes.items)) }
+        ensures served { IfOk result (IsOpenBehind K.Keeper self.new.keeper) }
         // Where the keeper keeps what a history leaves, the outcomes are the answers of the plain archive, and it then
         // keeps what the longer history leaves.
         ensures once { IfOk result (λ outcomes. (h : History) → IsKept (K.is_open self.old.keeper) (K.book self.old.keeper) h → IsFaithful h (map call_of commands.now)

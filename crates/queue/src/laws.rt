@@ -101,8 +101,8 @@ pub fn a_stop_in_a_configuration_leaves_a_book<K: Keeper>()
 {}
 
 /// Lists of calls, one behind the other, are one list. Where some are a run behind a history, and others are one behind each
-/// history that is kept between them, all of them are a run behind the first; and what is said of two lists, and of a crash in
-/// them, is said of both as one.
+/// history that is kept between them, all of them are a run behind the first; and what is said of two lists is said of both as
+/// one.
 pub fn lists_are_one_list<K: Keeper>()
     ensures run { (h : History) (calls more : List Call) (outcomes others : List (Result Reply Fault)) (between after : K)
         → IsRun K.may_fail h calls outcomes (K.is_open between) (K.book between)
@@ -111,6 +111,11 @@ pub fn lists_are_one_list<K: Keeper>()
     ensures once { (before between after : K) (calls more : List Call) (outcomes others : List (Result Reply Fault)) → (K.is_clean after → K.is_clean between)
         → DoesAll K.Keeper before calls outcomes between → DoesAll K.Keeper between more others after
         → DoesAll K.Keeper before (calls ++ more) (outcomes ++ others) after }
+{}
+
+/// A crash in two lists of calls, one behind the other, or behind both is one in the list that they are together: what is said of a
+/// crash in each of them is said of a crash in both as one.
+pub fn a_crash_in_lists_is_in_one_list<K: Keeper>()
     ensures crash { (before between after : K) (calls more : List Call) (outcomes others : List (Result Reply Fault)) → (K.is_clean after → K.is_clean between)
         → DoesAll K.Keeper before calls outcomes between → LeavesRun K.Keeper before calls outcomes between → LeavesRun K.Keeper between more others after
         → LeavesRun K.Keeper before (calls ++ more) (outcomes ++ others) after }

@@ -4,7 +4,7 @@ ghost use Rattle.std.specs.Prelude.{◌≡◌, ◌≤◌, ⊤, false, IfOk, map}
 ghost use Rattle.keep.specs.Keeping.{NoCollision};
 ghost use Rattle.keep.specs.Plain.{fresh_book, plain_book};
 ghost use Rattle.queue.specs.Answers.{IsRun};
-ghost use Rattle.queue.specs.Commands.{call_of, kind_of_command, kind_of_outcome, outcome_of};
+ghost use Rattle.queue.specs.Commands.{AreOfKinds, call_of, outcome_of};
 ghost use Rattle.queue.specs.Histories.{bodies_of, opened_with};
 
 use crate::archive::Archive;
@@ -23,7 +23,7 @@ pub fn drive_anew(
     commands: &[Command],
 ) -> Result<(Vec<Outcome>, Archive<PlainKeeper>), AllocError>
     requires in_time { moment ≤ LATEST }
-    ensures kinds { IfOk result (λ r. map kind_of_outcome r.0.items ≡ map kind_of_command commands.now) }
+    ensures kinds { IfOk result (λ r. AreOfKinds commands.now r.0) }
     // Where no two of the delivered bodies have one print, each outcome is the answer of the plain archive at its place, or want
     // of memory, and the book that is then kept is the one that these calls leave.
     ensures once { IfOk result (λ r. NoCollision (bodies_of (map call_of commands.now))

@@ -1,6 +1,6 @@
 -- A text is read as a record exactly where it is that record.
 use Rattle.std.proofs.Common.{◌≡◌, ℕ, List, Ok, Err, sym, ◌∙◌}
-use Rattle.records.specs.Records.{IsChanges, IsDsc, IsSidecar, changes_in, changes_fault, changes_of, changes_limit, dsc_in, dsc_fault, dsc_of, sidecar_in, sidecar_fault, sidecar_of, sidecar_limit, unless}
+use Rattle.records.specs.Records.{IsChanges, IsDsc, IsSidecar, changes_in, changes_fault, changes_of, changes_limit, dsc_in, dsc_fault, dsc_limit, dsc_of, sidecar_in, sidecar_fault, sidecar_of, sidecar_limit, unless}
 use Rattle.records.specs.Values.{ChangesValue, DscValue, SidecarValue}
 use Rattle.records.specs.declared.fault.RecordFault.{RecordFault}
 use Rattle.records.proofs.Made.{in_text, text_in, changes_made, made_changes, dsc_made, made_dsc, sidecar_made, made_sidecar}
@@ -26,13 +26,13 @@ refused_changes text e c h k = let both = sym (read_of_changes text c k) ∙ h i
 pub dsc_of_read : (text : List ℕ) (d : DscValue) → dsc_in text ≡ Ok d → IsDsc text d
 unfolding dsc_in
 dsc_of_read text d h =
-    let m = in_text (λ p. unless (dsc_fault p) (dsc_of p)) text changes_limit d h in
+    let m = in_text (λ p. unless (dsc_fault p) (dsc_of p)) text dsc_limit d h in
     record { within = m.within; paragraph = m.paragraph; spelled = m.spelled; made = dsc_made m.paragraph d m.made }
 
 pub read_of_dsc : (text : List ℕ) (d : DscValue) → IsDsc text d → dsc_in text ≡ Ok d
 unfolding dsc_in
 read_of_dsc text d h =
-    text_in (λ p. unless (dsc_fault p) (dsc_of p)) text changes_limit d h.paragraph h.within h.spelled (made_dsc h.paragraph d h.made)
+    text_in (λ p. unless (dsc_fault p) (dsc_of p)) text dsc_limit d h.paragraph h.within h.spelled (made_dsc h.paragraph d h.made)
 
 pub refused_dsc : (text : List ℕ) (e : RecordFault) (d : DscValue) → dsc_in text ≡ Err e → ¬ IsDsc text d
 refused_dsc text e d h k = let both = sym (read_of_dsc text d k) ∙ h in cc

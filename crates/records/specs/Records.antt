@@ -265,8 +265,12 @@ abbrev pub of_fields : {V : Type 0} → (Fields → Result V RecordFault) → Re
 of_fields read (Ok p) = read p
 of_fields read (Err fault) = Err (faults.Paragraph fault)
 
+-- the most bytes of a .changes, and of a .dsc
 abbrev pub changes_limit : ℕ
 changes_limit = 1_048_576
+
+abbrev pub dsc_limit : ℕ
+dsc_limit = changes_limit
 
 abbrev pub sidecar_limit : ℕ
 sidecar_limit = 65_536
@@ -275,7 +279,7 @@ unfoldable pub changes_in : List ℕ → Result ChangesValue RecordFault
 changes_in text = of_fields (λ p. unless (changes_fault p) (changes_of p)) (fields_in text changes_limit)
 
 unfoldable pub dsc_in : List ℕ → Result DscValue RecordFault
-dsc_in text = of_fields (λ p. unless (dsc_fault p) (dsc_of p)) (fields_in text changes_limit)
+dsc_in text = of_fields (λ p. unless (dsc_fault p) (dsc_of p)) (fields_in text dsc_limit)
 
 unfoldable pub sidecar_in : List ℕ → Result SidecarValue RecordFault
 sidecar_in text = of_fields (λ p. unless (sidecar_fault p) (sidecar_of p)) (fields_in text sidecar_limit)
@@ -354,7 +358,7 @@ pub record IsChanges (text : List ℕ) (c : ChangesValue) : Type 0 where
 
 -- the text of a .dsc (Policy 5.4)
 pub record IsDsc (text : List ℕ) (d : DscValue) : Type 0 where
-  pub within : length text ≤ changes_limit
+  pub within : length text ≤ dsc_limit
   pub paragraph : Fields
   pub spelled : Spells text (paragraph ∷ [])
   pub made : MakesDsc paragraph d

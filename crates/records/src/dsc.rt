@@ -4,6 +4,7 @@ ghost use Rattle.std.specs.Prelude.{◌≡◌, ◌⊎◌, List, ◌∷◌, Optio
 ghost use Rattle.records.specs.Records.{dsc_in, dsc_fault, dsc_of, dsc_required, dsc_simple, dsc_formats, first_of, missing, not_simple, unknown_format, bad_name, value};
 ghost use Rattle.records.specs.declared.fault.RecordFault.{RecordFault};
 
+use crate::changes::MOST_CHANGES;
 use crate::checks::{check_own, check_required, check_simple, value_of};
 use crate::fault::RecordFault;
 use crate::field_name::FieldName;
@@ -44,8 +45,8 @@ impl Model for Dsc {
     } };
 }
 
-/// The most bytes of a .dsc that is read (own rule of this archive).
-pub const MOST_DSC: usize = 1_048_576;
+/// The most bytes of a .dsc that is read, which are those of a .changes (own rule of this archive).
+pub const MOST_DSC: usize = MOST_CHANGES;
 
 /// The required fields, in the order in which the first that is missing is named.
 const REQUIRED: [FieldName; 7] = [

@@ -14,16 +14,16 @@ use Rattle.rules.specs.declared.suite.Suite.{Suite}
 use Rattle.rules.specs.declared.fault.ConfigFault.{ConfigFault}
 use Rattle.rules.specs.declared.fault.ConfigFault.TheVariants as faults
 
-of_paragraph_is : (f : ParaFault) → (of_paragraph f ≡ faults.OutOfMemory) ⊎ (of_paragraph f ≡ faults.Paragraph f)
-of_paragraph_is para_faults.OutOfMemory = inl refl
-of_paragraph_is _ = inr refl
+config_fault_of_paragraph_is : (f : ParaFault) → (of_paragraph f ≡ faults.OutOfMemory) ⊎ (of_paragraph f ≡ faults.Paragraph f)
+config_fault_of_paragraph_is para_faults.OutOfMemory = inl refl
+config_fault_of_paragraph_is _ = inr refl
 
 -- a text that gives no paragraphs
 pub refused_text : (text : List ℕ) (f : ParaFault) → (f ≡ para_faults.OutOfMemory) ⊎ (paragraphs_in text config_limit ≡ Err f)
     → (of_paragraph f ≡ faults.OutOfMemory) ⊎ (config_in text ≡ Err (of_paragraph f))
 unfolding config_in
 refused_text text f (inl q) = inl (ap of_paragraph q)
-refused_text text f (inr q) = elim (of_paragraph_is f) [
+refused_text text f (inr q) = elim (config_fault_of_paragraph_is f) [
   | inl p ↦ inl p
   | inr p ↦ inr (ap (of_paragraphs text) q ∙ ap Err (sym p))
 ]

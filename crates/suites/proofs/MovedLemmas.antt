@@ -8,12 +8,13 @@ use Rattle.std.proofs.lemmas.Bool.{cases_lt}
 use Rattle.std.proofs.lemmas.List.Quantifiers.{position-Some}
 use Rattle.std.proofs.lemmas.Option.{same_Some, slice_get-get_or}
 use Rattle.std.proofs.lemmas.Slice.Eq.{bytes_eq-Decides}
+use Rattle.rules.specs.Suites.{suite_named}
 use Rattle.rules.specs.declared.suite.Suite.{Suite}
 use Rattle.sums.proofs.Members.{here, there, which, no_member, all_true, all_at, all_from}
 use Rattle.sums.specs.declared.print.Print.{Print}
 use Rattle.suites.specs.Items.{IsAtHome, standing}
 use Rattle.suites.specs.KeyLemmas.{key_order_total, key_order-IsAntisymmetric, text_order_total, text_order-IsAntisymmetric}
-use Rattle.suites.specs.Moved.{all_stay, moved, moved_entry, place_in, place_named, stays_kept}
+use Rattle.suites.specs.Moved.{all_stay, moved, moved_entry, place_in, stays_kept}
 use Rattle.suites.specs.Pool.{AreAgreed, files_of}
 use Rattle.suites.specs.Shelves.{AreSound, ShelvesValue, pool}
 use Rattle.suites.specs.Told.{AreTold, IsTold, is_kept_by}
@@ -55,17 +56,17 @@ pub bytes_same : (xs ys : List ℕ) → bytes_eq xs ys ≡ true → xs ≡ ys
 bytes_same xs ys e = (bytes_eq-Decides xs ys).0 e
 
 -- the suite of a position, and the one that has its codename
-place_suite : (old new : List Suite) (n k : ℕ) → place_in old new n ≡ Some k → (s : Suite) × (slice_get old n ≡ Some s) × (place_named new s.codename ≡ Some k)
+place_suite : (old new : List Suite) (n k : ℕ) → place_in old new n ≡ Some k → (s : Suite) × (slice_get old n ≡ Some s) × (suite_named new s.codename ≡ Some k)
 place_suite old new n k e = by_case (slice_get old n) refl e
   where
-    by_case : (o : Option Suite) → slice_get old n ≡ o → option_and_then (λ s. place_named new s.codename) o ≡ Some k
-        → (s : Suite) × (slice_get old n ≡ Some s) × (place_named new s.codename ≡ Some k)
+    by_case : (o : Option Suite) → slice_get old n ≡ o → option_and_then (λ s. suite_named new s.codename) o ≡ Some k
+        → (s : Suite) × (slice_get old n ≡ Some s) × (suite_named new s.codename ≡ Some k)
     by_case None is e = cc
     by_case (Some s) is e = (s, is, e)
 
 -- the suite at the place of a codename has it
-has_name : (new : List Suite) (name : List ℕ) (k : ℕ) (d : Suite) → place_named new name ≡ Some k → (get_or new k d).codename ≡ name
-unfolding place_named
+has_name : (new : List Suite) (name : List ℕ) (k : ℕ) (d : Suite) → suite_named new name ≡ Some k → (get_or new k d).codename ≡ name
+unfolding suite_named
 has_name [] name k d e = cc
 has_name (s ∷ ss) name k d e = bytes_same (get_or (s ∷ ss) k d).codename name (position-Some (λ (x : Suite). bytes_eq x.codename name) (s ∷ ss) k d e).1
 

@@ -1,21 +1,18 @@
 -- What the suites show under another configuration: each item in the suite of the same codename.
-use Rattle.std.specs.Prelude.{ℕ, Bool, false, List, bytes_eq, position, slice_get, Option, option_map}
+use Rattle.std.specs.Prelude.{ℕ, Bool, false, List, slice_get, Option, option_map}
 use Rattle.std.specs.Option.{option_and_then, option_map_or}
 use Rattle.std.specs.List.{list_all, filter_map}
 use Rattle.std.specs.FinMap.{entries, from_entries}
+use Rattle.rules.specs.Suites.{suite_named}
 use Rattle.rules.specs.declared.suite.Suite.{Suite}
 use Rattle.suites.specs.Shelves.{ShelvesValue}
 use Rattle.suites.specs.Told.{is_kept_by}
 use Rattle.suites.specs.declared.item.Item.{Item}
 use Rattle.suites.specs.declared.key.ShelfKey.{ShelfKey}
 
--- the position of the suite with a codename
-unfoldable pub place_named : List Suite → List ℕ → Option ℕ
-place_named suites name = position (λ s. bytes_eq s.codename name) suites
-
 -- the position, among other suites, of the one that has the codename of the suite at a position
 abbrev pub place_in : List Suite → List Suite → ℕ → Option ℕ
-place_in old new n = option_and_then (λ s. place_named new s.codename) (slice_get old n)
+place_in old new n = option_and_then (λ s. suite_named new s.codename) (slice_get old n)
 
 -- an item on its shelf in the suite of the same codename, where there is one
 abbrev pub moved_entry : List Suite → List Suite → ShelfKey × Item → Option (ShelfKey × Item)

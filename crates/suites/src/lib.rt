@@ -21,7 +21,7 @@ mod verdict;
 pub use copy_plan::{plan_copy, plan_copy_of};
 pub use item::{Item, PoolFile};
 pub use key::{Kind, ShelfKey};
-pub use moving::{moved_shelves, place_named};
+pub use moving::moved_shelves;
 pub use paths::directory;
 pub use plan::{Plan, Reference};
 pub use removal_plan::plan_remove;

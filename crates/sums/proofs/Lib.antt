@@ -1,4 +1,5 @@
 pub mod Booleans
+pub mod Results
 pub mod Words
 pub mod Digits
 pub mod Files

@@ -10,6 +10,7 @@ pub mod BookLemmas
 pub mod DeleteLemmas
 pub mod AddLemmas
 pub mod OrderLemmas
+pub mod Pairwise
 pub mod UpdateLemmas
 pub mod CreateLemmas
 pub mod CreateMeaning

@@ -1,5 +1,5 @@
 -- What a query leaves of the connection.
-use Rattle.std.proofs.Common.{◌⊎◌, ℕ, List, inl, inr, Option, None, Some, Ok, Err, Result, OnErr, refl, sym, subst, arith}
+use Rattle.std.proofs.Common.{◌⊎◌, ℕ, List, inl, inr, Option, None, Some, refl, sym, subst, arith}
 use Rattle.sqlite_schema.specs.declared.command.Returning.{Returning}
 use Rattle.sqlite_resolve.specs.declared.compiled.Compiled.{Compiled}
 use Rattle.sqlite.specs.Order.{Row}
@@ -7,6 +7,7 @@ use Rattle.sqlite.specs.declared.error.Error.{Error}
 use Rattle.sqlite.specs.Listing.{understood}
 use Rattle.sqlite.specs.Given.{IsPlain}
 use Rattle.sqlite.specs.State.{State, Shown, IsUnchanged, IsNotRun, FailsToQuery, FailsToShow, IsTooLate, Survives}
+pub use Rattle.sums.proofs.Results.{on_err}
 use Rattle.tables.specs.Others.{IsArchiveSchema, Others, others_in, with_others}
 use Rattle.tables.specs.Rows.{Stands, Fails, IsForeign}
 use Rattle.tables.specs.Reading.{IsPlainIn}
@@ -47,10 +48,6 @@ foreign sql plain s not_plain same = not_plain (subst (λ schema. IsPlain (under
 
 pub plain_in : (sql : List ℕ) → ((o : Others) → IsPlain (understood (with_others o) sql)) → (s : State) → IsArchiveSchema s.now.schema → IsPlainIn s sql
 plain_in sql plain s same = subst (λ schema. IsPlain (understood schema sql)) (sym same.is) (plain (others_in s.now.schema))
-
-pub on_err : {X E P : Type 0} (r : Result X E) → P → OnErr r P
-on_err (Ok x) h = tt
-on_err (Err e) h = h
 
 -- where nothing is done, a crash leaves nothing new
 pub survives_none : (s : State) → Survives s s (λ _. ⊥)

@@ -5,6 +5,7 @@ use Rattle.sqlite.specs.Steps.{FailsToCommit}
 use Rattle.sqlite.specs.State.{State, KeepsCommit, IsRolledBack}
 use Rattle.sqlite.specs.Store.{Ghosts}
 use Rattle.sqlite.specs.Held.{Held, state}
+pub use Rattle.sums.proofs.Results.{on_err}
 use Rattle.tables.specs.Rows.{Tables, Holds, Changes, Fails}
 
 pub keeps_if_changed : (old new : State) (change : Tables → Tables) → Changes old new change → KeepsCommit old new
@@ -30,10 +31,6 @@ pub commit_failed : {X : Type 0} (begun mid last : State) (r : Result X Error) �
 commit_failed begun mid last (Ok x) kept inside h up = tt
 commit_failed begun mid last (Err e) kept inside (inl failed) up = undone begun mid last kept failed.3 up
 commit_failed begun mid last (Err e) kept inside (inr late) up = absurd (let both = sym inside ∙ late.1 in cc)
-
-pub on_err : {X E : Type 0} {P : Type 0} (r : Result X E) → P → OnErr r P
-on_err (Ok x) h = tt
-on_err (Err e) h = h
 
 pub on_ok : {X E : Type 0} {P Q : Type 0} (r : Result X E) → OnOk r P → (P → Q) → OnOk r Q
 on_ok (Ok x) h f = f h

@@ -1,15 +1,11 @@
 -- Bodies, their pieces, and whether they are used.
-use Rattle.std.proofs.Common.{◌≡◌, ℕ, suc, ◌+◌, ◌-◌, ◌*◌, ◌/◌, ◌%◌, ◌<◌, ◌≤◌, min, Bool, true, false, cond, nat_eq, Result, Ok, Err, List, [], ◌∷◌, ◌++◌, map, filter, take, drop, length, get_or, All, IsTrue, refl, sym, ap, ap₂, ◌∙◌, ⊎_elim, arith}
-use Rattle.std.specs.Prelude.{◌↔◌, is_ok}
+use Rattle.std.proofs.Common.{◌≡◌, ℕ, suc, ◌+◌, ◌-◌, ◌*◌, ◌/◌, ◌%◌, ◌<◌, ◌≤◌, min, Bool, true, false, cond, nat_eq, List, [], ◌∷◌, ◌++◌, map, filter, take, drop, length, get_or, All, IsTrue, refl, sym, ap, ap₂, ◌∙◌, arith}
+use Rattle.std.specs.Prelude.{◌↔◌}
 use Rattle.std.specs.List.{list_any, range_with_len}
-use Rattle.std.specs.List.Sorted.{IsBinarySearchResult, IsNonDecreasing}
-use Rattle.std.specs.Ordering.{nat_cmp}
-use Rattle.std.proofs.lemmas.Bool.{cases_lt, eq-eqb, ne_eqb}
-use Rattle.std.proofs.lemmas.List.{append-nil, drop_more, get_or_at, get_or_default, length-append, length-drop, length-take, map-append, map_more, take-append-drop}
+use Rattle.std.proofs.lemmas.List.{append-nil, drop_more, get_or_at, length-append, length-drop, length-take, map-append, map_more, take-append-drop}
 use Rattle.std.proofs.lemmas.List.Concat.{flat_map-append}
 use Rattle.std.proofs.lemmas.List.Elements.{filter-append}
-use Rattle.std.proofs.lemmas.List.Folds.{list_any_at, list_any_none}
-use Rattle.std.proofs.lemmas.List.Sorted.{list_any-IsPermutation, searched}
+use Rattle.std.proofs.lemmas.List.Sorted.{list_any-IsPermutation}
 use Rattle.std.proofs.lemmas.List.FromFn.{get_or-map-range_with_len, length-map-range_with_len}
 use Rattle.tables.specs.Pieces.{is_of}
 use Rattle.tables.specs.Rows.{Tables, Numbered, rows_of}
@@ -136,20 +132,6 @@ behind_them id size bytes ps rest p are h =
 pub used_same : (t : Tables) (numbers : List ℕ) (id : ℕ) → AreUsed t.arrivals t.files numbers → list_any (λ n. nat_eq n id) numbers ≡ is_used t id
 unfolding is_used
 used_same t numbers id h = sym (list_any-IsPermutation (λ n. nat_eq n id) (used_in t) numbers h.are)
-
--- a binary search finds a number exactly if it is among these
-pub found_among : (numbers : List ℕ) (id : ℕ) (r : Result ℕ ℕ) → IsNonDecreasing numbers → IsBinarySearchResult (λ y. nat_cmp y id) numbers r → is_ok r ≡ list_any (λ n. nat_eq n id) numbers
-found_among numbers id (Ok i) rise found =
-    let at = searched numbers id (Ok i) found (λ i j le within. rise i j 0 le within) in
-    sym (list_any_at (λ n. nat_eq n id) numbers i 0 at.0 (eq-eqb (get_or numbers i 0) id at.1))
-found_among numbers id (Err i) rise found =
-    let at = searched numbers id (Err i) found (λ i j le within. rise i j 0 le within) in
-    sym
-    (list_any_none (λ n. nat_eq n id) numbers
-    (λ k d within. ne_eqb (get_or numbers k d) id
-    (λ e.
-    let same = get_or_default numbers k d 0 within in
-    ⊎_elim (λ l. absurd (omega (arith, at.1 k l, e, same))) (λ l. absurd (omega (arith, at.2 k l within, e, same))) (cases_lt k i))))
 
 -- ---- all bodies
 

@@ -2,14 +2,11 @@
 use Rattle.std.specs.Prelude.{ℕ, Bool, ◌&&◌, List, bytes_eq}
 use Rattle.std.specs.List.{list_any}
 use Rattle.std.specs.List.Sorted.{IsSortedByKey}
-use Rattle.std.specs.Ordering.{nat_cmp, ordering_then}
-use Rattle.std.specs.declared.cmp.Ordering.{Ordering}
 use Rattle.keep.specs.declared.change.Judgement.{Judgement}
 use Rattle.keep.specs.Book.{judging_order}
 use Rattle.sums.specs.declared.entries.Entry.{Entry}
 use Rattle.sums.specs.declared.print.Print.{Print}
 use Rattle.sums.specs.Prints.{same_print}
-use Rattle.suites.specs.Keys.{text_order}
 use Rattle.tables_audit.specs.declared.uploads.arrived.Arrived.{Arrived}
 use Rattle.tables_audit.specs.declared.uploads.signs.Sign.{Sign}
 
@@ -29,14 +26,6 @@ arrived_sign a = (a.arrival.now.name, a.print)
 
 abbrev pub entry_sign : Entry → SignValue
 entry_sign e = (e.name, e.print)
-
--- the order of two uploads of one name: by SHA-256, SHA-1, MD5 and size
-abbrev pub print_order : Print → Print → Ordering
-print_order a b =
-    ordering_then (text_order a.sha256 b.sha256)
-    (ordering_then (text_order a.sha1 b.sha1)
-    (ordering_then (text_order a.md5 b.md5)
-    (nat_cmp a.size b.size)))
 
 -- they stand in the order of judging
 abbrev pub AreInOrder : List Sign → Type 0

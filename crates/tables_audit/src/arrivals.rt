@@ -2,6 +2,7 @@
 
 ghost use Rattle.std.specs.Prelude.{◌≡◌, ◌↔◌, ◌≤◌, All, true, Ok, IsTrue, IfOk, length};
 ghost use Rattle.sums.specs.FileNames.{is_changes_name};
+ghost use Rattle.sums.specs.Lines.{most_size};
 ghost use Rattle.keep.specs.Keeping.{IsDeliverable};
 ghost use Rattle.records.specs.Records.{changes_in};
 ghost use Rattle.records.specs.Values.{ChangesValue};
@@ -32,7 +33,7 @@ fn is_record(alloc: Global, text: &[u8]) -> Result<bool, AllocError>
 
 /// Whether a body has no more bytes than an arrival may have.
 fn is_small(pieces: &Pieces<'_>, id: u64) -> bool
-    ensures { IsTrue result ↔ (length (bytes_of (tables_with pieces.now.all.now) id) ≤ 4194304) }
+    ensures { IsTrue result ↔ (length (bytes_of (tables_with pieces.now.all.now) id) ≤ most_size) }
 {
     size_of(pieces, id) as u64 <= MOST_SIZE
 }

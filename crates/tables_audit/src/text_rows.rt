@@ -6,8 +6,9 @@ ghost use Rattle.tables_audit.specs.TextRows.{text_in, texts_in};
 ghost use Rattle.tables.specs.Rows.{rows_of};
 ghost use Rattle.tables_read.specs.All.{tables_with};
 ghost use Rattle.texts.specs.Indices.{PathText, all_texts};
+ghost use Rattle.texts.specs.Places.{place_entry};
 ghost use Rattle.texts.specs.Positions.{release_at};
-ghost use Rattle.texts.specs.Release.{index_of, listed_entry, listed_texts};
+ghost use Rattle.texts.specs.Release.{index_of, listed_texts};
 
 use keep::LATEST;
 use para::{Listed, Text};
@@ -17,18 +18,19 @@ use suites::Shelves;
 use sums::print_of;
 use tables::rows::TextRow;
 use tables_read::AllRows;
-use texts::{Index, index_path, listed_text, path_in, release};
+use texts::{Index, Place, index_path, listed_text, path_in, places_of, release};
 
-/// The index of a component and an architecture, of the suite at the position.
-fn listed_entry(
+/// The index at a place of the suite at the position.
+fn placed_entry(
     alloc: Global,
     shelves: &Shelves,
     position: usize,
-    component: &str,
-    architecture: &str,
+    place: &Place,
 ) -> Result<TextRow, AllocError>
-    ensures { IfOk result (λ x. text_in x ≡ listed_entry shelves.now position component.now architecture.now) }
+    ensures { IfOk result (λ x. text_in x ≡ place_entry shelves.now position place.now) }
 {
+    let component = place.component.as_str();
+    let architecture = place.architecture.as_str();
     let path = index_path(alloc, component, architecture)?;
     let body = listed_text(alloc, shelves, position, component, architecture)?;
     Ok(TextRow {
@@ -37,26 +39,24 @@ fn listed_entry(
     })
 }
 
-/// Appends the indices of a component: each architecture in its order.
-fn push_component(
+/// The indices at places of the suite at the position, in their order.
+fn placed_entries(
     alloc: Global,
     shelves: &Shelves,
     position: usize,
-    component: &str,
-    architectures: &[Text],
-    entries: &mut Vec<TextRow>,
-) -> Result<(), AllocError>
-    ensures { OnOk result (map text_in entries.new.items
-        ≡ map text_in entries.old.items ++ map (listed_entry shelves.now position component.now) architectures.now) }
+    places: &[Place],
+) -> Result<Vec<TextRow>, AllocError>
+    ensures { IfOk result (λ entries. map text_in entries.items ≡ map (place_entry shelves.now position) places.now) }
 {
-    for architecture in architectures {
-        let entry = listed_entry(alloc, shelves, position, component, architecture.as_str())?;
+    let mut entries = Vec::new(alloc);
+    for place in places {
+        let entry = placed_entry(alloc, shelves, position, place)?;
         entries.push(entry)?;
     }
-    Ok(())
+    Ok(entries)
 }
 
-/// The indices of the suite at the position, Release aside: each component in its order.
+/// The indices of the suite at the position, Release aside, place by place.
 fn listed_entries(
     alloc: Global,
     shelves: &Shelves,
@@ -65,19 +65,10 @@ fn listed_entries(
 ) -> Result<Vec<TextRow>, AllocError>
     ensures { IfOk result (λ entries. map text_in entries.items ≡ listed_texts suite.now shelves.now position) }
 {
+    let components = suite.components.as_slice();
     let architectures = suite.architectures.as_slice();
-    let mut entries = Vec::new(alloc);
-    for component in suite.components.as_slice() {
-        push_component(
-            alloc,
-            shelves,
-            position,
-            component.as_str(),
-            architectures,
-            &mut entries,
-        )?;
-    }
-    Ok(entries)
+    let places = places_of(alloc, components, architectures)?;
+    placed_entries(alloc, shelves, position, places.as_slice())
 }
 
 /// What Release lists of an index.

@@ -2,6 +2,7 @@
 
 ghost use Rattle.std.specs.Prelude.{◌≡◌, ◌≤◌, ◌↔◌, ℕ, List, All, None, length, IsTrue, IfOk, IfSome};
 ghost use Rattle.suites.specs.Shelves.{ShelvesValue};
+ghost use Rattle.texts.specs.Calendar.{latest};
 ghost use Rattle.keep.specs.declared.change.Judgement.{Judgement as JudgementValue};
 ghost use Rattle.tables_read.specs.All.{AreConstrained, tables_with};
 ghost use Rattle.tables_meaning.specs.Kept.{AreReadable, IsBook};
@@ -32,7 +33,7 @@ pub struct Held {
     pub judged: Vec<Judgement>,
     pub dates: Vec<u64>,
     pub shelves: Shelves,
-    ghost in_range: { All (λ date. date ≤ 4_102_444_799) dates.items },
+    ghost in_range: { All (λ date. date ≤ latest) dates.items },
 }
 
 /// What the suites show, where the rows are the items, the files and the texts of an archive of this configuration, with these

@@ -1,5 +1,5 @@
 -- A body of one piece: it comes and arrives in one transaction.
-use Rattle.std.specs.Prelude.{◌≡◌, ℕ, Bool, not, List, Option, Some, None}
+use Rattle.std.specs.Prelude.{◌≡◌, ◌<◌, ◌≤◌, ℕ, Bool, not, List, length, Option, Some, None}
 use Rattle.sums.specs.declared.print.Print.{Print}
 use Rattle.tables.specs.Bodies.{body_with}
 use Rattle.tables.specs.Rows.{Tables, next_in, with_body, with_piece}
@@ -7,6 +7,10 @@ use Rattle.tables_meaning.specs.Coming.{bytes_at}
 use Rattle.tables_meaning.specs.Making.{number_with, with_bytes, with_delivered}
 use Rattle.tables_meaning.specs.Taking.{listed_in}
 use Rattle.tables_bodies.specs.Counting.{arrival_counts}
+
+-- these bytes fit one piece: there is one, and there are at most 65,536
+abbrev pub FitsOnePiece : List ℕ → Type 0
+FitsOnePiece bytes = (0 < length bytes) × (length bytes ≤ 65536)
 
 -- a whole body more, and its one piece
 abbrev pub with_one_piece : Print → List ℕ → Tables → Tables

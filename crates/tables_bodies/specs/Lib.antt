@@ -4,3 +4,4 @@ pub mod Unused
 pub mod Swept
 pub mod Counting
 pub mod AtOnce
+pub mod Calls

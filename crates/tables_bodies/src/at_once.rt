@@ -6,15 +6,14 @@
 //! The body is looked for by its print first. If one of that print is there it has to be one piece of the same bytes, and no row of a body
 //! is added.
 
-ghost use Rattle.std.specs.Prelude.{◌≡◌, ◌<◌, ◌≤◌, false, length, IfOk, OnOk};
-ghost use Rattle.sqlite.specs.State.{Survives};
-ghost use Rattle.sqlite.specs.Held.{state};
-ghost use Rattle.tables.specs.Rows.{Tables, Holds, next_in};
-ghost use Rattle.tables_bodies.specs.AtOnce.{HasNoOtherPiece, is_new_at_once, with_delivery_at_once, with_one_piece};
+ghost use Rattle.std.specs.Prelude.{◌≡◌, false, OnOk};
+ghost use Rattle.tables.specs.Rows.{next_in};
+ghost use Rattle.tables_bodies.specs.AtOnce.{FitsOnePiece, HasNoOtherPiece, is_new_at_once, with_delivery_at_once, with_one_piece};
 ghost use Rattle.tables_meaning.specs.Making.{number_with, with_bytes};
-ghost use Rattle.tables_meaning.specs.Transactions.{IsDone, MayCommit};
+ghost use Rattle.tables_meaning.specs.Transactions.{IsDone};
 ghost use Rattle.tables.specs.Calls.{CommitsNothing, IsSame, KeepsCommitted, OnCleanDisk, WritesAnd};
 ghost use Rattle.tables_meaning.specs.Calls.{Undoes};
+ghost use Rattle.tables_bodies.specs.Calls.{AnswersOf, CommitsWhere};
 
 use crate::arriving::{Arriving, receive};
 use crate::listing::{entries_of, record_of};
@@ -58,7 +57,7 @@ fn store_body<S: Alter>(
     tx: &mut Transaction<'_, S>,
     file: &OnePiece<'_>,
 ) -> Result<u64, Error>
-    requires one_piece { (0 < length file.now.bytes.now) × (length file.now.bytes.now ≤ 65536) }
+    requires one_piece { FitsOnePiece file.now.bytes.now }
     ensures same_reference { IsSame tx.old tx.new }
     ensures ok { WritesAnd S.Store tx.old tx.new result (with_bytes file.now.print file.now.bytes.now) (λ id t. HasNoOtherPiece file.now.print file.now.bytes.now t
         × (id ≡ number_with file.now.print (with_bytes file.now.print file.now.bytes.now t))) }
@@ -82,7 +81,7 @@ fn take_inside<S: Alter>(
     tx: &mut Transaction<'_, S>,
     file: &OnePiece<'_>,
 ) -> Result<bool, Error>
-    requires one_piece { (0 < length file.now.bytes.now) × (length file.now.bytes.now ≤ 65536) }
+    requires one_piece { FitsOnePiece file.now.bytes.now }
     ensures same_reference { IsSame tx.old tx.new }
     ensures ok { WritesAnd S.Store tx.old tx.new result (with_delivery_at_once file.now.name.now file.now.bytes.now file.now.print file.now.moment) (λ new t. HasNoOtherPiece file.now.print file.now.bytes.now t
         × (new ≡ is_new_at_once file.now.name.now file.now.bytes.now file.now.print file.now.span file.now.moment t)) }
@@ -107,15 +106,14 @@ pub fn take_one_piece<S: Alter>(
     file: &OnePiece<'_>,
 ) -> Result<bool, Error>
     requires idle { conn.old.in_transaction ≡ false }
-    requires one_piece { (0 < length file.now.bytes.now) × (length file.now.bytes.now ≤ 65536) }
+    requires one_piece { FitsOnePiece file.now.bytes.now }
     ensures idle { conn.new.in_transaction ≡ false }
     ensures done { OnCleanDisk S.Store conn.old conn.new (λ old new. OnOk result (IsDone old new (with_delivery_at_once file.now.name.now file.now.bytes.now file.now.print file.now.moment))) }
-    ensures answer { OnCleanDisk S.Store conn.old conn.new (λ old new. IfOk result (λ new. (t : Tables) → Holds old.now t → HasNoOtherPiece file.now.print file.now.bytes.now t
-        × (new ≡ is_new_at_once file.now.name.now file.now.bytes.now file.now.print file.now.span file.now.moment t))) }
+    ensures answer { AnswersOf S.Store conn.old conn.new result (λ new t. HasNoOtherPiece file.now.print file.now.bytes.now t
+        × (new ≡ is_new_at_once file.now.name.now file.now.bytes.now file.now.print file.now.span file.now.moment t)) }
     ensures undone { Undoes S.Store conn.old conn.new result }
-    ensures crash { Survives (state S.Store conn.old) (state S.Store conn.new) (λ trees. MayCommit (state S.Store conn.old)
-        (with_delivery_at_once file.now.name.now file.now.bytes.now file.now.print file.now.moment) trees
-        × ((t : Tables) → Holds (state S.Store conn.old).now t → HasNoOtherPiece file.now.print file.now.bytes.now t)) }
+    ensures crash { CommitsWhere S.Store conn.old conn.new (with_delivery_at_once file.now.name.now file.now.bytes.now file.now.print file.now.moment)
+        (HasNoOtherPiece file.now.print file.now.bytes.now) }
 {
     let mut tx = conn.transaction();
     let new = take_inside(alloc, &mut tx, file)?;

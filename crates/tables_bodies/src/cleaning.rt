@@ -3,11 +3,10 @@
 //! A cleaning that takes nothing is a transaction as any other. To read first what ended would spare that a commit, and cost each other
 //! cleaning the reading.
 
-ghost use Rattle.std.specs.Prelude.{if◌then◌else◌, ◌≡◌, false, filter, fold, length, not, IfOk, OnOk};
+ghost use Rattle.std.specs.Prelude.{if◌then◌else◌, ◌≡◌, false, filter, fold, length, not, OnOk};
 ghost use Rattle.sqlite.specs.State.{Survives};
 ghost use Rattle.sqlite.specs.Held.{state};
 ghost use Rattle.tables.specs.Arrivals.{without_arrival};
-ghost use Rattle.tables.specs.Rows.{Tables, Holds};
 ghost use Rattle.tables.specs.Uploads.{is_judged, without_upload};
 ghost use Rattle.tables.specs.Wants.{with_away, without_wants};
 ghost use Rattle.tables_meaning.specs.Amending.{Makes};
@@ -16,6 +15,7 @@ ghost use Rattle.tables_meaning.specs.Kept.{print_at};
 ghost use Rattle.tables_meaning.specs.Transactions.{IsDone, MayCommit};
 ghost use Rattle.tables.specs.Calls.{CommitsNothing, GoesOnInside, Inside, IsSame, KeepsCommitted, Looks, OnCleanDisk, WritesAnd};
 ghost use Rattle.tables_meaning.specs.Calls.{Undoes};
+ghost use Rattle.tables_bodies.specs.Calls.{AnswersOf};
 
 use crate::sweeping::sweep;
 use sqlite::{Alter, Connection, Error, Transaction};
@@ -235,7 +235,7 @@ pub fn clean<S: Alter>(
     requires idle { conn.old.in_transaction ≡ false }
     ensures idle { conn.new.in_transaction ≡ false }
     ensures done { OnCleanDisk S.Store conn.old conn.new (λ old new. OnOk result (IsDone old new (with_cleaned span moment))) }
-    ensures count { OnCleanDisk S.Store conn.old conn.new (λ old new. IfOk result (λ count. (t : Tables) → Holds old.now t → count ≡ length (ended_rows span moment t))) }
+    ensures count { AnswersOf S.Store conn.old conn.new result (λ count t. count ≡ length (ended_rows span moment t)) }
     ensures undone { Undoes S.Store conn.old conn.new result }
     ensures crash { Survives (state S.Store conn.old) (state S.Store conn.new) (MayCommit (state S.Store conn.old) (with_cleaned span moment)) }
 {

@@ -8,14 +8,15 @@
 //! reader that ended or failed they are taken away at once (`abandon`); if that fails they stay likewise, and the reader's fault is
 //! reported.
 
-ghost use Rattle.std.specs.Prelude.{◌≡◌, None, false, unwrap_or, IfOk, OnOk};
+ghost use Rattle.std.specs.Prelude.{◌≡◌, None, false, unwrap_or, OnOk};
 ghost use Rattle.sqlite.specs.State.{Survives};
 ghost use Rattle.sqlite.specs.Held.{state};
-ghost use Rattle.tables.specs.Rows.{Tables, Holds, next_in};
+ghost use Rattle.tables.specs.Rows.{next_in};
 ghost use Rattle.tables_meaning.specs.Coming.{with_next_piece};
 ghost use Rattle.tables_meaning.specs.Transactions.{IsDone, MayCommit};
 ghost use Rattle.tables.specs.Calls.{CommitsNothing, IsSame, KeepsCommitted, OnCleanDisk, WritesAnd};
 ghost use Rattle.tables_meaning.specs.Calls.{Undoes};
+ghost use Rattle.tables_bodies.specs.Calls.{AnswersOf};
 
 use sqlite::{Alter, Connection, Error, Transaction};
 use sums::Printer;
@@ -75,7 +76,7 @@ pub fn store_piece<S: Alter>(
     requires idle { conn.old.in_transaction ≡ false }
     ensures idle { conn.new.in_transaction ≡ false }
     ensures done { OnCleanDisk S.Store conn.old conn.new (λ old new. OnOk result (IsDone old new (with_next_piece body number bytes.now))) }
-    ensures answer { OnCleanDisk S.Store conn.old conn.new (λ old new. IfOk result (λ id. (t : Tables) → Holds old.now t → id ≡ unwrap_or body (next_in t.bodies))) }
+    ensures answer { AnswersOf S.Store conn.old conn.new result (λ id t. id ≡ unwrap_or body (next_in t.bodies)) }
     ensures undone { Undoes S.Store conn.old conn.new result }
     ensures crash { Survives (state S.Store conn.old) (state S.Store conn.new) (MayCommit (state S.Store conn.old) (with_next_piece body number bytes.now)) }
 {

@@ -1,14 +1,12 @@
 //! A file of which the whole body came: it arrives under its name.
 
-ghost use Rattle.std.specs.Prelude.{◌≡◌, ◌<◌, false, not, option_map, IfOk, OnOk};
-ghost use Rattle.sqlite.specs.State.{Survives};
-ghost use Rattle.sqlite.specs.Held.{state};
-ghost use Rattle.tables.specs.Rows.{Tables, Holds};
-ghost use Rattle.tables_bodies.specs.Counting.{arrival_counts};
+ghost use Rattle.std.specs.Prelude.{◌≡◌, ◌<◌, false, option_map, OnOk};
+ghost use Rattle.tables_bodies.specs.Counting.{is_new_at_end};
 ghost use Rattle.tables_meaning.specs.Coming.{IsNoOther, ended_number, with_ended, with_finished, with_received};
-ghost use Rattle.tables_meaning.specs.Transactions.{IsDone, MayCommit};
+ghost use Rattle.tables_meaning.specs.Transactions.{IsDone};
 ghost use Rattle.tables.specs.Calls.{CommitsNothing, IsSame, KeepsCommitted, OnCleanDisk, WritesAnd};
 ghost use Rattle.tables_meaning.specs.Calls.{Undoes};
+ghost use Rattle.tables_bodies.specs.Calls.{AnswersOf, CommitsWhere};
 
 use crate::arriving::{Arriving, receive};
 use crate::listing::{entries_of, record_inside};
@@ -39,7 +37,7 @@ fn end_body<S: Alter>(
     listed: Option<&[Entry]>,
 ) -> Result<bool, Error>
     ensures same_reference { IsSame tx.old tx.new }
-    ensures ok { WritesAnd S.Store tx.old tx.new result (λ t. with_received finished.now.name.now (ended_number finished.now.body finished.now.print t) finished.now.print finished.now.moment (option_map (λ entries. entries.now) listed.entry) (with_ended finished.now.body finished.now.print t)) (λ new t. new ≡ not (arrival_counts finished.now.span finished.now.moment finished.now.name.now (ended_number finished.now.body finished.now.print t) (with_ended finished.now.body finished.now.print t))) }
+    ensures ok { WritesAnd S.Store tx.old tx.new result (λ t. with_received finished.now.name.now (ended_number finished.now.body finished.now.print t) finished.now.print finished.now.moment (option_map (λ entries. entries.now) listed.entry) (with_ended finished.now.body finished.now.print t)) (λ new t. new ≡ is_new_at_end finished.now.name.now finished.now.body finished.now.print finished.now.span finished.now.moment t) }
     ensures err { KeepsCommitted S.Store tx.old tx.new result }
     ensures survives { CommitsNothing S.Store tx.old tx.new }
 {
@@ -63,7 +61,7 @@ fn finish_inside<S: Alter>(
     requires { finished.now.pieces < 18_446_744_073_709_551_615 }
     ensures same_reference { IsSame tx.old tx.new }
     ensures ok { WritesAnd S.Store tx.old tx.new result (with_finished finished.now.name.now finished.now.body finished.now.print finished.now.moment) (λ new t. IsNoOther finished.now.body finished.now.pieces finished.now.print t
-        × (new ≡ not (arrival_counts finished.now.span finished.now.moment finished.now.name.now (ended_number finished.now.body finished.now.print t) (with_ended finished.now.body finished.now.print t)))) }
+        × (new ≡ is_new_at_end finished.now.name.now finished.now.body finished.now.print finished.now.span finished.now.moment t)) }
     ensures err { KeepsCommitted S.Store tx.old tx.new result }
     ensures survives { CommitsNothing S.Store tx.old tx.new }
 {
@@ -82,13 +80,11 @@ pub fn finish_body<S: Alter>(
     requires counted { finished.now.pieces < 18_446_744_073_709_551_615 }
     ensures idle { conn.new.in_transaction ≡ false }
     ensures done { OnCleanDisk S.Store conn.old conn.new (λ old new. OnOk result (IsDone old new (with_finished finished.now.name.now finished.now.body finished.now.print finished.now.moment))) }
-    ensures answer { OnCleanDisk S.Store conn.old conn.new (λ old new. IfOk result (λ new. (t : Tables) → Holds old.now t
-        → IsNoOther finished.now.body finished.now.pieces finished.now.print t
-        × (new ≡ not (arrival_counts finished.now.span finished.now.moment finished.now.name.now (ended_number finished.now.body finished.now.print t) (with_ended finished.now.body finished.now.print t))))) }
+    ensures answer { AnswersOf S.Store conn.old conn.new result (λ new t. IsNoOther finished.now.body finished.now.pieces finished.now.print t
+        × (new ≡ is_new_at_end finished.now.name.now finished.now.body finished.now.print finished.now.span finished.now.moment t)) }
     ensures undone { Undoes S.Store conn.old conn.new result }
-    ensures crash { Survives (state S.Store conn.old) (state S.Store conn.new) (λ trees. MayCommit (state S.Store conn.old)
-        (with_finished finished.now.name.now finished.now.body finished.now.print finished.now.moment) trees
-        × ((t : Tables) → Holds (state S.Store conn.old).now t → IsNoOther finished.now.body finished.now.pieces finished.now.print t)) }
+    ensures crash { CommitsWhere S.Store conn.old conn.new (with_finished finished.now.name.now finished.now.body finished.now.print finished.now.moment)
+        (IsNoOther finished.now.body finished.now.pieces finished.now.print) }
 {
     let mut tx = conn.transaction();
     let new = finish_inside(alloc, &mut tx, finished)?;

@@ -2,9 +2,9 @@
 
 ghost use Rattle.std.specs.Prelude.{◌≡◌, ◌≤◌, ◌<◌, All, length, map, zip, IfOk, OnOk};
 ghost use Rattle.texts.specs.Indices.{all_texts};
+ghost use Rattle.texts.specs.Places.{place_entry};
 ghost use Rattle.texts.specs.Positions.{indices_at, release_at};
-ghost use Rattle.texts.specs.Release.{listed_entry};
-ghost use Rattle.tables_meaning.specs.Founding.{Continues, Founds, component_texts, components_texts, founded, from_root, suite_texts_at, with_dates, with_first_rows, with_path_text, with_texts};
+ghost use Rattle.tables_meaning.specs.Founding.{Continues, Founds, founded, from_root, listed_at, placed_texts, suite_texts_at, with_dates, with_first_rows, with_path_text, with_texts};
 ghost use Rattle.tables_meaning.specs.Kept.{date_row};
 ghost use Rattle.tables.specs.Calls.{CommitsNothing, Inside, IsSame, KeepsCommitted, Writes};
 
@@ -17,7 +17,7 @@ use tables::dates::insert_date;
 use tables::meta::{VERSION, insert_meta};
 use tables::schema::{create_indexes, create_tables};
 use tables::texts::insert_text;
-use texts::{index_path, indices_of, listed_text, path_in, release};
+use texts::{Place, index_path, indices_of, listed_text, path_in, places_of, release};
 
 /// The Release of the suite at the position, whose shown items last changed at the moment.
 fn release_of(
@@ -54,56 +54,49 @@ fn insert_in_folder<S: Alter>(
     insert_text(tx, whole.as_str(), text)
 }
 
-/// Adds an index of the suite at the position.
+/// Adds the index at a place of the suite at the position.
 fn insert_index<S: Alter>(
     alloc: Global,
     tx: &mut Transaction<'_, S>,
     shelves: &Shelves,
     position: usize,
     suite: &Suite,
-    component: &str,
-    architecture: &str,
+    place: &Place,
 ) -> Result<(), Error>
     ensures same_reference { IsSame tx.old tx.new }
-    ensures ok { Writes S.Store tx.old tx.new result (with_path_text (from_root suite.now (listed_entry shelves.now position component.now architecture.now))) }
+    ensures ok { Writes S.Store tx.old tx.new result (with_path_text (from_root suite.now (place_entry shelves.now position place.now))) }
     ensures err { KeepsCommitted S.Store tx.old tx.new result }
     ensures survives { CommitsNothing S.Store tx.old tx.new }
 {
+    let component = place.component.as_str();
+    let architecture = place.architecture.as_str();
     let path = index_path(alloc, component, architecture)?;
     let text = listed_text(alloc, shelves, position, component, architecture)?;
     insert_in_folder(alloc, tx, suite, path.as_str(), &text)
 }
 
-/// Adds the indices of a component of the suite at the position: each architecture in its order.
-fn insert_component<S: Alter>(
+/// Adds the indices at places of the suite at the position, in their order.
+fn insert_placed<S: Alter>(
     alloc: Global,
     tx: &mut Transaction<'_, S>,
     shelves: &Shelves,
     position: usize,
     suite: &Suite,
-    component: &str,
+    places: &[Place],
 ) -> Result<(), Error>
     ensures same_reference { IsSame tx.old tx.new }
-    ensures ok { Inside S.Store tx.old tx.new (λ old new. OnOk result (Continues old new (with_texts (component_texts shelves.now position suite.now suite.now.architectures component.now)))) }
+    ensures ok { Inside S.Store tx.old tx.new (λ old new. OnOk result (Continues old new (with_texts (placed_texts shelves.now position suite.now places.now)))) }
     ensures err { KeepsCommitted S.Store tx.old tx.new result }
     ensures survives { CommitsNothing S.Store tx.old tx.new }
 {
-    for architecture in suite.architectures.as_slice() {
-        insert_index(
-            alloc,
-            tx,
-            shelves,
-            position,
-            suite,
-            component,
-            architecture.as_str(),
-        )?;
+    for place in places {
+        insert_index(alloc, tx, shelves, position, suite, place)?;
     }
     Ok(())
 }
 
-/// Adds the indices of the suite at the position, Release aside: each component in its order.
-fn insert_components<S: Alter>(
+/// Adds the indices of the suite at the position, Release aside, place by place.
+fn insert_indices<S: Alter>(
     alloc: Global,
     tx: &mut Transaction<'_, S>,
     shelves: &Shelves,
@@ -111,14 +104,14 @@ fn insert_components<S: Alter>(
     suite: &Suite,
 ) -> Result<(), Error>
     ensures same_reference { IsSame tx.old tx.new }
-    ensures ok { Inside S.Store tx.old tx.new (λ old new. OnOk result (Continues old new (with_texts (components_texts shelves.now position suite.now suite.now.components)))) }
+    ensures ok { Inside S.Store tx.old tx.new (λ old new. OnOk result (Continues old new (with_texts (listed_at shelves.now position suite.now)))) }
     ensures err { KeepsCommitted S.Store tx.old tx.new result }
     ensures survives { CommitsNothing S.Store tx.old tx.new }
 {
-    for component in suite.components.as_slice() {
-        insert_component(alloc, tx, shelves, position, suite, component.as_str())?;
-    }
-    Ok(())
+    let components = suite.components.as_slice();
+    let architectures = suite.architectures.as_slice();
+    let places = places_of(alloc, components, architectures)?;
+    insert_placed(alloc, tx, shelves, position, suite, places.as_slice())
 }
 
 /// Adds the texts of the suite at the position, whose shown items last changed at the moment: Release, and then the others.
@@ -140,7 +133,7 @@ fn insert_suite<S: Alter>(
     let suite = &config.suites()[position];
     let text = release_of(alloc, config, shelves, position, moment)?;
     insert_in_folder(alloc, tx, suite, "Release", &text)?;
-    insert_components(alloc, tx, shelves, position, suite)
+    insert_indices(alloc, tx, shelves, position, suite)
 }
 
 /// Adds the texts of the suites, each of which last changed at its date.

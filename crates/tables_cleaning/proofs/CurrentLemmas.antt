@@ -17,12 +17,12 @@ use Rattle.tables.specs.Arrivals.{is_arrival}
 use Rattle.tables.specs.Bodies.{body_with}
 use Rattle.tables.specs.Rows.{Tables, rows_of}
 use Rattle.tables.specs.declared.rows.ArrivalRow.{ArrivalRow}
+use Rattle.tables.proofs.Pairwise.{ascending_from_pairs, pairs_from_ascending}
 use Rattle.tables_meaning.specs.Cleaning.{counts_row, is_current, with_current}
 use Rattle.tables_meaning.specs.Kept.{AreArrivals, AreStored, arrival_in, arrivals_in, bytes_of, has_body}
 use Rattle.tables_meaning.proofs.ArrivalLemmas.{counts_as}
 use Rattle.tables_meaning.proofs.BodyLemmas.{HasBody, any_false, apart_same, by_number, its_print, list_any-map, of_no_print, same_number}
 use Rattle.keep.proofs.Arrivals.{any_same}
-use Rattle.tables_meaning.proofs.RowLists.{ascending_from_pairs, pairs_from_ascending}
 use Rattle.tables_meaning.proofs.Searches.{any_weaker, list_any-filter, same_tests}
 use Rattle.tables_meaning.proofs.ChangeLemmas.{some_of}
 

@@ -13,7 +13,8 @@ use Rattle.std.proofs.lemmas.Str.{IsUtf8-from_ascii}
 use Rattle.records.specs.Names.{begins_with, is_architecture_byte, is_architecture_name, is_lower_or_digit, is_package_byte, is_package_name, is_plain_byte, is_plain_name}
 use Rattle.sums.proofs.Booleans.{passed}
 use Rattle.sums.specs.FileNames.{is_file_name, is_name_character}
-use Rattle.vers.specs.Syntax.{IsVersion, applies, faults, is_colon, is_epoch, is_hyphen, is_revision_character, is_upstream_character, without_epoch}
+use Rattle.para.specs.Bytes.{is_colon}
+use Rattle.vers.specs.Syntax.{IsVersion, applies, faults, is_epoch, is_hyphen, is_revision_character, is_upstream_character, without_epoch}
 use Rattle.tables_meaning.proofs.RowLists.{none_passes}
 
 -- each byte is below 128

@@ -8,7 +8,7 @@ use Rattle.std.proofs.lemmas.Option.{same_Some}
 use Rattle.rules.specs.declared.suite.Suite.{Suite}
 use Rattle.sums.proofs.Members.{all_at, all_from, any_true, here, there}
 use Rattle.suites.specs.Keys.{kind_number}
-use Rattle.suites.specs.Moved.{all_stay, moved, moved_entry, place_in, place_named}
+use Rattle.suites.specs.Moved.{all_stay, moved, moved_entry, place_in}
 use Rattle.suites.specs.Shelves.{ShelvesValue}
 use Rattle.suites.specs.declared.item.Item as shelf
 use Rattle.suites.specs.declared.key.ShelfKey.{ShelfKey}
@@ -21,11 +21,6 @@ use Rattle.tables_meaning.specs.Kept.{AreItems, codename_at, is_on, refs_for, sh
 use Rattle.rules.specs.Suites.{suite_named}
 use Rattle.tables_meaning.proofs.Searches.{some_found}
 use Rattle.tables_meaning.proofs.ShownLemmas.{item_parts, named_suite, suite_back}
-
--- a suite's place by its codename is told by two crates
-same_word : (suites : List Suite) (name : List ℕ) → place_named suites name ≡ suite_named suites name
-unfolding place_named suite_named
-same_word suites name = refl
 
 element : (suites : List Suite) (n : ℕ) → n < length suites → (s : Suite) × (slice_get suites n ≡ Some s)
 element [] n lt = absurd (omega arith)
@@ -45,10 +40,10 @@ module _ (old new : List Suite) where
   placed : (m k : ℕ) → place_in old new m ≡ Some k → (m < length old) × (k < length new) × (codename_at new k ≡ codename_at old m)
   placed m k e = by_case (slice_get old m) refl e
     where
-      by_case : (o : Option Suite) → slice_get old m ≡ o → option_and_then (λ s. place_named new s.codename) o ≡ Some k → (m < length old) × (k < length new) × (codename_at new k ≡ codename_at old m)
+      by_case : (o : Option Suite) → slice_get old m ≡ o → option_and_then (λ s. suite_named new s.codename) o ≡ Some k → (m < length old) × (k < length new) × (codename_at new k ≡ codename_at old m)
       by_case None is f = cc
       by_case (Some s) is f =
-          let there = named_suite new s.codename k (sym (same_word new s.codename) ∙ f) in
+          let there = named_suite new s.codename k f in
           (below old m s is, there.0, sym there.1 ∙ sym (name_at old m s is))
 
   -- the key to which an entry moves, and what it was
@@ -78,7 +73,7 @@ module _ (t : Tables) (old new : List Suite) (apart : AllPairs (λ s r. s.codena
       let at = named_suite old (codename_at new n) m e in
       let s = element old m at.0 in
       let name : s.0.codename ≡ codename_at new n = sym (name_at old m s.0 s.1) ∙ sym at.1 in
-      ap (option_and_then (λ (x : Suite). place_named new x.codename)) s.1 ∙ same_word new s.0.codename ∙ ap (suite_named new) name ∙ suite_back new other n lt
+      ap (option_and_then (λ (x : Suite). suite_named new x.codename)) s.1 ∙ ap (suite_named new) name ∙ suite_back new other n lt
 
   -- a shelf shows what the shelf of the old suite showed
   same_shelf : (key : ShelfKey) (m : ℕ) → key.suite < length new → suite_named old (codename_at new key.suite) ≡ Some m → get now key ≡ get shown (at_place key m)

@@ -19,6 +19,7 @@ use Rattle.suites.specs.Upload.{UploadValue, has_text}
 use Rattle.keep.specs.Book.{Book, Candidate, body_for, candidate_of, candidate_order, candidates, due, in_order, is_body_of, is_complete, is_judged, is_there, missing, put_in_order, unjudged, upload_of}
 use Rattle.sums.specs.FileNames.{is_changes_name}
 use Rattle.keep.specs.declared.arrival.Arrival.{Arrival}
+use Rattle.keep.proofs.Lists.{all_filter}
 use Rattle.keep.proofs.Prints.{same_print-Decides}
 use Rattle.tables.specs.Bodies.{body_with, has_print}
 use Rattle.tables.specs.Rows.{Tables, Numbered, Rises, rows_of}
@@ -228,13 +229,6 @@ module _ (t : Tables) where
   unfolding candidate_of
   read_candidates [] found = tt
   read_candidates (a ∷ arrivals) found = read_candidate a found.0 (is_changes_name a.name) (candidates arrivals) (read_candidates arrivals found.1)
-
-all_filter : {X : Type 0} (P : X → Type 0) (p : X → Bool) (xs : List X) → AllByRecursion P xs → AllByRecursion P (filter p xs)
-all_filter P p [] h = tt
-all_filter P p (x ∷ xs) h = elim (p x) as (λ b. AllByRecursion P (cond b (x ∷ filter p xs) (filter p xs))) [
-  | true ↦ (h.0, all_filter P p xs h.1)
-  | false ↦ all_filter P p xs h.1
-]
 
 all_put : (P : Candidate → Type 0) (c : Candidate) (cs : List Candidate) → P c → AllByRecursion P cs → AllByRecursion P (put_in_order c cs)
 all_put P c [] h hs = (h, tt)

@@ -1,11 +1,11 @@
 -- The first rows of an archive: how they are added, and that they are those of an archive in which nothing is yet.
 use Rattle.std.proofs.Common.{◌≡◌, ◌<◌, ℕ, zero, suc, ◌+◌, true, IsTrue, Result, Ok, Err, OnErr, List, [], ◌∷◌, ◌++◌, map, codes, length, replicate, take, get_or, Some, slice_get, append_assoc, refl, sym, ap, subst, ◌∙◌, arith}
 use Rattle.std.specs.FinMap.{empty}
-use Rattle.std.specs.List.{flat_map, zip}
+use Rattle.std.specs.List.{zip}
 use Rattle.std.specs.Option.{option_map_or}
 use Rattle.std.proofs.lemmas.List.{map-append, append-nil, take_more}
 use Rattle.std.proofs.lemmas.List.Sums.{fold-append}
-use Rattle.std.proofs.lemmas.Grind.{flat_map-append, get_or_default_zero}
+use Rattle.std.proofs.lemmas.Grind.{get_or_default_zero}
 use Rattle.std.proofs.lemmas.Slice.Zip.{get_or-zip, length-zip}
 use Rattle.sqlite.specs.Held.{Held, state}
 use Rattle.sqlite.specs.State.{State, KeepsCommit}
@@ -15,8 +15,9 @@ use Rattle.rules.specs.declared.suite.Suite.{Suite}
 use Rattle.suites.specs.Shelves.{ShelvesValue}
 use Rattle.texts.specs.Indices.{PathText, all_texts, folder_texts, suite_texts, texts_from}
 use Rattle.texts.specs.Positions.{indices_at, release_at}
-use Rattle.texts.specs.Release.{indices_of, listed_entry, listed_texts, release_text}
-use Rattle.texts.proofs.Walk.{map_twice}
+use Rattle.texts.specs.Release.{indices_of, release_text}
+use Rattle.texts.specs.Places.{place_entry, places_in}
+use Rattle.texts.proofs.Walk.{listed_by_place, map_twice}
 use Rattle.tables.specs.Rows.{Tables, Holds, Changes, no_rows, with_date, with_meta}
 use Rattle.tables.specs.Schema.{no_schema}
 use Rattle.tables.specs.declared.rows.Date.{Date}
@@ -24,7 +25,7 @@ use Rattle.tables.proofs.TransactionLemmas.{as_old, keeps_then, keeps_if_changed
 use Rattle.tables.specs.declared.meta.TheConstants.{VERSION}
 use Rattle.tables_meaning.specs.Kept.{date_row}
 use Rattle.tables_meaning.specs.Transactions.{IsUndone}
-use Rattle.tables_meaning.specs.Founding.{Continues, Founds, component_texts, components_texts, first_date, first_dates, founded, from_root, suite_texts_at, with_dates, with_first_rows, with_path_text, with_texts}
+use Rattle.tables_meaning.specs.Founding.{Continues, Founds, first_date, first_dates, founded, from_root, listed_at, suite_texts_at, with_dates, with_first_rows, with_path_text, with_texts}
 
 -- ---- statements in a row
 
@@ -116,14 +117,6 @@ module _ {X : Type 0} (xs : List X) (i : ℕ) (x : X) (inside : i < length xs) (
       then_date (map f (take i xs)) (f x) t
       ∙ ap (λ ys. with_dates ys t) (sym (map-append f (take i xs) (x ∷ [])) ∙ ap (map f) front)
 
-  pub texts_more : (f : X → List PathText) (t : Tables) → with_texts (f x) (with_texts (flat_map f (take i xs)) t) ≡ with_texts (flat_map f (take (i + 1) xs)) t
-  texts_more f t =
-      texts_then (flat_map f (take i xs)) (f x) t
-      ∙ ap (λ ys. with_texts ys t)
-      (ap (λ ys. flat_map f (take i xs) ++ ys) (sym (append-nil (f x)))
-      ∙ sym (flat_map-append f (take i xs) (x ∷ []))
-      ∙ ap (flat_map f) front)
-
 -- the next suite with its date
 next_date : (suites : List Suite) (dates : List ℕ) (i : ℕ) (s : Suite) → i < length suites → i < length dates → s ≡ get_or suites i s
     → (s, get_or dates i 0) ≡ get_or (zip suites dates) i (s, get_or dates i 0)
@@ -139,20 +132,13 @@ suite_date_more suites dates i s within dated is =
 
 -- ---- the texts of a suite
 
-of_components : (shelves : ShelvesValue) (position : ℕ) (s : Suite) (architectures components : List (List ℕ))
-    → map (from_root s) (flat_map (λ c. map (listed_entry shelves position c) architectures) components) ≡ flat_map (component_texts shelves position s architectures) components
-of_components shelves position s architectures [] = refl
-of_components shelves position s architectures (c ∷ cs) =
-    map-append (from_root s) (map (listed_entry shelves position c) architectures) (flat_map (λ c. map (listed_entry shelves position c) architectures) cs)
-    ∙ ap (λ ys. ys ++ map (from_root s) (flat_map (λ c. map (listed_entry shelves position c) architectures) cs)) (map_twice (from_root s) (listed_entry shelves position c) architectures)
-    ∙ ap (λ ys. component_texts shelves position s architectures c ++ ys) (of_components shelves position s architectures cs)
-
 -- Release, and then the others
 pub suite_texts_are : (shelves : ShelvesValue) (position : ℕ) (s : Suite) (date : ℕ)
-    → from_root s (codes "Release", release_text s date (indices_of s shelves position)) ∷ components_texts shelves position s s.components ≡ suite_texts shelves position s date
-unfolding suite_texts folder_texts listed_texts
+    → from_root s (codes "Release", release_text s date (indices_of s shelves position)) ∷ listed_at shelves position s ≡ suite_texts shelves position s date
+unfolding suite_texts folder_texts
 suite_texts_are shelves position s date =
-    ap (λ ys. from_root s (codes "Release", release_text s date (indices_of s shelves position)) ∷ ys) (sym (of_components shelves position s s.architectures s.components))
+    ap (λ ys. from_root s (codes "Release", release_text s date (indices_of s shelves position)) ∷ ys)
+    (sym (ap (map (from_root s)) (listed_by_place shelves position s) ∙ map_twice (from_root s) (place_entry shelves position) (places_in s.components s.architectures)))
 
 -- ---- the texts of all suites
 
@@ -193,13 +179,13 @@ suite_more config shelves dates i within dated t =
 -- Release of a suite, and then the others
 pub suite_then : (config : ConfigValue) (shelves : ShelvesValue) (moment i : ℕ) (s : Suite) (text : List ℕ) → slice_get config.suites i ≡ Some s
     → text ≡ release_at config i moment (indices_at config shelves i) → (t : Tables)
-    → with_texts (components_texts shelves i s s.components) (with_path_text (from_root s (codes "Release", text)) t) ≡ with_texts (suite_texts_at config shelves i moment) t
+    → with_texts (listed_at shelves i s) (with_path_text (from_root s (codes "Release", text)) t) ≡ with_texts (suite_texts_at config shelves i moment) t
 unfolding release_at indices_at
 suite_then config shelves moment i s text here e t =
     let is : text ≡ release_text s moment (indices_of s shelves i) = e ∙ ap (λ o. option_map_or (λ s. release_text s moment (option_map_or (λ s. indices_of s shelves i) o [])) o []) here in
-    text_then (from_root s (codes "Release", text)) (components_texts shelves i s s.components) t
+    text_then (from_root s (codes "Release", text)) (listed_at shelves i s) t
     ∙ ap (λ ys. with_texts ys t)
-    (ap (λ x. from_root s (codes "Release", x) ∷ components_texts shelves i s s.components) is
+    (ap (λ x. from_root s (codes "Release", x) ∷ listed_at shelves i s) is
     ∙ suite_texts_are shelves i s moment
     ∙ ap (λ o. option_map_or (λ s. suite_texts shelves i s moment) o []) (sym here))
 

@@ -17,6 +17,7 @@ pub mod SweptLemmas
 pub mod RemainingFiles
 pub mod AmendedLemmas
 pub mod Searches
+pub mod RisingNumbers
 pub mod WantLemmas
 pub mod SignOrder
 pub mod SortedLemmas

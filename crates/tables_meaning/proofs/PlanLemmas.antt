@@ -28,10 +28,11 @@ use Rattle.tables.specs.declared.rows.BodyRow.{BodyRow}
 use Rattle.tables.specs.declared.rows.File.{File}
 use Rattle.tables.specs.declared.rows.ItemRow.{ItemRow}
 use Rattle.tables.specs.declared.rows.Ref.{Ref}
+use Rattle.tables.proofs.Pairwise.{ascending_from_pairs, pairs_from_ascending}
 use Rattle.tables_meaning.specs.Kept.{AreFiles, AreItems, AreNumbered, AreStored, has_body, is_on, item_row, refs_for, shown_row}
 use Rattle.tables_meaning.specs.Making.{with_plan, with_pooled, with_refs, with_shown, without_shown}
 use Rattle.tables_meaning.specs.Planned.{IsPlanned, KeepsOthers, MayPlan}
-use Rattle.tables_meaning.proofs.RowLists.{some_is_one, ascending_from_pairs, pairs_from_ascending, along_drops, along_puts}
+use Rattle.tables_meaning.proofs.RowLists.{some_is_one, along_drops, along_puts}
 use Rattle.tables_meaning.proofs.ItemLemmas.{OnSome, Shelved, Stands, drop_none, drop_some, put_shelf, same_shelf}
 use Rattle.tables_meaning.proofs.FileLemmas.{Pooled, add_file, found_body, is_body, take_file}
 

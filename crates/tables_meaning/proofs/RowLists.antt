@@ -1,5 +1,5 @@
--- Lists of rows: what a search finds once rows go or come, and rows that differ two by two.
-use Rattle.std.proofs.Common.{◌≡◌, ℕ, zero, suc, ◌<◌, Bool, true, false, not, ◌||◌, cond, List, [], ◌∷◌, ◌++◌, filter, find, fold, refl, sym, ap, subst, ◌∙◌, arith, AllPairs, Some, None, nat_eq, T}
+-- Lists of rows: what a search finds once rows go or come.
+use Rattle.std.proofs.Common.{◌≡◌, ℕ, ◌<◌, Bool, true, false, not, ◌||◌, cond, List, [], ◌∷◌, ◌++◌, filter, find, fold, refl, sym, ap, subst, ◌∙◌, arith, Some, None, nat_eq, T}
 use Rattle.std.specs.List.{AllByRecursion, list_any}
 use Rattle.std.specs.declared.cmp.Ordering.{Ordering}
 use Rattle.std.specs.Ordering.{is_lt}
@@ -7,27 +7,10 @@ use Rattle.std.specs.Cmp.{IsTotalOrder, eq_by_cmp_equiv}
 use Rattle.std.specs.FinMap.{FinMap, get, insert, remove, is_sorted, get-insert}
 use Rattle.std.specs.FinMap.Entries.{below_all}
 use Rattle.std.proofs.lemmas.Bool.{both_ways, eq-eqb, ne_eqb, eqb-true}
-use Rattle.std.proofs.lemmas.List.Elements.{recursion_from_All, All-from_recursion}
 use Rattle.sqlite_trees.specs.Tree.{IsAscending}
 use Rattle.sqlite_keyed.specs.Lists.{delete_where}
 use Rattle.sqlite_keyed.proofs.ListLemmas.{all_weaker}
 use Rattle.suites.proofs.EntryLemmas.{and_left, and_right, less_apart}
-
--- ---- rows that differ two by two
-
-pub ascending_from_pairs : {X : Type 0} (R : X → X → Type 0) (xs : List X) → AllPairs R xs → IsAscending R xs
-ascending_from_pairs R [] h = tt
-ascending_from_pairs R (x ∷ xs) h = (
-  recursion_from_All (R x) xs (λ k d lt. h zero (suc k) d (omega arith) (omega arith)),
-  ascending_from_pairs R xs (λ i j d lt within. h (suc i) (suc j) d (omega arith) (omega arith)),
-)
-
-pub pairs_from_ascending : {X : Type 0} (R : X → X → Type 0) (xs : List X) → IsAscending R xs → AllPairs R xs
-pairs_from_ascending R [] up i j d lt within = absurd (omega arith)
-pairs_from_ascending R (x ∷ xs) up zero zero d lt within = absurd (omega arith)
-pairs_from_ascending R (x ∷ xs) up zero (suc j) d lt within = All-from_recursion (R x) xs up.0 j d (omega arith)
-pairs_from_ascending R (x ∷ xs) up (suc i) zero d lt within = absurd (omega arith)
-pairs_from_ascending R (x ∷ xs) up (suc i) (suc j) d lt within = pairs_from_ascending R xs up.1 i j d (omega arith) (omega arith)
 
 -- ---- what a search finds
 

@@ -23,12 +23,13 @@ use Rattle.tables.specs.declared.rows.BodyRow.{BodyRow}
 use Rattle.tables.specs.declared.rows.File.{File}
 use Rattle.tables.specs.declared.rows.Piece.{Piece}
 use Rattle.tables.specs.declared.meta.TheConstants.{VERSION}
+use Rattle.tables.proofs.Pairwise.{ascending_from_pairs, pairs_from_ascending}
 use Rattle.tables_meaning.specs.Kept.{AreArrivals, AreBodies, AreFiles, AreItems, AreSigned, AreStored, AreUploads, IsBook, arrival_in, arrivals_in, book_in, bytes_of, date_row, files_in, has_body, is_used, pieces_for, pieces_of, print_at}
 use Rattle.tables_meaning.specs.Sweeping.{swept}
 use Rattle.tables_meaning.proofs.BodyLemmas.{all_if, found, its_arrival, its_file, map_alike, row_of_body}
 use Rattle.tables_meaning.proofs.LikeLemmas.{items_like}
 use Rattle.tables_meaning.proofs.RequestLemmas.{requests, rows_from_uploads, uploads_from_rows}
-use Rattle.tables_meaning.proofs.RowLists.{all_filtered, any_kept, ascending_from_pairs, find_kept, pairs_from_ascending}
+use Rattle.tables_meaning.proofs.RowLists.{all_filtered, any_kept, find_kept}
 use Rattle.tables_meaning.proofs.Searches.{all_in_rows, all_of_rows}
 
 pub unset : (b : Bool) → not b ≡ true → b ≡ false

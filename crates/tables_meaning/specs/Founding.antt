@@ -1,6 +1,5 @@
 -- What a new archive is: its first rows, and what makes them.
 use Rattle.std.specs.Prelude.{◌≡◌, ℕ, true, List, [], map, fold, length, replicate, slice_get, IsTrue}
-use Rattle.std.specs.List.{flat_map}
 use Rattle.std.specs.Option.{option_map_or}
 use Rattle.std.specs.FinMap.{empty}
 use Rattle.sqlite.specs.Effect.{Database}
@@ -10,7 +9,8 @@ use Rattle.rules.specs.Values.{ConfigValue}
 use Rattle.rules.specs.declared.suite.Suite.{Suite}
 use Rattle.suites.specs.Shelves.{ShelvesValue}
 use Rattle.texts.specs.Indices.{PathText, all_texts, suite_path, suite_texts}
-use Rattle.texts.specs.Release.{listed_entry}
+use Rattle.texts.specs.Places.{place_entry, places_in}
+use Rattle.texts.specs.declared.places.Place.{Place}
 use Rattle.tables.specs.Rows.{Tables, Holds, no_rows, with_meta, with_text, with_date}
 use Rattle.tables.specs.Schema.{no_schema}
 use Rattle.tables.specs.declared.rows.Date.{Date}
@@ -52,13 +52,13 @@ founded config moment = with_first_rows config moment no_rows
 abbrev pub from_root : Suite → PathText → PathText
 from_root s e = (suite_path s e.0, e.1)
 
--- the indices of a component
-abbrev pub component_texts : ShelvesValue → ℕ → Suite → List (List ℕ) → List ℕ → List PathText
-component_texts shelves position s architectures component = map (λ a. from_root s (listed_entry shelves position component a)) architectures
+-- the indices at places of the suite at a position
+abbrev pub placed_texts : ShelvesValue → ℕ → Suite → List Place → List PathText
+placed_texts shelves position s places = map (λ p. from_root s (place_entry shelves position p)) places
 
--- those of components
-abbrev pub components_texts : ShelvesValue → ℕ → Suite → List (List ℕ) → List PathText
-components_texts shelves position s components = flat_map (component_texts shelves position s s.architectures) components
+-- all of them, Release aside
+abbrev pub listed_at : ShelvesValue → ℕ → Suite → List PathText
+listed_at shelves position s = placed_texts shelves position s (places_in s.components s.architectures)
 
 -- the texts of the suite at a position, none where there is no suite
 abbrev pub suite_texts_at : ConfigValue → ShelvesValue → ℕ → ℕ → List PathText

@@ -1,5 +1,5 @@
 -- What the keys of one table keep true of its rows.
-use Rattle.std.proofs.Common.{◌≡◌, ℕ, zero, suc, ◌<◌, pos, Bool, true, false, ◌&&◌, ◌||◌, List, [], ◌∷◌, map, Some, refl, sym, ap, subst, ◌∙◌, arith, AllPairs, All, nat_eq, IsTrue, inl, inr}
+use Rattle.std.proofs.Common.{◌≡◌, ℕ, ◌<◌, pos, Bool, true, false, ◌&&◌, ◌||◌, List, [], ◌∷◌, map, Some, refl, sym, ap, subst, ◌∙◌, arith, AllPairs, All, nat_eq, IsTrue, inl, inr}
 use Rattle.std.specs.List.{AllByRecursion, list_any}
 use Rattle.std.proofs.lemmas.Bool.{and_from, both_ways, false_from_ne_true, not-true}
 use Rattle.std.proofs.lemmas.Cmp.{tied_itself}
@@ -25,17 +25,10 @@ use Rattle.sqlite_typed.proofs.TestLemmas.{at_ints, last_term}
 use Rattle.sqlite_value.proofs.OrderLemmas.{value_cmp_total}
 use Rattle.sqlite_value.specs.Keys.{first_key, plain}
 use Rattle.tables.proofs.EqualLemmas.{whole_test}
+use Rattle.tables.proofs.Pairwise.{pairs_from_ascending}
 use Rattle.tables.specs.Rows.{HasRows, Numbered, rows_of, stored, whole}
 
 -- ---- lists
-
--- what is so of each element and the later ones, by their places
-pairs_from_ascending : {X : Type 0} (R : X → X → Type 0) (xs : List X) → IsAscending R xs → AllPairs R xs
-pairs_from_ascending R [] up i j d lt within = absurd (omega arith)
-pairs_from_ascending R (x ∷ xs) up zero zero d lt within = absurd (omega arith)
-pairs_from_ascending R (x ∷ xs) up zero (suc j) d lt within = All-from_recursion (R x) xs up.0 j d (omega arith)
-pairs_from_ascending R (x ∷ xs) up (suc i) zero d lt within = absurd (omega arith)
-pairs_from_ascending R (x ∷ xs) up (suc i) (suc j) d lt within = pairs_from_ascending R xs up.1 i j d (omega arith) (omega arith)
 
 -- what is so of each two elements of a list in one order is so of each and the later ones
 ascending_on : {X : Type 0} (S R : X → X → Type 0) (xs : List X) → ((x y : X) → Has xs x → Has xs y → S x y → R x y) → IsAscending S xs → IsAscending R xs

@@ -9,6 +9,7 @@ use Rattle.hex.specs.Hex.{encode_lower}
 use Rattle.para.specs.Field.{FieldValue}
 use Rattle.para.specs.Fields.{Fields, fields_in}
 use Rattle.para.specs.Printing.{paragraph_text}
+use Rattle.records.specs.Records.{dsc_limit}
 use Rattle.sums.specs.declared.print.Print.{Print}
 use Rattle.suites.specs.Pool.{directory_of}
 use Rattle.suites.specs.Shelves.{ShelvesValue}
@@ -22,7 +23,7 @@ use Rattle.texts.specs.declared.stanza.Digest.TheVariants.{Md5, Sha1, Sha256}
 
 -- the fields of the paragraph that a text spells, none where it spells none; the limit is that of a .dsc
 unfoldable pub fields_of_text : List ℕ → Fields
-fields_of_text text = result_unwrap_or (fields_in text 1_048_576) []
+fields_of_text text = result_unwrap_or (fields_in text dsc_limit) []
 
 -- a field of one line
 abbrev pub line_field : List ℕ → List ℕ → FieldValue

@@ -8,21 +8,19 @@ ghost use Rattle.para.specs.Printing.{field_text, more_text};
 ghost use Rattle.texts.specs.Stanzas.{fields_of_text, line_field, is_named, list_line, digest_of};
 
 use para::{Field, ParaFault, Paragraph, read_one, write_field, write_line};
+use records::MOST_DSC;
 use std::alloc::{AllocError, Global};
 use sums::Print;
-
-/// The most bytes of a paragraph that an item carries: those of a .dsc.
-const LIMIT: usize = 1_048_576;
 
 /// For how many bytes a stanza gets room at once. It grows where it has more.
 pub const USUAL_STANZA: usize = 1024;
 
-/// The paragraph that a text spells, or nothing where it spells none.
+/// The paragraph that the text of an item spells, which has at most as many bytes as a .dsc; or nothing where it spells none.
 #[tactic(auto, unfolding(crate::specs::Stanzas::fields_of_text))]
 pub fn paragraph_in<'a>(alloc: Global, text: &'a str) -> Result<Option<Paragraph<'a>>, AllocError>
     ensures { IfOk result (λ found. MatchOption found (fields_of_text text.now ≡ []) (λ paragraph. fields_of_text text.now ≡ paragraph)) }
 {
-    match read_one(alloc, text.as_bytes(), LIMIT) {
+    match read_one(alloc, text.as_bytes(), MOST_DSC) {
         Ok(paragraph) => Ok(Some(paragraph)),
         Err(ParaFault::OutOfMemory) => Err(AllocError),
         Err(_) => Ok(None),

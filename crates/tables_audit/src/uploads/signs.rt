@@ -2,10 +2,10 @@
 
 ghost use Rattle.std.specs.Prelude.{◌≡◌, IfOk, map};
 ghost use Rattle.keep.specs.Book.{judging_order};
-ghost use Rattle.tables_audit.specs.Signs.{AreInOrder, SignValue, arrived_sign, entry_sign, has_sign, judgement_sign, print_order, sign_of};
+ghost use Rattle.tables_audit.specs.Signs.{AreInOrder, SignValue, arrived_sign, entry_sign, has_sign, judgement_sign, sign_of};
 
 use crate::uploads::arrived::Arrived;
-use keep::Judgement;
+use keep::{Judgement, judging_order};
 use std::alloc::{AllocError, Global};
 use std::cmp::Ordering;
 use sums::{Entry, Print};
@@ -47,27 +47,11 @@ pub fn sign_of_entry(entry: &Entry) -> Sign<'_>
     }
 }
 
-/// The order of prints: by SHA-256, SHA-1, MD5 and size.
-fn compare_prints(a: &Print, b: &Print) -> Ordering
-    ensures { result ≡ print_order a.now b.now }
-{
-    a.sha256
-        .cmp(&b.sha256)
-        .then(a.sha1.cmp(&b.sha1))
-        .then(a.md5.cmp(&b.md5))
-        .then(a.size.cmp(&b.size))
-}
-
-/// The order: by the bytes of the names, then by the prints.
-#[tactic(auto, unfolding(keep::specs::Book::judging_order))]
+/// The order of judging: by the bytes of the names, then by the prints.
 fn compare(a: &Sign<'_>, b: &Sign<'_>) -> Ordering
     ensures { result ≡ judging_order (sign_of a.now) (sign_of b.now) }
 {
-    // Most names differ, and then no digest is looked at.
-    match a.name.cmp(b.name) {
-        Ordering::Equal => compare_prints(&a.print, &b.print),
-        unlike => unlike,
-    }
+    judging_order(a.name, &a.print, b.name, &b.print)
 }
 
 /// Whether one of these signs, which stand in order, is this.

@@ -3,7 +3,9 @@ use Rattle.command_line.proofs.commands.with_asking.Goals as goal
 pub returns : goal.returns
 returns c app whole =
     let one = c.with-command.ensures _ _ whole c.show_command.ensures in
-    let two = c.with-command-2.ensures _ _ one c.waiting_command.ensures in
-    let three = c.with-command-3.ensures _ _ two c.verdicts_command.ensures in
-    let four = c.with-command-4.ensures _ _ three c.configuration_command.ensures in
-    c.with.ensures _ _ four c.serve_command.ensures
+    let two = c.with-command-2.ensures _ _ one c.list_command.ensures in
+    let three = c.with-command-3.ensures _ _ two c.waiting_command.ensures in
+    let four = c.with-command-4.ensures _ _ three c.verdicts_command.ensures in
+    let five = c.with-command-5.ensures _ _ four c.configuration_command.ensures in
+    let six = c.with-command-6.ensures _ _ five c.export_command.ensures in
+    c.with.ensures _ _ six c.serve_command.ensures

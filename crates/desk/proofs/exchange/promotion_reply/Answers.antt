@@ -6,7 +6,8 @@ use Rattle.desk.specs.Message.{message_of}
 use Rattle.desk.specs.Reply.{line}
 use Rattle.desk.proofs.exchange.promotion_reply.Goals as goal
 
-pub returns : goal.returns
-returns c is_pool =
-    ap message_of c.new.ensures
-    ∙ ap (text_message 200) (sym (flat_map-map line string_bytes c.args.promotion.report.lines.items) ∙ ap (flat_map line) c.requires)
+pub returns-in-Ok : goal.returns-in-Ok
+returns-in-Ok c want =
+    let lines = rw c.in-Ok.is at c.requires in
+    rw c.in-Ok.is (ap message_of c.new.ensures
+    ∙ ap (text_message 200) (sym (flat_map-map line string_bytes c.in-Ok.promotion.report.lines.items) ∙ ap (flat_map line) lines))

@@ -1,7 +1,7 @@
 use Rattle.std.proofs.Common.{inl}
 use Rattle.desk.specs.Request.{want_of}
 use Rattle.desk.proofs.ExchangeLemmas.{broken_behind, handled_asked, handled_refused}
-use Rattle.desk.proofs.RequestLemmas.{on_err}
+use Rattle.sums.proofs.Results.{on_err}
 use Rattle.desk.proofs.WantedLemmas.{small_body}
 use Rattle.desk.proofs.exchange.reply_to.Goals as goal
 

@@ -5,5 +5,6 @@ use Rattle.desk.specs.Message.{message_of}
 use Rattle.desk.specs.Reply.{line}
 use Rattle.desk.proofs.exchange.report_reply.Goals as goal
 
-pub returns : goal.returns
-returns c is_pool = ap message_of c.new.ensures ∙ ap (text_message 200) (sym (flat_map-map line string_bytes c.args.report.lines.items))
+pub returns-in-Ok : goal.returns-in-Ok
+returns-in-Ok c want =
+    rw c.in-Ok.is (ap message_of c.new.ensures ∙ ap (text_message 200) (sym (flat_map-map line string_bytes c.in-Ok.report.lines.items)))

@@ -1,4 +1,5 @@
-use Rattle.desk.proofs.RequestLemmas.{received_long, refused_from_head, on_err}
+use Rattle.sums.proofs.Results.{on_err}
+use Rattle.desk.proofs.RequestLemmas.{received_long, refused_from_head}
 use Rattle.desk.proofs.UniqueLemmas.{head_part}
 use Rattle.desk.proofs.request.read_request.Goals as goal
 

@@ -1,15 +1,13 @@
-use Rattle.std.proofs.Common.{◌≡◌, ℕ, List, length, take, map, ap, ◌∙◌, arith}
-use Rattle.std.specs.List.{flat_map}
-use Rattle.std.proofs.lemmas.List.{take_all}
-use Rattle.texts.specs.Release.{listed_entry, listed_texts}
+use Rattle.std.proofs.Common.{List, map, ap, ap₂, sym, ◌∙◌}
+use Rattle.std.proofs.lemmas.Result.{IfOk-weaker}
+use Rattle.texts.specs.Places.{place_entry, places_in}
+use Rattle.texts.specs.declared.places.Place.{Place}
+use Rattle.texts.proofs.Walk.{listed_by_place}
 use Rattle.tables_audit.proofs.text_rows.listed_entries.Goals as goal
 
 pub returns : goal.returns
-unfolding listed_texts
 returns c =
-    let components : List (List ℕ) = c.args.suite.now.components in
-    let i : ℕ = c.loop-component.component-index in
-    let all : take i components ≡ components = take_all i components (omega (arith, ap length c.as_slice-component-items.ensures)) in
-    c.loop-component.invariant
-    ∙ ap (λ (xs : List (List ℕ)). flat_map (λ n. map (listed_entry c.args.shelves.now c.args.position n) xs) (take i components)) c.as_slice-architectures.ensures
-    ∙ ap (flat_map (λ n. map (listed_entry c.args.shelves.now c.args.position n) c.args.suite.now.architectures)) all
+    let are = c.as_slice.ensures ∙ c.in_ok-places.ensures ∙ ap₂ places_in c.as_slice-components.ensures c.as_slice-architectures.ensures in
+    IfOk-weaker c.placed_entries.result _ _ (λ _ e. e
+    ∙ ap (λ (ps : List Place). map (place_entry c.args.shelves.now c.args.position) ps) are
+    ∙ sym (listed_by_place c.args.shelves.now c.args.position c.args.suite.now)) c.placed_entries.ensures

@@ -1,5 +1,5 @@
 use Rattle.std.proofs.Common.{◌∙◌}
-use Rattle.tables_bodies.proofs.UnusedLemmas.{found_among}
+use Rattle.tables_meaning.proofs.RisingNumbers.{found_among}
 use Rattle.tables_bodies.proofs.sweeping.is_among.Goals as goal
 
 pub returns : goal.returns

@@ -1,7 +1,7 @@
 use Rattle.std.proofs.Common.{nat_eq, sym, ap, subst, ◌∙◌}
 use Rattle.std.specs.List.{list_any}
 use Rattle.std.specs.List.Sorted.{IsNonDecreasing}
-use Rattle.tables_audit.proofs.BodiesLemmas.{found_among}
+use Rattle.tables_meaning.proofs.RisingNumbers.{found_among}
 use Rattle.old_book.proofs.settling.Numbers.contain.Goals as goal
 
 pub returns : goal.returns

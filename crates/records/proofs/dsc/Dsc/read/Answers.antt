@@ -1,7 +1,7 @@
 use Rattle.std.proofs.Common.{ap}
 use Rattle.std.proofs.lemmas.Result.{err_from_is_err_and}
 use Rattle.para.specs.Fields.{fields_in}
-use Rattle.records.specs.Records.{dsc_in, dsc_fault, dsc_of, of_fields, unless, changes_limit}
+use Rattle.records.specs.Records.{dsc_in, dsc_fault, dsc_limit, dsc_of, of_fields, unless}
 use Rattle.records.proofs.FromFields.{refused_text, read_from, refused_from}
 use Rattle.records.proofs.dsc.Dsc.read.Goals as goal
 
@@ -9,7 +9,7 @@ pub returns-in_err-paragraph-clause-refused : goal.returns-in_err-paragraph-clau
 unfolding dsc_in
 returns-in_err-paragraph-clause-refused c =
     let p = err_from_is_err_and c.from_residual.result c.from_residual.ensures.1 in
-    rw (p.1, p.2) (refused_text (λ f. unless (dsc_fault f) (dsc_of f)) (fields_in c.args.text.now changes_limit) _ c.in_err-paragraph.ensures.refused)
+    rw (p.1, p.2) (refused_text (λ f. unless (dsc_fault f) (dsc_of f)) (fields_in c.args.text.now dsc_limit) _ c.in_err-paragraph.ensures.refused)
 
 pub returns-clause-read : goal.returns-clause-read
 unfolding dsc_in

@@ -1,0 +1,10 @@
+//! What a configuration says, in lines for whoever wrote it, and which of its fields are passed over.
+#![tactic(auto)]
+
+mod fields;
+mod laws;
+mod lines;
+
+pub use fields::{likely_name, unknown_fields};
+pub use laws::unknown_fields_change_nothing;
+pub use lines::check_lines;

@@ -1,0 +1,30 @@
+//! What an export is asked for, and what its steps are made by.
+
+use crate::states::Wanted;
+use suites::Shelves;
+
+/// What an export is asked for.
+#[derive(Clone, Copy, Debug)]
+pub struct Export<'a> {
+    /// The folder of the tree. It and those above it are made where they are not there.
+    pub folder: &'a str,
+    /// The moment at which uploads wait, in seconds since 1970-01-01 00:00:00 UTC. It is of no matter to anything else.
+    pub at: u64,
+    /// Whether a suite shows a state only once an InRelease lies in its folder.
+    pub signed: bool,
+    /// Whether a state has its texts, and those of the two states before, also by their digests.
+    pub by_hash: bool,
+}
+
+/// What the steps of an export are made by.
+#[derive(Clone, Copy)]
+pub struct Job<'j> {
+    /// The folder of the tree, without a slash behind it.
+    pub root: &'j str,
+    pub by_hash: bool,
+    pub shelves: &'j Shelves,
+    /// The suites in the order of the configuration.
+    pub suites: &'j [Wanted],
+    /// Whether each file of the pool is on the disk before an index names it.
+    pub is_synced: bool,
+}

@@ -1,0 +1,77 @@
+//! Why an export ends before it is done.
+
+use keep::KeepFault;
+use queue::Fault;
+use std::alloc::{AllocError, AllocFailed};
+use std::error::Error;
+use std::fmt;
+
+/// Why an export ends before it is done. What it has made till then stays, and the next one goes on from there.
+#[derive(Debug, Drop)]
+pub enum ExportFault {
+    /// Nothing can be written at this path: the disk is full or fails, there is no right to, a file stands where a folder is to be or a
+    /// folder where a file is to be, or another export holds the lock. It is the first path that failed.
+    Place(String),
+    /// The archive refused a call.
+    Archive(Fault),
+    /// The output failed.
+    Unwritten,
+    /// No memory was left.
+    OutOfMemory,
+}
+
+/// Writes a path, with a question mark in the place of each control character.
+fn write_shown<W: fmt::Write>(f: &mut fmt::Formatter<W>, path: &str) -> fmt::Result {
+    let mut is_first = true;
+    for piece in path.split(char::is_control) {
+        if !is_first {
+            f.write_char('?')?;
+        }
+        f.write_str(piece)?;
+        is_first = false;
+    }
+    Ok(())
+}
+
+impl fmt::Display for ExportFault {
+    fn fmt<W: fmt::Write>(&self, f: &mut fmt::Formatter<W>) -> fmt::Result {
+        match self {
+            ExportFault::Place(path) => {
+                f.write_str("cannot write ")?;
+                write_shown(f, path.as_str())
+            }
+            ExportFault::Archive(fault) => write!(f, "{fault}"),
+            ExportFault::Unwritten => f.write_str("cannot write"),
+            ExportFault::OutOfMemory => write!(f, "{}", Fault::OutOfMemory),
+        }
+    }
+}
+
+impl Error for ExportFault {}
+
+impl From<AllocError> for ExportFault {
+    fn from(_error: AllocError) -> ExportFault {
+        ExportFault::OutOfMemory
+    }
+}
+
+impl<T: Drop> From<AllocFailed<T>> for ExportFault {
+    fn from(_error: AllocFailed<T>) -> ExportFault {
+        ExportFault::OutOfMemory
+    }
+}
+
+impl From<Fault> for ExportFault {
+    fn from(fault: Fault) -> ExportFault {
+        match fault {
+            Fault::OutOfMemory => ExportFault::OutOfMemory,
+            fault => ExportFault::Archive(fault),
+        }
+    }
+}
+
+impl From<KeepFault> for ExportFault {
+    fn from(fault: KeepFault) -> ExportFault {
+        ExportFault::from(Fault::from(fault))
+    }
+}

@@ -1,0 +1,314 @@
+//! What an export leaves in writing for the next one: the manifest.
+//!
+//! ```text
+//! boqitsel files 1
+//! shown CODENAME STATE BEFORE             what the suite showed, and what it had shown before that, or `-`
+//! here SHA256 SIZE SECONDS.NANOS PATH     written or compared, and when the file was modified then
+//! coming PATH                             was about to be written
+//! left PATH                               no file of the pool since an export that showed something
+//! ```
+//!
+//! A manifest with any other line is passed over whole: then all is compared, and nothing is removed. A line is read only if it is
+//! what would be written, to the byte.
+
+ghost use Rattle.std.specs.Prelude.{◌≡◌, IfOk, IfSome};
+
+use crate::disk::Stamp;
+use crate::names::is_pool_path;
+use hex::FromHex;
+use para::Text;
+use std::alloc::{AllocError, Global};
+use std::collections::BTreeMap;
+
+/// The first line of a manifest.
+const FIRST: &str = "boqitsel files 1";
+
+/// The contents of a file that an export has written or compared, and when it was modified then.
+#[derive(Clone, Copy, PartialEq, Eq)]
+pub struct Vouched {
+    pub sha256: [u8; 32],
+    pub size: u64,
+    pub stamp: Stamp,
+}
+
+/// What is known of a path.
+#[derive(Clone, Copy, PartialEq, Eq)]
+pub enum Word {
+    /// The file was written or compared.
+    Here(Vouched),
+    /// The file was about to be written.
+    Coming,
+    /// No file of the pool stands there since an export that showed something.
+    Left,
+}
+
+/// The states of a suite: the one that was shown, and the one that was shown before it, where it is known.
+#[derive(Drop)]
+pub struct Shown {
+    pub state: String,
+    pub before: Option<String>,
+}
+
+impl Shown {
+    /// The state that was shown before, where it is known.
+    pub fn before(&self) -> Option<&str> {
+        match &self.before {
+            Some(before) => Some(before.as_str()),
+            None => None,
+        }
+    }
+
+    /// Whether these are the states.
+    fn is(&self, state: &str, before: Option<&str>) -> bool {
+        self.state.as_str() == state && self.before() == before
+    }
+}
+
+/// What is known of the paths of the pool that exports wrote, and of the states that they showed.
+#[derive(Drop)]
+pub struct Manifest {
+    words: BTreeMap<String, Word>,
+    shown: BTreeMap<String, Shown>,
+    /// Whether something is other than it was read.
+    is_changed: bool,
+}
+
+/// The line of a path, without its newline.
+fn path_line(alloc: Global, path: &str, word: &Word) -> Result<String, AllocError> {
+    match word {
+        Word::Here(vouched) => {
+            let digest = hex::encode(alloc, &vouched.sha256[..])?;
+            let (size, stamp) = (vouched.size, vouched.stamp);
+            let (seconds, nanos) = (stamp.seconds, stamp.nanos);
+            format!(in alloc; "here {digest} {size} {seconds}.{nanos:09} {path}")
+        }
+        Word::Coming => format!(in alloc; "coming {path}"),
+        Word::Left => format!(in alloc; "left {path}"),
+    }
+}
+
+/// The line of a suite, without its newline.
+fn shown_line(alloc: Global, codename: &str, shown: &Shown) -> Result<String, AllocError> {
+    let state = shown.state.as_str();
+    let before = shown.before().unwrap_or("-");
+    format!(in alloc; "shown {codename} {state} {before}")
+}
+
+/// What a text `SECONDS.NANOS` says.
+fn stamp_in(text: &str) -> Option<Stamp> {
+    let (seconds, nanos) = text.split_once('.')?;
+    Some(Stamp {
+        seconds: seconds.parse::<u64>().ok()?,
+        nanos: nanos.parse::<u32>().ok()?,
+    })
+}
+
+/// What the words behind `here` say, and their path.
+fn vouched_in(rest: &str) -> Option<(&str, Word)> {
+    let (digest, rest) = rest.split_once(' ')?;
+    let (size, rest) = rest.split_once(' ')?;
+    let (stamp, path) = rest.split_once(' ')?;
+    let vouched = Vouched {
+        sha256: <[u8; 32]>::from_hex(digest).ok()?,
+        size: size.parse::<u64>().ok()?,
+        stamp: stamp_in(stamp)?,
+    };
+    Some((path, Word::Here(vouched)))
+}
+
+/// What a line may say of a path.
+fn words_in(line: &str) -> Option<(&str, Word)> {
+    let (first, rest) = line.split_once(' ')?;
+    match first {
+        "here" => vouched_in(rest),
+        "coming" => Some((rest, Word::Coming)),
+        "left" => Some((rest, Word::Left)),
+        _ => None,
+    }
+}
+
+/// What a line says of a path, where it is the line that would be written of that.
+fn path_in_line(alloc: Global, line: &str) -> Result<Option<(&str, Word)>, AllocError> {
+    let Some((path, word)) = words_in(line) else {
+        return Ok(None);
+    };
+    let written = path_line(alloc, path, &word)?;
+    if written.as_str() != line || !is_pool_path(path) {
+        return Ok(None);
+    }
+    Ok(Some((path, word)))
+}
+
+/// The words behind `shown` of a line: a codename, a state, and the one before or `-`.
+fn shown_in_line(line: &str) -> Option<(&str, &str, &str)> {
+    let rest = line.strip_prefix("shown ")?;
+    let (codename, rest) = rest.split_once(' ')?;
+    let (state, before) = rest.split_once(' ')?;
+    if before.contains(' ') {
+        return None;
+    }
+    Some((codename, state, before))
+}
+
+impl Manifest {
+    /// A manifest that knows nothing.
+    fn new(alloc: Global) -> Manifest {
+        Manifest {
+            words: BTreeMap::new(alloc),
+            shown: BTreeMap::new(alloc),
+            is_changed: false,
+        }
+    }
+
+    /// The manifest that bytes have; one that knows nothing where there are none, or another line is among them.
+    pub fn read(alloc: Global, bytes: Option<&[u8]>) -> Result<Manifest, AllocError> {
+        let mut manifest = Manifest::new(alloc);
+        let Some(Ok(text)) = bytes.map(|bytes| std::str::from_utf8(bytes)) else {
+            return Ok(manifest);
+        };
+        if manifest.read_text(alloc, text)? {
+            return Ok(manifest);
+        }
+        Ok(Manifest::new(alloc))
+    }
+
+    /// Takes the lines of a text, and says whether they are those of a manifest.
+    fn read_text(&mut self, alloc: Global, text: &str) -> Result<bool, AllocError> {
+        let Some(lines) = text.strip_suffix('\n') else {
+            return Ok(false);
+        };
+        let mut is_first = true;
+        for line in lines.split('\n') {
+            let is_known = if is_first {
+                line == FIRST
+            } else {
+                self.read_line(alloc, line)?
+            };
+            if !is_known {
+                return Ok(false);
+            }
+            is_first = false;
+        }
+        Ok(true)
+    }
+
+    /// Takes a line behind the first, and says whether it is one of a manifest.
+    fn read_line(&mut self, alloc: Global, line: &str) -> Result<bool, AllocError> {
+        if let Some((codename, state, before)) = shown_in_line(line) {
+            let before = if before == "-" { None } else { Some(before) };
+            self.put_shown(alloc, codename, state, before)?;
+            return Ok(true);
+        }
+        let Some((path, word)) = path_in_line(alloc, line)? else {
+            return Ok(false);
+        };
+        self.words.insert(String::from_str(alloc, path)?, word)?;
+        Ok(true)
+    }
+
+    fn put_shown(
+        &mut self,
+        alloc: Global,
+        codename: &str,
+        state: &str,
+        before: Option<&str>,
+    ) -> Result<(), AllocError> {
+        let before = match before {
+            Some(before) => Some(String::from_str(alloc, before)?),
+            None => None,
+        };
+        let shown = Shown {
+            state: String::from_str(alloc, state)?,
+            before,
+        };
+        self.shown
+            .insert(String::from_str(alloc, codename)?, shown)?;
+        Ok(())
+    }
+
+    /// The whole text.
+    pub fn text(&self, alloc: Global) -> Result<String, AllocError> {
+        let mut text = String::from_str(alloc, FIRST)?;
+        text.push('\n')?;
+        for (codename, shown) in &self.shown {
+            text.push_str(shown_line(alloc, codename.as_str(), shown)?.as_str())?;
+            text.push('\n')?;
+        }
+        for (path, word) in &self.words {
+            text.push_str(path_line(alloc, path.as_str(), word)?.as_str())?;
+            text.push('\n')?;
+        }
+        Ok(text)
+    }
+
+    /// What is known of a path.
+    pub fn word(&self, path: &str) -> Option<Word> {
+        self.words.get(path).copied()
+    }
+
+    /// Says something of a path.
+    pub fn set(&mut self, alloc: Global, path: &str, word: Word) -> Result<(), AllocError> {
+        if self.word(path) == Some(word) {
+            return Ok(());
+        }
+        self.words.insert(String::from_str(alloc, path)?, word)?;
+        self.is_changed = true;
+        Ok(())
+    }
+
+    /// Knows nothing of a path any more.
+    pub fn forget(&mut self, path: &str) {
+        if self.words.remove(path).is_some() {
+            self.is_changed = true;
+        }
+    }
+
+    /// What a suite showed when the manifest was written.
+    pub fn shown(&self, codename: &str) -> Option<&Shown> {
+        self.shown.get(codename)
+    }
+
+    /// Says what a suite shows.
+    pub fn set_shown(
+        &mut self,
+        alloc: Global,
+        codename: &str,
+        state: &str,
+        before: Option<&str>,
+    ) -> Result<(), AllocError> {
+        if let Some(shown) = self.shown.get(codename) {
+            if shown.is(state, before) {
+                return Ok(());
+            }
+        }
+        self.put_shown(alloc, codename, state, before)?;
+        self.is_changed = true;
+        Ok(())
+    }
+
+    /// All paths, with what is known of each.
+    pub fn words(&self) -> &BTreeMap<String, Word> {
+        &self.words
+    }
+
+    /// The paths that were left.
+    pub fn left(&self, alloc: Global) -> Result<Vec<Text>, AllocError> {
+        let mut left = Vec::new(alloc);
+        for (path, word) in &self.words {
+            if *word == Word::Left {
+                left.push(Text::new(alloc, path.as_str())?)?;
+            }
+        }
+        Ok(left)
+    }
+
+    /// Whether something is other than it was read or written.
+    pub fn is_changed(&self) -> bool {
+        self.is_changed
+    }
+
+    /// It is written as it is.
+    pub fn set_written(&mut self) {
+        self.is_changed = false;
+    }
+}

@@ -1,0 +1,54 @@
+//! The pages of an export for people.
+
+ghost use Rattle.std.specs.Prelude.{◌≡◌, ◌≤◌};
+ghost use Rattle.keep.specs.Book.{latest};
+ghost use Rattle.queue.specs.Steps.{Reads};
+
+use crate::disk::{Disk, bytes_at, place};
+use crate::fault::ExportFault;
+use crate::names::inside;
+use keep::Keeper;
+use pages::{index_page, uploads_page};
+use queue::Archive;
+use suites::Shelves;
+
+/// Puts a page at its path, where another text is there.
+fn write_page<R: Disk>(rt: &R, root: &str, name: &str, text: &str) -> Result<(), ExportFault> {
+    let path = inside(rt.alloc(), root, name)?;
+    if let Some(bytes) = bytes_at(rt, path.as_str())? {
+        if bytes.as_slice() == text.as_bytes() {
+            return Ok(());
+        }
+    }
+    place(rt, root, path.as_str(), text.as_bytes(), false)
+}
+
+/// Writes the page of the suites.
+pub fn write_index<R: Disk, K: Keeper>(
+    rt: &R,
+    archive: &Archive<K>,
+    root: &str,
+    shelves: &Shelves,
+    is_signed: bool,
+) -> Result<(), ExportFault> {
+    let (config, dates) = (archive.keeper.config(), archive.keeper.dates());
+    let page = index_page(rt.alloc(), config, shelves, dates, is_signed)?;
+    write_page(rt, root, "index.html", page.as_str())
+}
+
+/// Writes the page of the uploads: those that wait at a moment, in seconds since 1970-01-01 00:00:00 UTC, and all verdicts.
+pub fn write_uploads<R: Disk, K: Keeper>(
+    rt: &R,
+    archive: &mut Archive<K>,
+    root: &str,
+    at: u64,
+) -> Result<(), ExportFault>
+    requires in_time { at ≤ latest }
+    ensures reads { Reads K.Keeper archive.old.keeper archive.new.keeper }
+{
+    let alloc = rt.alloc();
+    let waiting = archive.keeper.waiting(alloc, at)?;
+    let judged = archive.keeper.verdicts(alloc)?;
+    let page = uploads_page(alloc, &waiting, &judged)?;
+    write_page(rt, root, "uploads.html", page.as_str())
+}

@@ -1,0 +1,17 @@
+-- Lists of which what passes is made into something.
+use Rattle.std.proofs.Common.{◌≡◌, List, [], ◌∷◌, ◌++◌, Bool, true, false, cond, map, filter, refl, sym, ap, ◌∙◌}
+use Rattle.std.proofs.lemmas.List.{map-append}
+use Rattle.std.proofs.lemmas.List.Elements.{filter-append}
+
+-- what is made of one that passes, or of none
+made_of : {A B : Type 0} (f : A → B) (b : Bool) (x : A) → cond b (f x ∷ []) [] ≡ map f (cond b (x ∷ []) [])
+made_of f true x = refl
+made_of f false x = refl
+
+-- one more was looked at
+pub one_more : {A B : Type 0} (f : A → B) (test : A → Bool) (xs : List A) (x : A)
+    → map f (filter test xs) ++ cond (test x) (f x ∷ []) [] ≡ map f (filter test (xs ++ x ∷ []))
+one_more f test xs x =
+    (λ i. map f (filter test xs) ++ made_of f (test x) x i)
+    ∙ sym (map-append f (filter test xs) (filter test (x ∷ [])))
+    ∙ ap (map f) (sym (filter-append test xs (x ∷ [])))

@@ -1,0 +1,8 @@
+//! What the program prints of what an archive shows and has judged, as lines: the items of a suite, and the same, uploads and verdicts as JSON.
+#![tactic(auto)]
+
+mod json;
+mod shown;
+
+pub use json::{shown_json, verdict_json, waiting_json};
+pub use shown::shown_lines;

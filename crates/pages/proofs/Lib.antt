@@ -1,0 +1,5 @@
+pub mod Plain
+pub mod Shown
+pub mod Sections
+pub mod Backwards
+pub mod Alike

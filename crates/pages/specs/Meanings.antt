@@ -1,0 +1,30 @@
+-- Verdicts in words.
+use Rattle.std.specs.Prelude.{ℕ, List, codes}
+use Rattle.rules.specs.declared.verdict.Verdict.{Verdict}
+use Rattle.rules.specs.declared.verdict.Verdict.TheVariants as verdict
+
+-- a verdict as a run prints it: `accepted`, or `refused` and its number
+unfoldable pub verdict_word : Verdict → List ℕ
+verdict_word verdict.Accepted = codes "accepted"
+verdict_word verdict.Unclaimed = codes "refused 1"
+verdict_word verdict.ForeignArchitecture = codes "refused 2"
+verdict_word verdict.NotAllowed = codes "refused 3"
+verdict_word verdict.ForeignComponent = codes "refused 4"
+verdict_word verdict.BadListing = codes "refused 5"
+verdict_word verdict.BadDsc = codes "refused 6"
+verdict_word verdict.BadSidecar = codes "refused 7"
+verdict_word verdict.NotInPool = codes "refused 8"
+verdict_word verdict.OtherContents = codes "refused 9"
+
+-- what a verdict means, as markup
+unfoldable pub meaning : Verdict → List ℕ
+meaning verdict.Accepted = codes "The upload's packages were given to its suite, which shows of each the greatest version."
+meaning verdict.Unclaimed = codes "No suite takes the distribution: it is no suite's Codename or Suite, and in no AlsoAcceptFor."
+meaning verdict.ForeignArchitecture = codes "The suite does not keep an architecture of the .changes. An upload with sources needs <code>source</code> among the suite's; <code>all</code> needs one besides <code>source</code>."
+meaning verdict.NotAllowed = codes "The suite has Uploaders, and no line of them allows this source and this person."
+meaning verdict.ForeignComponent = codes "The listed files are of different components, or of one that the suite does not have. The component is what comes before the slash of a section, else <code>main</code>."
+meaning verdict.BadListing = codes "The listed files are not those of an upload. A .deb has no .control of the same stem, or the reverse; a .changes is listed; with <code>source</code> among the architectures there is not exactly one .dsc; without it there is one, or any file but .deb and .control."
+meaning verdict.BadDsc = codes "The .dsc is no record, or does not fit: its source or version is another, it is not named <code>SOURCE_VERSION.dsc</code> without the epoch, it lists a .dsc, .deb, .control or .changes, or a source file of the .changes is not in its list with the same size and digests."
+meaning verdict.BadSidecar = codes "A sidecar is no record, or does not fit: it is not named <code>PACKAGE_VERSION_ARCHITECTURE.control</code> by its own fields, its architecture is not in the .changes, its source is another, or two are of one package and architecture."
+meaning verdict.NotInPool = codes "The .dsc lists a file that is neither in the .changes nor in the pool, at its place with the same size and digests."
+meaning verdict.OtherContents = codes "A .deb, a .dsc or a source file has a place in the pool where other contents are."

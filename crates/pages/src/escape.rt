@@ -1,0 +1,46 @@
+//! The two ways into a page: markup, which is a constant of this crate, and texts, by the character references of HTML.
+
+ghost use Rattle.std.specs.Prelude.{◌≡◌, ◌++◌, ℕ, List, false, OnOk, string_bytes};
+ghost use Rattle.std.specs.Char.{encode_utf8};
+ghost use Rattle.std.specs.List.{list_any};
+ghost use Rattle.pages.specs.Escapes.{escaped, is_markup};
+
+use std::alloc::AllocError;
+
+/// Appends markup. It is refused for want of memory alone.
+pub fn push_markup(markup: &'static str, out: &mut String) -> Result<(), AllocError>
+    ensures { OnOk result (string_bytes out.new ≡ string_bytes out.old ++ markup.now) }
+{
+    out.push_str(markup)
+}
+
+/// Appends what stands for a character in a page.
+fn push_character(character: char, out: &mut String) -> Result<(), AllocError>
+    ensures { OnOk result (string_bytes out.new ≡ string_bytes out.old ++ escaped (encode_utf8 character)) }
+{
+    match character {
+        '&' => out.push_str("&amp;"),
+        '<' => out.push_str("&lt;"),
+        '>' => out.push_str("&gt;"),
+        '"' => out.push_str("&quot;"),
+        '\'' => out.push_str("&#39;"),
+        _ => out.push(character),
+    }
+}
+
+/// Appends what stands for a text in a page, within an element or within an attribute in quotes. It is refused for want of
+/// memory alone.
+pub fn push_text(text: &str, out: &mut String) -> Result<(), AllocError>
+    ensures { OnOk result (string_bytes out.new ≡ string_bytes out.old ++ escaped text.now) }
+{
+    for character in text.chars() {
+        push_character(character, out)?;
+    }
+    Ok(())
+}
+
+/// Nothing that a text holds begins or ends markup, or ends the attribute that it stands in. Nothing is done: the law is the
+/// contract.
+pub fn no_text_is_markup()
+    ensures { (text : List ℕ) → list_any is_markup (escaped text) ≡ false }
+{}

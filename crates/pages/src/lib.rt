@@ -1,0 +1,21 @@
+//! Pages for people, as HTML: what the suites show, what waits, and what was judged.
+//!
+//! A page is made of markup and of texts that come from outside. Markup goes in by `push_markup`, which takes constants alone, and a text
+//! by `push_text`, so nothing that it holds is markup. There is no third way in.
+#![tactic(auto)]
+
+mod escape;
+mod frame;
+mod index;
+mod laws;
+mod link;
+mod suite;
+mod table;
+mod uploads;
+mod verdict;
+
+pub use escape::{no_text_is_markup, push_text};
+pub use index::index_page;
+pub use laws::texts_leave_the_markup;
+pub use suite::suite_page;
+pub use uploads::uploads_page;

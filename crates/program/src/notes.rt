@@ -1,0 +1,53 @@
+//! What is noted of connections: a line of the log for each, if that is wanted, and whether one had a POST.
+
+use crate::log::{Ended, Log};
+use std::alloc::Global;
+use std::io::Write;
+
+/// What is noted of connections.
+#[derive(Drop)]
+pub struct Notes<'l, E> {
+    log: Log<'l, E>,
+    is_logged: bool,
+    has_post: bool,
+}
+
+impl<'l, E: Write> Notes<'l, E> {
+    /// Notes of no connection yet. A line for each comes to the log, if that is wanted.
+    pub fn new(log: Log<'l, E>, is_logged: bool) -> Notes<'l, E> {
+        Notes {
+            log,
+            is_logged,
+            has_post: false,
+        }
+    }
+
+    /// Whether each connection has a line of the log.
+    pub fn is_logged(&self) -> bool {
+        self.is_logged
+    }
+
+    /// Notes the first line that a client sent.
+    pub fn note_line(&mut self, line: &[u8]) {
+        if line.starts_with(b"POST ") {
+            self.has_post = true;
+        }
+    }
+
+    /// Writes the line of a connection.
+    pub fn write_line(&mut self, alloc: Global, ended: &Ended<'_>) {
+        self.log.write_line(alloc, ended);
+    }
+
+    /// Writes another line, that of something that failed.
+    pub fn write_text(&mut self, alloc: Global, text: &str) {
+        self.log.write_text(alloc, text);
+    }
+
+    /// Whether a connection had a POST since this was asked last.
+    pub fn takes_post(&mut self) -> bool {
+        let has_post = self.has_post;
+        self.has_post = false;
+        has_post
+    }
+}

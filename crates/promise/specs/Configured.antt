@@ -1,0 +1,54 @@
+-- Another configuration of an archive that a database keeps, and commands behind that: a word for each clause.
+use Rattle.std.specs.Prelude.{◌≡◌, ℕ, List, Option, Result, IfOk, IfErr, OnOk, OnErr, IsTrue, true, false}
+use Rattle.std.specs.declared.alloc.AllocError.{AllocError}
+use Rattle.std.specs.declared.alloc.Global.{Global}
+use Rattle.std.specs.declared.vec.Vec.{Vec}
+use Rattle.sqlite.specs.Held.{Held, state}
+use Rattle.sqlite.specs.State.{HasCleanDisk}
+use Rattle.sqlite.specs.Store.{Ghosts}
+use Rattle.rules.specs.Values.{ConfigValue}
+use Rattle.keep.specs.Book.{Book}
+use Rattle.keep.specs.Configured.{configured, keeps_shown}
+use Rattle.keep.specs.declared.fault.KeepFault.{KeepFault}
+use Rattle.keep.specs.declared.fault.KeepFault.TheVariants.{Configuration as NotKept}
+use Rattle.tables_meaning.specs.Archives.{KeepsFinished}
+use Rattle.keep_tables.specs.Keepers.{config_in_use, connection_of, table_book}
+use Rattle.keep_tables.specs.declared.keeper.TableKeeper.{TableKeeper}
+use Rattle.queue.specs.Configuring.{IsLeftConfigured}
+use Rattle.queue.specs.declared.command.Command.{Command}
+use Rattle.queue.specs.declared.command.Outcome.{Outcome}
+use Rattle.promise.specs.Lists.{GoesOn, MayFind}
+
+-- what came of a configuration and the commands behind it: the fault for which it was refused, or the outcomes, if memory sufficed for
+-- them
+abbrev pub Made : Type 0
+Made = Result (Result (Vec Outcome Global) AllocError) KeepFault
+
+-- of the outcomes, where there are some
+abbrev pub IfMade : Made → (Vec Outcome Global → Type 0) → Type 0
+IfMade made P = IfOk made (λ done. IfOk done P)
+
+-- the keeper has the configuration, where it was taken
+abbrev pub HasIfTaken : {S : Type 0} {g : Ghosts S} → TableKeeper S g → ConfigValue → Made → Type 0
+HasIfTaken k config made = HasCleanDisk (connection_of k) → OnOk made (config_in_use k ≡ config)
+
+module _ {S : Type 0} {g : Ghosts S} (k : TableKeeper S g) (config : ConfigValue) (moment : ℕ) where
+  module _ (book : Book) where
+    -- The configuration keeps all that this book shows, and the commands go on behind the configured book; where memory is wanting for the
+    -- outcomes no command was made, and the connection is open.
+    abbrev pub IsTaken : List Command → Result (Vec Outcome Global) AllocError → Type 0
+    IsTaken commands done = (keeps_shown config book ≡ true)
+        × IfOk done (GoesOn k (configured config moment book) commands)
+        × OnErr done (IsTrue (connection_of k).is_open × (table_book k ≡ configured config moment book))
+
+    -- The configuration was refused, as such where it does not keep all that this book shows: the book is as it was, and a crash leaves that
+    -- book, or the configured one.
+    abbrev pub IsRefused : KeepFault → Type 0
+    IsRefused fault = (fault ≡ NotKept → keeps_shown config book ≡ false)
+        × (IsTrue (connection_of k).is_open → table_book k ≡ book)
+        × ((left : Option Book) → MayFind k left → IsLeftConfigured config moment book left)
+
+  -- the database kept a book, of which this holds
+  abbrev pub GoesOnConfigured : Held S → List Command → Made → Type 0
+  GoesOnConfigured connection commands made = HasCleanDisk (connection_of k) → (book : Book) × KeepsFinished (state g connection).committed book.config book
+      × IfOk made (IsTaken book commands) × IfErr made (IsRefused book)

@@ -1,0 +1,45 @@
+-- A search finds something exactly where the test holds somewhere.
+use Rattle.std.proofs.Common.{◌≡◌, ℕ, suc, Bool, true, false, not, ◌&&◌, ◌||◌, cond, List, [], ◌∷◌, Some, filter, length, refl, ap, arith}
+use Rattle.std.specs.Prelude.{find, is_some, nat_lt}
+use Rattle.std.specs.List.{list_any, list_all}
+use Rattle.std.proofs.lemmas.Bool.Decides.{nat_tests}
+
+pub found_where : {X : Type 0} (p : X → Bool) (xs : List X) → list_any p xs ≡ is_some (find p xs)
+found_where p [] = refl
+found_where p (x ∷ xs) = by_case (p x) (found_where p xs)
+  where
+    by_case : (b : Bool) → list_any p xs ≡ is_some (find p xs) → (b || list_any p xs) ≡ is_some (cond b (Some x) (find p xs))
+    by_case true more = refl
+    by_case false more = more
+
+-- some are kept where the test holds somewhere
+pub counted_where : {X : Type 0} (p : X → Bool) (xs : List X) → nat_lt 0 (length (filter p xs)) ≡ list_any p xs
+counted_where p [] = refl
+counted_where p (x ∷ xs) = by_case (p x) (counted_where p xs)
+  where
+    some : (n : ℕ) → nat_lt 0 (suc n) ≡ true
+    some n = grind (arith, nat_tests)
+
+    by_case : (b : Bool) → nat_lt 0 (length (filter p xs)) ≡ list_any p xs → nat_lt 0 (length (cond b (x ∷ filter p xs) (filter p xs))) ≡ (b || list_any p xs)
+    by_case true more = some (length (filter p xs))
+    by_case false more = more
+
+-- not all pass where one does not
+pub not_all : {X : Type 0} (p : X → Bool) (xs : List X) → not (list_all p xs) ≡ list_any (λ x. not (p x)) xs
+not_all p [] = refl
+not_all p (x ∷ xs) = by_case (p x) (not_all p xs)
+  where
+    by_case : (b : Bool) → not (list_all p xs) ≡ list_any (λ y. not (p y)) xs → not (b && list_all p xs) ≡ (not b || list_any (λ y. not (p y)) xs)
+    by_case true more = more
+    by_case false more = refl
+
+pub not_either : (a b : Bool) → not (a || b) ≡ (not a && not b)
+not_either true b = refl
+not_either false b = refl
+
+pub not_unless : (a b : Bool) → not (not a || b) ≡ (a && not b)
+not_unless true b = refl
+not_unless false b = refl
+
+pub same_any : {X : Type 0} (p q : X → Bool) → ((x : X) → p x ≡ q x) → (xs : List X) → list_any p xs ≡ list_any q xs
+same_any p q h xs = ap (λ t. list_any t xs) (λ i x. h x i)

@@ -1,0 +1,163 @@
+//! What the other verdicts are about: an architecture of the .changes, or a file that it or its .dsc lists.
+
+ghost use Rattle.std.specs.Prelude.{◌≡◌, not, bytes_eq, IfOk, option_copied};
+ghost use Rattle.std.specs.FinMap.{get};
+ghost use Rattle.rules.specs.Judgement.{component};
+ghost use Rattle.rules.specs.Suites.{component_of};
+ghost use Rattle.suites.specs.Shelves.{pool};
+ghost use Rattle.suites.specs.Verdict.{by_print, is_missing_file, is_taken, path_of};
+ghost use Rattle.reasons.specs.Named.{foreign_architecture, is_unlisted, listed_part, missing_file, other_component, taken_entry, unlisted_file};
+
+use crate::names::{entry_named, has_suffix, is_package_part, lists};
+use para::Text;
+use records::{Changes, Dsc};
+use rules::{Suite, component_of_section};
+use std::alloc::{AllocError, Global};
+use suites::{Shelves, directory};
+use sums::{Entry, Print};
+
+/// Of verdict 2, the first architecture of a .changes that the suite does not keep.
+pub fn foreign_architecture<'a>(suite: &Suite, changes: &'a Changes) -> Option<&'a Text>
+    ensures { option_copied result ≡ foreign_architecture changes.now suite.now }
+{
+    changes
+        .architectures()
+        .iter()
+        .find(|name| !suite.keeps_architecture(name.as_str()))
+}
+
+/// The component of an upload: that of its first entry.
+#[tactic(auto, unfolding(rules::specs::Judgement::component))]
+fn component(changes: &Changes) -> &str
+    ensures { result.now ≡ component changes.now }
+{
+    match changes.entries().first() {
+        Some(entry) => component_of_section(entry.section.as_str()),
+        None => "",
+    }
+}
+
+/// Of verdict 4, the first listed file of another component than that of the upload. Where there is none, that component is
+/// none of the suite's.
+pub fn other_component(changes: &Changes) -> Option<&Entry>
+    ensures { option_copied result ≡ other_component changes.now }
+{
+    let upload = component(changes);
+    changes.entries().iter().find(|entry| component_of_section(entry.section.as_str()) != upload)
+}
+
+/// Of verdict 6, the first file that a .dsc lists and may not: a .dsc, a package file, a sidecar or a .changes.
+pub fn listed_part(dsc: &Dsc) -> Option<&Entry>
+    ensures { option_copied result ≡ listed_part dsc.now }
+{
+    dsc.entries()
+        .iter()
+        .find(|entry| is_package_part(entry.name.as_str()))
+}
+
+/// Whether a file is a source file, and the .dsc has none of its name and print.
+#[tactic(auto, unfolding(crate::specs::Named::is_unlisted))]
+fn is_unlisted(dsc: &Dsc, entry: &Entry) -> bool
+    ensures { result ≡ is_unlisted dsc.now entry.now }
+{
+    let is_package_part = is_package_part(entry.name.as_str());
+    let is_listed = lists(dsc.entries(), entry);
+    !is_package_part && !is_listed
+}
+
+/// Of verdict 6, the first source file of a .changes that the .dsc does not list with that print.
+pub fn unlisted_file<'a>(changes: &'a Changes, dsc: &Dsc) -> Option<&'a Entry>
+    ensures { option_copied result ≡ unlisted_file changes.now dsc.now }
+{
+    changes
+        .entries()
+        .iter()
+        .find(|entry| is_unlisted(dsc, entry))
+}
+
+/// The print of what the pool holds at the path of an entry's file.
+#[tactic(auto, unfolding(suites::specs::Pool::pool_path))]
+fn print_in_pool(
+    alloc: Global,
+    shelves: &Shelves,
+    changes: &Changes,
+    entry: &Entry,
+) -> Result<Option<Print>, AllocError>
+    ensures { IfOk result (λ found. found ≡ get (pool shelves.now) (path_of changes.now entry.now)) }
+{
+    let folder = directory(alloc, component(changes), changes.source())?;
+    let (folder, name) = (folder.as_str(), entry.name.as_str());
+    let path = format!(in alloc; "{folder}/{name}")?;
+    Ok(shelves.file(path.as_str()))
+}
+
+/// Whether a file that the .dsc lists is neither in the .changes nor in the pool, at its path with that print.
+#[tactic(auto, unfolding(suites::specs::Verdict::is_missing_file))]
+fn is_missing(
+    alloc: Global,
+    shelves: &Shelves,
+    changes: &Changes,
+    entry: &Entry,
+) -> Result<bool, AllocError>
+    ensures { IfOk result (λ missing. missing ≡ is_missing_file by_print (pool shelves.now) changes.now entry.now) }
+{
+    if entry_named(changes.entries(), entry.name.as_str()).is_some() {
+        return Ok(false);
+    }
+    match print_in_pool(alloc, shelves, changes, entry)? {
+        Some(print) => Ok(print != entry.print),
+        None => Ok(true),
+    }
+}
+
+/// Of verdict 8, the first file of the .dsc that is neither in the .changes nor in the pool, at its path with that print.
+pub fn missing_file<'a>(
+    alloc: Global,
+    shelves: &Shelves,
+    changes: &Changes,
+    dsc: &'a Dsc,
+) -> Result<Option<&'a Entry>, AllocError>
+    ensures { IfOk result (λ found. option_copied found ≡ missing_file shelves.now changes.now dsc.now) }
+{
+    for entry in dsc.entries() {
+        if is_missing(alloc, shelves, changes, entry)? {
+            return Ok(Some(entry));
+        }
+    }
+    Ok(None)
+}
+
+/// Whether the pool holds other contents at the path of an entry's file.
+#[tactic(auto, unfolding(suites::specs::Verdict::is_taken))]
+fn is_taken(
+    alloc: Global,
+    shelves: &Shelves,
+    changes: &Changes,
+    entry: &Entry,
+) -> Result<bool, AllocError>
+    ensures { IfOk result (λ taken. taken ≡ is_taken by_print (pool shelves.now) changes.now entry.now) }
+{
+    if has_suffix(entry.name.as_str(), ".control") {
+        return Ok(false);
+    }
+    match print_in_pool(alloc, shelves, changes, entry)? {
+        Some(print) => Ok(print != entry.print),
+        None => Ok(false),
+    }
+}
+
+/// Of verdict 9, the first listed file whose path in the pool has other contents.
+pub fn taken_entry<'a>(
+    alloc: Global,
+    shelves: &Shelves,
+    changes: &'a Changes,
+) -> Result<Option<&'a Entry>, AllocError>
+    ensures { IfOk result (λ found. option_copied found ≡ taken_entry shelves.now changes.now) }
+{
+    for entry in changes.entries() {
+        if is_taken(alloc, shelves, changes, entry)? {
+            return Ok(Some(entry));
+        }
+    }
+    Ok(None)
+}

@@ -1,0 +1,41 @@
+//! That something is named exactly where the rule of a verdict applies. For the prover alone: each law is its contract.
+
+ghost use Rattle.std.specs.Prelude.{◌≡◌, ◌||◌, ℕ, List, not, codes, is_some};
+ghost use Rattle.std.specs.List.{list_any};
+ghost use Rattle.records.specs.Records.{dsc_in};
+ghost use Rattle.records.specs.Values.{ChangesValue, DscValue, SidecarValue};
+ghost use Rattle.rules.specs.Judgement.{component, has_foreign_architecture, has_foreign_component};
+ghost use Rattle.rules.specs.Suites.{keeps_component};
+ghost use Rattle.rules.specs.declared.suite.Suite.{Suite};
+ghost use Rattle.suites.specs.Shelves.{ShelvesValue, pool};
+ghost use Rattle.suites.specs.Upload.{UploadValue, dsc_parts};
+ghost use Rattle.suites.specs.Verdict.{by_print, differs_from_dsc, differs_from_sidecar, has_bad_listing, has_other_contents, have_twins, lacks_source_file, match_ok};
+ghost use Rattle.reasons.specs.Differences.{dsc_difference, sidecar_difference};
+ghost use Rattle.reasons.specs.Named.{foreign_architecture, lacks_dsc, listed_changes, lone_file, missing_file, other_component, source_file, surplus_dsc, taken_entry, twins};
+
+/// A listing is bad exactly where some file of it is named, or it lacks its .dsc (verdict 5).
+pub fn a_listing_is_named()
+    ensures { (c : ChangesValue) → has_bad_listing c ≡ (is_some (listed_changes c) || (is_some (surplus_dsc c) || lacks_dsc c)
+        || is_some (lone_file (codes ".deb") (codes ".control") c.entries) || is_some (lone_file (codes ".control") (codes ".deb") c.entries)
+        || is_some (source_file c)) }
+{}
+
+/// A .dsc or a sidecar differs from its .changes exactly where a difference is named (verdicts 6 and 7).
+pub fn a_difference_is_named()
+    ensures dsc { (c : ChangesValue) (name : List ℕ) (d : DscValue) → differs_from_dsc c name d ≡ is_some (dsc_difference c name d) }
+    ensures sidecar { (c : ChangesValue) (name : List ℕ) (s : SidecarValue) → differs_from_sidecar c name s ≡ is_some (sidecar_difference c name s) }
+{}
+
+/// Two sidecars are named exactly where two have one package and architecture (verdict 7).
+pub fn twins_are_named()
+    ensures { (sidecars : List SidecarValue) → have_twins sidecars ≡ is_some (twins sidecars) }
+{}
+
+/// Of verdicts 2, 4, 8 and 9: what is named is there exactly where the rule applies.
+pub fn what_is_named_is_there()
+    ensures architecture { (c : ChangesValue) (s : Suite) → has_foreign_architecture c s ≡ is_some (foreign_architecture c s) }
+    ensures component { (c : ChangesValue) (s : Suite) → has_foreign_component c s ≡ (is_some (other_component c) || not (keeps_component s (component c))) }
+    ensures missing { (shelves : ShelvesValue) (u : UploadValue) → lacks_source_file by_print (pool shelves) u
+        ≡ list_any (λ part. match_ok (dsc_in part.1) (λ d. is_some (missing_file shelves u.changes d))) (dsc_parts u) }
+    ensures contents { (shelves : ShelvesValue) (u : UploadValue) → has_other_contents by_print (pool shelves) u ≡ is_some (taken_entry shelves u.changes) }
+{}

@@ -1,0 +1,34 @@
+//! What verdict 7 is about, where each sidecar by itself is right: two of one package and architecture.
+
+ghost use Rattle.std.specs.Prelude.{◌≡◌, find, option_copied, option_map};
+ghost use Rattle.suites.specs.Verdict.{is_same_package};
+ghost use Rattle.reasons.specs.Named.{twins};
+
+use records::Sidecar;
+
+/// Whether two sidecars are of the same package and architecture.
+#[tactic(auto, unfolding(suites::specs::Verdict::is_same_package))]
+fn is_same_package(a: &Sidecar, b: &Sidecar) -> bool
+    ensures { result ≡ is_same_package a.now b.now }
+{
+    a.package() == b.package() && a.architecture() == b.architecture()
+}
+
+/// The first of the others that has the package and the architecture of a sidecar.
+fn twin<'a>(sidecar: &Sidecar, others: &'a [Sidecar]) -> Option<&'a Sidecar>
+    ensures { option_copied result ≡ find (is_same_package sidecar.now) others.now }
+{
+    others.iter().find(|other| is_same_package(sidecar, other))
+}
+
+/// The first of some sidecars that has the package and the architecture of a later one, and the first such.
+pub fn twins(sidecars: &[Sidecar]) -> Option<(&Sidecar, &Sidecar)>
+    ensures { option_map (λ p. (p.0.now, p.1.now)) result ≡ twins sidecars.now }
+{
+    for (index, sidecar) in sidecars.iter().enumerate() {
+        if let Some(other) = twin(sidecar, &sidecars[index + 1..]) {
+            return Some((sidecar, other));
+        }
+    }
+    None
+}

@@ -1,0 +1,13 @@
+-- The steps of an export in their order.
+use Rattle.std.specs.Prelude.{ℕ, List, ◌++◌, map, filter, Option}
+use Rattle.sums.specs.declared.print.Print.{Print}
+use Rattle.suites.specs.declared.item.PoolFile.{PoolFile}
+use Rattle.tree.specs.Tree.{is_new, is_other, kept_back}
+use Rattle.tree.specs.declared.steps.Step.{Step}
+use Rattle.tree.specs.declared.steps.Step.TheVariants.{Place, Show, Remove}
+
+-- what is new, what gets other contents, what the suites show, what goes
+abbrev pub planned : (List ℕ → Option Print) → List PoolFile → List ℕ → List (List ℕ) → List Step
+planned there files suites left =
+    ((map Place (filter (is_new there) files) ++ map Place (filter (is_other there) files)) ++ map Show suites)
+    ++ map Remove (kept_back files left)

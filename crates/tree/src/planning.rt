@@ -1,0 +1,85 @@
+//! The plan of an export.
+
+ghost use Rattle.std.specs.Prelude.{◌≡◌, ◌⊎◌, ◌++◌, ℕ, List, Contains, None, false, IfOk};
+ghost use Rattle.std.specs.BTreeMap.{get_by_text};
+ghost use Rattle.suites.specs.declared.item.PoolFile.{PoolFile};
+ghost use Rattle.tree.specs.Files.{named_by, pool_files};
+ghost use Rattle.tree.specs.Planned.{planned};
+ghost use Rattle.tree.specs.Tree.{Tree, AreShown, AtEach, IsBegun, IsFirm, IsFoundFor, IsNeeded, IsWholeFor, is_among, kept_back, left_by};
+
+use crate::steps::{Step, files_of, placed_new, placed_over, removed, shown};
+use para::Text;
+use std::alloc::{AllocError, Global};
+use std::collections::BTreeMap;
+use suites::Shelves;
+use sums::Print;
+
+/// The steps of an export in their order: what is written, what is shown, what is removed.
+fn in_order(
+    mut new: Vec<Step>,
+    mut over: Vec<Step>,
+    mut shown: Vec<Step>,
+    mut removed: Vec<Step>,
+) -> Result<Vec<Step>, AllocError>
+    ensures { IfOk result (λ steps. steps.items ≡ ((new.items ++ over.items) ++ shown.items) ++ removed.items) }
+{
+    new.append(&mut over)?;
+    new.append(&mut shown)?;
+    new.append(&mut removed)?;
+    Ok(new)
+}
+
+/// What an export does of the pool and the suites of these shelves, in this order: it writes the files of the pool of which
+/// nothing is known to be there, then those in whose place other contents are; has each of the suites, by its position in the
+/// configuration, show its new indices; and removes what was left before, and is no file of the pool. What the indices showed
+/// first, and show no more, stays until the next export.
+///
+/// `there` has the print of what is known to be there at each path, and `left` the paths that the export before left. It is
+/// refused for want of memory alone.
+pub fn plan(
+    alloc: Global,
+    shelves: &Shelves,
+    there: &BTreeMap<String, Print>,
+    suites: &[usize],
+    left: &[Text],
+) -> Result<Vec<Step>, AllocError>
+    // Which steps these are, in their order.
+    ensures steps { IfOk result (λ steps. steps.items ≡ planned (get_by_text there.now) (pool_files shelves.now) suites.now left.now) }
+    // At no moment does an index name a file that is not there, neither one of those shown then nor of those shown first.
+    ensures whole { IfOk result (λ steps. (tree : Tree) (named : ℕ → List PoolFile) → IsBegun (get_by_text there.now) left.now tree
+        → AreShown (pool_files shelves.now) named → IsFirm (pool_files shelves.now) tree → AtEach named (IsWholeFor tree) tree steps.items) }
+    // Wherever it is stopped, the next one may begin, by what it finds there; what was left and went may be left again.
+    ensures goes_on { IfOk result (λ steps. (tree : Tree) (named : ℕ → List PoolFile) → IsBegun (get_by_text there.now) left.now tree
+        → AreShown (pool_files shelves.now) named → IsFirm (pool_files shelves.now) tree
+        → AtEach named (IsBegun (λ path. None) (kept_back (pool_files shelves.now) left.now)) tree steps.items) }
+    // Where a path gets other contents than an index names, some file is there at each moment all the same.
+    ensures found { IfOk result (λ steps. (tree : Tree) (named : ℕ → List PoolFile) → IsBegun (get_by_text there.now) left.now tree
+        → AreShown (pool_files shelves.now) named → AtEach named (IsFoundFor tree) tree steps.items) }
+    // In the end each file of the pool is there, and these suites show what they are to show.
+    ensures placed { IfOk result (λ steps. (tree : Tree) (named : ℕ → List PoolFile) → IsBegun (get_by_text there.now) left.now tree
+        → (f : PoolFile) → Contains (pool_files shelves.now) f → (left_by named tree steps.items).pool f.path ≡ Some f.print) }
+    ensures shown { IfOk result (λ steps. (tree : Tree) (named : ℕ → List PoolFile) (suite : ℕ) → Contains suites.now suite ⊎ (tree.named suite ≡ named suite)
+        → (left_by named tree steps.items).named suite ≡ named suite) }
+    // What was left before is gone then, and what is neither that nor of the pool is never touched.
+    ensures gone { IfOk result (λ steps. (tree : Tree) (named : ℕ → List PoolFile) (path : List ℕ) → Contains left.now path
+        → is_among (pool_files shelves.now) path ≡ false → (left_by named tree steps.items).pool path ≡ None) }
+    ensures rest { IfOk result (λ steps. (tree : Tree) (named : ℕ → List PoolFile) (path : List ℕ) → (Contains left.now path → ⊥)
+        → is_among (pool_files shelves.now) path ≡ false → AtEach named (λ now. now.pool path ≡ tree.pool path) tree steps.items) }
+    // What is there is not written again.
+    ensures needed { IfOk result (λ steps. IsNeeded (get_by_text there.now) steps.items) }
+{
+    let files = files_of(shelves);
+    let new = placed_new(alloc, there, files)?;
+    let over = placed_over(alloc, there, files)?;
+    let shown = shown(alloc, suites)?;
+    let removed = removed(alloc, shelves, left)?;
+    in_order(new, over, shown, removed)
+}
+
+/// The indices of the items that suites show name files of the pool alone, as `plan` asks. For the prover alone: the law is the
+/// contract.
+pub fn suites_name_the_pool(shelves: &Shelves)
+    ensures { AreShown (pool_files shelves.now) (named_by shelves.now) }
+{
+    shelves.agree();
+}

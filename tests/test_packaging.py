@@ -1,0 +1,238 @@
+"""Tests of packaging/: the manuals, which are made of the pages, and the Debian package. Where the program of program.py is built, and where one
+may mount, the package is installed in a root of its own over this machine's, in which it makes an archive, takes its own package by dput, and
+serves it to apt. Where a tool is missing they say that they were skipped."""
+import gzip
+import os
+import pathlib
+import re
+import shutil
+import subprocess
+import sys
+import tempfile
+import unittest
+
+from tests.program import PROGRAM
+from tests.snippets import free_port, needs, snippet
+from tests.tools import ROOT
+from uploads import uploads
+
+MAKE = f"{ROOT}/packaging/make_deb"
+VERSION = (ROOT / "VERSION").read_text(encoding="ascii").strip()
+DEB = f"boqitsel_{VERSION}_amd64.deb"
+LARGEST = 4_194_304
+LONG = 300
+
+# Installs the package in a root of its own, uses it, and takes it off. $1 is the folder with the package and what goes with it, $2 a port.
+OUTSIDE = """
+mount -t tmpfs none "$1/room"
+mkdir "$1/room/upper" "$1/room/work" "$1/room/root"
+mount -t overlay overlay -o "lowerdir=/,upperdir=$1/room/upper,workdir=$1/room/work" "$1/room/root"
+mount --rbind /dev "$1/room/root/dev"
+mount --rbind /proc "$1/room/root/proc"
+mkdir "$1/room/root/given"
+cp "$1"/*.deb "$1"/*.changes "$1/inside" "$1/dput.cf" "$1/room/root/given"
+chroot "$1/room/root" sh -ec '. /given/inside' inside "$2"
+"""
+
+INSIDE = """
+exec < /dev/null
+rm -f /usr/local/bin/archive
+dpkg -i /given/*.deb > /dev/null
+test "$(archive compare 1.0-1 1.0-2)" = less
+boqitsel --version
+test "$(readlink -f /usr/bin/archive)" = /usr/bin/boqitsel
+test ! -e /etc/systemd/system/multi-user.target.wants/boqitsel.service
+useradd --system --create-home --home-dir /srv/box archive
+cp /usr/share/doc/boqitsel/examples/box.conf /srv/box/
+cd /srv/box
+runuser -u archive -- archive init --db box.db --at "$(date +%s)" box.conf
+runuser -u archive -- archive serve --db box.db --at "$(date +%s)" "127.0.0.1:$1" 1000 &
+serving=$!
+upload "http://127.0.0.1:$1" /given/one.changes --run
+with_sidecars /given/two.changes ready > /dev/null
+if command -v dput > /dev/null; then
+    HOME=/given dput -c /given/dput.cf box ready/two.changes && echo dput
+fi
+echo "deb [trusted=yes] http://127.0.0.1:$1/ box main" > /etc/apt/box.list
+apt() { apt-get -qq -o Dir::Etc::sourcelist=/etc/apt/box.list -o Dir::Etc::sourceparts=- -o APT::Sandbox::User=root "$@"; }
+apt update
+apt-get -o Dir::Etc::sourcelist=/etc/apt/box.list -o Dir::Etc::sourceparts=- --print-uris -y --reinstall install boqitsel | tail -n 1
+apt install --reinstall -y boqitsel > /dev/null
+apt remove -y boqitsel > /dev/null
+kill $serving
+test ! -e /usr/bin/archive && test ! -e /usr/bin/boqitsel && test ! -e /etc/alternatives/archive
+test -e /srv/box/box.db && echo kept
+"""
+
+
+def run(*words, **more):
+    ran = subprocess.run(words, capture_output=True, text=True, check=False, timeout=LONG, **more)
+    return ran.returncode, ran.stdout, ran.stderr
+
+
+class Room(unittest.TestCase):
+    def setUp(self):
+        room = tempfile.TemporaryDirectory()
+        self.addCleanup(room.cleanup)
+        self.room = pathlib.Path(room.name)
+
+
+class Manuals(Room):
+    def setUp(self):
+        super().setUp()
+        self.assertEqual(run(f"{ROOT}/packaging/manuals.py", self.room), (0, "", ""))
+
+    def shown(self, name):
+        """A manual as man shows it."""
+        status, text, told = run("man", "--warnings", "-l", self.room / name, env={**os.environ, "MANWIDTH": "400", "LC_ALL": "C.UTF-8"})
+        self.assertEqual((status, told), (0, ""))
+        return text
+
+    @needs("man")
+    def test_what_the_pages_say_is_in_them(self):
+        text = self.shown("archive.1")
+        for line in snippet("commands").splitlines():
+            if line.startswith("archive "):
+                self.assertIn(line.partition("#")[0].strip(), text)
+        words = " ".join(text.split())
+        for row in re.findall(r"^\| `.*$", (ROOT / "docs/FAULTS.md").read_text(encoding="utf-8"), re.M):
+            row = row.replace("`", "").replace("docs/", "/usr/share/doc/boqitsel/").replace("bin/with_sidecars", "with_sidecars")
+            for cell in row.strip("| ").split(" | "):
+                self.assertIn(" ".join(cell.split()), words)
+        text = self.shown("archive.conf.5")
+        for line in [*snippet("configuration").splitlines(), *snippet("three suites").splitlines()]:
+            self.assertIn(line, text)
+        for name in ("upload", "with_sidecars"):
+            told = run(sys.executable, f"{ROOT}/bin/{name}", "--help")[1]
+            text = " ".join(self.shown(f"{name}.1").split())
+            for paragraph in told.split("\n\n")[2:]:
+                if not paragraph.startswith(" "):
+                    self.assertIn(" ".join(paragraph.replace("`", "").split()), text)
+            for option in re.findall(r"^ +(--\w+)", told, re.M):
+                self.assertIn(option, text)
+
+    def test_nothing_of_the_pages_form_is_left(self):
+        for path in self.room.iterdir():
+            text = path.read_text(encoding="utf-8")
+            self.assertNotIn("**", text)
+            self.assertNotRegex(text, r"(?m)^\|")
+            self.assertNotIn("docs/", text)
+
+
+@needs("dpkg-deb", "dpkg-shlibdeps", "strip")
+class Package(Room):
+    """The package of a program that stands in for the built one."""
+
+    def made(self, program="/bin/true", **variables):
+        status, path, told = run(MAKE, program, self.room, env={**os.environ, "SOURCE_DATE_EPOCH": "1467436850", **variables})
+        self.assertEqual((status, told), (0, ""))
+        return path.strip()
+
+    def test_what_is_in_it(self):
+        deb = self.made()
+        self.assertEqual(os.path.basename(deb), DEB)
+        self.assertEqual(run("dpkg-deb", "-f", deb, "Package", "Version")[1], f"Package: boqitsel\nVersion: {VERSION}\n")
+        root = self.room / "root"
+        run("dpkg-deb", "-x", deb, root)
+        run("dpkg-deb", "-e", deb, root / "DEBIAN")
+        for name in ("boqitsel", "boqitsel-upload", "boqitsel-with-sidecars"):
+            self.assertTrue(os.access(root / "usr/bin" / name, os.X_OK))
+            manual = root / f"usr/share/man/man1/{name}.1.gz"
+            self.assertIn(b".SH NAME", gzip.decompress(manual.read_bytes()))
+        self.assertIn("upload URL FILE.changes", run(root / "usr/bin/boqitsel-upload", "--help")[1])
+        self.assertIn(" FOLDER\n", run(root / "usr/bin/boqitsel-with-sidecars", "--help")[1])
+        units = root / "lib/systemd/system"
+        for name, text in (
+            ("boqitsel.service", snippet("box.service", {"/usr/local/bin/archive": "/usr/bin/boqitsel"})),
+            ("boqitsel-queue.service", snippet("queue.service")),
+            ("boqitsel-queue.timer", snippet("queue.timer")),
+            ("boqitsel-clean.service", snippet("clean.service")),
+            ("boqitsel-clean.timer", snippet("clean.timer")),
+        ):
+            self.assertEqual((units / name).read_text(), text)
+        examples = root / "usr/share/doc/boqitsel/examples"
+        self.assertEqual((examples / "box.conf").read_text(), snippet("configuration"))
+        self.assertEqual((examples / "three-suites.conf").read_text(), snippet("three suites"))
+        self.assertEqual((examples / "sign").read_text(), snippet("sign"))
+        self.assertNotIn("enable", (root / "DEBIAN/postinst").read_text())
+        for name in ("postinst", "prerm"):
+            self.assertEqual(run("sh", "-n", root / "DEBIAN" / name), (0, "", ""))
+
+    def test_the_same_files_make_the_same_package(self):
+        first = pathlib.Path(self.made()).read_bytes()
+        self.assertEqual(pathlib.Path(self.made()).read_bytes(), first)
+
+    @needs("lintian")
+    def test_lintian_reports_no_error(self):
+        status, printed, told = run("lintian", "--allow-root", "--fail-on", "error,warning", self.made())
+        self.assertEqual((status, printed), (0, ""), told)
+
+    def test_words_and_what_is_missing(self):
+        self.assertEqual(run(MAKE)[0], 2)
+        status, printed, told = run(MAKE, self.room / "none", self.room)
+        self.assertEqual((status, printed, told.startswith("make_deb: ")), (1, "", True))
+
+    @needs("bash")
+    def test_the_completion(self):
+        root = self.room / "root"
+        run("dpkg-deb", "-x", self.made(), root)
+        (self.room / "box.conf").touch()
+        for words, wanted in (
+            (["archive", "con"], ["configuration", "configure"]),
+            (["boqitsel", "serve", "--m"], ["--moments"]),
+            (["archive", "migrate", "--"], ["--at", "--db", "--from", "--help"]),
+            (["archive", "init", "--db", "box"], ["box.conf"]),
+            (["archive", "show", "--at", "x"], []),
+        ):
+            text = f"""
+            . {root}/usr/share/bash-completion/completions/boqitsel; complete -p {words[0]} > /dev/null
+            COMP_WORDS=({' '.join(words)}); COMP_CWORD={len(words) - 1}; _boqitsel; printf '%s\\n' "${{COMPREPLY[@]}}"
+            """
+            status, printed, told = run("bash", "-c", text, cwd=self.room)
+            self.assertEqual((status, sorted(printed.split()), told), (0, wanted, ""), words)
+
+
+def changes_of(deb, number):
+    """A .changes of a package file, made as for uploads of tests, which is another for each number."""
+    text = uploads.changes_of("boqitsel", VERSION, {deb.name: deb.read_bytes()}).decode()
+    return text.replace("  * Made.", f"  * Made {number}.")
+
+
+@unittest.skipUnless(os.path.exists(PROGRAM), f"there is no program {PROGRAM}")
+@unittest.skipUnless(os.geteuid() == 0, "only root can install in a root of its own")
+@needs("dpkg-deb", "dpkg-shlibdeps", "strip", "unshare", "chroot", "apt-get", "curl")
+class Installed(Room):
+    """The package of the built program, installed."""
+
+    def can_mount(self):
+        """Whether a root of its own can be had."""
+        text = 'mount -t tmpfs none "$1"; mkdir "$1/a" "$1/b" "$1/c"; mount -t overlay overlay -o "lowerdir=/,upperdir=$1/a,workdir=$1/b" "$1/c"'
+        (self.room / "try").mkdir()
+        return run("unshare", "-m", "sh", "-ec", text, "sh", self.room / "try")[0] == 0
+
+    def test_it_serves_its_own_package_to_apt(self):
+        if not self.can_mount():
+            self.skipTest("no file system can be mounted over another here")
+        status, path, told = run("make", "-s", "deb", f"PROGRAM={os.path.abspath(PROGRAM)}", cwd=ROOT)
+        self.assertEqual((status, told), (0, ""))
+        deb = self.room / DEB
+        shutil.copy(ROOT / path.strip(), deb)
+        self.assertLess(deb.stat().st_size, LARGEST)
+        (self.room / "room").mkdir()
+        port = free_port()
+        for number, name in ((1, "one"), (2, "two")):
+            (self.room / f"{name}.changes").write_text(changes_of(deb, number))
+        (self.room / "inside").write_text(INSIDE)
+        (self.room / "dput.cf").write_text(snippet("dput.cf", {"archive.example.org:8080": f"127.0.0.1:{port}"}))
+        status, printed, told = run("unshare", "-m", "sh", "-ec", OUTSIDE, "sh", self.room, str(port))
+        self.assertEqual(status, 0, printed + told)
+        lines = printed.splitlines()
+        wanted = ["accepted one.changes", "accepted two.changes"] if "dput" in lines else ["accepted one.changes"]
+        self.assertEqual([line for line in lines if line.startswith("accepted")], wanted)
+        self.assertIn(f"archive {VERSION}", printed)
+        self.assertIn(f"'http://127.0.0.1:{port}/pool/main/b/boqitsel/{DEB}'", printed)
+        self.assertEqual(lines[-1], "kept")
+
+
+if __name__ == "__main__":
+    unittest.main()

@@ -1,0 +1,53 @@
+"""Tests of docs/USING.md and docs/OPERATING.md over the built program: what `check` prints of the configuration there, the keys of `--json`, and a tree
+that gpg signs. Where gpg is not there, the test says that it was skipped."""
+import json
+import shutil
+import unittest
+
+from tests import snippets
+from tests.program import DATA, NAMES
+from tests.snippets import snippet
+
+
+def keys(line):
+    return sorted(json.loads(line))
+
+
+class Words(snippets.Case):
+    def test_what_a_configuration_says(self):
+        self.room.write("work/box.conf", snippet("configuration", {"Uploaders:": "Uploader:"}))
+        self.assertEqual(self.room.run("archive check box.conf", self.room.work), (1, snippet("check"), ""))
+
+    def archive(self):
+        """An archive that shows an upload, and one more .changes that waits for its files."""
+        self.room.write("work/box.conf", snippet("configuration"))
+        paths = " ".join(f"{DATA}/{name}" for name in NAMES)
+        self.shell(f"archive init --db box.db --at 1 box.conf && archive put --db box.db --at 1 {paths} && archive run --db box.db --at 1", self.room.work)
+
+    def test_keys_of_lines_for_scripts(self):
+        listed, waiting, judged = snippet("json").splitlines()
+        self.archive()
+        found = self.shell("archive list --db box.db --json box", self.room.work).splitlines()
+        self.assertEqual([keys(it) for it in found], [keys(listed)] * len(found))
+        self.assertEqual(sorted(json.loads(found[0])["files"][0]), sorted(json.loads(listed)["files"][0]))
+        [line] = self.shell("archive verdicts --db box.db --json", self.room.work).splitlines()
+        self.assertEqual(keys(line), keys(judged))
+        self.shell(f"cp {DATA}/{NAMES[0]} other.changes && archive put --db box.db --at 100000000 other.changes", self.room.work)
+        for line in self.shell("archive waiting --db box.db --at 100000000 --json", self.room.work).splitlines():
+            self.assertEqual(keys(line), keys(waiting))
+
+    @unittest.skipUnless(shutil.which("gpg"), "there is no gpg")
+    def test_a_tree_that_gpg_signs(self):
+        self.archive()
+        self.room.run("gpg --batch --quiet --passphrase '' --quick-generate-key archive@example.org")
+        self.addCleanup(self.room.run, "gpgconf --kill all")
+        status, printed, told = self.room.run(snippet("signed tree"), self.room.work)
+        self.assertEqual(status, 0, told)
+        self.assertRegex(printed, r"\Ashown box \.box\.[0-9a-f]{32}\npool 0 1 0 0\n\Z")
+        for words in ("InRelease", "Release.gpg www/dists/box/Release"):
+            status, _, told = self.room.run(f"gpg --batch --verify www/dists/box/{words}", self.room.work)
+            self.assertEqual(status, 0, told)
+
+
+if __name__ == "__main__":
+    unittest.main()

@@ -1,0 +1,211 @@
+"""Tests of the pages for people: their constants as the sources of the crate `pages` have them, the pages that `archive export` writes, with
+texts that look like markup, and those pages in a browser. Where the program, its `export` or the browser is not there the tests of it
+say that they were skipped."""
+import base64
+import functools
+import hashlib
+import html
+import html.parser
+import os
+import pathlib
+import re
+import shutil
+import subprocess
+import tempfile
+import unittest
+import urllib.parse
+
+from tests.program import DATA, MOMENT, NAMES, PROGRAM, ROOT, Lines
+
+SOURCES = pathlib.Path(ROOT, "crates/pages/src")
+BROWSER = shutil.which("chromium") or shutil.which("chromium-browser") or shutil.which("google-chrome")
+
+# What a page may have: its elements with their attributes. `meta` and `link` have no end.
+ELEMENTS = {
+    "html": {"lang"}, "head": set(), "meta": {"charset", "http-equiv", "name", "content"}, "title": set(), "link": {"rel", "href"}, "style": set(),
+    "body": set(), "h1": set(), "h2": set(), "p": set(), "a": {"href"}, "code": set(), "pre": {"class"}, "span": {"class"}, "div": {"class"},
+    "table": set(), "tr": set(), "th": set(), "td": set(), "script": set(),
+}
+WITHOUT_END = {"meta", "link"}
+
+# A description that would be markup, a script and the end of an attribute, if it were not escaped.
+HOSTILE = "\"' onclick=alert(1)><script>document.title='broken'</script><b>&lt;&amp; é </p></table></style><!--"
+
+
+def source(name):
+    return (SOURCES / name).read_text(encoding="utf-8")
+
+
+def constant(name):
+    """The text of a constant of the frame, which has no escapes."""
+    return re.search(rf'const {name}: &str =\s*"([^"\\]*)";', source("frame.rt"))[1]
+
+
+def digest(text):
+    """The word by which a policy allows a text."""
+    return f"'sha256-{base64.b64encode(hashlib.sha256(text.encode()).digest()).decode()}'"
+
+
+class Page(html.parser.HTMLParser):
+    """A page, as a parser reads it: its elements, each in those around it, and its texts. What is out of place is a fault."""
+
+    def __init__(self, text):
+        super().__init__(convert_charrefs=True)
+        self.open, self.elements, self.texts, self.faults = [], [], [], []
+        self.feed(text)
+        self.close()
+        self.faults += [f"{it} has no end" for it in self.open]
+
+    def handle_starttag(self, tag, attrs):
+        names = [name for name, _ in attrs]
+        if tag not in ELEMENTS or not ELEMENTS[tag].issuperset(names) or len(set(names)) < len(names):
+            self.faults.append(f"{tag} with {names}")
+        self.elements.append((tag, dict(attrs)))
+        if tag not in WITHOUT_END:
+            self.open.append(tag)
+
+    def handle_endtag(self, tag):
+        if not self.open or self.open.pop() != tag:
+            self.faults.append(f"an end of {tag}")
+
+    def handle_data(self, data):
+        self.texts.append((self.open[-1] if self.open else "", data))
+
+    def handle_comment(self, data):
+        self.faults.append(f"a comment {data}")
+
+    def of(self, tag):
+        """The texts of the elements of a name."""
+        return [text for it, text in self.texts if it == tag]
+
+    def links(self):
+        return [attrs["href"] for tag, attrs in self.elements if tag == "a"]
+
+    def rows(self):
+        return sum(tag == "tr" for tag, _ in self.elements)
+
+
+class Sources(unittest.TestCase):
+    def test_the_policy_allows_the_style_and_the_script_alone(self):
+        rules = dict(it.strip().split(" ", 1) for it in constant("POLICY").split(";"))
+        wanted = {"default-src": "'none'", "style-src": digest(constant("STYLE")), "script-src": digest(constant("SCRIPT")), "img-src": "data:"}
+        self.assertEqual(rules, {**wanted, "base-uri": "'none'", "form-action": "'none'"})
+
+    def test_the_script_is_short_and_the_style_has_dark_mode(self):
+        self.assertLessEqual(len(constant("SCRIPT")), 85)
+        self.assertIn("color-scheme:light dark", constant("STYLE"))
+        for text in (constant("STYLE"), constant("SCRIPT")):
+            self.assertNotIn("</", text)
+
+    def test_the_sentences_are_those_of_the_page_on_faults(self):
+        rows = re.findall(r"^\| `(accepted|refused \d)` \| (.*?) \| ", pathlib.Path(ROOT, "docs/FAULTS.md").read_text(encoding="utf-8"), re.M)
+        marked = [(word, re.sub(r"`([^`]*)`", r"<code>\1</code>", html.escape(text, quote=False))) for word, text in rows]
+        words = re.findall(r'Verdict::(\w+) => "([^"]*)"', source("verdict.rt"))
+        means = dict(re.findall(r'Verdict::(\w+) => \{\s*"([^"]*)"', source("verdict.rt")))
+        self.assertEqual([(word, means[name]) for name, word in words], marked)
+
+    def test_a_page_has_two_doors(self):
+        """Only `push_markup`, which takes constants, and `push_text` append to a page."""
+        self.assertIn("pub fn push_markup(markup: &'static str, ", source("escape.rt"))
+        for path in sorted(SOURCES.glob("*.rt")):
+            if path.name != "escape.rt":
+                code = re.sub(r"^ *//.*$", "", path.read_text(encoding="utf-8"), flags=re.M)
+                self.assertNotRegex(code, r"\.(?:push|push_str|extend|extend_from_slice|insert|insert_str)\(|write!", path.name)
+        self.assertEqual(source("link.rt").count("append_to(&mut text)"), source("link.rt").count("append_to"))
+
+
+@functools.cache
+def exports():
+    """Whether the program has the command."""
+    ran = subprocess.run([PROGRAM, "export", "--help"], capture_output=True, text=True, check=False, timeout=60)
+    return ran.returncode == 0
+
+
+class Exported(Lines):
+    """The pages of an archive of two suites, one with a hostile description, an accepted upload, one that waits and one that is refused."""
+
+    def setUp(self):
+        if not exports():
+            self.skipTest("the program has no export")
+        room = tempfile.TemporaryDirectory()
+        self.addCleanup(room.cleanup)
+        self.room, self.tree = room.name, f"{room.name}/www"
+        conf, self.db = f"{room.name}/two.conf", f"{room.name}/two.db"
+        with open(conf, "w", encoding="utf-8") as it:
+            it.write(f"Codename: box\nArchitectures: amd64 source\nComponents: main contrib\nDescription: {HOSTILE}\n\n")
+            it.write("Codename: lab\nArchitectures: amd64\nComponents: main\n")
+        self.line(0, "init", self.db, "--at", "0", conf)
+        self.line(0, "put", self.db, "--at", MOMENT, *(f"{DATA}/{name}" for name in NAMES))
+        self.line(0, "run", self.db, "--at", MOMENT)
+        changes = pathlib.Path(DATA, NAMES[0]).read_text(encoding="utf-8")
+        self.put("other_1.0-1_amd64.changes", changes.replace("Distribution: box", "Distribution: nowhere"))
+        self.line(0, "run", self.db, "--at", MOMENT)
+        self.put("waits_1.0-1_amd64.changes", changes.replace("hello_1.0-1_amd64.deb", "hello_1.0-2_amd64.deb"))
+
+    def put(self, name, text):
+        path = f"{self.room}/{name}"
+        with open(path, "w", encoding="utf-8") as it:
+            it.write(text)
+        self.line(0, "put", self.db, "--at", MOMENT, path)
+
+    def export(self, *words):
+        return self.line(0, "export", self.db, *words, self.tree)
+
+    def page(self, path):
+        it = Page(pathlib.Path(self.tree, path).read_text(encoding="utf-8"))
+        self.assertEqual(it.faults, [], path)
+        self.assertEqual(it.of("style"), [constant("STYLE")])
+        self.assertIn(constant("POLICY"), [attrs.get("content") for tag, attrs in it.elements if tag == "meta"])
+        self.assertLessEqual(set(it.of("script")), {constant("SCRIPT")})
+        return it
+
+    def assert_leads(self, path, link):
+        """A relative link of the page at a path leads to a file of the tree."""
+        self.assertNotIn(":", link)
+        self.assertTrue(os.path.isfile(os.path.join(self.tree, os.path.dirname(path), urllib.parse.unquote(link))), link)
+
+    def test_the_pages_have_what_is_shown_and_no_stray_markup(self):
+        self.export()
+        first = self.page("index.html")
+        self.assertIn(HOSTILE, first.of("p"))
+        self.assertEqual(first.of("title"), ["Suites"])
+        lines = re.findall(r"<pre[^>]*>(.*?)</pre>", pathlib.Path(self.tree, "index.html").read_text(encoding="utf-8"))
+        plain = [html.unescape(re.sub("<[^>]*>", "", it)) for it in lines]
+        self.assertEqual(plain, ["deb [trusted=yes] URL/ box main contrib", "deb [trusted=yes] URL/ lab main"])
+        self.assertIn("Items: 1. Last changed: Sat, 02 Jul 2016 05:20:50 UTC.", first.of("p"))
+        suite = self.page("dists/box/index.html")
+        self.assertEqual(suite.of("title"), ["box"])
+        self.assertEqual(suite.of("td"), ["1.0-1", "amd64", "main", "hello"])
+        self.assertIn("../../pool/main/h/hello/hello_1.0-1_amd64.deb", suite.links())
+        self.assertEqual(self.page("dists/lab/index.html").rows(), 1)
+        for path in ("index.html", "uploads.html", "dists/box/index.html", "dists/lab/index.html"):
+            for link in self.page(path).links():
+                self.assert_leads(path, link)
+
+    def test_the_page_of_uploads_has_what_waits_and_each_verdict(self):
+        self.export()
+        page = self.page("uploads.html")
+        cells = page.of("td")
+        self.assertEqual(cells[:2], ["waits_1.0-1_amd64.changes", "1"])
+        self.assertEqual([it for it in cells if re.match(r"accepted|refused", it)], ["refused 1", "accepted"])
+
+    def test_a_signed_tree_names_the_key(self):
+        self.export("--signed")
+        text = pathlib.Path(self.tree, "index.html").read_text(encoding="utf-8")
+        self.assertIn("deb [signed-by=/usr/share/keyrings/box.gpg] ", text)
+        self.assertNotIn("trusted", text)
+
+    def test_a_browser_runs_the_script_and_nothing_else(self):
+        if not BROWSER:
+            self.skipTest("there is no chromium")
+        self.export()
+        words = ["--headless", "--no-sandbox", "--disable-gpu", f"--user-data-dir={self.room}/browser", "--dump-dom"]
+        ran = subprocess.run([BROWSER, *words, f"file://{self.tree}/index.html"], capture_output=True, text=True, check=True, timeout=120)
+        page = Page(ran.stdout.strip())
+        self.assertEqual(page.of("title"), ["Suites"])
+        self.assertIn(HOSTILE, page.of("p"))
+        self.assertEqual(page.of("span"), [f"file://{self.tree}/"] * 2)
+
+
+if __name__ == "__main__":
+    unittest.main()
