@@ -1,5 +1,5 @@
 -- What a suite shows, as lines.
-use Rattle.std.specs.Prelude.{ℕ, Bool, nat_eq, List, ◌++◌, filter, codes}
+use Rattle.std.specs.Prelude.{ℕ, nat_eq, List, ◌++◌, filter, codes}
 use Rattle.std.specs.FinMap.{entries}
 use Rattle.suites.specs.Shelves.{ShelvesValue}
 use Rattle.suites.specs.declared.item.Item.{Item}
@@ -17,10 +17,6 @@ line_of item = before item.«package» (before item.version (before item.archite
 abbrev pub line_on : ShelfKey × Item → List ℕ
 line_on entry = line_of entry.1
 
--- whether what stands on a shelf is of the suite
-abbrev pub is_of : ℕ → ShelfKey × Item → Bool
-is_of suite entry = nat_eq entry.0.suite suite
-
 -- the shelves of a suite with what stands on them, in their order
 unfoldable pub shown_in : ℕ → ShelvesValue → List (ShelfKey × Item)
-shown_in suite shelves = filter (is_of suite) (entries shelves)
+shown_in suite shelves = filter (λ entry. nat_eq entry.0.suite suite) (entries shelves)

@@ -86,8 +86,9 @@ module _ (there : List ℕ → Option Print) (files : List PoolFile) (suites : L
           let at2 = left_by-append new (news ++ others) (map Show suites) tree ∙ ap (λ t. left_by new t (map Show suites)) at in
           join new P ((news ++ others) ++ map Show suites) removes tree b (subst (λ t. AtEach new P t removes) (sym at2) four.0)
 
-same_print-itself : (a : Print) → same_print a a ≡ true
-same_print-itself a =
+-- what is there as it is to be is not other
+not_other : (a : Print) → option_map_or (λ print. not (same_print print a)) (Some a) false ≡ false
+not_other a =
     let size : (a.size == a.size) ≡ true = (Decides-eqb a.size a.size).1 refl in
     let md5 : bytes_eq a.md5 a.md5 ≡ true = (bytes_eq-Decides a.md5 a.md5).1 refl in
     let sha1 : bytes_eq a.sha1 a.sha1 ≡ true = (bytes_eq-Decides a.sha1 a.sha1).1 refl in
@@ -235,7 +236,7 @@ module _ (there : List ℕ → Option Print) (files : List PoolFile) (suites : L
           | inl ab ↦ elim (Contains-append_cases (news there files suites left) (others there files suites left) (Place f) ab) [
             | inl a ↦ (let e : is_none (there f.path) ≡ true = written (is_new there) a in cc (sym e ∙ ap is_none known))
             | inr b ↦ (let e : option_map_or (λ print. not (same_print print f.print)) (there f.path) false ≡ true = written (is_other there) b in
-                cc (sym e ∙ (ap (λ o. option_map_or (λ print. not (same_print print f.print)) o false) known ∙ ap not (same_print-itself f.print))))
+                cc (sym e ∙ (ap (λ o. option_map_or (λ print. not (same_print print f.print)) o false) known ∙ not_other f.print)))
           ]
           | inr c ↦ (let m = from_map Show (Place f) suites c in cc m.2)
         ]

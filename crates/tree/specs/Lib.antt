@@ -1,3 +1,4 @@
 pub mod Tree
 pub mod Files
 pub mod Planned
+pub mod Promised

@@ -1,11 +1,11 @@
 //! The plan of an export.
 
-ghost use Rattle.std.specs.Prelude.{◌≡◌, ◌⊎◌, ◌++◌, ℕ, List, Contains, None, false, IfOk};
+ghost use Rattle.std.specs.Prelude.{◌≡◌, ◌++◌, IfOk};
 ghost use Rattle.std.specs.BTreeMap.{get_by_text};
-ghost use Rattle.suites.specs.declared.item.PoolFile.{PoolFile};
 ghost use Rattle.tree.specs.Files.{named_by, pool_files};
 ghost use Rattle.tree.specs.Planned.{planned};
-ghost use Rattle.tree.specs.Tree.{Tree, AreShown, AtEach, IsBegun, IsFirm, IsFoundFor, IsNeeded, IsWholeFor, is_among, kept_back, left_by};
+ghost use Rattle.tree.specs.Promised.{GoesOn, KeepsFound, KeepsWhole, PlacesAll, RemovesLeft, ShowsAll, TouchesNoOther};
+ghost use Rattle.tree.specs.Tree.{AreShown, IsNeeded};
 
 use crate::steps::{Step, files_of, placed_new, placed_over, removed, shown};
 use para::Text;
@@ -45,26 +45,18 @@ pub fn plan(
 ) -> Result<Vec<Step>, AllocError>
     // Which steps these are, in their order.
     ensures steps { IfOk result (λ steps. steps.items ≡ planned (get_by_text there.now) (pool_files shelves.now) suites.now left.now) }
-    // At no moment does an index name a file that is not there, neither one of those shown then nor of those shown first.
-    ensures whole { IfOk result (λ steps. (tree : Tree) (named : ℕ → List PoolFile) → IsBegun (get_by_text there.now) left.now tree
-        → AreShown (pool_files shelves.now) named → IsFirm (pool_files shelves.now) tree → AtEach named (IsWholeFor tree) tree steps.items) }
-    // Wherever it is stopped, the next one may begin, by what it finds there; what was left and went may be left again.
-    ensures goes_on { IfOk result (λ steps. (tree : Tree) (named : ℕ → List PoolFile) → IsBegun (get_by_text there.now) left.now tree
-        → AreShown (pool_files shelves.now) named → IsFirm (pool_files shelves.now) tree
-        → AtEach named (IsBegun (λ path. None) (kept_back (pool_files shelves.now) left.now)) tree steps.items) }
+    // At no moment does an index name a file that is not there.
+    ensures whole { IfOk result (λ steps. KeepsWhole (get_by_text there.now) (pool_files shelves.now) left.now steps.items) }
+    // Wherever it is stopped, the next one may begin.
+    ensures goes_on { IfOk result (λ steps. GoesOn (get_by_text there.now) (pool_files shelves.now) left.now steps.items) }
     // Where a path gets other contents than an index names, some file is there at each moment all the same.
-    ensures found { IfOk result (λ steps. (tree : Tree) (named : ℕ → List PoolFile) → IsBegun (get_by_text there.now) left.now tree
-        → AreShown (pool_files shelves.now) named → AtEach named (IsFoundFor tree) tree steps.items) }
+    ensures found { IfOk result (λ steps. KeepsFound (get_by_text there.now) (pool_files shelves.now) left.now steps.items) }
     // In the end each file of the pool is there, and these suites show what they are to show.
-    ensures placed { IfOk result (λ steps. (tree : Tree) (named : ℕ → List PoolFile) → IsBegun (get_by_text there.now) left.now tree
-        → (f : PoolFile) → Contains (pool_files shelves.now) f → (left_by named tree steps.items).pool f.path ≡ Some f.print) }
-    ensures shown { IfOk result (λ steps. (tree : Tree) (named : ℕ → List PoolFile) (suite : ℕ) → Contains suites.now suite ⊎ (tree.named suite ≡ named suite)
-        → (left_by named tree steps.items).named suite ≡ named suite) }
+    ensures placed { IfOk result (λ steps. PlacesAll (get_by_text there.now) (pool_files shelves.now) left.now steps.items) }
+    ensures shown { IfOk result (λ steps. ShowsAll suites.now steps.items) }
     // What was left before is gone then, and what is neither that nor of the pool is never touched.
-    ensures gone { IfOk result (λ steps. (tree : Tree) (named : ℕ → List PoolFile) (path : List ℕ) → Contains left.now path
-        → is_among (pool_files shelves.now) path ≡ false → (left_by named tree steps.items).pool path ≡ None) }
-    ensures rest { IfOk result (λ steps. (tree : Tree) (named : ℕ → List PoolFile) (path : List ℕ) → (Contains left.now path → ⊥)
-        → is_among (pool_files shelves.now) path ≡ false → AtEach named (λ now. now.pool path ≡ tree.pool path) tree steps.items) }
+    ensures gone { IfOk result (λ steps. RemovesLeft (pool_files shelves.now) left.now steps.items) }
+    ensures rest { IfOk result (λ steps. TouchesNoOther (pool_files shelves.now) left.now steps.items) }
     // What is there is not written again.
     ensures needed { IfOk result (λ steps. IsNeeded (get_by_text there.now) steps.items) }
 {
