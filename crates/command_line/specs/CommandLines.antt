@@ -87,8 +87,8 @@ IsLine found (Compare left right) = IsNamed found (codes "compare") (λ rows.
 IsLine found (Check conf) = IsNamed found (codes "check") (λ rows. IsWord (codes "CONF") rows conf)
 IsLine found (Init db at conf) = IsNamed found (codes "init") (λ rows.
     IsWord (codes "db") rows db × IsMoment rows at × IsWord (codes "CONF") rows conf)
-IsLine found (Ask db at asked strict json) =
-    IsRequested found db at asked × (strict ≡ is_given (codes "strict") found) × (json ≡ is_given (codes "json") found)
+IsLine found (Ask db at asked manner) =
+    IsRequested found db at asked × (manner.strict ≡ is_given (codes "strict") found) × (manner.json ≡ is_given (codes "json") found)
 IsLine found (Batch db at list strict) = IsNamed found (codes "batch") (λ rows.
     IsWord (codes "db") rows db × IsMoment rows at × IsWord (codes "LIST") rows list × (strict ≡ is_true (codes "strict") rows))
 IsLine found (Configure db at conf) = IsNamed found (codes "configure") (λ rows.
@@ -100,9 +100,9 @@ IsLine found (Show db path) = IsNamed found (codes "show") (λ rows.
 IsLine found (Listing db suite json) = IsNamed found (codes "list") (λ rows.
     IsWord (codes "db") rows db × IsWord (codes "SUITE") rows suite × (json ≡ is_true (codes "json") rows))
 IsLine found (Configuration db) = IsNamed found (codes "configuration") (λ rows. IsWord (codes "db") rows db)
-IsLine found (Export db at dir signed by_hash) = IsNamed found (codes "export") (λ rows.
-    IsWord (codes "db") rows db × IsOptionalMoment rows at × IsWord (codes "DIR") rows dir × (signed ≡ is_true (codes "signed") rows)
-    × (by_hash ≡ is_true (codes "by-hash") rows))
+IsLine found (Export db exporting) = IsNamed found (codes "export") (λ rows.
+    IsWord (codes "db") rows db × IsOptionalMoment rows exporting.at × IsWord (codes "DIR") rows exporting.dir
+    × (exporting.signed ≡ is_true (codes "signed") rows) × (exporting.by_hash ≡ is_true (codes "by-hash") rows))
 IsLine found (Serve db serving) = IsNamed found (codes "serve") (λ rows.
     IsWord (codes "db") rows db × IsMoment rows serving.at × IsOptionalWord (codes "moments") rows serving.moments
     × (serving.log ≡ is_true (codes "log") rows) × IsOptionalWord (codes "export") rows serving.export

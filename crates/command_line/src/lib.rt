@@ -15,7 +15,7 @@ mod words;
 pub use arguments::MOST_CONNECTIONS;
 pub use laws::{lines_of_commands, lists_of_commands};
 pub use list::{BatchFault, read_list};
-pub use parsed::{CommandLine, LineFault, Serving};
+pub use parsed::{CommandLine, Exporting, LineFault, Manner, Serving};
 pub use request::{LineRequest, ListRequest, Request};
 pub use version::VERSION;
 pub use words::line;

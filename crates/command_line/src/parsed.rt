@@ -6,6 +6,27 @@ use clap::error::ErrorKind;
 use std::alloc::AllocError;
 use std::fmt;
 
+/// How an archive is asked.
+#[derive(Clone, Copy, Debug)]
+pub struct Manner {
+    /// Whether an upload that the run refuses makes the exit status 1.
+    pub strict: bool,
+    /// Whether each line that is printed is one of JSON.
+    pub json: bool,
+}
+
+/// How what the suites show is written into a folder.
+#[derive(Clone, Copy, Debug)]
+pub struct Exporting<'a> {
+    /// The moment of the page on uploads, where one was given, in seconds since 1970-01-01 00:00:00 UTC.
+    pub at: Option<u64>,
+    pub dir: &'a str,
+    /// Whether a suite is shown only once its new state is signed.
+    pub signed: bool,
+    /// Whether each index text also stands under its SHA-256.
+    pub by_hash: bool,
+}
+
 /// How an archive is served.
 #[derive(Clone, Copy, Debug)]
 pub struct Serving<'a> {
@@ -51,10 +72,7 @@ pub enum CommandLine<'a> {
         db: &'a str,
         at: u64,
         request: LineRequest<'a>,
-        /// Whether an upload that the run refuses makes the exit status 1.
-        strict: bool,
-        /// Whether each line that is printed is one of JSON.
-        json: bool,
+        manner: Manner,
     },
     /// Does the commands of a list, which is a file, or standard input where it is `-`.
     Batch {
@@ -97,13 +115,7 @@ pub enum CommandLine<'a> {
     /// Writes what the suites show into a folder.
     Export {
         db: &'a str,
-        /// The moment of the page on uploads, where one was given.
-        at: Option<u64>,
-        dir: &'a str,
-        /// Whether a suite is shown only once its new state is signed.
-        signed: bool,
-        /// Whether each index text also stands under its SHA-256.
-        by_hash: bool,
+        exporting: Exporting<'a>,
     },
     /// Serves the archive of a database file over HTTP.
     Serve {

@@ -1,17 +1,28 @@
 //! Each command of a line, from its matches.
 
-ghost use Rattle.std.specs.Prelude.{codes, IfOk, Some};
+ghost use Rattle.std.specs.Prelude.{◌≡◌, codes, IfOk, Some};
 ghost use Rattle.clap.specs.Words.{found_of, rows_of};
-ghost use Rattle.command_line.specs.CommandLines.{IsLine};
+ghost use Rattle.command_line.specs.CommandLines.{IsLine, is_true};
 
 use crate::arguments::MOST_CONNECTIONS;
-use crate::parsed::{CommandLine, LineFault, Serving};
+use crate::parsed::{CommandLine, Exporting, LineFault, Manner, Serving};
 use crate::request::Request;
 use crate::values::{
     is_set, lacking, moment, number, optional, optional_moment, paths, required, sources,
 };
 use clap::ArgMatches;
 use std::alloc::Global;
+
+/// How an archive is asked, by the flags that were given.
+fn manner(found: &ArgMatches<'_>) -> Manner
+    ensures strict { result.strict ≡ is_true (codes "strict") (rows_of (found_of found.now)) }
+    ensures json { result.json ≡ is_true (codes "json") (rows_of (found_of found.now)) }
+{
+    Manner {
+        strict: is_set(found, "strict"),
+        json: is_set(found, "json"),
+    }
+}
 
 fn read_try<'a>(alloc: Global, found: &ArgMatches<'a>) -> Result<CommandLine<'a>, LineFault>
     ensures { IfOk result (IsLine (Some (codes "try", rows_of (found_of found.now)))) }
@@ -57,8 +68,7 @@ fn read_put<'a>(alloc: Global, found: &ArgMatches<'a>) -> Result<CommandLine<'a>
         request: Request::Put {
             path: paths(alloc, found)?,
         },
-        strict: is_set(found, "strict"),
-        json: is_set(found, "json"),
+        manner: manner(found),
     })
 }
 
@@ -69,8 +79,7 @@ fn read_run<'a>(alloc: Global, found: &ArgMatches<'a>) -> Result<CommandLine<'a>
         db: required(alloc, found, "db")?,
         at: moment(alloc, found)?,
         request: Request::Run,
-        strict: is_set(found, "strict"),
-        json: is_set(found, "json"),
+        manner: manner(found),
     })
 }
 
@@ -85,8 +94,7 @@ fn read_copy<'a>(alloc: Global, found: &ArgMatches<'a>) -> Result<CommandLine<'a
             to: required(alloc, found, "TO")?,
             source: required(alloc, found, "SOURCE")?,
         },
-        strict: is_set(found, "strict"),
-        json: is_set(found, "json"),
+        manner: manner(found),
     })
 }
 
@@ -103,8 +111,7 @@ fn read_promote<'a>(alloc: Global, found: &ArgMatches<'a>) -> Result<CommandLine
             to,
             sources: sources(alloc, found)?,
         },
-        strict: is_set(found, "strict"),
-        json: is_set(found, "json"),
+        manner: manner(found),
     })
 }
 
@@ -118,8 +125,7 @@ fn read_remove<'a>(alloc: Global, found: &ArgMatches<'a>) -> Result<CommandLine<
             suite: required(alloc, found, "SUITE")?,
             name: required(alloc, found, "PACKAGE")?,
         },
-        strict: is_set(found, "strict"),
-        json: is_set(found, "json"),
+        manner: manner(found),
     })
 }
 
@@ -130,8 +136,7 @@ fn read_clean<'a>(alloc: Global, found: &ArgMatches<'a>) -> Result<CommandLine<'
         db: required(alloc, found, "db")?,
         at: moment(alloc, found)?,
         request: Request::Clean,
-        strict: is_set(found, "strict"),
-        json: is_set(found, "json"),
+        manner: manner(found),
     })
 }
 
@@ -193,8 +198,7 @@ fn read_waiting<'a>(alloc: Global, found: &ArgMatches<'a>) -> Result<CommandLine
         db: required(alloc, found, "db")?,
         at: moment(alloc, found)?,
         request: Request::Waiting,
-        strict: is_set(found, "strict"),
-        json: is_set(found, "json"),
+        manner: manner(found),
     })
 }
 
@@ -205,8 +209,7 @@ fn read_verdicts<'a>(alloc: Global, found: &ArgMatches<'a>) -> Result<CommandLin
         db: required(alloc, found, "db")?,
         at: 0,
         request: Request::Verdicts,
-        strict: is_set(found, "strict"),
-        json: is_set(found, "json"),
+        manner: manner(found),
     })
 }
 
@@ -226,10 +229,12 @@ fn read_export<'a>(alloc: Global, found: &ArgMatches<'a>) -> Result<CommandLine<
 {
     Ok(CommandLine::Export {
         db: required(alloc, found, "db")?,
-        at: optional_moment(alloc, found)?,
-        dir: required(alloc, found, "DIR")?,
-        signed: is_set(found, "signed"),
-        by_hash: is_set(found, "by-hash"),
+        exporting: Exporting {
+            at: optional_moment(alloc, found)?,
+            dir: required(alloc, found, "DIR")?,
+            signed: is_set(found, "signed"),
+            by_hash: is_set(found, "by-hash"),
+        },
     })
 }
 

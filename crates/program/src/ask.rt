@@ -3,19 +3,10 @@
 use crate::database::{InFile, Opening, close, open_archive};
 use crate::fault::Stop;
 use crate::print;
-use command_line::{LineRequest, Request};
+use command_line::{LineRequest, Manner, Request};
 use keep::Keeper;
 use queue::Archive;
 use std::io::Write;
-
-/// How an archive is asked.
-#[derive(Clone, Copy)]
-pub struct Manner {
-    /// Whether an upload that a run refuses counts as something that was not taken.
-    pub strict: bool,
-    /// Whether each line that is printed is one of JSON.
-    pub json: bool,
-}
 
 /// Asks an archive, and says whether all that was given was taken.
 fn ask<'a, K: Keeper, W: Write>(

@@ -2,6 +2,7 @@
 
 use crate::database::{InFile, close, open_archive};
 use crate::fault::Stop;
+use command_line::Exporting;
 use exporting::Export;
 use keep::Keeper;
 use std::io::Write;
@@ -10,11 +11,17 @@ use std::io::Write;
 pub fn export_file<'a, K: Keeper + Drop, F: InFile<K>, W: Write>(
     rt: &HostRuntime,
     db: &str,
-    asked: &Export<'_>,
+    asked: Exporting<'_>,
     out: &mut W,
 ) -> Result<(), Stop<'a>> {
     let mut archive = open_archive::<K, F>(rt, db)?;
-    let done = exporting::export(rt, &mut archive, asked, out);
+    let export = Export {
+        folder: asked.dir,
+        at: asked.at.unwrap_or(0),
+        signed: asked.signed,
+        by_hash: asked.by_hash,
+    };
+    let done = exporting::export(rt, &mut archive, &export, out);
     close::<K, F>(archive);
     Ok(done?)
 }

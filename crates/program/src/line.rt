@@ -1,6 +1,6 @@
 //! What the program does for a line.
 
-use crate::ask::{Manner, ask_file, configuration_file, list_file, show_file};
+use crate::ask::{ask_file, configuration_file, list_file, show_file};
 use crate::batch::batch_file;
 use crate::configured::{check, configure, init, migrate};
 use crate::database::{InFile, Opening};
@@ -10,7 +10,6 @@ use crate::files::{body_of, file_name};
 use crate::serving_file::serve_file;
 use crate::shown::Shown;
 use command_line::{CommandLine, LineFault, line};
-use exporting::Export;
 use keep::{Keeper, PlainKeeper};
 use queue::{Archive, Fault};
 use rules::Config;
@@ -116,45 +115,20 @@ fn done<'a, K: Keeper + Drop, F: InFile<K>, W: Write, E: Write>(
             db,
             at,
             request,
-            strict,
-            json,
-        } => {
-            let manner = Manner {
-                strict: *strict,
-                json: *json,
-            };
-            return ask_file::<K, F, W>(rt, Opening { db, at: *at }, request, manner, out);
-        }
+            manner,
+        } => return ask_file::<K, F, W>(rt, Opening { db, at: *at }, request, *manner, out),
         CommandLine::Batch {
             db,
             at,
             list,
             strict,
-        } => {
-            return batch_file::<K, F, W, E>(rt, Opening { db, at: *at }, list, *strict, out, err);
-        }
+        } => return batch_file::<K, F, W, E>(rt, Opening { db, at: *at }, list, *strict, out, err),
         CommandLine::Configure { db, at, conf } => configure::<K, F>(rt, db, *at, conf)?,
         CommandLine::Migrate { from, db, at, conf } => migrate::<K, F>(rt, from, db, *at, conf)?,
         CommandLine::Show { db, path } => show_file::<K, F, W>(rt, db, path, out)?,
-        CommandLine::List { db, suite, json } => {
-            list_file::<K, F, W>(rt, db, suite, *json, out)?;
-        }
+        CommandLine::List { db, suite, json } => list_file::<K, F, W>(rt, db, suite, *json, out)?,
         CommandLine::Configuration { db } => configuration_file::<K, F, W>(rt, db, out)?,
-        CommandLine::Export {
-            db,
-            at,
-            dir,
-            signed,
-            by_hash,
-        } => {
-            let asked = Export {
-                folder: dir,
-                at: at.unwrap_or(0),
-                signed: *signed,
-                by_hash: *by_hash,
-            };
-            export_file::<K, F, W>(rt, db, &asked, out)?;
-        }
+        CommandLine::Export { db, exporting } => export_file::<K, F, W>(rt, db, *exporting, out)?,
         CommandLine::Serve { db, serving } => serve_file::<K, F, E>(rt, db, *serving, err)?,
     }
     Ok(true)
