@@ -48,6 +48,7 @@ BEHIND = [
     "tests.test_using_words",
     "tests.test_listing",
     "tests.test_export",
+    "tests.test_export_apt",
     "tests.test_web_pages",
     "tests.test_packaging",
     "tests.refuse_growths --lists",
