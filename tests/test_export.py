@@ -588,7 +588,6 @@ class InTheWay(Exports):
             self.refused(f"{self.tree}/{pool_path('large', '1.0-1')}")
             self.check_shown()
             self.line(0, "remove", self.db, *self.at(), "box", "large")
-            os.remove(f"{self.tree}/.boqitsel/new")
             self.assertEqual(self.export()[-1], "pool 0 1 1 0")
             self.check_tree()
 

@@ -7,7 +7,7 @@ use Rattle.std.proofs.lemmas.List.Elements.{filter-append}
 pub one_more_at : {A B C : Type 0} (f : A → B) (test : A → Bool) (view : C → A) (xs : List C) (i : ℕ) (x : C) → i < length xs
     → map f (filter test (map view (take i xs))) ++ cond (test (view (get_or xs i x))) (f (view (get_or xs i x)) ∷ []) []
     ≡ map f (filter test (map view (take (i + 1) xs)))
-one_more_at f test view xs i x h =
+one_more_at {A = A} f test view xs i x h =
     let before = map view (take i xs) in
     let this = view (get_or xs i x) in
     (λ j. map f (filter test before) ++ passed (test this) this j)

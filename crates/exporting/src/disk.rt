@@ -105,7 +105,8 @@ pub fn write_file<R: Disk>(rt: &R, path: &str, body: &[u8]) -> Result<(), Export
     at(rt.alloc(), path, try_write(rt, path, body, true))
 }
 
-/// Puts a file at a path: it is written beside, and renamed there. The folders above it are made before.
+/// Puts a file at a path: it is written beside, and renamed there. The folders above it are made before. What a full disk cut is removed, so
+/// that it takes no room.
 pub fn place<R: Disk>(
     rt: &R,
     root: &str,
@@ -116,6 +117,9 @@ pub fn place<R: Disk>(
     make_folder(rt, folder_of(path))?;
     let new = own(rt.alloc(), root, "new")?;
     let written = try_write(rt, new.as_str(), body, is_synced);
+    if written.is_err() {
+        let _ = fs::remove_file(rt, new.as_str());
+    }
     at(rt.alloc(), path, written)?;
     rename(rt, new.as_str(), path)
 }

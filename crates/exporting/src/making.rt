@@ -101,7 +101,7 @@ fn fill<R: Disk, K: Keeper>(
     write_texts(rt, archive, suite, folder)
 }
 
-/// Makes the folder of the state that a suite is to show, by one rename.
+/// Makes the folder of the state that a suite is to show, by one rename. If it can't be filled, it takes no room.
 fn make_folder_of<R: Disk, K: Keeper>(
     rt: &R,
     archive: &mut Archive<K>,
@@ -113,7 +113,11 @@ fn make_folder_of<R: Disk, K: Keeper>(
 {
     let (alloc, codename) = (rt.alloc(), suite.codename.as_str());
     let new = format!(in alloc; "{}/dists/.{codename}.new", job.root)?;
-    fill(rt, archive, job, position, suite, new.as_str())?;
+    let filled = fill(rt, archive, job, position, suite, new.as_str());
+    if filled.is_err() {
+        let _ = remove_folder(rt, new.as_str());
+    }
+    filled?;
     let folder = in_dists(alloc, job.root, suite.state.as_str())?;
     remove_folder(rt, folder.as_str())?;
     rename(rt, new.as_str(), folder.as_str())
