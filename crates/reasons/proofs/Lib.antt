@@ -1,3 +1,4 @@
 pub mod Searches
 pub mod Listings
 pub mod Differing
+pub mod Naming
