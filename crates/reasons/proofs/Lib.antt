@@ -1,4 +1,5 @@
 pub mod Searches
 pub mod Listings
 pub mod Differing
-pub mod Naming
+pub mod Rows
+pub mod Refused

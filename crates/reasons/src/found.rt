@@ -1,6 +1,6 @@
 //! What the other verdicts are about: an architecture of the .changes, or a file that it or its .dsc lists.
 
-ghost use Rattle.std.specs.Prelude.{◌≡◌, not, bytes_eq, string_bytes, IfOk, option_copied};
+ghost use Rattle.std.specs.Prelude.{◌≡◌, not, bytes_eq, IfOk, option_copied};
 ghost use Rattle.std.specs.FinMap.{get};
 ghost use Rattle.rules.specs.Judgement.{component};
 ghost use Rattle.rules.specs.Suites.{component_of};
@@ -77,12 +77,13 @@ pub fn unlisted_file<'a>(changes: &'a Changes, dsc: &Dsc) -> Option<&'a Entry>
 
 /// Where an entry's file goes.
 #[tactic(auto, unfolding(suites::specs::Pool::pool_path))]
-pub fn pool_path(alloc: Global, changes: &Changes, entry: &Entry) -> Result<String, AllocError>
-    ensures { IfOk result (λ path. string_bytes path ≡ path_of changes.now entry.now) }
+pub fn pool_path(alloc: Global, changes: &Changes, entry: &Entry) -> Result<Text, AllocError>
+    ensures { IfOk result (λ path. path ≡ path_of changes.now entry.now) }
 {
     let folder = directory(alloc, component(changes), changes.source())?;
     let (folder, name) = (folder.as_str(), entry.name.as_str());
-    format!(in alloc; "{folder}/{name}")
+    let path = format!(in alloc; "{folder}/{name}")?;
+    Ok(Text::from_string(path))
 }
 
 /// The print of what the pool holds at the path of an entry's file.

@@ -1,6 +1,6 @@
 //! That something is named exactly where the rule of a verdict applies. For the prover alone: each law is its contract.
 
-ghost use Rattle.std.specs.Prelude.{◌≡◌, ◌||◌, ℕ, false, List, not, codes, is_some};
+ghost use Rattle.std.specs.Prelude.{◌≡◌, ◌≢◌, ◌||◌, ℕ, true, false, List, not, codes, is_some};
 ghost use Rattle.std.specs.List.{list_any};
 ghost use Rattle.std.specs.Option.{option_map_or};
 ghost use Rattle.records.specs.Records.{dsc_in};
@@ -12,7 +12,7 @@ ghost use Rattle.rules.specs.declared.suite.Suite.{Suite};
 ghost use Rattle.rules.specs.declared.verdict.Verdict.TheVariants as verdict;
 ghost use Rattle.suites.specs.Shelves.{ShelvesValue, pool};
 ghost use Rattle.suites.specs.Upload.{UploadValue, dsc_parts};
-ghost use Rattle.suites.specs.Verdict.{by_print, differs_from_dsc, differs_from_sidecar, has_bad_dsc, has_bad_listing, has_bad_sidecar, has_other_contents, have_twins, lacks_source_file, match_ok};
+ghost use Rattle.suites.specs.Verdict.{by_print, differs_from_dsc, differs_from_sidecar, has_bad_dsc, has_bad_listing, has_bad_sidecar, has_other_contents, have_twins, lacks_source_file, match_ok, verdict_on};
 ghost use Rattle.reasons.specs.Differences.{dsc_difference, sidecar_difference};
 ghost use Rattle.reasons.specs.Named.{foreign_architecture, lacks_dsc, listed_changes, lone_file, missing_file, other_component, source_file, surplus_dsc, taken_entry, twins};
 ghost use Rattle.reasons.specs.Reasons.{named_by};
@@ -44,7 +44,7 @@ pub fn what_is_named_is_there()
     ensures contents { (shelves : ShelvesValue) (u : UploadValue) → has_other_contents by_print (pool shelves) u ≡ is_some (taken_entry shelves u.changes) }
 {}
 
-/// A verdict from 2 to 9, but 3, is about something exactly where its rule applies: nobody can name nothing then.
+/// A verdict from 2 to 9, but 3, is about something exactly where its rule applies.
 pub fn each_verdict_names()
     ensures architecture { (config : ConfigValue) (shelves : ShelvesValue) (u : UploadValue) →
         option_map_or (has_foreign_architecture u.changes) (suite_of config u.changes) false ≡ is_some (named_by config shelves u verdict.ForeignArchitecture) }
@@ -59,4 +59,10 @@ pub fn each_verdict_names()
         lacks_source_file by_print (pool shelves) u ≡ is_some (named_by config shelves u verdict.NotInPool) }
     ensures contents { (config : ConfigValue) (shelves : ShelvesValue) (u : UploadValue) →
         has_other_contents by_print (pool shelves) u ≡ is_some (named_by config shelves u verdict.OtherContents) }
+{}
+
+/// What refuses an upload is always about something.
+pub fn a_refusal_names()
+    ensures { (config : ConfigValue) (shelves : ShelvesValue) (u : UploadValue) → verdict_on config shelves u ≢ verdict.Accepted
+        → is_some (named_by config shelves u (verdict_on config shelves u)) ≡ true }
 {}

@@ -159,7 +159,7 @@ pub fn in_pool(
     ensures { IfOk result (λ named. named ≡ in_pool shelves.now changes.now entry.now) }
 {
     let name = entry.name.try_clone()?;
-    let path = Text::from_string(pool_path(alloc, changes, entry)?);
+    let path = pool_path(alloc, changes, entry)?;
     let there = shelves.file(path.as_str());
     Ok(Named::File {
         name,

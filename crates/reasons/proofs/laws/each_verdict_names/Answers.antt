@@ -1,6 +1,6 @@
 use Rattle.rules.specs.Judgement.{has_foreign_architecture, has_foreign_component, suite_of}
 use Rattle.reasons.specs.Reasons.{named_architecture, named_component}
-use Rattle.reasons.proofs.Naming.{a_component, a_dsc, a_listing, a_missing_file, a_sidecar, a_taken_file, an_architecture, at_suite}
+use Rattle.reasons.proofs.Rows.{a_component, a_dsc, a_listing, a_missing_file, a_sidecar, a_taken_file, an_architecture, at_suite}
 use Rattle.reasons.proofs.laws.each_verdict_names.Goals as goal
 
 pub returns-clause-architecture : goal.returns-clause-architecture
