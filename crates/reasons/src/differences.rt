@@ -20,13 +20,21 @@ use sums::{Entry, Print};
 #[derive(Drop)]
 pub enum DscDifference {
     /// It says another source.
-    Source { said: Text },
+    Source {
+        said: Text,
+    },
     /// It says another version.
-    Version { said: Text },
+    Version {
+        said: Text,
+    },
     /// By its own fields it has another name, `SOURCE_VERSION.dsc` with the version without its epoch.
-    Name { own: Text },
+    Name {
+        own: Text,
+    },
     /// It lists a file that no .dsc may list.
-    ListsPart { file: Text },
+    ListsPart {
+        file: Text,
+    },
     /// It does not list a source file of the .changes with its print; with which it does, if it has a file of that name.
     LacksFile {
         file: Text,
