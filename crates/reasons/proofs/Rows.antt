@@ -16,7 +16,7 @@ use Rattle.suites.specs.Upload.{UploadValue, dsc_parts, sidecar_parts}
 use Rattle.suites.specs.Verdict.{by_print, differs_from_dsc, differs_from_sidecar, has_bad_dsc, has_bad_listing, has_bad_sidecar, has_other_contents, has_source, is_missing_file, is_taken, lacks_source_file, match_ok}
 use Rattle.reasons.specs.Differences.{dsc_difference, sidecar_difference}
 use Rattle.reasons.specs.Named.{first_some, foreign_architecture, lacks_dsc, listed_changes, lone_file, missing_file, other_component, source_file, surplus_dsc, taken_entry, twins}
-use Rattle.reasons.specs.Reasons.{dsc_among, in_pool, missing_among, named_architecture, named_component, named_dsc, named_listing, named_missing, named_sidecar, of_other_component, of_twins, sidecar_among, sidecars_of}
+use Rattle.reasons.specs.Reasons.{bad_among, dsc_among, in_pool, missing_among, named_architecture, named_component, named_dsc, named_listing, named_missing, named_sidecar, of_other_component, of_twins, sidecar_among, sidecars_of}
 use Rattle.reasons.specs.declared.about.Named.TheVariants as named
 use Rattle.reasons.proofs.Differing.{dsc_differs, sidecar_differs}
 use Rattle.reasons.proofs.Listings.{bad_listing, two_alike}
@@ -92,7 +92,7 @@ one_sidecar u =
     first_where (λ part. match_ok (sidecar_in part.1) (differs_from_sidecar u.changes part.0.name)) (λ part. named_sidecar u.changes part.0.name (sidecar_in part.1))
     (λ part. of_sidecar u.changes part.0.name (sidecar_in part.1)) (sidecar_parts u)
 
-pub a_sidecar : (u : UploadValue) → has_bad_sidecar u ≡ is_some (option_or (sidecar_among u.changes (sidecar_parts u)) (option_map of_twins (twins (sidecars_of (sidecar_parts u)))))
+pub a_sidecar : (u : UploadValue) → has_bad_sidecar u ≡ is_some (bad_among u.changes (sidecar_parts u))
 unfolding has_bad_sidecar
 a_sidecar u =
     (λ i. one_sidecar u i || two_alike (sidecars_of (sidecar_parts u)) i)

@@ -44,7 +44,7 @@ named_component c s = first_some (
     ∷ then_some (not (keeps_component s (component c))) (named.Component (component c))
     ∷ [])
 
--- 5. a listed file, or a .dsc that lacks; the last three parts of its rule
+-- 5. a listed file, or that there is no .dsc: the last three parts of its rule
 abbrev pub lone_parts : ChangesValue → List (Option Named)
 lone_parts c =
     option_map (λ e. named.LonePackage e.name) (lone_file (codes ".deb") (codes ".control") c.entries)
@@ -52,7 +52,7 @@ lone_parts c =
     ∷ option_map (λ e. named.SourceFile e.name) (source_file c)
     ∷ []
 
--- all its parts
+-- and all of them
 abbrev pub named_listing : ChangesValue → Option Named
 named_listing c = first_some (
     option_map (λ e. named.ListedChanges e.name) (listed_changes c)
@@ -85,6 +85,10 @@ sidecars_of parts = filter_map (λ part. result_ok (sidecar_in part.1)) parts
 abbrev pub of_twins : SidecarValue × SidecarValue → Named
 of_twins p = named.Twins p.0.name p.0.architecture (sidecar_file p.0) (sidecar_file p.1)
 
+-- one that is wrong by itself, else two
+abbrev pub bad_among : ChangesValue → List Part → Option Named
+bad_among c parts = option_or (sidecar_among c parts) (option_map of_twins (twins (sidecars_of parts)))
+
 -- 8, 9. a file, its path in the pool, and the print of what is there
 abbrev pub in_pool : ShelvesValue → ChangesValue → Entry → Named
 in_pool shelves c e = named.File e.name e.print (path_of c e) (get (pool shelves) (path_of c e))
@@ -106,6 +110,6 @@ named_by config shelves u verdict.NotAllowed = Some (named_uploader u.changes)
 named_by config shelves u verdict.ForeignComponent = option_and_then (named_component u.changes) (suite_of config u.changes)
 named_by config shelves u verdict.BadListing = named_listing u.changes
 named_by config shelves u verdict.BadDsc = dsc_among u.changes (dsc_parts u)
-named_by config shelves u verdict.BadSidecar = option_or (sidecar_among u.changes (sidecar_parts u)) (option_map of_twins (twins (sidecars_of (sidecar_parts u))))
+named_by config shelves u verdict.BadSidecar = bad_among u.changes (sidecar_parts u)
 named_by config shelves u verdict.NotInPool = missing_among shelves u.changes (dsc_parts u)
 named_by config shelves u verdict.OtherContents = option_map (in_pool shelves u.changes) (taken_entry shelves u.changes)

@@ -47,9 +47,11 @@ pub fn what_is_named_is_there()
 /// A verdict from 2 to 9, but 3, is about something exactly where its rule applies.
 pub fn each_verdict_names()
     ensures architecture { (config : ConfigValue) (shelves : ShelvesValue) (u : UploadValue) →
-        option_map_or (has_foreign_architecture u.changes) (suite_of config u.changes) false ≡ is_some (named_by config shelves u verdict.ForeignArchitecture) }
+        option_map_or (has_foreign_architecture u.changes) (suite_of config u.changes) false
+        ≡ is_some (named_by config shelves u verdict.ForeignArchitecture) }
     ensures component { (config : ConfigValue) (shelves : ShelvesValue) (u : UploadValue) →
-        option_map_or (has_foreign_component u.changes) (suite_of config u.changes) false ≡ is_some (named_by config shelves u verdict.ForeignComponent) }
+        option_map_or (has_foreign_component u.changes) (suite_of config u.changes) false
+        ≡ is_some (named_by config shelves u verdict.ForeignComponent) }
     ensures listing { (config : ConfigValue) (shelves : ShelvesValue) (u : UploadValue) →
         has_bad_listing u.changes ≡ is_some (named_by config shelves u verdict.BadListing) }
     ensures dsc { (config : ConfigValue) (shelves : ShelvesValue) (u : UploadValue) → has_bad_dsc u ≡ is_some (named_by config shelves u verdict.BadDsc) }

@@ -1,11 +1,10 @@
 //! What the verdicts 6 to 8 are about: what the .dsc and the sidecars of an upload say, each as it is read.
 
 ghost use Rattle.std.specs.Prelude.{◌≡◌, Ok, IfOk, option_map};
-ghost use Rattle.std.specs.Option.{option_or};
 ghost use Rattle.records.specs.Records.{dsc_in, sidecar_in};
 ghost use Rattle.suites.specs.Upload.{dsc_parts, sidecar_parts};
 ghost use Rattle.reasons.specs.Named.{twins};
-ghost use Rattle.reasons.specs.Reasons.{dsc_among, missing_among, named_dsc, named_missing, named_sidecar, of_twins, sidecar_among, sidecars_of};
+ghost use Rattle.reasons.specs.Reasons.{bad_among, dsc_among, missing_among, named_dsc, named_missing, named_sidecar, of_twins, sidecar_among, sidecars_of};
 
 use crate::about::Named;
 use crate::differences::{dsc_difference, own_name, sidecar_difference};
@@ -148,8 +147,7 @@ fn twins_among(alloc: Global, sidecars: &[Sidecar]) -> Result<Option<Named>, All
 
 /// Of verdict 7, a sidecar of the upload that is wrong by itself, else two of one package and architecture.
 pub fn bad_sidecar(alloc: Global, upload: &Upload) -> Result<Option<Named>, AllocError>
-    ensures { IfOk result (λ found. found ≡ option_or (sidecar_among upload.now.changes (sidecar_parts upload.now))
-        (option_map of_twins (twins (sidecars_of (sidecar_parts upload.now))))) }
+    ensures { IfOk result (λ found. found ≡ bad_among upload.now.changes (sidecar_parts upload.now)) }
 {
     if let Some(named) = wrong_sidecar(alloc, upload)? {
         return Ok(Some(named));
