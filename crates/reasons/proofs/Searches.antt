@@ -1,8 +1,11 @@
 -- A search finds something exactly where the test holds somewhere.
-use Rattle.std.proofs.Common.{◌≡◌, ℕ, suc, Bool, true, false, not, ◌&&◌, ◌||◌, cond, List, [], ◌∷◌, Some, filter, length, refl, ap, arith}
+use Rattle.std.proofs.Common.{◌≡◌, ℕ, suc, ◌+◌, ◌<◌, Bool, true, false, not, ◌&&◌, ◌||◌, cond, List, [], ◌∷◌, Option, Some, filter, length, map, drop, get_or, refl, sym, ap, ◌∙◌, arith}
 use Rattle.std.specs.Prelude.{find, is_some, nat_lt}
 use Rattle.std.specs.List.{list_any, list_all}
+use Rattle.std.specs.Option.{option_or}
 use Rattle.std.proofs.lemmas.Bool.Decides.{nat_tests}
+use Rattle.std.proofs.lemmas.List.{drop_more}
+use Rattle.reasons.specs.Named.{first_some}
 
 pub found_where : {X : Type 0} (p : X → Bool) (xs : List X) → list_any p xs ≡ is_some (find p xs)
 found_where p [] = refl
@@ -43,3 +46,10 @@ not_unless false b = refl
 
 pub same_any : {X : Type 0} (p q : X → Bool) → ((x : X) → p x ≡ q x) → (xs : List X) → list_any p xs ≡ list_any q xs
 same_any p q h xs = ap (λ t. list_any t xs) (λ i x. h x i)
+
+-- what is found of the first of the rest
+pub found_at : {X P Y : Type 0} (h : P → Option Y) (v : X → P) (xs : List X) (i : ℕ) (x : X) (y : Y) → i < length xs → x ≡ get_or xs i x → h (v x) ≡ Some y
+    → first_some (map h (map v (drop i xs))) ≡ Some y
+found_at h v xs i x y less is found =
+    ap (λ ys. first_some (map h (map v ys))) (drop_more xs i x less)
+    ∙ ap (λ o. option_or o (first_some (map h (map v (drop (i + 1) xs))))) (ap (λ z. h (v z)) (sym is) ∙ found)

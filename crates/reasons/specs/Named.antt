@@ -1,6 +1,7 @@
 -- What a verdict is about: the first architecture or file for which the test holds of which its rule says that it holds somewhere.
 use Rattle.std.specs.Prelude.{ℕ, Bool, not, ◌&&◌, if◌then◌else◌, List, [], ◌∷◌, filter, find, bytes_eq, codes, Option, None, Some, slice_get}
 use Rattle.std.specs.List.{list_any}
+use Rattle.std.specs.Option.{option_or}
 use Rattle.records.specs.Records.{is_among}
 use Rattle.records.specs.Values.{ChangesValue, DscValue, SidecarValue}
 use Rattle.rules.specs.Judgement.{component}
@@ -10,6 +11,11 @@ use Rattle.sums.specs.declared.entries.Entry.{Entry}
 use Rattle.suites.specs.Shelves.{ShelvesValue, pool}
 use Rattle.suites.specs.Upload.{has_suffix, stem}
 use Rattle.suites.specs.Verdict.{by_print, has_entry, has_source, is_missing_file, is_package_part, is_same_package, is_taken, stems}
+
+-- of several the first that is there
+abbrev pub first_some : {X : Type 0} → List (Option X) → Option X
+first_some [] = None
+first_some (o ∷ os) = option_or o (first_some os)
 
 -- 2. the first architecture of the .changes that the suite does not keep
 abbrev pub foreign_architecture : ChangesValue → Suite → Option (List ℕ)

@@ -1,43 +1,108 @@
 //! How a .dsc or a sidecar is not that of its .changes, which verdicts 6 and 7 are about.
 
-ghost use Rattle.std.specs.Prelude.{◌≡◌, string_bytes, IfOk};
+ghost use Rattle.std.specs.Prelude.{◌≡◌, not, [], ◌∷◌, bytes_eq, string_bytes, IfOk, option_map};
+ghost use Rattle.std.specs.Bool.{then_some};
 ghost use Rattle.records.specs.Records.{is_among};
-ghost use Rattle.suites.specs.Verdict.{sidecar_file};
-ghost use Rattle.reasons.specs.Differences.{dsc_difference, sidecar_difference};
+ghost use Rattle.suites.specs.Upload.{entry_named};
+ghost use Rattle.suites.specs.Verdict.{dsc_file, sidecar_file};
+ghost use Rattle.reasons.specs.Differences.{dsc_difference, lacked, lists_part, sidecar_difference};
+ghost use Rattle.reasons.specs.Named.{first_some, listed_part, unlisted_file};
 
 use crate::found::{listed_part, unlisted_file};
+use crate::names::entry_named;
+use para::Text;
 use records::{Changes, Dsc, Sidecar};
 use std::alloc::{AllocError, Global};
 use suites::dsc_name;
+use sums::{Entry, Print};
 
 /// How a .dsc is not the one that its .changes is about.
-#[derive(Debug, Clone, Copy, PartialEq, Eq)]
+#[derive(Drop)]
 pub enum DscDifference {
-    /// Its source is another.
-    Source,
-    /// Its version is another.
-    Version,
-    /// Its name is not `SOURCE_VERSION.dsc` by its own fields, with the version without its epoch.
-    Name,
+    /// It says another source.
+    Source {
+        said: Text,
+    },
+    /// It says another version.
+    Version {
+        said: Text,
+    },
+    /// By its own fields it has another name, `SOURCE_VERSION.dsc` with the version without its epoch.
+    Name {
+        own: Text,
+    },
     /// It lists a file that no .dsc may list.
-    ListsPart,
-    /// It does not list a source file of the .changes, or not with its print.
-    LacksFile,
+    ListsPart {
+        file: Text,
+    },
+    /// It does not list a source file of the .changes with its print; with which it does, if it has a file of that name.
+    LacksFile {
+        file: Text,
+        print: Print,
+        listed: Option<Print>,
+    },
 }
 
 /// How a sidecar is none that its .changes may have.
-#[derive(Debug, Clone, Copy, PartialEq, Eq)]
+#[derive(Drop)]
 pub enum SidecarDifference {
-    /// Its name is not `PACKAGE_VERSION_ARCHITECTURE.control` by its own fields, with the version without its epoch.
-    Name,
+    /// By its own fields it has another name, `PACKAGE_VERSION_ARCHITECTURE.control` with the version without its epoch.
+    Name { own: Text },
     /// Its architecture is none of the .changes.
-    Architecture,
-    /// Its source is another.
-    Source,
+    Architecture { said: Text },
+    /// It says another source.
+    Source { said: Text },
+}
+
+/// The name that a .dsc has by its own fields, if that is another.
+fn other_dsc_name(alloc: Global, name: &str, dsc: &Dsc) -> Result<Option<Text>, AllocError>
+    ensures { IfOk result (λ own. own ≡ then_some (not (bytes_eq name.now (dsc_file dsc.now))) (dsc_file dsc.now)) }
+{
+    let own = dsc_name(alloc, dsc)?;
+    if name == own.as_str() {
+        return Ok(None);
+    }
+    Ok(Some(Text::from_string(own)))
+}
+
+/// The print of the entry of a name.
+fn print_named(entries: &[Entry], name: &str) -> Option<Print>
+    ensures { result ≡ option_map (λ entry. entry.print) (entry_named name.now entries.now) }
+{
+    match entry_named(entries, name) {
+        Some(entry) => Some(entry.print),
+        None => None,
+    }
+}
+
+/// That a .dsc does not list a file with its print.
+fn lacked(dsc: &Dsc, entry: &Entry) -> Result<DscDifference, AllocError>
+    ensures { IfOk result (λ difference. difference ≡ lacked dsc.now entry.now) }
+{
+    Ok(DscDifference::LacksFile {
+        file: entry.name.try_clone()?,
+        print: entry.print,
+        listed: print_named(dsc.entries(), entry.name.as_str()),
+    })
+}
+
+/// The first file that a .dsc lists and may not, else the first that it does not list.
+fn other_file(changes: &Changes, dsc: &Dsc) -> Result<Option<DscDifference>, AllocError>
+    ensures { IfOk result (λ found. found ≡ first_some (option_map lists_part (listed_part dsc.now)
+        ∷ option_map (lacked dsc.now) (unlisted_file changes.now dsc.now) ∷ [])) }
+{
+    if let Some(entry) = listed_part(dsc) {
+        return Ok(Some(DscDifference::ListsPart {
+            file: entry.name.try_clone()?,
+        }));
+    }
+    match unlisted_file(changes, dsc) {
+        Some(entry) => Ok(Some(lacked(dsc, entry)?)),
+        None => Ok(None),
+    }
 }
 
 /// The first difference of a .dsc of this name from its .changes.
-#[tactic(auto, unfolding(crate::specs::Differences::dsc_difference))]
 pub fn dsc_difference(
     alloc: Global,
     changes: &Changes,
@@ -46,23 +111,20 @@ pub fn dsc_difference(
 ) -> Result<Option<DscDifference>, AllocError>
     ensures { IfOk result (λ found. found ≡ dsc_difference changes.now name.now dsc.now) }
 {
-    let other_name = name != dsc_name(alloc, dsc)?.as_str();
     if dsc.source() != changes.source() {
-        return Ok(Some(DscDifference::Source));
+        return Ok(Some(DscDifference::Source {
+            said: Text::new(alloc, dsc.source())?,
+        }));
     }
     if dsc.version().text() != changes.version().text() {
-        return Ok(Some(DscDifference::Version));
+        return Ok(Some(DscDifference::Version {
+            said: Text::new(alloc, dsc.version().text())?,
+        }));
     }
-    if other_name {
-        return Ok(Some(DscDifference::Name));
+    if let Some(own) = other_dsc_name(alloc, name, dsc)? {
+        return Ok(Some(DscDifference::Name { own }));
     }
-    if listed_part(dsc).is_some() {
-        return Ok(Some(DscDifference::ListsPart));
-    }
-    if unlisted_file(changes, dsc).is_some() {
-        return Ok(Some(DscDifference::LacksFile));
-    }
-    Ok(None)
+    other_file(changes, dsc)
 }
 
 /// The name that a sidecar has by its own fields, `PACKAGE_VERSION_ARCHITECTURE.control`, with the version without its epoch.
@@ -76,6 +138,28 @@ fn sidecar_name(alloc: Global, sidecar: &Sidecar) -> Result<String, AllocError>
     format!(in alloc; "{package}_{version}_{architecture}.control")
 }
 
+/// The same as a text that is kept.
+pub fn own_name(alloc: Global, sidecar: &Sidecar) -> Result<Text, AllocError>
+    ensures { IfOk result (λ own. own ≡ sidecar_file sidecar.now) }
+{
+    Ok(Text::from_string(sidecar_name(alloc, sidecar)?))
+}
+
+/// The name that a sidecar has by its own fields, if that is another.
+fn other_sidecar_name(
+    alloc: Global,
+    name: &str,
+    sidecar: &Sidecar,
+) -> Result<Option<Text>, AllocError>
+    ensures { IfOk result (λ own. own ≡ then_some (not (bytes_eq name.now (sidecar_file sidecar.now))) (sidecar_file sidecar.now)) }
+{
+    let own = own_name(alloc, sidecar)?;
+    if name == own.as_str() {
+        return Ok(None);
+    }
+    Ok(Some(own))
+}
+
 /// Whether an architecture is one of the .changes.
 fn has_architecture(changes: &Changes, architecture: &str) -> bool
     ensures { result ≡ is_among changes.now.architectures architecture.now }
@@ -87,7 +171,6 @@ fn has_architecture(changes: &Changes, architecture: &str) -> bool
 }
 
 /// The first difference of a sidecar of this name from those that its .changes may have.
-#[tactic(auto, unfolding(crate::specs::Differences::sidecar_difference))]
 pub fn sidecar_difference(
     alloc: Global,
     changes: &Changes,
@@ -96,15 +179,18 @@ pub fn sidecar_difference(
 ) -> Result<Option<SidecarDifference>, AllocError>
     ensures { IfOk result (λ found. found ≡ sidecar_difference changes.now name.now sidecar.now) }
 {
-    let other_name = name != sidecar_name(alloc, sidecar)?.as_str();
-    if other_name {
-        return Ok(Some(SidecarDifference::Name));
+    if let Some(own) = other_sidecar_name(alloc, name, sidecar)? {
+        return Ok(Some(SidecarDifference::Name { own }));
     }
     if !has_architecture(changes, sidecar.architecture()) {
-        return Ok(Some(SidecarDifference::Architecture));
+        return Ok(Some(SidecarDifference::Architecture {
+            said: Text::new(alloc, sidecar.architecture())?,
+        }));
     }
     if sidecar.source() != changes.source() {
-        return Ok(Some(SidecarDifference::Source));
+        return Ok(Some(SidecarDifference::Source {
+            said: Text::new(alloc, sidecar.source())?,
+        }));
     }
     Ok(None)
 }

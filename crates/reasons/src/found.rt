@@ -28,7 +28,7 @@ pub fn foreign_architecture<'a>(suite: &Suite, changes: &'a Changes) -> Option<&
 
 /// The component of an upload: that of its first entry.
 #[tactic(auto, unfolding(rules::specs::Judgement::component))]
-fn component(changes: &Changes) -> &str
+pub fn component(changes: &Changes) -> &str
     ensures { result.now ≡ component changes.now }
 {
     match changes.entries().first() {
@@ -75,8 +75,18 @@ pub fn unlisted_file<'a>(changes: &'a Changes, dsc: &Dsc) -> Option<&'a Entry>
         .find(|entry| is_unlisted(dsc, entry))
 }
 
-/// The print of what the pool holds at the path of an entry's file.
+/// Where an entry's file goes.
 #[tactic(auto, unfolding(suites::specs::Pool::pool_path))]
+pub fn pool_path(alloc: Global, changes: &Changes, entry: &Entry) -> Result<Text, AllocError>
+    ensures { IfOk result (λ path. path ≡ path_of changes.now entry.now) }
+{
+    let folder = directory(alloc, component(changes), changes.source())?;
+    let (folder, name) = (folder.as_str(), entry.name.as_str());
+    let path = format!(in alloc; "{folder}/{name}")?;
+    Ok(Text::from_string(path))
+}
+
+/// The print of what the pool holds at the path of an entry's file.
 fn print_in_pool(
     alloc: Global,
     shelves: &Shelves,
@@ -85,9 +95,7 @@ fn print_in_pool(
 ) -> Result<Option<Print>, AllocError>
     ensures { IfOk result (λ found. found ≡ get (pool shelves.now) (path_of changes.now entry.now)) }
 {
-    let folder = directory(alloc, component(changes), changes.source())?;
-    let (folder, name) = (folder.as_str(), entry.name.as_str());
-    let path = format!(in alloc; "{folder}/{name}")?;
+    let path = pool_path(alloc, changes, entry)?;
     Ok(shelves.file(path.as_str()))
 }
 
