@@ -49,6 +49,7 @@ BEHIND = [
     "tests.test_using_proxy",
     "tests.test_using_words",
     "tests.test_listing",
+    "tests.test_progress",
     "tests.test_export",
     "tests.test_export_apt",
     "tests.test_web_pages",

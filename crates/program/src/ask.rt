@@ -1,25 +1,42 @@
 //! What is asked of the archive of a database file.
 
-use crate::database::{InFile, Opening, close, open_archive};
+use crate::database::{InFile, Opening, close, open_shown};
 use crate::fault::Stop;
 use crate::print;
+use crate::progress::Progress;
 use command_line::{LineRequest, Manner, Request};
 use keep::Keeper;
 use queue::Archive;
 use std::io::Write;
 
+/// Delivers files, shows how many of their bytes are, and says whether all were taken.
+fn put<'a, K: Keeper, W: Write, E: Write>(
+    rt: &HostRuntime,
+    archive: &mut Archive<K>,
+    opening: Opening<'_>,
+    paths: &[&'a str],
+    out: &mut W,
+    err: &mut E,
+) -> Result<bool, Stop<'a>> {
+    let mut progress = Progress::new(rt, err, "put", "bytes");
+    let done = print::put_files(rt, archive, opening, paths, out, &mut progress);
+    progress.clear();
+    done
+}
+
 /// Asks an archive, and says whether all that was given was taken.
-fn ask<'a, K: Keeper, W: Write>(
+fn ask<'a, K: Keeper, W: Write, E: Write>(
     rt: &HostRuntime,
     archive: &mut Archive<K>,
     opening: Opening<'_>,
     request: &LineRequest<'a>,
     manner: Manner,
     out: &mut W,
+    err: &mut E,
 ) -> Result<bool, Stop<'a>> {
     let (alloc, at) = (rt.alloc(), opening.at);
     match request {
-        Request::Put { path } => return print::put_files(rt, archive, opening, path, out),
+        Request::Put { path } => return put(rt, archive, opening, path, out, err),
         Request::Run => return print::run(alloc, archive, at, manner.strict, out),
         Request::Copy { from, to, source } => {
             print::copy(alloc, archive, at, from, to, source, out)?;
@@ -35,16 +52,18 @@ fn ask<'a, K: Keeper, W: Write>(
     Ok(true)
 }
 
-/// Asks the archive of a database file, and says whether all that was given was taken.
-pub fn ask_file<'a, K: Keeper + Drop, F: InFile<K>, W: Write>(
+/// Asks the archive of a database file, and says whether all that was given was taken. How far a `put` is comes to `err`, where that is
+/// a terminal.
+pub fn ask_file<'a, K: Keeper + Drop, F: InFile<K>, W: Write, E: Write>(
     rt: &HostRuntime,
     opening: Opening<'_>,
     request: &LineRequest<'a>,
     manner: Manner,
     out: &mut W,
+    err: &mut E,
 ) -> Result<bool, Stop<'a>> {
-    let mut archive = open_archive::<K, F>(rt, opening.db)?;
-    let done = ask(rt, &mut archive, opening, request, manner, out);
+    let mut archive = open_shown::<K, F>(rt, opening.db)?;
+    let done = ask(rt, &mut archive, opening, request, manner, out, err);
     close::<K, F>(archive);
     done
 }
@@ -56,7 +75,7 @@ pub fn show_file<'a, K: Keeper + Drop, F: InFile<K>, W: Write>(
     path: &str,
     out: &mut W,
 ) -> Result<(), Stop<'a>> {
-    let mut archive = open_archive::<K, F>(rt, db)?;
+    let mut archive = open_shown::<K, F>(rt, db)?;
     let done = print::show(rt.alloc(), &mut archive, path, out);
     close::<K, F>(archive);
     done
@@ -70,7 +89,7 @@ pub fn list_file<'a, K: Keeper + Drop, F: InFile<K>, W: Write>(
     json: bool,
     out: &mut W,
 ) -> Result<(), Stop<'a>> {
-    let mut archive = open_archive::<K, F>(rt, db)?;
+    let mut archive = open_shown::<K, F>(rt, db)?;
     let done = print::list(rt.alloc(), &mut archive, suite, json, out);
     close::<K, F>(archive);
     done
@@ -82,7 +101,7 @@ pub fn configuration_file<'a, K: Keeper + Drop, F: InFile<K>, W: Write>(
     db: &str,
     out: &mut W,
 ) -> Result<(), Stop<'a>> {
-    let archive = open_archive::<K, F>(rt, db)?;
+    let archive = open_shown::<K, F>(rt, db)?;
     let done = print::configuration(&archive, out);
     close::<K, F>(archive);
     done

@@ -13,10 +13,11 @@
 
 ghost use Rattle.std.specs.Prelude.{◌≡◌, ◌+◌, nat_le};
 
-use crate::database::{InFile, Opening, close, is_of_database, open_archive};
+use crate::database::{InFile, Opening, close, is_of_database, open_shown};
 use crate::fault::Stop;
 use crate::files::{body_of, file_name, read_of};
 use crate::print::{has_refused, print_arrived, print_report};
+use crate::progress::Progress;
 use crate::shown::Shown;
 use command_line::{ListRequest, Request, read_list};
 use keep::Keeper;
@@ -114,16 +115,15 @@ fn readable<R: Files + AllocGlobal>(
     }
 }
 
-/// The delivery of a file, or nothing where it can't be read, which has a line on `err`.
+/// The delivery of a file, or nothing where it can't be read, which has a line on standard error.
 fn delivery<'a, R: Files + AllocGlobal, E: Write>(
     rt: &R,
     opening: Opening<'_>,
     path: &str,
-    err: &mut E,
+    progress: &mut Progress<'_, E>,
 ) -> Result<Option<Command>, Stop<'a>> {
     let Some(body) = readable(rt, opening.db, path)? else {
-        let stop = Stop::Unreadable(Shown(path));
-        writeln!(err, "{stop}")?;
+        progress.tell(&Stop::Unreadable(Shown(path)))?;
         return Ok(None);
     };
     Ok(Some(Command::Deliver {
@@ -168,16 +168,16 @@ fn removing(alloc: Global, at: u64, suite: &str, name: &str) -> Result<Command, 
     })
 }
 
-/// The command that a line asks for, or nothing where its file can't be read, which has a line on `err`.
+/// The command that a line asks for, or nothing where its file can't be read, which has a line on standard error.
 fn command_of<'a, R: Files + AllocGlobal, E: Write>(
     rt: &R,
     opening: Opening<'_>,
     request: &ListRequest<'_>,
-    err: &mut E,
+    progress: &mut Progress<'_, E>,
 ) -> Result<Option<Command>, Stop<'a>> {
     let (alloc, at) = (rt.alloc(), opening.at);
     let command = match request {
-        Request::Put { path } => return delivery(rt, opening, path, err),
+        Request::Put { path } => return delivery(rt, opening, path, progress),
         Request::Run => Command::Run { moment: at },
         Request::Copy { from, to, source } => copying(alloc, at, from, to, source)?,
         Request::Promote { from, to, .. } => promoting(alloc, at, from, to)?,
@@ -332,16 +332,20 @@ fn print_outcomes<'a, W: Write>(
 
 /// Makes the commands of a group by one call, prints what each answered, has that written out, and leaves the group without
 /// commands. It says whether all were done.
-fn make_group<'a, K: Keeper, W: Write>(
+fn make_group<'a, K: Keeper, W: Write, E: Write>(
     alloc: Global,
     archive: &mut Archive<K>,
     group: &mut Group<'_>,
     out: &mut W,
+    progress: &mut Progress<'_, E>,
 ) -> Result<bool, Stop<'a>> {
     let outcomes = archive.drive(alloc, &group.commands)?;
+    progress.give_way();
     let printed = print_outcomes(&outcomes, &group.requests, group.is_strict, out);
+    let count = group.requests.len() as u64;
     group.clear();
     out.flush()?;
+    progress.advance(count);
     printed
 }
 
@@ -355,25 +359,26 @@ fn take_line<'a, 'l, R: Files + AllocGlobal, K: Keeper, W: Write, E: Write>(
     request: &ListRequest<'l>,
     group: &mut Group<'l>,
     out: &mut W,
-    err: &mut E,
+    progress: &mut Progress<'_, E>,
 ) -> Result<bool, Stop<'a>> {
-    let Some(command) = command_of(rt, opening, request, err)? else {
+    let Some(command) = command_of(rt, opening, request, progress)? else {
+        progress.advance(1);
         return Ok(false);
     };
     let mut all = true;
     if !is_delivery(request) || !has_room(group.bytes, size_of(&command)) {
-        all = make_group(rt.alloc(), archive, group, out)?;
+        all = make_group(rt.alloc(), archive, group, out, progress)?;
     }
     group.push(*request, command)?;
     if !is_delivery(request) {
-        let done = make_group(rt.alloc(), archive, group, out)?;
+        let done = make_group(rt.alloc(), archive, group, out, progress)?;
         all = all && done;
     }
     Ok(all)
 }
 
 /// Makes the commands of lines in groups, and says whether all were done and each file could be read. It goes on behind a
-/// refusal, and behind a file that can't be read, which has a line on `err`.
+/// refusal, and behind a file that can't be read, which has a line on standard error.
 fn make_lines<'a, R: Files + AllocGlobal, K: Keeper, W: Write, E: Write>(
     rt: &R,
     archive: &mut Archive<K>,
@@ -381,22 +386,24 @@ fn make_lines<'a, R: Files + AllocGlobal, K: Keeper, W: Write, E: Write>(
     requests: &[ListRequest<'_>],
     is_strict: bool,
     out: &mut W,
-    err: &mut E,
+    progress: &mut Progress<'_, E>,
 ) -> Result<bool, Stop<'a>> {
     let mut all = true;
     let mut group = Group::new(rt.alloc(), is_strict);
+    progress.expect(requests.len() as u64);
     for request in requests {
-        if !take_line(rt, archive, opening, request, &mut group, out, err)? {
+        if !take_line(rt, archive, opening, request, &mut group, out, progress)? {
             all = false;
         }
     }
-    let last = make_group(rt.alloc(), archive, &mut group, out)?;
+    let last = make_group(rt.alloc(), archive, &mut group, out, progress)?;
     Ok(all && last)
 }
 
 /// Reads a list of commands, and makes them all at one moment, over one opening of the archive of a database file. It prints what each
 /// answers, in the order of the list, and says whether all were done; where it is strict, also whether no run refused an upload. The whole
-/// list is read before the database is opened: one with a bad line ends the program before anything is done.
+/// list is read before the database is opened: one with a bad line ends the program before anything is done. How many lines are done comes
+/// to `err`, where that is a terminal.
 pub fn batch_file<'a, K: Keeper + Drop, F: InFile<K>, W: Write, E: Write>(
     rt: &HostRuntime,
     opening: Opening<'_>,
@@ -407,8 +414,18 @@ pub fn batch_file<'a, K: Keeper + Drop, F: InFile<K>, W: Write, E: Write>(
 ) -> Result<bool, Stop<'a>> {
     let text = read_of(list_at(rt, list), list)?;
     let requests = read_list(rt.alloc(), &text)?;
-    let mut archive = open_archive::<K, F>(rt, opening.db)?;
-    let done = make_lines(rt, &mut archive, opening, &requests, is_strict, out, err);
+    let mut archive = open_shown::<K, F>(rt, opening.db)?;
+    let mut progress = Progress::new(rt, err, "batch", "lines");
+    let done = make_lines(
+        rt,
+        &mut archive,
+        opening,
+        &requests,
+        is_strict,
+        out,
+        &mut progress,
+    );
+    progress.clear();
     close::<K, F>(archive);
     done
 }

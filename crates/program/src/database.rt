@@ -11,6 +11,7 @@
 ghost use Rattle.std.specs.Prelude.{◌≤◌};
 
 use crate::fault::Stop;
+use crate::progress::Progress;
 use keep::{KeepFault, Keeper, LATEST};
 use queue::{Archive, Fault};
 use rules::Config;
@@ -165,6 +166,19 @@ pub fn open_archive<'a, K: Keeper + Drop, F: InFile<K>>(
     let _ = share_mode(rt, path);
     let keeper = F::opened(rt, path)?;
     Ok(Archive::new(rt.alloc(), keeper))
+}
+
+/// The same, for a command that shows that it is opening a large one, where standard error is a terminal.
+pub fn open_shown<'a, K: Keeper + Drop, F: InFile<K>>(
+    rt: &HostRuntime,
+    path: &str,
+) -> Result<Archive<K>, Stop<'a>> {
+    let mut err = rt.stderr();
+    let mut progress = Progress::new(rt, &mut err, "opening", "bytes");
+    progress.announce(length_of(rt, path).unwrap_or(0));
+    let opened = open_archive::<K, F>(rt, path);
+    progress.clear();
+    opened
 }
 
 /// Makes an archive of the configuration in a database file, at a moment, in seconds since 1970-01-01 00:00:00 UTC. The

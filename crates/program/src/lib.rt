@@ -15,6 +15,7 @@ mod log;
 mod moments;
 mod notes;
 mod print;
+mod progress;
 mod serving;
 mod serving_file;
 mod shown;

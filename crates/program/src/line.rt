@@ -116,7 +116,10 @@ fn done<'a, K: Keeper + Drop, F: InFile<K>, W: Write, E: Write>(
             at,
             request,
             manner,
-        } => return ask_file::<K, F, W>(rt, Opening { db, at: *at }, request, *manner, out),
+        } => {
+            let opening = Opening { db, at: *at };
+            return ask_file::<K, F, W, E>(rt, opening, request, *manner, out, err);
+        }
         CommandLine::Batch {
             db,
             at,

@@ -13,6 +13,7 @@ ghost use Rattle.program.specs.declared.fault.Stop.TheVariants.{NoArchive};
 use crate::database::{Opening, is_of_database, length_of};
 use crate::fault::Stop;
 use crate::files::{body_of, file_name, opened};
+use crate::progress::Progress;
 use crate::shown::Shown;
 use keep::{Keeper, LATEST};
 use listing::{shown_json, shown_lines, verdict_json, waiting_json};
@@ -69,15 +70,17 @@ pub fn print_arrived<'a, W: Write>(
 
 /// Delivers a file, prints a line for it, and says whether it was taken. What is no regular file, as a pipe, has no length
 /// beforehand, and is read whole.
-fn put_file<'a, R: Files + AllocGlobal, K: Keeper, W: Write>(
+fn put_file<'a, R: Files + AllocGlobal, K: Keeper, W: Write, E: Write>(
     rt: &R,
     archive: &mut Archive<K>,
     at: u64,
     path: &'a str,
     out: &mut W,
+    progress: &mut Progress<'_, E>,
 ) -> Result<bool, Stop<'a>> {
     let name = file_name(path);
-    let arrived = match length_of(rt, path) {
+    let length = length_of(rt, path);
+    let arrived = match length {
         Some(size) => {
             let mut file = opened(rt, path)?;
             archive.receive(rt.alloc(), name, size, &mut file, at)
@@ -87,24 +90,41 @@ fn put_file<'a, R: Files + AllocGlobal, K: Keeper, W: Write>(
             archive.deliver(rt.alloc(), name, &body, at)
         }
     };
-    print_arrived(arrived, name, out)
+    progress.give_way();
+    let is_taken = print_arrived(arrived, name, out)?;
+    progress.advance(length.unwrap_or(0));
+    Ok(is_taken)
+}
+
+/// How many bytes the regular files among these have.
+fn size_of_all<R: Files>(rt: &R, paths: &[&str]) -> u64 {
+    let mut size: u64 = 0;
+    for path in paths {
+        size = size.saturating_add(length_of(rt, path).unwrap_or(0));
+    }
+    size
 }
 
 /// Delivers files, each under the text behind its path's last slash, and prints a line for each. It goes on behind a file that is
-/// refused, and says whether all were taken. Each file is read while it is delivered. The files of the database itself can't be read.
-pub fn put_files<'a, R: Files + AllocGlobal, K: Keeper, W: Write>(
+/// refused, and says whether all were taken. Each file is read while it is delivered. The files of the database itself can't be read. How
+/// many bytes are delivered is shown; what is no regular file counts none.
+pub fn put_files<'a, R: Files + AllocGlobal, K: Keeper, W: Write, E: Write>(
     rt: &R,
     archive: &mut Archive<K>,
     opening: Opening<'_>,
     paths: &[&'a str],
     out: &mut W,
+    progress: &mut Progress<'_, E>,
 ) -> Result<bool, Stop<'a>> {
     let mut all = true;
+    if progress.is_shown() {
+        progress.expect(size_of_all(rt, paths));
+    }
     for path in paths {
         if is_of_database(rt, opening.db, path)? {
             return Err(Stop::Unreadable(Shown(path)));
         }
-        if !put_file(rt, archive, opening.at, path, out)? {
+        if !put_file(rt, archive, opening.at, path, out, progress)? {
             all = false;
         }
     }
