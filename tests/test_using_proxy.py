@@ -35,7 +35,7 @@ class Site(snippets.Room):
         self.write("work/box.conf", snippet("configuration"))
         self.sure('archive init --db box.db --at "$(date +%s)" box.conf')
         self.serve()
-        self.start(["nginx", "-c", self.nginx(snippet("nginx"), self.front, self.behind)], port=self.front)
+        self.start(["nginx", "-c", self.proxy(snippet("nginx"), self.front, self.behind)], port=self.front)
 
     def sure(self, text):
         """Runs a text that ends well, and answers what it prints."""
@@ -168,7 +168,7 @@ class Proxy(unittest.TestCase):
         # A second proxy holds files to be new for a second, and not for ten minutes.
         port = free_port()
         text = snippet("nginx", {"valid 200 10m": "valid 200 1s"})
-        self.site.start(["nginx", "-c", self.site.nginx(text, port, self.site.behind)], port=port)
+        self.site.start(["nginx", "-c", self.site.proxy(text, port, self.site.behind)], port=port)
         other = f"curl -sS --fail -o other https://localhost:{port}/{DEB}; cmp other ../hello_1.0-1_amd64.deb"
         self.site.sure(other)
         self.assertEqual((self.status(DEB), self.status("dists/box/Release")), ("200", "200"))
