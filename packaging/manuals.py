@@ -26,7 +26,7 @@ CONFIGURATION = ["What a configuration says", "Until when a Release is valid", "
 FAULTS_OF_CONFIGURATIONS = "Configurations: F"
 
 NAMES = """The Debian package has the program as \\fBboqitsel\\fR, and its helpers as \\fBboqitsel\\-upload\\fR and \\fBboqitsel\\-with\\-sidecars\\fR, names of its
-own. \\fBarchive\\fR, \\fBupload\\fR and \\fBwith_sidecars\\fR are other names of them, which update\\-alternatives(1) gives where nothing else has these.
+own. \\fBarchive\\fR, \\fBupload\\fR and \\fBwith_sidecars\\fR are other names of them, which update\\-alternatives(1) gives if nothing else has these.
 """
 
 
