@@ -160,6 +160,13 @@ def needs(*names):
     return unittest.skipIf(missing, f"there is no {', no '.join(missing)}")
 
 
+def needs_dput(name):
+    """Skips a test if dput is not there, or is not that of this package: dput and dput-ng can't both be installed."""
+    path = shutil.which("dput")
+    owner = subprocess.run(["dpkg-query", "-S", path], capture_output=True, text=True, check=False).stdout if path and shutil.which("dpkg-query") else ""
+    return unittest.skipUnless(owner.startswith(f"{name}:"), f"there is no {name}")
+
+
 class Room:
     """A folder with a home, programs of its own on the path, and what was started in it, which `close` ends."""
 
