@@ -181,6 +181,10 @@ class Package(Room):
         self.assertEqual((examples / "box.conf").read_text(), snippet("configuration"))
         self.assertEqual((examples / "three-suites.conf").read_text(), snippet("three suites"))
         self.assertEqual((examples / "sign").read_text(), snippet("sign"))
+        self.assertEqual((examples / "sign-tree").read_text(), snippet("sign-tree"))
+        self.assertTrue(os.access(examples / "sign-tree", os.X_OK))
+        self.assertEqual((examples / "nginx.conf").read_text(), snippet("nginx"))
+        self.assertEqual((examples / "nginx-tree.conf").read_text(), snippet("tree by nginx"))
         self.assertNotIn("enable", (root / "DEBIAN/postinst").read_text())
         for name in ("postinst", "prerm"):
             self.assertEqual(run("sh", "-n", root / "DEBIAN" / name), (0, "", ""))
