@@ -16,13 +16,17 @@ VERSION = (ROOT / "VERSION").read_text(encoding="ascii").strip()
 DOCS = "/usr/share/doc/boqitsel"
 
 # The sections of the pages that each manual has, in order.
-COMMANDS = ["Lists of commands", "What an upload is", "Uploading", "Testing and stable", "Taking a package out", "How long files count", "Moments"]
-CONFIGURATION = ["Until when a Release is valid", "How long files count", "Testing and stable"]
+COMMANDS = [
+    "What a configuration says", "What a suite shows, and lines for scripts", "Lists of commands", "What an upload is", "Uploading", "Installing from it",
+    "A tree for any web server", "Copying a whole suite", "Testing and stable", "Taking a package out", "How long files count", "Moments",
+]
+SERVICE = ["Serving", "A tree beside the server"]
+CONFIGURATION = ["What a configuration says", "Until when a Release is valid", "How long files count", "Testing and stable"]
 # What is said of a fault's letter, in archive.conf(5) and in archive(1).
 FAULTS_OF_CONFIGURATIONS = "Configurations: F"
 
 NAMES = """The Debian package has the program as \\fBboqitsel\\fR, and its helpers as \\fBboqitsel\\-upload\\fR and \\fBboqitsel\\-with\\-sidecars\\fR, names of its
-own. \\fBarchive\\fR, \\fBupload\\fR and \\fBwith_sidecars\\fR are other names of them, which update\\-alternatives(1) gives where nothing else has these.
+own. \\fBarchive\\fR, \\fBupload\\fR and \\fBwith_sidecars\\fR are other names of them, which update\\-alternatives(1) gives if nothing else has these.
 """
 
 
@@ -181,6 +185,7 @@ def archive():
     made += titled("Description", inline(about) + "\n.PP\n" + NAMES + ".SS What it does not do\n" + body(limits))
     made += titled("Commands", "".join(f".TP\n.B {escaped(words)}\n{inline(comment)}\n" for words, comment in rows) + ".PP\n" + body(rest))
     made += "".join(titled(it, body(section("docs/USING.md", it))) for it in COMMANDS)
+    made += "".join(titled(it, body(section("docs/OPERATING.md", it))) for it in SERVICE)
     made += "".join(titled(it, body(section("docs/FAULTS.md", it))) for it in sections("docs/FAULTS.md"))
     return made + see("archive.conf(5)", "upload(1)", "with_sidecars(1)", "apt(8)", "sources.list(5)", "dput(1)", "dpkg-buildpackage(1)")
 

@@ -47,6 +47,7 @@ BEHIND = [
     "tests.test_soak",
     "tests.test_using_program",
     "tests.test_using_proxy",
+    "tests.test_using_tree",
     "tests.test_using_words",
     "tests.test_listing",
     "tests.test_progress",

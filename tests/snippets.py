@@ -36,6 +36,11 @@ PIECES = {
     "check": "passed over Uploader in box",
     "json": '{"missing":1,',
     "signed tree": "archive export --db box.db --signed www",
+    "export.conf": "--export www --signed",
+    "sign-tree": "for state in www/dists/",
+    "tree by nginx": "root /srv/box/www;",
+    "tree by rsync": "rsync -a",
+    "tree by rclone": "rclone sync",
     "trusted": "deb [trusted=yes]",
     "promote": '--at "$(date +%s)" box lab',
     "promote by HTTP": "/promote/box/lab",
@@ -61,7 +66,7 @@ PIECES = {
     "nginx": "proxy_cache_path",
     "login": "htpasswd -c",
     "key": "--quick-generate-key",
-    "sign": "#!/bin/sh -e\n",
+    "sign": "cd signed/dists\n",
     "sign.conf": "ExecStart=/srv/box/sign\n",
     "signed": "https://archive.example.org/ box main",
     "cache": "Remap-box:",
@@ -141,6 +146,7 @@ Acquire::https::CAInfo "{certificate}";
 
 NGINX = """{user}daemon off; pid {folder}/pid; error_log {folder}/errors; events {{}}
 http {{
+include /etc/nginx/mime.types; default_type application/octet-stream; sendfile on; tcp_nopush on;
 access_log off; client_body_temp_path {folder}/body; proxy_temp_path {folder}/proxy; fastcgi_temp_path {folder}/fastcgi;
 uwsgi_temp_path {folder}/uwsgi; scgi_temp_path {folder}/scgi;
 {text}
@@ -152,6 +158,13 @@ def needs(*names):
     """Skips a test where one of these programs is not there."""
     missing = [name for name in names if not shutil.which(name)]
     return unittest.skipIf(missing, f"there is no {', no '.join(missing)}")
+
+
+def needs_dput(name):
+    """Skips a test if dput is not there, or is not that of this package: dput and dput-ng can't both be installed."""
+    path = shutil.which("dput")
+    owner = subprocess.run(["dpkg-query", "-S", path], capture_output=True, text=True, check=False).stdout if path and shutil.which("dpkg-query") else ""
+    return unittest.skipUnless(owner.startswith(f"{name}:"), f"there is no {name}")
 
 
 class Room:
@@ -243,30 +256,36 @@ class Room:
             subprocess.run(words, check=True, capture_output=True, timeout=60)
         return paths
 
-    def nginx(self, text, port, behind):
-        """Writes the page's text for nginx as a whole configuration, which listens at a port, and has the archive at another, with all
-        its files in the room. Answers its path."""
+    def nginx(self, text, port, changes):
+        """Writes a text of the page for nginx as a whole configuration, which listens at a port, with these words in place of the page's, and
+        with all its files in the room. Answers its path."""
         certificate, key = self.certificate()
         folder = tempfile.mkdtemp(dir=self.folder)
         text = changed(text, {
             "/etc/nginx/archive.pem": certificate,
             "/etc/nginx/archive.key": key,
             "/etc/nginx/uploaders": f"{self.folder}/uploaders",
-            "/var/cache/nginx/box": f"{folder}/cache",
-            "/srv/box/signed": f"{self.work}/signed",
             "listen 443 ssl": f"listen 127.0.0.1:{port} ssl",
-            "http://127.0.0.1:8080": f"http://127.0.0.1:{behind}",
             "archive.example.org": "localhost",
+            **changes,
         })
         user = "user root; " if os.geteuid() == 0 else ""
         return self.write(f"{folder}/nginx.conf", NGINX.format(user=user, folder=folder, text=text))
+
+    def proxy(self, text, port, behind):
+        """Writes the page's text for nginx in front of an archive, which listens at a port and has the archive at another. Answers its path."""
+        return self.nginx(text, port, {
+            "/var/cache/nginx/box": f"{tempfile.mkdtemp(dir=self.folder)}/cache",
+            "/srv/box/signed": f"{self.work}/signed",
+            "http://127.0.0.1:8080": f"http://127.0.0.1:{behind}",
+        })
 
     def apt(self, sources):
         """Makes an apt of its own, with a sources.list of this text, which apt-get uses from then on."""
         base = tempfile.mkdtemp(dir=self.folder)
         for name in ("apt.conf.d", "preferences.d", "trusted.gpg.d", "sources.list.d"):
             os.makedirs(f"{base}/etc/apt/{name}")
-        for name in ("lib/apt/lists/partial", "cache/apt/archives/partial"):
+        for name in ("lib/apt/lists/partial", "cache/apt/archives/partial", "log/apt"):
             os.makedirs(f"{base}/var/{name}")
         pathlib.Path(base, "status").touch()
         pathlib.Path(base, "etc/apt/sources.list.d/box.list").write_text(sources, encoding="utf-8")

@@ -10,10 +10,12 @@ import subprocess
 import sys
 import tempfile
 import unittest
+import unittest.mock
 
 from tests.program import PROGRAM
 from tests.snippets import free_port, needs, snippet
-from tests.tools import ROOT
+from tests.test_command_lines import OPTIONS, USAGES
+from tests.tools import ROOT, tool
 from uploads import uploads
 
 MAKE = f"{ROOT}/packaging/make_deb"
@@ -111,6 +113,31 @@ class Manuals(Room):
             for option in re.findall(r"^ +(--\w+)", told, re.M):
                 self.assertIn(option, text)
 
+    @needs("man")
+    def test_each_command_has_a_line_with_its_options(self):
+        """In the manual, on the page, and among what bash offers."""
+        synopsis, _, rest = self.shown("archive.1").partition("\nDESCRIPTION\n")
+        with unittest.mock.patch.object(sys, "path", [f"{ROOT}/packaging", *sys.path]):
+            offered = tool("packaging/make_deb").completion()
+        self.assertEqual(re.findall(r"^ +archive ([a-z]+)", synopsis, re.M), re.findall(r"^archive ([a-z]+)", snippet("commands"), re.M))
+        self.assertEqual(set(re.findall(r"^ +archive ([a-z]+)", synopsis, re.M)), set(USAGES))
+        for command, usage in USAGES.items():
+            options = {it.split()[0] for it in OPTIONS.get(command, [])}
+            with self.subTest(command):
+                [line] = re.findall(rf"^ +archive {command} .*$", synopsis, re.M)
+                self.assertEqual(set(re.findall(r"\[(--[a-z-]+)", line)), options)
+                self.assertEqual(set(re.findall(r"--[a-z-]+", line)), options | set(re.findall(r"--[a-z-]+", usage)))
+                [words] = re.findall(rf"^ *{command}\)(.*);;$", offered, re.M)
+                self.assertEqual(set(re.findall(r"--[a-z-]+", words)), set(re.findall(r"--[a-z-]+", line)))
+                for option in options:
+                    self.assertIn(option, rest)
+
+    def test_each_section_for_users_is_in_a_manual(self):
+        """But for those that begin the page, and for what the command lines are made of."""
+        manuals = tool("packaging/manuals.py")
+        told = {*manuals.COMMANDS, *manuals.CONFIGURATION, "Commands", "The configuration", "An archive in five minutes"}
+        self.assertEqual(set(manuals.sections("docs/USING.md")) - told, set())
+
     def test_nothing_of_the_pages_form_is_left(self):
         for path in self.room.iterdir():
             text = path.read_text(encoding="utf-8")
@@ -154,6 +181,10 @@ class Package(Room):
         self.assertEqual((examples / "box.conf").read_text(), snippet("configuration"))
         self.assertEqual((examples / "three-suites.conf").read_text(), snippet("three suites"))
         self.assertEqual((examples / "sign").read_text(), snippet("sign"))
+        self.assertEqual((examples / "sign-tree").read_text(), snippet("sign-tree"))
+        self.assertTrue(os.access(examples / "sign-tree", os.X_OK))
+        self.assertEqual((examples / "nginx.conf").read_text(), snippet("nginx"))
+        self.assertEqual((examples / "nginx-tree.conf").read_text(), snippet("tree by nginx"))
         self.assertNotIn("enable", (root / "DEBIAN/postinst").read_text())
         for name in ("postinst", "prerm"):
             self.assertEqual(run("sh", "-n", root / "DEBIAN" / name), (0, "", ""))

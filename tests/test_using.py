@@ -37,6 +37,7 @@ class Using(snippets.Case):
     def test_the_units_are_right(self):
         # The programs need not be installed here.
         self.room.write("units/boqitsel.service", snippet("box.service", {"/usr/local/bin/archive": "/bin/true"}))
+        self.room.write("units/boqitsel.service.d/export.conf", snippet("export.conf", {"/usr/local/bin/archive": "/bin/true"}))
         self.room.write("units/boqitsel-queue.service", snippet("queue.service"))
         self.room.write("units/boqitsel-queue.service.d/sign.conf", snippet("sign.conf", {"/srv/box/sign": "/bin/true"}))
         self.room.write("units/boqitsel-queue.timer", snippet("queue.timer"))
@@ -47,10 +48,14 @@ class Using(snippets.Case):
             self.assertEqual(self.passes("systemd-analyze", "verify", f"{self.room.folder}/units/boqitsel{name}"), "")
 
     @unittest.skipUnless(shutil.which("nginx") and shutil.which("openssl"), "there is no nginx, or no openssl")
-    def test_the_text_for_nginx_is_right(self):
-        """It is taken with other paths for the certificate, the cache and the logins, and with a port that needs no right."""
-        path = self.room.nginx(snippet("nginx"), snippets.free_port(), 8080)
-        self.assertIn("test is successful", self.passes("nginx", "-t", "-c", path))
+    def test_the_texts_for_nginx_are_right(self):
+        """They are taken with other paths for the certificate, the cache and the logins, and with a port that needs no right."""
+        tree = {"/srv/box/www": f"{self.room.work}/www"}
+        for path in (
+            self.room.proxy(snippet("nginx"), snippets.free_port(), 8080),
+            self.room.nginx(snippet("tree by nginx"), snippets.free_port(), tree),
+        ):
+            self.assertIn("test is successful", self.passes("nginx", "-t", "-c", path))
 
 
 if __name__ == "__main__":

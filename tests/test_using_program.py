@@ -15,7 +15,7 @@ import unittest
 
 from tests import snippets
 from tests.program import PROGRAM, mounted, put_of
-from tests.snippets import ROOT, built, commands_of, free_port, needs, snippet
+from tests.snippets import ROOT, built, commands_of, free_port, needs, needs_dput, snippet
 from tests.test_configurations import arm64_upload
 from tests.test_upload import Proxy
 from uploads import uploads
@@ -380,7 +380,23 @@ class Serving(Case):
         path.write_text(snippets.changed(path.read_text(), {"Format: 1.8": "Format: 1.7"}))
         self.room.write("work/files", f"ready/{CHANGES}\n")
 
-    @needs("dpkg-deb", "dput")
+    @needs("dpkg-deb")
+    @needs_dput("dput-ng")
+    def test_uploading_by_dput_ng(self):
+        self.ready()
+        port = self.serve()
+        self.room.write("home/.dput.cf", snippet("dput.cf", self.at(port)))
+        dput = snippet("dput")
+        status, printed, told = self.room.run(dput)
+        self.assertEqual((status, printed.count(f"accepted {CHANGES}\n")), (0, 1), told)
+        status, printed, told = self.room.run(snippets.changed(dput, {"dput ": "dput --force "}))
+        self.assertEqual((status, printed.count("accepted")), (0, 0), told)
+        self.assertEqual(self.shell(snippet("lists", self.at(port))), f"accepted {CHANGES}\n")
+        self.spoil()
+        self.assertIn("Q3 C4\n", "".join(self.fails(snippets.changed(dput, {"dput ": "dput --force "}))))
+
+    @needs("dpkg-deb")
+    @needs_dput("dput")
     def test_uploading_by_dput(self):
         self.ready()
         port = self.serve()
