@@ -66,7 +66,7 @@ OPTIONS = {
     "waiting": ["--json"],
     "verdicts": ["--json"],
     "export": ["--at <N>", "--signed", "--by-hash"],
-    "serve": ["--moments <MOMENTS>", "--log", "--export <DIR>", "--signed"],
+    "serve": ["--moments <MOMENTS>", "--log", "--export <DIR>", "--signed", "--by-hash"],
 }
 
 

@@ -368,7 +368,7 @@ class Manifests(Exports):
         write(f"{self.tree}/pool/own", b"own")
         write(f"{self.room}/own", b"own")
         lines = [b"left pool/../../own\n", b"left /pool/own\n", b"left  pool/own\n", b"Left pool/own\n", b"left own\n"]
-        lines += [b"left pool/./own\n", b"left pool//own\n", b"left pool/own/\n", b"here 00 1 1.000000000 pool/own\n", b"\n", b"left pool/own\n\xff\n"]
+        lines += [b"left pool/./own\n", b"left pool//own\n", b"left pool/own/\n", b"here 00 1 1.000000000 pool/own\n", b"\n", b"left pool/own\n\xff\n", b"left pool/own\r\n"]
         for line in lines:
             write(path, first + b"left pool/own\n" + line)
             self.upload("hello", f"1.0-{2 + lines.index(line)}")

@@ -303,6 +303,14 @@ class Exported(Archive):
             serving.answer(get("verdicts"))
             self.assertEqual(serving.ended(), (0, "", ""))
 
+    def test_texts_are_there_by_their_digests(self):
+        with Serving(self.db, 1, "--export", f"{self.folder}/www", "--by-hash", at=MOMENT) as serving:
+            serving.answer(b"POST /queue/run HTTP/1.1\r\n\r\n")
+            self.assertEqual(serving.ended(), (0, "", ""))
+        text = self.read("www/dists/box/main/binary-amd64/Packages")
+        digest = hashlib.sha256(text).hexdigest()
+        self.assertEqual(self.read(f"www/dists/box/main/binary-amd64/by-hash/SHA256/{digest}"), text)
+
     def test_an_export_that_fails_ends_nothing(self):
         self.file("www", b"")
         with Serving(self.db, 2, "--export", f"{self.folder}/www", at=MOMENT) as serving:

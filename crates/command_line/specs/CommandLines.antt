@@ -1,6 +1,6 @@
 -- What a command line says, as clap reads its words.
-use Rattle.std.specs.Prelude.{◌≡◌, ◌≢◌, ◌≤◌, ℕ, Bool, false, codes, List, [], map, Option, Some, None, Ok}
-use Rattle.std.specs.Option.{option_map, option_map_or}
+use Rattle.std.specs.Prelude.{◌≡◌, ◌≢◌, ◌≤◌, ◌&&◌, ◌||◌, ℕ, Bool, false, not, codes, List, [], map, Option, Some, None, Ok}
+use Rattle.std.specs.Option.{is_some, option_map, option_map_or}
 use Rattle.std.specs.Str.{bytes_eq}
 use Rattle.std.specs.Str.Parse.{ParsesUnsigned}
 use Rattle.std.specs.declared.vec.Vec.{Vec}
@@ -8,6 +8,7 @@ use Rattle.std.specs.declared.alloc.Global.{Global}
 use Rattle.std.specs.Borrow.{Bor}
 use Rattle.clap.specs.Words.{Row, Text, all_of, first_of}
 use Rattle.keep.specs.Book.{latest}
+use Rattle.command_line.specs.declared.parsed.Serving.{Serving}
 use Rattle.command_line.specs.declared.parsed.CommandLine.{CommandLine}
 use Rattle.command_line.specs.declared.parsed.CommandLine.TheVariants.{Try, Compare, Check, Init, Ask, Batch, Configure, Migrate, Show, List as Listing, Configuration, Export, Serve}
 use Rattle.command_line.specs.declared.request.Request.{Request}
@@ -79,7 +80,11 @@ IsRequested found db at request.Clean = IsNamed found (codes "clean") (λ rows. 
 IsRequested found db at request.Waiting = IsNamed found (codes "waiting") (λ rows. IsWord (codes "db") rows db × IsMoment rows at)
 IsRequested found db at request.Verdicts = IsNamed found (codes "verdicts") (λ rows. IsWord (codes "db") rows db × (at ≡ 0))
 
--- the command and each value are those that were found
+-- a serving that lacks the folder which `--signed` or `--by-hash` is about
+abbrev pub lacks_export : Serving → Bool
+lacks_export serving = not (is_some serving.export) && (serving.signed || serving.by_hash)
+
+-- the command and each value are those that were found, and flags of an export come with its folder
 abbrev pub IsLine : Option (Text × List Row) → CommandLine → Type 0
 IsLine found (Try paths) = IsNamed found (codes "try") (λ rows. HasPaths rows paths)
 IsLine found (Compare left right) = IsNamed found (codes "compare") (λ rows.
@@ -106,5 +111,6 @@ IsLine found (Export db exporting) = IsNamed found (codes "export") (λ rows.
 IsLine found (Serve db serving) = IsNamed found (codes "serve") (λ rows.
     IsWord (codes "db") rows db × IsMoment rows serving.at × IsOptionalWord (codes "moments") rows serving.moments
     × (serving.log ≡ is_true (codes "log") rows) × IsOptionalWord (codes "export") rows serving.export
-    × (serving.signed ≡ is_true (codes "signed") rows) × IsWord (codes "ADDRESS") rows serving.address
+    × (serving.signed ≡ is_true (codes "signed") rows) × (serving.by_hash ≡ is_true (codes "by-hash") rows)
+    × (lacks_export serving ≡ false) × IsWord (codes "ADDRESS") rows serving.address
     × IsNumber (codes "COUNT") rows 1 most_connections serving.count)

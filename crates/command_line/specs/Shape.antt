@@ -121,8 +121,12 @@ serve_options =
     with_rule (with_rule (with_rule (with_rule (timed_app (codes "serve")) (option_rule (codes "moments"))) (flag_rule (codes "log"))) (option_rule (codes "export")))
     (flag_rule (codes "signed"))
 
+-- the same with `--by-hash`
+abbrev pub serve_by_hash : App
+serve_by_hash = with_rule serve_options (flag_rule (codes "by-hash"))
+
 abbrev pub serve_app : App
-serve_app = with_rule (with_rule serve_options (word_rule (codes "ADDRESS"))) count_rule
+serve_app = with_rule (with_rule serve_by_hash (word_rule (codes "ADDRESS"))) count_rule
 
 -- `archive`, its name not among the words, with its version: one command is wanted, and where there are no words, help is given
 abbrev pub new_archive : App

@@ -2,7 +2,7 @@
 
 ghost use Rattle.std.specs.Prelude.{IfOk, codes};
 ghost use Rattle.clap.specs.Words.{App, with_rule, with_subcommand};
-ghost use Rattle.command_line.specs.Shape.{archive_app, new_archive, IsCommand, try_app, compare_app, check_app, init_app, put_app, run_app, db_app, timed_app, copy_app, promote_app, remove_app, batch_app, configure_app, migrate_app, show_app, list_app, waiting_app, verdicts_app, export_app, serve_app, serve_options, word_rule, with_changes, with_others, with_questions};
+ghost use Rattle.command_line.specs.Shape.{archive_app, new_archive, IsCommand, try_app, compare_app, check_app, init_app, put_app, run_app, db_app, timed_app, copy_app, promote_app, remove_app, batch_app, configure_app, migrate_app, show_app, list_app, waiting_app, verdicts_app, export_app, serve_app, serve_by_hash, serve_options, word_rule, with_changes, with_others, with_questions};
 
 use crate::arguments::{
     at, by_hash, count, db, export, from, json, log, many, moments, pages_at, paths, signed,
@@ -279,10 +279,18 @@ fn serve_with_options<'a>(alloc: Global) -> Result<Command<'a>, AllocError>
     .arg(signed(alloc))
 }
 
-fn serve_command<'a>(alloc: Global) -> Result<Command<'a>, AllocError>
+/// The same with `--by-hash`.
+fn serve_with_by_hash<'a>(alloc: Global) -> Result<Command<'a>, AllocError>
+    ensures { IfOk result (IsCommand serve_by_hash) }
+{
+    serve_with_options(alloc)?.arg(by_hash(alloc))
+}
+
+/// The command that serves.
+pub fn serve_command<'a>(alloc: Global) -> Result<Command<'a>, AllocError>
     ensures { IfOk result (IsCommand serve_app) }
 {
-    serve_with_options(alloc)?
+    serve_with_by_hash(alloc)?
         .arg(word(alloc, "ADDRESS", "Where to listen, such as 127.0.0.1:8080"))?
         .arg(count(alloc))
 }

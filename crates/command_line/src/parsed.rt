@@ -40,6 +40,8 @@ pub struct Serving<'a> {
     pub export: Option<&'a str>,
     /// Whether that shows a suite only once its new state is signed.
     pub signed: bool,
+    /// Whether each index text also stands there under its SHA-256.
+    pub by_hash: bool,
     pub address: &'a str,
     /// How many connections are answered, one after the other.
     pub count: u64,

@@ -2,13 +2,14 @@
 
 ghost use Rattle.std.specs.Prelude.{◌≡◌, codes, IfOk, Some};
 ghost use Rattle.clap.specs.Words.{found_of, rows_of};
-ghost use Rattle.command_line.specs.CommandLines.{IsLine, is_true};
+ghost use Rattle.command_line.specs.CommandLines.{IsLine, is_true, lacks_export as lacks_export_of};
 
 use crate::arguments::MOST_CONNECTIONS;
 use crate::parsed::{CommandLine, Exporting, LineFault, Manner, Serving};
 use crate::request::Request;
 use crate::values::{
     is_set, lacking, moment, number, optional, optional_moment, paths, required, sources,
+    without_export,
 };
 use clap::ArgMatches;
 use std::alloc::Global;
@@ -238,21 +239,31 @@ fn read_export<'a>(alloc: Global, found: &ArgMatches<'a>) -> Result<CommandLine<
     })
 }
 
+/// Whether a serving lacks the folder that its `--signed` or `--by-hash` is about.
+fn lacks_export(serving: &Serving<'_>) -> bool
+    ensures { result ≡ lacks_export_of serving.now }
+{
+    serving.export.is_none() && (serving.signed || serving.by_hash)
+}
+
 fn read_serve<'a>(alloc: Global, found: &ArgMatches<'a>) -> Result<CommandLine<'a>, LineFault>
     ensures { IfOk result (IsLine (Some (codes "serve", rows_of (found_of found.now)))) }
 {
-    Ok(CommandLine::Serve {
-        db: required(alloc, found, "db")?,
-        serving: Serving {
-            at: moment(alloc, found)?,
-            moments: optional(found, "moments"),
-            log: is_set(found, "log"),
-            export: optional(found, "export"),
-            signed: is_set(found, "signed"),
-            address: required(alloc, found, "ADDRESS")?,
-            count: number(alloc, found, "COUNT", 1, MOST_CONNECTIONS)?,
-        },
-    })
+    let db = required(alloc, found, "db")?;
+    let serving = Serving {
+        at: moment(alloc, found)?,
+        moments: optional(found, "moments"),
+        log: is_set(found, "log"),
+        export: optional(found, "export"),
+        signed: is_set(found, "signed"),
+        by_hash: is_set(found, "by-hash"),
+        address: required(alloc, found, "ADDRESS")?,
+        count: number(alloc, found, "COUNT", 1, MOST_CONNECTIONS)?,
+    };
+    if lacks_export(&serving) {
+        return Err(without_export(alloc));
+    }
+    Ok(CommandLine::Serve { db, serving })
 }
 
 /// A command from its name and its matches.

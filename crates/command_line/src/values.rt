@@ -5,7 +5,7 @@ ghost use Rattle.std.specs.Option.{option_map};
 ghost use Rattle.clap.specs.Words.{first_of, found_of, rows_of};
 ghost use Rattle.command_line.specs.CommandLines.{AreWords, HasPaths, IsMoment, IsNumber, IsOptionalMoment, IsOptionalWord, IsWord, is_true};
 
-use crate::commands::commands;
+use crate::commands::{commands, serve_command};
 use crate::parsed::LineFault;
 use clap::ArgMatches;
 use clap::error::ErrorKind;
@@ -23,6 +23,24 @@ pub fn lacking(alloc: Global) -> LineFault {
 fn refusal(alloc: Global) -> Result<LineFault, AllocError> {
     let mut command = commands(alloc)?;
     let error = command.error(ErrorKind::MissingRequiredArgument, "a word is missing")?;
+    Ok(LineFault::Refused(error))
+}
+
+/// What clap says where another argument needs `--export`.
+const WITHOUT_EXPORT: &str =
+    "the following required arguments were not provided:\n  --export <DIR>";
+
+/// The refusal of a line of `serve` whose `--signed` or `--by-hash` has no `--export`.
+pub fn without_export(alloc: Global) -> LineFault {
+    match export_refusal(alloc) {
+        Ok(fault) => fault,
+        Err(_) => LineFault::OutOfMemory,
+    }
+}
+
+fn export_refusal(alloc: Global) -> Result<LineFault, AllocError> {
+    let mut command = serve_command(alloc)?.bin_name("archive serve")?;
+    let error = command.error(ErrorKind::MissingRequiredArgument, WITHOUT_EXPORT)?;
     Ok(LineFault::Refused(error))
 }
 

@@ -36,7 +36,7 @@ use std::alloc::Global;
 /// verdicts --db FILE [--json]
 /// configuration --db FILE
 /// export --db FILE [--at N] [--signed] [--by-hash] DIR
-/// serve --db FILE --at N [--moments MOMENTS] [--log] [--export DIR] [--signed] ADDRESS COUNT
+/// serve --db FILE --at N [--moments MOMENTS] [--log] [--export DIR] [--signed] [--by-hash] ADDRESS COUNT
 /// ```
 ///
 /// where `PATH..` is one path or more, `[SOURCE..]` any number of sources, N is 0 to 4102444799 and COUNT 1 to 1000000. It is

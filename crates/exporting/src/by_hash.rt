@@ -35,7 +35,13 @@ fn listed_in(line: &str) -> Option<Listed<'_>> {
 }
 
 /// Gives a text of a state its name in another state, where the text is there.
-fn name_text<R: Disk>(rt: &R, from: &str, to: &str, text: Listed<'_>) -> Result<(), ExportFault> {
+fn name_text<R: Disk>(
+    rt: &R,
+    root: &str,
+    from: &str,
+    to: &str,
+    text: Listed<'_>,
+) -> Result<(), ExportFault> {
     let alloc = rt.alloc();
     let whole = inside(alloc, from, text.path)?;
     if !is_file_at(rt, whole.as_str())? {
@@ -45,11 +51,17 @@ fn name_text<R: Disk>(rt: &R, from: &str, to: &str, text: Listed<'_>) -> Result<
     let folder = format!(in alloc; "{to}/{beside}/by-hash/SHA256")?;
     make_folder(rt, folder.as_str())?;
     let name = inside(alloc, folder.as_str(), digest)?;
-    name_too(rt, whole.as_str(), name.as_str())
+    name_too(rt, root, whole.as_str(), name.as_str())
 }
 
 /// Gives the texts that a Release lists their names in another state.
-fn name_listed<R: Disk>(rt: &R, from: &str, to: &str, release: &str) -> Result<(), ExportFault> {
+fn name_listed<R: Disk>(
+    rt: &R,
+    root: &str,
+    from: &str,
+    to: &str,
+    release: &str,
+) -> Result<(), ExportFault> {
     let mut is_below = false;
     for line in release.split('\n') {
         let Some(words) = line.strip_prefix(' ') else {
@@ -58,7 +70,7 @@ fn name_listed<R: Disk>(rt: &R, from: &str, to: &str, release: &str) -> Result<(
         };
         if is_below {
             if let Some(text) = listed_in(words) {
-                name_text(rt, from, to, text)?;
+                name_text(rt, root, from, to, text)?;
             }
         }
     }
@@ -66,13 +78,13 @@ fn name_listed<R: Disk>(rt: &R, from: &str, to: &str, release: &str) -> Result<(
 }
 
 /// Gives the texts of a state, where it is there, their names in another one.
-fn name_texts<R: Disk>(rt: &R, from: &str, to: &str) -> Result<(), ExportFault> {
+fn name_texts<R: Disk>(rt: &R, root: &str, from: &str, to: &str) -> Result<(), ExportFault> {
     let path = inside(rt.alloc(), from, "Release")?;
     let Some(bytes) = bytes_at(rt, path.as_str())? else {
         return Ok(());
     };
     match std::str::from_utf8(&bytes) {
-        Ok(release) => name_listed(rt, from, to, release),
+        Ok(release) => name_listed(rt, root, from, to, release),
         Err(_) => Ok(()),
     }
 }
@@ -85,7 +97,7 @@ fn name_texts_of<R: Disk>(
     to: &str,
 ) -> Result<(), ExportFault> {
     match from {
-        Some(name) => name_texts(rt, in_dists(rt.alloc(), root, name)?.as_str(), to),
+        Some(name) => name_texts(rt, root, in_dists(rt.alloc(), root, name)?.as_str(), to),
         None => Ok(()),
     }
 }
@@ -94,7 +106,7 @@ fn name_texts_of<R: Disk>(
 pub fn add_by_hash<R: Disk>(rt: &R, root: &str, suite: &Wanted) -> Result<(), ExportFault> {
     let folder = in_dists(rt.alloc(), root, suite.state.as_str())?;
     let to = folder.as_str();
-    name_texts(rt, to, to)?;
+    name_texts(rt, root, to, to)?;
     name_texts_of(rt, root, suite.link(), to)?;
     name_texts_of(rt, root, suite.before(), to)
 }

@@ -10,7 +10,7 @@ use crate::fault::ExportFault;
 use crate::looking::look;
 use crate::manifest::Manifest;
 use crate::names::{OWN, inside, own};
-use crate::showing::{leave, make_others, make_steps, remove_old_states, save};
+use crate::showing::{leave, make_others, make_steps, remove_cut, remove_old_states, save};
 use crate::states::{Standing, Wanted, has_file, wanted_suites};
 use crate::web::{write_index, write_uploads};
 use keep::{Keeper, LATEST};
@@ -129,6 +129,7 @@ fn make<R: Disk, K: Keeper>(
 ) -> Result<usize, ExportFault>
     ensures reads { Reads K.Keeper archive.old.keeper archive.new.keeper }
 {
+    remove_cut(rt, job)?;
     save(rt, job.root, manifest)?;
     make_steps(rt, archive, job, steps, manifest)?;
     make_others(rt, archive, job)?;

@@ -105,8 +105,8 @@ pub fn write_file<R: Disk>(rt: &R, path: &str, body: &[u8]) -> Result<(), Export
     at(rt.alloc(), path, try_write(rt, path, body, true))
 }
 
-/// Puts a file at a path: it is written beside, and renamed there. The folders above it are made before. What a full disk cut is removed, so
-/// that it takes no room.
+/// Puts a file at a path: it is written beside, and renamed there. The folders above it are made before. Where that fails, what was written
+/// beside is removed.
 pub fn place<R: Disk>(
     rt: &R,
     root: &str,
@@ -116,12 +116,24 @@ pub fn place<R: Disk>(
 ) -> Result<(), ExportFault> {
     make_folder(rt, folder_of(path))?;
     let new = own(rt.alloc(), root, "new")?;
-    let written = try_write(rt, new.as_str(), body, is_synced);
-    if written.is_err() {
+    let placed = try_place(rt, new.as_str(), path, body, is_synced);
+    if placed.is_err() {
+        // It takes room on a full disk. Where it stays, the next file is written over it.
         let _ = fs::remove_file(rt, new.as_str());
     }
-    at(rt.alloc(), path, written)?;
-    rename(rt, new.as_str(), path)
+    at(rt.alloc(), path, placed)
+}
+
+/// Writes a file anew beside its place, and renames it there.
+fn try_place<R: Disk>(
+    rt: &R,
+    new: &str,
+    path: &str,
+    body: &[u8],
+    is_synced: bool,
+) -> io::Result<()> {
+    try_write(rt, new, body, is_synced)?;
+    fs::rename(rt, new, path)
 }
 
 /// Renames a file, a folder or a link, in the place of what is at the path.
@@ -191,18 +203,19 @@ fn try_print<R: Disk>(rt: &R, path: &str) -> io::Result<Print> {
     Ok(printer.finish())
 }
 
-/// The same contents at another path, by one more name of the file, or a copy where the disk has no such names.
-pub fn name_too<R: Disk>(rt: &R, from: &str, to: &str) -> Result<(), ExportFault> {
+/// The same contents at another path, by one more name of the file, or a copy where the disk has no such names. It is there whole or not at
+/// all.
+pub fn name_too<R: Disk>(rt: &R, root: &str, from: &str, to: &str) -> Result<(), ExportFault> {
     match fs::hard_link(rt, from, to) {
         Ok(()) => Ok(()),
         Err(error) if error.kind() == ErrorKind::AlreadyExists => Ok(()),
-        Err(_) => at(rt.alloc(), to, copied(rt, from, to)),
+        Err(_) => copy(rt, root, from, to),
     }
 }
 
-fn copied<R: Disk>(rt: &R, from: &str, to: &str) -> io::Result<()> {
-    fs::copy(rt, from, to)?;
-    Ok(())
+fn copy<R: Disk>(rt: &R, root: &str, from: &str, to: &str) -> Result<(), ExportFault> {
+    let body = at(rt.alloc(), from, fs::read(rt, from))?;
+    place(rt, root, to, &body, true)
 }
 
 /// The moment that a file is to be modified at, behind one that was modified at another: now, or one second later than that.

@@ -9,7 +9,7 @@ use crate::disk::{
     Disk, make_folder, remove_folder, rename, sync_folder, touch_behind, write_file,
 };
 use crate::fault::ExportFault;
-use crate::names::{folder_of, in_dists, inside};
+use crate::names::{folder_of, in_dists, inside, new_name};
 use crate::states::Wanted;
 use keep::Keeper;
 use pages::suite_page;
@@ -112,9 +112,10 @@ fn make_folder_of<R: Disk, K: Keeper>(
     ensures reads { Reads K.Keeper archive.old.keeper archive.new.keeper }
 {
     let (alloc, codename) = (rt.alloc(), suite.codename.as_str());
-    let new = format!(in alloc; "{}/dists/.{codename}.new", job.root)?;
+    let new = in_dists(alloc, job.root, new_name(alloc, codename)?.as_str())?;
     let filled = fill(rt, archive, job, position, suite, new.as_str());
     if filled.is_err() {
+        // What is cut takes room on a full disk. Where it stays, the next export removes it.
         let _ = remove_folder(rt, new.as_str());
     }
     filled?;

@@ -11,7 +11,10 @@
 //! A manifest with any other line is passed over whole: then all is compared, and nothing is removed. A line is read only if it is
 //! what would be written, to the byte.
 
-ghost use Rattle.std.specs.Prelude.{◌≡◌, IfOk, IfSome};
+ghost use Rattle.std.specs.Prelude.{◌≡◌, true, IfOk, IfSome, string_bytes};
+ghost use Rattle.exporting.specs.Lines.{nine_digits, path_line as line_of_path, shown_line as line_of_suite, states_line as line_of_states};
+ghost use Rattle.hex.specs.Hex.{encode_lower};
+ghost use Rattle.exporting.specs.Names.{is_pool_path as is_path_in_pool};
 
 use crate::disk::Stamp;
 use crate::names::is_pool_path;
@@ -73,25 +76,65 @@ pub struct Manifest {
     is_changed: bool,
 }
 
+/// A digest in hexadecimal.
+fn digest_text(alloc: Global, sha256: &[u8; 32]) -> Result<String, AllocError>
+    ensures { IfOk result (λ text. string_bytes text ≡ encode_lower sha256.now) }
+{
+    hex::encode(alloc, sha256.as_slice())
+}
+
+/// The nanoseconds of a stamp, of nine digits.
+fn nanos_text(alloc: Global, nanos: u32) -> Result<String, AllocError>
+    ensures { IfOk result (λ text. string_bytes text ≡ nine_digits nanos) }
+{
+    format!(in alloc; "{nanos:09}")
+}
+
+/// The line of a path that is vouched for, without its newline.
+#[tactic(auto, unfolding(crate::specs::Lines::path_line))]
+fn here_line(alloc: Global, path: &str, vouched: Vouched) -> Result<String, AllocError>
+    ensures { IfOk result (λ line. string_bytes line ≡ line_of_path path.now (Word.Here vouched)) }
+{
+    let digest = digest_text(alloc, &vouched.sha256)?;
+    let nanos = nanos_text(alloc, vouched.stamp.nanos)?;
+    let (size, seconds) = (vouched.size, vouched.stamp.seconds);
+    format!(in alloc; "here {digest} {size} {seconds}.{nanos} {path}")
+}
+
 /// The line of a path, without its newline.
-fn path_line(alloc: Global, path: &str, word: &Word) -> Result<String, AllocError> {
+#[tactic(auto, unfolding(crate::specs::Lines::path_line))]
+fn path_line(alloc: Global, path: &str, word: Word) -> Result<String, AllocError>
+    ensures { IfOk result (λ line. string_bytes line ≡ line_of_path path.now word) }
+{
     match word {
-        Word::Here(vouched) => {
-            let digest = hex::encode(alloc, &vouched.sha256[..])?;
-            let (size, stamp) = (vouched.size, vouched.stamp);
-            let (seconds, nanos) = (stamp.seconds, stamp.nanos);
-            format!(in alloc; "here {digest} {size} {seconds}.{nanos:09} {path}")
-        }
+        Word::Here(vouched) => here_line(alloc, path, vouched),
         Word::Coming => format!(in alloc; "coming {path}"),
         Word::Left => format!(in alloc; "left {path}"),
     }
 }
 
-/// The line of a suite, without its newline.
-fn shown_line(alloc: Global, codename: &str, shown: &Shown) -> Result<String, AllocError> {
-    let state = shown.state.as_str();
-    let before = shown.before().unwrap_or("-");
+/// The line of a suite of two states, without its newline.
+#[tactic(auto, unfolding(crate::specs::Lines::states_line))]
+fn states_line(
+    alloc: Global,
+    codename: &str,
+    state: &str,
+    before: &str,
+) -> Result<String, AllocError>
+    ensures { IfOk result (λ line. string_bytes line ≡ line_of_states codename.now state.now before.now) }
+{
     format!(in alloc; "shown {codename} {state} {before}")
+}
+
+/// The line of a suite, without its newline.
+fn shown_line(alloc: Global, codename: &str, shown: &Shown) -> Result<String, AllocError>
+    ensures { IfOk result (λ line. string_bytes line ≡ line_of_suite codename.now shown.now) }
+{
+    let state = shown.state.as_str();
+    match &shown.before {
+        Some(before) => states_line(alloc, codename, state, before.as_str()),
+        None => states_line(alloc, codename, state, "-"),
+    }
 }
 
 /// What a text `SECONDS.NANOS` says.
@@ -127,16 +170,20 @@ fn words_in(line: &str) -> Option<(&str, Word)> {
     }
 }
 
-/// What a line says of a path, where it is the line that would be written of that.
-fn path_in_line(alloc: Global, line: &str) -> Result<Option<(&str, Word)>, AllocError> {
+/// What a line says of a path, where it is the line that would be written of that, and the path is one of a file of the pool.
+fn path_in_line(alloc: Global, line: &str) -> Result<Option<(&str, Word)>, AllocError>
+    ensures written { IfOk result (λ found. IfSome found (λ at. line.now ≡ line_of_path at.0.now at.1)) }
+    ensures within { IfOk result (λ found. IfSome found (λ at. is_path_in_pool at.0.now ≡ true)) }
+{
     let Some((path, word)) = words_in(line) else {
         return Ok(None);
     };
-    let written = path_line(alloc, path, &word)?;
-    if written.as_str() != line || !is_pool_path(path) {
-        return Ok(None);
+    let written = path_line(alloc, path, word)?;
+    let is_within = is_pool_path(path);
+    if is_within && written.as_str() == line {
+        return Ok(Some((path, word)));
     }
-    Ok(Some((path, word)))
+    Ok(None)
 }
 
 /// The words behind `shown` of a line: a codename, a state, and the one before or `-`.
@@ -235,7 +282,7 @@ impl Manifest {
             text.push('\n')?;
         }
         for (path, word) in &self.words {
-            text.push_str(path_line(alloc, path.as_str(), word)?.as_str())?;
+            text.push_str(path_line(alloc, path.as_str(), *word)?.as_str())?;
             text.push('\n')?;
         }
         Ok(text)

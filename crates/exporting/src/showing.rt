@@ -11,7 +11,7 @@ use crate::fault::ExportFault;
 use crate::looking::here;
 use crate::making::{body_at, make_state, touch_release};
 use crate::manifest::{Manifest, Word};
-use crate::names::{folder_of, in_dists, inside, is_state_of, own};
+use crate::names::{folder_of, in_dists, inside, is_state_of, new_name, own};
 use crate::states::{Standing, Wanted};
 use keep::Keeper;
 use queue::Archive;
@@ -225,6 +225,17 @@ fn old_states<R: Disk>(rt: &R, dists: &str, suites: &[Wanted]) -> Result<Vec<Str
         }
     }
     Ok(old)
+}
+
+/// Removes what an export that was stopped left half made. It takes room; where it stays, that is all.
+pub fn remove_cut<R: Disk>(rt: &R, job: &Job<'_>) -> Result<(), AllocError> {
+    let alloc = rt.alloc();
+    let _ = remove_file(rt, own(alloc, job.root, "new")?.as_str());
+    for suite in job.suites {
+        let name = new_name(alloc, suite.codename.as_str())?;
+        let _ = remove_folder(rt, in_dists(alloc, job.root, name.as_str())?.as_str());
+    }
+    Ok(())
 }
 
 /// Removes the folders of states other than those to be shown, those shown, and those shown before.

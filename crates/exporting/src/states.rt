@@ -12,7 +12,6 @@ use keep::Keeper;
 use queue::Archive;
 use rules::{Config, Suite};
 use std::alloc::{AllocError, Global};
-use sums::print_of;
 use texts::{index_path, places_of};
 
 /// What an export does of a suite.
@@ -163,7 +162,7 @@ fn wanted_state<K: Keeper>(
     ensures reads { Reads K.Keeper archive.old.keeper archive.new.keeper }
 {
     let release = text_at(alloc, archive, codename, "Release")?;
-    Ok(state_name(alloc, codename, &print_of(&release).sha256)?)
+    Ok(state_name(alloc, codename, &release)?)
 }
 
 /// The state that the link of a suite leads to, where it leads to one.

@@ -44,11 +44,13 @@ fn serve_listener<'a, K: Keeper, E: Write>(
     }
 }
 
-/// A folder that is exported to, and whether a suite is shown there only once its new state is signed.
+/// A folder that is exported to, whether a suite is shown there only once its new state is signed, and whether each index text also stands
+/// there under its digest.
 #[derive(Clone, Copy)]
 struct Tree<'t> {
     folder: &'t str,
     is_signed: bool,
+    is_by_hash: bool,
 }
 
 /// Exports into a folder, as of a moment. An export that fails has a line among the notes, and ends nothing.
@@ -63,7 +65,7 @@ fn export_to<K: Keeper, E: Write>(
         folder: tree.folder,
         at,
         signed: tree.is_signed,
-        by_hash: false,
+        by_hash: tree.is_by_hash,
     };
     if let Err(fault) = exporting::export(rt, archive, &asked, &mut io::sink()) {
         let stop = Stop::from(fault);
@@ -141,6 +143,7 @@ fn tree_of<'t>(serving: &Serving<'t>) -> Option<Tree<'t>> {
         Some(folder) => Some(Tree {
             folder,
             is_signed: serving.signed,
+            is_by_hash: serving.by_hash,
         }),
         None => None,
     }
