@@ -7,7 +7,7 @@ use Rattle.sums.specs.Prints.{print}
 
 -- the folder of the state of a suite that has this Release: `.CODENAME.ID`, where ID is the first 16 bytes of the SHA-256 in hexadecimal
 unfoldable pub state_name : List ℕ → List ℕ → List ℕ
-state_name codename release = codes "." ++ codename ++ codes "." ++ encode_lower (take 16 (print release).sha256)
+state_name codename release = codes "." ++ (codename ++ (codes "." ++ encode_lower (take 16 (print release).sha256)))
 
 -- a byte that is no control character (ASCII)
 abbrev pub is_plain : ℕ → Bool

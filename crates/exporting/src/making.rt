@@ -101,7 +101,7 @@ fn fill<R: Disk, K: Keeper>(
     write_texts(rt, archive, suite, folder)
 }
 
-/// Makes the folder of the state that a suite is to show, by one rename. If it can't be filled, it takes no room.
+/// Makes the folder of the state that a suite is to show, by one rename.
 fn make_folder_of<R: Disk, K: Keeper>(
     rt: &R,
     archive: &mut Archive<K>,
