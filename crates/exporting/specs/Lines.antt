@@ -12,21 +12,17 @@ use Rattle.exporting.specs.declared.manifest.Word.TheVariants.{Here, Coming, Lef
 abbrev pub nine_digits : ℕ → List ℕ
 nine_digits n = styled_decimal (format_spec 32 0 4 9 18446744073709551615) n
 
--- a word, and behind a space those that follow
-abbrev pub before : List ℕ → List ℕ → List ℕ
-before word others = word ++ (codes " " ++ others)
-
 -- what is said of a path
 unfoldable pub path_line : List ℕ → Word → List ℕ
 path_line path (Here v) =
-    before (codes "here") (before (encode_lower v.sha256) (before (decimal v.size)
-    (decimal v.stamp.seconds ++ (codes "." ++ before (nine_digits v.stamp.nanos) path))))
-path_line path Coming = before (codes "coming") path
-path_line path Left = before (codes "left") path
+    codes "here " ++ (encode_lower v.sha256 ++ (codes " " ++ (decimal v.size ++ (codes " " ++ (decimal v.stamp.seconds
+    ++ (codes "." ++ (nine_digits v.stamp.nanos ++ (codes " " ++ path))))))))
+path_line path Coming = codes "coming " ++ path
+path_line path Left = codes "left " ++ path
 
 -- what a suite showed: a state, and the one that it had shown before
 unfoldable pub states_line : List ℕ → List ℕ → List ℕ → List ℕ
-states_line codename state last = before (codes "shown") (before codename (before state last))
+states_line codename state last = codes "shown " ++ (codename ++ (codes " " ++ (state ++ (codes " " ++ last))))
 
 -- the word on the state before: its name, or `-` where it is not known
 abbrev pub word_before : Option (String Global) → List ℕ
