@@ -148,7 +148,7 @@ class Manuals(Room):
 
 @needs("dpkg-deb", "dpkg-shlibdeps", "strip")
 class Package(Room):
-    """The package of a program that stands in for the built one."""
+    """The package of a program in place of the built one."""
 
     def made(self, program="/bin/true", **variables):
         status, path, told = run(MAKE, program, self.room, env={**os.environ, "SOURCE_DATE_EPOCH": "1467436850", **variables})
@@ -195,7 +195,8 @@ class Package(Room):
 
     @needs("lintian")
     def test_lintian_reports_no_error(self):
-        status, printed, told = run("lintian", "--allow-root", "--fail-on", "error,warning", self.made())
+        program = os.path.abspath(PROGRAM) if os.path.exists(PROGRAM) else "/bin/true"
+        status, printed, told = run("lintian", "--allow-root", "--fail-on", "error,warning", self.made(program))
         self.assertEqual((status, printed), (0, ""), told)
 
     def test_words_and_what_is_missing(self):

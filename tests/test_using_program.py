@@ -393,7 +393,7 @@ class Serving(Case):
         self.assertEqual((status, printed.count("accepted")), (0, 0), told)
         self.assertEqual(self.shell(snippet("lists", self.at(port))), f"accepted {CHANGES}\n")
         self.spoil()
-        self.assertIn("Q3 C4\n", "".join(self.fails(snippets.changed(dput, {"dput ": "dput --force "}))))
+        self.assertIn("Q3 C4\n", self.fails(snippets.changed(dput, {"dput ": "dput --force "}))[1])
 
     @needs("dpkg-deb")
     @needs_dput("dput")

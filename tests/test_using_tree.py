@@ -220,7 +220,7 @@ class Nginx(Case):
         self.assertEqual(self.status(url, "incoming/again.changes", words), "401")
         self.assertEqual(self.status(url, "incoming/again.deb", f"{words} -u '{LOGIN}'"), "201")
         self.assertEqual((self.status(url, "verdicts"), self.status(url, "verdicts", f"-u '{LOGIN}'")), ("401", "200"))
-        self.assertEqual((self.status(url, "dists/box/Release"), self.status(url, "queue/run", "-X POST")), ("200", "405"))
+        self.assertEqual((self.status(url, "dists/box/Release"), self.status(url, "queue/run", "-X POST")), ("200", "404"))
 
     def with_key(self):
         """Makes the page's key."""
