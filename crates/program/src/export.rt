@@ -1,6 +1,6 @@
 //! The archive of a database file, exported into a folder.
 
-use crate::database::{InFile, close, open_archive};
+use crate::database::{InFile, close, open_shown};
 use crate::fault::Stop;
 use command_line::Exporting;
 use exporting::Export;
@@ -14,7 +14,7 @@ pub fn export_file<'a, K: Keeper + Drop, F: InFile<K>, W: Write>(
     asked: Exporting<'_>,
     out: &mut W,
 ) -> Result<(), Stop<'a>> {
-    let mut archive = open_archive::<K, F>(rt, db)?;
+    let mut archive = open_shown::<K, F>(rt, db)?;
     let export = Export {
         folder: asked.dir,
         at: asked.at.unwrap_or(0),
