@@ -1,6 +1,6 @@
 """Tests of docs/USING.md and docs/OPERATING.md that need no built program: each text that is set in there is one that a test asks for, and
-once in both, the units of systemd and the text for nginx are right as they stand there. Where systemd-analyze, nginx or openssl is not there, the test says that it was
-skipped. What it shows is run by test_using_program.py and test_using_proxy.py."""
+once in both, the units of systemd and the texts for nginx are right as they are there. Where systemd-analyze, nginx or openssl is not there, the
+test says that it was skipped. What they show is run by test_using_program.py, test_using_proxy.py, test_using_tree.py and test_using_words.py."""
 import os
 import pathlib
 import re
