@@ -25,7 +25,7 @@ ROOT = pathlib.Path(__file__).resolve().parent.parent
 
 PIECES = {
     "configuration": "Codename: box\n",
-    "first commands": "archive init --db box.db",
+    "first commands": "with_sidecars ../hello",
     "commands": "archive try PATH..",
     "upload": "upload http:",
     "upload with a login": "upload https:",
@@ -53,6 +53,7 @@ PIECES = {
     "again": "again.changes",
     "remove by HTTP": "/remove/box/hello",
     "serve": '--at "$(date +%s)" 127.0.0.1:8080 1000\n',
+    "first steps": "useradd --system",
     "box.service": "Description=The package archive box\n",
     "log": "1467436850 PUT ",
     "queue.service": "Description=One run of the queue of box\n",

@@ -32,7 +32,7 @@ mount -t overlay overlay -o "lowerdir=/,upperdir=$1/room/upper,workdir=$1/room/w
 mount --rbind /dev "$1/room/root/dev"
 mount --rbind /proc "$1/room/root/proc"
 mkdir "$1/room/root/given"
-cp "$1"/*.deb "$1"/*.changes "$1/inside" "$1/dput.cf" "$1/room/root/given"
+cp "$1"/*.deb "$1"/*.changes "$1/inside" "$1/steps" "$1/dput.cf" "$1/room/root/given"
 chroot "$1/room/root" sh -ec '. /given/inside' inside "$2"
 """
 
@@ -44,10 +44,8 @@ test "$(archive compare 1.0-1 1.0-2)" = less
 boqitsel --version
 test "$(readlink -f /usr/bin/archive)" = /usr/bin/boqitsel
 test ! -e /etc/systemd/system/multi-user.target.wants/boqitsel.service
-useradd --system --create-home --home-dir /srv/box archive
-cp /usr/share/doc/boqitsel/examples/box.conf /srv/box/
-cd /srv/box
-runuser -u archive -- archive init --db box.db --at "$(date +%s)" box.conf
+systemctl() { echo "systemctl $*"; }
+. /given/steps
 runuser -u archive -- archive serve --db box.db --at "$(date +%s)" "127.0.0.1:$1" 1000 &
 serving=$!
 upload "http://127.0.0.1:$1" /given/one.changes --run
@@ -255,6 +253,7 @@ class Installed(Room):
         for number, name in ((1, "one"), (2, "two")):
             (self.room / f"{name}.changes").write_text(changes_of(deb, number))
         (self.room / "inside").write_text(INSIDE)
+        (self.room / "steps").write_text(snippet("first steps"))
         (self.room / "dput.cf").write_text(snippet("dput.cf", {"archive.example.org:8080": f"127.0.0.1:{port}"}))
         status, printed, told = run("unshare", "-m", "sh", "-ec", OUTSIDE, "sh", self.room, str(port))
         self.assertEqual(status, 0, printed + told)
@@ -262,6 +261,7 @@ class Installed(Room):
         wanted = ["accepted one.changes", "accepted two.changes"] if "dput" in lines else ["accepted one.changes"]
         self.assertEqual([line for line in lines if line.startswith("accepted")], wanted)
         self.assertIn(f"archive {VERSION}", printed)
+        self.assertIn("systemctl enable --now boqitsel.service boqitsel-queue.timer", lines)
         self.assertIn(f"'http://127.0.0.1:{port}/pool/main/b/boqitsel/{DEB}'", printed)
         self.assertEqual(lines[-1], "kept")
 
