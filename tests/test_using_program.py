@@ -760,7 +760,7 @@ class Refusals(Case):
                 if not folder:
                     self.skipTest("no file system can be mounted here")
                 self.shell(f"cp box.db {folder}/")
-                self.shell(snippet("reserve", {"16M reserve": f"2M {folder}/reserve"}))
+                self.shell(snippet("reserve", {"80M reserve": f"2M {folder}/reserve"}))
                 put = f"archive put --db {folder}/box.db --at 4000000000"
                 for name in ("large", "small"):
                     self.assertEqual(self.fails(f"{put} {name}_1.0-1_amd64.deb")[0], 3, name)
@@ -769,6 +769,21 @@ class Refusals(Case):
                 else:
                     self.shell(f"mkdir other; mv {folder}/box.db* other/; archive verdicts --db other/box.db; mv other/box.db* {folder}/")
                 self.assertEqual(self.shell(f"{put} small_1.0-1_amd64.deb"), "new small_1.0-1_amd64.deb\n")
+
+    @unittest.skipUnless(os.geteuid() == 0 and shutil.which("mount"), "only root can mount a file system that fills")
+    def test_a_reserve_is_larger_than_the_log(self):
+        """What the log has is brought into box.db first, and then the log goes. A smaller reserve is used up by that."""
+        self.shell("for name in a b c d e f g; do head -c 3000000 /dev/urandom > ${name}_1.0-1_amd64.deb; done")
+        for size, is_enough in ((3, False), (12, True)):
+            with self.subTest(size), mounted(20_000_000) as folder:
+                if not folder:
+                    self.skipTest("no file system can be mounted here")
+                self.shell(f"cp box.db {folder}/")
+                self.shell(snippet("reserve", {"80M reserve": f"{size}M {folder}/reserve"}))
+                self.fails(f"archive put --db {folder}/box.db --at 4000000000 ?_1.0-1_amd64.deb")
+                self.shell(f"rm {folder}/reserve; archive verdicts --db {folder}/box.db")
+                self.assertEqual(os.path.getsize(f"{folder}/box.db-wal") < 1000, is_enough)
+                self.assertEqual(self.room.run(snippet("reserve", {"80M reserve": f"1M {folder}/reserve"}))[0] == 0, is_enough)
 
 
 if __name__ == "__main__":
