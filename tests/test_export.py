@@ -15,42 +15,12 @@ import time
 import unittest
 
 from tests.program import MOMENT, PROGRAM, Lines, mounted
+from uploads import uploads
 
 SECONDS = float(os.environ.get("EXPORT_SECONDS", "20"))
 
 TWO = "".join(f"Codename: {name}\nArchitectures: amd64 source\nComponents: main\n\n" for name in ("box", "lab"))[:-1]
 TEXTS = ["Release", "main/binary-amd64/Packages", "main/source/Sources"]
-
-CONTROL = """Package: {name}
-Version: {version}
-Architecture: amd64
-Maintainer: Ann <ann@example.org>
-Description: greets
-"""
-
-RECORD = """Format: 1.8
-Date: Sat, 02 Jul 2016 05:00:00 +0000
-Source: {name}
-Binary: {name}
-Architecture: amd64
-Version: {version}
-Distribution: box
-Urgency: low
-Maintainer: Ann <ann@example.org>
-Changed-By: Ann <ann@example.org>
-Description:
- {name} - greets
-Changes:
- {name} ({version}) box; urgency=low
- .
-   * Made{note}.
-Checksums-Sha1:
-{sha1}
-Checksums-Sha256:
-{sha256}
-Files:
-{md5}
-"""
 
 
 def sha256(body):
@@ -65,14 +35,9 @@ def upload(folder, name, version, body, note=""):
     """The files of an upload of a package, made in a folder: its .deb, its sidecar, and its .changes, in this order. A note is in the last
     alone."""
     deb, control = f"{name}_{version}_amd64.deb", f"{name}_{version}_amd64.control"
-    bodies = {deb: body, control: CONTROL.format(name=name, version=version).encode()}
-    lists = {"sha1": [], "sha256": [], "md5": []}
-    for file, text in bodies.items():
-        for kind, lines in lists.items():
-            words = "utils optional " if kind == "md5" else ""
-            lines.append(f" {hashlib.new(kind, text).hexdigest()} {len(text)} {words}{file}")
-    record = RECORD.format(name=name, version=version, note=note, **{kind: "\n".join(lines) for kind, lines in lists.items()})
-    bodies[f"{name}_{version}_amd64.changes"] = record.encode()
+    bodies = {deb: body, control: uploads.control_of(uploads.Package(name, version))}
+    changes = uploads.changes_of(name, version, bodies)
+    bodies[f"{name}_{version}_amd64.changes"] = changes.replace(b"* Made.", f"* Made{note}.".encode())
     for file, text in bodies.items():
         with open(f"{folder}/{file}", "wb") as it:
             it.write(text)

@@ -24,16 +24,16 @@ DEB = f"boqitsel_{VERSION}_amd64.deb"
 LARGEST = 4_194_304
 LONG = 300
 
-# Installs the package in a root of its own, uses it, and takes it off. $1 is the folder with the package and what goes with it, $2 a port.
+# Installs the package in a system of its own, uses it, and takes it off. $1 is the folder with the package and what goes with it, $2 a port.
 OUTSIDE = """
 mount -t tmpfs none "$1/room"
-mkdir "$1/room/upper" "$1/room/work" "$1/room/root"
-mount -t overlay overlay -o "lowerdir=/,upperdir=$1/room/upper,workdir=$1/room/work" "$1/room/root"
-mount --rbind /dev "$1/room/root/dev"
-mount --rbind /proc "$1/room/root/proc"
-mkdir "$1/room/root/given"
-cp "$1"/*.deb "$1"/*.changes "$1/inside" "$1/steps" "$1/dput.cf" "$1/room/root/given"
-chroot "$1/room/root" sh -ec '. /given/inside' inside "$2"
+mkdir "$1/room/upper" "$1/room/work" "$1/room/system"
+mount -t overlay overlay -o "lowerdir=/,upperdir=$1/room/upper,workdir=$1/room/work" "$1/room/system"
+mount --rbind /dev "$1/room/system/dev"
+mount --rbind /proc "$1/room/system/proc"
+mkdir "$1/room/system/given"
+cp "$1"/*.deb "$1"/*.changes "$1/inside" "$1/steps" "$1/dput.cf" "$1/room/system/given"
+chroot "$1/room/system" sh -ec '. /given/inside' inside "$2"
 """
 
 INSIDE = """
