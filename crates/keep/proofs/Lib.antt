@@ -9,6 +9,7 @@ pub mod Amending
 pub mod Kept
 pub mod Signs
 pub mod Staying
+pub mod ReadLemmas
 pub mod Pieces
 pub mod Moments
 pub mod Searches

@@ -1,7 +1,7 @@
 -- What counts at a moment, of arrivals and of a book.
 use Rattle.std.proofs.Common.{◌≡◌, ℕ, Bool, true, false, cond, List, [], ◌∷◌, filter, Option, None, Contains, refl, ap, subst, ◌∙◌, inl, inr}
 use Rattle.sums.proofs.Members.{here, there, which}
-use Rattle.keep.specs.Book.{Book, at_moment, counts, current, span}
+use Rattle.keep.specs.Book.{Book, at_moment, counts, counts_since, current, span}
 use Rattle.keep.specs.Keeping.{HasBodies}
 use Rattle.keep.specs.declared.arrival.Arrival.{Arrival}
 
@@ -21,7 +21,7 @@ current_passed span moment a arrivals e = ap (λ b. cond b (a ∷ filter (counts
 
 -- without a span all count
 pub current-none : (moment : ℕ) (arrivals : List Arrival) → current None moment arrivals ≡ arrivals
-unfolding current counts
+unfolding current counts_since
 current-none moment [] = refl
 current-none moment (a ∷ arrivals) = ap (λ xs. a ∷ xs) (current-none moment arrivals)
 

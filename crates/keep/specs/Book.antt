@@ -22,6 +22,7 @@ use Rattle.suites.specs.declared.plan.Plan.{Plan}
 pub use Rattle.texts.specs.Calendar.{latest}
 use Rattle.texts.specs.Indices.{index_text}
 use Rattle.keep.specs.declared.arrival.Arrival.{Arrival}
+use Rattle.keep.specs.declared.arrived.ArrivedFile.{ArrivedFile}
 use Rattle.keep.specs.declared.change.Judgement.{Judgement}
 use Rattle.keep.specs.declared.change.Step.{Step}
 use Rattle.keep.specs.declared.change.Change.{Change}
@@ -46,6 +47,14 @@ is_same_pair a b = bytes_eq a.name b.name && bytes_eq a.body b.body
 
 unfoldable pub has_arrival : List Arrival → Arrival → Bool
 has_arrival arrivals a = list_any (is_same_pair a) arrivals
+
+-- of this name, with a body of this print
+abbrev pub is_arrival_of : List ℕ → Print → Arrival → Bool
+is_arrival_of name print a = bytes_eq a.name name && same_print (print_of a.body) print
+
+-- an arrival without its bytes: its name, the print of its body, and its moment
+abbrev pub arrived_file : Arrival → ArrivedFile
+arrived_file a = record { name = a.name; print = print_of a.body; moment = a.moment }
 
 -- the arrival with the greater of its moment and this one
 abbrev pub at_latest : ℕ → Arrival → Arrival
@@ -72,10 +81,14 @@ with_delivery book a = record book { arrivals = with_arrival book.arrivals a }
 abbrev pub span : ConfigValue → Option ℕ
 span config = option_map (λ days. days * 86400) config.keep_days
 
--- The arrival counts at a moment: that is before its own moment and the span behind it.
-unfoldable pub counts : Option ℕ → ℕ → Arrival → Bool
-counts None moment a = true
-counts (Some seconds) moment a = nat_lt moment (a.moment + seconds)
+-- What was delivered at a moment counts at another: that is before the delivery's own and the span behind it.
+unfoldable pub counts_since : Option ℕ → (moment delivered : ℕ) → Bool
+counts_since None moment delivered = true
+counts_since (Some seconds) moment delivered = nat_lt moment (delivered + seconds)
+
+-- the arrival counts at a moment
+abbrev pub counts : Option ℕ → ℕ → Arrival → Bool
+counts span moment a = counts_since span moment a.moment
 
 -- those that count at a moment
 unfoldable pub current : Option ℕ → ℕ → List Arrival → List Arrival
@@ -112,7 +125,7 @@ candidates arrivals = filter_map candidate_of arrivals
 
 -- a body of the listed print has arrived under the listed name
 unfoldable pub is_body_of : Entry → Arrival → Bool
-is_body_of entry a = bytes_eq a.name entry.name && same_print (print_of a.body) entry.print
+is_body_of entry a = is_arrival_of entry.name entry.print a
 
 unfoldable pub is_there : List Arrival → Entry → Bool
 is_there arrivals entry = list_any (is_body_of entry) arrivals

@@ -9,7 +9,7 @@ use Rattle.suites.specs.Keys.{text_order}
 use Rattle.suites.specs.declared.item.Item.{Item}
 use Rattle.suites.specs.declared.key.ShelfKey.{ShelfKey}
 use Rattle.keep.specs.Book as book
-use Rattle.keep.specs.Book.{at_latest, candidates, current, in_order, is_judged, missing, touches}
+use Rattle.keep.specs.Book.{at_latest, candidates, current, in_order, is_arrival_of, is_judged, missing, touches}
 use Rattle.keep.specs.declared.arrival.Arrival.{Arrival}
 use Rattle.keep.specs.declared.arrival.Counting.{Counting}
 use Rattle.keep.specs.declared.change.Judgement.{Judgement}
@@ -21,10 +21,6 @@ use Rattle.keep.specs.declared.candidate.Candidate as scan
 -- the arrivals that count
 abbrev pub counted : Counting → List Arrival → List Arrival
 counted counting arrivals = current counting.span counting.moment arrivals
-
--- of this name, with a body of this print
-abbrev pub is_arrival_of : List ℕ → Print → Arrival → Bool
-is_arrival_of name print a = bytes_eq a.name name && same_print (print_of a.body) print
 
 -- the arrival with the greater of its moment and this one, where it is of this name and print
 abbrev pub marked : List ℕ → Print → ℕ → Arrival → Arrival

@@ -3,8 +3,8 @@
 ghost use Rattle.std.specs.Prelude.{◌≡◌, length, map, find, option_copied, IfOk};
 ghost use Rattle.std.specs.List.{list_any};
 ghost use Rattle.sums.specs.Prints.{print as print_of_body};
-ghost use Rattle.keep.specs.Book.{counts, ended, span};
-ghost use Rattle.keep.specs.Scan.{counted, is_arrival_of, marked};
+ghost use Rattle.keep.specs.Book.{counts, counts_since, ended, is_arrival_of, span};
+ghost use Rattle.keep.specs.Scan.{counted, marked};
 
 use para::{Listed, Text};
 use rules::Config;
@@ -80,8 +80,8 @@ pub struct Arrival {
 /// in seconds since 1970-01-01 00:00:00 UTC.
 #[derive(Clone, Copy)]
 pub struct Counting {
-    span: Option<u64>,
-    moment: u64,
+    pub span: Option<u64>,
+    pub moment: u64,
 }
 
 impl Counting {
@@ -96,18 +96,25 @@ impl Counting {
         Counting { span, moment }
     }
 
-    /// Whether the arrival counts. At a moment before its own it does.
-    #[tactic(auto, unfolding(crate::specs::Book::counts))]
-    pub fn counts(&self, arrival: &Arrival) -> bool
-        ensures { result ≡ counts self.now.span self.now.moment arrival.now }
+    /// Whether what was delivered at a moment counts. At a moment before its own it does.
+    #[tactic(auto, unfolding(crate::specs::Book::counts_since))]
+    pub fn counts_since(&self, delivered: u64) -> bool
+        ensures { result ≡ counts_since self.now.span self.now.moment delivered }
     {
         let Some(span) = self.span else {
             return true;
         };
-        match self.moment.checked_sub(arrival.moment) {
+        match self.moment.checked_sub(delivered) {
             Some(age) => age < span,
             None => true,
         }
+    }
+
+    /// Whether the arrival counts. At a moment before its own it does.
+    pub fn counts(&self, arrival: &Arrival) -> bool
+        ensures { result ≡ counts self.now.span self.now.moment arrival.now }
+    {
+        self.counts_since(arrival.moment)
     }
 }
 
@@ -131,6 +138,18 @@ pub fn has_arrival(arrivals: &[Arrival], name: &str, print: Print) -> bool
         }
     }
     false
+}
+
+/// The first arrival of this name with a body of this print, also where it counts no more.
+pub fn arrival_of<'a>(arrivals: &'a [Arrival], name: &str, print: Print) -> Option<&'a Arrival>
+    ensures { option_copied result ≡ find (is_arrival_of name.now print) arrivals.now }
+{
+    for arrival in arrivals {
+        if is_of(arrival, name, print) {
+            return Some(arrival);
+        }
+    }
+    None
 }
 
 /// The first arrival that counts, of this name with a body of this print.

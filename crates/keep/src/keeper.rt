@@ -11,13 +11,14 @@
 //!
 //! `arrive` is a method of the trait: `begin`, the pieces, `finish`. So a body in memory and one that a reader gives take one way.
 
-ghost use Rattle.std.specs.Prelude.{◌≡◌, ◌≤◌, All, ◌++◌, ◌⊎◌, [], ℕ, Bool, List, Option, Some, None, IfOk, IfErr, OnOk, OnErr, length, map};
+ghost use Rattle.std.specs.Prelude.{◌≡◌, ◌≤◌, All, ◌++◌, ◌⊎◌, [], ℕ, Bool, List, Option, Some, None, IfOk, IfErr, OnOk, OnErr, find, length, map};
 ghost use Rattle.std.specs.Option.{option_map};
-ghost use Rattle.keep.specs.Book.{Book, amended, at_moment, due, ended, is_kept, latest, shown_past, span, text_at, upload_of, waiting_list};
+ghost use Rattle.keep.specs.Book.{Book, amended, arrived_file, at_moment, due, ended, is_arrival_of, is_kept, latest, shown_past, span, text_at, upload_of, waiting_list};
 ghost use Rattle.keep.specs.Configured.{IsConfiguration, reconfigured};
 ghost use Rattle.keep.specs.Keeping.{Apart, Endures, HasEachBody, IsDeliverable, IsLeftDelivered, IsSound, IsWholeFor, Lasts, Leaves, MayAnswer, OverComing, Reads, Stays, TakesDelivery, TakesPiece, TellsNew, sign_of};
 ghost use Rattle.sums.specs.Prints.{print as print_of};
 
+use crate::arrived::ArrivedFile;
 use crate::change::{Change, IndexText, Judgement, Waiting};
 use crate::configured::Configured;
 use crate::fault::KeepFault;
@@ -251,6 +252,26 @@ pub trait Keeper {
         ensures served { is_clean self.new → OnOk result (is_open self.new) }
         ensures waiting { is_clean self.new → IfOk result (λ waiting. Apart (book self.old)
             (waiting.items ≡ waiting_list (at_moment moment (book self.old)))) }
+        ensures cause { IfErr result (MayAnswer may_fail) };
+
+    /// What has arrived and was not taken away, without its bytes, in the order of first deliveries. Also what counts no more.
+    fn arrivals(&mut self, alloc: Global) -> Result<Vec<ArrivedFile>, KeepFault>
+        ensures reads { Reads is_clean is_open faults book may_leave self.old self.new }
+        ensures served { is_clean self.new → OnOk result (is_open self.new) }
+        ensures arrivals { is_clean self.new → IfOk result (λ files. files.items ≡ map arrived_file (book self.old).arrivals) }
+        ensures cause { IfErr result (MayAnswer may_fail) };
+
+    /// The body of this print that arrived under a name, and was not taken away.
+    fn arrived_body(
+        &mut self,
+        alloc: Global,
+        name: &str,
+        print: &Print,
+    ) -> Result<Option<Vec<u8>>, KeepFault>
+        ensures reads { Reads is_clean is_open faults book may_leave self.old self.new }
+        ensures served { is_clean self.new → OnOk result (is_open self.new) }
+        ensures body { is_clean self.new → IfOk result (λ found.
+            option_map (λ body. body.items) found ≡ option_map (λ a. a.body) (find (is_arrival_of name.now print.now) (book self.old).arrivals)) }
         ensures cause { IfErr result (MayAnswer may_fail) };
 
     /// The judged uploads in the order in which they were judged.

@@ -2,6 +2,7 @@
 #![tactic(auto)]
 
 mod arrival;
+mod arrived;
 mod candidate;
 mod change;
 mod configured;
@@ -13,7 +14,8 @@ mod printing;
 mod steps;
 mod uploads;
 
-pub use arrival::{Arrival, Body};
+pub use arrival::{Arrival, Body, Counting};
+pub use arrived::ArrivedFile;
 pub use change::{Change, IndexText, Judgement, Step, Waiting};
 pub use configured::Configured;
 pub use fault::KeepFault;

@@ -6,6 +6,7 @@ ghost use Rattle.std.specs.Prelude.{◌≤◌, All, IfOk};
 ghost use Rattle.texts.specs.Calendar.{latest};
 
 use crate::arrival::{Arrival, Body, Counting, has_arrival, has_current, mark_all, remove_ended};
+use crate::arrived::{ArrivedFile, arrived_body, arrived_files};
 use crate::change::{Change, Judgement, Waiting};
 use crate::configured::Configured;
 use crate::fault::KeepFault;
@@ -209,6 +210,21 @@ impl Keeper for PlainKeeper {
     fn waiting(&mut self, alloc: Global, moment: u64) -> Result<Vec<Waiting>, KeepFault> {
         let counting = Counting::new(&self.config, moment);
         Ok(waiting_uploads(alloc, &self.arrivals, counting, &self.judged)?)
+    }
+
+    #[tactic(auto, unfolding(crate::specs::Plain::plain_book))]
+    fn arrivals(&mut self, alloc: Global) -> Result<Vec<ArrivedFile>, KeepFault> {
+        Ok(arrived_files(alloc, &self.arrivals)?)
+    }
+
+    #[tactic(auto, unfolding(crate::specs::Plain::plain_book))]
+    fn arrived_body(
+        &mut self,
+        alloc: Global,
+        name: &str,
+        print: &Print,
+    ) -> Result<Option<Vec<u8>>, KeepFault> {
+        Ok(arrived_body(alloc, &self.arrivals, name, print)?)
     }
 
     #[tactic(auto, unfolding(crate::specs::Plain::plain_book))]

@@ -3,7 +3,9 @@
 ghost use Rattle.std.specs.Prelude.{◌≡◌, ◌≤◌, false, IsTrue, IfOk};
 ghost use Rattle.keep.specs.Plain.{fresh_book};
 
-use keep::{Change, Configured, Judgement, KeepFault, Keeper, LATEST, PlainKeeper, Waiting};
+use keep::{
+    ArrivedFile, Change, Configured, Judgement, KeepFault, Keeper, LATEST, PlainKeeper, Waiting,
+};
 use rules::Config;
 use std::alloc::Global;
 use suites::{Shelves, Upload};
@@ -133,6 +135,19 @@ impl Keeper for DiskKeeper {
     }
 
     fn configure(&mut self, _alloc: Global, _next: Configured) -> Result<(), KeepFault> {
+        Err(KeepFault::OutOfMemory)
+    }
+
+    fn arrivals(&mut self, _alloc: Global) -> Result<Vec<ArrivedFile>, KeepFault> {
+        Err(KeepFault::OutOfMemory)
+    }
+
+    fn arrived_body(
+        &mut self,
+        _alloc: Global,
+        _name: &str,
+        _print: &Print,
+    ) -> Result<Option<Vec<u8>>, KeepFault> {
         Err(KeepFault::OutOfMemory)
     }
 

@@ -3,7 +3,9 @@
 use super::checks::{BOX, config_of, same};
 use super::uploads::{File, HELLO, MOMENT, TIE, TIE_AGAIN};
 use desk::{DeskFault, answer};
-use keep::{Change, Configured, IndexText, Judgement, KeepFault, Keeper, PlainKeeper, Waiting};
+use keep::{
+    ArrivedFile, Change, Configured, IndexText, Judgement, KeepFault, Keeper, PlainKeeper, Waiting,
+};
 use promise::{InOrder, drive_created};
 use queue::{Archive, Arrived, Fault, Report};
 use rules::Config;
@@ -108,6 +110,19 @@ impl<K: Keeper> Keeper for Counting<K> {
 
     fn waiting(&mut self, alloc: Global, moment: u64) -> Result<Vec<Waiting>, KeepFault> {
         self.inner.waiting(alloc, moment)
+    }
+
+    fn arrivals(&mut self, alloc: Global) -> Result<Vec<ArrivedFile>, KeepFault> {
+        self.inner.arrivals(alloc)
+    }
+
+    fn arrived_body(
+        &mut self,
+        alloc: Global,
+        name: &str,
+        print: &Print,
+    ) -> Result<Option<Vec<u8>>, KeepFault> {
+        self.inner.arrived_body(alloc, name, print)
     }
 
     fn verdicts(&mut self, alloc: Global) -> Result<Vec<Judgement>, KeepFault> {

@@ -1,5 +1,6 @@
 use Rattle.std.proofs.Common.{◌≡◌, drop, find}
-use Rattle.keep.specs.Scan.{counted, is_arrival_of}
+use Rattle.keep.specs.Book.{is_arrival_of}
+use Rattle.keep.specs.Scan.{counted}
 use Rattle.keep.proofs.arrival.current_arrival.Given as goal
 
 abbrev pub invariant-loop-arrival : goal.invariant-loop-arrival
