@@ -12,7 +12,7 @@ use Rattle.queue.specs.Histories.{Call, Reply, History, followed, bodies_of, ope
 use Rattle.queue.specs.Steps.{Does, Lasts, Reads}
 use Rattle.queue.specs.declared.fault.Fault.{Fault}
 use Rattle.queue.proofs.Kept.{stands_kept}
-use Rattle.queue.proofs.ReadLemmas.{lasts_itself, lasts_more, reads_none}
+use Rattle.keep.proofs.ReadLemmas.{lasts_itself, lasts_more, reads_none}
 use Rattle.queue.proofs.Reopening.{opens_itself}
 use Rattle.queue.proofs.Runs.{IsFaithful-front, IsFaithful-rest, IsRun-append}
 use Rattle.desk.specs.Calls.{call_wanted}

@@ -68,7 +68,7 @@ fn write_in<R: Disk>(rt: &R, folder: &str, path: &str, body: &[u8]) -> Result<()
 }
 
 /// Writes all texts of a suite into a folder.
-#[tactic(auto, using(queue::proofs::ReadLemmas::reads_none, queue::proofs::ReadLemmas::reads_more))]
+#[tactic(auto, using(keep::proofs::ReadLemmas::reads_none, keep::proofs::ReadLemmas::reads_more))]
 fn write_texts<R: Disk, K: Keeper>(
     rt: &R,
     archive: &mut Archive<K>,

@@ -129,7 +129,7 @@ fn make_step<R: Disk, K: Keeper>(
 }
 
 /// Makes steps in their order.
-#[tactic(auto, using(queue::proofs::ReadLemmas::reads_none, queue::proofs::ReadLemmas::reads_more))]
+#[tactic(auto, using(keep::proofs::ReadLemmas::reads_none, keep::proofs::ReadLemmas::reads_more))]
 pub fn make_steps<R: Disk, K: Keeper>(
     rt: &R,
     archive: &mut Archive<K>,
@@ -146,7 +146,7 @@ pub fn make_steps<R: Disk, K: Keeper>(
 }
 
 /// Has the states be there that wait for a signature, and the texts of those that are shown by their digests.
-#[tactic(auto, using(queue::proofs::ReadLemmas::reads_none, queue::proofs::ReadLemmas::reads_more))]
+#[tactic(auto, using(keep::proofs::ReadLemmas::reads_none, keep::proofs::ReadLemmas::reads_more))]
 pub fn make_others<R: Disk, K: Keeper>(
     rt: &R,
     archive: &mut Archive<K>,

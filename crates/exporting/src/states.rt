@@ -217,7 +217,7 @@ fn find_shown<R: Disk>(
 }
 
 /// Gives each suite the name of the state that it is to show.
-#[tactic(auto, using(queue::proofs::ReadLemmas::reads_none, queue::proofs::ReadLemmas::reads_more))]
+#[tactic(auto, using(keep::proofs::ReadLemmas::reads_none, keep::proofs::ReadLemmas::reads_more))]
 fn find_states<K: Keeper>(
     alloc: Global,
     archive: &mut Archive<K>,

@@ -3,7 +3,7 @@ use Rattle.std.proofs.Common.{◌≡◌, ◌≤◌, ◌*◌, ℕ, List, [], ◌�
 use Rattle.std.specs.Prelude.{option_map}
 use Rattle.std.proofs.lemmas.Bool.{le-ltb}
 use Rattle.rules.specs.Values.{ConfigValue}
-use Rattle.keep.specs.Book.{Book, at_moment, counts, current, ended, latest, span}
+use Rattle.keep.specs.Book.{Book, at_moment, counts, counts_since, current, ended, latest, span}
 use Rattle.keep.specs.declared.arrival.Arrival.{Arrival}
 use Rattle.keep.proofs.Moments.{current-none}
 use Rattle.queue.specs.Answers.{answer}
@@ -25,7 +25,7 @@ unfolding counting
 all_count opening steps moment none = all_current (span opening.config) moment (arrived opening steps) (no_span opening.config none)
 
 ended-none : (moment : ℕ) (arrivals : List Arrival) → ended None moment arrivals ≡ []
-unfolding ended counts
+unfolding ended counts_since
 ended-none moment [] = refl
 ended-none moment (a ∷ rest) = ended-none moment rest
 

@@ -36,7 +36,6 @@ pub mod Runs
 pub mod Openings
 pub mod RenewedShelves
 pub mod RenewedTexts
-pub mod ReadLemmas
 pub mod RenewedSteps
 pub mod PrintedLemmas
 pub mod Renewed

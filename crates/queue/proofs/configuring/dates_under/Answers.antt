@@ -7,7 +7,7 @@ use Rattle.std.specs.List.{enumerate_from}
 use Rattle.rules.specs.declared.suite.Suite.{Suite}
 use Rattle.keep.specs.Book.{Book, latest}
 use Rattle.keep.specs.Configured.{date_under}
-use Rattle.queue.proofs.ReadLemmas.{reads_more}
+use Rattle.keep.proofs.ReadLemmas.{reads_more}
 use Rattle.queue.proofs.RenewedSteps.{suite_there}
 use Rattle.queue.proofs.configuring.dates_under.Goals as goal
 

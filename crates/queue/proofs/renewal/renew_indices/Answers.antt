@@ -2,7 +2,7 @@ use Rattle.std.proofs.Common.{◌≡◌, ◌++◌, ◌<◌, List, length, get_or
 use Rattle.keep.specs.Book.{Book, text_at}
 use Rattle.queue.specs.Renewal.{index_after, renewed_index}
 use Rattle.texts.specs.declared.places.Place.{Place}
-use Rattle.queue.proofs.ReadLemmas.{reads_more}
+use Rattle.keep.proofs.ReadLemmas.{reads_more}
 use Rattle.queue.proofs.RenewedSteps.{gathered_more, mapped_more}
 use Rattle.queue.proofs.renewal.renew_indices.Goals as goal
 

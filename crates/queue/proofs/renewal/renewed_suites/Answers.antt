@@ -4,7 +4,7 @@ use Rattle.keep.specs.Book.{Book, text_at}
 use Rattle.rules.specs.Values.{ConfigValue}
 use Rattle.rules.specs.declared.suite.Suite.{Suite}
 use Rattle.queue.specs.Renewal.{renewed_from, renewed_suite}
-use Rattle.queue.proofs.ReadLemmas.{reads_more}
+use Rattle.keep.proofs.ReadLemmas.{reads_more}
 use Rattle.queue.proofs.RenewedSteps.{suite_there, touched_suite, untouched_suite}
 use Rattle.queue.proofs.renewal.renewed_suites.Goals as goal
 use Rattle.queue.proofs.renewal.renewed_suites.Goals.{then-some_changes_suite+in_ok-renew_suite, else-some_changes_suite}

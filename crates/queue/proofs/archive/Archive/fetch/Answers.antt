@@ -5,7 +5,7 @@ use Rattle.std.proofs.lemmas.Result.{err_from_is_err_and}
 use Rattle.keep.specs.Book.{text_at}
 use Rattle.queue.specs.Histories.{Lookup}
 use Rattle.queue.proofs.Kept.{same_by, same_past}
-use Rattle.queue.proofs.ReadLemmas.{reads_more}
+use Rattle.keep.proofs.ReadLemmas.{reads_more}
 use Rattle.queue.proofs.StepAnswers.{found_step, free_lookup, keeper_step, keepers_own}
 use Rattle.queue.proofs.archive.Archive.fetch.Goals as goal
 

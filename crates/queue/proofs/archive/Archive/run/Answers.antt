@@ -8,7 +8,7 @@ use Rattle.queue.specs.Histories.{QueueRun}
 use Rattle.queue.specs.declared.fault.Fault.TheVariants.{Moment}
 use Rattle.queue.proofs.Amended.{left_past}
 use Rattle.queue.proofs.Kept.{same_by, same_past, untouched}
-use Rattle.queue.proofs.ReadLemmas.{reads_more}
+use Rattle.keep.proofs.ReadLemmas.{reads_more}
 use Rattle.queue.proofs.StepAnswers.{keeper_step, keepers_own, memory_own, memory_step, refused_step}
 use Rattle.queue.proofs.RunAnswers.{free_run, idle_step, late_run, planned_run, ran_left, ran_step}
 use Rattle.queue.proofs.archive.Archive.run.Goals as goal

@@ -6,7 +6,7 @@ use Rattle.queue.specs.Answers.{line_on_waiting}
 use Rattle.queue.specs.Histories.{WaitingList}
 use Rattle.queue.specs.declared.fault.Fault.TheVariants.{Moment}
 use Rattle.queue.proofs.Kept.{same_by, untouched}
-use Rattle.queue.proofs.ReadLemmas.{reads_none}
+use Rattle.keep.proofs.ReadLemmas.{reads_none}
 use Rattle.queue.proofs.StepAnswers.{free_waiting, keeper_step, keepers_own, late_waiting, memory_own, memory_step, refused_step, waiting_step}
 use Rattle.queue.proofs.archive.Archive.waiting.Goals as goal
 
