@@ -7,7 +7,9 @@ ghost use Rattle.tables.specs.Calls.{CommitsNothing, CommitsNothingOfOurs, Fails
 
 use crate::cells::row_number;
 use crate::number::whole;
-use crate::read::{FromRow, select_first, select_first_inside, select_inside, text_at, whole_at};
+use crate::read::{
+    FromRow, select, select_first, select_first_inside, select_inside, text_at, whole_at,
+};
 use crate::rows::ArrivalRow;
 use sqlite::{Alter, Connection, Error, Row, Transaction, params};
 use std::alloc::Global;
@@ -87,6 +89,19 @@ pub fn arrival_at<S: Alter>(
 {
     let body = whole(body)?;
     select_first(alloc, conn, SELECT_ARRIVAL, params![name, body])
+}
+
+/// The arrivals with their numbers, in the order of these.
+pub fn all_arrivals<S: Alter>(
+    alloc: Global,
+    conn: &mut Connection<S>,
+) -> Result<Vec<(u64, ArrivalRow)>, Error>
+    ensures idle { conn.old.in_transaction ≡ false → conn.new.in_transaction ≡ false }
+    ensures ok { Reads S.Store conn.old conn.new result (λ t all. all.items ≡ t.arrivals) }
+    ensures err { ReadFails S.Store conn.old conn.new result }
+    ensures survives { CommitsNothingOfOurs S.Store conn.old conn.new }
+{
+    select(alloc, conn, SELECT_ARRIVALS, &[])
 }
 
 /// The arrivals with their numbers, in the order of these, inside a transaction.

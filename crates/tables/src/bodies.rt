@@ -121,6 +121,21 @@ pub fn body_with_print_inside<S: Alter>(
     select_first_inside(alloc, tx, SELECT_BODY, params![size, md5, sha1, sha256])
 }
 
+/// The body of a number, with the number.
+pub fn body_numbered<S: Alter>(
+    alloc: Global,
+    conn: &mut Connection<S>,
+    id: u64,
+) -> Result<Option<(u64, BodyRow)>, Error>
+    ensures idle { conn.old.in_transaction ≡ false → conn.new.in_transaction ≡ false }
+    ensures ok { Reads S.Store conn.old conn.new result (λ t found. found ≡ find (λ x. nat_eq x.0 id) t.bodies) }
+    ensures err { ReadFails S.Store conn.old conn.new result }
+    ensures survives { CommitsNothingOfOurs S.Store conn.old conn.new }
+{
+    let id = whole(id)?;
+    select_first(alloc, conn, SELECT_NUMBERED, params![id])
+}
+
 /// The body of a number, with the number, inside a transaction.
 pub fn body_numbered_inside<S: Alter>(
     alloc: Global,

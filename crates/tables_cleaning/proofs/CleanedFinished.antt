@@ -1,8 +1,7 @@
 -- A cleaning goes past a body that is not whole, which goes with the unused ones: it makes the same of all rows as of the finished ones.
-use Rattle.std.proofs.Common.{◌≡◌, ℕ, Bool, true, false, not, if◌then◌else◌, nat_eq, List, [], ◌∷◌, filter, find, fold, length, All, Option, Some, None, IsTrue, refl, sym, ap, subst, ◌∙◌}
+use Rattle.std.proofs.Common.{◌≡◌, ℕ, Bool, true, false, not, if◌then◌else◌, List, [], ◌∷◌, filter, find, fold, length, All, Option, Some, None, IsTrue, refl, sym, ap, subst, ◌∙◌}
 use Rattle.std.specs.List.{AllByRecursion}
-use Rattle.std.specs.Option.{option_and_then, option_map_or}
-use Rattle.std.proofs.lemmas.Bool.{both_ways, eqb-true, false_from_ne_true}
+use Rattle.std.specs.Option.{option_map_or}
 use Rattle.std.proofs.lemmas.List.{length-map}
 use Rattle.sqlite_keyed.proofs.ListLemmas.{all-filter, all_weaker, filter-map, filter_same}
 use Rattle.rules.specs.Values.{ConfigValue}
@@ -24,9 +23,8 @@ use Rattle.tables_meaning.specs.Kept.{AreArrivals, AreNumbered, IsBook, arrival_
 use Rattle.tables_meaning.specs.Sweeping.{swept}
 use Rattle.tables_meaning.proofs.ArrivalLemmas.{counts_as}
 use Rattle.tables_meaning.proofs.BodyLemmas.{are_stored}
-use Rattle.tables_meaning.proofs.FinishedLemmas.{finished_numbered, has_unfinished, left_whole, tells}
+use Rattle.tables_meaning.proofs.FinishedLemmas.{finished_numbered, print_finished}
 use Rattle.tables_meaning.proofs.PassingLemmas.{beside}
-use Rattle.tables_meaning.proofs.RowLists.{find_kept}
 use Rattle.tables_meaning.proofs.Searches.{all_of_rows}
 use Rattle.tables_meaning.proofs.SweptFinished.{swept_finished, use_whole}
 use Rattle.tables_cleaning.proofs.CleanedArchive.{current_unswept}
@@ -101,14 +99,7 @@ module _ (t : Tables) (config : ConfigValue) (judged : List Judgement) (shown : 
 
   -- a body that has arrived has its print among the whole ones
   print_whole : (id : ℕ) → has_body (finished t) id ≡ true → print_in (finished t).bodies id ≡ print_in t.bodies id
-  unfolding finished
-  print_whole id there =
-      ap (option_and_then (λ (x : ℕ × BodyRow). x.1.print))
-      (find_kept (λ x. nat_eq x.0 id) is_unfinished t.bodies
-      (all_weaker (λ y. has_unfinished t.bodies y.0 ≡ is_unfinished y) (λ y. is_unfinished y ≡ true → nat_eq y.0 id ≡ false)
-      (λ y is un. false_from_ne_true (nat_eq y.0 id)
-      (λ same. both_ways (has_unfinished t.bodies id) (left_whole t up.bodies id there) (sym (ap (has_unfinished t.bodies) (eqb-true y.0 id same)) ∙ is ∙ un)))
-      t.bodies (tells t.bodies up.bodies)))
+  print_whole id there = print_finished t up.bodies id there
 
   whole_prints : AllByRecursion (λ x. print_in (finished t).bodies x.1.body ≡ print_in t.bodies x.1.body) gone
   unfolding finished

@@ -14,7 +14,7 @@ use Rattle.sqlite_keyed.proofs.ListLemmas.{map-map}
 use Rattle.sums.specs.Prints.{print as print_of, same_print}
 use Rattle.sums.specs.declared.entries.Entry.{Entry}
 use Rattle.sums.specs.declared.print.Print.{Print}
-use Rattle.keep.specs.Book.{at_latest, counts, current, has_arrival, is_body_of, is_same_pair, is_there, latest, with_arrival}
+use Rattle.keep.specs.Book.{at_latest, counts, counts_since, current, has_arrival, is_body_of, is_same_pair, is_there, latest, with_arrival}
 use Rattle.keep.specs.Keeping.{IsDeliverable}
 use Rattle.keep.specs.declared.arrival.Arrival.{Arrival}
 use Rattle.keep.proofs.Finds.{is_some_of_find}
@@ -90,7 +90,7 @@ turned false false = refl
 
 -- a row counts exactly where its arrival does
 pub counts_as : (t : Tables) (seconds : Option ℕ) (at : ℕ) (a : ArrivalRow) → counts_row seconds at a ≡ counts seconds at (arrival_in t a)
-unfolding counts counts_row
+unfolding counts_since counts_row
 counts_as t None at a = refl
 counts_as t (Some s) at a = refl
 

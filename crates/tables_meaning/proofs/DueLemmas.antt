@@ -1,5 +1,5 @@
 -- The uploads that are due, as the book has them and as the tables do.
-use Rattle.std.proofs.Common.{◌≡◌, ℕ, suc, ◌+◌, ◌<◌, Bool, true, false, not, ◌&&◌, ◌||◌, cond, if◌then◌else◌, List, [], ◌∷◌, map, filter, find, length, take, zip, get_or, zero, ◌++◌, All, Option, Some, None, Result, Ok, Err, unwrap_or, refl, ap, sym, subst, ◌∙◌, arith, bytes_eq, nat_eq, IsTrue}
+use Rattle.std.proofs.Common.{◌≡◌, ℕ, suc, ◌+◌, ◌<◌, Bool, true, false, not, ◌&&◌, ◌||◌, cond, if◌then◌else◌, List, [], ◌∷◌, map, filter, find, length, zero, Option, Some, None, Result, Ok, Err, unwrap_or, refl, ap, sym, subst, ◌∙◌, arith, bytes_eq, nat_eq, IsTrue}
 use Rattle.std.specs.Prelude.{◌≢◌}
 use Rattle.std.specs.List.{AllByRecursion, AllPairs, cons_option, filter_map, list_all, list_any}
 use Rattle.std.specs.Option.{option_and_then, option_map, option_map_or}
@@ -7,8 +7,7 @@ use Rattle.std.specs.Result.{result_ok}
 use Rattle.std.specs.Ordering.{is_gt}
 use Rattle.std.proofs.lemmas.Bool.{false≢true}
 use Rattle.std.proofs.lemmas.Bool.Decides.{Decides-eqb}
-use Rattle.std.proofs.lemmas.List.{length-take-le, take_more}
-use Rattle.std.proofs.lemmas.List.Elements.{All-push, All-same, recursion_from_All}
+use Rattle.std.proofs.lemmas.List.Elements.{recursion_from_All}
 use Rattle.records.specs.Records.{changes_in}
 use Rattle.records.specs.Values.{ChangesValue}
 use Rattle.records.specs.declared.fault.RecordFault.{RecordFault}
@@ -258,24 +257,6 @@ due_are t b same up uploads bodies arrivals =
     let read = all_in_order (IsRead t) chosen (all_filter (IsRead t) (λ c. not (is_judged b.judged c)) (candidates b.arrivals) (read_candidates t b.arrivals found)) in
     dues_are t b.arrivals found (wanting_rows t) (in_order chosen) read (unjudged_requests t b same up uploads)
     ∙ filter_map_chosen (is_complete b.arrivals) (upload_of b.arrivals) (in_order chosen)
-
--- ---- the texts, entry by entry
-
-zip_push : {X Y : Type 0} (xs : List X) (ys : List Y) (x : X) (y : Y) → length xs ≡ length ys → zip (xs ++ x ∷ []) (ys ++ y ∷ []) ≡ zip xs ys ++ (x, y) ∷ []
-zip_push [] [] x y same = refl
-zip_push [] (b ∷ ys) x y same = absurd (omega (arith, same))
-zip_push (a ∷ xs) [] x y same = absurd (omega (arith, same))
-zip_push (a ∷ xs) (b ∷ ys) x y same = ap (λ zs. (a, b) ∷ zs) (zip_push xs ys x y (let tail : length xs ≡ length ys = omega (arith, same) in tail))
-
-pub texts_more : (P : Entry × List ℕ → Type 0) (entries : List Entry) (texts : List (List ℕ)) (i : ℕ) (e : Entry) (text : List ℕ) {now : List (List ℕ)}
-    → length texts ≡ i → i < length entries → e ≡ get_or entries i e → now ≡ texts ++ text ∷ []
-    → All P (zip (take i entries) texts) → P (e, text) → All P (zip (take (i + 1) entries) now)
-texts_more P entries texts i e text {now} count within is pushed so_far one =
-    All-same P (zip (take (i + 1) entries) now) (zip (take i entries) texts ++ (e, text) ∷ [])
-    (ap (zip (take (i + 1) entries)) pushed
-    ∙ ap (λ es. zip es (texts ++ text ∷ [])) (take_more entries i e within ∙ ap (λ x. take i entries ++ x ∷ []) (sym is))
-    ∙ zip_push (take i entries) texts e text (length-take-le i entries (omega (arith, within)) ∙ sym count))
-    (All-push P (zip (take i entries) texts) (e, text) so_far one)
 
 -- an upload that is read is the one of the row
 pub upload_read : (t : Tables) (u : UploadRow) (body : List ℕ) (changes : ChangesValue) (texts : List (List ℕ)) {made : UploadValue}

@@ -26,7 +26,7 @@ use Rattle.tables.specs.declared.rows.File.{File}
 use Rattle.tables.specs.declared.rows.Piece.{Piece}
 use Rattle.tables.specs.declared.rows.UploadRow.{UploadRow}
 use Rattle.tables_meaning.specs.Finished.{finished, is_of_unfinished, is_unfinished}
-use Rattle.tables_meaning.specs.Kept.{AreArrivals, AreBodies, AreItems, AreNumbered, AreUploads, arrivals_in, bytes_of, files_in, has_body, pieces_of}
+use Rattle.tables_meaning.specs.Kept.{AreArrivals, AreBodies, AreItems, AreNumbered, AreUploads, arrivals_in, bytes_of, files_in, has_body, pieces_of, print_at}
 use Rattle.tables_meaning.specs.Reads.{bytes_with, due_in, missing_in, text_in, upload_in, waiting_in, wanting, wanting_rows}
 use Rattle.tables_meaning.specs.Shown.{shown_in}
 use Rattle.tables_meaning.proofs.AmendedLemmas.{found_in}
@@ -163,6 +163,19 @@ left_whole t up id there = go (has_unfinished t.bodies id) refl
     go : (b : Bool) → has_unfinished t.bodies id ≡ b → b ≡ false
     go true e = absurd (false≢true (sym (not_left t.bodies id up e) ∙ there))
     go false e = refl
+
+-- its print is the same
+pub print_finished : (t : Tables) → Rises t.bodies → (id : ℕ) → has_body (finished t) id ≡ true → print_at (finished t) id ≡ print_at t id
+unfolding finished
+print_finished t up id there =
+    ap (option_and_then (λ (x : ℕ × BodyRow). x.1.print))
+    (find_kept (λ x. nat_eq x.0 id) is_unfinished t.bodies
+    (all_weaker (λ y. has_unfinished t.bodies y.0 ≡ is_unfinished y) (λ y. is_unfinished y ≡ true → nat_eq y.0 id ≡ false) (λ y is un. other y is un (nat_eq y.0 id) refl) t.bodies
+    (tells t.bodies up)))
+  where
+    other : (y : ℕ × BodyRow) → has_unfinished t.bodies y.0 ≡ is_unfinished y → is_unfinished y ≡ true → (b : Bool) → nat_eq y.0 id ≡ b → b ≡ false
+    other y is un true same = absurd (false≢true (sym (left_whole t up id there) ∙ sym (ap (has_unfinished t.bodies) (eqb-true y.0 id same)) ∙ is ∙ un))
+    other y is un false same = refl
 
 -- the pieces of such a body are left
 pieces_left : (t : Tables) (id : ℕ) → has_unfinished t.bodies id ≡ false → (xs : Numbered Piece)
