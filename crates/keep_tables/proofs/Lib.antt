@@ -6,6 +6,7 @@ pub mod UnderWayLemmas
 pub mod AtHandLemmas
 pub mod MomentLemmas
 pub mod FoundArrivals
+pub mod ArrivedReads
 pub mod MomentReads
 pub mod AtOnceLemmas
 pub mod KeeperWords

@@ -16,7 +16,7 @@ use Rattle.sums.specs.declared.entries.Entry.{Entry}
 use Rattle.sums.specs.declared.print.Print.{Print}
 use Rattle.suites.specs.Shelves.{ShelvesValue}
 use Rattle.suites.specs.Upload.{UploadValue, has_text}
-use Rattle.keep.specs.Book.{Book, at_moment, counts, current, due, span, upload_of, waiting_list}
+use Rattle.keep.specs.Book.{Book, at_moment, counts, counts_since, current, due, span, upload_of, waiting_list}
 use Rattle.keep.specs.declared.arrival.Arrival.{Arrival}
 use Rattle.keep.specs.declared.change.Judgement.{Judgement}
 use Rattle.keep.specs.declared.change.Waiting.{Waiting}
@@ -100,7 +100,7 @@ due_if missing upload = if nat_eq missing 0 then upload else None
 -- ---- where what arrives counts for good
 
 for_good : (moment : ℕ) (arrivals : List Arrival) → current None moment arrivals ≡ arrivals
-unfolding current counts
+unfolding current counts_since
 for_good moment arrivals = filter_all (counts None moment) arrivals (all_of (λ a. counts None moment a ≡ true) (λ a. refl) arrivals)
 
 rows_for_good : (moment : ℕ) (t : Tables) → rows_at None moment t ≡ wanting_rows t

@@ -2,6 +2,7 @@ pub mod Keepers
 pub mod Finishing
 pub mod Opened
 pub mod Moments
+pub mod Arrived
 pub mod AtHand
 pub mod AtOnce
 pub mod Calls

@@ -26,12 +26,13 @@ use crate::coming::{
 use crate::configurations::take_configuration;
 use crate::counting::span_of;
 use crate::reads::{
-    read_due, read_file, read_kept, read_nothing, read_print, read_text, read_waiting, show,
+    read_arrivals, read_arrived, read_due, read_file, read_kept, read_nothing, read_print,
+    read_text, read_waiting, show,
 };
 use crate::text_prints::{TextPrint, known_print, note_print, renew_prints};
 use keep::{
-    Change, Configured, IndexText, Judgement, KeepFault, Keeper, LATEST, PIECE_SIZE, Waiting,
-    append_judgements, copied_judgements, dates_after, room_for_judgements,
+    ArrivedFile, Change, Configured, IndexText, Judgement, KeepFault, Keeper, LATEST, PIECE_SIZE,
+    Waiting, append_judgements, copied_judgements, dates_after, room_for_judgements,
 };
 use rules::Config;
 use sqlite::{Alter, Connection};
@@ -449,6 +450,27 @@ impl<S: Alter + Drop> Keeper for TableKeeper<S> {
         let seconds = span_of(&self.config);
         match read_waiting(alloc, &mut self.conn, seconds, moment) {
             Ok(waiting) => Ok(waiting),
+            Err(error) => Err(fault_of(error)),
+        }
+    }
+
+    #[tactic(auto, unfolding(tables_meaning::specs::Kept::book_in))]
+    fn arrivals(&mut self, alloc: Global) -> Result<Vec<ArrivedFile>, KeepFault> {
+        match read_arrivals(alloc, &mut self.conn) {
+            Ok(files) => Ok(files),
+            Err(error) => Err(fault_of(error)),
+        }
+    }
+
+    #[tactic(auto, unfolding(tables_meaning::specs::Kept::book_in))]
+    fn arrived_body(
+        &mut self,
+        alloc: Global,
+        name: &str,
+        print: &Print,
+    ) -> Result<Option<Vec<u8>>, KeepFault> {
+        match read_arrived(alloc, &mut self.conn, name, print) {
+            Ok(body) => Ok(body),
             Err(error) => Err(fault_of(error)),
         }
     }

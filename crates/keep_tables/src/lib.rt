@@ -3,6 +3,7 @@
 //! archive are one transaction each. An opening reads all rows and says whether they are those of an archive.
 #![tactic(auto)]
 
+mod arrived;
 mod changes;
 mod cleanings;
 mod coming;

@@ -1,9 +1,9 @@
 //! The reads of a keeper, over the connection alone.
 
-ghost use Rattle.std.specs.Prelude.{◌≡◌, ℕ, List, Some, map, false, IsTrue, IfOk, IfSome, OnOk};
+ghost use Rattle.std.specs.Prelude.{◌≡◌, ℕ, List, Some, find, map, false, IsTrue, IfOk, IfSome, OnOk};
 ghost use Rattle.std.specs.Option.{option_map};
 ghost use Rattle.sqlite.specs.Held.{state};
-ghost use Rattle.keep.specs.Book.{at_moment, due, is_kept, text_at, upload_of, waiting_list};
+ghost use Rattle.keep.specs.Book.{arrived_file, at_moment, due, is_arrival_of, is_kept, text_at, upload_of, waiting_list};
 ghost use Rattle.keep.specs.Keeping.{sign_of};
 ghost use Rattle.keep.specs.declared.change.Judgement.{Judgement};
 ghost use Rattle.sums.specs.Prints.{print as print_of};
@@ -13,10 +13,11 @@ ghost use Rattle.tables.specs.Calls.{OnCleanDisk};
 ghost use Rattle.tables_meaning.specs.Calls.{IsOpenOverArchive, WithBook};
 ghost use Rattle.keep_tables.specs.ConnectionCalls.{OverSpan};
 
+use crate::arrived::{arrived_body, arrived_files};
 use crate::shelves::read_shelves;
 use crate::text_prints::is_of_another;
 use crate::uploads::{due_uploads, waiting_uploads};
-use keep::{IndexText, Waiting, is_kept, print_of_text};
+use keep::{ArrivedFile, IndexText, Waiting, is_kept, print_of_text};
 use rules::Config;
 use sqlite::{Alter, Connection, Error};
 use std::alloc::Global;
@@ -67,6 +68,43 @@ pub fn read_waiting<S: Alter>(
     let _settled = conn.is_autocommit();
     probe(alloc, conn)?;
     waiting_uploads(alloc, conn, seconds, moment)
+}
+
+/// What has arrived, without its bytes, in the order of first deliveries.
+pub fn read_arrivals<S: Alter>(
+    alloc: Global,
+    conn: &mut Connection<S>,
+) -> Result<Vec<ArrivedFile>, Error>
+    requires idle { conn.old.in_transaction ≡ false }
+    ensures idle { conn.new.in_transaction ≡ false }
+    ensures read { IsRead (state S.Store conn.old) (state S.Store conn.new) }
+    ensures open { IsOpenOverArchive S.Store conn.old conn.new result }
+    ensures arrivals { OnCleanDisk S.Store conn.old conn.new (λ old new. WithBook old.committed (λ config judged shown dates. IfOk result (λ files. files.items ≡ map arrived_file (book_in_database old.committed config judged shown dates).arrivals))) }
+{
+    // For the prover alone: outside a transaction the connection has what is committed.
+    let _settled = conn.is_autocommit();
+    probe(alloc, conn)?;
+    arrived_files(alloc, conn)
+}
+
+/// The bytes of the body of a print that arrived under a name.
+pub fn read_arrived<S: Alter>(
+    alloc: Global,
+    conn: &mut Connection<S>,
+    name: &str,
+    print: &Print,
+) -> Result<Option<Vec<u8>>, Error>
+    requires idle { conn.old.in_transaction ≡ false }
+    ensures idle { conn.new.in_transaction ≡ false }
+    ensures read { IsRead (state S.Store conn.old) (state S.Store conn.new) }
+    ensures open { IsOpenOverArchive S.Store conn.old conn.new result }
+    ensures body { OnCleanDisk S.Store conn.old conn.new (λ old new. WithBook old.committed (λ config judged shown dates. IfOk result (λ found.
+        option_map (λ body. body.items) found ≡ option_map (λ a. a.body) (find (is_arrival_of name.now print.now) (book_in_database old.committed config judged shown dates).arrivals)))) }
+{
+    // For the prover alone: outside a transaction the connection has what is committed.
+    let _settled = conn.is_autocommit();
+    probe(alloc, conn)?;
+    arrived_body(alloc, conn, name, print)
 }
 
 /// The bytes of the file of the pool at a path.

@@ -1,0 +1,35 @@
+use Rattle.std.proofs.Common.{not, ap, ◌∙◌, arith}
+use Rattle.sqlite.specs.Held.{state}
+use Rattle.sqlite.specs.State.{HasCleanDisk}
+use Rattle.tables.specs.Rows.{tables_in}
+use Rattle.tables_meaning.proofs.ReadCalls.{open_after, read_after, rows_after, undone_either, if_then, on_then}
+use Rattle.keep_tables.proofs.ArrivedReads.{bytes_of_book}
+use Rattle.keep_tables.proofs.reads.read_arrived.Goals as goal
+
+pub returns-clause-read : goal.returns-clause-read
+returns-clause-read g c =
+    let old = state g.S.Store c.args.conn.now in
+    let mid = state g.S.Store c.probe.new.conn in
+    let new = state g.S.Store c.arrived_body.new.conn in
+    let settled = c.is_autocommit-settled.ensures.settled (c.is_autocommit-settled.ensures.value ∙ ap not c.requires.idle) in
+    read_after old mid new c.in_ok-probe.ensures.ok settled (λ other. other _) c.probe.ensures.survives c.arrived_body.ensures.survives
+    (λ clean archive. undone_either mid new c.arrived_body.result (on_then c.arrived_body.result (c.arrived_body.ensures.ok clean _ archive) (λ x h. h.1)) (c.arrived_body.ensures.err clean _ archive))
+
+pub returns-clause-open : goal.returns-clause-open
+returns-clause-open g c clean is =
+    let old = state g.S.Store c.args.conn.now in
+    let mid = state g.S.Store c.probe.new.conn in
+    let new = state g.S.Store c.arrived_body.new.conn in
+    let settled = c.is_autocommit-settled.ensures.settled (c.is_autocommit-settled.ensures.value ∙ ap not c.requires.idle) in
+    let early : HasCleanDisk mid = omega (arith, c.arrived_body.ensures.survives.clean, clean) in
+    open_after old mid new c.in_ok-probe.ensures.ok settled c.arrived_body.result early is (λ archive. on_then c.arrived_body.result (c.arrived_body.ensures.ok clean _ archive) (λ x h. h.1))
+
+pub returns-clause-body : goal.returns-clause-body
+returns-clause-body g c clean config judged shown dates keeps =
+    let old = state g.S.Store c.args.conn.now in
+    let mid = state g.S.Store c.probe.new.conn in
+    let new = state g.S.Store c.arrived_body.new.conn in
+    let settled = c.is_autocommit-settled.ensures.settled (c.is_autocommit-settled.ensures.value ∙ ap not c.requires.idle) in
+    let early : HasCleanDisk mid = omega (arith, c.arrived_body.ensures.survives.clean, clean) in
+    let rows = rows_after old mid new c.in_ok-probe.ensures.ok settled early keeps in
+    if_then c.arrived_body.result (c.arrived_body.ensures.ok clean (tables_in old.committed) rows) (λ x h. h.0 ∙ bytes_of_book old.committed config judged shown dates keeps c.args.name.now c.args.print.now)
