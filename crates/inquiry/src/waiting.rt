@@ -1,0 +1,77 @@
+//! The uploads that wait for a verdict.
+
+ghost use Rattle.std.specs.Prelude.{◌≡◌, IfOk, filter, map};
+ghost use Rattle.std.specs.List.{list_any};
+ghost use Rattle.inquiry.specs.Waiting.{is_judgement_of, is_waiting, waiting_upload};
+
+use keep::{ArrivedFile, Counting, Judgement};
+use para::Text;
+use std::alloc::{AllocError, Global};
+use sums::{Print, is_changes_name};
+
+/// An upload without a verdict, by the name and the print of its .changes.
+#[derive(Drop)]
+pub struct WaitingUpload {
+    pub name: Text,
+    pub print: Print,
+}
+
+/// Whether a judgement is that of a .changes that has arrived.
+fn is_judgement_of(file: &ArrivedFile, judgement: &Judgement) -> bool
+    ensures { result ≡ is_judgement_of file.now judgement.now }
+{
+    if judgement.name.as_str() != file.name.as_str() {
+        return false;
+    }
+    judgement.print == file.print
+}
+
+/// Whether a .changes that has arrived has a verdict.
+fn is_judged(judged: &[Judgement], file: &ArrivedFile) -> bool
+    ensures { result ≡ list_any (is_judgement_of file.now) judged.now }
+{
+    judged
+        .iter()
+        .any(|judgement| is_judgement_of(file, judgement))
+}
+
+/// Whether a file that has arrived is a .changes that counts and has no verdict.
+fn is_waiting(judged: &[Judgement], counting: Counting, file: &ArrivedFile) -> bool
+    ensures { result ≡ is_waiting judged.now counting file.now }
+{
+    if !is_changes_name(file.name.as_str()) {
+        return false;
+    }
+    if !counting.counts_since(file.moment) {
+        return false;
+    }
+    !is_judged(judged, file)
+}
+
+/// The upload of a .changes that has arrived.
+fn waiting_upload(file: &ArrivedFile) -> Result<WaitingUpload, AllocError>
+    ensures { IfOk result (λ upload. upload ≡ waiting_upload file.now) }
+{
+    Ok(WaitingUpload {
+        name: file.name.try_clone()?,
+        print: file.print,
+    })
+}
+
+/// The uploads without a verdict whose .changes counts, in the order in which these came first, among all that has arrived.
+pub fn waiting_uploads(
+    alloc: Global,
+    arrived: &[ArrivedFile],
+    judged: &[Judgement],
+    counting: Counting,
+) -> Result<Vec<WaitingUpload>, AllocError>
+    ensures { IfOk result (λ uploads. uploads.items ≡ map waiting_upload (filter (is_waiting judged.now counting) arrived.now)) }
+{
+    let mut uploads = Vec::new(alloc);
+    for file in arrived {
+        if is_waiting(judged, counting, file) {
+            uploads.push(waiting_upload(file)?)?;
+        }
+    }
+    Ok(uploads)
+}
