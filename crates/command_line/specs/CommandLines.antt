@@ -10,7 +10,7 @@ use Rattle.clap.specs.Words.{Row, Text, all_of, first_of}
 use Rattle.keep.specs.Book.{latest}
 use Rattle.command_line.specs.declared.parsed.Serving.{Serving}
 use Rattle.command_line.specs.declared.parsed.CommandLine.{CommandLine}
-use Rattle.command_line.specs.declared.parsed.CommandLine.TheVariants.{Try, Compare, Check, Init, Ask, Batch, Configure, Migrate, Show, List as Listing, Configuration, Export, Serve}
+use Rattle.command_line.specs.declared.parsed.CommandLine.TheVariants.{Try, Compare, Check, Init, Ask, Batch, Configure, Migrate, Show, List as Listing, Why, Configuration, Export, Serve}
 use Rattle.command_line.specs.declared.request.Request.{Request}
 use Rattle.command_line.specs.declared.request.Request.TheVariants as request
 
@@ -104,6 +104,8 @@ IsLine found (Show db path) = IsNamed found (codes "show") (λ rows.
     IsWord (codes "db") rows db × IsWord (codes "PATH") rows path)
 IsLine found (Listing db suite json) = IsNamed found (codes "list") (λ rows.
     IsWord (codes "db") rows db × IsWord (codes "SUITE") rows suite × (json ≡ is_true (codes "json") rows))
+IsLine found (Why db at name json) = IsNamed found (codes "why") (λ rows.
+    IsWord (codes "db") rows db × IsOptionalMoment rows at × IsOptionalWord (codes "NAME") rows name × (json ≡ is_true (codes "json") rows))
 IsLine found (Configuration db) = IsNamed found (codes "configuration") (λ rows. IsWord (codes "db") rows db)
 IsLine found (Export db exporting) = IsNamed found (codes "export") (λ rows.
     IsWord (codes "db") rows db × IsOptionalMoment rows exporting.at × IsWord (codes "DIR") rows exporting.dir

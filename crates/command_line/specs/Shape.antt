@@ -12,6 +12,10 @@ use Rattle.command_line.specs.CommandLines.{most_connections}
 abbrev pub word_rule : Text → Rule
 word_rule name = record (new_rule name) { required = true; action = Some Set }
 
+-- one word, which may be left out
+abbrev pub optional_word_rule : Text → Rule
+optional_word_rule name = record (new_rule name) { action = Some Set }
+
 -- any number of words, which may be left out
 abbrev pub many_rule : Text → Rule
 many_rule name = record (new_rule name) {
@@ -36,8 +40,8 @@ abbrev pub at_rule : Rule
 at_rule = record (word_rule (codes "at")) { long = Some (codes "at"); value_names = 1; parser = Some (parser.Unsigned 0 latest) }
 
 -- --at N, which may be left out
-abbrev pub pages_at_rule : Rule
-pages_at_rule = record at_rule { required = false }
+abbrev pub optional_at_rule : Rule
+optional_at_rule = record at_rule { required = false }
 
 -- --NAME and a value behind it, which may be left out
 abbrev pub option_rule : Text → Rule
@@ -110,9 +114,14 @@ waiting_app = with_rule (timed_app (codes "waiting")) (flag_rule (codes "json"))
 abbrev pub verdicts_app : App
 verdicts_app = with_rule (db_app (codes "verdicts")) (flag_rule (codes "json"))
 
+abbrev pub why_app : App
+why_app =
+    with_rule (with_rule (with_rule (db_app (codes "why")) optional_at_rule) (flag_rule (codes "json")))
+    (optional_word_rule (codes "NAME"))
+
 abbrev pub export_app : App
 export_app =
-    with_rule (with_rule (with_rule (with_rule (db_app (codes "export")) pages_at_rule) (flag_rule (codes "signed"))) (flag_rule (codes "by-hash")))
+    with_rule (with_rule (with_rule (with_rule (db_app (codes "export")) optional_at_rule) (flag_rule (codes "signed"))) (flag_rule (codes "by-hash")))
     (word_rule (codes "DIR"))
 
 -- the options of `serve` alone
@@ -156,9 +165,10 @@ with_changes app =
 -- with the commands that ask an archive, and the one that serves it
 abbrev pub with_questions : App → App
 with_questions app =
-    with_subcommand (with_subcommand (with_subcommand (with_subcommand (with_subcommand (with_subcommand (with_subcommand app show_app.top) list_app.top)
+    with_subcommand (with_subcommand (with_subcommand (with_subcommand (with_subcommand (with_subcommand (with_subcommand (with_subcommand app show_app.top) list_app.top)
     waiting_app.top)
     verdicts_app.top)
+    why_app.top)
     (db_app (codes "configuration")).top)
     export_app.top)
     serve_app.top

@@ -5,7 +5,7 @@
 
 ghost use Rattle.std.specs.Prelude.{◌≡◌, codes, false};
 ghost use Rattle.clap.specs.Words.{rule_of};
-ghost use Rattle.command_line.specs.Shape.{at_rule, count_rule, db_rule, flag_rule, from_rule, many_rule, option_rule, pages_at_rule, path_rule, word_rule};
+ghost use Rattle.command_line.specs.Shape.{at_rule, count_rule, db_rule, flag_rule, from_rule, many_rule, optional_at_rule, optional_word_rule, option_rule, path_rule, word_rule};
 
 use clap::{Arg, ArgAction, value_parser};
 use keep::LATEST;
@@ -23,6 +23,14 @@ pub fn word<'a>(alloc: Global, name: &'a str, meaning: &'a str) -> Arg<'a>
         .required(true)
         .action(ArgAction::Set)
         .help(meaning)
+}
+
+/// One word, and what it means. It may be left out.
+pub fn optional_word<'a>(alloc: Global, name: &'a str, meaning: &'a str) -> Arg<'a>
+    ensures rule { rule_of result ≡ optional_word_rule name.now }
+    ensures local { result.global ≡ false }
+{
+    Arg::new(alloc, name).action(ArgAction::Set).help(meaning)
 }
 
 /// Any number of words, and what each means.
@@ -83,9 +91,9 @@ pub fn at<'a>(alloc: Global) -> Arg<'a>
     .value_parser(value_parser!(u64).range(0..=LATEST as i64))
 }
 
-/// `--at N`, the moment of a page, which may be left out.
-pub fn pages_at<'a>(alloc: Global) -> Arg<'a>
-    ensures rule { rule_of result ≡ pages_at_rule }
+/// `--at N`, the moment, which may be left out, and what it means.
+pub fn optional_at<'a>(alloc: Global, meaning: &'a str) -> Arg<'a>
+    ensures rule { rule_of result ≡ optional_at_rule }
     ensures local { result.global ≡ false }
 {
     Arg::new(alloc, "at")
@@ -93,7 +101,7 @@ pub fn pages_at<'a>(alloc: Global) -> Arg<'a>
         .value_name("N")
         .action(ArgAction::Set)
         .value_parser(value_parser!(u64).range(0..=LATEST as i64))
-        .help("The moment of uploads.html; without it all that was not cleaned counts")
+        .help(meaning)
 }
 
 /// `--NAME`, a value behind it, and what that means. It may be left out.

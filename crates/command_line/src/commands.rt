@@ -2,11 +2,11 @@
 
 ghost use Rattle.std.specs.Prelude.{IfOk, codes};
 ghost use Rattle.clap.specs.Words.{App, with_rule, with_subcommand};
-ghost use Rattle.command_line.specs.Shape.{archive_app, new_archive, IsCommand, try_app, compare_app, check_app, init_app, put_app, run_app, db_app, timed_app, copy_app, promote_app, remove_app, batch_app, configure_app, migrate_app, show_app, list_app, waiting_app, verdicts_app, export_app, serve_app, serve_by_hash, serve_options, word_rule, with_changes, with_others, with_questions};
+ghost use Rattle.command_line.specs.Shape.{archive_app, new_archive, IsCommand, try_app, compare_app, check_app, init_app, put_app, run_app, db_app, timed_app, copy_app, promote_app, remove_app, batch_app, configure_app, migrate_app, show_app, list_app, waiting_app, verdicts_app, why_app, export_app, serve_app, serve_by_hash, serve_options, word_rule, with_changes, with_others, with_questions};
 
 use crate::arguments::{
-    at, by_hash, count, db, export, from, json, log, many, moments, pages_at, paths, signed,
-    strict, word,
+    at, by_hash, count, db, export, from, json, log, many, moments, optional_at, optional_word,
+    paths, signed, strict, word,
 };
 use crate::version::VERSION;
 use clap::Command;
@@ -236,6 +236,26 @@ fn verdicts_command<'a>(alloc: Global) -> Result<Command<'a>, AllocError>
     db_command(alloc, "verdicts", "Lists the verdicts of all runs")?.arg(json(alloc))
 }
 
+fn why_command<'a>(alloc: Global) -> Result<Command<'a>, AllocError>
+    ensures { IfOk result (IsCommand why_app) }
+{
+    db_command(
+        alloc,
+        "why",
+        "Says why an upload is refused, what one lacks that waits, and what to do",
+    )?
+    .arg(optional_at(
+        alloc,
+        "The moment; without it all that was not cleaned counts",
+    ))?
+    .arg(json(alloc))?
+    .arg(optional_word(
+        alloc,
+        "NAME",
+        "The name of a .changes; without it, all that wait",
+    ))
+}
+
 fn configuration_command<'a>(alloc: Global) -> Result<Command<'a>, AllocError>
     ensures { IfOk result (IsCommand (db_app (codes "configuration"))) }
 {
@@ -254,7 +274,10 @@ fn export_command<'a>(alloc: Global) -> Result<Command<'a>, AllocError>
         "export",
         "Writes what the suites show into a folder that any web server can show",
     )?
-    .arg(pages_at(alloc))?
+    .arg(optional_at(
+        alloc,
+        "The moment of uploads.html; without it all that was not cleaned counts",
+    ))?
     .arg(signed(alloc))?
     .arg(by_hash(alloc))?
     .arg(word(
@@ -347,6 +370,7 @@ fn with_asking<'a>(
     let command = with(command, list_command(alloc));
     let command = with(command, waiting_command(alloc));
     let command = with(command, verdicts_command(alloc));
+    let command = with(command, why_command(alloc));
     let command = with(command, configuration_command(alloc));
     let command = with(command, export_command(alloc));
     with(command, serve_command(alloc))

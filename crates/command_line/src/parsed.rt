@@ -110,6 +110,16 @@ pub enum CommandLine<'a> {
         /// Whether each item is a line of JSON.
         json: bool,
     },
+    /// Says why uploads have the verdicts that they have, and what those lack that wait.
+    Why {
+        db: &'a str,
+        /// The moment at which they wait, where one was given.
+        at: Option<u64>,
+        /// The name of their .changes. Without it, all that wait are told.
+        name: Option<&'a str>,
+        /// Whether each upload is a line of JSON.
+        json: bool,
+    },
     /// Prints the configuration.
     Configuration {
         db: &'a str,

@@ -214,6 +214,17 @@ fn read_verdicts<'a>(alloc: Global, found: &ArgMatches<'a>) -> Result<CommandLin
     })
 }
 
+fn read_why<'a>(alloc: Global, found: &ArgMatches<'a>) -> Result<CommandLine<'a>, LineFault>
+    ensures { IfOk result (IsLine (Some (codes "why", rows_of (found_of found.now)))) }
+{
+    Ok(CommandLine::Why {
+        db: required(alloc, found, "db")?,
+        at: optional_moment(alloc, found)?,
+        name: optional(found, "NAME"),
+        json: is_set(found, "json"),
+    })
+}
+
 fn read_configuration<'a>(
     alloc: Global,
     found: &ArgMatches<'a>,
@@ -292,6 +303,7 @@ pub fn command_of<'a>(
         "list" => read_list(alloc, found),
         "waiting" => read_waiting(alloc, found),
         "verdicts" => read_verdicts(alloc, found),
+        "why" => read_why(alloc, found),
         "configuration" => read_configuration(alloc, found),
         "export" => read_export(alloc, found),
         "serve" => read_serve(alloc, found),

@@ -34,6 +34,7 @@ use std::alloc::Global;
 /// list --db FILE [--json] SUITE
 /// waiting --db FILE --at N [--json]
 /// verdicts --db FILE [--json]
+/// why --db FILE [--at N] [--json] [NAME]
 /// configuration --db FILE
 /// export --db FILE [--at N] [--signed] [--by-hash] DIR
 /// serve --db FILE --at N [--moments MOMENTS] [--log] [--export DIR] [--signed] [--by-hash] ADDRESS COUNT

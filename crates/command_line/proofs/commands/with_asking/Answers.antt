@@ -6,6 +6,7 @@ returns c app whole =
     let two = c.with-command-2.ensures _ _ one c.list_command.ensures in
     let three = c.with-command-3.ensures _ _ two c.waiting_command.ensures in
     let four = c.with-command-4.ensures _ _ three c.verdicts_command.ensures in
-    let five = c.with-command-5.ensures _ _ four c.configuration_command.ensures in
-    let six = c.with-command-6.ensures _ _ five c.export_command.ensures in
-    c.with.ensures _ _ six c.serve_command.ensures
+    let five = c.with-command-5.ensures _ _ four c.why_command.ensures in
+    let six = c.with-command-6.ensures _ _ five c.configuration_command.ensures in
+    let seven = c.with-command-7.ensures _ _ six c.export_command.ensures in
+    c.with.ensures _ _ seven c.serve_command.ensures
