@@ -4,6 +4,7 @@ use crate::database::{InFile, Opening, close, open_shown};
 use crate::fault::Stop;
 use crate::print;
 use crate::progress::Progress;
+use crate::why::{Asked, tell};
 use command_line::{LineRequest, Manner, Request};
 use keep::Keeper;
 use queue::Archive;
@@ -91,6 +92,19 @@ pub fn list_file<'a, K: Keeper + Drop, F: InFile<K>, W: Write>(
 ) -> Result<(), Stop<'a>> {
     let mut archive = open_shown::<K, F>(rt, db)?;
     let done = print::list(rt.alloc(), &mut archive, suite, json, out);
+    close::<K, F>(archive);
+    done
+}
+
+/// Prints why uploads to the archive of a database file have their verdicts, and what those lack that wait.
+pub fn why_file<'a, K: Keeper + Drop, F: InFile<K>, W: Write>(
+    rt: &HostRuntime,
+    db: &str,
+    asked: Asked<'_>,
+    out: &mut W,
+) -> Result<(), Stop<'a>> {
+    let mut archive = open_shown::<K, F>(rt, db)?;
+    let done = tell(rt.alloc(), &mut archive, asked, out);
     close::<K, F>(archive);
     done
 }

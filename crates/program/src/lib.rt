@@ -19,6 +19,7 @@ mod progress;
 mod serving;
 mod serving_file;
 mod shown;
+mod why;
 
 pub use database::{InFile, OpenFault, close, create_archive, open_archive};
 pub use fault::Stop;

@@ -1,6 +1,6 @@
 //! What the program does for a line.
 
-use crate::ask::{ask_file, configuration_file, list_file, show_file};
+use crate::ask::{ask_file, configuration_file, list_file, show_file, why_file};
 use crate::batch::batch_file;
 use crate::configured::{check, configure, init, migrate};
 use crate::database::{InFile, Opening};
@@ -9,6 +9,7 @@ use crate::fault::Stop;
 use crate::files::{body_of, file_name};
 use crate::serving_file::serve_file;
 use crate::shown::Shown;
+use crate::why::Asked;
 use command_line::{CommandLine, LineFault, line};
 use keep::{Keeper, PlainKeeper};
 use queue::{Archive, Fault};
@@ -130,6 +131,14 @@ fn done<'a, K: Keeper + Drop, F: InFile<K>, W: Write, E: Write>(
         CommandLine::Migrate { from, db, at, conf } => migrate::<K, F>(rt, from, db, *at, conf)?,
         CommandLine::Show { db, path } => show_file::<K, F, W>(rt, db, path, out)?,
         CommandLine::List { db, suite, json } => list_file::<K, F, W>(rt, db, suite, *json, out)?,
+        CommandLine::Why { db, at, name, json } => {
+            let asked = Asked {
+                at: at.unwrap_or(0),
+                name: *name,
+                json: *json,
+            };
+            why_file::<K, F, W>(rt, db, asked, out)?;
+        }
         CommandLine::Configuration { db } => configuration_file::<K, F, W>(rt, db, out)?,
         CommandLine::Export { db, exporting } => export_file::<K, F, W>(rt, db, *exporting, out)?,
         CommandLine::Serve { db, serving } => serve_file::<K, F, E>(rt, db, *serving, err)?,

@@ -24,11 +24,16 @@ use std::io::{self, Write};
 use std::rt::Files;
 use suites::Shelves;
 
+/// Prints a line, as it is shown.
+pub fn print_line<W: Write>(line: &str, out: &mut W) -> io::Result<()> {
+    let line = Shown(line);
+    writeln!(out, "{line}")
+}
+
 /// Prints lines, as they are shown.
 pub fn print_lines<W: Write>(lines: &[String], out: &mut W) -> io::Result<()> {
     for line in lines {
-        let line = Shown(line);
-        writeln!(out, "{line}")?;
+        print_line(line, out)?;
     }
     Ok(())
 }

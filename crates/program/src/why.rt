@@ -1,0 +1,210 @@
+//! Why uploads have the verdicts that they have, and what those lack that wait.
+//!
+//! An archive keeps verdicts, and not why they were given: that is found again from the files of an upload, by the configuration and by
+//! what the suites show today. Where today's verdict is another, that is said, and of the older one nothing but its number.
+
+mod answer;
+mod items;
+mod names;
+mod sentences;
+mod waits;
+mod words;
+
+use crate::fault::Stop;
+use crate::print::{print_line, print_lines};
+use crate::why::answer::{Answer, answer_json, answer_lines};
+use crate::why::waits::{waiting_json, waiting_lines};
+use inquiry::{Lack, WaitingUpload, lacks_of, read_changes, read_upload, waiting_uploads};
+use keep::{ArrivedFile, Counting, Judgement, Keeper, LATEST};
+use queue::{Archive, Fault};
+use std::alloc::{AllocError, Global};
+use std::io::Write;
+use suites::Shelves;
+
+/// Which uploads are asked for, and how they are told.
+#[derive(Clone, Copy)]
+pub struct Asked<'n> {
+    /// The moment, in seconds since 1970-01-01 00:00:00 UTC.
+    pub at: u64,
+    /// The name of a .changes. Without it, all uploads that wait are told.
+    pub name: Option<&'n str>,
+    /// Whether each upload is a line of JSON.
+    pub json: bool,
+}
+
+/// The files that arrived in an archive, the uploads that were judged, and what counts.
+#[derive(Drop)]
+struct Course {
+    arrived: Vec<ArrivedFile>,
+    judged: Vec<Judgement>,
+    counting: Counting,
+}
+
+/// Whether an upload of this name is asked for.
+fn is_asked(asked: Asked<'_>, name: &str) -> bool {
+    match asked.name {
+        Some(wanted) => wanted == name,
+        None => true,
+    }
+}
+
+/// What arrived and was judged, and what counts at a moment.
+fn course_of<K: Keeper>(alloc: Global, archive: &mut Archive<K>, at: u64) -> Result<Course, Fault> {
+    if at > LATEST {
+        return Err(Fault::Moment);
+    }
+    let counting = Counting::new(archive.keeper.config(), at);
+    let arrived = archive.keeper.arrivals(alloc)?;
+    let judged = archive.keeper.verdicts(alloc)?;
+    Ok(Course {
+        arrived,
+        judged,
+        counting,
+    })
+}
+
+/// What an upload lacks that waits. There is nothing to say if its .changes is gone.
+fn lacks_in<K: Keeper>(
+    alloc: Global,
+    archive: &mut Archive<K>,
+    course: &Course,
+    upload: &WaitingUpload,
+) -> Result<Option<Vec<Lack>>, Fault> {
+    let name = upload.name.as_str();
+    let Some(changes) = read_changes(alloc, &mut archive.keeper, name, &upload.print)? else {
+        return Ok(None);
+    };
+    let entries = changes.entries();
+    Ok(Some(lacks_of(alloc, &course.arrived, course.counting, entries)?))
+}
+
+/// Prints an upload that waits, and what it lacks.
+fn print_waiting<'a, W: Write>(
+    alloc: Global,
+    upload: &WaitingUpload,
+    lacks: &[Lack],
+    json: bool,
+    out: &mut W,
+) -> Result<(), Stop<'a>> {
+    if json {
+        print_line(waiting_json(alloc, upload, lacks)?.as_str(), out)?;
+    } else {
+        print_lines(&waiting_lines(alloc, upload, lacks)?, out)?;
+    }
+    Ok(())
+}
+
+/// Prints each upload that waits and is asked for, and says whether there is one.
+fn print_all_waiting<'a, K: Keeper, W: Write>(
+    alloc: Global,
+    archive: &mut Archive<K>,
+    course: &Course,
+    asked: Asked<'_>,
+    out: &mut W,
+) -> Result<bool, Stop<'a>> {
+    let waiting = waiting_uploads(alloc, &course.arrived, &course.judged, course.counting)?;
+    let mut has_printed = false;
+    for upload in &waiting {
+        if !is_asked(asked, upload.name.as_str()) {
+            continue;
+        }
+        if let Some(lacks) = lacks_in(alloc, archive, course, upload)? {
+            has_printed = true;
+            print_waiting(alloc, upload, &lacks, asked.json, out)?;
+        }
+    }
+    Ok(has_printed)
+}
+
+/// The judgements of a name, in their order.
+fn judgements_of<'j>(
+    alloc: Global,
+    judged: &'j [Judgement],
+    name: &str,
+) -> Result<Vec<&'j Judgement>, AllocError> {
+    let mut found = Vec::new(alloc);
+    for judgement in judged {
+        if judgement.name.as_str() == name {
+            found.push(judgement)?;
+        }
+    }
+    Ok(found)
+}
+
+/// Why a judged upload has its verdict.
+fn answer_on<K: Keeper>(
+    alloc: Global,
+    archive: &mut Archive<K>,
+    shelves: &Shelves,
+    judgement: &Judgement,
+) -> Result<Answer, Fault> {
+    let (name, given) = (judgement.name.as_str(), judgement.verdict);
+    let Some(upload) = read_upload(alloc, &mut archive.keeper, name, &judgement.print)? else {
+        return Ok(Answer::cleaned(alloc));
+    };
+    let config = archive.keeper.config();
+    Ok(Answer::new(alloc, config, shelves, &upload, given)?)
+}
+
+/// Prints why a judged upload has its verdict.
+fn print_answer<'a, W: Write>(
+    alloc: Global,
+    judgement: &Judgement,
+    answer: &Answer,
+    json: bool,
+    out: &mut W,
+) -> Result<(), Stop<'a>> {
+    if json {
+        print_line(answer_json(alloc, judgement, answer)?.as_str(), out)?;
+    } else {
+        print_lines(&answer_lines(alloc, judgement, answer)?, out)?;
+    }
+    Ok(())
+}
+
+/// What the suites show.
+fn shelves_of<K: Keeper>(alloc: Global, archive: &mut Archive<K>) -> Result<Shelves, Fault> {
+    Ok(archive.keeper.shelves(alloc)?)
+}
+
+/// Prints each judged upload of a name, and says whether there is one.
+fn print_all_judged<'a, K: Keeper, W: Write>(
+    alloc: Global,
+    archive: &mut Archive<K>,
+    judged: &[Judgement],
+    name: &str,
+    json: bool,
+    out: &mut W,
+) -> Result<bool, Stop<'a>> {
+    let found = judgements_of(alloc, judged, name)?;
+    if found.is_empty() {
+        return Ok(false);
+    }
+    let shelves = shelves_of(alloc, archive)?;
+    for judgement in &found {
+        let answer = answer_on(alloc, archive, &shelves, judgement)?;
+        print_answer(alloc, judgement, &answer, json, out)?;
+    }
+    Ok(true)
+}
+
+/// Prints why the uploads of a name have their verdicts, and what those lack that wait; without a name, what each upload lacks that waits.
+/// A name that no upload has is not found.
+pub fn tell<'a, K: Keeper, W: Write>(
+    alloc: Global,
+    archive: &mut Archive<K>,
+    asked: Asked<'_>,
+    out: &mut W,
+) -> Result<(), Stop<'a>> {
+    let course = course_of(alloc, archive, asked.at)?;
+    let has_waiting = print_all_waiting(alloc, archive, &course, asked, out)?;
+    let Some(name) = asked.name else {
+        return Ok(());
+    };
+    let has_judged = print_all_judged(alloc, archive, &course.judged, name, asked.json, out)?;
+    if has_waiting || has_judged {
+        Ok(())
+    } else {
+        Err(Stop::NotFound)
+    }
+}

@@ -1,0 +1,59 @@
+//! Verdicts in words. The sentences are those of docs/FAULTS.md.
+
+use rules::Verdict;
+
+/// What a verdict means.
+pub fn meaning(verdict: Verdict) -> &'static str {
+    match verdict {
+        Verdict::Accepted => {
+            "The upload's packages were given to its suite, which shows of each the greatest version."
+        }
+        Verdict::Unclaimed => {
+            "No suite takes the distribution: it is no suite's Codename or Suite, and in no AlsoAcceptFor."
+        }
+        Verdict::ForeignArchitecture => {
+            "The suite does not keep an architecture of the .changes. An upload with sources needs `source` among the suite's; `all` needs one besides `source`."
+        }
+        Verdict::NotAllowed => {
+            "The suite has Uploaders, and no line of them allows this source and this person."
+        }
+        Verdict::ForeignComponent => {
+            "The listed files are of different components, or of one that the suite does not have. The component is what comes before the slash of a section, else `main`."
+        }
+        Verdict::BadListing => {
+            "The listed files are not those of an upload. A .deb has no .control of the same stem, or the reverse; a .changes is listed; with `source` among the architectures there is not exactly one .dsc; without it there is one, or any file but .deb and .control."
+        }
+        Verdict::BadDsc => {
+            "The .dsc is no record, or does not fit: its source or version is another, it is not named `SOURCE_VERSION.dsc` without the epoch, it lists a .dsc, .deb, .control or .changes, or a source file of the .changes is not in its list with the same size and digests."
+        }
+        Verdict::BadSidecar => {
+            "A sidecar is no record, or does not fit: it is not named `PACKAGE_VERSION_ARCHITECTURE.control` by its own fields, its architecture is not in the .changes, its source is another, or two are of one package and architecture."
+        }
+        Verdict::NotInPool => {
+            "The .dsc lists a file that is neither in the .changes nor in the pool, at its place with the same size and digests."
+        }
+        Verdict::OtherContents => {
+            "A .deb, a .dsc or a source file has a place in the pool where other contents are."
+        }
+    }
+}
+
+/// What to do about a verdict: behind an acceptance there is nothing.
+pub fn remedy(verdict: Verdict) -> Option<&'static str> {
+    match verdict {
+        Verdict::Accepted => None,
+        Verdict::Unclaimed => Some("Build for a distribution that a suite takes."),
+        Verdict::ForeignArchitecture => Some("Build for the suite's architectures alone."),
+        Verdict::NotAllowed => Some(
+            "Compare Changed-By (Maintainer if there is none) with the lines, byte for byte.",
+        ),
+        Verdict::ForeignComponent => Some("Set the sections in debian/control."),
+        Verdict::BadListing => Some("Make the upload by `bin/with_sidecars`."),
+        Verdict::BadDsc => Some("Take its signature off and list it anew: `bin/with_sidecars`."),
+        Verdict::BadSidecar => Some(
+            "Make the sidecars by `bin/with_sidecars`; compare `Source` of the package with that of the .changes.",
+        ),
+        Verdict::NotInPool => Some("List it in the .changes: `dpkg-buildpackage -sa`."),
+        Verdict::OtherContents => Some("Give the package a new version."),
+    }
+}
