@@ -8,6 +8,7 @@ mod delivery;
 mod differences;
 mod drives;
 mod failures;
+mod inquiries;
 mod keepers;
 mod named;
 mod numbers;

@@ -3,6 +3,7 @@
 use crate::configurations::{configuration, configure};
 use crate::drives::drive;
 use crate::failures::{cut, writer_fails};
+use crate::inquiries::{lacks, list, reason};
 use crate::keepers::Makes;
 use crate::numbers::numbers;
 use crate::outcomes::printed;
@@ -45,8 +46,23 @@ fn asked_by_reader<K: Keeper>(
     }
 }
 
+/// What an archive answers to a question on what it shows and on its uploads, or to one on requests and readers.
+fn asked_of_uploads<K: Keeper>(
+    alloc: Global,
+    archive: &mut Archive<K>,
+    verb: &str,
+    words: &[Vec<u8>],
+) -> Result<Vec<u8>, Unread> {
+    match verb {
+        "list" => list(alloc, archive, words),
+        "lacks" => lacks(alloc, archive, words),
+        "reason" => reason(alloc, archive, words),
+        _ => asked_by_reader(alloc, archive, verb, words),
+    }
+}
+
 /// What an archive answers to a question: `deliver`, `run`, `waiting`, `verdicts`, `show`, `has`, `copy`, `promote`, `remove`,
-/// `clean`, `configure`, `configuration`, `drive` and those on requests and readers.
+/// `clean`, `configure`, `configuration`, `drive`, `list`, `lacks`, `reason` and those on requests and readers.
 pub fn asked<K: Keeper>(
     alloc: Global,
     archive: &mut Archive<K>,
@@ -67,7 +83,7 @@ pub fn asked<K: Keeper>(
         "configure" => configure(alloc, archive, words),
         "configuration" => configuration(alloc, archive, words),
         "drive" => drive(alloc, archive, words),
-        _ => asked_by_reader(alloc, archive, verb, words),
+        _ => asked_of_uploads(alloc, archive, verb, words),
     }
 }
 

@@ -1,0 +1,192 @@
+//! What is asked about what suites show, and about uploads: what those lack that wait, and why others have their verdicts.
+
+use crate::outcomes::report_text;
+use crate::steps::{moment_of, path_of};
+use inquiry::{Lack, WaitingUpload, lacks_of, read_changes, read_upload, waiting_uploads};
+use keep::{ArrivedFile, Counting, Judgement, Keeper};
+use listing::shown_lines;
+use queue::{Archive, Fault, Report};
+use reasons::{Named, Reason, reason_of};
+use rules::Config;
+use std::alloc::{AllocError, Global};
+use suites::{Shelves, Upload};
+use test_rows::{Unread, text_of};
+
+/// A line for each item that a suite shows.
+fn listed<K: Keeper>(
+    alloc: Global,
+    archive: &mut Archive<K>,
+    suite: &str,
+) -> Result<Report, Fault> {
+    let Some(place) = archive.keeper.config().suite_named(suite) else {
+        return Err(Fault::UnknownSuite);
+    };
+    let shelves = archive.keeper.shelves(alloc)?;
+    Ok(Report {
+        lines: shown_lines(alloc, &shelves, place)?,
+    })
+}
+
+/// `list SUITE`: a line for each item that it shows, or the fault.
+pub fn list<K: Keeper>(
+    alloc: Global,
+    archive: &mut Archive<K>,
+    words: &[Vec<u8>],
+) -> Result<Vec<u8>, Unread> {
+    report_text(alloc, listed(alloc, archive, path_of(words)?))
+}
+
+/// Adds the lines on a listed file that is lacked.
+fn push_lack(alloc: Global, lines: &mut Vec<String>, lack: &Lack) -> Result<(), AllocError> {
+    let name = lack.name.as_str();
+    let word = if lack.is_ended { "ended" } else { "lacks" };
+    lines.push(format!(in alloc; "{word} {name}")?)?;
+    for print in lack.came.as_slice() {
+        let size = print.size;
+        lines.push(format!(in alloc; "came {name} {size}")?)?;
+    }
+    Ok(())
+}
+
+/// Adds the lines on an upload that waits.
+fn push_lacks<K: Keeper>(
+    alloc: Global,
+    lines: &mut Vec<String>,
+    archive: &mut Archive<K>,
+    arrived: &[ArrivedFile],
+    counting: Counting,
+    upload: &WaitingUpload,
+) -> Result<(), Fault> {
+    let name = upload.name.as_str();
+    let Some(changes) = read_changes(alloc, &mut archive.keeper, name, &upload.print)? else {
+        return Ok(());
+    };
+    let lacks = lacks_of(alloc, arrived, counting, changes.entries())?;
+    for lack in &lacks {
+        push_lack(alloc, lines, lack)?;
+    }
+    if lacks.is_empty() {
+        lines.push(String::from_str(alloc, "whole")?)?;
+    }
+    Ok(())
+}
+
+/// What the uploads of a name lack that wait at a moment.
+fn lacking<K: Keeper>(
+    alloc: Global,
+    archive: &mut Archive<K>,
+    name: &str,
+    moment: u64,
+) -> Result<Report, Fault> {
+    let counting = Counting::new(archive.keeper.config(), moment);
+    let arrived = archive.keeper.arrivals(alloc)?;
+    let judged = archive.keeper.verdicts(alloc)?;
+    let waiting = waiting_uploads(alloc, &arrived, &judged, counting)?;
+    let mut lines = Vec::new(alloc);
+    for upload in &waiting {
+        if upload.name.as_str() == name {
+            push_lacks(alloc, &mut lines, archive, &arrived, counting, upload)?;
+        }
+    }
+    Ok(Report { lines })
+}
+
+/// `lacks NAME [MOMENT]`: of each upload of that name that waits, `lacks FILE` or `ended FILE` for each file that it lacks, and `came FILE
+/// SIZE` for what came in its place; or `whole`. Nothing, where none waits.
+pub fn lacks<K: Keeper>(
+    alloc: Global,
+    archive: &mut Archive<K>,
+    words: &[Vec<u8>],
+) -> Result<Vec<u8>, Unread> {
+    let Some((name, rest)) = words.split_first() else {
+        return Err(Unread::BadWords);
+    };
+    let (name, moment) = (text_of(name)?, moment_of(rest)?);
+    report_text(alloc, lacking(alloc, archive, name, moment))
+}
+
+/// A word for what a verdict is about, and its name or that of its file.
+fn about(named: &Named) -> (&'static str, &str) {
+    match named {
+        Named::Distribution { name } => ("distribution", name.as_str()),
+        Named::Architecture { name } => ("architecture", name.as_str()),
+        Named::Uploader { person, .. } => ("person", person.as_str()),
+        Named::OtherComponent { file, .. } => ("other-component", file.as_str()),
+        Named::Component { name } => ("component", name.as_str()),
+        Named::ListedChanges { file } => ("changes", file.as_str()),
+        Named::SurplusDsc { file, .. } => ("surplus", file.as_str()),
+        Named::NoDsc => ("no-dsc", ""),
+        Named::LonePackage { file } | Named::LoneSidecar { file } => ("alone", file.as_str()),
+        Named::SourceFile { file } => ("source-file", file.as_str()),
+        Named::UnreadDsc { file, .. } | Named::UnreadSidecar { file, .. } => {
+            ("unread", file.as_str())
+        }
+        Named::Dsc { file, .. } | Named::Sidecar { file, .. } => ("differs", file.as_str()),
+        Named::Twins { second, .. } => ("twin", second.as_str()),
+        Named::File { path, .. } => ("file", path.as_str()),
+    }
+}
+
+/// A verdict, and what it is about.
+fn reason_text(alloc: Global, reason: &Reason) -> Result<String, AllocError> {
+    let number = reason.verdict.number();
+    match &reason.named {
+        Some(named) => {
+            let (word, name) = about(named);
+            format!(in alloc; "{number} {word} {name}")
+        }
+        None => format!(in alloc; "{number}"),
+    }
+}
+
+/// The verdict that an upload would have now, and what that is about.
+fn judged_now(
+    alloc: Global,
+    config: &Config,
+    shelves: &Shelves,
+    upload: &Upload,
+) -> Result<String, AllocError> {
+    let reason = reason_of(alloc, config, shelves, upload)?;
+    reason_text(alloc, &reason)
+}
+
+/// The line on a judged upload.
+fn reason_line<K: Keeper>(
+    alloc: Global,
+    archive: &mut Archive<K>,
+    shelves: &Shelves,
+    judgement: &Judgement,
+) -> Result<String, Fault> {
+    let name = judgement.name.as_str();
+    let Some(upload) = read_upload(alloc, &mut archive.keeper, name, &judgement.print)? else {
+        return Ok(String::from_str(alloc, "cleaned")?);
+    };
+    let config = archive.keeper.config();
+    Ok(judged_now(alloc, config, shelves, &upload)?)
+}
+
+/// A line for each judged upload of a name.
+fn reasons_of<K: Keeper>(
+    alloc: Global,
+    archive: &mut Archive<K>,
+    name: &str,
+) -> Result<Report, Fault> {
+    let judged = archive.keeper.verdicts(alloc)?;
+    let shelves = archive.keeper.shelves(alloc)?;
+    let mut lines = Vec::new(alloc);
+    for judgement in &judged {
+        if judgement.name.as_str() == name {
+            lines.push(reason_line(alloc, archive, &shelves, judgement)?)?;
+        }
+    }
+    Ok(Report { lines })
+}
+
+/// `reason NAME`: for each judged upload of that name the verdict that it would have now, with what that is about, or `cleaned`.
+pub fn reason<K: Keeper>(
+    alloc: Global,
+    archive: &mut Archive<K>,
+    words: &[Vec<u8>],
+) -> Result<Vec<u8>, Unread> {
+    report_text(alloc, reasons_of(alloc, archive, path_of(words)?))
+}
