@@ -22,8 +22,9 @@ BEFORE = [
     "tests.test_upload",
 ]
 GATE = ["rt", "ci"]
-# The crates that stand on each other at its beginning, lowest first. What passes is kept, and the gate takes it.
-FIRST = ["para", "vers", "sums", "records", "rules", "suites", "texts", "keep"]
+# The crates that stand on each other at its beginning, lowest first, and those that stand on few of them and on which much waits, for the
+# processors that are idle meanwhile. What passes is kept, and the gate takes it.
+FIRST = ["para", "vers", "sums", "records", "rules", "suites", "texts", "keep", "tables", "tables_read", "test_rows", "copying", "old_rows"]
 # The memory that a check takes at most, in bytes, over the four that take the most side by side.
 MEMORY_OF_CHECK = 5_500_000_000
 BEHIND = [
@@ -50,6 +51,7 @@ BEHIND = [
     "tests.test_using_tree",
     "tests.test_using_words",
     "tests.test_listing",
+    "tests.test_why",
     "tests.test_progress",
     "tests.test_export",
     "tests.test_export_apt",

@@ -29,6 +29,7 @@ COMMANDS = {
     "list": ["--db", "a.db", "box"],
     "waiting": ["--db", "a.db", "--at", "0"],
     "verdicts": ["--db", "a.db"],
+    "why": ["--db", "a.db"],
     "configuration": ["--db", "a.db"],
     "export": ["--db", "a.db", "www"],
     "serve": ["--db", "a.db", "--at", "0", "127.0.0.1:0", "1"],
@@ -53,6 +54,7 @@ USAGES = {
     "list": "list --db <FILE> <SUITE>",
     "waiting": "waiting --db <FILE> --at <N>",
     "verdicts": "verdicts --db <FILE>",
+    "why": "why --db <FILE> [NAME]",
     "configuration": "configuration --db <FILE>",
     "export": "export --db <FILE> <DIR>",
     "serve": "serve --db <FILE> --at <N> <ADDRESS> <COUNT>",
@@ -65,6 +67,7 @@ OPTIONS = {
     "list": ["--json"],
     "waiting": ["--json"],
     "verdicts": ["--json"],
+    "why": ["--at <N>", "--json"],
     "export": ["--at <N>", "--signed", "--by-hash"],
     "serve": ["--moments <MOMENTS>", "--log", "--export <DIR>", "--signed", "--by-hash"],
 }

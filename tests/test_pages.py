@@ -178,6 +178,7 @@ class Pages(unittest.TestCase):
         for words in (
             "The state before this one was well.",
             "No fault was seen.",
+            "It is right today.",
             "On 2026-01-02 it was so.",
             "It has 261 wrong bodies.",
             "It takes GATE_MINUTES.",
@@ -185,6 +186,7 @@ class Pages(unittest.TestCase):
         ):
             self.assertEqual(len(self.other(pages.check_diary, "docs/OPEN.md", words)), 1, words)
             self.assertEqual(self.other(pages.check_diary, "CHANGELOG.md", words), set(), words)
+        self.assertEqual(self.other(pages.check_diary, "docs/OPEN.md", 'The line `today 0`, or {"today":0}.'), set())
 
     def test_a_comment_is_refused(self):
         for text, count in (("A line.\n<!-- a note\nof two lines -->\n", 1), ("a <! b, c -- d and e --> f", 0)):

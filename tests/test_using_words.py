@@ -1,6 +1,7 @@
-"""Tests of docs/USING.md and docs/OPERATING.md over the built program: what `check` prints of the configuration there, the keys of `--json`, and a tree
-that gpg signs. Where gpg is not there, the test says that it was skipped."""
+"""Tests of docs/USING.md and docs/OPERATING.md over the built program: what `check` prints of the configuration there, what `why` prints, the keys of
+`--json`, and a tree that gpg signs. Where gpg is not there, the test says that it was skipped."""
 import json
+import pathlib
 import shutil
 import unittest
 
@@ -35,6 +36,30 @@ class Words(snippets.Case):
         self.shell(f"cp {DATA}/{NAMES[0]} other.changes && archive put --db box.db --at 100000000 other.changes", self.room.work)
         for line in self.shell("archive waiting --db box.db --at 100000000 --json", self.room.work).splitlines():
             self.assertEqual(keys(line), keys(waiting))
+
+    def why(self, changes, other):
+        """Makes an archive to which the three files come, in one of which some words are others, and runs its queue."""
+        self.room.write("work/box.conf", snippet("configuration"))
+        for name in NAMES:
+            text = pathlib.Path(DATA, name).read_text(encoding="utf-8")
+            self.room.write(f"work/{name}", snippets.changed(text, changes) if name == other else text)
+        self.shell(f"archive init --db box.db --at 1 box.conf && archive put --db box.db --at 1 {' '.join(NAMES)}", self.room.work)
+        self.shell("archive run --db box.db --at 1", self.room.work)
+
+    def test_why_an_upload_was_refused(self):
+        self.why({"Distribution: box": "Distribution: UNRELEASED"}, NAMES[0])
+        self.assertEqual(self.shell(f"archive why --db box.db {NAMES[0]}", self.room.work), snippet("refused"))
+
+    def test_why_an_upload_waits(self):
+        self.why({"abc": "ab"}, NAMES[1])
+        for words in (NAMES[0], "", "--at 1"):
+            self.assertEqual(self.shell(f"archive why --db box.db {words}", self.room.work), snippet("waits"))
+        wanted = json.loads(snippet("waits as JSON"))
+        digests = [line.split()[-1] for line in snippet("waits").splitlines()]
+        for it, digest in zip((wanted, *wanted["lacks"], *wanted["came"]), digests):
+            self.assertEqual(it["sha256"], f"{digest[:4]}..")
+            it["sha256"] = digest
+        self.assertEqual(json.loads(self.shell("archive why --db box.db --json", self.room.work)), wanted)
 
     @unittest.skipUnless(shutil.which("gpg"), "there is no gpg")
     def test_a_tree_that_gpg_signs(self):
