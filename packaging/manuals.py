@@ -17,8 +17,9 @@ DOCS = "/usr/share/doc/boqitsel"
 
 # The sections of the pages that each manual has, in order.
 COMMANDS = [
-    "What a configuration says", "What a suite shows, and lines for scripts", "Lists of commands", "What an upload is", "Uploading", "Installing from it",
-    "A tree for any web server", "Copying a whole suite", "Testing and stable", "Taking a package out", "How long files count", "Moments",
+    "What a configuration says", "What a suite shows, and lines for scripts", "Why an upload was refused, or waits", "Lists of commands",
+    "What an upload is", "Uploading", "Installing from it", "A tree for any web server", "Copying a whole suite", "Testing and stable",
+    "Taking a package out", "How long files count", "Moments",
 ]
 SERVICE = ["Serving", "A tree beside the server"]
 CONFIGURATION = ["What a configuration says", "Until when a Release is valid", "How long files count", "Testing and stable"]
