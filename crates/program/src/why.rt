@@ -3,17 +3,9 @@
 //! An archive keeps verdicts, and not why they were given: that is found again from the files of an upload, by the configuration and by
 //! what the suites show today. Where today's verdict is another, that is said, and of the older one nothing but its number.
 
-mod answer;
-mod items;
-mod names;
-mod sentences;
-mod waits;
-mod words;
-
 use crate::fault::Stop;
 use crate::print::{print_line, print_lines};
-use crate::why::answer::{Answer, answer_json, answer_lines};
-use crate::why::waits::{waiting_json, waiting_lines};
+use explaining::{Answer, answer_json, answer_lines, waiting_json, waiting_lines};
 use inquiry::{Lack, WaitingUpload, lacks_of, read_changes, read_upload, waiting_uploads};
 use keep::{ArrivedFile, Counting, Judgement, Keeper, LATEST};
 use queue::{Archive, Fault};

@@ -10,7 +10,7 @@
 //! 8, 9  file NAME SIZE SHA256, place PATH, and there SIZE SHA256 or there nothing
 //! ```
 
-use crate::why::words::{file_line, print_text, worded};
+use crate::words::{file_line, print_text, worded};
 use para::Text;
 use reasons::{DscDifference, Named, SidecarDifference};
 use records::{Changes, RecordFault};

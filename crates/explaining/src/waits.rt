@@ -1,6 +1,6 @@
 //! What an upload lacks that waits, as lines and as JSON.
 
-use crate::why::words::{file_line, upload_line};
+use crate::words::{file_line, upload_line};
 use inquiry::{Lack, WaitingUpload};
 use serde_json::{Value, json};
 use std::alloc::{AllocError, Global};

@@ -1,9 +1,9 @@
 //! Why an upload has its verdict, as lines and as JSON.
 
-use crate::why::items::item_lines;
-use crate::why::names::named_lines;
-use crate::why::sentences::{meaning, remedy};
-use crate::why::words::upload_line;
+use crate::items::item_lines;
+use crate::names::named_lines;
+use crate::sentences::{meaning, remedy};
+use crate::words::upload_line;
 use keep::Judgement;
 use reasons::{Reason, reason_of};
 use rules::{Config, Verdict};

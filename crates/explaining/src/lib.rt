@@ -1,0 +1,12 @@
+//! What the program prints of why an upload has its verdict, and of what one lacks that waits, as lines and as JSON.
+#![tactic(auto)]
+
+mod answer;
+mod items;
+mod names;
+mod sentences;
+mod waits;
+mod words;
+
+pub use answer::{Answer, answer_json, answer_lines};
+pub use waits::{waiting_json, waiting_lines};
