@@ -12,6 +12,7 @@ import time
 import unittest
 
 from tests.program import LONG, MOMENT, PROGRAM, SOON, Lines
+from uploads import uploads
 
 # How long a pipe holds a command up, and how long a line stands at least, in seconds.
 HELD, BETWEEN = 0.4, 0.1
@@ -191,6 +192,22 @@ class Progress(Lines):
         self.assertGreaterEqual(size, 1 << 25)
         status, printed, told = self.shown("waiting", "--at", MOMENT, is_fed=False)
         self.assertEqual((status, printed, lines_of(told), rows_of(told)), (0, "", [f"opening: {size} bytes"], [""]))
+
+    def test_export(self):
+        """An export tells how many of its steps are made: each file of the pool, and the suite, which comes last. To look up a file of this
+        size takes tens of milliseconds, so that lines are due meanwhile."""
+        paths = [path for upload in uploads.make(f"{self.folder}/uploads", MANY, pad=LARGEST - 10_000) for path in upload]
+        self.line(0, "put", self.db, "--at", MOMENT, *paths)
+        self.assertEqual(self.line(0, "run", self.db, "--at", MOMENT).count("accepted "), MANY)
+        tree, steps = f"{self.folder}/www", MANY + 1
+        status, printed, told = self.shown("export", tree, is_fed=False)
+        self.assertEqual((status, rows_of(told)), (0, [""]))
+        self.assertIn(f"pool {MANY} 0 0 0\n", printed)
+        lines = [it for it in lines_of(told) if it.startswith("export: ")]
+        known = [f"export: {100 * done // steps}%, {done} of {steps} steps" for done in range(1, steps + 1)]
+        self.assertTrue(lines)
+        self.assertEqual(lines, [it for it in known if it in lines])
+        self.assertEqual(self.plain("export", tree)[2], "")
 
 
 if __name__ == "__main__":

@@ -186,7 +186,7 @@ class Exported(Lines):
         self.export()
         page = self.page("uploads.html")
         cells = page.of("td")
-        self.assertEqual(cells[:2], ["waits_1.0-1_amd64.changes", "1"])
+        self.assertEqual(cells[:2], ["waits_1.0-1_amd64.changes", "hello_1.0-2_amd64.deb"])
         self.assertEqual([it for it in cells if re.match(r"accepted|refused", it)], ["refused 1", "accepted"])
 
     def test_a_signed_tree_names_the_key(self):

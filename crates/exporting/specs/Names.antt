@@ -17,9 +17,10 @@ is_plain c = not (nat_lt c 32) && not (nat_eq c 127)
 unfoldable pub is_part : List ℕ → Bool
 is_part part = not (bytes_eq part (codes "")) && not (bytes_eq part (codes ".")) && not (bytes_eq part (codes "..")) && list_all is_plain part
 
-abbrev pub is_slash : ℕ → Bool
-is_slash c = nat_eq c 47
+-- a byte that ends a part of a path: a slash
+abbrev pub ends_part : ℕ → Bool
+ends_part c = nat_eq c 47
 
 -- a path of a file below `pool`, which leads to no other place: it begins with `pool/`, and each of its parts names something
 unfoldable pub is_pool_path : List ℕ → Bool
-is_pool_path path = starts_with nat_eq path (codes "pool/") && list_all is_part (slice_split is_slash path)
+is_pool_path path = starts_with nat_eq path (codes "pool/") && list_all is_part (slice_split ends_part path)

@@ -16,6 +16,30 @@ pub struct Export<'a> {
     pub by_hash: bool,
 }
 
+/// Who is told how far an export is.
+pub trait Watcher {
+    /// So many steps are to be made: a file of the pool is written or removed, or a suite is made to show another state.
+    fn is_to_make(&mut self, steps: u64);
+
+    /// One of them is made.
+    fn has_made(&mut self);
+
+    /// No more is made. What the export prints comes next.
+    fn has_ended(&mut self);
+}
+
+/// Nobody, who is told nothing.
+#[derive(Clone, Copy, Debug)]
+pub struct Nobody;
+
+impl Watcher for Nobody {
+    fn is_to_make(&mut self, _steps: u64) {}
+
+    fn has_made(&mut self) {}
+
+    fn has_ended(&mut self) {}
+}
+
 /// What the steps of an export are made by.
 #[derive(Clone, Copy)]
 pub struct Job<'j> {

@@ -4,7 +4,7 @@ ghost use Rattle.std.specs.Prelude.{◌≡◌, ◌≤◌};
 ghost use Rattle.keep.specs.Book.{latest};
 ghost use Rattle.queue.specs.Steps.{Reads};
 
-use crate::asked::{Export, Job};
+use crate::asked::{Export, Job, Watcher};
 use crate::disk::{Disk, at, bytes_at, make_folder};
 use crate::fault::ExportFault;
 use crate::looking::look;
@@ -120,18 +120,19 @@ fn counts_of(steps: &[Step], shelves: &Shelves) -> Counts {
 }
 
 /// Makes the steps, and what comes behind them. It answers how many paths are left.
-fn make<R: Disk, K: Keeper>(
+fn make<R: Disk, K: Keeper, T: Watcher>(
     rt: &R,
     archive: &mut Archive<K>,
     job: &Job<'_>,
     steps: &[Step],
     manifest: &mut Manifest,
+    watcher: &mut T,
 ) -> Result<usize, ExportFault>
     ensures reads { Reads K.Keeper archive.old.keeper archive.new.keeper }
 {
     remove_cut(rt, job)?;
     save(rt, job.root, manifest)?;
-    make_steps(rt, archive, job, steps, manifest)?;
+    make_steps(rt, archive, job, steps, manifest, watcher)?;
     make_others(rt, archive, job)?;
     let left = leave(rt.alloc(), job, manifest)?;
     save(rt, job.root, manifest)?;
@@ -140,12 +141,13 @@ fn make<R: Disk, K: Keeper>(
 }
 
 /// Exports what shelves show that are those of the archive, and says of its suites what they show, and how many files there are.
-fn make_all<R: Disk, K: Keeper>(
+fn make_all<R: Disk, K: Keeper, T: Watcher>(
     rt: &R,
     archive: &mut Archive<K>,
     shelves: &Shelves,
     root: &str,
     asked: &Export<'_>,
+    watcher: &mut T,
 ) -> Result<(Vec<Wanted>, Counts), ExportFault>
     ensures reads { Reads K.Keeper archive.old.keeper archive.new.keeper }
 {
@@ -162,7 +164,7 @@ fn make_all<R: Disk, K: Keeper>(
         suites: &suites,
         is_synced: counts.new <= MOST_SYNCED,
     };
-    counts.left = make(rt, archive, &job, &steps, &mut manifest)?;
+    counts.left = make(rt, archive, &job, &steps, &mut manifest, watcher)?;
     Ok((suites, counts))
 }
 
@@ -225,19 +227,20 @@ fn print_counts<W: io::Write>(counts: Counts, out: &mut W) -> Result<(), ExportF
 }
 
 /// Exports what shelves show that are those of the archive.
-fn export_shelves<R: Disk, K: Keeper, W: io::Write>(
+fn export_shelves<R: Disk, K: Keeper, W: io::Write, T: Watcher>(
     rt: &R,
     archive: &mut Archive<K>,
     shelves: &Shelves,
     root: &str,
     asked: &Export<'_>,
     out: &mut W,
+    watcher: &mut T,
 ) -> Result<(), ExportFault>
     requires in_time { asked.now.at ≤ latest }
     ensures reads { Reads K.Keeper archive.old.keeper archive.new.keeper }
 {
     make_folder(rt, inside(rt.alloc(), root, "dists")?.as_str())?;
-    let (suites, counts) = make_all(rt, archive, shelves, root, asked)?;
+    let (suites, counts) = make_all(rt, archive, shelves, root, asked, watcher)?;
     write_index(rt, archive, root, shelves, asked.signed)?;
     write_uploads(rt, archive, root, asked.at)?;
     print_suites(rt, root, &suites, out)?;
@@ -245,18 +248,19 @@ fn export_shelves<R: Disk, K: Keeper, W: io::Write>(
 }
 
 /// Exports what the archive shows.
-fn export_shown<R: Disk, K: Keeper, W: io::Write>(
+fn export_shown<R: Disk, K: Keeper, W: io::Write, T: Watcher>(
     rt: &R,
     archive: &mut Archive<K>,
     root: &str,
     asked: &Export<'_>,
     out: &mut W,
+    watcher: &mut T,
 ) -> Result<(), ExportFault>
     requires in_time { asked.now.at ≤ latest }
     ensures reads { Reads K.Keeper archive.old.keeper archive.new.keeper }
 {
     let shelves = archive.keeper.shelves(rt.alloc())?;
-    let done = export_shelves(rt, archive, &shelves, root, asked, out);
+    let done = export_shelves(rt, archive, &shelves, root, asked, out, watcher);
     archive.keeper.hold(shelves);
     done
 }
@@ -264,15 +268,16 @@ fn export_shown<R: Disk, K: Keeper, W: io::Write>(
 /// Exports an archive into a folder, and prints what its suites show: `shown CODENAME STATE`, `same CODENAME` or `waits CODENAME STATE` for
 /// each, in the order of the configuration, with `unsigned CODENAME` behind a state without a signature where the one before had one. Last
 /// comes `pool NEW SAME LEFT GONE`: how many files of the pool were written, how many were there, how many are left that are no more of it,
-/// and how many went.
+/// and how many went. How far it is comes to `watcher` meanwhile.
 ///
 /// The archive stays as it is. Refused as `Archive(Fault::Moment)` for a moment after 2099, as `Archive` where the keeper fails, as
 /// `Place` where the disk does or another export goes on in the folder, as `Unwritten` where the output fails, and for want of memory.
-pub fn export<K: Keeper, W: io::Write>(
+pub fn export<K: Keeper, W: io::Write, T: Watcher>(
     rt: &HostRuntime,
     archive: &mut Archive<K>,
     asked: &Export<'_>,
     out: &mut W,
+    watcher: &mut T,
 ) -> Result<(), ExportFault>
     // The book stays as it was, and a crash leaves what it would have left before.
     ensures reads { Reads K.Keeper archive.old.keeper archive.new.keeper }
@@ -282,5 +287,5 @@ pub fn export<K: Keeper, W: io::Write>(
     }
     let root = root_of(rt.alloc(), asked.folder)?;
     let _lock = locked(rt, root)?;
-    export_shown(rt, archive, root, asked, out)
+    export_shown(rt, archive, root, asked, out, watcher)
 }

@@ -23,6 +23,7 @@ mod by_hash;
 mod course;
 mod disk;
 mod fault;
+mod lacking;
 mod looking;
 mod making;
 mod manifest;
@@ -31,7 +32,7 @@ mod showing;
 mod states;
 mod web;
 
-pub use asked::Export;
+pub use asked::{Export, Nobody, Watcher};
 pub use course::export;
 pub use disk::Disk;
 pub use fault::ExportFault;

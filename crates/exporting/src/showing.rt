@@ -3,7 +3,7 @@
 ghost use Rattle.std.specs.Prelude.{◌≡◌};
 ghost use Rattle.queue.specs.Steps.{Reads};
 
-use crate::asked::Job;
+use crate::asked::{Job, Watcher};
 use crate::disk::{
     Disk, at, link_to, place, remove_file, remove_folder, seen_at, stamp_of, sync_folder,
 };
@@ -128,20 +128,24 @@ fn make_step<R: Disk, K: Keeper>(
     }
 }
 
-/// Makes steps in their order.
+/// Makes steps in their order, and says of each that it is made.
 #[tactic(auto, using(keep::proofs::ReadLemmas::reads_none, keep::proofs::ReadLemmas::reads_more))]
-pub fn make_steps<R: Disk, K: Keeper>(
+pub fn make_steps<R: Disk, K: Keeper, T: Watcher>(
     rt: &R,
     archive: &mut Archive<K>,
     job: &Job<'_>,
     steps: &[Step],
     manifest: &mut Manifest,
+    watcher: &mut T,
 ) -> Result<(), ExportFault>
     ensures reads { Reads K.Keeper archive.old.keeper archive.new.keeper }
 {
+    watcher.is_to_make(steps.len() as u64);
     for step in steps {
         make_step(rt, archive, job, step, manifest)?;
+        watcher.has_made();
     }
+    watcher.has_ended();
     Ok(())
 }
 

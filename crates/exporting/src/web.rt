@@ -6,6 +6,7 @@ ghost use Rattle.queue.specs.Steps.{Reads};
 
 use crate::disk::{Disk, bytes_at, place};
 use crate::fault::ExportFault;
+use crate::lacking::lacking_uploads;
 use crate::names::inside;
 use keep::Keeper;
 use pages::{index_page, uploads_page};
@@ -36,7 +37,8 @@ pub fn write_index<R: Disk, K: Keeper>(
     write_page(rt, root, "index.html", page.as_str())
 }
 
-/// Writes the page of the uploads: those that wait at a moment, in seconds since 1970-01-01 00:00:00 UTC, and all verdicts.
+/// Writes the page of the uploads: those that wait at a moment, in seconds since 1970-01-01 00:00:00 UTC, with what they lack, and all
+/// verdicts.
 pub fn write_uploads<R: Disk, K: Keeper>(
     rt: &R,
     archive: &mut Archive<K>,
@@ -49,6 +51,7 @@ pub fn write_uploads<R: Disk, K: Keeper>(
     let alloc = rt.alloc();
     let waiting = archive.keeper.waiting(alloc, at)?;
     let judged = archive.keeper.verdicts(alloc)?;
-    let page = uploads_page(alloc, &waiting, &judged)?;
+    let lacking = lacking_uploads(alloc, archive, &waiting, &judged, at)?;
+    let page = uploads_page(alloc, &lacking, &judged)?;
     write_page(rt, root, "uploads.html", page.as_str())
 }

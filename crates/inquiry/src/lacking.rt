@@ -46,7 +46,7 @@ fn has_come(arrived: &[ArrivedFile], entry: &Entry) -> bool
 }
 
 /// Whether a listed file has arrived and counts.
-fn is_here(arrived: &[ArrivedFile], counting: Counting, entry: &Entry) -> bool
+pub fn is_here(arrived: &[ArrivedFile], counting: Counting, entry: &Entry) -> bool
     ensures { result ≡ list_any (counts_as counting entry.now) arrived.now }
 {
     arrived.iter().any(|file| counts_as(counting, entry, file))

@@ -6,7 +6,7 @@ mod laws;
 mod reading;
 mod waiting;
 
-pub use lacking::{Lack, lacks_of};
+pub use lacking::{Lack, is_here, lacks_of};
 pub use laws::what_is_lacked_is_missing;
 pub use reading::{read_changes, read_upload};
 pub use waiting::{WaitingUpload, waiting_uploads};

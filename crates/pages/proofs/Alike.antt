@@ -12,7 +12,7 @@ use Rattle.suites.specs.declared.key.ShelfKey.{ShelfKey}
 use Rattle.suites.specs.declared.item.Item.{Item}
 use Rattle.suites.specs.declared.item.PoolFile.{PoolFile}
 use Rattle.keep.specs.declared.change.Judgement.{Judgement}
-use Rattle.keep.specs.declared.change.Waiting.{Waiting}
+use Rattle.pages.specs.declared.uploads.Lacking.{Lacking}
 use Rattle.texts.specs.Calendar.{latest, date_text}
 use Rattle.texts.specs.Indices.{path_in}
 use Rattle.pages.specs.Escapes.{is_markup, escaped, escaped_byte}
@@ -153,10 +153,10 @@ item_rows a b h =
 
 -- ---- the page of uploads
 
-pub waiting_rows : (w v : Waiting) → Alike (waiting_row w) (waiting_row v)
+pub waiting_rows : (w v : Lacking) → Alike (waiting_row w) (waiting_row v)
 unfolding waiting_row
 waiting_rows w v =
-    both (both (both (itself (codes "<tr>")) (cells w.name v.name)) (cells (decimal w.missing) (decimal v.missing))) (itself (codes "</tr>\n"))
+    both (both (both (itself (codes "<tr>")) (cells w.name v.name)) (cells w.files v.files)) (itself (codes "</tr>\n"))
 
 -- a cell with a constant that hangs on the verdict
 verdict_cells : (text : Verdict → List ℕ) (v w : Verdict) → v ≡ w → Alike (constant_cell (text v)) (constant_cell (text w))

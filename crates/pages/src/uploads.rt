@@ -8,8 +8,16 @@ use crate::escape::push_markup;
 use crate::frame::{push_foot, push_head};
 use crate::table::{TABLE_END, push_cell, push_constant_cell};
 use crate::verdict::{meaning, verdict_word};
-use keep::{Judgement, Waiting};
+use keep::Judgement;
+use para::Text;
 use std::alloc::{AllocError, Global};
+
+/// An upload that waits: the name of its .changes, and the names of the listed files that lack, with a blank between each two.
+#[derive(Drop)]
+pub struct Lacking {
+    pub name: Text,
+    pub files: Text,
+}
 
 /// What stands between the heading and the rows of what waits.
 const WAITING_HEAD: &str =
@@ -19,25 +27,23 @@ const WAITING_HEAD: &str =
 const JUDGED_HEAD: &str =
     "</table></div>\n<h2>Judged, the latest first</h2>\n<div class=\"wide\"><table>\n<tr><th>Verdict</th><th>Upload</th><th>What it means</th></tr>\n";
 
-/// Appends the row of an upload that waits: its name, and how many files lack.
+/// Appends the row of an upload that waits: its name, and which files lack.
 #[tactic(auto, unfolding(crate::specs::UploadsPage::waiting_row))]
-fn push_waiting(alloc: Global, upload: &Waiting, out: &mut String) -> Result<(), AllocError>
+fn push_waiting(upload: &Lacking, out: &mut String) -> Result<(), AllocError>
     ensures { OnOk result (string_bytes out.new ≡ string_bytes out.old ++ waiting_row upload.now) }
 {
-    let missing = upload.missing;
-    let missing = format!(in alloc; "{missing}")?;
     push_markup("<tr>", out)?;
     push_cell(upload.name.as_str(), out)?;
-    push_cell(missing.as_str(), out)?;
+    push_cell(upload.files.as_str(), out)?;
     push_markup("</tr>\n", out)
 }
 
 /// Appends the rows of the uploads that wait, in their order.
-fn push_all_waiting(alloc: Global, waiting: &[Waiting], out: &mut String) -> Result<(), AllocError>
+fn push_all_waiting(waiting: &[Lacking], out: &mut String) -> Result<(), AllocError>
     ensures { OnOk result (string_bytes out.new ≡ string_bytes out.old ++ flat_map waiting_row waiting.now) }
 {
     for upload in waiting {
-        push_waiting(alloc, upload, out)?;
+        push_waiting(upload, out)?;
     }
     Ok(())
 }
@@ -66,12 +72,12 @@ fn push_all_judged(judged: &[Judgement], out: &mut String) -> Result<(), AllocEr
     Ok(())
 }
 
-/// The page of uploads: a row for each that waits, in their order, with how many of its files lack, and a row for each that was
+/// The page of uploads: a row for each that waits, in their order, with the files that lack, and a row for each that was
 /// judged, the latest first, with its verdict and what that means. It is refused for want of memory alone.
 #[tactic(auto, unfolding(crate::specs::UploadsPage::uploads_page))]
 pub fn uploads_page(
     alloc: Global,
-    waiting: &[Waiting],
+    waiting: &[Lacking],
     judged: &[Judgement],
 ) -> Result<String, AllocError>
     ensures { IfOk result (λ page. string_bytes page ≡ uploads_page waiting.now judged.now) }
@@ -79,7 +85,7 @@ pub fn uploads_page(
     let mut page = String::new(alloc);
     push_head("Uploads", &mut page)?;
     push_markup(WAITING_HEAD, &mut page)?;
-    push_all_waiting(alloc, waiting, &mut page)?;
+    push_all_waiting(waiting, &mut page)?;
     push_markup(JUDGED_HEAD, &mut page)?;
     push_all_judged(judged, &mut page)?;
     push_markup(TABLE_END, &mut page)?;

@@ -117,10 +117,7 @@ fn done<'a, K: Keeper + Drop, F: InFile<K>, W: Write, E: Write>(
             at,
             request,
             manner,
-        } => {
-            let opening = Opening { db, at: *at };
-            return ask_file::<K, F, W, E>(rt, opening, request, *manner, out, err);
-        }
+        } => return ask_file::<K, F, W, E>(rt, Opening { db, at: *at }, request, *manner, out, err),
         CommandLine::Batch {
             db,
             at,
@@ -132,12 +129,7 @@ fn done<'a, K: Keeper + Drop, F: InFile<K>, W: Write, E: Write>(
         CommandLine::Show { db, path } => show_file::<K, F, W>(rt, db, path, out)?,
         CommandLine::List { db, suite, json } => list_file::<K, F, W>(rt, db, suite, *json, out)?,
         CommandLine::Why { db, at, name, json } => {
-            let asked = Asked {
-                at: at.unwrap_or(0),
-                name: *name,
-                json: *json,
-            };
-            why_file::<K, F, W>(rt, db, asked, out)?;
+            why_file::<K, F, W>(rt, db, Asked::new(*at, *name, *json), out)?;
         }
         CommandLine::Configuration { db } => configuration_file::<K, F, W>(rt, db, out)?,
         CommandLine::Export { db, exporting } => export_file::<K, F, W>(rt, db, *exporting, out)?,

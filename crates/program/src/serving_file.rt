@@ -20,7 +20,7 @@ use crate::moments::Moments;
 use crate::notes::Notes;
 use crate::serving::{keep_room, patience, serve_at};
 use command_line::Serving;
-use exporting::Export;
+use exporting::{Export, Nobody};
 use keep::Keeper;
 use queue::Archive;
 use std::io::{self, Write};
@@ -67,7 +67,7 @@ fn export_to<K: Keeper, E: Write>(
         signed: tree.is_signed,
         by_hash: tree.is_by_hash,
     };
-    if let Err(fault) = exporting::export(rt, archive, &asked, &mut io::sink()) {
+    if let Err(fault) = exporting::export(rt, archive, &asked, &mut io::sink(), &mut Nobody) {
         let stop = Stop::from(fault);
         if let Ok(line) = format!(in rt.alloc(); "{stop}") {
             notes.write_text(rt.alloc(), &line);

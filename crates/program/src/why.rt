@@ -24,6 +24,14 @@ pub struct Asked<'n> {
     pub json: bool,
 }
 
+impl<'n> Asked<'n> {
+    /// What is asked for. Without a moment, all that arrived and was not cleaned counts.
+    pub fn new(at: Option<u64>, name: Option<&'n str>, json: bool) -> Asked<'n> {
+        let at = at.unwrap_or(0);
+        Asked { at, name, json }
+    }
+}
+
 /// The files that arrived in an archive, the uploads that were judged, and what counts.
 #[derive(Drop)]
 struct Course {

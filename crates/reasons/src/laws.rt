@@ -44,8 +44,8 @@ pub fn what_is_named_is_there()
     ensures contents { (shelves : ShelvesValue) (u : UploadValue) → has_other_contents by_print (pool shelves) u ≡ is_some (taken_entry shelves u.changes) }
 {}
 
-/// A verdict from 2 to 9, but 3, is about something exactly where its rule applies.
-pub fn each_verdict_names()
+/// A verdict of 2, 4 or 5, which a .changes has by itself, is about something exactly where its rule applies.
+pub fn verdicts_on_a_changes_name()
     ensures architecture { (config : ConfigValue) (shelves : ShelvesValue) (u : UploadValue) →
         option_map_or (has_foreign_architecture u.changes) (suite_of config u.changes) false
         ≡ is_some (named_by config shelves u verdict.ForeignArchitecture) }
@@ -54,6 +54,10 @@ pub fn each_verdict_names()
         ≡ is_some (named_by config shelves u verdict.ForeignComponent) }
     ensures listing { (config : ConfigValue) (shelves : ShelvesValue) (u : UploadValue) →
         has_bad_listing u.changes ≡ is_some (named_by config shelves u verdict.BadListing) }
+{}
+
+/// A verdict from 6 to 9, which the listed files have, is about something exactly where its rule applies.
+pub fn verdicts_on_files_name()
     ensures dsc { (config : ConfigValue) (shelves : ShelvesValue) (u : UploadValue) → has_bad_dsc u ≡ is_some (named_by config shelves u verdict.BadDsc) }
     ensures sidecar { (config : ConfigValue) (shelves : ShelvesValue) (u : UploadValue) →
         has_bad_sidecar u ≡ is_some (named_by config shelves u verdict.BadSidecar) }

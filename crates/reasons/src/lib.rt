@@ -21,8 +21,8 @@ pub use found::{
     foreign_architecture, listed_part, missing_file, other_component, taken_entry, unlisted_file,
 };
 pub use laws::{
-    a_difference_is_named, a_listing_is_named, a_refusal_names, each_verdict_names,
-    twins_are_named, what_is_named_is_there,
+    a_difference_is_named, a_listing_is_named, a_refusal_names, twins_are_named,
+    verdicts_on_a_changes_name, verdicts_on_files_name, what_is_named_is_there,
 };
 pub use listing::{
     lacks_dsc, listed_changes, lone_package, lone_sidecar, source_file, surplus_dsc,

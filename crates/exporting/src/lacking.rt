@@ -1,0 +1,138 @@
+//! What the uploads lack that wait, for the page of uploads.
+
+ghost use Rattle.std.specs.Prelude.{◌≡◌};
+ghost use Rattle.queue.specs.Steps.{Reads};
+
+use crate::fault::ExportFault;
+use inquiry::{WaitingUpload, is_here, read_changes, waiting_uploads};
+use keep::{ArrivedFile, Counting, Judgement, Keeper, Waiting};
+use pages::Lacking;
+use para::Text;
+use queue::Archive;
+use std::alloc::{AllocError, Global};
+use sums::{Entry, is_changes_name};
+
+/// Whether a file that arrived has the name of an upload that waits.
+fn has_name_of(file: &ArrivedFile, waiting: &[Waiting]) -> bool {
+    let name = file.name.as_str();
+    is_changes_name(name) && waiting.iter().any(|upload| upload.name.as_str() == name)
+}
+
+/// A copy.
+fn copied(file: &ArrivedFile) -> Result<ArrivedFile, AllocError> {
+    Ok(ArrivedFile {
+        name: file.name.try_clone()?,
+        print: file.print,
+        moment: file.moment,
+    })
+}
+
+/// What arrived under the names of the uploads that wait, in the order in which it came: few files, so that they are soon compared with all
+/// that was judged.
+fn few_of(
+    alloc: Global,
+    arrived: &[ArrivedFile],
+    waiting: &[Waiting],
+) -> Result<Vec<ArrivedFile>, AllocError> {
+    let mut few = Vec::new(alloc);
+    for file in arrived {
+        if has_name_of(file, waiting) {
+            few.push(copied(file)?)?;
+        }
+    }
+    Ok(few)
+}
+
+/// What arrived under a name, of files that are in the order of their names.
+fn under_name<'a>(arrived: &'a [ArrivedFile], name: &str) -> &'a [ArrivedFile] {
+    let first = arrived.partition_point(|file| file.name.as_str() < name);
+    let rest = arrived.get(first..).unwrap_or(&[]);
+    let count = rest.partition_point(|file| file.name.as_str() <= name);
+    rest.get(..count).unwrap_or(&[])
+}
+
+/// Appends the name of a file, behind a blank where it is not the first.
+fn push_name(names: &mut String, name: &str) -> Result<(), AllocError> {
+    if !names.is_empty() {
+        names.push(' ')?;
+    }
+    names.push_str(name)
+}
+
+/// The names of the listed files of which nothing counts that arrived, with a blank between each two. What arrived is in the order of its
+/// names.
+fn lacking_names(
+    alloc: Global,
+    arrived: &[ArrivedFile],
+    counting: Counting,
+    entries: &[Entry],
+) -> Result<Text, AllocError> {
+    let mut names = String::new(alloc);
+    for entry in entries {
+        let name = entry.name.as_str();
+        if !is_here(under_name(arrived, name), counting, entry) {
+            push_name(&mut names, name)?;
+        }
+    }
+    Text::new(alloc, names.as_str())
+}
+
+/// What an upload lacks that waits. There is nothing to say if its .changes is gone.
+fn lacking_of<K: Keeper>(
+    alloc: Global,
+    archive: &mut Archive<K>,
+    arrived: &[ArrivedFile],
+    counting: Counting,
+    upload: &WaitingUpload,
+) -> Result<Option<Lacking>, ExportFault>
+    ensures reads { Reads K.Keeper archive.old.keeper archive.new.keeper }
+{
+    let name = upload.name.as_str();
+    let Some(changes) = read_changes(alloc, &mut archive.keeper, name, &upload.print)? else {
+        return Ok(None);
+    };
+    let files = lacking_names(alloc, arrived, counting, changes.entries())?;
+    let name = upload.name.try_clone()?;
+    Ok(Some(Lacking { name, files }))
+}
+
+/// What each of these uploads lacks. What arrived is in the order of its names.
+#[tactic(auto, using(keep::proofs::ReadLemmas::reads_none, keep::proofs::ReadLemmas::reads_more))]
+fn lacking_of_all<K: Keeper>(
+    alloc: Global,
+    archive: &mut Archive<K>,
+    arrived: &[ArrivedFile],
+    counting: Counting,
+    uploads: &[WaitingUpload],
+) -> Result<Vec<Lacking>, ExportFault>
+    ensures reads { Reads K.Keeper archive.old.keeper archive.new.keeper }
+{
+    let mut all = Vec::new(alloc);
+    for upload in uploads {
+        if let Some(lacking) = lacking_of(alloc, archive, arrived, counting, upload)? {
+            all.push(lacking)?;
+        }
+    }
+    Ok(all)
+}
+
+/// The uploads that wait, of those that a keeper says wait at a moment, with what they lack. Where none waits, what arrived is not read.
+pub fn lacking_uploads<K: Keeper>(
+    alloc: Global,
+    archive: &mut Archive<K>,
+    waiting: &[Waiting],
+    judged: &[Judgement],
+    at: u64,
+) -> Result<Vec<Lacking>, ExportFault>
+    ensures reads { Reads K.Keeper archive.old.keeper archive.new.keeper }
+{
+    if waiting.is_empty() {
+        return Ok(Vec::new(alloc));
+    }
+    let counting = Counting::new(archive.keeper.config(), at);
+    let mut arrived = archive.keeper.arrivals(alloc)?;
+    let few = few_of(alloc, &arrived, waiting)?;
+    let uploads = waiting_uploads(alloc, &few, judged, counting)?;
+    arrived.sort_by(|one, other| one.name.as_str().cmp(other.name.as_str()))?;
+    lacking_of_all(alloc, archive, &arrived, counting, &uploads)
+}
