@@ -24,9 +24,9 @@ BEFORE = [
     "tests.test_upload",
 ]
 GATE = ["rt", "ci"]
-# The crates that stand on each other at its beginning, lowest first, and those that stand on few of them and on which much waits. They are
-# proved before the rest, each by as many processors as are free.
-FIRST = ["para", "vers", "sums", "records", "rules", "suites", "texts", "keep", "tables", "tables_read", "test_rows", "copying", "old_rows"]
+# The crates that stand on each other at its beginning, lowest first, and those that stand on few of them and on which much waits.
+CHAIN = ["para", "vers", "sums", "records", "rules", "suites", "texts", "keep"]
+BESIDE = ["test_rows", "tables", "tables_read", "copying", "old_rows"]
 # The memory that a check takes at most, in bytes, over the four that take the most side by side.
 MEMORY_OF_CHECK = 5_500_000_000
 BEHIND = [
@@ -88,18 +88,23 @@ def environment_of_gate():
 
 
 def prove_first():
-    """Proves the first crates in a copy of the text that has no wrong bodies, which else would hold the processors meanwhile. What passes
-    is kept, and the gate takes it and tries the wrong bodies later. What fails here, fails in the gate."""
+    """Proves the first crates, which wait for each other. Those of the chain are proved in a copy of the text that has no wrong bodies, each
+    by half of the processors; beside them, by the other half, those of which few wait, and the wrong bodies below them. What passes is
+    kept, and the gate takes it. What fails here, fails in the gate."""
+    environment = environment_of_gate()
     with tempfile.TemporaryDirectory(prefix="first-") as folder:
         for name in ("HANDLES", "crates.txt"):
             shutil.copy(os.path.join(ROOT, name), folder)
         shutil.copytree(os.path.join(ROOT, "crates"), os.path.join(folder, "crates"), ignore=shutil.ignore_patterns("out", "must-fail"))
-        subprocess.run([*GATE, *FIRST], cwd=folder, check=False)
+        with subprocess.Popen([*GATE, *CHAIN], cwd=folder):
+            if "RT_JOBS" in environment:
+                half = max(1, int(environment["RT_JOBS"]) // 2)
+                subprocess.run([*GATE, *BESIDE], cwd=ROOT, env={**environment, "RT_JOBS": str(half)}, check=False)
 
 
 def gate():
     """Runs the gate, says how long it took, and answers how much of it passed and failed. Its first crates wait for each other, so they
-    are proved by themselves before, where rt may give one check several processors."""
+    are proved before."""
     last, began = "", time.monotonic()
     prove_first()
     with subprocess.Popen(GATE, cwd=ROOT, env=environment_of_gate(), stdout=subprocess.PIPE, text=True, errors="replace") as run:
