@@ -45,6 +45,13 @@ pub enum Word {
     Left,
 }
 
+/// What is known of a path, and the line that says so, so that it is not made anew for each text.
+#[derive(Drop)]
+pub struct Known {
+    word: Word,
+    line: String,
+}
+
 /// The states of a suite: the one that was shown, and the one that was shown before it, where it is known.
 #[derive(Drop)]
 pub struct Shown {
@@ -70,7 +77,7 @@ impl Shown {
 /// What is known of the paths of the pool that exports wrote, and of the states that they showed.
 #[derive(Drop)]
 pub struct Manifest {
-    words: BTreeMap<String, Word>,
+    words: BTreeMap<String, Known>,
     shown: BTreeMap<String, Shown>,
     /// Whether something is other than it was read.
     is_changed: bool,
@@ -249,8 +256,14 @@ impl Manifest {
         let Some((path, word)) = path_in_line(alloc, line)? else {
             return Ok(false);
         };
-        self.words.insert(String::from_str(alloc, path)?, word)?;
+        let line = String::from_str(alloc, line)?;
+        self.put(alloc, path, Known { word, line })?;
         Ok(true)
+    }
+
+    fn put(&mut self, alloc: Global, path: &str, known: Known) -> Result<(), AllocError> {
+        self.words.insert(String::from_str(alloc, path)?, known)?;
+        Ok(())
     }
 
     fn put_shown(
@@ -281,8 +294,8 @@ impl Manifest {
             text.push_str(shown_line(alloc, codename.as_str(), shown)?.as_str())?;
             text.push('\n')?;
         }
-        for (path, word) in &self.words {
-            text.push_str(path_line(alloc, path.as_str(), *word)?.as_str())?;
+        for (_, known) in &self.words {
+            text.push_str(known.line.as_str())?;
             text.push('\n')?;
         }
         Ok(text)
@@ -290,7 +303,8 @@ impl Manifest {
 
     /// What is known of a path.
     pub fn word(&self, path: &str) -> Option<Word> {
-        self.words.get(path).copied()
+        let known = self.words.get(path)?;
+        Some(known.word)
     }
 
     /// Says something of a path.
@@ -298,7 +312,8 @@ impl Manifest {
         if self.word(path) == Some(word) {
             return Ok(());
         }
-        self.words.insert(String::from_str(alloc, path)?, word)?;
+        let line = path_line(alloc, path, word)?;
+        self.put(alloc, path, Known { word, line })?;
         self.is_changed = true;
         Ok(())
     }
@@ -334,15 +349,15 @@ impl Manifest {
     }
 
     /// All paths, with what is known of each.
-    pub fn words(&self) -> &BTreeMap<String, Word> {
+    pub fn words(&self) -> &BTreeMap<String, Known> {
         &self.words
     }
 
     /// The paths that were left.
     pub fn left(&self, alloc: Global) -> Result<Vec<Text>, AllocError> {
         let mut left = Vec::new(alloc);
-        for (path, word) in &self.words {
-            if *word == Word::Left {
+        for (path, known) in &self.words {
+            if known.word == Word::Left {
                 left.push(Text::new(alloc, path.as_str())?)?;
             }
         }

@@ -1,13 +1,13 @@
 -- What escaping does to lists of bytes.
-use Rattle.std.proofs.Common.{◌≡◌, ◌≢◌, ◌<◌, ℕ, ◌==◌, ◌||◌, ◌++◌, Bool, true, false, List, [], ◌∷◌, length, get_or, suc, refl, sym, ap, ◌∙◌, append_assoc, arith}
+use Rattle.std.proofs.Common.{◌≡◌, ◌≢◌, ◌<◌, ℕ, ◌==◌, ◌||◌, ◌&&◌, ◌++◌, not, Bool, true, false, List, [], ◌∷◌, length, get_or, suc, refl, sym, ap, ◌∙◌, append_assoc, arith}
 use Rattle.std.specs.Char.{encode_utf8}
-use Rattle.std.specs.List.{flat_map, list_any}
+use Rattle.std.specs.List.{flat_map, list_all, list_any}
 use Rattle.std.specs.Prelude.{if◌then◌else◌, codes}
 use Rattle.std.proofs.lemmas.Bool.Decides.{nat_tests}
 use Rattle.std.proofs.lemmas.Str.{inside_one, encode_ascii}
 use Rattle.std.proofs.lemmas.List.{append-nil, nil_from_length}
 use Rattle.std.proofs.lemmas.Grind.{flat_map-append}
-use Rattle.pages.specs.Escapes.{escaped, escaped_byte, is_markup}
+use Rattle.pages.specs.Escapes.{escaped, escaped_byte, is_markup, is_plain}
 
 -- a byte that stands for itself
 abbrev pub IsPlain : ℕ → Type 0
@@ -23,6 +23,33 @@ stays c h = rw (not_same c 38 h.0, not_same c 60 h.1, not_same c 62 h.2, not_sam
 all_stay : (bs : List ℕ) → ((i : ℕ) → i < length bs → IsPlain (get_or bs i 0)) → escaped bs ≡ bs
 all_stay [] h = refl
 all_stay (b ∷ bs) h = rw (stays b (h 0 (omega arith)), all_stay bs (λ i within. h (suc i) (omega arith))) refl
+
+first : (a b : Bool) → (a && b) ≡ true → a ≡ true
+first true b h = refl
+first false b h = h
+
+rest : (a b : Bool) → (a && b) ≡ true → b ≡ true
+rest true b h = h
+rest false true h = refl
+rest false false h = h
+
+-- a byte of which `is_plain` is true
+plain_byte : (c : ℕ) → is_plain c ≡ true → IsPlain c
+plain_byte c h = (
+  apart 38 (first _ _ h),
+  apart 60 (first _ _ (rest _ _ h)),
+  apart 62 (first _ _ (rest _ _ (rest _ _ h))),
+  apart 34 (first _ _ (rest _ _ (rest _ _ (rest _ _ h)))),
+  apart 39 (rest _ _ (rest _ _ (rest _ _ (rest _ _ h)))),
+)
+  where
+    apart : (d : ℕ) → not (c == d) ≡ true → c ≢ d
+    apart d h = grind (arith, nat_tests)
+
+-- a text of such bytes stands for itself
+pub plain_stays : (text : List ℕ) → list_all is_plain text ≡ true → escaped text ≡ text
+plain_stays [] h = refl
+plain_stays (b ∷ bs) h = rw (stays b (plain_byte b (first _ _ h)), plain_stays bs (rest _ _ h)) refl
 
 -- each byte of a character that is none of the five is none of them
 plain_at : (c : ℕ) → IsPlain c → (i : ℕ) → i < length (encode_utf8 c) → IsPlain (get_or (encode_utf8 c) i 0)

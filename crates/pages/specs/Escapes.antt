@@ -1,10 +1,14 @@
 -- Text within a page of HTML (the named and numbered character references of the HTML standard).
-use Rattle.std.specs.Prelude.{ℕ, ◌==◌, Bool, ◌||◌, if◌then◌else◌, List, [], ◌∷◌, codes}
+use Rattle.std.specs.Prelude.{ℕ, ◌==◌, Bool, ◌||◌, ◌&&◌, not, if◌then◌else◌, List, [], ◌∷◌, codes}
 use Rattle.std.specs.List.{flat_map}
 
 -- a byte that could begin or end markup, or end an attribute: `<`, `>` and both quotes
 abbrev pub is_markup : ℕ → Bool
 is_markup c = (c == 60) || (c == 62) || (c == 34) || (c == 39)
+
+-- a byte that stands for itself: none of those, and no `&`
+abbrev pub is_plain : ℕ → Bool
+is_plain c = not (c == 38) && (not (c == 60) && (not (c == 62) && (not (c == 34) && not (c == 39))))
 
 -- what stands for a byte
 unfoldable pub escaped_byte : ℕ → List ℕ

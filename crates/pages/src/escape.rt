@@ -1,9 +1,9 @@
 //! The two ways into a page: markup, which is a constant of this crate, and texts, by the character references of HTML.
 
-ghost use Rattle.std.specs.Prelude.{◌≡◌, ◌++◌, ℕ, List, false, OnOk, string_bytes};
+ghost use Rattle.std.specs.Prelude.{◌≡◌, ◌++◌, ℕ, List, false, true, OnOk, string_bytes};
 ghost use Rattle.std.specs.Char.{encode_utf8};
-ghost use Rattle.std.specs.List.{list_any};
-ghost use Rattle.pages.specs.Escapes.{escaped, is_markup};
+ghost use Rattle.std.specs.List.{list_all, list_any};
+ghost use Rattle.pages.specs.Escapes.{escaped, is_markup, is_plain as is_plain_byte};
 
 use std::alloc::AllocError;
 
@@ -28,15 +28,46 @@ fn push_character(character: char, out: &mut String) -> Result<(), AllocError>
     }
 }
 
-/// Appends what stands for a text in a page, within an element or within an attribute in quotes. It is refused for want of
-/// memory alone.
-pub fn push_text(text: &str, out: &mut String) -> Result<(), AllocError>
+/// Appends what stands for each character of a text.
+fn push_characters(text: &str, out: &mut String) -> Result<(), AllocError>
     ensures { OnOk result (string_bytes out.new ≡ string_bytes out.old ++ escaped text.now) }
 {
     for character in text.chars() {
         push_character(character, out)?;
     }
     Ok(())
+}
+
+/// Whether each byte of a text stands for itself.
+fn is_plain(text: &str) -> bool
+    ensures { result ≡ list_all is_plain_byte text.now }
+{
+    let mut all = true;
+    for byte in text.as_bytes() {
+        all &= *byte != 38 && *byte != 60 && *byte != 62 && *byte != 34 && *byte != 39;
+    }
+    all
+}
+
+/// Appends a text of which each byte stands for itself.
+#[tactic(auto, using(crate::proofs::Plain::plain_stays))]
+fn push_plain(text: &str, out: &mut String) -> Result<(), AllocError>
+    requires { list_all is_plain_byte text.now ≡ true }
+    ensures { OnOk result (string_bytes out.new ≡ string_bytes out.old ++ escaped text.now) }
+{
+    out.push_str(text)
+}
+
+/// Appends what stands for a text in a page, within an element or within an attribute in quotes. It is refused for want of
+/// memory alone.
+pub fn push_text(text: &str, out: &mut String) -> Result<(), AllocError>
+    ensures { OnOk result (string_bytes out.new ≡ string_bytes out.old ++ escaped text.now) }
+{
+    // Most texts are plain, and are appended at once.
+    if is_plain(text) {
+        return push_plain(text, out);
+    }
+    push_characters(text, out)
 }
 
 /// Nothing that a text holds begins or ends markup, or ends the attribute that it stands in. Nothing is done: the law is the

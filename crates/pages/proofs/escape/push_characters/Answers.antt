@@ -1,6 +1,6 @@
 use Rattle.std.proofs.Common.{ap, ◌∙◌}
 use Rattle.pages.proofs.Plain.{written_on, written_all}
-use Rattle.pages.proofs.escape.push_text.Goals as goal
+use Rattle.pages.proofs.escape.push_characters.Goals as goal
 
 pub loop-character-preserved : goal.loop-character-preserved
 loop-character-preserved c =
