@@ -66,21 +66,18 @@ fn look_at<R: Disk>(
 ) -> Result<Option<Print>, ExportFault> {
     let alloc = rt.alloc();
     let whole = inside(alloc, root, path)?;
-    match found_at(rt, whole.as_str(), print, manifest.word(path))? {
-        Some(found) => {
-            let is_it = found.print == print;
-            let word = if is_it {
-                here(print, found.stamp)
-            } else {
-                Word::Coming
-            };
-            manifest.set(alloc, path, word)?;
-            Ok(Some(found.print))
-        }
-        None => {
-            manifest.set(alloc, path, Word::Coming)?;
-            Ok(None)
-        }
+    let known = manifest.word(path);
+    let found = found_at(rt, whole.as_str(), print, known)?;
+    let word = match &found {
+        Some(found) if found.print == print => here(print, found.stamp),
+        _ => Word::Coming,
+    };
+    if known != Some(word) {
+        manifest.set(alloc, path, word)?;
+    }
+    match found {
+        Some(found) => Ok(Some(found.print)),
+        None => Ok(None),
     }
 }
 
