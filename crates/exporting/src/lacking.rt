@@ -4,44 +4,13 @@ ghost use Rattle.std.specs.Prelude.{◌≡◌};
 ghost use Rattle.queue.specs.Steps.{Reads};
 
 use crate::fault::ExportFault;
-use inquiry::{WaitingUpload, is_here, read_changes, waiting_uploads};
+use inquiry::{WaitingUpload, arrived_as_waiting, is_here, read_changes, waiting_uploads};
 use keep::{ArrivedFile, Counting, Judgement, Keeper, Waiting};
 use pages::Lacking;
 use para::Text;
 use queue::Archive;
 use std::alloc::{AllocError, Global};
-use sums::{Entry, is_changes_name};
-
-/// Whether a file that arrived has the name of an upload that waits.
-fn has_name_of(file: &ArrivedFile, waiting: &[Waiting]) -> bool {
-    let name = file.name.as_str();
-    is_changes_name(name) && waiting.iter().any(|upload| upload.name.as_str() == name)
-}
-
-/// A copy.
-fn copied(file: &ArrivedFile) -> Result<ArrivedFile, AllocError> {
-    Ok(ArrivedFile {
-        name: file.name.try_clone()?,
-        print: file.print,
-        moment: file.moment,
-    })
-}
-
-/// What arrived under the names of the uploads that wait, in the order in which it came: few files, so that they are soon compared with all
-/// that was judged.
-fn few_of(
-    alloc: Global,
-    arrived: &[ArrivedFile],
-    waiting: &[Waiting],
-) -> Result<Vec<ArrivedFile>, AllocError> {
-    let mut few = Vec::new(alloc);
-    for file in arrived {
-        if has_name_of(file, waiting) {
-            few.push(copied(file)?)?;
-        }
-    }
-    Ok(few)
-}
+use sums::Entry;
 
 /// What arrived under a name, of files that are in the order of their names.
 fn under_name<'a>(arrived: &'a [ArrivedFile], name: &str) -> &'a [ArrivedFile] {
@@ -131,7 +100,7 @@ pub fn lacking_uploads<K: Keeper>(
     }
     let counting = Counting::new(archive.keeper.config(), at);
     let mut arrived = archive.keeper.arrivals(alloc)?;
-    let few = few_of(alloc, &arrived, waiting)?;
+    let few = arrived_as_waiting(alloc, &arrived, waiting)?;
     let uploads = waiting_uploads(alloc, &few, judged, counting)?;
     arrived.sort_by(|one, other| one.name.as_str().cmp(other.name.as_str()))?;
     lacking_of_all(alloc, archive, &arrived, counting, &uploads)

@@ -7,7 +7,16 @@ use Rattle.keep.specs.Book.{counts_since}
 use Rattle.keep.specs.declared.arrival.Counting.{Counting}
 use Rattle.keep.specs.declared.arrived.ArrivedFile.{ArrivedFile}
 use Rattle.keep.specs.declared.change.Judgement.{Judgement}
+use Rattle.keep.specs.declared.change.Waiting.{Waiting}
 use Rattle.inquiry.specs.declared.waiting.WaitingUpload.{WaitingUpload}
+
+-- an upload that waits has the name of this file
+abbrev pub is_named_as : ArrivedFile → Waiting → Bool
+is_named_as f w = bytes_eq w.name f.name
+
+-- The file has the name of a .changes and of an upload that waits.
+abbrev pub is_named : List Waiting → ArrivedFile → Bool
+is_named waiting f = is_changes_name f.name && list_any (is_named_as f) waiting
 
 -- the judgement is that of a .changes with the name and the print of this file
 abbrev pub is_judgement_of : ArrivedFile → Judgement → Bool

@@ -9,4 +9,4 @@ mod waiting;
 pub use lacking::{Lack, is_here, lacks_of};
 pub use laws::what_is_lacked_is_missing;
 pub use reading::{read_changes, read_upload};
-pub use waiting::{WaitingUpload, waiting_uploads};
+pub use waiting::{WaitingUpload, arrived_as_waiting, waiting_uploads};

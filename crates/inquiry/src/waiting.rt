@@ -2,9 +2,9 @@
 
 ghost use Rattle.std.specs.Prelude.{◌≡◌, IfOk, filter, map};
 ghost use Rattle.std.specs.List.{list_any};
-ghost use Rattle.inquiry.specs.Waiting.{is_judgement_of, is_waiting, waiting_upload};
+ghost use Rattle.inquiry.specs.Waiting.{is_judgement_of, is_named, is_named_as, is_waiting, waiting_upload};
 
-use keep::{ArrivedFile, Counting, Judgement};
+use keep::{ArrivedFile, Counting, Judgement, Waiting};
 use para::Text;
 use std::alloc::{AllocError, Global};
 use sums::{Print, is_changes_name};
@@ -14,6 +14,52 @@ use sums::{Print, is_changes_name};
 pub struct WaitingUpload {
     pub name: Text,
     pub print: Print,
+}
+
+/// Whether an upload that waits has the name of a file.
+fn is_named_as(file: &ArrivedFile, upload: &Waiting) -> bool
+    ensures { result ≡ is_named_as file.now upload.now }
+{
+    upload.name.as_str() == file.name.as_str()
+}
+
+/// Whether a file has the name of a .changes and of an upload that waits.
+fn is_named(waiting: &[Waiting], file: &ArrivedFile) -> bool
+    ensures { result ≡ is_named waiting.now file.now }
+{
+    if !is_changes_name(file.name.as_str()) {
+        return false;
+    }
+    waiting.iter().any(|upload| is_named_as(file, upload))
+}
+
+/// A copy.
+fn copied(file: &ArrivedFile) -> Result<ArrivedFile, AllocError>
+    ensures { IfOk result (λ copy. copy ≡ file.now) }
+{
+    Ok(ArrivedFile {
+        name: file.name.try_clone()?,
+        print: file.print,
+        moment: file.moment,
+    })
+}
+
+/// What has arrived under the names of uploads that wait, in its order. Where few wait these are few, and `waiting_uploads` of them takes
+/// little time, however much was judged.
+pub fn arrived_as_waiting(
+    alloc: Global,
+    arrived: &[ArrivedFile],
+    waiting: &[Waiting],
+) -> Result<Vec<ArrivedFile>, AllocError>
+    ensures { IfOk result (λ few. few.items ≡ filter (is_named waiting.now) arrived.now) }
+{
+    let mut few = Vec::new(alloc);
+    for file in arrived {
+        if is_named(waiting, file) {
+            few.push(copied(file)?)?;
+        }
+    }
+    Ok(few)
 }
 
 /// Whether a judgement is that of a .changes that has arrived.

@@ -6,8 +6,10 @@
 use crate::fault::Stop;
 use crate::print::{print_line, print_lines};
 use explaining::{Answer, answer_json, answer_lines, waiting_json, waiting_lines};
-use inquiry::{Lack, WaitingUpload, lacks_of, read_changes, read_upload, waiting_uploads};
-use keep::{ArrivedFile, Counting, Judgement, Keeper, LATEST};
+use inquiry::{
+    Lack, WaitingUpload, arrived_as_waiting, lacks_of, read_changes, read_upload, waiting_uploads,
+};
+use keep::{ArrivedFile, Counting, Judgement, Keeper, LATEST, Waiting};
 use queue::{Archive, Fault};
 use std::alloc::{AllocError, Global};
 use std::io::Write;
@@ -32,11 +34,12 @@ impl<'n> Asked<'n> {
     }
 }
 
-/// The files that arrived in an archive, the uploads that were judged, and what counts.
+/// The files that arrived in an archive, the uploads that were judged and that wait, and what counts.
 #[derive(Drop)]
 struct Course {
     arrived: Vec<ArrivedFile>,
     judged: Vec<Judgement>,
+    waiting: Vec<WaitingUpload>,
     counting: Counting,
 }
 
@@ -48,7 +51,19 @@ fn is_asked(asked: Asked<'_>, name: &str) -> bool {
     }
 }
 
-/// What arrived and was judged, and what counts at a moment.
+/// The uploads that wait, by their names and prints.
+fn found_waiting(
+    alloc: Global,
+    arrived: &[ArrivedFile],
+    judged: &[Judgement],
+    counting: Counting,
+    waiting: &[Waiting],
+) -> Result<Vec<WaitingUpload>, AllocError> {
+    let few = arrived_as_waiting(alloc, arrived, waiting)?;
+    waiting_uploads(alloc, &few, judged, counting)
+}
+
+/// What arrived, was judged and waits, and what counts at a moment.
 fn course_of<K: Keeper>(alloc: Global, archive: &mut Archive<K>, at: u64) -> Result<Course, Fault> {
     if at > LATEST {
         return Err(Fault::Moment);
@@ -56,9 +71,12 @@ fn course_of<K: Keeper>(alloc: Global, archive: &mut Archive<K>, at: u64) -> Res
     let counting = Counting::new(archive.keeper.config(), at);
     let arrived = archive.keeper.arrivals(alloc)?;
     let judged = archive.keeper.verdicts(alloc)?;
+    let named = archive.keeper.waiting(alloc, at)?;
+    let waiting = found_waiting(alloc, &arrived, &judged, counting, &named)?;
     Ok(Course {
         arrived,
         judged,
+        waiting,
         counting,
     })
 }
@@ -102,9 +120,8 @@ fn print_all_waiting<'a, K: Keeper, W: Write>(
     asked: Asked<'_>,
     out: &mut W,
 ) -> Result<bool, Stop<'a>> {
-    let waiting = waiting_uploads(alloc, &course.arrived, &course.judged, course.counting)?;
     let mut has_printed = false;
-    for upload in &waiting {
+    for upload in &course.waiting {
         if !is_asked(asked, upload.name.as_str()) {
             continue;
         }
