@@ -23,14 +23,18 @@ fn is_named_as(file: &ArrivedFile, upload: &Waiting) -> bool
     upload.name.as_str() == file.name.as_str()
 }
 
+/// Whether an upload among those that wait has the name of a file.
+fn is_name_of_one(waiting: &[Waiting], file: &ArrivedFile) -> bool
+    ensures { result ≡ list_any (is_named_as file.now) waiting.now }
+{
+    waiting.iter().any(|upload| is_named_as(file, upload))
+}
+
 /// Whether a file has the name of a .changes and of an upload that waits.
 fn is_named(waiting: &[Waiting], file: &ArrivedFile) -> bool
     ensures { result ≡ is_named waiting.now file.now }
 {
-    if !is_changes_name(file.name.as_str()) {
-        return false;
-    }
-    waiting.iter().any(|upload| is_named_as(file, upload))
+    is_changes_name(file.name.as_str()) && is_name_of_one(waiting, file)
 }
 
 /// A copy.

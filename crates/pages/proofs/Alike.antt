@@ -1,5 +1,5 @@
 -- Texts that have the same markup.
-use Rattle.std.proofs.Common.{◌≡◌, ℕ, ◌+◌, ◌==◌, Bool, true, false, List, [], ◌∷◌, ◌++◌, filter, map, length, reverse, Option, Some, None, refl, sym, ap, ◌∙◌, arith, nat_lt}
+use Rattle.std.proofs.Common.{◌≡◌, ℕ, ◌+◌, ◌==◌, Bool, true, false, List, [], ◌∷◌, ◌++◌, map, length, reverse, Option, Some, None, refl, sym, ap, ◌∙◌, arith, nat_lt}
 use Rattle.std.specs.List.{flat_map}
 use Rattle.std.specs.Prelude.{is_some, slice_get, if◌then◌else◌, codes}
 use Rattle.std.specs.Option.{option_map_or}

@@ -1,13 +1,12 @@
 -- What escaping does to lists of bytes.
-use Rattle.std.proofs.Common.{◌≡◌, ◌≢◌, ◌<◌, ℕ, ◌==◌, ◌||◌, ◌&&◌, ◌++◌, not, Bool, true, false, List, [], ◌∷◌, length, get_or, suc, refl, sym, ap, ◌∙◌, append_assoc, arith}
+use Rattle.std.proofs.Common.{◌≡◌, ◌≢◌, ◌<◌, ℕ, ◌==◌, ◌&&◌, ◌++◌, not, Bool, true, false, List, [], ◌∷◌, length, get_or, suc, refl, sym, ap, ◌∙◌, append_assoc, arith}
 use Rattle.std.specs.Char.{encode_utf8}
-use Rattle.std.specs.List.{flat_map, list_all, list_any}
-use Rattle.std.specs.Prelude.{if◌then◌else◌, codes}
+use Rattle.std.specs.List.{list_all}
 use Rattle.std.proofs.lemmas.Bool.Decides.{nat_tests}
 use Rattle.std.proofs.lemmas.Str.{inside_one, encode_ascii}
 use Rattle.std.proofs.lemmas.List.{append-nil, nil_from_length}
 use Rattle.std.proofs.lemmas.Grind.{flat_map-append}
-use Rattle.pages.specs.Escapes.{escaped, escaped_byte, is_markup, is_plain}
+use Rattle.pages.specs.Escapes.{escaped, escaped_byte, is_plain}
 
 -- a byte that stands for itself
 abbrev pub IsPlain : ℕ → Type 0
@@ -36,20 +35,29 @@ rest false false h = h
 -- a byte of which `is_plain` is true
 plain_byte : (c : ℕ) → is_plain c ≡ true → IsPlain c
 plain_byte c h = (
-  apart 38 (first _ _ h),
-  apart 60 (first _ _ (rest _ _ h)),
-  apart 62 (first _ _ (rest _ _ (rest _ _ h))),
-  apart 34 (first _ _ (rest _ _ (rest _ _ (rest _ _ h)))),
-  apart 39 (rest _ _ (rest _ _ (rest _ _ (rest _ _ h)))),
+  apart 38 (first (not (c == 38)) _ h),
+  apart 60 (first (not (c == 60)) _ lt),
+  apart 62 (first (not (c == 62)) _ gt),
+  apart 34 (first (not (c == 34)) _ quote),
+  apart 39 (rest (not (c == 34)) (not (c == 39)) quote),
 )
   where
     apart : (d : ℕ) → not (c == d) ≡ true → c ≢ d
     apart d h = grind (arith, nat_tests)
 
+    lt : (not (c == 60) && (not (c == 62) && (not (c == 34) && not (c == 39)))) ≡ true
+    lt = rest (not (c == 38)) _ h
+
+    gt : (not (c == 62) && (not (c == 34) && not (c == 39))) ≡ true
+    gt = rest (not (c == 60)) _ lt
+
+    quote : (not (c == 34) && not (c == 39)) ≡ true
+    quote = rest (not (c == 62)) _ gt
+
 -- a text of such bytes stands for itself
 pub plain_stays : (text : List ℕ) → list_all is_plain text ≡ true → escaped text ≡ text
 plain_stays [] h = refl
-plain_stays (b ∷ bs) h = rw (stays b (plain_byte b (first _ _ h)), plain_stays bs (rest _ _ h)) refl
+plain_stays (b ∷ bs) h = rw (stays b (plain_byte b (first (is_plain b) (list_all is_plain bs) h)), plain_stays bs (rest (is_plain b) (list_all is_plain bs) h)) refl
 
 -- each byte of a character that is none of the five is none of them
 plain_at : (c : ℕ) → IsPlain c → (i : ℕ) → i < length (encode_utf8 c) → IsPlain (get_or (encode_utf8 c) i 0)

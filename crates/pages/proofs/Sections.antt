@@ -1,5 +1,5 @@
 -- What a loop over suites has written, and what is left.
-use Rattle.std.proofs.Common.{◌≡◌, ℕ, ◌+◌, ◌<◌, ◌≤◌, Bool, List, [], ◌∷◌, ◌++◌, length, drop, get_or, sym, ap, ◌∙◌, append_assoc, arith}
+use Rattle.std.proofs.Common.{◌≡◌, ℕ, ◌+◌, ◌<◌, ◌≤◌, Bool, List, ◌++◌, length, drop, get_or, sym, ap, ◌∙◌, append_assoc}
 use Rattle.std.proofs.lemmas.List.{append-nil, drop_all, at_drop_more}
 use Rattle.rules.specs.declared.suite.Suite.{Suite}
 use Rattle.suites.specs.Shelves.{ShelvesValue}

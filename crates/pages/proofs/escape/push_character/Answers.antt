@@ -1,7 +1,7 @@
 use Rattle.std.proofs.Common.{◌≡◌, ℕ, List, ◌++◌, if◌then◌else◌, Result, Ok, Err, sym, ap, ◌∙◌, arith}
 use Rattle.std.specs.declared.alloc.AllocError.{AllocError}
 use Rattle.std.specs.Result.{is_ok, OnOk}
-use Rattle.pages.specs.Escapes.{escaped, escaped_byte}
+use Rattle.pages.specs.Escapes.{escaped_byte}
 use Rattle.pages.proofs.Plain.{character_is, character_stays}
 use Rattle.pages.proofs.escape.push_character.Goals as goal
 

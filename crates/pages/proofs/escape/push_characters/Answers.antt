@@ -1,4 +1,3 @@
-use Rattle.std.proofs.Common.{ap, ◌∙◌}
 use Rattle.pages.proofs.Plain.{written_on, written_all}
 use Rattle.pages.proofs.escape.push_characters.Goals as goal
 

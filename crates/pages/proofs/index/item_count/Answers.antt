@@ -1,4 +1,4 @@
-use Rattle.std.proofs.Common.{refl, List, [], ◌∷◌, ◌++◌, map, filter, length, sym, ap, ◌∙◌}
+use Rattle.std.proofs.Common.{refl, List, [], ◌∷◌, map, filter, length, sym, ap, ◌∙◌}
 use Rattle.std.proofs.lemmas.List.{map-append}
 use Rattle.std.specs.Map.Iter.{deref_pair}
 use Rattle.suites.specs.declared.key.ShelfKey.{ShelfKey}

@@ -1,4 +1,4 @@
-use Rattle.std.proofs.Common.{List, ◌++◌, length, reverse, string_bytes, sym, ap, ◌∙◌, arith}
+use Rattle.std.proofs.Common.{List, ◌++◌, reverse, string_bytes, sym, ap, ◌∙◌, arith}
 use Rattle.std.specs.List.{flat_map}
 use Rattle.std.proofs.lemmas.List.{append-nil, drop_all}
 use Rattle.keep.specs.declared.change.Judgement.{Judgement}
