@@ -8,15 +8,12 @@ use Rattle.std.specs.declared.alloc.Global.{Global}
 use Rattle.std.specs.Borrow.{Bor}
 use Rattle.clap.specs.Words.{Row, Text, all_of, first_of}
 use Rattle.keep.specs.Book.{latest}
+use Rattle.usage.specs.Shape.{most_connections}
 use Rattle.command_line.specs.declared.parsed.Serving.{Serving}
 use Rattle.command_line.specs.declared.parsed.CommandLine.{CommandLine}
 use Rattle.command_line.specs.declared.parsed.CommandLine.TheVariants.{Try, Compare, Check, Init, Ask, Batch, Configure, Migrate, Show, List as Listing, Why, Configuration, Export, Serve}
 use Rattle.command_line.specs.declared.request.Request.{Request}
 use Rattle.command_line.specs.declared.request.Request.TheVariants as request
-
--- the most connections that one call of the program serves
-abbrev pub most_connections : ℕ
-most_connections = 1000000
 
 -- the words name this command, and P holds of its values
 abbrev pub IsNamed : Option (Text × List Row) → Text → (List Row → Type 0) → Type 0

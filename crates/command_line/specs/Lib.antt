@@ -2,4 +2,3 @@ pub mod CommandLines
 pub mod Fault
 pub mod Grammar
 pub mod Lists
-pub mod Shape

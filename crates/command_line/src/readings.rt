@@ -4,7 +4,6 @@ ghost use Rattle.std.specs.Prelude.{◌≡◌, codes, IfOk, Some};
 ghost use Rattle.clap.specs.Words.{found_of, rows_of};
 ghost use Rattle.command_line.specs.CommandLines.{IsLine, is_true, lacks_export as lacks_export_of};
 
-use crate::arguments::MOST_CONNECTIONS;
 use crate::parsed::{CommandLine, Exporting, LineFault, Manner, Serving};
 use crate::request::Request;
 use crate::values::{
@@ -13,6 +12,7 @@ use crate::values::{
 };
 use clap::ArgMatches;
 use std::alloc::Global;
+use usage::MOST_CONNECTIONS;
 
 /// How an archive is asked, by the flags that were given.
 fn manner(found: &ArgMatches<'_>) -> Manner

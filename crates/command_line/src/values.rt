@@ -5,12 +5,12 @@ ghost use Rattle.std.specs.Option.{option_map};
 ghost use Rattle.clap.specs.Words.{first_of, found_of, rows_of};
 ghost use Rattle.command_line.specs.CommandLines.{AreWords, HasPaths, IsMoment, IsNumber, IsOptionalMoment, IsOptionalWord, IsWord, is_true};
 
-use crate::commands::{commands, serve_command};
 use crate::parsed::LineFault;
 use clap::ArgMatches;
 use clap::error::ErrorKind;
 use keep::LATEST;
 use std::alloc::{AllocError, Global};
+use usage::{archive_command, serve_command};
 
 /// The refusal of a line that lacks a word which its command needs.
 pub fn lacking(alloc: Global) -> LineFault {
@@ -21,7 +21,7 @@ pub fn lacking(alloc: Global) -> LineFault {
 }
 
 fn refusal(alloc: Global) -> Result<LineFault, AllocError> {
-    let mut command = commands(alloc)?;
+    let mut command = archive_command(alloc)?;
     let error = command.error(ErrorKind::MissingRequiredArgument, "a word is missing")?;
     Ok(LineFault::Refused(error))
 }

@@ -6,13 +6,13 @@
 ghost use Rattle.std.specs.Prelude.{◌≡◌, [], map, IfOk};
 ghost use Rattle.clap.specs.Words.{fault_of, subcommand_of};
 ghost use Rattle.command_line.specs.CommandLines.{IsLine};
-ghost use Rattle.command_line.specs.Shape.{archive_app};
+ghost use Rattle.usage.specs.Shape.{archive_app};
 
-use crate::commands::commands;
 use crate::parsed::{CommandLine, LineFault};
 use crate::readings::command_of;
 use crate::values::lacking;
 use std::alloc::Global;
+use usage::archive_command;
 
 /// Reads a line's words, the program's name not among them, as one of
 ///
@@ -48,7 +48,7 @@ pub fn line<'a>(alloc: Global, words: &'a [&'a str]) -> Result<CommandLine<'a>, 
     // Only words in which clap finds no fault are a line.
     ensures taken { IfOk result (λ _. fault_of archive_app (map (λ word. word.now) words.entry.now) ≡ []) }
 {
-    let command = commands(alloc)?;
+    let command = archive_command(alloc)?;
     let matches = command.try_get_matches_from(words)?;
     match matches.subcommand() {
         Some((name, found)) => command_of(alloc, name, found),

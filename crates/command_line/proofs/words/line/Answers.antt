@@ -2,7 +2,7 @@ use Rattle.std.proofs.Common.{◌≡◌, ◌∙◌, Bor, List, map, ℕ, Option,
 use Rattle.std.proofs.lemmas.Result.{IfOk-weaker}
 use Rattle.clap.specs.Words.{App, fault_of, is_simple, is_simple_and_free, subcommand_of}
 use Rattle.clap.proofs.OnLiterals.{clap_on_literals}
-use Rattle.command_line.specs.Shape.{archive_app}
+use Rattle.usage.specs.Shape.{archive_app}
 use Rattle.command_line.proofs.words.line.Goals as goal
 
 is_simple_archive : is_simple archive_app ≡ true

@@ -1,4 +1,4 @@
-use Rattle.command_line.proofs.commands.with_changing.Goals as goal
+use Rattle.usage.proofs.commands.with_changing.Goals as goal
 
 pub returns : goal.returns
 returns c app whole =

@@ -1,12 +1,15 @@
 -- The commands of the program, as clap sees them.
-use Rattle.std.specs.Prelude.{◌≡◌, true, false, codes, Some}
+use Rattle.std.specs.Prelude.{◌≡◌, ℕ, true, false, codes, Some}
 use Rattle.clap.specs.Words.{App, Rule, Text, app_of, new_app, new_rule, with_rule, with_subcommand}
 use Rattle.clap.specs.declared.builder.command.Command.TheViews.{out-Command}
 use Rattle.clap.specs.declared.builder.command.Command.{Command}
 use Rattle.clap.specs.declared.builder.ArgAction.TheVariants.{Set, Append, SetTrue}
 use Rattle.clap.specs.declared.builder.value_parser.ValueParser.TheVariants as parser
 use Rattle.keep.specs.Book.{latest}
-use Rattle.command_line.specs.CommandLines.{most_connections}
+
+-- the most connections that one call of the program serves
+abbrev pub most_connections : ℕ
+most_connections = 1000000
 
 -- one word that has to be there
 abbrev pub word_rule : Text → Rule

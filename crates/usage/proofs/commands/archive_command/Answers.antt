@@ -1,4 +1,4 @@
-use Rattle.command_line.proofs.commands.commands.Goals as goal
+use Rattle.usage.proofs.commands.archive_command.Goals as goal
 
 pub returns : goal.returns
 returns c =

@@ -2,7 +2,7 @@
 
 ghost use Rattle.std.specs.Prelude.{IfOk, codes};
 ghost use Rattle.clap.specs.Words.{App, with_rule, with_subcommand};
-ghost use Rattle.command_line.specs.Shape.{archive_app, new_archive, IsCommand, try_app, compare_app, check_app, init_app, put_app, run_app, db_app, timed_app, copy_app, promote_app, remove_app, batch_app, configure_app, migrate_app, show_app, list_app, waiting_app, verdicts_app, why_app, export_app, serve_app, serve_by_hash, serve_options, word_rule, with_changes, with_others, with_questions};
+ghost use Rattle.usage.specs.Shape.{archive_app, new_archive, IsCommand, try_app, compare_app, check_app, init_app, put_app, run_app, db_app, timed_app, copy_app, promote_app, remove_app, batch_app, configure_app, migrate_app, show_app, list_app, waiting_app, verdicts_app, why_app, export_app, serve_app, serve_by_hash, serve_options, word_rule, with_changes, with_others, with_questions};
 
 use crate::arguments::{
     at, by_hash, count, db, export, from, json, log, many, moments, optional_at, optional_word,
@@ -389,7 +389,7 @@ fn with_none<'a>(
 }
 
 /// The commands of the program.
-pub fn commands<'a>(alloc: Global) -> Result<Command<'a>, AllocError>
+pub fn archive_command<'a>(alloc: Global) -> Result<Command<'a>, AllocError>
     ensures { IfOk result (IsCommand archive_app) }
 {
     let command = with_none(alloc, archive(alloc));
