@@ -65,24 +65,39 @@ fn lacking_of<K: Keeper>(
     Ok(Some(Lacking { name, files }))
 }
 
-/// What each of these uploads lacks. What arrived is in the order of its names.
+/// Appends what an upload lacks that waits.
+fn push_lacking<K: Keeper>(
+    alloc: Global,
+    archive: &mut Archive<K>,
+    arrived: &[ArrivedFile],
+    counting: Counting,
+    upload: &WaitingUpload,
+    all: &mut Vec<Lacking>,
+) -> Result<(), ExportFault>
+    ensures reads { Reads K.Keeper archive.old.keeper archive.new.keeper }
+{
+    if let Some(lacking) = lacking_of(alloc, archive, arrived, counting, upload)? {
+        all.push(lacking)?;
+    }
+    Ok(())
+}
+
+/// Appends what each of these uploads lacks. What arrived is in the order of its names.
 #[tactic(auto, using(keep::proofs::ReadLemmas::reads_none, keep::proofs::ReadLemmas::reads_more))]
-fn lacking_of_all<K: Keeper>(
+fn push_all_lacking<K: Keeper>(
     alloc: Global,
     archive: &mut Archive<K>,
     arrived: &[ArrivedFile],
     counting: Counting,
     uploads: &[WaitingUpload],
-) -> Result<Vec<Lacking>, ExportFault>
+    all: &mut Vec<Lacking>,
+) -> Result<(), ExportFault>
     ensures reads { Reads K.Keeper archive.old.keeper archive.new.keeper }
 {
-    let mut all = Vec::new(alloc);
     for upload in uploads {
-        if let Some(lacking) = lacking_of(alloc, archive, arrived, counting, upload)? {
-            all.push(lacking)?;
-        }
+        push_lacking(alloc, archive, arrived, counting, upload, all)?;
     }
-    Ok(all)
+    Ok(())
 }
 
 /// The uploads that wait, of those that a keeper says wait at a moment, with what they lack. Where none waits, what arrived is not read.
@@ -103,5 +118,7 @@ pub fn lacking_uploads<K: Keeper>(
     let few = arrived_as_waiting(alloc, &arrived, waiting)?;
     let uploads = waiting_uploads(alloc, &few, judged, counting)?;
     arrived.sort_by(|one, other| one.name.as_str().cmp(other.name.as_str()))?;
-    lacking_of_all(alloc, archive, &arrived, counting, &uploads)
+    let mut all = Vec::new(alloc);
+    push_all_lacking(alloc, archive, &arrived, counting, &uploads, &mut all)?;
+    Ok(all)
 }
