@@ -27,6 +27,8 @@ GATE = ["rt", "ci"]
 # The crates that stand on each other at its beginning, lowest first, and those that stand on few of them and on which much waits.
 CHAIN = ["para", "vers", "sums", "records", "rules", "suites", "texts", "keep"]
 BESIDE = ["test_rows", "tables", "tables_read", "copying", "old_rows"]
+# A crate is proved by the run that comes to it first: those of the chain are to be proved by two jobs each, so that run begins first.
+SECONDS_TO_BEGIN = 10
 # The memory that a check takes at most, in bytes, over the four that take the most side by side.
 MEMORY_OF_CHECK = 5_500_000_000
 BEHIND = [
@@ -98,6 +100,7 @@ def prove_first():
         shutil.copytree(os.path.join(ROOT, "crates"), os.path.join(folder, "crates"), ignore=shutil.ignore_patterns("out", "must-fail"))
         with subprocess.Popen([*GATE, *CHAIN], cwd=folder):
             if "RT_JOBS" in environment:
+                time.sleep(SECONDS_TO_BEGIN)
                 half = max(1, int(environment["RT_JOBS"]) // 2)
                 subprocess.run([*GATE, *BESIDE], cwd=ROOT, env={**environment, "RT_JOBS": str(half)}, check=False)
 

@@ -3,6 +3,7 @@ use Rattle.std.proofs.Common.{◌≡◌, ℕ, ◌+◌, ◌<◌, Bool, true, fals
 use Rattle.std.specs.List.{list_any}
 use Rattle.std.specs.Option.{option_and_then}
 use Rattle.std.proofs.lemmas.List.{append_assoc, drop_more}
+use Rattle.std.proofs.lemmas.List.Elements.{filter_agree}
 use Rattle.sums.specs.Prints.{print as print_of, same_print}
 use Rattle.sums.specs.declared.print.Print.{Print}
 use Rattle.sums.specs.declared.entries.Entry.{Entry}
@@ -13,10 +14,6 @@ use Rattle.keep.specs.declared.arrival.Counting.{Counting}
 use Rattle.suites.proofs.ListTests.{list_any-filter, list_any-map}
 use Rattle.inquiry.specs.Lacking.{counts_as, lacked}
 use Rattle.inquiry.specs.Reading.{body_of, kept_text, kept_texts}
-
-kept_same : {X : Type 0} (p q : X → Bool) (xs : List X) → ((x : X) → p x ≡ q x) → filter p xs ≡ filter q xs
-kept_same p q [] same = refl
-kept_same p q (x ∷ xs) same = ap₂ (λ b ys. cond b (x ∷ ys) ys) (same x) (kept_same p q xs same)
 
 module _ (counting : Counting) (arrivals : List Arrival) where
   -- a listed file has arrived and counts
@@ -29,8 +26,8 @@ module _ (counting : Counting) (arrivals : List Arrival) where
   pub lacked_missing : (c : Candidate) → lacked counting (map arrived_file arrivals) c.changes.entries ≡ missing (current counting.span counting.moment arrivals) c
   unfolding missing
   lacked_missing c =
-      kept_same (λ e. not (list_any (counts_as counting e) (map arrived_file arrivals))) (λ e. not (is_there (current counting.span counting.moment arrivals) e)) c.changes.entries
-      (λ e. ap not (here_is_there e))
+      filter_agree (λ e. not (list_any (counts_as counting e) (map arrived_file arrivals))) (λ e. not (is_there (current counting.span counting.moment arrivals) e))
+      (λ e. ap not (here_is_there e)) c.changes.entries
 
 -- ---- a body that is read
 

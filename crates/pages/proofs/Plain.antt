@@ -2,11 +2,12 @@
 use Rattle.std.proofs.Common.{◌≡◌, ◌≢◌, ◌<◌, ℕ, ◌==◌, ◌&&◌, ◌++◌, not, Bool, true, false, List, [], ◌∷◌, length, get_or, suc, refl, sym, ap, ◌∙◌, append_assoc, arith}
 use Rattle.std.specs.Char.{encode_utf8}
 use Rattle.std.specs.List.{list_all}
+use Rattle.std.proofs.lemmas.Bool.{and_parts}
 use Rattle.std.proofs.lemmas.Bool.Decides.{nat_tests}
 use Rattle.std.proofs.lemmas.Str.{inside_one, encode_ascii}
 use Rattle.std.proofs.lemmas.List.{append-nil, nil_from_length}
 use Rattle.std.proofs.lemmas.Grind.{flat_map-append}
-use Rattle.pages.specs.Escapes.{escaped, escaped_byte, is_plain}
+use Rattle.pages.specs.Escapes.{escaped, escaped_byte, stands_for_itself}
 
 -- a byte that stands for itself
 abbrev pub IsPlain : ℕ → Type 0
@@ -23,41 +24,24 @@ all_stay : (bs : List ℕ) → ((i : ℕ) → i < length bs → IsPlain (get_or 
 all_stay [] h = refl
 all_stay (b ∷ bs) h = rw (stays b (h 0 (omega arith)), all_stay bs (λ i within. h (suc i) (omega arith))) refl
 
-first : (a b : Bool) → (a && b) ≡ true → a ≡ true
-first true b h = refl
-first false b h = h
-
-rest : (a b : Bool) → (a && b) ≡ true → b ≡ true
-rest true b h = h
-rest false true h = refl
-rest false false h = h
-
--- a byte of which `is_plain` is true
-plain_byte : (c : ℕ) → is_plain c ≡ true → IsPlain c
-plain_byte c h = (
-  apart 38 (first (not (c == 38)) _ h),
-  apart 60 (first (not (c == 60)) _ lt),
-  apart 62 (first (not (c == 62)) _ gt),
-  apart 34 (first (not (c == 34)) _ quote),
-  apart 39 (rest (not (c == 34)) (not (c == 39)) quote),
-)
+-- a byte of which `stands_for_itself` is true
+plain_byte : (c : ℕ) → stands_for_itself c ≡ true → IsPlain c
+plain_byte c h =
+    let ampersand = and_parts (not (c == 38)) _ h in
+    let less = and_parts (not (c == 60)) _ ampersand.1 in
+    let greater = and_parts (not (c == 62)) _ less.1 in
+    let quotes = and_parts (not (c == 34)) (not (c == 39)) greater.1 in
+    (apart 38 ampersand.0, apart 60 less.0, apart 62 greater.0, apart 34 quotes.0, apart 39 quotes.1)
   where
     apart : (d : ℕ) → not (c == d) ≡ true → c ≢ d
     apart d h = grind (arith, nat_tests)
 
-    lt : (not (c == 60) && (not (c == 62) && (not (c == 34) && not (c == 39)))) ≡ true
-    lt = rest (not (c == 38)) _ h
-
-    gt : (not (c == 62) && (not (c == 34) && not (c == 39))) ≡ true
-    gt = rest (not (c == 60)) _ lt
-
-    quote : (not (c == 34) && not (c == 39)) ≡ true
-    quote = rest (not (c == 62)) _ gt
-
 -- a text of such bytes stands for itself
-pub plain_stays : (text : List ℕ) → list_all is_plain text ≡ true → escaped text ≡ text
+pub plain_stays : (text : List ℕ) → list_all stands_for_itself text ≡ true → escaped text ≡ text
 plain_stays [] h = refl
-plain_stays (b ∷ bs) h = rw (stays b (plain_byte b (first (is_plain b) (list_all is_plain bs) h)), plain_stays bs (rest (is_plain b) (list_all is_plain bs) h)) refl
+plain_stays (b ∷ bs) h =
+    let parts = and_parts (stands_for_itself b) (list_all stands_for_itself bs) h in
+    rw (stays b (plain_byte b parts.0), plain_stays bs parts.1) refl
 
 -- each byte of a character that is none of the five is none of them
 plain_at : (c : ℕ) → IsPlain c → (i : ℕ) → i < length (encode_utf8 c) → IsPlain (get_or (encode_utf8 c) i 0)

@@ -7,8 +7,8 @@ abbrev pub is_markup : ℕ → Bool
 is_markup c = (c == 60) || (c == 62) || (c == 34) || (c == 39)
 
 -- a byte that stands for itself: none of those, and no `&`
-abbrev pub is_plain : ℕ → Bool
-is_plain c = not (c == 38) && (not (c == 60) && (not (c == 62) && (not (c == 34) && not (c == 39))))
+abbrev pub stands_for_itself : ℕ → Bool
+stands_for_itself c = not (c == 38) && (not (c == 60) && (not (c == 62) && (not (c == 34) && not (c == 39))))
 
 -- what stands for a byte
 unfoldable pub escaped_byte : ℕ → List ℕ

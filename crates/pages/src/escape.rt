@@ -3,7 +3,7 @@
 ghost use Rattle.std.specs.Prelude.{◌≡◌, ◌++◌, ℕ, List, false, true, OnOk, string_bytes};
 ghost use Rattle.std.specs.Char.{encode_utf8};
 ghost use Rattle.std.specs.List.{list_all, list_any};
-ghost use Rattle.pages.specs.Escapes.{escaped, is_markup, is_plain as is_plain_byte};
+ghost use Rattle.pages.specs.Escapes.{escaped, is_markup, stands_for_itself};
 
 use std::alloc::AllocError;
 
@@ -40,7 +40,7 @@ fn push_characters(text: &str, out: &mut String) -> Result<(), AllocError>
 
 /// Whether each byte of a text stands for itself.
 fn is_plain(text: &str) -> bool
-    ensures { result ≡ list_all is_plain_byte text.now }
+    ensures { result ≡ list_all stands_for_itself text.now }
 {
     let mut all = true;
     for byte in text.as_bytes() {
@@ -52,7 +52,7 @@ fn is_plain(text: &str) -> bool
 /// Appends a text of which each byte stands for itself.
 #[tactic(auto, using(crate::proofs::Plain::plain_stays))]
 fn push_plain(text: &str, out: &mut String) -> Result<(), AllocError>
-    requires { list_all is_plain_byte text.now ≡ true }
+    requires { list_all stands_for_itself text.now ≡ true }
     ensures { OnOk result (string_bytes out.new ≡ string_bytes out.old ++ escaped text.now) }
 {
     out.push_str(text)
