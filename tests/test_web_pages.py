@@ -16,6 +16,8 @@ import unittest
 import urllib.parse
 
 from tests.program import DATA, MOMENT, NAMES, PROGRAM, ROOT, Lines
+from tests.snippets import changed
+from uploads import uploads
 
 SOURCES = pathlib.Path(ROOT, "crates/pages/src")
 BROWSER = shutil.which("chromium") or shutil.which("chromium-browser") or shutil.which("google-chrome")
@@ -121,32 +123,27 @@ def exports():
     return ran.returncode == 0
 
 
-class Exported(Lines):
-    """The pages of an archive of two suites, one with a hostile description, an accepted upload, one that waits and one that is refused."""
+class Tree(Lines):
+    """An archive of a configuration, and the tree that it is exported to."""
+
+    CONF = ""
 
     def setUp(self):
         if not exports():
             self.skipTest("the program has no export")
         room = tempfile.TemporaryDirectory()
         self.addCleanup(room.cleanup)
-        self.room, self.tree = room.name, f"{room.name}/www"
-        conf, self.db = f"{room.name}/two.conf", f"{room.name}/two.db"
-        with open(conf, "w", encoding="utf-8") as it:
-            it.write(f"Codename: box\nArchitectures: amd64 source\nComponents: main contrib\nDescription: {HOSTILE}\n\n")
-            it.write("Codename: lab\nArchitectures: amd64\nComponents: main\n")
-        self.line(0, "init", self.db, "--at", "0", conf)
-        self.line(0, "put", self.db, "--at", MOMENT, *(f"{DATA}/{name}" for name in NAMES))
-        self.line(0, "run", self.db, "--at", MOMENT)
-        changes = pathlib.Path(DATA, NAMES[0]).read_text(encoding="utf-8")
-        self.put("other_1.0-1_amd64.changes", changes.replace("Distribution: box", "Distribution: nowhere"))
-        self.line(0, "run", self.db, "--at", MOMENT)
-        self.put("waits_1.0-1_amd64.changes", changes.replace("hello_1.0-1_amd64.deb", "hello_1.0-2_amd64.deb"))
+        self.room, self.tree, self.db = room.name, f"{room.name}/www", f"{room.name}/it.db"
+        self.line(0, "init", self.db, "--at", "0", self.file("it.conf", self.CONF))
 
-    def put(self, name, text):
+    def file(self, name, text):
         path = f"{self.room}/{name}"
         with open(path, "w", encoding="utf-8") as it:
             it.write(text)
-        self.line(0, "put", self.db, "--at", MOMENT, path)
+        return path
+
+    def put(self, name, text, at=MOMENT):
+        self.line(0, "put", self.db, "--at", str(at), self.file(name, text))
 
     def export(self, *words):
         return self.line(0, "export", self.db, *words, self.tree)
@@ -158,6 +155,24 @@ class Exported(Lines):
         self.assertIn(constant("POLICY"), [attrs.get("content") for tag, attrs in it.elements if tag == "meta"])
         self.assertLessEqual(set(it.of("script")), {constant("SCRIPT")})
         return it
+
+
+class Exported(Tree):
+    """The pages of an archive of two suites, one with a hostile description, an accepted upload, one that waits and one that is refused."""
+
+    CONF = (
+        f"Codename: box\nArchitectures: amd64 source\nComponents: main contrib\nDescription: {HOSTILE}\n\n"
+        "Codename: lab\nArchitectures: amd64\nComponents: main\n"
+    )
+
+    def setUp(self):
+        super().setUp()
+        self.line(0, "put", self.db, "--at", MOMENT, *(f"{DATA}/{name}" for name in NAMES))
+        self.line(0, "run", self.db, "--at", MOMENT)
+        changes = pathlib.Path(DATA, NAMES[0]).read_text(encoding="utf-8")
+        self.put("other_1.0-1_amd64.changes", changes.replace("Distribution: box", "Distribution: nowhere"))
+        self.line(0, "run", self.db, "--at", MOMENT)
+        self.put("waits_1.0-1_amd64.changes", changes.replace("hello_1.0-1_amd64.deb", "hello_1.0-2_amd64.deb"))
 
     def assert_leads(self, path, link):
         """A relative link of the page at a path leads to a file of the tree."""
@@ -205,6 +220,54 @@ class Exported(Lines):
         self.assertEqual(page.of("title"), ["Suites"])
         self.assertIn(HOSTILE, page.of("p"))
         self.assertEqual(page.of("span"), [f"file://{self.tree}/"] * 2)
+
+
+class Waits(Tree):
+    """The page of uploads where several wait: of each what lacks, in the order in which they came."""
+
+    CONF = "Codename: box\nArchitectures: amd64 source\nComponents: main\nKeepDays: 2\n"
+
+    def wait(self, name, at, changes=()):
+        """Puts the .changes of a package file and its sidecar. Answers its name, and those of the two."""
+        stem = f"{name}_1.0-1_amd64"
+        listed = {f"{stem}.deb": f"deb of {name}".encode(), f"{stem}.control": f"control of {name}".encode()}
+        text = uploads.changes_of(name, "1.0-1", listed).decode()
+        self.put(f"{stem}.changes", changed(text, dict(changes)), at)
+        return f"{stem}.changes", *listed
+
+    def lacking(self, at):
+        """What waits at a moment and what it lacks, as the page has it."""
+        self.export("--at", str(at))
+        self.page("uploads.html")
+        [text] = re.findall("<h2>Waiting</h2>(.*)<h2>Judged", pathlib.Path(self.tree, "uploads.html").read_text(encoding="utf-8"), re.S)
+        return re.findall("<tr><td>(.*)</td><td>(.*)</td></tr>", text)
+
+    def test_what_lacks_of_each_that_waits(self):
+        day = 86_400
+        # The .changes of a name is judged, and another one of that name comes later.
+        _, deb, control = self.wait("zoo", 0, {"Distribution: box": "Distribution: nowhere"})
+        self.put(deb, "deb of zoo", 0)
+        self.put(control, "control of zoo", 0)
+        self.assertEqual(self.line(0, "run", self.db, "--at", "0"), "refused 1 zoo_1.0-1_amd64.changes\n")
+        # What came for one of them ends a day before the others.
+        self.put("mid_1.0-1_amd64.deb", "deb of mid", 0)
+        zoo = self.wait("zoo", day, {"zoo_1.0-1_amd64.": "new_1.0-1_amd64."})
+        ant = self.wait("ant", day)
+        mid = self.wait("mid", day)
+        lacks = [(zoo[0], "new_1.0-1_amd64.deb new_1.0-1_amd64.control"), (ant[0], f"{ant[1]} {ant[2]}"), (mid[0], mid[2])]
+        self.assertEqual(self.lacking(day), lacks)
+        # Other contents are not what is listed, and stand beside it.
+        for body in ("other", "deb of mid", "deb of zoo"):
+            self.put(ant[1], body, day)
+        self.put(ant[2], "control of ant", day)
+        for body in ("other", "control of mid", "another"):
+            self.put(mid[2], body, day)
+        self.assertEqual(self.lacking(2 * day - 1), [lacks[0], (ant[0], ant[1]), (mid[0], "")])
+        self.assertEqual(self.lacking(2 * day), [lacks[0], (ant[0], ant[1]), (mid[0], mid[1])])
+        self.put(ant[1], "deb of ant", 2 * day)
+        self.assertEqual(self.lacking(2 * day), [lacks[0], (ant[0], ""), (mid[0], mid[1])])
+        self.assertEqual(self.lacking(3 * day - 1)[1:], [(ant[0], ""), (mid[0], mid[1])])
+        self.assertEqual(self.lacking(3 * day), [])
 
 
 if __name__ == "__main__":
