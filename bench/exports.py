@@ -77,6 +77,8 @@ def of_instructions(line, count, folder):
     way.make()
     way.hand_in_and_run([path for paths in given for path in paths], count)
     exported(way, tree, f"pool {count} ")
+    # The second export reads each file that the first one made.
+    exported(way, tree, f"pool 0 {count} ")
     opening = counted(way, "waiting", "--at", "0")
     yield "an opening", opening
     yield "`show` of its Packages", counted(way, "show", PACKAGES) - opening

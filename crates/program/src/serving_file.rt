@@ -11,7 +11,9 @@
 //! the fault of the database is reported. A `Desk` is made after each opening. If there is no memory for it, `serve` ends with Q0 and
 //! status 3, before a connection is accepted.
 
+ghost use Rattle.std.specs.Prelude.{◌≤◌};
 ghost use Rattle.desk.specs.Connections.{HasServed, IsClientsWithin};
+ghost use Rattle.queue.specs.Steps.{Reads};
 
 use crate::database::{InFile, close, open_archive};
 use crate::fault::Stop;
@@ -37,6 +39,7 @@ fn serve_listener<'a, K: Keeper, E: Write>(
     notes: &mut Notes<'_, E>,
 ) -> Result<(), Stop<'a>>
     ensures served { HasServed K.Keeper left (IsClientsWithin moments.old.greatest moments.new.greatest) archive.old.keeper archive.new.keeper }
+    ensures rises { moments.old.greatest ≤ moments.new.greatest }
 {
     match listener {
         Ok(listener) => serve_at(rt, archive, listener, left, moments, patience(), notes),
@@ -60,7 +63,9 @@ fn export_to<K: Keeper, E: Write>(
     tree: Tree<'_>,
     at: u64,
     notes: &mut Notes<'_, E>,
-) {
+)
+    ensures reads { Reads K.Keeper archive.old.keeper archive.new.keeper }
+{
     let asked = Export {
         folder: tree.folder,
         at,
@@ -75,6 +80,25 @@ fn export_to<K: Keeper, E: Write>(
     }
 }
 
+/// Serves a connection of a listener, and exports behind it if it had a POST.
+fn serve_one<'a, K: Keeper, E: Write>(
+    rt: &HostRuntime,
+    archive: &mut Archive<K>,
+    listener: &io::Result<TcpListener>,
+    moments: &mut Moments<'_>,
+    tree: Tree<'_>,
+    notes: &mut Notes<'_, E>,
+) -> Result<(), Stop<'a>>
+    ensures served { HasServed K.Keeper 1 (IsClientsWithin moments.old.greatest moments.new.greatest) archive.old.keeper archive.new.keeper }
+    ensures rises { moments.old.greatest ≤ moments.new.greatest }
+{
+    serve_listener(rt, archive, listener, 1, moments, notes)?;
+    if notes.takes_post() {
+        export_to(rt, archive, tree, moments.last(), notes);
+    }
+    Ok(())
+}
+
 /// Serves so many connections of a listener, one by one, and exports behind each that had a POST.
 fn serve_and_export<'a, K: Keeper, E: Write>(
     rt: &HostRuntime,
@@ -84,15 +108,16 @@ fn serve_and_export<'a, K: Keeper, E: Write>(
     moments: &mut Moments<'_>,
     tree: Tree<'_>,
     notes: &mut Notes<'_, E>,
-) -> Result<(), Stop<'a>> {
+) -> Result<(), Stop<'a>>
+    // As without an export: that only reads.
+    ensures served { HasServed K.Keeper left (IsClientsWithin moments.old.greatest moments.new.greatest) archive.old.keeper archive.new.keeper }
+    ensures rises { moments.old.greatest ≤ moments.new.greatest }
+{
     for served in 0..left {
-        match serve_listener(rt, archive, listener, 1, moments, notes) {
+        match serve_one(rt, archive, listener, moments, tree, notes) {
             Ok(()) => {}
             Err(Stop::Shut(_)) => return Err(Stop::Shut(left - served - 1)),
             Err(stop) => return Err(stop),
-        }
-        if notes.takes_post() {
-            export_to(rt, archive, tree, moments.last(), notes);
         }
     }
     Ok(())
