@@ -262,7 +262,7 @@ class Uploads(unittest.TestCase):
 
     def test_a_verdict_that_refuses(self):
         page = (ROOT / "docs/FAULTS.md").read_text(encoding="utf-8")
-        rows = dict(re.findall(r"^\| `refused (\d)` \| (.*) \|$", page, re.M))
+        rows = dict(re.findall(r"^\| `refused (\d+)` \| (.*) \|$", page, re.M))
         self.assertEqual(set(rows), set(tool("bin/upload").REASONS))
         path = pathlib.Path(self.changes)
         text = path.read_text()

@@ -100,7 +100,7 @@ class Sources(unittest.TestCase):
             self.assertNotIn("</", text)
 
     def test_the_sentences_are_those_of_the_page_on_faults(self):
-        rows = re.findall(r"^\| `(accepted|refused \d)` \| (.*?) \| ", pathlib.Path(ROOT, "docs/FAULTS.md").read_text(encoding="utf-8"), re.M)
+        rows = re.findall(r"^\| `(accepted|refused \d+)` \| (.*?) \| ", pathlib.Path(ROOT, "docs/FAULTS.md").read_text(encoding="utf-8"), re.M)
         marked = [(word, re.sub(r"`([^`]*)`", r"<code>\1</code>", html.escape(text, quote=False))) for word, text in rows]
         words = re.findall(r'Verdict::(\w+) => "([^"]*)"', source("verdict.rt"))
         means = dict(re.findall(r'Verdict::(\w+) => \{\s*"([^"]*)"', source("verdict.rt")))

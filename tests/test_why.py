@@ -41,7 +41,7 @@ def sentences():
     """What each verdict means, and what is to be done, as the page on faults has it to the letter. There is nothing to be done about an
     acceptance."""
     page = pathlib.Path(ROOT, "docs/FAULTS.md").read_text(encoding="utf-8")
-    rows = re.findall(r"^\| `(?:accepted|refused (\d))` \| (.*) \| (.*) \|$", page, re.M)
+    rows = re.findall(r"^\| `(?:accepted|refused (\d+))` \| (.*) \| (.*) \|$", page, re.M)
     return {int(number or "0"): (means, todo if number else None) for number, means, todo in rows}
 
 
