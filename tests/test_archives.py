@@ -58,11 +58,11 @@ class Layouts(unittest.TestCase):
     """What needs no program."""
 
     def test_the_present_layout_has_a_file(self):
-        for name in (f"{layout()}.db", f"{layout()}.expected"):
+        for name in (f"{layout()}.db", f"{layout()}.expected", f"{layout()}.texts"):
             self.assertTrue((ARCHIVES / name).is_file(), f"there is no tests/archives/{name}: a layout that is released has a file")
 
     def test_each_file_has_what_it_shows(self):
-        names = {it.name for it in ARCHIVES.iterdir()}
+        names = {it.name for it in ARCHIVES.iterdir() if it.suffix != ".texts"}
         numbers = {name.removesuffix(".db") for name in names if name.endswith(".db")}
         self.assertEqual(names, {f"{number}.{kind}" for number in numbers for kind in ("db", "expected")})
         for number in numbers:
