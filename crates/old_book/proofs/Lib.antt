@@ -1,3 +1,4 @@
+pub mod BodiedLemmas
 pub mod BookLemmas
 pub mod ConstrainedLemmas
 pub mod FoundLemmas

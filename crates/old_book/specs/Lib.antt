@@ -1,3 +1,4 @@
+pub mod Bodied
 pub mod Books
 pub mod Old
 pub mod Rising

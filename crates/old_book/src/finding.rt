@@ -12,6 +12,7 @@ ghost use Rattle.old_book.specs.Old.{IsNoOldArchive, KeepsNoOld, KeepsNoneAs};
 ghost use Rattle.old_book.specs.Books.{IsBookOf, IsOldBookIn, IsShownBook};
 ghost use Rattle.tables.specs.Calls.{NeverCommits, OnCleanDisk};
 
+use crate::bodied::have_bodies;
 use crate::book::OldBook;
 use crate::listed::are_listed;
 use crate::renewed::{renewed, text_among};
@@ -51,6 +52,9 @@ fn old_book_in(alloc: Global, all: AllRows) -> Result<Option<OldBook>, Error>
     ensures none { IfOk result (λ o. o ≡ None → AreReadable (tables_with all) → KeepsNoOld (tables_with all)) }
 {
     if !is_rising(&all) {
+        return Ok(None);
+    }
+    if !have_bodies(alloc, &all)? {
         return Ok(None);
     }
     are_taken(alloc, &all)?;

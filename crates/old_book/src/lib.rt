@@ -4,9 +4,11 @@
 //! the keys of the present tables, which a database in memory tries on them, and are written as they are.
 #![tactic(auto)]
 
+mod bodied;
 mod book;
 mod finding;
 mod listed;
+mod numbers;
 mod renewed;
 mod rising;
 mod settling;

@@ -5,28 +5,12 @@
 
 ghost use Rattle.std.specs.Prelude.{◌≡◌, nat_eq, IfOk, OnOk};
 ghost use Rattle.std.specs.List.{list_any};
-ghost use Rattle.std.specs.List.Sorted.{IsNonDecreasing, IsPermutation};
 ghost use Rattle.tables.specs.Rows.{without};
 ghost use Rattle.old_book.specs.Settling.{as_unjudged, has_judged, judged_ids, unjudged_uploads};
 
+use crate::numbers::{Numbers, in_order};
 use std::alloc::{AllocError, Global};
 use tables::rows::{UploadRow, Want};
-
-/// Numbers in rising order.
-#[derive(Drop)]
-struct Numbers {
-    rising: Vec<u64>,
-    ghost rise: { IsNonDecreasing rising.items },
-}
-
-impl Numbers {
-    /// Whether a number is one of these.
-    fn contain(&self, id: u64) -> bool
-        ensures { result ≡ list_any (λ n. nat_eq n id) self.now.rising.items }
-    {
-        self.rising.binary_search(&id).is_ok()
-    }
-}
 
 /// The upload as if it had not been judged.
 fn as_unjudged(upload: &UploadRow) -> Result<UploadRow, AllocError>
@@ -66,14 +50,6 @@ fn judged_among(alloc: Global, uploads: &[(u64, UploadRow)]) -> Result<Vec<u64>,
         }
     }
     Ok(ids)
-}
-
-/// The numbers in rising order.
-fn in_order(mut numbers: Vec<u64>) -> Numbers
-    ensures { IsPermutation numbers.items result.rising.items }
-{
-    numbers.sort_unstable();
-    Numbers { rising: numbers }
 }
 
 /// Takes out the wants of the uploads with these numbers.

@@ -1,5 +1,6 @@
 use Rattle.std.proofs.Common.{true, true≢false, sym, ◌∙◌}
 use Rattle.tables_read.specs.All.{tables_with}
+use Rattle.old_book.proofs.BodiedLemmas.{book_has_bodies}
 use Rattle.old_book.proofs.RisingLemmas.{if_rising, rising_if}
 use Rattle.old_book.proofs.finding.old_book_in.Goals as goal
 
@@ -12,3 +13,7 @@ returns-then-not-is_rising-clause-none c none readable config judged shown dates
 
 pub book_of-requires-clause-rising : goal.book_of-requires-clause-rising
 book_of-requires-clause-rising c = rising_if (tables_with c.args.all) (sym c.is_rising.ensures ∙ c.if-not-is_rising.false)
+
+pub returns-then-not-branch-clause-none : goal.returns-then-not-branch-clause-none
+returns-then-not-branch-clause-none c none readable config judged shown dates old =
+    absurd (true≢false (sym (book_has_bodies (tables_with c.args.all) config.text config judged shown dates old.kept) ∙ sym c.in_ok-have_bodies.ensures ∙ c.if-not-branch.true))

@@ -1,5 +1,5 @@
 use Rattle.std.proofs.lemmas.List.Sorted.{IsNonDecreasingBy-from_sort}
-use Rattle.old_book.proofs.settling.in_order.Goals as goal
+use Rattle.old_book.proofs.numbers.in_order.Goals as goal
 
 pub invariant_of-result : goal.invariant_of-result
 invariant_of-result c = record { rise = IsNonDecreasingBy-from_sort (λ n. n) c.sort_unstable.new.self.items c.sort_unstable.ensures.sorted }

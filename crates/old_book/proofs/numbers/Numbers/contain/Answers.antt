@@ -2,7 +2,7 @@ use Rattle.std.proofs.Common.{nat_eq, sym, ap, subst, ◌∙◌}
 use Rattle.std.specs.List.{list_any}
 use Rattle.std.specs.List.Sorted.{IsNonDecreasing}
 use Rattle.tables_meaning.proofs.RisingNumbers.{found_among}
-use Rattle.old_book.proofs.settling.Numbers.contain.Goals as goal
+use Rattle.old_book.proofs.numbers.Numbers.contain.Goals as goal
 
 pub returns : goal.returns
 returns c =
