@@ -116,6 +116,16 @@ def is_numbered(held, table):
     return [row[2] for row in held.execute(f"PRAGMA table_info({table})") if row[5]] == ["INTEGER"]
 
 
+def take_away(held, layout, table, rowid):
+    """Takes a row away, and first each that refers to it."""
+    for other, column in NUMBERED[layout].get(table, []):
+        for (number,) in held.execute(f"SELECT rowid FROM {other} WHERE {column} = ?", (rowid,)).fetchall():
+            take_away(held, layout, other, number)
+    if table == "uploads" and layout < 3:  # its number is that of its arrival
+        held.execute("DELETE FROM wants WHERE upload = ?", (rowid,))
+    held.execute(f"DELETE FROM {table} WHERE rowid = ?", (rowid,))
+
+
 class Orders(unittest.TestCase):
     """An archive of each layout, made once."""
 
@@ -273,6 +283,7 @@ class Orders(unittest.TestCase):
             for rowid in rng.sample(rowids, min(OF_TABLE, len(rowids))):
                 db = self.copied(layout)
                 with contextlib.closing(sqlite3.connect(db)) as held, contextlib.suppress(sqlite3.IntegrityError), held:
+                    held.execute("PRAGMA foreign_keys = ON")
                     change(held, table, rowid)
                     tried += 1
                 with self.subTest(layout=layout, table=table, rowid=rowid):
@@ -281,9 +292,9 @@ class Orders(unittest.TestCase):
         self.assertGreater(tried, 0)
 
     def test_a_row_less(self):
-        """References are not looked at, so that rows may refer to what is not there."""
+        """And with it what refers to it, as the keys of the tables have it."""
         for layout in NUMBERED:
-            self.check_changed(layout, lambda held, table, rowid: held.execute(f"DELETE FROM {table} WHERE rowid = ?", (rowid,)))
+            self.check_changed(layout, lambda held, table, rowid, layout=layout: take_away(held, layout, table, rowid))
 
     def test_a_row_twice(self):
         """A key forbids most of it."""
