@@ -21,6 +21,7 @@ pub mod RisingNumbers
 pub mod WantLemmas
 pub mod SignOrder
 pub mod SortedLemmas
+pub mod Orders
 pub mod RequestLemmas
 pub mod UploadLemmas
 pub mod JudgedLemmas
