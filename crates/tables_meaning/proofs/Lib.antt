@@ -4,6 +4,7 @@ pub mod AsciiLemmas
 pub mod AsciiPaths
 pub mod AsciiItems
 pub mod PathLemmas
+pub mod NumberOrders
 pub mod BodyLemmas
 pub mod ArrivalLemmas
 pub mod ItemLemmas
