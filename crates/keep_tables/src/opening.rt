@@ -54,7 +54,7 @@ fn found_in(alloc: Global, all: AllRows) -> Result<Option<Found>, AllocError>
     if are_named(&all, &unfinished) {
         return Ok(None);
     }
-    if !are_under_way(&all) {
+    if !are_under_way(alloc, &all)? {
         return Ok(None);
     }
     let whole = finished_rows(all, &unfinished);

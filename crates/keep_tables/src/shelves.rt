@@ -2,7 +2,7 @@
 //!
 //! An opening and each change (`hold`) leave with the keeper what the suites show, and the next call that asks for that takes it out. If
 //! there is none, as after a refusal, it is read from the tables: shelves are made of rows by plans, and rows that no archive has are
-//! refused.
+//! refused. The rows of an item's files stand in any order, so they are put in that of their numbers first.
 
 ghost use Rattle.std.specs.Prelude.{◌≡◌, false, IfOk, OnOk};
 ghost use Rattle.sqlite.specs.State.{IsUnchanged};
@@ -17,7 +17,7 @@ use std::alloc::Global;
 use suites::Shelves;
 use tables::items::select_items;
 use tables::refs::refs_of;
-use tables_audit::put_row;
+use tables_audit::{put_row, refs_in_order};
 
 /// What the suites of a configuration show.
 pub fn read_shelves<S: Alter>(
@@ -35,7 +35,7 @@ pub fn read_shelves<S: Alter>(
     let _ = config.text();
     let mut shelves = Shelves::new(alloc);
     for (id, row) in select_items(alloc, conn)? {
-        let refs = refs_of(alloc, conn, id)?;
+        let refs = refs_in_order(refs_of(alloc, conn, id)?)?;
         put_row(alloc, &mut shelves, config.suites(), row, refs)?;
     }
     Ok(shelves)

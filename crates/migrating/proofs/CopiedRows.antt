@@ -19,8 +19,6 @@ use Rattle.keep.specs.declared.arrival.Arrival as book
 use Rattle.keep.specs.declared.change.Judgement.{Judgement}
 use Rattle.tables.specs.Arrivals.{is_arrival}
 use Rattle.tables.specs.Files.{is_file_at}
-use Rattle.tables.specs.Pieces.{is_of}
-use Rattle.tables.specs.Refs.{is_ref_of}
 use Rattle.tables.specs.Rows.{Tables, rows_of}
 use Rattle.tables.specs.Uploads.{is_judged as has_place}
 use Rattle.tables.specs.Wants.{is_wanted_by}
@@ -32,7 +30,7 @@ use Rattle.tables.specs.declared.rows.Piece.{Piece}
 use Rattle.tables.specs.declared.rows.Ref.{Ref}
 use Rattle.tables.specs.declared.rows.UploadRow.{UploadRow}
 use Rattle.tables.specs.declared.rows.Want.{Want}
-use Rattle.tables_meaning.specs.Kept.{AreArrivals, AreBodies, AreFiles, AreItems, AreUploads, IsBook, arrival_in, arrivals_in, bytes_of, files_in, has_body, is_on, is_used, pieces_for, print_at, shown_row, sign_in, used_in, wants_in}
+use Rattle.tables_meaning.specs.Kept.{AreArrivals, AreBodies, AreFiles, AreItems, AreUploads, IsBook, arrival_in, arrivals_in, bytes_of, files_in, has_body, is_on, is_used, pieces_among, pieces_for, print_at, refs_among, shown_row, sign_in, used_in, wants_in}
 use Rattle.copying.specs.Copying.{anew, arrived_at}
 use Rattle.migrating.proofs.FoundedRows.{meta_for}
 
@@ -91,7 +89,7 @@ module _ (t : Tables) (moment : ℕ) (text : List ℕ) where
 
   bytes_copied : bytes_of copy ≡ bytes_of t
   unfolding bytes_of
-  bytes_copied = λ i id. flat_map (λ (p : Piece). p.bytes) (filter (is_of id) (pieces_rows i))
+  bytes_copied = λ i id. flat_map (λ (p : Piece). p.bytes) (pieces_among (pieces_rows i) id)
 
   pub arrivals_copied : arrivals_in copy ≡ map (as_of moment) (arrivals_in t)
   unfolding arrivals_in
@@ -122,8 +120,8 @@ module _ (t : Tables) (moment : ℕ) (text : List ℕ) where
   bodies_kept : AreBodies t → AreBodies copy
   unfolding bytes_of has_body is_used
   bodies_kept h = record {
-    whole = subst (λ (rows : List Piece). All (λ (x : ℕ × BodyRow). x.1.print ≡ Some (print_of (flat_map (λ (p : Piece). p.bytes) (filter (is_of x.0) rows)))) t.bodies) (sym pieces_rows) h.whole;
-    pieces = subst (λ (rows : List Piece). All (λ (x : ℕ × BodyRow). filter (is_of x.0) rows ≡ pieces_for x.0 (flat_map (λ (p : Piece). p.bytes) (filter (is_of x.0) rows))) t.bodies) (sym pieces_rows) h.pieces;
+    whole = subst (λ (rows : List Piece). All (λ (x : ℕ × BodyRow). x.1.print ≡ Some (print_of (flat_map (λ (p : Piece). p.bytes) (pieces_among rows x.0)))) t.bodies) (sym pieces_rows) h.whole;
+    pieces = subst (λ (rows : List Piece). All (λ (x : ℕ × BodyRow). pieces_among rows x.0 ≡ pieces_for x.0 (flat_map (λ (p : Piece). p.bytes) (pieces_among rows x.0))) t.bodies) (sym pieces_rows) h.pieces;
     apart = h.apart;
     used = subst (λ (ids : List ℕ). All (λ (x : ℕ × BodyRow). IsTrue (list_any (λ id. nat_eq id x.0) ids)) t.bodies) (sym used_copied) h.used;
     owned = subst (All (λ (p : Piece). IsTrue (has_body t p.body))) (sym pieces_rows) h.owned;
@@ -163,7 +161,7 @@ module _ (t : Tables) (moment : ℕ) (text : List ℕ) where
 
   items_kept : (suites : List Suite) (shown : ShelvesValue) → AreItems t suites shown → AreItems copy suites shown
   items_kept suites shown h = record {
-    are = subst (λ (rows : List Ref). (key : ShelfKey) → key.suite < length suites → option_map (λ (x : ℕ × ItemRow). (x.1, filter (is_ref_of x.0) rows)) (find (is_on suites key) t.items)
+    are = subst (λ (rows : List Ref). (key : ShelfKey) → key.suite < length suites → option_map (λ (x : ℕ × ItemRow). (x.1, refs_among rows x.0)) (find (is_on suites key) t.items)
         ≡ option_and_then (λ x. option_map (shown_row suites key x.0) (get shown key)) (find (is_on suites key) t.items)) (sym refs_rows) h.are;
     all = h.all;
     within = h.within;

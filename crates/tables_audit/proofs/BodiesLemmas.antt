@@ -1,17 +1,23 @@
 -- Bodies, their pieces, and whether they are used.
 use Rattle.std.proofs.Common.{◌≡◌, ℕ, suc, ◌+◌, ◌-◌, ◌*◌, ◌/◌, ◌%◌, ◌<◌, ◌≤◌, min, Bool, true, false, cond, nat_eq, List, [], ◌∷◌, ◌++◌, map, filter, take, drop, length, get_or, All, IsTrue, refl, sym, ap, ap₂, ◌∙◌, arith}
 use Rattle.std.specs.Prelude.{◌↔◌}
-use Rattle.std.specs.List.{list_any, range_with_len}
-use Rattle.std.proofs.lemmas.List.{append-nil, drop_more, get_or_at, length-append, length-drop, length-take, map-append, map_more, take-append-drop}
+use Rattle.std.specs.List.{AllByRecursion, list_any, range_with_len}
+use Rattle.std.proofs.lemmas.Bool.{eqb-true}
+use Rattle.std.proofs.lemmas.List.{append-nil, drop_more, get_or-map, get_or_at, length-append, length-drop, length-map, length-take, map-append, map_more, take-append-drop}
 use Rattle.std.proofs.lemmas.List.Concat.{flat_map-append}
-use Rattle.std.proofs.lemmas.List.Elements.{filter-append}
-use Rattle.std.proofs.lemmas.List.Sorted.{list_any-IsPermutation}
+use Rattle.std.proofs.lemmas.List.Elements.{All-from_recursion, filter-append}
+use Rattle.std.proofs.lemmas.List.Sorted.{All-permutation, IsPermutation-sym, length_permutation, list_any-IsPermutation}
 use Rattle.std.proofs.lemmas.List.FromFn.{get_or-map-range_with_len, length-map-range_with_len}
+use denote.Ref.{Bor}
+use Rattle.sqlite_keyed.proofs.ListLemmas.{IsPermutation-flat_map}
+use Rattle.sqlite_keyed.proofs.SortLemmas.{IsPermutation-sort_by}
 use Rattle.tables.specs.Pieces.{is_of}
 use Rattle.tables.specs.Rows.{Tables, Numbered, rows_of}
 use Rattle.tables.specs.declared.rows.Piece.{Piece}
-use Rattle.tables_meaning.specs.Kept.{is_used, piece_at, piece_count, pieces_for, used_in}
+use Rattle.tables_meaning.specs.Kept.{is_used, piece_at, piece_count, piece_order, pieces_among, pieces_for, used_in}
+use Rattle.tables_meaning.specs.Reads.{sorted_by}
 use Rattle.tables_meaning.proofs.ComingLemmas.{pieces_and_one}
+use Rattle.tables_meaning.proofs.NumberOrders.{piece_order_total}
 use Rattle.tables_audit.specs.Bodies.{AreUsed, IsBodyFit, IsNext, bytes_in}
 use Rattle.tables_audit.specs.Parts.{BodiesFit}
 
@@ -23,16 +29,6 @@ row_more : {X Y : Type 0} (p : Y → Bool) (f : X → Y) (xs : List X) (i : ℕ)
 row_more p f xs i x within is =
     ap (filter p) (map_more f xs i x within ∙ ap (λ y. map f (take i xs) ++ f y ∷ []) (sym is))
     ∙ filter-append p (map f (take i xs)) (f x ∷ [])
-
--- those before a row, then the row and those behind it
-row_between : {X Y : Type 0} (p : Y → Bool) (f : X → Y) (xs : List X) (i : ℕ) (x : X) → i < length xs → x ≡ get_or xs i x → p (f x) ≡ true
-    → filter p (map f xs) ≡ filter p (map f (take i xs)) ++ f x ∷ filter p (map f (drop (i + 1) xs))
-row_between p f xs i x within is passes =
-    ap (λ l. filter p (map f l)) (sym (take-append-drop i xs))
-    ∙ ap (filter p) (map-append f (take i xs) (drop i xs))
-    ∙ filter-append p (map f (take i xs)) (map f (drop i xs))
-    ∙ ap (λ l. filter p (map f (take i xs)) ++ filter p (map f l)) (drop_more xs i x within ∙ ap (λ y. y ∷ drop (i + 1) xs) (sym is))
-    ∙ ap (λ b. filter p (map f (take i xs)) ++ cond b (f x ∷ filter p (map f (drop (i + 1) xs))) (filter p (map f (drop (i + 1) xs)))) passes
 
 -- a place in a list of numbered things behind the first so many of them, and what stands there
 pub is_before : {X : Type 0} (f : ℕ → X) (k n : ℕ) (front rest : List X) (x : X) → length front ≡ n → front ++ x ∷ rest ≡ map f (range_with_len 0 k) → n < k
@@ -61,8 +57,47 @@ module _ (id : ℕ) (rows : Numbered Piece) (i : ℕ) (x : ℕ × Piece) (within
   pub one_more : is_of id x.1 ≡ true → among id (take (i + 1) rows) ≡ among id (take i rows) ++ x.1 ∷ []
   one_more of = row_more (is_of id) (λ x. x.1) rows i x within is ∙ ap (λ b. among id (take i rows) ++ cond b (x.1 ∷ []) []) of
 
-  pub around : is_of id x.1 ≡ true → among id rows ≡ among id (take i rows) ++ x.1 ∷ among id (drop (i + 1) rows)
-  around of = row_between (is_of id) (λ x. x.1) rows i x within is of
+-- the pieces that are looked at
+abbrev pub views : List (Bor Piece) → List Piece
+views ps = map (λ p. p.now) ps
+
+module _ (pieces : List (Bor Piece)) (i : ℕ) (x : Bor Piece) (within : i < length pieces) (is : x ≡ get_or pieces i x) where
+  pub piece_more : views (take (i + 1) pieces) ≡ views (take i pieces) ++ x.now ∷ []
+  piece_more = map_more (λ p. p.now) pieces i x within ∙ ap (λ (y : Bor Piece). views (take i pieces) ++ y.now ∷ []) (sym is)
+
+  -- those before it, then it and those behind it
+  pub around : views pieces ≡ views (take i pieces) ++ x.now ∷ views (drop (i + 1) pieces)
+  around =
+      ap views (sym (take-append-drop i pieces))
+      ∙ map-append (λ p. p.now) (take i pieces) (drop i pieces)
+      ∙ ap (λ l. views (take i pieces) ++ views l) (drop_more pieces i x within ∙ ap (λ y. y ∷ drop (i + 1) pieces) (sym is))
+
+  pub its_body : (id : ℕ) → All (λ p. p.body ≡ id) (views pieces) → x.now.body ≡ id
+  its_body id own =
+      subst (λ (p : Piece). p.body ≡ id) (get_or-map (λ p. p.now) pieces i x x.now within ∙ ap (λ (y : Bor Piece). y.now) (sym is))
+      (own i x.now (omega (arith, within, length-map pieces (λ (p : Bor Piece). p.now))))
+
+-- the pieces of a body are its own
+own_rows : (id : ℕ) (ps : List Piece) → AllByRecursion (λ p. p.body ≡ id) (filter (is_of id) ps)
+own_rows id [] = tt
+own_rows id (p ∷ ps) = go (nat_eq p.body id) refl (own_rows id ps)
+  where
+    go : (b : Bool) → nat_eq p.body id ≡ b → AllByRecursion (λ q. q.body ≡ id) (filter (is_of id) ps)
+        → AllByRecursion (λ q. q.body ≡ id) (cond b (p ∷ filter (is_of id) ps) (filter (is_of id) ps))
+    go true t more = (eqb-true p.body id t, more)
+    go false t more = more
+
+pub their_body : (id : ℕ) (ps : List Piece) → All (λ p. p.body ≡ id) (pieces_among ps id)
+their_body id ps =
+    let rows = filter (is_of id) ps in
+    All-permutation (λ (p : Piece). p.body ≡ id) rows (pieces_among ps id) (IsPermutation-sym (pieces_among ps id) rows (IsPermutation-sort_by piece_order piece_order_total rows))
+    (All-from_recursion (λ (p : Piece). p.body ≡ id) rows (own_rows id ps))
+
+-- their order does not tell how many bytes they have
+pub as_long : (ps : List Piece) → length (bytes_in ps) ≡ length (bytes_in (sorted_by piece_order ps))
+as_long ps =
+    length_permutation (bytes_in (sorted_by piece_order ps)) (bytes_in ps)
+    (IsPermutation-flat_map (λ (p : Piece). p.bytes) (sorted_by piece_order ps) ps (IsPermutation-sort_by piece_order piece_order_total ps))
 
 -- the row of the piece of these bytes at a place
 abbrev pub piece_row : ℕ → List ℕ → ℕ → Piece

@@ -8,11 +8,13 @@ use Rattle.std.specs.FinMap.{get, values, empty, get-empty, get-insert, get-from
 use Rattle.std.specs.FinMap as keyed
 use Rattle.std.proofs.lemmas.Bool.{both_ways, and_parts, and_from, eq-eqb, eqb-true, ne_eqb, false_from_ne_true, cases_lt}
 use Rattle.std.proofs.lemmas.List.{drop_all, drop_more, take-append-drop, take_more}
-use Rattle.std.proofs.lemmas.List.Elements.{All-append, All-cons, All-nil}
+use Rattle.std.proofs.lemmas.List.Elements.{All-append, All-cons, All-from_recursion, All-nil, recursion_from_All}
+use Rattle.std.proofs.lemmas.List.Sorted.{All-permutation, IsPermutation-sym}
 use Rattle.std.proofs.lemmas.Option.{same_Some}
 use Rattle.std.proofs.lemmas.Slice.Eq.{bytes_eq-Decides}
 use Rattle.std.proofs.Math.Logic.{∥∥₁_elim}
 use Rattle.std.proofs.Props.{props}
+use Rattle.sqlite_keyed.proofs.SortLemmas.{IsPermutation-sort_by}
 use Rattle.rules.specs.declared.suite.Suite.{Suite}
 use Rattle.sums.proofs.Members.{all_at, all_from, any_none, contains_map, here, pairs_head, pairs_tail, there}
 use Rattle.sums.specs.Prints.{same_print}
@@ -33,9 +35,10 @@ use Rattle.tables.specs.Rows.{Numbered, Tables, rows_of}
 use Rattle.tables.specs.declared.rows.ItemRow.{ItemRow}
 use Rattle.tables.specs.declared.rows.Ref.{Ref}
 use Rattle.tables_read.specs.All.{AreConstrained}
-use Rattle.tables_meaning.specs.Kept.{AreItems, AreReadable, IsReadable, codename_at, is_on, refs_for, refs_in, shown_row}
+use Rattle.tables_meaning.specs.Kept.{AreItems, AreReadable, IsReadable, codename_at, is_on, ref_order, refs_among, refs_for, refs_in, shown_row}
 use Rattle.tables_meaning.specs.Kept as kept
 use Rattle.tables_meaning.specs.Shown.{clash, entry_in, file_in, is_taken, item_with, may_not_join, shown_in}
+use Rattle.tables_meaning.proofs.NumberOrders.{ref_order_total}
 use Rattle.tables_meaning.proofs.ShownLemmas.{entry_on, find_beyond, find_shown, item_from, item_parts, on_entry, shown_is}
 use Rattle.tables_audit.specs.Items.{AreShown, AreStopped, IsShown, Joins, MayJoin, are_numbered_from, entry_at}
 
@@ -46,14 +49,22 @@ abbrev ref_for : ℕ → ℕ × PoolFile → Ref
 ref_for id f = record { item = id; number = f.0; path = f.1.path; print = f.1.print }
 
 -- the files of an item have its number
-own_refs : (id : ℕ) (refs : List Ref) → AllByRecursion (λ r. r.item ≡ id) (filter (is_ref_of id) refs)
-own_refs id [] = tt
-own_refs id (r ∷ refs) = go (nat_eq r.item id) refl (own_refs id refs)
+own_rows : (id : ℕ) (refs : List Ref) → AllByRecursion (λ r. r.item ≡ id) (filter (is_ref_of id) refs)
+own_rows id [] = tt
+own_rows id (r ∷ refs) = go (nat_eq r.item id) refl (own_rows id refs)
   where
     go : (b : Bool) → nat_eq r.item id ≡ b → AllByRecursion (λ s. s.item ≡ id) (filter (is_ref_of id) refs)
         → AllByRecursion (λ s. s.item ≡ id) (cond b (r ∷ filter (is_ref_of id) refs) (filter (is_ref_of id) refs))
     go true t more = (eqb-true r.item id t, more)
     go false t more = more
+
+own_refs : (id : ℕ) (refs : List Ref) → AllByRecursion (λ r. r.item ≡ id) (refs_among refs id)
+own_refs id refs =
+    let of_item = filter (is_ref_of id) refs in
+    recursion_from_All (λ (r : Ref). r.item ≡ id) (refs_among refs id)
+    (All-permutation (λ (r : Ref). r.item ≡ id) of_item (refs_among refs id)
+    (IsPermutation-sym (refs_among refs id) of_item (IsPermutation-sort_by ref_order ref_order_total of_item))
+    (All-from_recursion (λ (r : Ref). r.item ≡ id) of_item (own_rows id refs)))
 
 -- numbered files are those of their item
 numbered_back : (id n : ℕ) (refs : List Ref) → AllByRecursion (λ r. r.item ≡ id) refs → are_numbered_from n refs ≡ true

@@ -1,16 +1,16 @@
 -- The uploads by place: as they are listed, and as they are sorted.
-use Rattle.std.proofs.Common.{◌≡◌, ◌⊎◌, inl, inr, ℕ, ◌+◌, ◌<◌, ◌≤◌, Bool, true, false, cond, not, ◌&&◌, ◌==◌, nat_eq, nat_lt, Option, Some, None, option_map, List, [], ◌∷◌, ◌++◌, map, filter, find, take, length, get_or, All, refl, sym, ap, ap₂, subst, ◌∙◌, arith}
+use Rattle.std.proofs.Common.{◌≡◌, ℕ, ◌+◌, ◌<◌, Bool, true, false, cond, not, ◌&&◌, nat_eq, Option, Some, None, option_map, List, [], ◌∷◌, ◌++◌, map, filter, find, take, length, get_or, All, refl, sym, ap, ap₂, subst, ◌∙◌, arith}
 use Rattle.std.specs.List.Sorted.{IsPermutation, IsStableByKey}
 use Rattle.std.specs.Option.{option_and_then, option_map_or, option_or}
 use Rattle.std.specs.Ordering.{is_lt, nat_cmp}
-use Rattle.std.specs.declared.cmp.Ordering.TheVariants.{Less, Equal, Greater}
-use Rattle.std.proofs.lemmas.Bool.{cases_lt, eq-eqb, eqb-true, le-ltb, lt-ltb, ne_eqb}
+use Rattle.std.proofs.lemmas.Bool.{eqb-true}
 use Rattle.std.proofs.lemmas.List.{append-nil, map-append}
 use Rattle.std.proofs.lemmas.List.Elements.{filter_agree, filter_passes}
 use Rattle.std.proofs.lemmas.List.Folds.{find-append}
 use Rattle.std.proofs.lemmas.List.Sorted.{length_permutation}
 use Rattle.sqlite_keyed.proofs.ListLemmas.{IsPermutation-filter, filter-map}
 use Rattle.tables_meaning.specs.Kept.{is_placed}
+use Rattle.tables_meaning.proofs.NumberOrders.{tie_is}
 use Rattle.tables.specs.Rows.{Numbered, rows_of}
 use Rattle.tables.specs.declared.rows.UploadRow.{UploadRow}
 use Rattle.tables_audit.specs.Places.{ArePlaced, first_at, placed_view, placed_with}
@@ -65,24 +65,6 @@ placed_more uploads i x placed within is pushed so_far place =
     ∙ sym (ap (find (is_placed place)) (rows_more uploads i x within is) ∙ find-append (is_placed place) (rows_of (take i uploads)) (x.1 ∷ []))
 
 -- ---- the same in order
-
--- one number is below another exactly if it compares so
-below_is : (m n : ℕ) → is_lt (nat_cmp m n) ≡ nat_lt m n
-below_is m n = go (nat_lt m n) (m == n)
-  where
-    go : (a b : Bool) → is_lt (cond a Less (cond b Equal Greater)) ≡ a
-    go true b = refl
-    go false true = refl
-    go false false = refl
-
--- two numbers tie exactly if they are the same
-tie_is : (m n : ℕ) → not (is_lt (nat_cmp m n)) && not (is_lt (nat_cmp n m)) ≡ nat_eq n m
-tie_is m n = ap₂ (λ a b. not a && not b) (below_is m n) (below_is n m) ∙ go (cases_lt m n) (cases_lt n m)
-  where
-    go : (m < n) ⊎ (n ≤ m) → (n < m) ⊎ (m ≤ n) → not (nat_lt m n) && not (nat_lt n m) ≡ nat_eq n m
-    go (inl below) b = ap (λ a. not a && not (nat_lt n m)) (lt-ltb m n below) ∙ sym (ne_eqb n m (λ e. omega arith))
-    go (inr most) (inl above) = ap₂ (λ a b. not a && not b) (le-ltb m n most) (lt-ltb n m above) ∙ sym (ne_eqb n m (λ e. omega arith))
-    go (inr most) (inr least) = ap₂ (λ a b. not a && not b) (le-ltb m n most) (le-ltb n m least) ∙ sym (eq-eqb n m (omega arith))
 
 nothing : {X : Type 0} (xs : List X) → length xs ≡ 0 → xs ≡ []
 nothing [] e = refl

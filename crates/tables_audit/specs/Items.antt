@@ -1,5 +1,5 @@
 -- What rows of items and of their files show, as far as they have been read.
-use Rattle.std.specs.Prelude.{◌≡◌, ℕ, ◌+◌, nat_eq, Bool, true, ◌&&◌, List, [], ◌∷◌, ◌++◌, filter, All, Option, Some}
+use Rattle.std.specs.Prelude.{◌≡◌, ℕ, ◌+◌, nat_eq, Bool, true, ◌&&◌, List, [], ◌∷◌, ◌++◌, All, Option, Some}
 use Rattle.std.specs.List.{filter_map}
 use Rattle.std.specs.FinMap.{get}
 use Rattle.std.specs.FinMap as keyed
@@ -8,11 +8,10 @@ use Rattle.suites.specs.Keys.{key_order}
 use Rattle.suites.specs.Shelves.{ShelvesValue}
 use Rattle.suites.specs.declared.item.Item as shelf
 use Rattle.suites.specs.declared.key.ShelfKey.{ShelfKey}
-use Rattle.tables.specs.Refs.{is_ref_of}
 use Rattle.tables.specs.Rows.{Numbered, rows_of}
 use Rattle.tables.specs.declared.rows.ItemRow.{ItemRow}
 use Rattle.tables.specs.declared.rows.Ref.{Ref}
-use Rattle.tables_meaning.specs.Kept.{IsReadable}
+use Rattle.tables_meaning.specs.Kept.{IsReadable, refs_among}
 use Rattle.tables_meaning.specs.Shown.{MayStand, PutsRow, entry_with}
 
 -- the files are numbered on from n
@@ -20,9 +19,9 @@ unfoldable pub are_numbered_from : ℕ → List Ref → Bool
 are_numbered_from n [] = true
 are_numbered_from n (r ∷ refs) = nat_eq r.number n && are_numbered_from (n + 1) refs
 
--- the rows of the files of an item
+-- the rows of the files of an item, in the order of their numbers
 abbrev pub refs_at : Numbered Ref → ℕ → List Ref
-refs_at refs id = filter (is_ref_of id) (rows_of refs)
+refs_at refs id = refs_among (rows_of refs) id
 
 -- what a row shows
 abbrev pub entry_at : List Suite → Numbered Ref → ℕ × ItemRow → Option (ShelfKey × shelf.Item)

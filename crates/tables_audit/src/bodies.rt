@@ -2,7 +2,7 @@
 //!
 //! A body has to be an arrival's, or that of a file of the pool.
 
-ghost use Rattle.std.specs.Prelude.{◌≡◌, ◌↔◌, ◌≤◌, All, filter, length, map, min, nat_eq, IsTrue, IfOk};
+ghost use Rattle.std.specs.Prelude.{◌≡◌, ◌↔◌, ◌≤◌, ℕ, All, filter, length, map, min, nat_eq, IsTrue, IfOk};
 ghost use Rattle.std.specs.List.{list_any};
 ghost use Rattle.std.specs.List.Sorted.{IsNonDecreasing};
 ghost use Rattle.tables.specs.Pieces.{is_of};
@@ -33,22 +33,19 @@ fn count_of_bytes(pieces: &[(u64, Piece)], id: u64) -> usize
 }
 
 /// How many bytes a body has, or the most that can be counted.
-#[tactic(auto, unfolding(tables_meaning::specs::Kept::bytes_of))]
 pub fn size_of(pieces: &Pieces<'_>, id: u64) -> usize
     ensures { result ≡ min (length (bytes_of (tables_with pieces.now.all.now) id)) 18_446_744_073_709_551_615 }
 {
     count_of_bytes(pieces.about(id), id)
 }
 
-/// The bytes of the pieces of a body, one after another.
-fn joined(alloc: Global, pieces: &[(u64, Piece)], id: u64) -> Result<Vec<u8>, AllocError>
-    ensures { IfOk result (λ bytes. bytes.items ≡ bytes_in (filter (is_of id) (rows_of pieces.now))) }
+/// The bytes of these pieces, one after another, where they are so many.
+fn joined(alloc: Global, pieces: &[&Piece], size: usize) -> Result<Vec<u8>, AllocError>
+    ensures { IfOk result (λ bytes. bytes.items ≡ bytes_in (map (λ p. p.now) pieces.now)) }
 {
-    let mut bytes = Vec::with_capacity(alloc, count_of_bytes(pieces, id))?;
-    for row in pieces {
-        if row.1.body == id {
-            bytes.extend_from_slice(row.1.bytes.as_slice())?;
-        }
+    let mut bytes = Vec::with_capacity(alloc, size)?;
+    for piece in pieces {
+        bytes.extend_from_slice(piece.bytes.as_slice())?;
     }
     Ok(bytes)
 }
@@ -58,7 +55,8 @@ fn joined(alloc: Global, pieces: &[(u64, Piece)], id: u64) -> Result<Vec<u8>, Al
 pub fn bytes_of(alloc: Global, pieces: &Pieces<'_>, id: u64) -> Result<Vec<u8>, AllocError>
     ensures { IfOk result (λ bytes. bytes.items ≡ bytes_of (tables_with pieces.now.all.now) id) }
 {
-    joined(alloc, pieces.about(id), id)
+    let found = pieces.pieces_of(alloc, id)?;
+    joined(alloc, &found, size_of(pieces, id))
 }
 
 /// Whether the piece is the next one of a body of `whole` bytes, behind the first `size` of them.
@@ -76,22 +74,20 @@ fn is_next(piece: &Piece, size: u64, whole: u64) -> bool
     piece.bytes.as_slice().len() as u64 == left.min(PIECE_SIZE as u64)
 }
 
-/// Whether the pieces of a body among these rows are those of its bytes, and this is the print of these bytes. They are
-/// read one by one and never joined.
-fn are_pieces_of(pieces: &[(u64, Piece)], id: u64, print: &Print) -> bool
-    ensures { IsTrue result ↔ ArePieces id print.now (filter (is_of id) (rows_of pieces.now)) }
+/// Whether these pieces of a body are those of its bytes, and this is the print of these bytes. They are read one by one and never
+/// joined.
+fn are_pieces_of(pieces: &[&Piece], print: &Print) -> bool
+    ensures { (id : ℕ) → All (λ p. p.body ≡ id) (map (λ p. p.now) pieces.now) → (IsTrue result ↔ ArePieces id print.now (map (λ p. p.now) pieces.now)) }
 {
     let mut printer = Printer::new();
     let mut size = 0;
-    for row in pieces {
-        if row.1.body == id {
-            if !is_next(&row.1, size, print.size) {
-                return false;
-            }
-            let bytes = row.1.bytes.as_slice();
-            size += bytes.len() as u64;
-            printer.update(bytes);
+    for piece in pieces {
+        if !is_next(piece, size, print.size) {
+            return false;
         }
+        let bytes = piece.bytes.as_slice();
+        size += bytes.len() as u64;
+        printer.update(bytes);
     }
     *print == printer.finish()
 }
@@ -157,7 +153,8 @@ fn is_body_whole(
     let Some(print) = &row.1.print else {
         return Ok(false);
     };
-    Ok(are_pieces_of(pieces.about(row.0), row.0, print))
+    let found = pieces.pieces_of(alloc, row.0)?;
+    Ok(are_pieces_of(&found, print))
 }
 
 /// Whether each of these bodies is whole, in pieces, with the print of its bytes, and has arrived under some name or is that of a file.

@@ -1,9 +1,12 @@
 //! What the suites show, where the rows of items and of their files tell it.
 
-ghost use Rattle.std.specs.Prelude.{◌≡◌, true, false, None, IfOk, IfSome, IsTrue};
+ghost use Rattle.std.specs.Prelude.{◌≡◌, filter, true, false, None, IfOk, IfSome, IsTrue};
 ghost use Rattle.suites.specs.Shelves.{AreSound, ShelvesValue};
+ghost use Rattle.tables.specs.Refs.{is_ref_of};
+ghost use Rattle.tables.specs.Rows.{rows_of};
 ghost use Rattle.tables_read.specs.All.{AreConstrained, tables_with};
-ghost use Rattle.tables_meaning.specs.Kept.{AreItems, AreReadable, IsReadable};
+ghost use Rattle.tables_meaning.specs.Kept.{AreItems, AreReadable, IsReadable, ref_order};
+ghost use Rattle.tables_meaning.specs.Reads.{sorted_by};
 ghost use Rattle.tables_meaning.specs.Shown.{MayStand, PutsRow};
 ghost use Rattle.tables_audit.specs.Items.{AreShown, AreStopped, Joins, MayJoin, are_numbered_from, refs_at};
 
@@ -13,6 +16,7 @@ use para::Listed;
 use rules::{Config, Suite};
 use sqlite::{Error, ErrorCode};
 use std::alloc::{AllocError, Global};
+use std::cmp::Ordering;
 use suites::Shelves;
 use tables::rows::{ItemRow, Ref};
 use tables_read::AllRows;
@@ -47,7 +51,7 @@ fn copied_ref(row: &Ref) -> Result<Ref, AllocError>
 
 /// Copies of the rows of an item's files, in the order of the rows.
 fn refs_of(alloc: Global, refs: &[(u64, Ref)], item: u64) -> Result<Vec<Ref>, AllocError>
-    ensures { IfOk result (λ found. found.items ≡ refs_at refs.now item) }
+    ensures { IfOk result (λ found. found.items ≡ filter (is_ref_of item) (rows_of refs.now)) }
 {
     let mut found = Vec::new(alloc);
     for (_, row) in refs {
@@ -58,7 +62,22 @@ fn refs_of(alloc: Global, refs: &[(u64, Ref)], item: u64) -> Result<Vec<Ref>, Al
     Ok(found)
 }
 
-/// Copies of the rows of an item's files, in the order of the rows, looked up among all files.
+/// The order of the files of an item: by number.
+fn ref_order(a: &Ref, b: &Ref) -> Ordering
+    ensures { result ≡ ref_order a.now b.now }
+{
+    a.number.cmp(&b.number)
+}
+
+/// The rows of an item's files in the order of their numbers, whatever that in which they stand.
+pub fn refs_in_order(mut refs: Vec<Ref>) -> Result<Vec<Ref>, AllocError>
+    ensures { IfOk result (λ sorted. sorted.items ≡ sorted_by ref_order refs.items) }
+{
+    refs.sort_by(|a, b| ref_order(a, b))?;
+    Ok(refs)
+}
+
+/// Copies of the rows of an item's files, in the order of their numbers, looked up among all files.
 fn refs_by_item(
     alloc: Global,
     refs: &Rows<'_, (u64, Ref)>,
@@ -66,7 +85,7 @@ fn refs_by_item(
 ) -> Result<Vec<Ref>, AllocError>
     ensures { IfOk result (λ found. found.items ≡ refs_at refs.now.all.now item) }
 {
-    refs_of(alloc, refs.about(item), item)
+    refs_in_order(refs_of(alloc, refs.about(item), item)?)
 }
 
 /// Whether the files of an item are numbered 1, 2 and so on.

@@ -30,6 +30,7 @@ mod under_way;
 mod uploads;
 mod whole;
 
+pub use items::refs_in_order;
 pub use schema::is_archive_schema;
 pub use shelves::put_row;
 pub use under_way::are_under_way;

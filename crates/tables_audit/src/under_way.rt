@@ -4,15 +4,14 @@
 //! as an archive. If an arrival or a file of the pool names it, or its pieces are not those of a body, numbered from 1 and of 65,536 bytes
 //! but the last, the database is no archive.
 
-ghost use Rattle.std.specs.Prelude.{◌↔◌, ◌<◌, All, filter, IsTrue};
-ghost use Rattle.tables.specs.Pieces.{is_of};
-ghost use Rattle.tables.specs.Rows.{rows_of};
+ghost use Rattle.std.specs.Prelude.{◌≡◌, ◌↔◌, ◌<◌, ℕ, All, map, IfOk, IsTrue};
 ghost use Rattle.tables_read.specs.All.{tables_with};
 ghost use Rattle.tables_meaning.specs.Finished.{AreUnderWay};
 ghost use Rattle.tables_audit.specs.Bodies.{AreInPieces, IsBehind, IsInPieces};
 
 use crate::pieces::Pieces;
 use keep::PIECE_SIZE;
+use std::alloc::{AllocError, Global};
 use tables::rows::{BodyRow, Piece};
 use tables_read::AllRows;
 
@@ -28,53 +27,60 @@ fn is_behind(piece: &Piece, count: u64) -> bool
     size != 0 && size <= PIECE_SIZE as u64
 }
 
-/// Whether the pieces of a body among these rows are those of its bytes: numbered from 1, each full but the last. They are read one
-/// by one and never joined.
-fn are_in_pieces(pieces: &[(u64, Piece)], id: u64) -> bool
-    ensures { IsTrue result ↔ AreInPieces id (filter (is_of id) (rows_of pieces.now)) }
+/// Whether these pieces of a body are those of its bytes: numbered from 1, each full but the last. They are read one by one and never
+/// joined.
+fn are_in_pieces(pieces: &[&Piece]) -> bool
+    ensures { (id : ℕ) → All (λ p. p.body ≡ id) (map (λ p. p.now) pieces.now) → (IsTrue result ↔ AreInPieces id (map (λ p. p.now) pieces.now)) }
 {
     let mut count = 0;
     let mut is_full = true;
-    for row in pieces {
-        if row.1.body == id {
-            if !is_full {
-                return false;
-            }
-            if !is_behind(&row.1, count) {
-                return false;
-            }
-            count += 1;
-            is_full = row.1.bytes.as_slice().len() as u64 == PIECE_SIZE as u64;
+    for piece in pieces {
+        if !is_full {
+            return false;
         }
+        if !is_behind(piece, count) {
+            return false;
+        }
+        count += 1;
+        is_full = piece.bytes.as_slice().len() as u64 == PIECE_SIZE as u64;
     }
     true
 }
 
 /// Whether a body is whole, or its pieces are as those of a whole one.
-fn is_in_pieces(pieces: &Pieces<'_>, row: &(u64, BodyRow)) -> bool
-    ensures { IsTrue result ↔ IsInPieces (tables_with pieces.now.all.now) row.now }
+fn is_in_pieces(
+    alloc: Global,
+    pieces: &Pieces<'_>,
+    row: &(u64, BodyRow),
+) -> Result<bool, AllocError>
+    ensures { IfOk result (λ fits. IsTrue fits ↔ IsInPieces (tables_with pieces.now.all.now) row.now) }
 {
     if row.1.print.is_some() {
-        return true;
+        return Ok(true);
     }
-    are_in_pieces(pieces.about(row.0), row.0)
+    let found = pieces.pieces_of(alloc, row.0)?;
+    Ok(are_in_pieces(&found))
 }
 
 /// Whether each of these bodies is whole, or its pieces are as those of a whole one.
-fn are_all_in_pieces(pieces: &Pieces<'_>, rows: &[(u64, BodyRow)]) -> bool
-    ensures { IsTrue result ↔ All (IsInPieces (tables_with pieces.now.all.now)) rows.now }
+fn are_all_in_pieces(
+    alloc: Global,
+    pieces: &Pieces<'_>,
+    rows: &[(u64, BodyRow)],
+) -> Result<bool, AllocError>
+    ensures { IfOk result (λ fit. IsTrue fit ↔ All (IsInPieces (tables_with pieces.now.all.now)) rows.now) }
 {
     for row in rows {
-        if !is_in_pieces(pieces, row) {
-            return false;
+        if !is_in_pieces(alloc, pieces, row)? {
+            return Ok(false);
         }
     }
-    true
+    Ok(true)
 }
 
 /// Whether the pieces of each body that is not whole are as those of a whole one: numbered from 1, each full but the last.
-pub fn are_under_way(all: &AllRows) -> bool
-    ensures { IsTrue result ↔ AreUnderWay (tables_with all.now) }
+pub fn are_under_way(alloc: Global, all: &AllRows) -> Result<bool, AllocError>
+    ensures { IfOk result (λ fit. IsTrue fit ↔ AreUnderWay (tables_with all.now)) }
 {
-    are_all_in_pieces(&Pieces::new(all), &all.bodies)
+    are_all_in_pieces(alloc, &Pieces::new(all), &all.bodies)
 }

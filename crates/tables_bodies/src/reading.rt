@@ -1,16 +1,35 @@
 //! The bodies of files, which lie in pieces.
+//!
+//! The rows of pieces stand in any order, so those of a body are put in the order of their numbers before they are joined.
 
 ghost use Rattle.std.specs.Prelude.{◌≡◌, ◌≢◌, false, IfOk, MatchBool, option_map};
 ghost use Rattle.std.specs.List.{flat_map};
-ghost use Rattle.tables_meaning.specs.Kept.{bytes_of, files_in};
+ghost use Rattle.tables_meaning.specs.Kept.{bytes_of, files_in, piece_order};
+ghost use Rattle.tables_meaning.specs.Reads.{sorted_by};
 ghost use Rattle.tables.specs.Calls.{CommitsNoRows, CommitsNothing, CommitsNothingOfOurs, GoesOnInside, IsSame, KeepsCommitted, Looks, ReadFails, Reads};
 ghost use Rattle.tables_meaning.specs.Calls.{ReadUndone};
 
 use sqlite::{Alter, Connection, Error, Transaction};
 use std::alloc::{AllocError, Global};
+use std::cmp::Ordering;
 use tables::files::file_at;
 use tables::pieces::{pieces_of, pieces_of_inside};
 use tables::rows::Piece;
+
+/// The order of the pieces of a body: by number.
+fn piece_order(a: &Piece, b: &Piece) -> Ordering
+    ensures { result ≡ piece_order a.now b.now }
+{
+    a.number.cmp(&b.number)
+}
+
+/// Pieces in their order.
+fn in_order(mut pieces: Vec<Piece>) -> Result<Vec<Piece>, AllocError>
+    ensures { IfOk result (λ sorted. sorted.items ≡ sorted_by piece_order pieces.items) }
+{
+    pieces.sort_by(|a, b| piece_order(a, b))?;
+    Ok(pieces)
+}
 
 /// The bytes of pieces, one after another.
 pub fn joined(alloc: Global, pieces: &[Piece]) -> Result<Vec<u8>, AllocError>
@@ -34,7 +53,7 @@ pub fn read_body<S: Alter>(
     ensures err { ReadFails S.Store conn.old conn.new result }
     ensures survives { CommitsNothingOfOurs S.Store conn.old conn.new }
 {
-    let pieces = pieces_of(alloc, conn, id)?;
+    let pieces = in_order(pieces_of(alloc, conn, id)?)?;
     Ok(joined(alloc, &pieces)?)
 }
 
@@ -78,6 +97,6 @@ pub(crate) fn read_body_inside<S: Alter>(
     ensures kept { KeepsCommitted S.Store tx.old tx.new result }
     ensures survives { CommitsNothing S.Store tx.old tx.new }
 {
-    let pieces = pieces_of_inside(alloc, tx, id)?;
+    let pieces = in_order(pieces_of_inside(alloc, tx, id)?)?;
     Ok(joined(alloc, &pieces)?)
 }

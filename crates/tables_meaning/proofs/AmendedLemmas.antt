@@ -25,7 +25,6 @@ use Rattle.sums.specs.declared.print.Print.{Print}
 use Rattle.sums.proofs.Members.{all_at, by_name, from_map, here, there}
 use Rattle.tables.specs.Dates.{with_new_date}
 use Rattle.tables.specs.Files.{is_file_at}
-use Rattle.tables.specs.Pieces.{is_of}
 use Rattle.tables.specs.Rows.{Numbered, Tables, rows_of}
 use Rattle.tables.specs.Texts.{with_new_text}
 use Rattle.tables.specs.declared.rows.ArrivalRow.{ArrivalRow}
@@ -35,7 +34,7 @@ use Rattle.tables.specs.declared.rows.File.{File}
 use Rattle.tables.specs.declared.rows.TextRow.{TextRow}
 use Rattle.tables.specs.declared.rows.Piece.{Piece}
 use Rattle.texts.specs.Indices.{all_texts}
-use Rattle.tables_meaning.specs.Kept.{AreArrivals, AreFiles, AreItems, AreSigned, AreStored, AreUploads, IsBook, arrival_in, arrivals_in, book_in, bytes_of, date_row, files_in, has_body, print_at, wants_in}
+use Rattle.tables_meaning.specs.Kept.{AreArrivals, AreFiles, AreItems, AreSigned, AreStored, AreUploads, IsBook, arrival_in, arrivals_in, book_in, bytes_of, date_row, files_in, has_body, pieces_among, print_at, wants_in}
 use Rattle.tables_meaning.specs.Making.{with_new_dates, with_new_texts}
 use Rattle.tables_meaning.proofs.BodyLemmas.{are_stored}
 use Rattle.tables_meaning.proofs.DateLemmas.{in_range_past, length_past, renewed_dates}
@@ -148,7 +147,7 @@ pub record KeepsBodies (t new : Tables) : Type 0 where
 module _ (t new : Tables) (keeps : KeepsBodies t new) where
   pub bytes_kept : (id : ℕ) → bytes_of new id ≡ bytes_of t id
   unfolding bytes_of
-  bytes_kept id = ap (λ (ps : Numbered Piece). flat_map (λ (p : Piece). p.bytes) (filter (is_of id) (rows_of ps))) keeps.pieces
+  bytes_kept id = ap (λ (ps : Numbered Piece). flat_map (λ (p : Piece). p.bytes) (pieces_among (rows_of ps) id)) keeps.pieces
 
   pub arrivals_kept : arrivals_in new ≡ arrivals_in t
   unfolding arrivals_in

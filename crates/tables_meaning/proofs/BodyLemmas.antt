@@ -25,8 +25,10 @@ use Rattle.tables.specs.declared.rows.BodyRow.{BodyRow}
 use Rattle.tables.specs.declared.rows.File.{File}
 use Rattle.tables.specs.declared.rows.Piece.{Piece}
 use Rattle.tables.proofs.RowLemmas.{below_next}
-use Rattle.tables_meaning.specs.Kept.{AreBodies, AreStored, bytes_of, has_body, is_used, piece_at, piece_count, pieces_for, pieces_of, print_at}
+use Rattle.sqlite_keyed.specs.Lists.{sort_by as sorted_by}
+use Rattle.tables_meaning.specs.Kept.{AreBodies, AreStored, bytes_of, has_body, is_used, piece_at, piece_count, piece_order, pieces_for, pieces_of, print_at}
 use Rattle.tables_meaning.specs.Making.{with_bytes, with_pieces}
+use Rattle.tables_meaning.proofs.NumberOrders.{pieces_in_order}
 
 -- ---- lists
 
@@ -332,18 +334,22 @@ module _ (t : Tables) (up : Rises t.bodies) (h : AreStored t) (bytes : List ℕ)
   rows_are : rows_of now.pieces ≡ rows_of t.pieces ++ pieces_for next bytes
   rows_are = rows_with (pieces_for next bytes) t.pieces
 
-  filtered : (n : ℕ) → pieces_of now n ≡ pieces_of t n ++ filter (is_of n) (pieces_for next bytes)
+  -- the pieces of a body in the order of the rows
+  abbrev rows_about : Tables → ℕ → List Piece
+  rows_about u n = filter (is_of n) (rows_of u.pieces)
+
+  filtered : (n : ℕ) → rows_about now n ≡ rows_about t n ++ filter (is_of n) (pieces_for next bytes)
   filtered n = ap (filter (is_of n)) rows_are ∙ filter-append (is_of n) (rows_of t.pieces) (pieces_for next bytes)
 
   old_pieces : (n : ℕ) → has_body t n ≡ true → pieces_of now n ≡ pieces_of t n
-  old_pieces n old = filtered n ∙ ap (λ l. pieces_of t n ++ l) (other_pieces n next bytes (is_not_next n old)) ∙ append-nil (pieces_of t n)
+  old_pieces n old = ap (sorted_by piece_order) (filtered n ∙ ap (λ l. rows_about t n ++ l) (other_pieces n next bytes (is_not_next n old)) ∙ append-nil (rows_about t n))
 
-  free : pieces_of t next ≡ []
+  free : rows_about t next ≡ []
   free = none_kept (is_of next) (rows_of t.pieces)
       (λ q c. ne_eqb q.body next (is_not_next q.body (All-contains (λ q. IsTrue (has_body t q.body)) (rows_of t.pieces) q h.owned c)))
 
   new_pieces : pieces_of now next ≡ pieces_for next bytes
-  new_pieces = filtered next ∙ ap₂ ◌++◌ free (own_pieces next bytes)
+  new_pieces = ap (sorted_by piece_order) (filtered next ∙ ap₂ ◌++◌ free (own_pieces next bytes)) ∙ pieces_in_order next bytes
 
   old_bytes : (n : ℕ) → has_body t n ≡ true → bytes_of now n ≡ bytes_of t n
   unfolding bytes_of

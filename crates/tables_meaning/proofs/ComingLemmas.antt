@@ -6,6 +6,7 @@ use Rattle.std.proofs.lemmas.Bool.Decides.{nat_tests}
 use Rattle.std.proofs.lemmas.List.{length-append, take_all}
 use Rattle.std.proofs.lemmas.List.Elements.{All-contains, All-from_recursion, All-push, filter-append, recursion_from_All}
 use Rattle.std.proofs.lemmas.List.FromFn.{map-range_with_len_more}
+use Rattle.sqlite_keyed.specs.Lists.{sort_by as sorted_by}
 use Rattle.sqlite_keyed.proofs.ListLemmas.{all_weaker, filter_all}
 use Rattle.sums.specs.declared.entries.Entry.{Entry}
 use Rattle.sums.specs.declared.print.Print.{Print}
@@ -17,12 +18,13 @@ use Rattle.tables.specs.declared.rows.Piece.{Piece}
 use Rattle.tables.proofs.BodiesLemmas.{begun_body}
 use Rattle.tables_meaning.specs.Coming.{HasComing, bytes_so_far, coming_number, ended_number, with_begun, with_coming, with_ended, with_finished, with_next_piece, with_received, with_whole}
 use Rattle.tables_meaning.specs.Finished.{AreUnderWay, finished, is_unfinished, without_whole}
-use Rattle.tables_meaning.specs.Kept.{AreBodies, bytes_of, has_body, piece_at, piece_count, pieces_for, pieces_of}
+use Rattle.tables_meaning.specs.Kept.{AreBodies, bytes_of, has_body, piece_at, piece_count, piece_order, pieces_for, pieces_of}
 use Rattle.tables_meaning.specs.Making.{number_with, with_bytes, with_delivered, with_pieces}
 use Rattle.tables_meaning.specs.Taking.{listed_in}
 use Rattle.tables_meaning.proofs.BodyLemmas.{is_below_next, none_kept, only_pieces, own_pieces, pieces_joined, pieces_of_one, row_of_body, rows_with}
 use Rattle.tables_meaning.proofs.BodySteps.{bytes_new, bytes_there, number_new, number_there}
 use Rattle.tables_meaning.proofs.FinishedLemmas.{bodies_whole, body_finished, itself}
+use Rattle.tables_meaning.proofs.NumberOrders.{pieces_in_order}
 use Rattle.tables_meaning.proofs.PassingLemmas.{Passes, beside, bodies_left, finished_passes, pieces_left}
 use Rattle.tables_meaning.proofs.Searches.{all_of_rows, below_next}
 use Rattle.tables_meaning.proofs.UnderWayLemmas.{whole_under_way}
@@ -248,9 +250,11 @@ begun_pieces u bytes h =
     let ps = pieces_for n bytes in
     let free : filter (is_of n) (rows_of u.pieces) ≡ [] = none_kept (is_of n) (rows_of u.pieces)
     (λ q c. below_other q.body n (owner_below u h.rise q.body (All-contains (λ q. IsTrue (has_body u q.body)) (rows_of u.pieces) q h.owned c))) in
-    ap (λ (t : Tables). filter (is_of n) (rows_of t.pieces)) (only_pieces ps (with_body begun_body u))
+    ap (sorted_by piece_order)
+    (ap (λ (t : Tables). filter (is_of n) (rows_of t.pieces)) (only_pieces ps (with_body begun_body u))
     ∙ ap (filter (is_of n)) (rows_with ps u.pieces)
-    ∙ filter-append (is_of n) (rows_of u.pieces) ps ∙ ap₂ ◌++◌ free (own_pieces n bytes)
+    ∙ filter-append (is_of n) (rows_of u.pieces) ps ∙ ap₂ ◌++◌ free (own_pieces n bytes))
+    ∙ pieces_in_order n bytes
 
 begun_bytes : (u : Tables) (bytes : List ℕ) → AreWhole u → bytes_of (with_begun bytes u) (next_in u.bodies) ≡ bytes
 unfolding bytes_of

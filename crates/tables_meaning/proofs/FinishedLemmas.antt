@@ -7,6 +7,7 @@ use Rattle.std.proofs.lemmas.Bool.{and_right, eqb-true, false≢true}
 use Rattle.std.proofs.lemmas.Bool.Decides.{nat_tests}
 use Rattle.std.proofs.lemmas.List.Elements.{recursion_from_All}
 use Rattle.sqlite_keyed.proofs.ListLemmas.{all_both, all_of, all_weaker, any_from_none, ascending-filter, filter_all}
+use Rattle.sqlite_keyed.specs.Lists.{sort_by as sorted_by}
 use Rattle.records.specs.Records.{changes_in}
 use Rattle.records.specs.Values.{ChangesValue}
 use Rattle.rules.specs.declared.suite.Suite.{Suite}
@@ -26,7 +27,7 @@ use Rattle.tables.specs.declared.rows.File.{File}
 use Rattle.tables.specs.declared.rows.Piece.{Piece}
 use Rattle.tables.specs.declared.rows.UploadRow.{UploadRow}
 use Rattle.tables_meaning.specs.Finished.{finished, is_of_unfinished, is_unfinished}
-use Rattle.tables_meaning.specs.Kept.{AreArrivals, AreBodies, AreItems, AreNumbered, AreUploads, arrivals_in, bytes_of, files_in, has_body, pieces_of, print_at}
+use Rattle.tables_meaning.specs.Kept.{AreArrivals, AreBodies, AreItems, AreNumbered, AreUploads, arrivals_in, bytes_of, files_in, has_body, piece_order, pieces_of, print_at}
 use Rattle.tables_meaning.specs.Reads.{bytes_with, due_in, missing_in, text_in, upload_in, waiting_in, wanting, wanting_rows}
 use Rattle.tables_meaning.specs.Shown.{shown_in}
 use Rattle.tables_meaning.proofs.AmendedLemmas.{found_in}
@@ -193,11 +194,11 @@ pieces_left t id none (x ∷ xs) = go (is_of_unfinished t x.1) (is_of id x.1) re
 
 pub pieces_finished : (t : Tables) → Rises t.bodies → (id : ℕ) → has_body (finished t) id ≡ true → pieces_of (finished t) id ≡ pieces_of t id
 unfolding finished
-pieces_finished t up id there = pieces_left t id (left_whole t up id there) t.pieces
+pieces_finished t up id there = ap (sorted_by piece_order) (pieces_left t id (left_whole t up id there) t.pieces)
 
 pub bytes_finished : (t : Tables) → Rises t.bodies → (id : ℕ) → has_body (finished t) id ≡ true → bytes_of (finished t) id ≡ bytes_of t id
 unfolding bytes_of finished
-bytes_finished t up id there = ap (flat_map (λ (p : Piece). p.bytes)) (pieces_left t id (left_whole t up id there) t.pieces)
+bytes_finished t up id there = ap (λ (ps : List Piece). flat_map (λ (p : Piece). p.bytes) (sorted_by piece_order ps)) (pieces_left t id (left_whole t up id there) t.pieces)
 
 -- ---- what reads find
 

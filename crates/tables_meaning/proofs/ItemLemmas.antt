@@ -11,7 +11,7 @@ use Rattle.std.proofs.lemmas.List.Folds.{find-append, list_any-append}
 use Rattle.std.proofs.lemmas.Option.{slice_get-get_or}
 use Rattle.std.proofs.lemmas.Slice.Eq.{bytes_eq-Decides}
 use Rattle.sqlite_trees.specs.Tree.{IsAscending}
-use Rattle.sqlite_keyed.specs.Lists.{delete_where}
+use Rattle.sqlite_keyed.specs.Lists.{delete_where, sort_by as sorted_by}
 use Rattle.sqlite_keyed.proofs.ListLemmas.{all_weaker, all-filter, all-append, all-map, ascending-filter, ascending-append, filter-filter, filter_all, filter_none}
 use Rattle.rules.specs.declared.suite.Suite.{Suite}
 use Rattle.suites.specs.Keys.{key_order, kind_number}
@@ -27,7 +27,8 @@ use Rattle.tables.specs.Rows.{Numbered, Rises, added, next_in}
 use Rattle.tables.specs.declared.rows.ItemRow.{ItemRow}
 use Rattle.tables.specs.declared.rows.Ref.{Ref}
 use Rattle.tables.proofs.RowLemmas.{rises_added}
-use Rattle.tables_meaning.specs.Kept.{codename_at, item_row, refs_for, is_on, shown_row}
+use Rattle.tables_meaning.specs.Kept.{codename_at, item_row, ref_order, refs_among, refs_for, is_on, shown_row}
+use Rattle.tables_meaning.proofs.NumberOrders.{refs_in_order}
 use Rattle.tables_meaning.proofs.RowLists.{found_passes, found_holds, none_passes, only_one, find_kept, find_gone, any_kept, all_filtered, number_is, below_last}
 
 -- ---- rows and the keys of shelves
@@ -154,7 +155,7 @@ abbrev pub Stands : List Ref → List Suite → ShelfKey → Option (ℕ × Item
 Stands refs suites key None None = Unit {0}
 Stands refs suites key None (Some item) = ⊥
 Stands refs suites key (Some x) None = ⊥
-Stands refs suites key (Some x) (Some item) = ◌≡◌ {A = ItemRow × List Ref} (x.1, filter (is_ref_of x.0) refs) (shown_row suites key x.0 item)
+Stands refs suites key (Some x) (Some item) = ◌≡◌ {A = ItemRow × List Ref} (x.1, refs_among refs x.0) (shown_row suites key x.0 item)
 
 stands_at : (refs : List Ref) (suites : List Suite) (key : ShelfKey) (f g : Option (ℕ × ItemRow)) (a b : Option shelf.Item) → f ≡ g → a ≡ b → Stands refs suites key g b → Stands refs suites key f a
 stands_at refs suites key f g a b p q h = subst₂ (Stands refs suites key) (sym p) (sym q) h
@@ -164,7 +165,7 @@ stands_refs : (old new : List Ref) (suites : List Suite) (key : ShelfKey) (f : O
 stands_refs old new suites key None None same h = tt
 stands_refs old new suites key None (Some item) same h = absurd h
 stands_refs old new suites key (Some x) None same h = absurd h
-stands_refs old new suites key (Some x) (Some item) same h = ap (λ rs. (x.1, rs)) (same x refl) ∙ h
+stands_refs old new suites key (Some x) (Some item) same h = ap (λ rs. (x.1, sorted_by ref_order rs)) (same x refl) ∙ h
 
 stands_none : (refs : List Ref) (suites : List Suite) (key : ShelfKey) (f : Option (ℕ × ItemRow)) → Stands refs suites key f None → f ≡ None
 stands_none refs suites key None h = refl
@@ -287,12 +288,14 @@ refs_past refs k id item apart =
     ∙ ap (λ rs. filter (is_ref_of k) refs ++ rs) (filter_none (is_ref_of k) (refs_for id item) (all-map (λ (r : Ref). is_ref_of k r ≡ false) _ (λ f. apart) (enumerate_from 1 item.files)))
     ∙ append-nil (filter (is_ref_of k) refs)
 
-refs_first : (refs : List Ref) (id : ℕ) (item : shelf.Item) → AllByRecursion (λ r. is_ref_of id r ≡ false) refs → filter (is_ref_of id) (refs ++ refs_for id item) ≡ refs_for id item
+refs_first : (refs : List Ref) (id : ℕ) (item : shelf.Item) → AllByRecursion (λ r. is_ref_of id r ≡ false) refs → refs_among (refs ++ refs_for id item) id ≡ refs_for id item
 unfolding refs_for
 refs_first refs id item none =
-    filter-append (is_ref_of id) refs (refs_for id item)
+    ap (sorted_by ref_order)
+    (filter-append (is_ref_of id) refs (refs_for id item)
     ∙ ap (λ rs. rs ++ filter (is_ref_of id) (refs_for id item)) (filter_none (is_ref_of id) refs none)
-    ∙ filter_all (is_ref_of id) (refs_for id item) (all-map (λ (r : Ref). is_ref_of id r ≡ true) _ (λ f. eq-eqb id id refl) (enumerate_from 1 item.files))
+    ∙ filter_all (is_ref_of id) (refs_for id item) (all-map (λ (r : Ref). is_ref_of id r ≡ true) _ (λ f. eq-eqb id id refl) (enumerate_from 1 item.files)))
+    ∙ refs_in_order id item
 
 refs_of_item : (id : ℕ) (item : shelf.Item) → AllByRecursion (λ r. r.item ≡ id) (refs_for id item)
 unfolding refs_for

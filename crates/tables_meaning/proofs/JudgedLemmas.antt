@@ -13,14 +13,13 @@ use Rattle.keep.specs.Book.{Candidate, candidates, is_judged}
 use Rattle.keep.specs.Keeping.{sign_of, sign_on}
 use Rattle.keep.specs.declared.arrival.Arrival.{Arrival}
 use Rattle.keep.specs.declared.change.Judgement.{Judgement}
-use Rattle.tables.specs.Pieces.{is_of}
 use Rattle.tables.specs.Rows.{Numbered, Rises, Tables, rows_of}
 use Rattle.tables.specs.Uploads.{is_judged as has_place, is_upload, with_verdict}
 use Rattle.tables.specs.Wants.{is_wanted_by, without_wants}
 use Rattle.tables.specs.declared.rows.ArrivalRow.{ArrivalRow}
 use Rattle.tables.specs.declared.rows.UploadRow.{UploadRow}
 use Rattle.tables.specs.declared.rows.Want.{Want}
-use Rattle.tables_meaning.specs.Kept.{AreNumbered, AreUploads, Request, arrivals_in, bytes_of, is_placed, judged_row, request_of, sign_in}
+use Rattle.tables_meaning.specs.Kept.{AreNumbered, AreUploads, Request, arrivals_in, bytes_of, is_placed, judged_row, pieces_among, request_of, sign_in}
 use Rattle.tables_meaning.specs.Making.{with_judged}
 use Rattle.tables_meaning.proofs.StepLemmas.{rises_changed}
 use Rattle.tables_meaning.proofs.RowLists.{found_passes, found_holds, none_passes, all_filtered}
@@ -343,7 +342,7 @@ judged_others place j t =
 pub same_arrivals : (old new : Tables) → new.arrivals ≡ old.arrivals → new.pieces ≡ old.pieces → arrivals_in new ≡ arrivals_in old
 unfolding arrivals_in bytes_of
 same_arrivals old new arrivals pieces =
-    ap₂ (λ rows parts. map (λ (a : ArrivalRow). record { name = a.name; body = flat_map (λ p. p.bytes) (filter (is_of a.body) (rows_of parts)); moment = a.moment }) (rows_of rows)) arrivals pieces
+    ap₂ (λ rows parts. map (λ (a : ArrivalRow). record { name = a.name; body = flat_map (λ p. p.bytes) (pieces_among (rows_of parts) a.body); moment = a.moment }) (rows_of rows)) arrivals pieces
 
 pub arrivals_judged : (place : ℕ) (j : Judgement) (t : Tables) → arrivals_in (with_judged place j t) ≡ arrivals_in t
 arrivals_judged place j t = let h = judged_others place j t in same_arrivals t (with_judged place j t) h.arrivals h.pieces

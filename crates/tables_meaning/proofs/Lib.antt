@@ -4,6 +4,7 @@ pub mod AsciiLemmas
 pub mod AsciiPaths
 pub mod AsciiItems
 pub mod PathLemmas
+pub mod NumberOrders
 pub mod BodyLemmas
 pub mod ArrivalLemmas
 pub mod ItemLemmas
@@ -21,6 +22,7 @@ pub mod RisingNumbers
 pub mod WantLemmas
 pub mod SignOrder
 pub mod SortedLemmas
+pub mod Orders
 pub mod RequestLemmas
 pub mod UploadLemmas
 pub mod JudgedLemmas

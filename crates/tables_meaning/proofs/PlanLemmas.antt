@@ -29,7 +29,7 @@ use Rattle.tables.specs.declared.rows.File.{File}
 use Rattle.tables.specs.declared.rows.ItemRow.{ItemRow}
 use Rattle.tables.specs.declared.rows.Ref.{Ref}
 use Rattle.tables.proofs.Pairwise.{ascending_from_pairs, pairs_from_ascending}
-use Rattle.tables_meaning.specs.Kept.{AreFiles, AreItems, AreNumbered, AreStored, has_body, is_on, item_row, refs_for, shown_row}
+use Rattle.tables_meaning.specs.Kept.{AreFiles, AreItems, AreNumbered, AreStored, has_body, is_on, item_row, refs_among, refs_for, shown_row}
 use Rattle.tables_meaning.specs.Making.{with_plan, with_pooled, with_refs, with_shown, without_shown}
 use Rattle.tables_meaning.specs.Planned.{IsPlanned, KeepsOthers, MayPlan}
 use Rattle.tables_meaning.proofs.RowLists.{some_is_one, along_drops, along_puts}
@@ -93,7 +93,7 @@ pooled_part t f = go (body_with f.print t.bodies)
 -- ---- items, as facts row by row
 
 abbrev shown_by : List Ref → ℕ × ItemRow → ItemRow × List Ref
-shown_by refs x = (x.1, filter (is_ref_of x.0) refs)
+shown_by refs x = (x.1, refs_among refs x.0)
 
 stands_from : (refs : List Ref) (suites : List Suite) (key : ShelfKey) (f : Option (ℕ × ItemRow)) (a : Option shelf.Item)
     → option_map (shown_by refs) f ≡ option_and_then (λ x. option_map (shown_row suites key x.0) a) f

@@ -1,5 +1,5 @@
 -- The rows of items, of their files and of the pool can be held, and the items can be read.
-use Rattle.std.proofs.Common.{◌≡◌, ℕ, ◌+◌, ◌<◌, true, false, List, [], ◌∷◌, find, length, Option, Some, None, All, IsTrue, nat_eq, bytes_eq, refl, sym, ap, subst, ◌∙◌, inl, inr, slice_get}
+use Rattle.std.proofs.Common.{◌≡◌, ℕ, ◌+◌, ◌<◌, true, false, List, [], ◌∷◌, filter, find, length, Option, Some, None, All, IsTrue, nat_eq, bytes_eq, refl, sym, ap, subst, ◌∙◌, inl, inr, slice_get}
 use Rattle.std.specs.Prelude.{Contains}
 use Rattle.std.specs.FinMap.{entries, get, get-from_entries, values}
 use Rattle.std.specs.List.{enumerate_from, list_any}
@@ -9,9 +9,11 @@ use Rattle.std.proofs.Math.Logic.{∥∥₁_elim, ∥∥₁_map}
 use Rattle.std.proofs.Props.{props}
 use Rattle.std.proofs.lemmas.Bool.{both_ways, eq-eqb, eqb-true}
 use Rattle.std.proofs.lemmas.List.Elements.{recursion_from_All}
+use Rattle.std.proofs.lemmas.List.Sorted.{Contains-permutation, IsPermutation-sym}
 use Rattle.std.proofs.lemmas.Option.{same_Some}
 use Rattle.std.proofs.lemmas.Slice.Eq.{bytes_eq-Decides}
 use Rattle.std.proofs.lemmas.Str.{IsUtf8-from_is_utf8, is_utf8-from_IsUtf8}
+use Rattle.sqlite_keyed.proofs.SortLemmas.{IsPermutation-sort_by}
 use Rattle.rules.specs.declared.suite.Suite.{Suite}
 use Rattle.sums.proofs.Members.{all_at, all_from, any_some, contains_map, from_map, here, no_member, there, which}
 use Rattle.sums.specs.Prints.{print as print_of}
@@ -38,11 +40,12 @@ use Rattle.tables.specs.declared.rows.File.{File}
 use Rattle.tables.specs.declared.rows.ItemRow.{ItemRow}
 use Rattle.tables.specs.declared.rows.Ref.{Ref}
 use Rattle.vers.specs.Syntax.{IsVersion}
-use Rattle.tables_meaning.specs.Kept.{AreBodies, AreFiles, AreItems, AreReadable, IsReadable, bytes_of, codename_at, has_body, is_on, item_row, print_at, refs_for, refs_in, shown_row}
+use Rattle.tables_meaning.specs.Kept.{AreBodies, AreFiles, AreItems, AreReadable, IsReadable, bytes_of, codename_at, has_body, is_on, item_row, print_at, ref_order, refs_for, refs_in, shown_row}
 use Rattle.tables_meaning.specs.Kept as kept
 use Rattle.tables_meaning.proofs.AsciiItems.{IsPlainItem, shown_plain, sliced}
 use Rattle.tables_meaning.proofs.AsciiLemmas.{AreAscii, ascii-IsUtf8, version_ascii}
 use Rattle.tables_meaning.proofs.BodyLemmas.{apart_same, found, none_found, row_of_body}
+use Rattle.tables_meaning.proofs.NumberOrders.{ref_order_total}
 use Rattle.texts.proofs.Paths.{HasNames}
 use Rattle.texts.proofs.Pairs.{pairs_unmap}
 use Rattle.tables_meaning.proofs.Searches.{all_in_rows}
@@ -216,7 +219,10 @@ module _ (t : Tables) (suites : List Suite) (shown : ShelvesValue) (names : (s :
   plain_ref r at =
       let owner = any_some (λ (x : ℕ × ItemRow). nat_eq x.0 r.item) t.items (all_at (λ (s : Ref). IsTrue (list_any (λ x. nat_eq x.0 s.item) t.items)) (rows_of t.refs) r items.owned at) in
       let x = owner.0 in
-      let its : Contains (refs_in t x.0) r = to_filter (is_ref_of x.0) r (rows_of t.refs) at (eq-eqb r.item x.0 (sym (eqb-true x.0 r.item owner.2))) in
+      let of_item = filter (is_ref_of x.0) (rows_of t.refs) in
+      let its : Contains (refs_in t x.0) r =
+      Contains-permutation of_item (refs_in t x.0) r (IsPermutation-sym (refs_in t x.0) of_item (IsPermutation-sort_by ref_order ref_order_total of_item))
+      (to_filter (is_ref_of x.0) r (rows_of t.refs) at (eq-eqb r.item x.0 (sym (eqb-true x.0 r.item owner.2)))) in
       ∥∥₁_elim (on_shelf x owner.1) (hlevel props) (λ on. ref_plain r x on.0 on.1 its)
 
   pub real_refs : All IsRealRef (rows_of t.refs)

@@ -10,19 +10,23 @@ use Rattle.tables.specs.Pieces.{is_of, is_piece}
 use Rattle.tables.specs.Rows.{Tables, rows_of}
 use Rattle.tables.specs.declared.rows.Piece.{Piece}
 use Rattle.tables_meaning.specs.Coming.{HasSamePieces, bytes_at}
-use Rattle.tables_meaning.specs.Kept.{piece_at, piece_count, pieces_for, pieces_of}
+use Rattle.tables_meaning.specs.Kept.{piece_at, piece_count, pieces_among, pieces_for, pieces_of}
 use Rattle.tables_meaning.proofs.BodyLemmas.{pieces_joined}
+use Rattle.tables_meaning.proofs.NumberOrders.{piece_at_number}
 
 abbrev at_number : ℕ → Piece → Bool
 at_number number p = nat_eq p.number number
 
 -- a piece is looked for among those of its body
-found_among : (id number : ℕ) (ps : List Piece) → find (is_piece id number) ps ≡ find (at_number number) (filter (is_of id) ps)
-found_among id number [] = refl
-found_among id number (p ∷ ps) = elim (is_of id p) as (λ b. cond (b && at_number number p) (Some p) (find (is_piece id number) ps) ≡ find (at_number number) (cond b (p ∷ filter (is_of id) ps) (filter (is_of id) ps))) [
-  | true ↦ ap (cond (at_number number p) (Some p)) (found_among id number ps)
-  | false ↦ found_among id number ps
+found_in_rows : (id number : ℕ) (ps : List Piece) → find (is_piece id number) ps ≡ find (at_number number) (filter (is_of id) ps)
+found_in_rows id number [] = refl
+found_in_rows id number (p ∷ ps) = elim (is_of id p) as (λ b. cond (b && at_number number p) (Some p) (find (is_piece id number) ps) ≡ find (at_number number) (cond b (p ∷ filter (is_of id) ps) (filter (is_of id) ps))) [
+  | true ↦ ap (cond (at_number number p) (Some p)) (found_in_rows id number ps)
+  | false ↦ found_in_rows id number ps
 ]
+
+found_among : (id number : ℕ) (ps : List Piece) → find (is_piece id number) ps ≡ find (at_number number) (pieces_among ps id)
+found_among id number ps = found_in_rows id number ps ∙ sym (piece_at_number number (filter (is_of id) ps))
 
 module _ (id : ℕ) (bytes : List ℕ) where
   abbrev piece_in : ℕ → Piece

@@ -6,6 +6,7 @@ use Rattle.std.specs.Option.{option_and_then, option_map}
 use Rattle.std.proofs.lemmas.Bool.{both_ways, eq-eqb, eqb-true, false_from_ne_true}
 use Rattle.std.proofs.lemmas.List.Elements.{All-contains, All-from_recursion, recursion_from_All}
 use Rattle.sqlite_keyed.proofs.ListLemmas.{all_of, all_weaker, any_from_none, ascending-filter}
+use Rattle.sqlite_keyed.specs.Lists.{sort_by as sorted_by}
 use Rattle.rules.specs.Configuration.{config_in}
 use Rattle.rules.specs.Values.{ConfigValue}
 use Rattle.sums.specs.Prints.{print as print_of}
@@ -24,7 +25,7 @@ use Rattle.tables.specs.declared.rows.File.{File}
 use Rattle.tables.specs.declared.rows.Piece.{Piece}
 use Rattle.tables.specs.declared.meta.TheConstants.{VERSION}
 use Rattle.tables.proofs.Pairwise.{ascending_from_pairs, pairs_from_ascending}
-use Rattle.tables_meaning.specs.Kept.{AreArrivals, AreBodies, AreFiles, AreItems, AreSigned, AreStored, AreUploads, IsBook, arrival_in, arrivals_in, book_in, bytes_of, date_row, files_in, has_body, is_used, pieces_for, pieces_of, print_at}
+use Rattle.tables_meaning.specs.Kept.{AreArrivals, AreBodies, AreFiles, AreItems, AreSigned, AreStored, AreUploads, IsBook, arrival_in, arrivals_in, book_in, bytes_of, date_row, files_in, has_body, is_used, piece_order, pieces_for, pieces_of, print_at}
 use Rattle.tables_meaning.specs.Sweeping.{swept}
 use Rattle.tables_meaning.proofs.BodyLemmas.{all_if, found, its_arrival, its_file, map_alike, row_of_body}
 use Rattle.tables_meaning.proofs.LikeLemmas.{items_like}
@@ -99,11 +100,11 @@ module _ (u : Tables) where
 
   pub pieces_swept : (id : ℕ) → is_used u id ≡ true → pieces_of (swept u) id ≡ pieces_of u id
   unfolding swept
-  pieces_swept id used = pieces_left id used u.pieces
+  pieces_swept id used = ap (sorted_by piece_order) (pieces_left id used u.pieces)
 
   pub bytes_swept : (id : ℕ) → is_used u id ≡ true → bytes_of (swept u) id ≡ bytes_of u id
   unfolding swept bytes_of
-  bytes_swept id used = ap (flat_map (λ (p : Piece). p.bytes)) (pieces_left id used u.pieces)
+  bytes_swept id used = ap (λ (ps : List Piece). flat_map (λ (p : Piece). p.bytes) (sorted_by piece_order ps)) (pieces_left id used u.pieces)
 
   -- ---- bodies
 

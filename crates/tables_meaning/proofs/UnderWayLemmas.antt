@@ -1,15 +1,14 @@
 -- The pieces of bodies that are not whole, where rows are finished or bodies and pieces are others' too.
-use Rattle.std.proofs.Common.{◌≡◌, ℕ, false, not, filter, All, Option, None, is_some, sym, ap, subst, subst₂, ◌∙◌, true≢false}
+use Rattle.std.proofs.Common.{◌≡◌, ℕ, false, not, All, Option, None, is_some, sym, ap, subst, subst₂, ◌∙◌, true≢false}
 use Rattle.std.specs.List.{AllByRecursion, flat_map}
 use Rattle.std.proofs.lemmas.List.Elements.{All-from_recursion}
 use Rattle.sqlite_keyed.proofs.ListLemmas.{all_weaker}
 use Rattle.sums.specs.declared.print.Print.{Print}
-use Rattle.tables.specs.Pieces.{is_of}
 use Rattle.tables.specs.Rows.{Numbered, Tables, rows_of}
 use Rattle.tables.specs.declared.rows.BodyRow.{BodyRow}
 use Rattle.tables.specs.declared.rows.Piece.{Piece}
 use Rattle.tables_meaning.specs.Finished.{AreUnderWay, finished, is_unfinished}
-use Rattle.tables_meaning.specs.Kept.{bytes_of, pieces_for, pieces_of}
+use Rattle.tables_meaning.specs.Kept.{bytes_of, pieces_among, pieces_for, pieces_of}
 use Rattle.tables_meaning.proofs.FinishedLemmas.{whole_left}
 
 has_print : (o : Option Print) → not (is_some o) ≡ false → o ≡ None → ⊥
@@ -33,5 +32,5 @@ pub like_under_way : (t u : Tables) → u.bodies ≡ t.bodies → u.pieces ≡ t
 unfolding bytes_of
 like_under_way t u bodies pieces h =
     let AreIn : Numbered BodyRow → Numbered Piece → Type 0 =
-    λ bodies pieces. All (λ x. x.1.print ≡ None → filter (is_of x.0) (rows_of pieces) ≡ pieces_for x.0 (flat_map (λ p. p.bytes) (filter (is_of x.0) (rows_of pieces)))) bodies in
+    λ bodies pieces. All (λ x. x.1.print ≡ None → pieces_among (rows_of pieces) x.0 ≡ pieces_for x.0 (flat_map (λ p. p.bytes) (pieces_among (rows_of pieces) x.0))) bodies in
     record { pieces = subst₂ AreIn (sym bodies) (sym pieces) h.pieces }

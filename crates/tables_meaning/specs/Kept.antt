@@ -3,7 +3,10 @@ use Rattle.std.specs.Prelude.{◌≡◌, ◌≢◌, ◌≤◌, ◌<◌, ℕ, ◌
 use Rattle.std.specs.List.{AllPairs, list_any, flat_map, enumerate_from, zip, range_with_len}
 use Rattle.std.specs.Option.{option_and_then, option_map_or}
 use Rattle.std.specs.FinMap.{get}
+use Rattle.std.specs.Ordering.{nat_cmp}
 use Rattle.std.specs.Str.{IsUtf8}
+use Rattle.std.specs.declared.cmp.Ordering.{Ordering}
+use Rattle.sqlite_keyed.specs.Lists.{sort_by as sorted_by}
 use Rattle.rules.specs.Configuration.{config_in}
 use Rattle.rules.specs.Values.{ConfigValue}
 use Rattle.rules.specs.Verdicts.{number_of}
@@ -44,9 +47,17 @@ use Rattle.vers.specs.Syntax.{IsVersion}
 
 -- ---- bodies
 
--- the pieces of a body, in the order of their rows
+-- the order of the pieces of a body: by number
+abbrev pub piece_order : Piece → Piece → Ordering
+piece_order p q = nat_cmp p.number q.number
+
+-- the pieces of a body among these, in their order
+abbrev pub pieces_among : List Piece → ℕ → List Piece
+pieces_among pieces id = sorted_by piece_order (filter (is_of id) pieces)
+
+-- the pieces of a body, whatever the order of the rows
 abbrev pub pieces_of : Tables → ℕ → List Piece
-pieces_of t id = filter (is_of id) (rows_of t.pieces)
+pieces_of t id = pieces_among (rows_of t.pieces) id
 
 -- the bytes of a body: those of its pieces
 unfoldable pub bytes_of : Tables → ℕ → List ℕ
@@ -196,8 +207,17 @@ item_row suites e = record {
 unfoldable pub refs_for : ℕ → shelf.Item → List Ref
 refs_for id item = map (λ f. record { item = id; number = f.0; path = f.1.path; print = f.1.print }) (enumerate_from 1 item.files)
 
+-- the order of the files of an item: by number
+abbrev pub ref_order : Ref → Ref → Ordering
+ref_order r s = nat_cmp r.number s.number
+
+-- the files of an item among these, in their order
+abbrev pub refs_among : List Ref → ℕ → List Ref
+refs_among refs id = sorted_by ref_order (filter (is_ref_of id) refs)
+
+-- the files of an item, whatever the order of the rows
 abbrev pub refs_in : Tables → ℕ → List Ref
-refs_in t id = filter (is_ref_of id) (rows_of t.refs)
+refs_in t id = refs_among (rows_of t.refs) id
 
 -- the row is that of this shelf
 abbrev pub is_on : List Suite → ShelfKey → ℕ × ItemRow → Bool

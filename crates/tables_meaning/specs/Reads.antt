@@ -1,8 +1,7 @@
 -- The words of the reads: the uploads that want something, in the order of judging, and those that are due.
-use Rattle.std.specs.Prelude.{IsTrue, ℕ, nat_eq, not, if◌then◌else◌, List, [], ◌∷◌, map, filter, find, length, Option, None, option_map, unwrap_or}
+use Rattle.std.specs.Prelude.{IsTrue, ℕ, nat_eq, not, if◌then◌else◌, List, [], map, filter, find, length, Option, None, option_map, unwrap_or}
 use Rattle.std.specs.List.{list_any}
 use Rattle.std.specs.Option.{option_and_then}
-use Rattle.std.specs.Ordering.{is_gt}
 use Rattle.std.specs.Result.{result_ok}
 use Rattle.std.specs.declared.cmp.Ordering.{Ordering}
 use Rattle.records.specs.Records.{changes_in}
@@ -21,14 +20,8 @@ use Rattle.tables_meaning.specs.Kept.{bytes_of, sign_in}
 
 -- ---- the order of judging
 
--- the list with one more in its place, before those that tie with it
-abbrev pub put_by : {X : Type 0} → (X → X → Ordering) → X → List X → List X
-put_by order x [] = x ∷ []
-put_by order x (y ∷ ys) = if is_gt (order x y) then y ∷ put_by order x ys else x ∷ y ∷ ys
-
-abbrev pub sorted_by : {X : Type 0} → (X → X → Ordering) → List X → List X
-sorted_by order [] = []
-sorted_by order (x ∷ xs) = put_by order x (sorted_by order xs)
+-- `put_by` puts one more in its place, before those that tie with it, and `sorted_by` one after the other.
+pub use Rattle.sqlite_keyed.specs.Lists.{insert_sorted as put_by, sort_by as sorted_by}
 
 -- the order of two uploads with their numbers
 abbrev pub row_order : ℕ × UploadRow → ℕ × UploadRow → Ordering

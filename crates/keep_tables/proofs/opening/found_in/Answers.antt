@@ -16,9 +16,9 @@ returns-then-are_named-clause-none c keys up same readable under config judged s
     let named : are_named t (unfinished_ids t.bodies) ≡ true = search rules in
     named_none t up named config judged shown dates h
 
-pub returns-then-not-are_under_way-clause-none : goal.returns-then-not-are_under_way-clause-none
-returns-then-not-are_under_way-clause-none c keys up same readable under config judged shown dates h =
-    absurd (iff_false c.are_under_way.ensures c.if-not-are_under_way.true under)
+pub returns-then-not-branch-clause-none : goal.returns-then-not-branch-clause-none
+returns-then-not-branch-clause-none c keys up same readable under config judged shown dates h =
+    absurd (iff_false c.in_ok-are_under_way.ensures c.if-not-branch.true under)
 
 pub returns-in_default-clause-none : goal.returns-in_default-clause-none
 returns-in_default-clause-none c keys up same readable under config judged shown dates h =
@@ -39,7 +39,7 @@ returns-clause-some c keys =
     let is : whole ≡ finished t = c.finished_rows-whole.ensures in
     let kept : IsBook whole c.in-Some.held.config c.in-Some.held.judged.items c.in-Some.held.shelves c.in-Some.held.dates.items =
     at_some _ _ c.in-Some.held c.in-Some.is (c.in_ok-held.ensures.some (constrained_whole t whole is keys none)) in
-    (subst (λ u. KeepsSome u c.in-Some.held.config c.in-Some.held.judged.items c.in-Some.held.dates.items) is ∣ (c.in-Some.held.shelves, kept) ∣₁, c.are_under_way.ensures.0 c.if-not-are_under_way.false, ids)
+    (subst (λ u. KeepsSome u c.in-Some.held.config c.in-Some.held.judged.items c.in-Some.held.dates.items) is ∣ (c.in-Some.held.shelves, kept) ∣₁, c.in_ok-are_under_way.ensures.0 c.if-not-branch.false, ids)
 
 pub returns-clause-shown : goal.returns-clause-shown
 returns-clause-shown c keys =

@@ -1,11 +1,12 @@
-use Rattle.std.proofs.Common.{◌≡◌, Some, IsTrue, sym, ap, subst, ◌∙◌}
+use Rattle.std.proofs.Common.{◌≡◌, All, Some, IsTrue, sym, ap, subst, ◌∙◌}
 use Rattle.std.specs.Prelude.{◌↔◌}
 use Rattle.std.proofs.lemmas.Bool.{false≢true}
 use Rattle.std.proofs.lemmas.Option.{same_Some}
+use Rattle.tables.specs.Rows.{rows_of}
 use Rattle.tables_read.specs.All.{tables_with}
-use Rattle.tables_meaning.specs.Kept.{bytes_of}
+use Rattle.tables_meaning.specs.Kept.{bytes_of, pieces_of}
 use Rattle.tables_audit.specs.Bodies.{ArePieces}
-use Rattle.tables_audit.proofs.BodiesLemmas.{used_same}
+use Rattle.tables_audit.proofs.BodiesLemmas.{their_body, used_same, views}
 use Rattle.tables_audit.proofs.bodies.is_body_whole.Goals as goal
 
 pub returns-then-not-is_among : goal.returns-then-not-is_among
@@ -21,7 +22,8 @@ returns c =
     let id = c.args.row.now.0 in
     let t = tables_with c.args.pieces.now.all.now in
     let print = c.in-Some.print in
-    let are = subst (λ ps. IsTrue c.are_pieces_of.result ↔ ArePieces id print ps) c.about.ensures c.are_pieces_of.ensures in
+    let found : views c.deref.result.now ≡ pieces_of t id = ap views c.deref.ensures.value ∙ c.in_ok-found.ensures in
+    let are = subst (λ ps. All (λ p. p.body ≡ id) ps → (IsTrue c.are_pieces_of.result ↔ ArePieces id print ps)) found (c.are_pieces_of.ensures id) (their_body id (rows_of t.pieces)) in
     let stored : c.args.row.now.1.print ≡ Some print = c.in-Some.is in (
       λ e.
           let all = are.0 e in

@@ -8,7 +8,7 @@ use Rattle.tables_audit.proofs.under_way.are_all_in_pieces.Goals as goal
 pub loop-row-preserved : goal.loop-row-preserved
 loop-row-preserved c =
     All-more (IsInPieces (tables_with c.args.pieces.now.all.now)) c.args.rows.now c.loop-row.row-index _ c.loop-row-test.true c.loop-row.invariant
-    (c.is_in_pieces.ensures.0 c.if-not-is_in_pieces.false)
+    (c.in_ok-is_in_pieces.ensures.0 c.if-not-branch.false)
 
 pub returns : goal.returns
 returns c = (
