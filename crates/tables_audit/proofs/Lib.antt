@@ -1,5 +1,6 @@
 pub mod ArrivalsLemmas
 pub mod BodiesLemmas
+pub mod AmongLemmas
 pub mod DatesLemmas
 pub mod FilesLemmas
 pub mod ItemsLemmas

@@ -1,33 +1,83 @@
 -- The texts of suites, row after row.
-use Rattle.std.proofs.Common.{◌≡◌, ◌≢◌, ◌↔◌, ◌<◌, ◌≤◌, ℕ, zero, suc, ◌+◌, ◌==◌, Bool, false, IsTrue, List, [], ◌∷◌, ◌++◌, map, codes, length, drop, get_or, Option, Some, slice_get, refl, sym, ap, subst, ◌∙◌, arith}
-use Rattle.std.specs.List.{zip}
+use Rattle.std.proofs.Common.{◌≡◌, ◌≢◌, ◌↔◌, ◌<◌, ◌≤◌, ℕ, zero, suc, ◌+◌, ◌-◌, ◌==◌, false, IsTrue, List, [], ◌∷◌, ◌++◌, map, codes, length, drop, get_or, Option, Some, slice_get, IsPermutation, refl, sym, ap, subst, ◌∙◌, arith}
+use Rattle.std.specs.List.{AllByRecursion, zip}
 use Rattle.std.specs.Option.{IfSome, option_map_or}
-use Rattle.std.proofs.lemmas.Bool.{eqb-true}
-use Rattle.std.proofs.lemmas.List.{append_cancel_left, drop_all}
+use Rattle.std.specs.Prelude.{All, AllPairs, Contains}
+use Rattle.std.proofs.lemmas.Bool.{eq-eqb, eqb-true}
+use Rattle.std.proofs.lemmas.List.{drop_all, length-append, length-map}
+use Rattle.std.proofs.lemmas.List.Elements.{All-append, All-cons, All-from_recursion, All-nil, recursion_from_All}
+use Rattle.std.proofs.lemmas.List.Sorted.{Contains-permutation, IsPermutation-sym, length_permutation}
+use Rattle.sqlite_keyed.proofs.ListLemmas.{ascending_weaker}
 use Rattle.rules.specs.Values.{ConfigValue}
 use Rattle.rules.specs.declared.suite.Suite.{Suite}
 use Rattle.suites.specs.Shelves.{ShelvesValue}
-use Rattle.tables.specs.Rows.{Numbered}
+use Rattle.sums.proofs.Members.{all_from}
+use Rattle.tables.proofs.Pairwise.{ascending_from_pairs}
+use Rattle.tables.specs.Rows.{Numbered, rows_of}
 use Rattle.tables.specs.declared.rows.TextRow.{TextRow}
+use Rattle.texts.proofs.Apart.{PathsDiffer}
 use Rattle.texts.specs.Indices.{PathText, folder_texts, suite_texts, texts_from}
 use Rattle.texts.specs.Positions.{release_at}
 use Rattle.texts.specs.Release.{index_of, indices_of, listed_texts, release_text}
 use Rattle.tables_meaning.specs.Founding.{from_root, suite_texts_at}
-use Rattle.tables_audit.specs.TextRows.{texts_in}
+use Rattle.tables_meaning.proofs.Orders.{contained_permutes}
+use Rattle.tables_audit.specs.TextRows.{text_in, texts_in}
 
--- ---- the first of several
+-- ---- each of several
 
-module _ {P X : Type 0} where
-  -- what a list begins with does not matter where both have it
-  pub same_behind : (front all more left : List X) → all ≡ front ++ left → (P ↔ (all ≡ front ++ more)) → P ↔ (left ≡ more)
-  same_behind front all more left e h = (
-    λ p. append_cancel_left front left more (sym e ∙ h.0 p),
-    λ same. h.1 (e ∙ ap (λ xs. front ++ xs) same),
-  )
+all_parts : {X : Type 0} (P : X → Type 0) (xs ys : List X) → AllByRecursion P (xs ++ ys) → AllByRecursion P xs × AllByRecursion P ys
+all_parts P [] ys all = (tt, all)
+all_parts P (x ∷ xs) ys all = let more = all_parts P xs ys all.1 in ((all.0, more.0), more.1)
 
-  -- it begins otherwise
-  pub other_front : (front all more : List X) → ((rest : List X) → all ≢ front ++ rest) → (P ↔ (all ≡ front ++ more)) → IsTrue false ↔ P
-  other_front front all more other h = (λ no. absurd (cc no), λ p. absurd (other more (h.0 p)))
+module _ {X : Type 0} (C : X → Type 0) where
+  all_front : (front more : List X) → All C (front ++ more) → All C front
+  all_front front more all = All-from_recursion C front (all_parts C front more (recursion_from_All C (front ++ more) all)).0
+
+  all_behind : (front more : List X) → All C (front ++ more) → All C more
+  all_behind front more all = All-from_recursion C more (all_parts C front more (recursion_from_All C (front ++ more) all)).1
+
+  module _ {P : Type 0} (front more : List X) (left : ℕ) (h : P ↔ (All C (front ++ more) × (left ≡ length (front ++ more)))) where
+    -- where each of the front holds, it is about the others, and as many less
+    pub same_behind : (count : ℕ) → All C front → count ≡ length front → count ≤ left → P ↔ (All C more × (left - count ≡ length more))
+    same_behind count have is few = (
+      λ p. let both = h.0 p in (all_behind front more both.0, omega (arith, both.1, length-append front more, is, few)),
+      λ both. h.1 (All-append C front more have both.0, omega (arith, both.1, length-append front more, is, few)),
+    )
+
+    -- some of the front does not hold
+    pub other_front : (All C front → ⊥) → IsTrue false ↔ P
+    other_front none = (λ no. absurd (cc no), λ p. absurd (none (all_front front more (h.0 p).0)))
+
+    -- the front is longer than what is left
+    pub too_many : (count : ℕ) → count ≡ length front → left < count → IsTrue false ↔ P
+    too_many count is over = (λ no. absurd (cc no), λ p. absurd (omega (arith, (h.0 p).1, length-append front more, is, over)))
+
+-- all of a suite's texts are there where the first is, and the others
+pub all_of_suite : {X : Type 0} (C : X → Type 0) (suite others : List X) (first : X) → suite ≡ first ∷ others → All C suite ↔ (C first × All C others)
+all_of_suite C suite others first whole = (
+  λ all. let parts = recursion_from_All C (first ∷ others) (subst (All C) whole all) in (parts.0, All-from_recursion C others parts.1),
+  λ both. subst (All C) (sym whole) (All-cons C first others both.0 both.1),
+)
+
+-- nothing is left
+pub none_more : {P X : Type 0} (C : X → Type 0) (left : ℕ) → (P ↔ (All C [] × (left ≡ 0))) → IsTrue (left == 0) ↔ P
+none_more C left h = (λ t. h.1 (All-nil C, eqb-true left 0 t), λ p. eq-eqb left 0 (h.0 p).1)
+
+-- ---- the same rows in any order
+
+-- Texts at different paths that each are among as many rows are these.
+pub permuted_if : (rows : Numbered TextRow) (all : List PathText) → AllPairs PathsDiffer all → IsPermutation (texts_in rows) all ↔ (All (Contains (texts_in rows)) all × (length rows ≡ length all))
+permuted_if rows all apart =
+    let long : length (texts_in rows) ≡ length rows = length-map (rows_of rows) text_in ∙ length-map rows (λ (x : ℕ × TextRow). x.1) in (
+      λ same. (
+        all_from (Contains (texts_in rows)) all (λ x at. Contains-permutation all (texts_in rows) x (IsPermutation-sym _ _ same) at),
+        omega (arith, length_permutation _ _ same, long),
+      ),
+      λ both. IsPermutation-sym _ _
+          (contained_permutes all (texts_in rows)
+          (ascending_weaker PathsDiffer (λ d e. d ≢ e) (λ d e differ same. differ (ap (λ (x : PathText). x.0) same)) all (ascending_from_pairs PathsDiffer all apart))
+          (recursion_from_All (Contains (texts_in rows)) all both.0) (omega (arith, both.1, long))),
+    )
 
 -- ---- the texts of the suites from a position on
 
@@ -58,28 +108,11 @@ suite_texts_are config shelves position date s here =
     ap (λ o. option_map_or (λ s. suite_texts shelves position s date) o []) here
     ∙ ap (λ o. from_root s (codes "Release", option_map_or (λ u. release_text u date (map index_of (listed_texts s shelves position))) o []) ∷ map (from_root s) (listed_texts s shelves position)) (sym here)
 
--- ---- the rows of a suite
-
-module _ {X : Type 0} (rows suite others : List X) (first : X) (whole : suite ≡ first ∷ others) where
-  pub suite_behind : (rest left : List X) → rows ≡ first ∷ rest → rest ≡ others ++ left → rows ≡ suite ++ left
-  suite_behind rest left e h = e ∙ ap (λ xs. first ∷ xs) h ∙ ap (λ xs. xs ++ left) (sym whole)
-
-  pub other_first : ((rest : List X) → rows ≢ first ∷ rest) → (left : List X) → rows ≢ suite ++ left
-  other_first none left e = none (others ++ left) (e ∙ ap (λ xs. xs ++ left) whole)
-
-  pub other_rest : (rest : List X) → rows ≡ first ∷ rest → ((left : List X) → rest ≢ others ++ left) → (left : List X) → rows ≢ suite ++ left
-  other_rest rest e none left h = none left (append_cancel_left (first ∷ []) rest (others ++ left) (sym e ∙ h ∙ ap (λ xs. xs ++ left) whole))
-
 -- ---- no suite is left
 
 pub none_left : (shelves : ShelvesValue) (i : ℕ) (pairs : List (Suite × ℕ)) → length pairs ≤ i → texts_from shelves i (drop i pairs) ≡ []
 unfolding texts_from
 none_left shelves i pairs past = ap (texts_from shelves i) (drop_all i pairs past)
-
--- the rows are all texts where none is left
-pub none_more : {P : Type 0} (b : Bool) (left : Numbered TextRow) → b ≡ (length left == 0) → (P ↔ (texts_in left ≡ [])) → IsTrue b ↔ P
-none_more b [] e h = (λ _. h.1 refl, λ _. e)
-none_more b (x ∷ xs) e h = (λ t. absurd (omega (arith, eqb-true (suc (length xs)) 0 (sym e ∙ t))), λ p. absurd (cc (h.0 p)))
 
 -- the texts of a suite, its Release and the others as they were made
 pub suite_texts_made : (config : ConfigValue) (shelves : ShelvesValue) (position date : ℕ) (s : Suite) (release : PathText) (made : List PathText) → slice_get config.suites position ≡ Some s

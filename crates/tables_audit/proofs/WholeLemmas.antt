@@ -1,11 +1,13 @@
 -- From the parts of an archive to the whole, and back.
-use Rattle.std.proofs.Common.{◌≡◌, ℕ, true, false, List, [], ◌∷◌, Option, None, Some, Result, Ok, Err, IfErr, IfOk, IfSome, IsTrue, is_some, length, map, sym, ap, subst, ◌∙◌, arith}
+use Rattle.std.proofs.Common.{◌≡◌, ℕ, true, false, List, [], ◌∷◌, Option, None, Some, Result, Ok, Err, IfErr, IfOk, IfSome, IsTrue, is_some, length, map, IsPermutation, sym, ap, subst, ◌∙◌, arith}
 use Rattle.std.specs.List.{zip}
 use Rattle.rules.specs.Configuration.{config_in}
 use Rattle.rules.specs.Values.{ConfigValue}
 use Rattle.suites.specs.Told.{AreTold}
 use Rattle.suites.specs.Shelves.{AreSound, ShelvesValue}
+use Rattle.std.proofs.lemmas.List.Sorted.{IsPermutation-sym, IsPermutation-trans}
 use Rattle.texts.specs.Indices.{all_texts}
+use Rattle.texts.proofs.Paths.{config_codenames}
 use Rattle.keep.specs.declared.change.Judgement.{Judgement}
 use Rattle.tables.specs.Rows.{Tables, rows_of}
 use Rattle.tables.specs.declared.rows.Meta.{Meta}
@@ -114,8 +116,9 @@ pub no_files : (t : Tables) (config : ConfigValue) (shelves shown : ShelvesValue
 no_files t config shelves shown dates h fits none = none (subst (AreFiles t) (same_as t config shelves shown dates h fits) fits.files)
 
 pub no_texts : (t : Tables) (config : ConfigValue) (shelves shown : ShelvesValue) (dates : List ℕ) → AreItems t config.suites shelves × AreSound shelves × AreReadable t → ShownFits t config shown dates
-    → (map (λ x. (x.path, x.body)) (rows_of t.texts) ≡ all_texts config shelves dates → ⊥) → ⊥
-no_texts t config shelves shown dates h fits none = none (fits.texts ∙ ap (λ s. all_texts config s dates) (same_as t config shelves shown dates h fits))
+    → (IsPermutation (map (λ x. (x.path, x.body)) (rows_of t.texts)) (all_texts config shelves dates) → ⊥) → ⊥
+no_texts t config shelves shown dates h fits none =
+    none (subst (λ s. IsPermutation (map (λ x. (x.path, x.body)) (rows_of t.texts)) (all_texts config s dates)) (same_as t config shelves shown dates h fits) fits.texts)
 
 -- where the judged uploads may not have been delivered, nothing fits
 pub not_signed : (t : Tables) (config : ConfigValue) (found judged : List Judgement) (shown : ShelvesValue) (dates : List ℕ) → AreConstrained t → UploadsFit t found
@@ -124,10 +127,11 @@ not_signed t config found judged shown dates keys fit rest none =
     none (subst AreSigned (same_judged t judged found (fit_uploads t judged keys rest.uploads) (fit_uploads t found keys fit)) rest.signed)
 
 -- where nothing is shown with these dates, no dates will do
-pub no_shown : (t : Tables) (config : ConfigValue) (judged : List Judgement) (shown : ShelvesValue) (dates others : List ℕ) → RestFits t config judged shown others
-    → rows_of t.dates ≡ map date_row (zip config.suites dates) → length dates ≡ length config.suites → ((s : ShelvesValue) → ShownFits t config s dates → ⊥) → ⊥
-no_shown t config judged shown dates others rest rows long none =
-    let same : others ≡ dates = same_dates config.suites others dates rest.dated long (sym rest.date_rows ∙ rows) in
+pub no_shown : (t : Tables) (config : ConfigValue) (judged : List Judgement) (shown : ShelvesValue) (dates others : List ℕ) → config_in config.text ≡ Ok config
+    → RestFits t config judged shown others → IsPermutation (rows_of t.dates) (map date_row (zip config.suites dates)) → length dates ≡ length config.suites → ((s : ShelvesValue) → ShownFits t config s dates → ⊥) → ⊥
+no_shown t config judged shown dates others read rest rows long none =
+    let same : others ≡ dates =
+    same_dates config.suites others dates (config_codenames config read) rest.dated long (IsPermutation-trans _ _ _ (IsPermutation-sym _ _ rest.date_rows) rows) in
     none shown (subst (ShownFits t config shown) same rest.shows)
 
 -- where this configuration keeps no archive, no other does

@@ -1,5 +1,5 @@
 -- The rows of an archive, part by part, as far as the keys of the tables leave them open.
-use Rattle.std.specs.Prelude.{◌≡◌, ◌≤◌, ℕ, List, All, length, map, zip}
+use Rattle.std.specs.Prelude.{◌≡◌, ◌≤◌, ℕ, List, All, length, map, zip, IsPermutation}
 use Rattle.rules.specs.Values.{ConfigValue}
 use Rattle.suites.specs.Shelves.{ShelvesValue, AreSound}
 use Rattle.suites.specs.Told.{AreTold}
@@ -16,13 +16,13 @@ pub record ShownFits (t : Tables) (config : ConfigValue) (shown : ShelvesValue) 
   pub told : AreTold config.suites shown
   pub items : AreItems t config.suites shown
   pub files : AreFiles t shown
-  pub texts : map (λ x. (x.path, x.body)) (rows_of t.texts) ≡ all_texts config shown dates
+  pub texts : IsPermutation (map (λ x. (x.path, x.body)) (rows_of t.texts)) (all_texts config shown dates)
 
 -- the uploads, the dates and what is shown are those of an archive of this configuration
 pub record RestFits (t : Tables) (config : ConfigValue) (judged : List Judgement) (shown : ShelvesValue) (dates : List ℕ) : Type 0 where
   pub uploads : UploadsFit t judged
   pub signed : AreSigned judged
-  pub date_rows : rows_of t.dates ≡ map date_row (zip config.suites dates)
+  pub date_rows : IsPermutation (rows_of t.dates) (map date_row (zip config.suites dates))
   pub dated : length dates ≡ length config.suites
   pub in_range : All (λ d. d ≤ latest) dates
   pub shows : ShownFits t config shown dates

@@ -1,6 +1,6 @@
 //! The dates of the suites, read from the rows of `dates`.
 
-ghost use Rattle.std.specs.Prelude.{◌≡◌, ◌≤◌, ◌↔◌, ℕ, List, All, None, length, map, zip, IsTrue, IfOk, IfSome};
+ghost use Rattle.std.specs.Prelude.{◌≡◌, ◌≢◌, ◌≤◌, ◌↔◌, ℕ, List, All, AllPairs, Contains, None, length, map, zip, IsPermutation, IsTrue, IfOk, IfSome};
 ghost use Rattle.keep.specs.Book.{latest};
 ghost use Rattle.tables_meaning.specs.Kept.{date_row};
 ghost use Rattle.tables.specs.Rows.{rows_of};
@@ -22,44 +22,62 @@ fn is_date_of(row: &Date, suite: &Suite) -> bool
     row.suite.as_str() == suite.codename.as_str()
 }
 
-/// The dates that rows have, if they are those of the suites in their order, each at a moment that may be.
+/// The moment of the first row that is the date of a suite, at a moment that may be.
+fn date_of(rows: &[(u64, Date)], suite: &Suite) -> Option<u64>
+    ensures some { IfSome result (λ date. Contains (rows_of rows.now) (date_row (suite.now, date)) × (date ≤ latest)) }
+    ensures none { result ≡ None
+        → (date : ℕ) → date ≤ latest → Contains (rows_of rows.now) (date_row (suite.now, date)) → ⊥ }
+{
+    for row in rows {
+        if is_date_of(&row.1, suite) {
+            return Some(row.1.moment);
+        }
+    }
+    None
+}
+
+/// The dates that rows have, if these are those of the suites in whatever order, each at a moment that may be. Each suite's
+/// row is looked up, and there is no other.
 fn dates_of(
     alloc: Global,
     rows: &[(u64, Date)],
     suites: &[Suite],
 ) -> Result<Option<Vec<u64>>, AllocError>
-    ensures some { IfOk result (λ o. IfSome o (λ dates. (rows_of rows.now ≡ map date_row (zip suites.now dates.items))
+    requires apart { AllPairs (λ s u. s.codename ≢ u.codename) suites.now }
+    ensures some { IfOk result (λ o. IfSome o (λ dates.
+        IsPermutation (rows_of rows.now) (map date_row (zip suites.now dates.items))
         × (length dates.items ≡ length suites.now) × All (λ d. d ≤ latest) dates.items)) }
     ensures none { IfOk result (λ o. o ≡ None
-        → (dates : List ℕ) → rows_of rows.now ≡ map date_row (zip suites.now dates)
+        → (dates : List ℕ) → IsPermutation (rows_of rows.now) (map date_row (zip suites.now dates))
         → length dates ≡ length suites.now → All (λ d. d ≤ latest) dates → ⊥) }
 {
     if rows.len() != suites.len() {
         return Ok(None);
     }
     let mut dates = Vec::new(alloc);
-    for position in 0..rows.len() {
-        let row = &rows[position].1;
-        if !is_date_of(row, &suites[position]) {
+    for suite in suites {
+        let Some(date) = date_of(rows, suite) else {
             return Ok(None);
-        }
-        dates.push(row.moment)?;
+        };
+        dates.push(date)?;
     }
     Ok(Some(dates))
 }
 
-/// The dates of an archive of this configuration with these rows: one for each suite, in their order.
+/// The dates of an archive of this configuration with these rows: one for each suite, in the order of the suites.
 pub fn dates_in(
     alloc: Global,
     all: &AllRows,
     config: &Config,
 ) -> Result<Option<Vec<u64>>, AllocError>
     ensures some { IfOk result (λ o. IfSome o (λ dates.
-        (rows_of (tables_with all.now).dates ≡ map date_row (zip config.now.suites dates.items))
+        IsPermutation (rows_of (tables_with all.now).dates) (map date_row (zip config.now.suites dates.items))
         × (length dates.items ≡ length config.now.suites) × All (λ d. d ≤ latest) dates.items)) }
     ensures none { IfOk result (λ o. o ≡ None
-        → (dates : List ℕ) → rows_of (tables_with all.now).dates ≡ map date_row (zip config.now.suites dates)
+        → (dates : List ℕ) → IsPermutation (rows_of (tables_with all.now).dates) (map date_row (zip config.now.suites dates))
         → length dates ≡ length config.now.suites → All (λ d. d ≤ latest) dates → ⊥) }
 {
+    // For the prover alone: the configuration is what its text spells, so no two suites have one codename.
+    let _ = config.text();
     dates_of(alloc, all.dates.as_slice(), config.suites())
 }

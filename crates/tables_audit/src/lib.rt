@@ -5,9 +5,9 @@
 //! number below zero), and all that the rows mean.
 //!
 //! Uploads without a verdict are in the order of their arrival, what each wants in that of its entries, pieces and the files of an item by
-//! their numbers, and rows of `texts` and `dates` in the order of the configuration. An archive's tables in another order are not taken for
-//! one. So what was tested is a list, and not one of its permutations, and each read answers that list. VACUUM and a dump keep these
-//! orders.
+//! their numbers. An archive's tables in another order are not taken for one. So what was tested is a list, and not one of its
+//! permutations, and each read answers that list. VACUUM and a dump keep these orders. Rows of `texts` and `dates` may stand in any order,
+//! since each is found by its path or its suite: each that has to be there is looked up, and there are as many.
 //!
 //! All rows are in memory while they are tested, bodies with their bytes among them: each once, since rows are typed as the query gives
 //! them, and one body more, beside what the library holds.

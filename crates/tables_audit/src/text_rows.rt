@@ -1,11 +1,11 @@
 //! Whether the rows of `texts` are the texts of the suites.
 
-ghost use Rattle.std.specs.Prelude.{◌≡◌, ◌≢◌, ◌≤◌, ◌<◌, ◌↔◌, ◌∷◌, ◌++◌, List, All, None, length, map, codes, IsTrue, IfOk, IfSome, OnOk};
+ghost use Rattle.std.specs.Prelude.{◌≡◌, ◌≤◌, ◌<◌, ◌↔◌, All, Contains, None, length, map, codes, IsPermutation, IsTrue, IfOk, IfSome};
 ghost use Rattle.tables_meaning.specs.Founding.{from_root, suite_texts_at};
 ghost use Rattle.tables_audit.specs.TextRows.{text_in, texts_in};
 ghost use Rattle.tables.specs.Rows.{rows_of};
 ghost use Rattle.tables_read.specs.All.{tables_with};
-ghost use Rattle.texts.specs.Indices.{PathText, all_texts};
+ghost use Rattle.texts.specs.Indices.{all_texts};
 ghost use Rattle.texts.specs.Places.{place_entry};
 ghost use Rattle.texts.specs.Positions.{release_at};
 ghost use Rattle.texts.specs.Release.{index_of, listed_texts};
@@ -114,93 +114,108 @@ fn release_over(
     })
 }
 
-/// Whether a row has a text of the folder of the suite, at its whole path.
-fn is_row_of(
+/// Whether a row has this text at this path.
+fn is_row_of(row: &TextRow, path: &str, body: &[u8]) -> bool
+    ensures { IsTrue result ↔ (text_in row.now ≡ (path.now, body.now)) }
+{
+    if row.path.as_str() != path {
+        return false;
+    }
+    row.body.as_slice() == body
+}
+
+/// Whether some row has this text at this path.
+fn is_in_rows(rows: &[(u64, TextRow)], path: &str, body: &[u8]) -> bool
+    ensures { IsTrue result ↔ Contains (texts_in rows.now) (path.now, body.now) }
+{
+    for row in rows {
+        if is_row_of(&row.1, path, body) {
+            return true;
+        }
+    }
+    false
+}
+
+/// The same, where the row at a place is looked at first.
+fn is_in_rows_from(rows: &[(u64, TextRow)], place: usize, path: &str, body: &[u8]) -> bool
+    ensures { IsTrue result ↔ Contains (texts_in rows.now) (path.now, body.now) }
+{
+    if place < rows.len() {
+        if is_row_of(&rows[place].1, path, body) {
+            return true;
+        }
+    }
+    is_in_rows(rows, path, body)
+}
+
+/// Whether some row has a text of the folder of the suite, at its whole path. The row at the place is looked at first.
+fn has_text(
     alloc: Global,
-    row: &TextRow,
+    rows: &[(u64, TextRow)],
+    place: usize,
     suite: &Suite,
     text: &TextRow,
 ) -> Result<bool, AllocError>
-    ensures { IfOk result (λ b. IsTrue b ↔ (text_in row.now ≡ from_root suite.now (text_in text.now))) }
+    ensures { IfOk result (λ b. IsTrue b ↔ Contains (texts_in rows.now) (from_root suite.now (text_in text.now))) }
 {
-    if row.body.as_slice() != text.body.as_slice() {
-        return Ok(false);
-    }
     let path = path_in(alloc, suite.codename.as_str(), text.path.as_str())?;
-    Ok(row.path.as_str() == path.as_str())
+    Ok(is_in_rows_from(rows, place, path.as_str(), text.body.as_slice()))
 }
 
-/// The rows behind the first, if that has a text of the folder of the suite.
-fn behind<'a>(
+/// Whether rows have these texts of the folder of the suite. The rows from the place on are looked at first.
+fn have_texts(
     alloc: Global,
-    rows: &'a [(u64, TextRow)],
-    suite: &Suite,
-    text: &TextRow,
-) -> Result<Option<&'a [(u64, TextRow)]>, AllocError>
-    ensures some { IfOk result (λ o. IfSome o (λ rest.
-        texts_in rows.now ≡ from_root suite.now (text_in text.now) ∷ texts_in rest.now)) }
-    ensures none { IfOk result (λ o. o ≡ None
-        → (rest : List PathText) → texts_in rows.now ≢ from_root suite.now (text_in text.now) ∷ rest) }
-{
-    let Some((first, rest)) = rows.split_first() else {
-        return Ok(None);
-    };
-    if is_row_of(alloc, &first.1, suite, text)? {
-        return Ok(Some(rest));
-    }
-    Ok(None)
-}
-
-/// The rows behind the first ones, if those have these texts of the folder of the suite.
-fn behind_all<'a>(
-    alloc: Global,
-    rows: &'a [(u64, TextRow)],
+    rows: &[(u64, TextRow)],
+    place: usize,
     suite: &Suite,
     texts: &[TextRow],
-) -> Result<Option<&'a [(u64, TextRow)]>, AllocError>
-    ensures some { IfOk result (λ o. IfSome o (λ rest.
-        texts_in rows.now ≡ map (from_root suite.now) (map text_in texts.now) ++ texts_in rest.now)) }
-    ensures none { IfOk result (λ o. o ≡ None
-        → (rest : List PathText) → texts_in rows.now ≢ map (from_root suite.now) (map text_in texts.now) ++ rest) }
+) -> Result<bool, AllocError>
+    ensures { IfOk result (λ b. IsTrue b
+        ↔ All (Contains (texts_in rows.now)) (map (from_root suite.now) (map text_in texts.now))) }
 {
-    let mut left = rows;
+    let mut next = place;
     for text in texts {
-        let Some(rest) = behind(alloc, left, suite, text)? else {
-            return Ok(None);
-        };
-        left = rest;
+        if !has_text(alloc, rows, next, suite, text)? {
+            return Ok(false);
+        }
+        next = next.saturating_add(1);
     }
-    Ok(Some(left))
+    Ok(true)
 }
 
-/// The rows behind the first ones, if those have the texts of the suite at the position, whose shown items last changed
-/// at the moment: Release, and then the others. No text is made twice.
-fn behind_suite<'a>(
+/// How many texts the suite at the position has, whose shown items last changed at the moment, if rows have each of them:
+/// Release, and the others. The rows from the place on are looked at first, and no text is made twice.
+fn texts_of_suite(
     alloc: Global,
-    rows: &'a [(u64, TextRow)],
+    rows: &[(u64, TextRow)],
+    place: usize,
     config: &Config,
     shelves: &Shelves,
     position: usize,
     moment: u64,
-) -> Result<Option<&'a [(u64, TextRow)]>, AllocError>
+) -> Result<Option<usize>, AllocError>
     requires suite { position < length config.now.suites }
     requires moment { moment ≤ LATEST }
-    ensures some { IfOk result (λ o. IfSome o (λ rest.
-        texts_in rows.now ≡ suite_texts_at config.now shelves.now position moment ++ texts_in rest.now)) }
+    ensures some { IfOk result (λ o. IfSome o (λ count.
+        (count ≡ length (suite_texts_at config.now shelves.now position moment))
+        × All (Contains (texts_in rows.now)) (suite_texts_at config.now shelves.now position moment))) }
     ensures none { IfOk result (λ o. o ≡ None
-        → (rest : List PathText) → texts_in rows.now ≢ suite_texts_at config.now shelves.now position moment ++ rest) }
+        → All (Contains (texts_in rows.now)) (suite_texts_at config.now shelves.now position moment) → ⊥) }
 {
     let suite = &config.suites()[position];
     let entries = listed_entries(alloc, shelves, position, suite)?;
     let release = release_over(alloc, config, position, moment, &entries)?;
-    let Some(rest) = behind(alloc, rows, suite, &release)? else {
+    if !has_text(alloc, rows, place, suite, &release)? {
         return Ok(None);
-    };
-    behind_all(alloc, rest, suite, &entries)
+    }
+    if !have_texts(alloc, rows, place.saturating_add(1), suite, &entries)? {
+        return Ok(None);
+    }
+    Ok(Some(entries.len() + 1))
 }
 
-/// Whether rows are the texts of the suites of a configuration, whose shown items last changed at these dates: suite by
-/// suite, in the order of their making.
+/// Whether rows are the texts of the suites of a configuration, whose shown items last changed at these dates, in whatever
+/// order: each is looked up as it is made, suite by suite, and there is no other row.
 fn are_texts(
     alloc: Global,
     rows: &[(u64, TextRow)],
@@ -210,21 +225,28 @@ fn are_texts(
 ) -> Result<bool, AllocError>
     requires dated { length dates.now ≡ length config.now.suites }
     requires in_range { All (λ d. d ≤ LATEST) dates.now }
-    ensures { IfOk result (λ b. IsTrue b ↔ (texts_in rows.now ≡ all_texts config.now shelves.now dates.now)) }
+    ensures { IfOk result (λ b. IsTrue b ↔ IsPermutation (texts_in rows.now) (all_texts config.now shelves.now dates.now)) }
 {
-    let mut left = rows;
+    // For the prover alone: the configuration is what its text spells, so no two texts have one path.
+    let _ = config.text();
+    let mut left = rows.len();
     for position in 0..dates.len() {
         let moment = dates[position];
-        let Some(rest) = behind_suite(alloc, left, config, shelves, position, moment)? else {
+        let place = rows.len() - left;
+        let found = texts_of_suite(alloc, rows, place, config, shelves, position, moment)?;
+        let Some(count) = found else {
             return Ok(false);
         };
-        left = rest;
+        if count > left {
+            return Ok(false);
+        }
+        left -= count;
     }
-    Ok(left.is_empty())
+    Ok(left == 0)
 }
 
 /// Whether the rows of `texts` are the texts of the suites of a configuration, whose shown items last changed at these
-/// dates.
+/// dates, in whatever order.
 pub fn are_texts_of(
     alloc: Global,
     all: &AllRows,
@@ -234,8 +256,8 @@ pub fn are_texts_of(
 ) -> Result<bool, AllocError>
     requires dated { length dates.now ≡ length config.now.suites }
     requires in_range { All (λ d. d ≤ LATEST) dates.now }
-    ensures { IfOk result (λ b. IsTrue b ↔ (map (λ x. (x.path, x.body)) (rows_of (tables_with all.now).texts)
-        ≡ all_texts config.now shelves.now dates.now)) }
+    ensures { IfOk result (λ b. IsTrue b ↔ IsPermutation (map (λ x. (x.path, x.body)) (rows_of (tables_with all.now).texts))
+        (all_texts config.now shelves.now dates.now)) }
 {
     are_texts(alloc, all.texts.as_slice(), config, shelves, dates)
 }

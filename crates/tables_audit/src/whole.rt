@@ -79,6 +79,8 @@ fn held_of(alloc: Global, all: &AllRows, config: Config) -> Result<Option<Held>,
     ensures some { AreConstrained (tables_with all.now) → BodiesFit (tables_with all.now) → IfOk result (λ o. IfSome o (λ held. (held.config ≡ config) × RestFits (tables_with all.now) config held.judged.items held.shelves held.dates.items)) }
     ensures none { AreConstrained (tables_with all.now) → BodiesFit (tables_with all.now) → IfOk result (λ o. o ≡ None → AreReadable (tables_with all.now) → (judged : List JudgementValue) (shown : ShelvesValue) (dates : List ℕ) → RestFits (tables_with all.now) config judged shown dates → ⊥) }
 {
+    // For the prover alone: the configuration is what its text spells, so rows have one list of dates.
+    let _ = config.text();
     let Some(judged) = judgements_in(alloc, all)? else {
         return Ok(None);
     };

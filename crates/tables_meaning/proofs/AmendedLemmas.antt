@@ -1,5 +1,5 @@
 -- The book after a change.
-use Rattle.std.proofs.Common.{◌≡◌, ◌≤◌, ◌||◌, ℕ, Bool, true, false, cond, if◌then◌else◌, List, [], ◌∷◌, ◌++◌, length, map, filter, find, fold, Option, Some, None, is_some, Ok, refl, sym, ap, subst, ◌∙◌, true≢false}
+use Rattle.std.proofs.Common.{◌≡◌, ◌≤◌, ◌||◌, ℕ, Bool, true, false, cond, if◌then◌else◌, List, [], ◌∷◌, ◌++◌, length, map, filter, find, fold, Option, Some, None, is_some, Ok, IsPermutation, refl, sym, ap, subst, ◌∙◌, true≢false}
 use Rattle.std.proofs.Math.Path.{fun_ext}
 use Rattle.std.proofs.lemmas.Bool.Decides.{Decides-eqb}
 use Rattle.std.specs.FinMap.{get}
@@ -204,8 +204,8 @@ amended_book t new config judged shown dates change kept keeps files has =
 
 -- the rows of texts and of dates are those of an archive that shows this, with these dates
 pub record AreTextsAndDates (t : Tables) (config : ConfigValue) (shown : ShelvesValue) (dates : List ℕ) : Type 0 where
-  pub texts : map entry_of (rows_of t.texts) ≡ all_texts config shown dates
-  pub date_rows : rows_of t.dates ≡ map date_row (zip config.suites dates)
+  pub texts : IsPermutation (map entry_of (rows_of t.texts)) (all_texts config shown dates)
+  pub date_rows : IsPermutation (rows_of t.dates) (map date_row (zip config.suites dates))
   pub dated : length dates ≡ length config.suites
   pub in_range : All (λ d. d ≤ latest) dates
 
@@ -216,8 +216,8 @@ pub renewed_rows : (t now : Tables) (config : ConfigValue) (judged : List Judgem
     → AreRenewed (book_in config judged shown dates t) (amended (book_in config judged shown dates t) change) change.texts
     → AreTextsAndDates (with_new_dates config.suites change.moment change.steps (with_new_texts change.texts now)) config (shown_past shown change.steps) (dates_past change.moment dates change.steps)
 renewed_rows t now config judged shown dates change kept same_texts same_dates small read renewed = record {
-  texts = renewed_texts t config judged shown dates change (config_paths config read) renewed now (ap (λ rows. map entry_of (rows_of rows)) same_texts ∙ kept.texts) (length_past change.moment change.steps dates);
-  date_rows = renewed_dates change.moment change.steps config.suites dates change.texts now (config_codenames config read) (ap rows_of same_dates ∙ kept.date_rows);
+  texts = renewed_texts t config judged shown dates change (config_paths config read) renewed now (subst (λ rows. IsPermutation (map entry_of (rows_of rows)) (all_texts config shown dates)) (sym same_texts) kept.texts) (length_past change.moment change.steps dates);
+  date_rows = renewed_dates change.moment change.steps config.suites dates change.texts now (config_codenames config read) (subst (λ rows. IsPermutation (rows_of rows) (map date_row (zip config.suites dates))) (sym same_dates) kept.date_rows);
   dated = length_past change.moment change.steps dates ∙ kept.dated;
   in_range = in_range_past change.moment change.steps dates small kept.in_range;
 }

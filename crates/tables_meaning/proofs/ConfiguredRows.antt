@@ -25,6 +25,7 @@ use Rattle.texts.proofs.Paths.{config_codenames}
 use Rattle.tables_meaning.proofs.ConfiguredItems.{items_moved}
 use Rattle.tables_meaning.proofs.FoundKept.{dates_are, rows_all, same_dates, same_pairs, text_row, texts_are}
 use Rattle.texts.proofs.Walk.{map_twice}
+use Rattle.sqlite_keyed.proofs.ListLemmas.{IsPermutation-same}
 use Rattle.tables_meaning.proofs.UnderWayLemmas.{like_under_way}
 
 -- only three tables have other rows
@@ -104,9 +105,10 @@ module _ (t : Tables) (config other : ConfigValue) (judged : List Judgement) (sh
     items = items_turn;
     files = files_turn;
     texts =
-        ap (map (λ x. (x.path, x.body))) (rows_all text_row (all_texts other now dates) [])
-        ∙ map_twice (λ x. (x.path, x.body)) text_row (all_texts other now dates) ∙ same_pairs (all_texts other now dates);
-    date_rows = rows_all (λ d. d) (map date_row (zip other.suites dates)) [] ∙ same_dates (map date_row (zip other.suites dates));
+        IsPermutation-same _ _
+        (ap (map (λ x. (x.path, x.body))) (rows_all text_row (all_texts other now dates) [])
+        ∙ map_twice (λ x. (x.path, x.body)) text_row (all_texts other now dates) ∙ same_pairs (all_texts other now dates));
+    date_rows = IsPermutation-same _ _ (rows_all (λ d. d) (map date_row (zip other.suites dates)) [] ∙ same_dates (map date_row (zip other.suites dates)));
     dated = dated;
     in_range = in_range;
   }

@@ -1,5 +1,5 @@
 -- The rows of dates after a change.
-use Rattle.std.proofs.Common.{◌≡◌, ◌≢◌, ◌≤◌, inl, inr, ℕ, ◌+◌, Bool, true, false, if◌then◌else◌, List, [], ◌∷◌, length, map, fold, refl, sym, ap, subst, ◌∙◌, arith}
+use Rattle.std.proofs.Common.{◌≡◌, ◌≢◌, ◌≤◌, inl, inr, ℕ, ◌+◌, Bool, true, false, if◌then◌else◌, List, [], ◌∷◌, length, map, fold, IsPermutation, refl, sym, ap, subst, ◌∙◌, arith}
 use Rattle.std.proofs.lemmas.Slice.Eq.{bytes_eq-Decides}
 use Rattle.std.specs.List.{enumerate_from, zip}
 use Rattle.std.specs.Prelude.{All, AllPairs, Contains}
@@ -9,6 +9,7 @@ use Rattle.keep.specs.declared.change.IndexText.{IndexText}
 use Rattle.keep.specs.declared.change.Step.{Step}
 use Rattle.keep.proofs.Dates.{dated, dates_past-dated}
 use Rattle.rules.specs.declared.suite.Suite.{Suite}
+use Rattle.std.proofs.lemmas.List.Sorted.{IsPermutation-map}
 use Rattle.sqlite_keyed.proofs.ListLemmas.{map-map}
 use Rattle.sums.proofs.Members.{all_at, all_from, here, no_member, pairs_head, pairs_tail, there, which}
 use Rattle.tables.specs.Dates.{has_suite, with_new_date}
@@ -17,6 +18,7 @@ use Rattle.tables.specs.Texts.{with_new_text}
 use Rattle.tables.specs.declared.rows.Date.{Date}
 use Rattle.tables_meaning.specs.Kept.{date_row}
 use Rattle.tables_meaning.specs.Making.{with_new_dates, with_new_texts}
+use Rattle.tables_meaning.proofs.Orders.{permuted_by}
 use Rattle.texts.proofs.Paths.{CodenamesDiffer}
 use Rattle.texts.proofs.Apart.{not_equal}
 
@@ -145,11 +147,12 @@ module _ (moment : ℕ) (steps : List Step) where
   texts_apart (x ∷ xs) t = texts_apart xs (with_new_text x.path x.text t)
 
   -- The rows of dates after a change are those of the dates after it.
-  pub renewed_dates : (suites : List Suite) (dates : List ℕ) (texts : List IndexText) (t : Tables) → AllPairs CodenamesDiffer suites → rows_of t.dates ≡ map date_row (zip suites dates)
-      → rows_of (with_new_dates suites moment steps (with_new_texts texts t)).dates ≡ map date_row (zip suites (dates_past moment dates steps))
+  pub renewed_dates : (suites : List Suite) (dates : List ℕ) (texts : List IndexText) (t : Tables) → AllPairs CodenamesDiffer suites → IsPermutation (rows_of t.dates) (map date_row (zip suites dates))
+      → IsPermutation (rows_of (with_new_dates suites moment steps (with_new_texts texts t)).dates) (map date_row (zip suites (dates_past moment dates steps)))
   renewed_dates suites dates texts t apart are =
-      rows_dated (enumerate_from 0 suites) (with_new_texts texts t)
-      ∙ ap (λ rows. map (all_dated (enumerate_from 0 suites)) (rows_of rows)) (texts_apart texts t)
-      ∙ ap (map (all_dated (enumerate_from 0 suites))) are
-      ∙ all_rows 0 suites dates apart
-      ∙ ap (λ ds. map date_row (zip suites ds)) (sym (dates_past-dated moment steps dates))
+      permuted_by
+      (rows_dated (enumerate_from 0 suites) (with_new_texts texts t)
+      ∙ ap (λ rows. map (all_dated (enumerate_from 0 suites)) (rows_of rows)) (texts_apart texts t))
+      (IsPermutation-map (all_dated (enumerate_from 0 suites)) _ _ are)
+      (all_rows 0 suites dates apart
+      ∙ ap (λ ds. map date_row (zip suites ds)) (sym (dates_past-dated moment steps dates)))

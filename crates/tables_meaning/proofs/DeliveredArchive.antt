@@ -1,5 +1,5 @@
 -- The archive after a delivery.
-use Rattle.std.proofs.Common.{◌≡◌, ◌≢◌, ◌≤◌, ℕ, true, if◌then◌else◌, List, map, find, All, AllPairs, Option, Some, None, option_map, option_and_then, IsTrue, refl, sym, ap, subst, ◌∙◌}
+use Rattle.std.proofs.Common.{◌≡◌, ◌≢◌, ◌≤◌, ℕ, true, if◌then◌else◌, List, map, find, zip, All, AllPairs, Option, Some, None, option_map, option_and_then, IsTrue, IsPermutation, refl, sym, ap, subst, ◌∙◌}
 use Rattle.std.proofs.Math.Path.{fun_ext}
 use Rattle.std.specs.Result.{result_ok}
 use Rattle.std.proofs.lemmas.List.Elements.{All-weaker, recursion_from_All}
@@ -17,7 +17,8 @@ use Rattle.tables.specs.Bodies.{body_with}
 use Rattle.tables.specs.Files.{is_file_at}
 use Rattle.tables.specs.Rows.{Tables, rows_of}
 use Rattle.tables.specs.declared.rows.File.{File}
-use Rattle.tables_meaning.specs.Kept.{AreFiles, AreNumbered, IsBook, arrivals_in, book_in, bytes_of, files_in, has_body, print_at}
+use Rattle.texts.specs.Indices.{all_texts}
+use Rattle.tables_meaning.specs.Kept.{AreFiles, AreNumbered, IsBook, arrivals_in, book_in, bytes_of, date_row, files_in, has_body, print_at}
 use Rattle.tables_meaning.specs.Making.{with_delivered}
 use Rattle.tables_meaning.proofs.ArrivalLemmas.{delivered_bodies, here_is_there}
 use Rattle.tables_meaning.proofs.DeliveryRows.{delivery_leaves}
@@ -97,8 +98,8 @@ delivered_archive t config judged shown dates name bytes moment listed numbered 
         uploads = delivered_uploads t judged name bytes moment listed numbered kept.uploads kept.bodies kept.arrivals stored is_listed core.arrived (here_is_there new core.bodies core.arrivals);
         items = items_like t new config.suites shown leaves.items leaves.refs kept.items;
         files = files_stay t new shown stay leaves.files kept.files;
-        texts = ap (λ l. map (λ x. (x.path, x.body)) (rows_of l)) leaves.texts ∙ kept.texts;
-        date_rows = ap rows_of leaves.dates ∙ kept.date_rows;
+        texts = subst (λ l. IsPermutation (map (λ x. (x.path, x.body)) (rows_of l)) (all_texts config shown dates)) (sym leaves.texts) kept.texts;
+        date_rows = subst (λ l. IsPermutation (rows_of l) (map date_row (zip config.suites dates))) (sym leaves.dates) kept.date_rows;
         dated = kept.dated;
         in_range = kept.in_range;
       };

@@ -25,6 +25,7 @@ use Rattle.tables_meaning.specs.Kept.{AreArrivals, AreBodies, AreFiles, AreItems
 use Rattle.tables_meaning.specs.Founding.{first_date, first_dates, founded, with_dates, with_first_rows, with_path_text, with_texts}
 use Rattle.tables_meaning.proofs.FoundLemmas.{one_date}
 use Rattle.texts.proofs.Walk.{map_twice}
+use Rattle.sqlite_keyed.proofs.ListLemmas.{IsPermutation-same}
 
 -- ---- rows one after another
 
@@ -156,9 +157,12 @@ first_kept config moment read early = record {
   items = no_items config ((1, first_meta config) ∷ []) (first_texted config moment) (first_dated config moment);
   files = no_pool config ((1, first_meta config) ∷ []) (first_texted config moment) (first_dated config moment);
   texts =
-      ap (map (λ x. (x.path, x.body))) (rows_all text_row (first_texts config moment) [])
-      ∙ map_twice (λ x. (x.path, x.body)) text_row (first_texts config moment) ∙ same_pairs (first_texts config moment);
-  date_rows = rows_all (λ d. d) (map (first_date moment) config.suites) [] ∙ same_dates (map (first_date moment) config.suites) ∙ one_date moment config.suites;
+      IsPermutation-same _ _
+      (ap (map (λ x. (x.path, x.body))) (rows_all text_row (first_texts config moment) [])
+      ∙ map_twice (λ x. (x.path, x.body)) text_row (first_texts config moment) ∙ same_pairs (first_texts config moment));
+  date_rows =
+      IsPermutation-same _ _
+      (rows_all (λ d. d) (map (first_date moment) config.suites) [] ∙ same_dates (map (first_date moment) config.suites) ∙ one_date moment config.suites);
   dated = length-replicate (length config.suites) moment;
   in_range = All-replicate (λ d. d ≤ latest) (length config.suites) moment early;
 }

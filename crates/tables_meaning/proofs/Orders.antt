@@ -1,12 +1,12 @@
 -- Lists in any order: their one sorting, and what is so of each order of them.
-use Rattle.std.proofs.Common.{◌≡◌, ◌≢◌, ℕ, zero, suc, ◌+◌, ◌<◌, ◌≤◌, Bool, true, false, List, [], ◌∷◌, length, get_or, filter, find, map, Option, Some, None, inl, inr, refl, sym, ap, subst, ◌∙◌, arith, Ordering, is_lt, IsPermutation, IsSorted}
+use Rattle.std.proofs.Common.{◌≡◌, ◌≢◌, zero, suc, ◌+◌, ◌≤◌, Bool, true, false, cond, List, [], ◌∷◌, length, filter, find, slice_get, inl, inr, refl, sym, ap, ◌∙◌, arith, Ordering, is_lt, IsPermutation, IsSorted}
 use Rattle.std.specs.Prelude.{Contains}
 use Rattle.std.specs.Cmp.{IsTotalOrder}
 use Rattle.std.specs.List.{AllByRecursion, remove}
 use Rattle.std.proofs.lemmas.List.Elements.{All-from_recursion, recursion_from_All}
 use Rattle.std.proofs.lemmas.List.Sorted.{All-permutation, Contains-permutation, IsPermutation-cons, IsPermutation-refl, IsPermutation-remove, IsPermutation-sym, IsPermutation-trans, length_permutation}
 use Rattle.sqlite_trees.specs.Tree.{IsAscending}
-use Rattle.sqlite_keyed.proofs.ListLemmas.{IsPermutation-filter, along_permutation}
+use Rattle.sqlite_keyed.proofs.ListLemmas.{IsPermutation-filter, IsPermutation-same, all_weaker, along_permutation, filter_none, slice_get-filter}
 use Rattle.sqlite_keyed.proofs.SortLemmas.{HasNoTies, IsPermutation-sort_by, sorted_is-sort_by, sorted_unique}
 use Rattle.sums.proofs.Members.{which}
 use Rattle.tables_meaning.specs.Reads.{sorted_by}
@@ -50,6 +50,21 @@ module _ {X : Type 0} where
   pub passing_permuted : (p : X → Bool) (xs ys : List X) → length (filter p xs) ≤ 1 → IsPermutation xs ys → filter p ys ≡ filter p xs
   passing_permuted p xs ys few same = one_order (filter p xs) (filter p ys) few (IsPermutation-filter p xs ys same)
 
+  -- and is found
+  pub found_permuted : (p : X → Bool) (xs ys : List X) → IsAscending (λ a b. p a ≡ true → p b ≡ false) ys → IsPermutation xs ys → find p xs ≡ find p ys
+  found_permuted p xs ys apart same =
+      sym (slice_get-filter p xs)
+      ∙ ap (λ l. slice_get l 0) (passing_permuted p ys xs (few ys apart) (IsPermutation-sym _ _ same))
+      ∙ slice_get-filter p ys
+    where
+      few_more : (x : X) (zs : List X) (b : Bool) → p x ≡ b → AllByRecursion (λ z. p x ≡ true → p z ≡ false) zs → length (filter p zs) ≤ 1 → length (cond b (x ∷ filter p zs) (filter p zs)) ≤ 1
+      few_more x zs true here others h = let none : filter p zs ≡ [] = filter_none p zs (all_weaker _ (λ z. p z ≡ false) (λ z other. other here) zs others) in rw none (omega arith)
+      few_more x zs false here others h = h
+
+      few : (zs : List X) → IsAscending (λ a b. p a ≡ true → p b ≡ false) zs → length (filter p zs) ≤ 1
+      few [] up = omega arith
+      few (z ∷ zs) up = few_more z zs (p z) refl up.0 (few zs up.1)
+
 -- ---- two by two
 
 -- What holds of each two elements, either way round, holds in each order.
@@ -62,6 +77,10 @@ pairs_permuted {X = X} R turned xs ys same =
     (λ xs ys zs f g. (λ z all. g.0 z (f.0 z all), λ up. g.1 (f.1 up))) xs ys same).1
 
 -- ---- the same elements
+
+-- what is a permutation after each of two equations
+pub permuted_by : {X : Type 0} {us vs xs ys : List X} → us ≡ vs → IsPermutation vs xs → xs ≡ ys → IsPermutation us ys
+permuted_by first same last = IsPermutation-trans _ _ _ (IsPermutation-same _ _ first) (IsPermutation-trans _ _ _ same (IsPermutation-same _ _ last))
 
 module _ {X : Type 0} where
   -- Distinct elements that all are among as many others are these, in some order.

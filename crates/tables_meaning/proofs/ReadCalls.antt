@@ -18,7 +18,14 @@ use Rattle.tables.specs.Texts.{has_path}
 use Rattle.tables.specs.declared.rows.TextRow.{TextRow}
 use Rattle.tables_meaning.specs.Archives.{IsRead, KeepsArchive}
 use Rattle.tables_meaning.specs.Transactions.{IsUndone}
+use Rattle.tables_meaning.proofs.Orders.{found_permuted}
 use Rattle.tables_meaning.proofs.ReadsLemmas.{undone_if_unchanged}
+use Rattle.tables.proofs.Pairwise.{ascending_from_pairs}
+use Rattle.texts.proofs.Apart.{PathsDiffer, not_equal}
+use Rattle.sqlite_trees.specs.Tree.{IsAscending}
+use Rattle.sqlite_keyed.proofs.ListLemmas.{ascending_weaker}
+use Rattle.std.proofs.lemmas.Slice.Eq.{bytes_eq-Decides}
+use Rattle.std.specs.Prelude.{AllPairs, IsPermutation}
 
 -- an expression as what is put on a stack, one piece after the other
 abbrev Piece : Type 0
@@ -84,14 +91,21 @@ pub undone_either : {X E : Type 0} (a b : State) (r : Result X E) → OnOk r (Is
 undone_either a b (Ok x) done failed = undone_if_unchanged a b done
 undone_either a b (Err e) done failed = failed
 
--- the text of the row at a path is the text at that path
-pub text_is : (path : List ℕ) (rows : List TextRow) (texts : List PathText) → map (λ (x : TextRow). (x.path, x.body)) rows ≡ texts
+-- the text of the row at a path is the text at that path, in whatever order the rows stand
+pub text_is : (path : List ℕ) (rows : List TextRow) (texts : List PathText) → AllPairs PathsDiffer texts → IsPermutation (map (λ (x : TextRow). (x.path, x.body)) rows) texts
     → option_map (λ (x : TextRow). x.body) (find (has_path path) rows) ≡ text_at path texts
 unfolding text_at
-text_is path rows texts are = of_rows rows ∙ ap (text_at path) are
+text_is path rows texts apart are = of_rows rows ∙ ap (option_map (λ (e : PathText). e.1)) (found_permuted (λ (e : PathText). bytes_eq e.0 path) (pairs rows) texts (one_passes texts apart) are)
   where
     pairs : List TextRow → List PathText
     pairs = map (λ (x : TextRow). (x.path, x.body))
+
+    -- at most one text stands at the path
+    one_passes : (es : List PathText) → AllPairs PathsDiffer es → IsAscending (λ (d e : PathText). bytes_eq d.0 path ≡ true → bytes_eq e.0 path ≡ false) es
+    one_passes es differ =
+        ascending_weaker PathsDiffer (λ (d e : PathText). bytes_eq d.0 path ≡ true → bytes_eq e.0 path ≡ false)
+        (λ d e other here. not_equal e.0 path (λ there. other ((bytes_eq-Decides d.0 path).0 here ∙ sym there)))
+        es (ascending_from_pairs PathsDiffer es differ)
 
     one_more : (x : TextRow) (xs : List TextRow) (b : Bool) → bytes_eq x.path path ≡ b
         → option_map (λ (y : TextRow). y.body) (find (has_path path) xs) ≡ text_at path (pairs xs)

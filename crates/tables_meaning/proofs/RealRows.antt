@@ -1,7 +1,8 @@
 -- The rows of an archive can be held, and its items can be read.
-use Rattle.std.proofs.Common.{◌≡◌, ℕ, List, map, zip, All, Ok, subst}
+use Rattle.std.proofs.Common.{◌≡◌, ℕ, List, map, zip, All, Ok, IsPermutation, subst}
 use Rattle.std.specs.Prelude.{Contains}
 use Rattle.std.proofs.lemmas.List.Elements.{All-from_recursion}
+use Rattle.std.proofs.lemmas.List.Sorted.{Contains-permutation}
 use Rattle.rules.specs.Configuration.{config_in}
 use Rattle.rules.specs.Values.{ConfigValue}
 use Rattle.rules.specs.declared.suite.Suite.{Suite}
@@ -21,15 +22,15 @@ use Rattle.tables_meaning.proofs.RealItems.{readable_items, real_files, real_ite
 use Rattle.tables_meaning.proofs.RealUploads.{real_arrivals, real_bodies, real_uploads, real_wants}
 
 module _ (t : Tables) (config : ConfigValue) (shown : ShelvesValue) (dates : List ℕ) (read : config_in config.text ≡ Ok config) where
-  real_texts : map (λ x. (x.path, x.body)) (rows_of t.texts) ≡ all_texts config shown dates → All IsRealText (rows_of t.texts)
+  real_texts : IsPermutation (map (λ x. (x.path, x.body)) (rows_of t.texts)) (all_texts config shown dates) → All IsRealText (rows_of t.texts)
   real_texts are = all_from IsRealText (rows_of t.texts) (λ x at.
       ascii-IsUtf8 x.path (all_at (λ (e : PathText). AreAscii e.0) (all_texts config shown dates) (x.path, x.body)
       (All-from_recursion (λ (e : PathText). AreAscii e.0) (all_texts config shown dates) (texts_ascii shown 0 config.suites dates (config_ascii config read)))
-      (subst (λ es. Contains es (x.path, x.body)) are (contains_map (λ (y : TextRow). (y.path, y.body)) x (rows_of t.texts) at))))
+      (Contains-permutation _ _ (x.path, x.body) are (contains_map (λ (y : TextRow). (y.path, y.body)) x (rows_of t.texts) at))))
 
-  real_dates : rows_of t.dates ≡ map date_row (zip config.suites dates) → All IsRealDate (rows_of t.dates)
+  real_dates : IsPermutation (rows_of t.dates) (map date_row (zip config.suites dates)) → All IsRealDate (rows_of t.dates)
   real_dates are = all_from IsRealDate (rows_of t.dates) (λ d at.
-      let from = from_map date_row d (zip config.suites dates) (subst (λ ds. Contains ds d) are at) in
+      let from = from_map date_row d (zip config.suites dates) (Contains-permutation _ _ d are at) in
       subst IsRealDate from.2 (ascii-IsUtf8 from.0.0.codename (config_ascii config read from.0.0 (from_zip from.0 config.suites dates from.1)).codename))
 
 -- THE ROWS of an archive can be held: its texts are UTF-8, and its digests have their lengths.

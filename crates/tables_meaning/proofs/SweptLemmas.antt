@@ -1,5 +1,5 @@
 -- Bodies that nothing uses go: what is left is used, has the bytes that it had, and shows the same.
-use Rattle.std.proofs.Common.{◌≡◌, ◌≢◌, ◌≤◌, ℕ, Bool, true, false, not, ◌&&◌, cond, nat_eq, List, [], ◌∷◌, map, filter, find, length, All, AllPairs, Option, Some, None, IsTrue, Ok, refl, sym, ap, subst, ◌∙◌, true≢false}
+use Rattle.std.proofs.Common.{◌≡◌, ◌≢◌, ◌≤◌, ℕ, Bool, true, false, not, ◌&&◌, cond, nat_eq, List, [], ◌∷◌, map, filter, find, length, All, AllPairs, Option, Some, None, IsTrue, Ok, IsPermutation, refl, sym, ap, subst, ◌∙◌, true≢false}
 use Rattle.std.proofs.Math.Path.{fun_ext}
 use Rattle.std.specs.List.{flat_map, list_any, zip}
 use Rattle.std.specs.Option.{option_and_then, option_map}
@@ -223,8 +223,8 @@ pub record IsUnswept (t : Tables) (config : ConfigValue) (judged : List Judgemen
   pub uploads : AreUploads t judged
   pub items : AreItems t config.suites shown
   pub files : AreFiles t shown
-  pub texts : map (λ x. (x.path, x.body)) (rows_of t.texts) ≡ all_texts config shown dates
-  pub date_rows : rows_of t.dates ≡ map date_row (zip config.suites dates)
+  pub texts : IsPermutation (map (λ x. (x.path, x.body)) (rows_of t.texts)) (all_texts config shown dates)
+  pub date_rows : IsPermutation (rows_of t.dates) (map date_row (zip config.suites dates))
   pub dated : length dates ≡ length config.suites
   pub in_range : All (λ d. d ≤ latest) dates
 

@@ -1,5 +1,5 @@
 -- The rows of texts after the texts of a change are written.
-use Rattle.std.proofs.Common.{◌≡◌, ◌≢◌, ◌⊎◌, inl, inr, ℕ, ◌+◌, Bool, true, false, if◌then◌else◌, List, [], ◌∷◌, ◌++◌, length, map, fold, codes, bytes_eq, Option, Some, refl, sym, ap, subst, ◌∙◌, arith}
+use Rattle.std.proofs.Common.{◌≡◌, ◌≢◌, ◌⊎◌, inl, inr, ℕ, ◌+◌, Bool, true, false, if◌then◌else◌, List, [], ◌∷◌, ◌++◌, length, map, fold, codes, bytes_eq, Option, Some, IsPermutation, refl, sym, ap, subst, ◌∙◌, arith}
 use Rattle.std.proofs.lemmas.List.{map-append}
 use Rattle.std.proofs.lemmas.Option.{same_Some}
 use Rattle.std.proofs.lemmas.Slice.Eq.{bytes_eq-Decides}
@@ -14,6 +14,7 @@ use Rattle.keep.specs.declared.change.Judgement.{Judgement}
 use Rattle.keep.specs.declared.change.Step.{Step}
 use Rattle.rules.specs.Values.{ConfigValue}
 use Rattle.rules.specs.declared.suite.Suite.{Suite}
+use Rattle.std.proofs.lemmas.List.Sorted.{IsPermutation-map}
 use Rattle.sqlite_keyed.proofs.ListLemmas.{map-map}
 use Rattle.suites.specs.Shelves.{ShelvesValue}
 use Rattle.sums.proofs.Members.{all_at, contains_map, from_map, here, no_member, pairs_head, pairs_tail, there, which}
@@ -28,6 +29,7 @@ use Rattle.texts.proofs.Found.{text_at-found, text_at-other}
 use Rattle.tables_meaning.specs.Kept.{book_in}
 use Rattle.tables_meaning.specs.Making.{with_new_dates, with_new_texts}
 use Rattle.tables_meaning.specs.OneBook.{first_same, rest_same}
+use Rattle.tables_meaning.proofs.Orders.{permuted_by}
 
 -- ---- texts by their paths
 
@@ -198,13 +200,14 @@ module _ (t : Tables) (config : ConfigValue) (judged : List Judgement) (shown : 
     )
 
     -- The rows of texts after a change are the texts after it.
-    pub renewed_texts : (now : Tables) → map entry_of (rows_of now.texts) ≡ old_texts → length (dates_past change.moment dates change.steps) ≡ length dates
-        → map entry_of (rows_of (with_new_dates config.suites change.moment change.steps (with_new_texts change.texts now)).texts) ≡ new_texts
+    pub renewed_texts : (now : Tables) → IsPermutation (map entry_of (rows_of now.texts)) old_texts → length (dates_past change.moment dates change.steps) ≡ length dates
+        → IsPermutation (map entry_of (rows_of (with_new_dates config.suites change.moment change.steps (with_new_texts change.texts now)).texts)) new_texts
     renewed_texts now are same =
-        ap (λ rows. map entry_of (rows_of rows)) (dates_apart change.moment change.steps (enumerate_from 0 config.suites) (with_new_texts change.texts now))
-        ∙ texts_written change.texts now
-        ∙ ap (map (all_written change.texts)) are
-        ∙ same_by_paths (all_written change.texts) old_texts new_texts
+        permuted_by
+        (ap (λ rows. map entry_of (rows_of rows)) (dates_apart change.moment change.steps (enumerate_from 0 config.suites) (with_new_texts change.texts now))
+        ∙ texts_written change.texts now)
+        (IsPermutation-map (all_written change.texts) _ _ are)
+        (same_by_paths (all_written change.texts) old_texts new_texts
         (same_paths shown (shown_past shown change.steps) 0 config.suites dates (dates_past change.moment dates change.steps) (sym same))
         (apart (shown_past shown change.steps) (dates_past change.moment dates change.steps))
-        each_written
+        each_written)

@@ -1,5 +1,5 @@
 -- How the tables of an archive keep it: what their rows are, told from what is kept.
-use Rattle.std.specs.Prelude.{◌≡◌, ◌≢◌, ◌≤◌, ◌<◌, ℕ, ◌+◌, ◌*◌, ◌/◌, Bool, true, false, not, ◌&&◌, nat_eq, List, [], ◌∷◌, ◌++◌, map, filter, find, take, drop, length, All, Option, Some, None, option_map, slice_get, IsTrue, Ok}
+use Rattle.std.specs.Prelude.{◌≡◌, ◌≢◌, ◌≤◌, ◌<◌, ℕ, ◌+◌, ◌*◌, ◌/◌, Bool, true, false, not, ◌&&◌, nat_eq, List, [], ◌∷◌, ◌++◌, map, filter, find, take, drop, length, All, Option, Some, None, option_map, slice_get, IsTrue, Ok, IsPermutation}
 use Rattle.std.specs.List.{AllPairs, list_any, flat_map, enumerate_from, zip, range_with_len}
 use Rattle.std.specs.Option.{option_and_then, option_map_or}
 use Rattle.std.specs.FinMap.{get}
@@ -268,7 +268,8 @@ pub record AreFiles (t : Tables) (shown : ShelvesValue) : Type 0 where
 abbrev pub date_row : Suite × ℕ → Date
 date_row d = record { suite = d.0.codename; moment = d.1 }
 
--- The rows are those of an archive of this configuration, with these judged uploads in order, this shown, and these dates.
+-- The rows are those of an archive of this configuration, with these judged uploads in order, this shown, and these dates. The
+-- rows of texts and of dates may stand in any order.
 -- The configuration is what its text spells, each item stands on its own shelf and is as its records tell it, and the judged
 -- uploads may have been delivered.
 pub record IsBook (t : Tables) (config : ConfigValue) (judged : List Judgement) (shown : ShelvesValue) (dates : List ℕ) : Type 0 where
@@ -282,8 +283,8 @@ pub record IsBook (t : Tables) (config : ConfigValue) (judged : List Judgement) 
   pub uploads : AreUploads t judged
   pub items : AreItems t config.suites shown
   pub files : AreFiles t shown
-  pub texts : map (λ x. (x.path, x.body)) (rows_of t.texts) ≡ all_texts config shown dates
-  pub date_rows : rows_of t.dates ≡ map date_row (zip config.suites dates)
+  pub texts : IsPermutation (map (λ x. (x.path, x.body)) (rows_of t.texts)) (all_texts config shown dates)
+  pub date_rows : IsPermutation (rows_of t.dates) (map date_row (zip config.suites dates))
   pub dated : length dates ≡ length config.suites
   pub in_range : All (λ d. d ≤ latest) dates
 

@@ -1,9 +1,11 @@
 -- Tables keep one archive.
-use Rattle.std.proofs.Common.{◌≡◌, ◌<◌, ℕ, suc, ◌+◌, true, List, [], ◌∷◌, length, map, slice_get, find, Option, Some, None, Ok, refl, sym, ap, subst, ◌∙◌, arith, inl, inr}
+use Rattle.std.proofs.Common.{◌≡◌, ◌≢◌, ◌<◌, ℕ, suc, ◌+◌, true, List, [], ◌∷◌, length, map, slice_get, find, Option, Some, None, Ok, refl, sym, ap, subst, ◌∙◌, arith, inl, inr}
 use Rattle.std.proofs.lemmas.Bool.{cases_lt}
 use Rattle.std.proofs.lemmas.Option.{same_Some}
 use Rattle.std.specs.FinMap.{get, entries, same_map}
 use Rattle.std.specs.List.{All, enumerate_from, zip}
+use Rattle.std.specs.Prelude.{AllPairs, Contains, IsPermutation}
+use Rattle.std.proofs.lemmas.List.Sorted.{Contains-permutation, IsPermutation-sym, IsPermutation-trans}
 use Rattle.std.specs.Option.{option_and_then, option_map}
 use Rattle.keep.specs.declared.change.Judgement.{Judgement}
 use Rattle.rules.specs.Configuration.{config_in}
@@ -17,7 +19,9 @@ use Rattle.suites.specs.declared.item.Item as shelf
 use Rattle.suites.specs.declared.item.PoolFile.{PoolFile}
 use Rattle.suites.specs.declared.key.ShelfKey.{ShelfKey}
 use Rattle.suites.proofs.FileMembers.{entry_shown}
-use Rattle.sums.proofs.Members.{all_at}
+use Rattle.suites.proofs.ListMembers.{from_zip}
+use Rattle.sums.proofs.Members.{all_at, from_map, here, pairs_head, pairs_tail, there, which}
+use Rattle.texts.proofs.Paths.{config_codenames}
 use Rattle.tables.specs.Rows.{Tables}
 use Rattle.tables.specs.declared.rows.Date.{Date}
 use Rattle.tables.specs.declared.rows.ItemRow.{ItemRow}
@@ -141,16 +145,37 @@ same_shown t suites shown others h k home others_home = same_map key_order_total
 
 -- ---- dates
 
-pub same_dates : (suites : List Suite) (dates others : List ℕ) → length dates ≡ length suites → length others ≡ length suites → map date_row (zip suites dates) ≡ map date_row (zip suites others) → dates ≡ others
-same_dates [] [] [] m n e = refl
-same_dates [] [] (d ∷ ds) m n e = absurd (omega arith)
-same_dates [] (d ∷ ds) others m n e = absurd (omega arith)
-same_dates (s ∷ ss) [] others m n e = absurd (omega arith)
-same_dates (s ∷ ss) (d ∷ ds) [] m n e = absurd (omega arith)
-same_dates (s ∷ ss) (d ∷ ds) (c ∷ cs) m n e =
-    let one : d ≡ c = ap (λ (r : Date). r.moment) (first_same _ _ _ _ e) in
-    let more : ds ≡ cs = same_dates ss ds cs (omega arith) (omega arith) (rest_same _ _ _ _ e) in
+-- a row of a suite whose codename none of these has is none of their dates
+pub no_date : (codename : List ℕ) (suites : List Suite) (dates : List ℕ) (r : Date) → All (λ u. codename ≢ u.codename) suites → Contains (map date_row (zip suites dates)) r → r.suite ≡ codename → ⊥
+no_date codename suites dates r others at same =
+    let from = from_map date_row r (zip suites dates) at in
+    all_at (λ (u : Suite). codename ≢ u.codename) suites from.0.0 others (from_zip from.0 suites dates from.1) (sym same ∙ sym (ap (λ (x : Date). x.suite) from.2))
+
+-- dates are told by their rows, in whatever order these stand
+dates_by_rows : (suites : List Suite) (dates others : List ℕ) → AllPairs (λ s u. s.codename ≢ u.codename) suites → length dates ≡ length suites → length others ≡ length suites
+    → ((r : Date) → Contains (map date_row (zip suites dates)) r → Contains (map date_row (zip suites others)) r) → dates ≡ others
+dates_by_rows [] [] [] apart m n h = refl
+dates_by_rows [] [] (d ∷ ds) apart m n h = absurd (omega arith)
+dates_by_rows [] (d ∷ ds) others apart m n h = absurd (omega arith)
+dates_by_rows (s ∷ ss) [] others apart m n h = absurd (omega arith)
+dates_by_rows (s ∷ ss) (d ∷ ds) [] apart m n h = absurd (omega arith)
+dates_by_rows (s ∷ ss) (d ∷ ds) (c ∷ cs) apart m n h =
+    let differ : All (λ (u : Suite). s.codename ≢ u.codename) ss = pairs_head (λ (s u : Suite). s.codename ≢ u.codename) s ss apart in
+    let one : d ≡ c = elim (which (date_row (s, c)) (date_row (s, d)) (map date_row (zip ss cs)) (h (date_row (s, d)) (here (date_row (s, d)) (map date_row (zip ss ds))))) [
+      | inl is ↦ sym (ap (λ (r : Date). r.moment) is)
+      | inr later ↦ absurd (no_date s.codename ss cs (date_row (s, d)) differ later refl)
+    ] in
+    let more : ds ≡ cs =
+    dates_by_rows ss ds cs (pairs_tail (λ (s u : Suite). s.codename ≢ u.codename) s ss apart) (omega arith) (omega arith)
+    (λ r at. elim (which (date_row (s, c)) r (map date_row (zip ss cs)) (h r (there (date_row (s, d)) r (map date_row (zip ss ds)) at))) [
+      | inl is ↦ absurd (no_date s.codename ss ds r differ at (sym (ap (λ (x : Date). x.suite) is)))
+      | inr later ↦ later
+    ]) in
     λ i. one i ∷ more i
+
+pub same_dates : (suites : List Suite) (dates others : List ℕ) → AllPairs (λ s u. s.codename ≢ u.codename) suites → length dates ≡ length suites → length others ≡ length suites
+    → IsPermutation (map date_row (zip suites dates)) (map date_row (zip suites others)) → dates ≡ others
+same_dates suites dates others apart m n same = dates_by_rows suites dates others apart m n (λ r at. Contains-permutation _ _ r same at)
 
 -- ---- the archive
 
@@ -166,7 +191,7 @@ pub one_archive : (t : Tables) (config : ConfigValue) (judged judged_too : List 
 one_archive t config judged judged_too shown shown_too dates dates_too h k home home_too = (
   same_judged t judged judged_too h.uploads k.uploads,
   same_shown t config.suites shown shown_too h.items k.items home home_too,
-  same_dates config.suites dates dates_too h.dated k.dated (sym h.date_rows ∙ k.date_rows),
+  same_dates config.suites dates dates_too (config_codenames config h.read) h.dated k.dated (IsPermutation-trans _ _ _ (IsPermutation-sym _ _ h.date_rows) k.date_rows),
 )
 
 -- one text is one configuration

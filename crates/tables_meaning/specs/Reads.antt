@@ -17,7 +17,6 @@ use Rattle.tables.specs.Rows.{Tables, Numbered, Stands, rows_of}
 use Rattle.tables.specs.Wants.{is_wanted_by, wants_behind}
 use Rattle.tables.specs.declared.rows.UploadRow.{UploadRow}
 use Rattle.tables_meaning.specs.Kept.{bytes_of, sign_in}
-
 -- ---- the order of judging
 
 -- `put_by` puts one more in its place, before those that tie with it, and `sorted_by` one after the other.

@@ -6,6 +6,7 @@ use Rattle.tables.specs.Rows.{rows_of, tables_in}
 use Rattle.tables.specs.declared.rows.TextRow.{TextRow}
 use Rattle.tables_meaning.specs.Finished.{finished}
 use Rattle.tables_meaning.specs.Kept.{book_in}
+use Rattle.tables_meaning.proofs.PathLemmas.{config_paths}
 use Rattle.tables_meaning.proofs.ReadCalls.{is_open_after, read_after, rows_after, text_is}
 use Rattle.tables_meaning.proofs.ReadsLemmas.{undone_if_failed, undone_if_unchanged}
 use Rattle.keep_tables.proofs.reads.read_text.Goals as goal
@@ -47,7 +48,7 @@ returns-in-Some-clause-text g c clean config judged shown dates keeps =
     let early : HasCleanDisk mid = omega (arith, c.select_text.ensures.survives.clean, clean) in
     let rows = rows_after old mid new c.in_ok-probe.ensures.ok settled early keeps in
     let found = (c.in_ok-text.ensures.ok clean (tables_in old.committed) rows).0 in
-    ap Some c.into_vec.ensures ∙ ap (option_map (λ (x : TextRow). x.body)) (sym c.in-Some.is ∙ found) ∙ text_is c.args.path.now (rows_of (tables_in old.committed).texts) (all_texts config shown dates) keeps.kept.texts
+    ap Some c.into_vec.ensures ∙ ap (option_map (λ (x : TextRow). x.body)) (sym c.in-Some.is ∙ found) ∙ text_is c.args.path.now (rows_of (tables_in old.committed).texts) (all_texts config shown dates) (config_paths config keeps.kept.read shown dates) keeps.kept.texts
 
 pub returns-in-None-clause-read : goal.returns-in-None-clause-read
 returns-in-None-clause-read g c =
@@ -77,4 +78,4 @@ returns-in-None-clause-text g c clean config judged shown dates keeps =
     let early : HasCleanDisk mid = omega (arith, c.select_text.ensures.survives.clean, clean) in
     let rows = rows_after old mid new c.in_ok-probe.ensures.ok settled early keeps in
     let found = (c.in_ok-text.ensures.ok clean (tables_in old.committed) rows).0 in
-    ap (option_map (λ (x : TextRow). x.body)) (sym c.in-None.is ∙ found) ∙ text_is c.args.path.now (rows_of (tables_in old.committed).texts) (all_texts config shown dates) keeps.kept.texts
+    ap (option_map (λ (x : TextRow). x.body)) (sym c.in-None.is ∙ found) ∙ text_is c.args.path.now (rows_of (tables_in old.committed).texts) (all_texts config shown dates) (config_paths config keeps.kept.read shown dates) keeps.kept.texts

@@ -1,56 +1,61 @@
-use Rattle.std.proofs.Common.{◌≡◌, ◌≤◌, ◌<◌, ℕ, ◌+◌, List, [], ◌∷◌, ◌++◌, length, map, take, get_or, IsTrue, sym, ap, subst, ◌∙◌, arith, rules}
+use Rattle.std.proofs.Common.{◌≡◌, ◌≤◌, ◌<◌, ℕ, ◌+◌, List, [], ◌∷◌, ◌++◌, length, map, take, get_or, sym, ap, subst, arith}
 use Rattle.std.specs.List.{zip}
-use Rattle.std.specs.Prelude.{All}
-use Rattle.std.proofs.lemmas.List.{length-append, length-take}
+use Rattle.std.specs.Prelude.{All, Contains}
+use Rattle.std.proofs.lemmas.List.{length-append, length-take, take_all}
 use Rattle.std.proofs.lemmas.List.Elements.{All-append, All-get_or}
+use Rattle.std.proofs.lemmas.List.Sorted.{Contains-permutation, IsPermutation-sym}
 use Rattle.keep.specs.Book.{latest}
 use Rattle.tables_meaning.specs.Kept.{date_row}
 use Rattle.rules.specs.declared.suite.Suite.{Suite}
-use Rattle.tables.specs.Rows.{Numbered}
-use Rattle.tables.specs.declared.rows.Date.{Date}
-use Rattle.tables_audit.proofs.DatesLemmas.{all_one, as_many, date_at, dates_more}
+use Rattle.tables.specs.Rows.{rows_of}
+use Rattle.tables_audit.proofs.DatesLemmas.{all_one, as_many, date_at, dates_are, dates_more}
+use Rattle.tables_audit.proofs.TextsLemmas.{some_case}
 use Rattle.tables_audit.proofs.dates.dates_of.Goals as goal
 
 pub returns-then-rows-suites-clause-none : goal.returns-then-rows-suites-clause-none
 returns-then-rows-suites-clause-none c none dates are same in_range =
     omega (arith, as_many c.args.rows.now c.args.suites.now dates are same, c.if-rows-suites.true)
 
-pub returns-then-not-is_date_of-clause-none : goal.returns-then-not-is_date_of-clause-none
-returns-then-not-is_date_of-clause-none c none dates are same in_range =
-    let rows : Numbered Date = c.args.rows.now in
+pub returns-in_default-clause-none : goal.returns-in_default-clause-none
+returns-in_default-clause-none c none dates are same in_range =
     let suites : List Suite = c.args.suites.now in
-    let i : ℕ = c.loop-position.position in
-    let x : ℕ × Date = get_or rows i c.index-rows-position.result in
-    let here : x ≡ get_or rows i x = ap (get_or rows i) c.index-rows-position.is in
-    let s : Suite = c.index-suites-position.result in
-    let within : i < length rows = omega (arith, c.loop-position-test.true) in
-    let inside : i < length suites = omega (arith, within, c.if-rows-suites.false) in
+    let i : ℕ = c.loop-suite.suite-index in
+    let s : Suite = c.suite-item.result in
+    let inside : i < length suites = omega (arith, c.loop-suite-test.true) in
     let early : i < length dates = omega (arith, inside, same) in
-    let is : x.1 ≡ date_row (s, get_or dates i 0) = date_at rows suites dates i x s are within inside early here c.index-suites-position.is in
-    let moment : x.1.moment ≡ get_or dates i 0 = ap (λ (r : Date). r.moment) is in
     let low : get_or dates i 0 ≤ latest = All-get_or (λ d. d ≤ latest) dates i 0 early in_range in
-    let le : x.1.moment ≤ latest = omega (arith, moment, low) in
-    let fits : IsTrue c.is_date_of.result = c.is_date_of.ensures.1 (is ∙ ap (λ m. date_row (s, m)) (sym moment), le) in
-    let not = c.if-not-is_date_of.true in
-    search (rules, fits, not)
+    c.date_of.ensures.none c.in_default.is (get_or dates i 0) low
+    (Contains-permutation (map date_row (zip suites dates)) (rows_of c.args.rows.now) (date_row (s, get_or dates i 0)) (IsPermutation-sym _ _ are)
+    (date_at suites dates i s same inside c.suite-item.is))
 
-pub loop-position-preserved : goal.loop-position-preserved
-loop-position-preserved c =
-    let rows : Numbered Date = c.args.rows.now in
+pub loop-suite-preserved : goal.loop-suite-preserved
+loop-suite-preserved c =
     let suites : List Suite = c.args.suites.now in
-    let dates : List ℕ = c.loop-position.dates.items in
-    let i : ℕ = c.loop-position.position in
-    let x : ℕ × Date = get_or rows i c.index-rows-position.result in
-    let here : x ≡ get_or rows i x = ap (get_or rows i) c.index-rows-position.is in
-    let s : Suite = c.index-suites-position.result in
-    let within : i < length rows = omega (arith, c.loop-position-test.true) in
-    let inside : i < length suites = omega (arith, within, c.if-rows-suites.false) in
-    let own = c.is_date_of.ensures.0 (search rules) in
-    let more : c.push.new.self.items ≡ dates ++ x.1.moment ∷ [] = c.in_ok-push.ensures.items in
-    let many : length dates ≡ length (take i suites) = omega (arith, length-take i suites, c.loop-position.invariant.many) in
+    let dates : List ℕ = c.loop-suite.dates.items in
+    let i : ℕ = c.loop-suite.suite-index in
+    let s : Suite = c.suite-item.result in
+    let d : ℕ = c.in-Some.date in
+    let inside : i < length suites = omega (arith, c.loop-suite-test.true) in
+    let own = some_case c.date_of.result (λ d. Contains (rows_of c.args.rows.now) (date_row (s, d)) × (d ≤ latest)) d c.date_of.ensures.some c.in-Some.is in
+    let more : c.push.new.self.items ≡ dates ++ d ∷ [] = c.in_ok-push.ensures.items in
+    let many : length dates ≡ length (take i suites) = omega (arith, length-take i suites, c.loop-suite.invariant.many) in
     record {
-      many = omega (arith, ap length more, length-append dates (x.1.moment ∷ []), c.loop-position.invariant.many);
-      are = dates_more rows suites dates i x s within inside here c.index-suites-position.is many c.loop-position.invariant.are own.0
-          ∙ ap (λ ds. map date_row (zip (take (i + 1) suites) ds)) (sym more);
-      in_range = subst (All (λ d. d ≤ latest)) (sym more) (All-append (λ d. d ≤ latest) dates (x.1.moment ∷ []) c.loop-position.invariant.in_range (all_one (λ d. d ≤ latest) x.1.moment own.1));
+      many = omega (arith, ap length more, length-append dates (d ∷ []), c.loop-suite.invariant.many);
+      are = subst (λ ds. All (Contains (rows_of c.args.rows.now)) (map date_row (zip (take (i + 1) suites) ds))) (sym more)
+          (dates_more (rows_of c.args.rows.now) suites dates i d s inside c.suite-item.is many c.loop-suite.invariant.are own.0);
+      in_range = subst (All (λ d. d ≤ latest)) (sym more) (All-append (λ d. d ≤ latest) dates (d ∷ []) c.loop-suite.invariant.in_range (all_one (λ d. d ≤ latest) d own.1));
     }
+
+pub returns-clause-some : goal.returns-clause-some
+returns-clause-some c =
+    let rows = c.args.rows.now in
+    let suites : List Suite = c.args.suites.now in
+    let dates : List ℕ = c.loop-suite.dates.items in
+    let i : ℕ = c.loop-suite.suite-index in
+    let whole : take i suites ≡ suites = take_all i suites c.loop-suite-test.false in
+    let many : length dates ≡ length suites = omega (arith, c.loop-suite.invariant.many, ap length whole, length-take i suites) in (
+      dates_are rows suites dates c.requires.apart (omega (arith, c.if-rows-suites.false)) many
+          (subst (λ us. All (Contains (rows_of rows)) (map date_row (zip us dates))) whole c.loop-suite.invariant.are),
+      many,
+      c.loop-suite.invariant.in_range,
+    )

@@ -1,48 +1,78 @@
-use Rattle.std.proofs.Common.{◌≡◌, ◌↔◌, ◌≤◌, ◌<◌, ℕ, ◌+◌, List, ◌++◌, length, drop, get_or, subst, arith}
+use Rattle.std.proofs.Common.{◌≡◌, ◌↔◌, ◌≤◌, ◌<◌, ℕ, ◌+◌, IsPermutation, List, ◌++◌, length, drop, get_or, subst, arith}
 use Rattle.std.specs.List.{zip}
+use Rattle.std.specs.Prelude.{All, Contains}
 use Rattle.std.proofs.lemmas.Slice.Zip.{length-zip}
 use Rattle.tables_meaning.specs.Founding.{suite_texts_at}
+use Rattle.tables_meaning.proofs.PathLemmas.{config_paths}
 use Rattle.rules.specs.Values.{ConfigValue}
 use Rattle.rules.specs.declared.suite.Suite.{Suite}
 use Rattle.suites.specs.Shelves.{ShelvesValue}
 use Rattle.texts.specs.Indices.{PathText, all_texts, texts_from}
 use Rattle.tables_audit.specs.TextRows.{texts_in}
-use Rattle.tables_audit.proofs.TextsLemmas.{none_left, none_more, other_front, same_behind, some_case, texts_next}
+use Rattle.tables_audit.proofs.TextsLemmas.{none_left, none_more, other_front, permuted_if, same_behind, some_case, texts_next, too_many}
 use Rattle.tables_audit.proofs.text_rows.are_texts.Goals as goal
 
-module _ {P : Type 0} (config : ConfigValue) (shelves : ShelvesValue) (dates : List ℕ) (i : ℕ) (left : List PathText) (dated : length dates ≡ length config.suites) (within : i < length dates)
-    (h : P ↔ (left ≡ texts_from shelves i (drop i (zip config.suites dates)))) where
-  next : P ↔ (left ≡ suite_texts_at config shelves i (get_or dates i 0) ++ texts_from shelves (i + 1) (drop (i + 1) (zip config.suites dates)))
-  next = subst (λ xs. P ↔ (left ≡ xs)) (texts_next config shelves dates i 0 (omega (arith, dated, within)) within) h
+module _ {P : Type 0} (C : PathText → Type 0) (config : ConfigValue) (shelves : ShelvesValue) (dates : List ℕ) (i left : ℕ) (dated : length dates ≡ length config.suites) (within : i < length dates)
+    (h : P ↔ (All C (texts_from shelves i (drop i (zip config.suites dates))) × (left ≡ length (texts_from shelves i (drop i (zip config.suites dates)))))) where
+  next : P ↔ (All C (suite_texts_at config shelves i (get_or dates i 0) ++ texts_from shelves (i + 1) (drop (i + 1) (zip config.suites dates)))
+      × (left ≡ length (suite_texts_at config shelves i (get_or dates i 0) ++ texts_from shelves (i + 1) (drop (i + 1) (zip config.suites dates)))))
+  next = subst (λ xs. P ↔ (All C xs × (left ≡ length xs))) (texts_next config shelves dates i 0 (omega (arith, dated, within)) within) h
+
+pub loop-position-init : goal.loop-position-init
+loop-position-init c = record {
+  few = omega arith;
+  are = permuted_if c.args.rows.now (all_texts c.args.config.now c.args.shelves.now c.args.dates.now) (config_paths c.args.config.now c.text.ensures.read c.args.shelves.now c.args.dates.now);
+}
 
 pub returns-in_default : goal.returns-in_default
 returns-in_default c =
     let config : ConfigValue = c.args.config.now in
+    let shelves : ShelvesValue = c.args.shelves.now in
     let dates : List ℕ = c.args.dates.now in
     let i : ℕ = c.loop-position.position in
+    let C : PathText → Type 0 = Contains (texts_in c.args.rows.now) in
     let within : i < length dates = omega (arith, c.loop-position-test.true) in
-    other_front (suite_texts_at config c.args.shelves.now i (get_or dates i 0)) (texts_in c.loop-position.left.now)
-    (texts_from c.args.shelves.now (i + 1) (drop (i + 1) (zip config.suites dates)))
-    (c.in_ok-rest.ensures.none c.in_default.is)
-    (next config c.args.shelves.now dates i (texts_in c.loop-position.left.now) c.requires.dated within c.loop-position.invariant)
+    other_front C (suite_texts_at config shelves i (get_or dates i 0)) (texts_from shelves (i + 1) (drop (i + 1) (zip config.suites dates))) c.loop-position.left
+    (next C config shelves dates i c.loop-position.left c.requires.dated within c.loop-position.invariant.are)
+    (c.in_ok-found.ensures.none c.in_default.is)
+
+pub returns-then-count-left : goal.returns-then-count-left
+returns-then-count-left c =
+    let config : ConfigValue = c.args.config.now in
+    let shelves : ShelvesValue = c.args.shelves.now in
+    let dates : List ℕ = c.args.dates.now in
+    let i : ℕ = c.loop-position.position in
+    let C : PathText → Type 0 = Contains (texts_in c.args.rows.now) in
+    let within : i < length dates = omega (arith, c.loop-position-test.true) in
+    let found = some_case c.in_ok-found.found _ c.in-Some.count c.in_ok-found.ensures.some c.in-Some.is in
+    too_many C (suite_texts_at config shelves i (get_or dates i 0)) (texts_from shelves (i + 1) (drop (i + 1) (zip config.suites dates))) c.loop-position.left
+    (next C config shelves dates i c.loop-position.left c.requires.dated within c.loop-position.invariant.are)
+    c.in-Some.count found.0 (omega (arith, c.if-count-left.true))
 
 pub loop-position-preserved : goal.loop-position-preserved
 loop-position-preserved c =
     let config : ConfigValue = c.args.config.now in
+    let shelves : ShelvesValue = c.args.shelves.now in
     let dates : List ℕ = c.args.dates.now in
     let i : ℕ = c.loop-position.position in
+    let C : PathText → Type 0 = Contains (texts_in c.args.rows.now) in
     let within : i < length dates = omega (arith, c.loop-position-test.true) in
-    same_behind (suite_texts_at config c.args.shelves.now i (get_or dates i 0)) (texts_in c.loop-position.left.now)
-    (texts_from c.args.shelves.now (i + 1) (drop (i + 1) (zip config.suites dates))) (texts_in c.in-Some.rest.now)
-    (some_case c.in_ok-rest.field-0 _ _ c.in_ok-rest.ensures.some c.in-Some.is)
-    (next config c.args.shelves.now dates i (texts_in c.loop-position.left.now) c.requires.dated within c.loop-position.invariant)
+    let found = some_case c.in_ok-found.found _ c.in-Some.count c.in_ok-found.ensures.some c.in-Some.is in
+    record {
+      few = omega (arith, c.loop-position.invariant.few);
+      are = same_behind C (suite_texts_at config shelves i (get_or dates i 0)) (texts_from shelves (i + 1) (drop (i + 1) (zip config.suites dates))) c.loop-position.left
+          (next C config shelves dates i c.loop-position.left c.requires.dated within c.loop-position.invariant.are)
+          c.in-Some.count found.1 found.0 (omega (arith, c.if-count-left.false));
+    }
 
 pub returns : goal.returns
 returns c =
+    let shelves : ShelvesValue = c.args.shelves.now in
     let suites : List Suite = c.args.config.now.suites in
     let dates : List ℕ = c.args.dates.now in
     let i : ℕ = c.loop-position.position in
+    let C : PathText → Type 0 = Contains (texts_in c.args.rows.now) in
     let past : length (zip suites dates) ≤ i = omega (arith, length-zip suites dates, c.loop-position-test.false, c.requires.dated) in
-    none_more c.is_empty.result c.loop-position.left.now c.is_empty.ensures
-    (subst (λ xs. (texts_in c.args.rows.now ≡ all_texts c.args.config.now c.args.shelves.now dates) ↔ (texts_in c.loop-position.left.now ≡ xs))
-    (none_left c.args.shelves.now i (zip suites dates) past) c.loop-position.invariant)
+    none_more C c.loop-position.left
+    (subst (λ xs. IsPermutation (texts_in c.args.rows.now) (all_texts c.args.config.now shelves dates) ↔ (All C xs × (c.loop-position.left ≡ length xs)))
+    (none_left shelves i (zip suites dates) past) c.loop-position.invariant.are)
