@@ -1,6 +1,7 @@
 //! A keeper that counts the index texts and the pieces of bodies that it is handed.
 
 use super::checks::{BOX, config_of, same};
+use super::databases::{Subject, expect_in_memory};
 use super::uploads::{File, HELLO, MOMENT, TIE, TIE_AGAIN};
 use desk::{DeskFault, answer};
 use keep::{
@@ -191,7 +192,7 @@ fn expect_runs<K: Keeper>(
 }
 
 /// Checks the same over the tables of a database that has none.
-fn expect_runs_over_tables<S: InOrder + Drop>(
+pub fn expect_runs_over_tables<S: InOrder + Drop>(
     rt: &impl Abort,
     alloc: Global,
     connection: Connection<S>,
@@ -207,7 +208,7 @@ fn expect_runs_over_tables<S: InOrder + Drop>(
 fn a_run_that_changes_nothing_names_no_text(rt: HostRuntime) -> Result<(), Fail> {
     let alloc = rt.alloc();
     expect_runs(&rt, alloc, &mut counted(alloc, in_memory(alloc)?))?;
-    expect_runs_over_tables(&rt, alloc, Connection::open_in_memory(alloc)?)
+    expect_in_memory(&rt, alloc, Subject::Runs)
 }
 
 /// Bytes behind which the reader fails.
@@ -311,7 +312,7 @@ fn expect_pieces<K: Keeper>(
 }
 
 /// Checks the same over the tables of a database that has none.
-fn expect_pieces_over_tables<S: InOrder + Drop>(
+pub fn expect_pieces_over_tables<S: InOrder + Drop>(
     rt: &impl Abort,
     alloc: Global,
     connection: Connection<S>,
@@ -327,5 +328,5 @@ fn expect_pieces_over_tables<S: InOrder + Drop>(
 fn pieces_are_stored_as_they_come(rt: HostRuntime) -> Result<(), Fail> {
     let alloc = rt.alloc();
     expect_pieces(&rt, alloc, &mut counted(alloc, in_memory(alloc)?))?;
-    expect_pieces_over_tables(&rt, alloc, Connection::open_in_memory(alloc)?)
+    expect_in_memory(&rt, alloc, Subject::Pieces)
 }
