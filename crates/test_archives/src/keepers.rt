@@ -7,7 +7,7 @@ use keep_tables::{InOrder, TableKeeper};
 use rules::Config;
 use sqlite::{Connection, MemStore};
 use std::alloc::{AllocError, Global};
-use test_story::{Makes, Story};
+use test_story::Makes;
 
 /// What makes keepers in a place and opens them there, and gives the place back where it can't.
 pub trait Places<K>: Makes<K> {
@@ -30,12 +30,6 @@ pub trait Places<K>: Makes<K> {
     /// The keeper of the archive that is there.
     fn open(alloc: Global, place: Self::Place) -> Result<K, (Self::Place, KeepFault)>;
 }
-
-/// A story over a plain keeper.
-pub type OverLists = Story<PlainKeeper, Lists>;
-
-/// A story over a keeper over tables in memory.
-pub type OverTables = Story<TableKeeper<MemStore>, Tables>;
 
 /// Makes plain keepers.
 #[derive(Clone, Copy)]
