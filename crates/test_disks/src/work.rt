@@ -41,6 +41,8 @@ pub enum Work<'a> {
     Count(&'a str),
     /// Opens the archive in a transaction, and again behind its end.
     OpenTwice,
+    /// Reads the archive of an older layout.
+    ReadOld,
 }
 
 /// What came of a task with the archive of a keeper, where there is one; and the connection.
@@ -101,6 +103,21 @@ fn counted<S: Alter>(alloc: Global, connection: &mut Connection<S>, query: &str)
     match connection.query_all(query, &[]) {
         Ok(rows) => number(alloc, rows.len()),
         Err(error) => Ok(Err(fault_of(error))),
+    }
+}
+
+/// Reads the archive of an older layout.
+fn read_old<S: Alter>(
+    alloc: Global,
+    connection: &mut Connection<S>,
+    old: &mut Option<OldBook>,
+) -> Answer {
+    match OldBook::read(alloc, connection) {
+        Ok(found) => {
+            *old = Some(found);
+            Ok(Ok(Vec::new(alloc)))
+        }
+        Err(fault) => Ok(Err(fault)),
     }
 }
 
@@ -167,11 +184,12 @@ impl Work<'_> {
         matches!(self, Work::Reopen | Work::Run(_))
     }
 
-    /// Does it, and gives the connection back.
+    /// Does it, and gives the connection back. An archive of an older layout that is read is put into `old`.
     pub fn perform<S: InOrder + Drop>(
         self,
         alloc: Global,
         connection: Connection<S>,
+        old: &mut Option<OldBook>,
     ) -> (Connection<S>, Answer) {
         let mut connection = connection;
         match self {
@@ -189,6 +207,10 @@ impl Work<'_> {
                 (connection, answer)
             }
             Work::OpenTwice => opened_twice(alloc, connection),
+            Work::ReadOld => {
+                let answer = read_old(alloc, &mut connection, old);
+                (connection, answer)
+            }
         }
     }
 }
