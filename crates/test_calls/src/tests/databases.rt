@@ -1,6 +1,6 @@
 //! Checks over a database in memory. One function names its store, since each that does takes the prover long.
 
-use super::counted::{expect_pieces_over_tables, expect_runs_over_tables};
+use super::counted::{Counts, expect_counts_over_tables};
 use super::promised::expect_created;
 use super::wanting::expect_few_steps;
 use promise::InOrder;
@@ -12,10 +12,8 @@ use std::test::Fail;
 /// What is checked over a database that has no tables.
 #[derive(Clone, Copy)]
 pub enum Subject {
-    /// How many texts runs name.
-    Runs,
-    /// How many pieces of bodies come.
-    Pieces,
+    /// How many texts or pieces a keeper is handed.
+    Counts(Counts),
     /// What commands answer.
     Commands,
     /// How many steps a look for uploads takes.
@@ -30,8 +28,7 @@ fn expect_over<S: InOrder + Drop>(
     connection: Connection<S>,
 ) -> Result<(), Fail> {
     match subject {
-        Subject::Runs => expect_runs_over_tables(rt, alloc, connection),
-        Subject::Pieces => expect_pieces_over_tables(rt, alloc, connection),
+        Subject::Counts(counts) => expect_counts_over_tables(rt, alloc, connection, counts),
         Subject::Commands => expect_created(rt, alloc, connection),
         Subject::Uploads => expect_few_steps(rt, alloc, connection),
     }
