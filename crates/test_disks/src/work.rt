@@ -64,6 +64,15 @@ fn with_archive<S: Alter + Drop>(
     }
 }
 
+/// What came of a task with the archive that is there.
+fn opened<S: InOrder + Drop>(
+    alloc: Global,
+    connection: Connection<S>,
+    task: Task<'_>,
+) -> (Connection<S>, Answer) {
+    with_archive(alloc, TableKeeper::open(alloc, connection), task)
+}
+
 impl<'a> Making<'a> {
     /// The text of the configuration.
     fn config(self) -> &'a [u8] {
@@ -162,19 +171,11 @@ fn opened_twice<S: InOrder + Drop>(
 ) -> (Connection<S>, Answer) {
     let mut connection = connection;
     let has_begun = connection.execute_batch("BEGIN").is_ok();
-    let (mut connection, within) = with_archive(
-        alloc,
-        TableKeeper::open(alloc, connection),
-        Task::Nothing,
-    );
+    let (mut connection, within) = opened(alloc, connection, Task::Nothing);
     if !has_begun || connection.execute_batch("COMMIT").is_err() {
         return (connection, Ok(Err(KeepFault::Disk)));
     }
-    let (connection, behind) = with_archive(
-        alloc,
-        TableKeeper::open(alloc, connection),
-        Task::Nothing,
-    );
+    let (connection, behind) = opened(alloc, connection, Task::Nothing);
     (connection, both(alloc, within, behind))
 }
 
@@ -193,11 +194,9 @@ impl Work<'_> {
     ) -> (Connection<S>, Answer) {
         let mut connection = connection;
         match self {
-            Work::Open(task) => with_archive(alloc, TableKeeper::open(alloc, connection), task),
+            Work::Open(task) => opened(alloc, connection, task),
             Work::Make(making, task) => with_archive(alloc, made(alloc, connection, making), task),
-            Work::Reopen => {
-                with_archive(alloc, TableKeeper::open(alloc, connection), Task::Nothing)
-            }
+            Work::Reopen => opened(alloc, connection, Task::Nothing),
             Work::Run(list) => {
                 let answer = run(alloc, &mut connection, list);
                 (connection, answer)
