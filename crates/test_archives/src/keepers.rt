@@ -92,6 +92,26 @@ impl InMemory for MemStore {
     }
 }
 
+/// A keeper over the tables that are made in a place.
+fn created<S: InMemory + Drop>(
+    alloc: Global,
+    place: Connection<S>,
+    config: Config,
+    moment: u64,
+) -> Result<TableKeeper<S>, (Connection<S>, KeepFault)>
+    requires { moment ≤ LATEST }
+{
+    TableKeeper::create(alloc, place, config, moment)
+}
+
+/// The keeper over the tables that are there.
+fn opened<S: InMemory + Drop>(
+    alloc: Global,
+    place: Connection<S>,
+) -> Result<TableKeeper<S>, (Connection<S>, KeepFault)> {
+    TableKeeper::open(alloc, place)
+}
+
 /// Makes keepers over tables in memory.
 #[derive(Clone, Copy)]
 pub struct Tables;
@@ -103,14 +123,14 @@ impl<S: InMemory + Drop> Makes<TableKeeper<S>> for Tables {
         let Ok(connection) = S::connect(alloc) else {
             return Err(KeepFault::OutOfMemory);
         };
-        match TableKeeper::create(alloc, connection, config, moment) {
+        match created(alloc, connection, config, moment) {
             Ok(keeper) => Ok(keeper),
             Err((_, fault)) => Err(fault),
         }
     }
 
     fn reopened(alloc: Global, keeper: TableKeeper<S>) -> Result<TableKeeper<S>, KeepFault> {
-        match TableKeeper::open(alloc, keeper.into_connection()) {
+        match opened(alloc, keeper.into_connection()) {
             Ok(keeper) => Ok(keeper),
             Err((_, fault)) => Err(fault),
         }
@@ -129,7 +149,7 @@ impl<S: InMemory + Drop> Places<TableKeeper<S>> for Tables {
         place: Connection<S>,
         config: Config,
     ) -> Result<TableKeeper<S>, (Connection<S>, KeepFault)> {
-        TableKeeper::create(alloc, place, config, 0)
+        created(alloc, place, config, 0)
     }
 
     fn leave(keeper: TableKeeper<S>) -> Connection<S> {
@@ -140,6 +160,6 @@ impl<S: InMemory + Drop> Places<TableKeeper<S>> for Tables {
         alloc: Global,
         place: Connection<S>,
     ) -> Result<TableKeeper<S>, (Connection<S>, KeepFault)> {
-        TableKeeper::open(alloc, place)
+        opened(alloc, place)
     }
 }

@@ -21,8 +21,8 @@ use test_rows::{Answers, report_files};
 /// Stories over plain keepers, and calls of them.
 type OverLists = Marked<PlainKeeper, Lists>;
 
-/// Stories over keepers over tables in memory, calls of them, and migrations. `main` alone names the type of their store, since each
-/// function that does takes the prover long.
+/// Stories over keepers over tables in memory, calls of them, and migrations. `main` names the type of their store, and besides it only
+/// what opens it does.
 type OverTables = Moves<MemStore>;
 
 /// Makes the calls of which a growth may be refused, over lists and over tables, and migrations.

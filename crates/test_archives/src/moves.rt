@@ -77,18 +77,26 @@ fn read<S: InMemory + Drop, R: Print + AllocGlobal>(
     }
 }
 
-/// Makes an archive of an older one again in its place, where memory was wanting.
-fn migrated_again<S: InMemory + Drop>(
+/// Makes an archive of an older one in a place.
+fn made<S: InMemory + Drop>(
     alloc: Global,
-    made: Result<TableKeeper<S>, (Connection<S>, KeepFault)>,
+    place: Connection<S>,
     step: Move<'_>,
     config: Config,
 ) -> Result<TableKeeper<S>, (Connection<S>, KeepFault)> {
-    match made {
-        Err((place, KeepFault::OutOfMemory)) => {
-            migrate::migrate(alloc, place, step.old, config, step.moment.min(LATEST))
-        }
-        made => made,
+    migrate::migrate(alloc, place, step.old, config, step.moment.min(LATEST))
+}
+
+/// Makes it again in its place, where memory was wanting.
+fn made_again<S: InMemory + Drop>(
+    alloc: Global,
+    first: Result<TableKeeper<S>, (Connection<S>, KeepFault)>,
+    step: Move<'_>,
+    config: Config,
+) -> Result<TableKeeper<S>, (Connection<S>, KeepFault)> {
+    match first {
+        Err((place, KeepFault::OutOfMemory)) => made(alloc, place, step, config),
+        found => found,
     }
 }
 
@@ -102,9 +110,9 @@ fn migrated<S: InMemory + Drop, R: Print + AllocGlobal>(
     let other = config_of(alloc, step.config)?;
     let place = S::connect(alloc)?;
     marks.begin()?;
-    let made = migrate::migrate(alloc, place, step.old, config, step.moment.min(LATEST));
-    marks.end(made.is_err())?;
-    match migrated_again(alloc, made, step, other) {
+    let found = made(alloc, place, step, config);
+    marks.end(found.is_err())?;
+    match made_again(alloc, found, step, other) {
         Ok(keeper) => Ok(Ok(keeper)),
         Err((_, fault)) => Ok(Err(fault)),
     }
