@@ -238,22 +238,41 @@ fn answered<K: Keeper + Drop, M: Places<K>, R: Print + AllocGlobal>(
     }
 }
 
-impl<K: Keeper + Drop, M: Places<K>, R: Print + AllocGlobal> Answers<R> for Marked<K, M> {
-    fn fresh(_rt: &R) -> Marked<K, M> {
+/// Whether marks are printed, by the word before a call: `call` or `marked`. Before all else neither stands.
+pub fn prints_marks(word: &Vec<u8>) -> Result<Option<bool>, Unread> {
+    match text_of(word)? {
+        "call" => Ok(Some(false)),
+        "marked" => Ok(Some(true)),
+        _ => Ok(None),
+    }
+}
+
+impl<K: Keeper + Drop, M: Places<K>> Marked<K, M> {
+    /// A story in which no archive is there yet.
+    pub fn new() -> Marked<K, M> {
         Marked {
             story: Story::new(),
         }
     }
 
+    /// Has this archive from here on.
+    pub fn put(&mut self, archive: Archive<K>) {
+        self.story.put(archive);
+    }
+}
+
+impl<K: Keeper + Drop, M: Places<K>, R: Print + AllocGlobal> Answers<R> for Marked<K, M> {
+    fn fresh(_rt: &R) -> Marked<K, M> {
+        Marked::new()
+    }
+
     fn answer(&mut self, rt: &R, words: &[Vec<u8>]) -> Result<Vec<u8>, Unread> {
-        let Some((verb, rest)) = words.split_first() else {
+        let Some((word, call)) = words.split_first() else {
             return Err(Unread::BadWords);
         };
-        let are_printed = match text_of(verb)? {
-            "call" => false,
-            "marked" => true,
-            _ => return self.story.answered(rt.alloc(), words),
-        };
-        answered(Marks { rt, are_printed }, &mut self.story, rest)
+        match prints_marks(word)? {
+            Some(are_printed) => answered(Marks { rt, are_printed }, &mut self.story, call),
+            None => self.story.answered(rt.alloc(), words),
+        }
     }
 }

@@ -7,7 +7,7 @@ use keep_tables::{InOrder, TableKeeper};
 use rules::Config;
 use sqlite::{Connection, MemStore};
 use std::alloc::{AllocError, Global};
-use test_story::{Makes, Story};
+use test_story::Makes;
 
 /// What makes keepers in a place and opens them there, and gives the place back where it can't.
 pub trait Places<K>: Makes<K> {
@@ -30,12 +30,6 @@ pub trait Places<K>: Makes<K> {
     /// The keeper of the archive that is there.
     fn open(alloc: Global, place: Self::Place) -> Result<K, (Self::Place, KeepFault)>;
 }
-
-/// A story over a plain keeper.
-pub type OverLists = Story<PlainKeeper, Lists>;
-
-/// A story over a keeper over tables in memory.
-pub type OverTables = Story<TableKeeper<MemStore>, Tables>;
 
 /// Makes plain keepers.
 #[derive(Clone, Copy)]
@@ -98,6 +92,26 @@ impl InMemory for MemStore {
     }
 }
 
+/// A keeper over the tables that are made in a place.
+fn created<S: InMemory + Drop>(
+    alloc: Global,
+    place: Connection<S>,
+    config: Config,
+    moment: u64,
+) -> Result<TableKeeper<S>, (Connection<S>, KeepFault)>
+    requires { moment ≤ LATEST }
+{
+    TableKeeper::create(alloc, place, config, moment)
+}
+
+/// The keeper over the tables that are there.
+fn opened<S: InMemory + Drop>(
+    alloc: Global,
+    place: Connection<S>,
+) -> Result<TableKeeper<S>, (Connection<S>, KeepFault)> {
+    TableKeeper::open(alloc, place)
+}
+
 /// Makes keepers over tables in memory.
 #[derive(Clone, Copy)]
 pub struct Tables;
@@ -109,14 +123,14 @@ impl<S: InMemory + Drop> Makes<TableKeeper<S>> for Tables {
         let Ok(connection) = S::connect(alloc) else {
             return Err(KeepFault::OutOfMemory);
         };
-        match TableKeeper::create(alloc, connection, config, moment) {
+        match created(alloc, connection, config, moment) {
             Ok(keeper) => Ok(keeper),
             Err((_, fault)) => Err(fault),
         }
     }
 
     fn reopened(alloc: Global, keeper: TableKeeper<S>) -> Result<TableKeeper<S>, KeepFault> {
-        match TableKeeper::open(alloc, keeper.into_connection()) {
+        match opened(alloc, keeper.into_connection()) {
             Ok(keeper) => Ok(keeper),
             Err((_, fault)) => Err(fault),
         }
@@ -135,7 +149,7 @@ impl<S: InMemory + Drop> Places<TableKeeper<S>> for Tables {
         place: Connection<S>,
         config: Config,
     ) -> Result<TableKeeper<S>, (Connection<S>, KeepFault)> {
-        TableKeeper::create(alloc, place, config, 0)
+        created(alloc, place, config, 0)
     }
 
     fn leave(keeper: TableKeeper<S>) -> Connection<S> {
@@ -146,6 +160,6 @@ impl<S: InMemory + Drop> Places<TableKeeper<S>> for Tables {
         alloc: Global,
         place: Connection<S>,
     ) -> Result<TableKeeper<S>, (Connection<S>, KeepFault)> {
-        TableKeeper::open(alloc, place)
+        opened(alloc, place)
     }
 }

@@ -9,42 +9,44 @@ mod keepers;
 mod moves;
 
 use crate::growths::Marked;
-use crate::keepers::{Lists, OverLists, OverTables, Tables};
+use crate::keepers::Lists;
 use crate::moves::Moves;
 use keep::PlainKeeper;
-use keep_tables::TableKeeper;
 use sqlite::MemStore;
 use std::io;
 use std::process::ExitCode;
-use test_rows::report_files;
+use std::rt::{Env, Files};
+use test_rows::{Answers, report_files};
 
-/// Calls of which a growth may be refused, over plain keepers.
-type MarkedLists = Marked<PlainKeeper, Lists>;
+/// Stories over plain keepers, and calls of them.
+type OverLists = Marked<PlainKeeper, Lists>;
 
-/// The same over keepers over tables in memory.
-type MarkedTables = Marked<TableKeeper<MemStore>, Tables>;
+/// Stories over keepers over tables in memory, calls of them, and migrations. `main` names the type of their store, and besides it only
+/// what opens it does.
+type OverTables = Moves<MemStore>;
 
-/// Migrations of which a growth may be refused, over tables in memory.
-type MarkedMoves = Moves<MemStore>;
-
-/// Makes the calls of which a growth may be refused: those of all files over both keepers, or of some over one of them, and migrations.
-fn call(rt: &HostRuntime) -> io::Result<bool> {
-    let over_lists = report_files::<MarkedLists, HostRuntime>(rt, "over lists: ", ".growths")?;
-    let over_tables = report_files::<MarkedTables, HostRuntime>(rt, "over tables: ", ".growths")?;
-    let moved = report_files::<MarkedMoves, HostRuntime>(rt, "of older ones: ", ".moves")?;
+/// Makes the calls of which a growth may be refused, over lists and over tables, and migrations.
+fn call<L: Answers<R>, T: Answers<R>, R: Files + Env + Print + AllocGlobal + Clone + Drop>(
+    rt: &R,
+) -> io::Result<bool> {
+    let over_lists = report_files::<L, R>(rt, "over lists: ", ".growths")?;
+    let over_tables = report_files::<T, R>(rt, "over tables: ", ".growths")?;
+    let moved = report_files::<T, R>(rt, "of older ones: ", ".moves")?;
     Ok(over_lists && over_tables && moved)
 }
 
-/// Tells the stories over both keepers, and makes the calls.
-fn tell(rt: &HostRuntime) -> io::Result<bool> {
-    let over_lists = report_files::<OverLists, HostRuntime>(rt, "over lists: ", ".rows")?;
-    let over_tables = report_files::<OverTables, HostRuntime>(rt, "over tables: ", ".rows")?;
-    let called = call(rt)?;
+/// Tells the stories over lists and over tables, and makes the calls.
+fn tell<L: Answers<R>, T: Answers<R>, R: Files + Env + Print + AllocGlobal + Clone + Drop>(
+    rt: &R,
+) -> io::Result<bool> {
+    let over_lists = report_files::<L, R>(rt, "over lists: ", ".rows")?;
+    let over_tables = report_files::<T, R>(rt, "over tables: ", ".rows")?;
+    let called = call::<L, T, R>(rt)?;
     Ok(over_lists && over_tables && called)
 }
 
 fn main(rt: HostRuntime) -> ExitCode {
-    match tell(&rt) {
+    match tell::<OverLists, OverTables, HostRuntime>(&rt) {
         Ok(true) => ExitCode::from(0),
         Ok(false) => ExitCode::from(1),
         Err(_) => ExitCode::from(3),

@@ -1,6 +1,6 @@
 //! Archives of older layouts that are read and migrated in memory, between two marks that are printed, as calls are.
 
-use crate::growths::{Marks, config_of};
+use crate::growths::{Marked, Marks, config_of, prints_marks};
 use crate::keepers::{InMemory, Tables};
 use keep::{KeepFault, LATEST};
 use keep_tables::TableKeeper;
@@ -10,13 +10,37 @@ use rules::Config;
 use sqlite::Connection;
 use std::alloc::Global;
 use test_rows::{Answers, Unread, number_of, said, text_of};
-use test_story::Story;
 
-/// The archive of an older layout that was read, if one was, and a story over the one that is made of it.
+/// A story over keepers over tables in memory, of which calls may be marked, and the archive of an older layout that was read last, if one
+/// was.
 #[derive(Drop)]
 pub struct Moves<S: InMemory + Drop> {
     old: Option<OldBook>,
-    story: Story<TableKeeper<S>, Tables>,
+    calls: Marked<TableKeeper<S>, Tables>,
+}
+
+/// A step of a migration.
+#[derive(Clone, Copy)]
+enum Step<'a> {
+    /// `old SQL..`: reads the archive of an older layout that lists of statements make.
+    Old(&'a [Vec<u8>]),
+    /// `migrated CONFIGURATION MOMENT`: makes an archive of the one that was read.
+    Migrated(&'a [u8], u64),
+}
+
+/// The step of these words, if they are one.
+fn step_of(words: &[Vec<u8>]) -> Result<Option<Step<'_>>, Unread> {
+    let Some((verb, rest)) = words.split_first() else {
+        return Ok(None);
+    };
+    match (text_of(verb)?, rest) {
+        ("old", lists) => Ok(Some(Step::Old(lists))),
+        ("migrated", [config, moment]) => Ok(Some(Step::Migrated(
+            config.as_slice(),
+            number_of(moment)?,
+        ))),
+        _ => Ok(None),
+    }
 }
 
 /// Under what an archive of an older layout is migrated.
@@ -53,18 +77,26 @@ fn read<S: InMemory + Drop, R: Print + AllocGlobal>(
     }
 }
 
-/// Makes an archive of an older one again in its place, where memory was wanting.
-fn migrated_again<S: InMemory + Drop>(
+/// Makes an archive of an older one in a place.
+fn made<S: InMemory + Drop>(
     alloc: Global,
-    made: Result<TableKeeper<S>, (Connection<S>, KeepFault)>,
+    place: Connection<S>,
     step: Move<'_>,
     config: Config,
 ) -> Result<TableKeeper<S>, (Connection<S>, KeepFault)> {
-    match made {
-        Err((place, KeepFault::OutOfMemory)) => {
-            migrate::migrate(alloc, place, step.old, config, step.moment.min(LATEST))
-        }
-        made => made,
+    migrate::migrate(alloc, place, step.old, config, step.moment.min(LATEST))
+}
+
+/// Makes it again in its place, where memory was wanting.
+fn made_again<S: InMemory + Drop>(
+    alloc: Global,
+    first: Result<TableKeeper<S>, (Connection<S>, KeepFault)>,
+    step: Move<'_>,
+    config: Config,
+) -> Result<TableKeeper<S>, (Connection<S>, KeepFault)> {
+    match first {
+        Err((place, KeepFault::OutOfMemory)) => made(alloc, place, step, config),
+        found => found,
     }
 }
 
@@ -78,16 +110,16 @@ fn migrated<S: InMemory + Drop, R: Print + AllocGlobal>(
     let other = config_of(alloc, step.config)?;
     let place = S::connect(alloc)?;
     marks.begin()?;
-    let made = migrate::migrate(alloc, place, step.old, config, step.moment.min(LATEST));
-    marks.end(made.is_err())?;
-    match migrated_again(alloc, made, step, other) {
+    let found = made(alloc, place, step, config);
+    marks.end(found.is_err())?;
+    match made_again(alloc, found, step, other) {
         Ok(keeper) => Ok(Ok(keeper)),
         Err((_, fault)) => Ok(Err(fault)),
     }
 }
 
 impl<S: InMemory + Drop> Moves<S> {
-    /// `old SQL..`: reads the archive of an older layout that lists of statements make, and says so, or the fault.
+    /// Reads an archive of an older layout, and says so, or the fault.
     fn read<R: Print + AllocGlobal>(
         &mut self,
         marks: Marks<'_, R>,
@@ -104,7 +136,7 @@ impl<S: InMemory + Drop> Moves<S> {
         }
     }
 
-    /// `migrated CONFIGURATION MOMENT`: makes an archive of the one that was read, and says so, or the fault.
+    /// Makes an archive of the one that was read, and says so, or the fault.
     fn migrated<R: Print + AllocGlobal>(
         &mut self,
         marks: Marks<'_, R>,
@@ -122,28 +154,22 @@ impl<S: InMemory + Drop> Moves<S> {
         };
         match migrated::<S, R>(marks, step)? {
             Ok(keeper) => {
-                self.story.put(Archive::new(alloc, keeper));
+                self.calls.put(Archive::new(alloc, keeper));
                 said(alloc, "made")
             }
             Err(fault) => Ok(fault.to_string(alloc)?.into_bytes()),
         }
     }
 
-    /// One of both, with marks or without.
-    fn answered<R: Print + AllocGlobal>(
+    /// Does a step, with marks or without.
+    fn moved<R: Print + AllocGlobal>(
         &mut self,
         marks: Marks<'_, R>,
-        words: &[Vec<u8>],
+        step: Step<'_>,
     ) -> Result<Vec<u8>, Unread> {
-        let Some((verb, rest)) = words.split_first() else {
-            return Err(Unread::BadWords);
-        };
-        match (text_of(verb)?, rest) {
-            ("old", lists) => self.read(marks, lists),
-            ("migrated", [config, moment]) => {
-                self.migrated(marks, config.as_slice(), number_of(moment)?)
-            }
-            _ => Err(Unread::BadWords),
+        match step {
+            Step::Old(lists) => self.read(marks, lists),
+            Step::Migrated(config, moment) => self.migrated(marks, config, moment),
         }
     }
 }
@@ -152,20 +178,20 @@ impl<S: InMemory + Drop, R: Print + AllocGlobal> Answers<R> for Moves<S> {
     fn fresh(_rt: &R) -> Moves<S> {
         Moves {
             old: None,
-            story: Story::new(),
+            calls: Marked::new(),
         }
     }
 
-    /// `call old SQL..` and `call migrated CONFIGURATION MOMENT`, or with `marked` in the place of `call`; else what the story answers.
+    /// A step behind `call` or `marked`, else what the story answers.
     fn answer(&mut self, rt: &R, words: &[Vec<u8>]) -> Result<Vec<u8>, Unread> {
-        let Some((verb, rest)) = words.split_first() else {
+        let Some((word, rest)) = words.split_first() else {
             return Err(Unread::BadWords);
         };
-        let are_printed = match text_of(verb)? {
-            "call" => false,
-            "marked" => true,
-            _ => return self.story.answered(rt.alloc(), words),
-        };
-        self.answered(Marks { rt, are_printed }, rest)
+        if let Some(are_printed) = prints_marks(word)? {
+            if let Some(step) = step_of(rest)? {
+                return self.moved(Marks { rt, are_printed }, step);
+            }
+        }
+        self.calls.answer(rt, words)
     }
 }

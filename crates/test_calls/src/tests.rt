@@ -3,6 +3,7 @@
 mod attended;
 mod checks;
 mod counted;
+mod databases;
 mod kept_values;
 mod promised;
 mod refusals;

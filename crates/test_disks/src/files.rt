@@ -136,14 +136,9 @@ impl Case {
             return said(alloc, "not run");
         };
         let (left, old) = old_of(alloc, &image)?;
-        let mut text = match old {
-            Ok(old) => {
-                self.old = Some(old);
-                said(alloc, "read")?
-            }
-            Err(fault) => told_fault(alloc, fault)?,
-        };
-        if left.database.as_slice() != image.database.as_slice() {
+        self.old = old;
+        let mut text = word_or_fault(alloc, "read", &left.answer)?;
+        if left.stood.database.as_slice() != image.database.as_slice() {
             text.extend_from_slice(b" and other bytes")?;
         }
         Ok(text)

@@ -94,27 +94,18 @@ fn closed<D: Disk + Drop>(connection: Connection<FileStore<D>>, copies_log: bool
 }
 
 /// Works with the database in files, and gives them back.
-fn worked<D: Disk + Drop>(alloc: Global, files: Files<D>, work: Work<'_>) -> (Files<D>, Answer) {
+fn worked<D: Disk + Drop>(
+    alloc: Global,
+    files: Files<D>,
+    work: Work<'_>,
+    old: &mut Option<OldBook>,
+) -> (Files<D>, Answer) {
     match connected(alloc, files) {
         Ok(connection) => {
-            let (connection, answer) = work.perform(alloc, connection);
+            let (connection, answer) = work.perform(alloc, connection, old);
             (closed(connection, work.copies_log()), answer)
         }
         Err((files, fault)) => (files, Ok(Err(fault))),
-    }
-}
-
-/// Reads the archive of an older layout in files, and gives them back.
-fn old_in<D: Disk + Drop>(
-    alloc: Global,
-    files: Files<D>,
-) -> (Files<D>, Result<OldBook, KeepFault>) {
-    match connected(alloc, files) {
-        Ok(mut connection) => {
-            let old = OldBook::read(alloc, &mut connection);
-            (closed(connection, false), old)
-        }
-        Err((files, fault)) => (files, Err(fault)),
     }
 }
 
@@ -180,17 +171,30 @@ fn left_of(
     })
 }
 
-/// Works with the database in files that hold what an image says, and of which one is to fail.
-pub fn done(alloc: Global, image: &Image, plan: Plan, work: Work<'_>) -> Result<Left, Unread> {
-    let (files, answer) = worked::<Broken>(alloc, files_of(alloc, image, plan)?, work);
+/// Works with the database in files that hold what an image says, and of which one is to fail. An archive of an older layout that is read
+/// is put into `old`. No other function names the store of these files.
+fn done_with(
+    alloc: Global,
+    image: &Image,
+    plan: Plan,
+    work: Work<'_>,
+    old: &mut Option<OldBook>,
+) -> Result<Left, Unread> {
+    let (files, answer) = worked::<Broken>(alloc, files_of(alloc, image, plan)?, work, old);
     match answer {
         Ok(answer) => left_of(alloc, files, plan.which, answer),
         Err(unread) => Err(unread),
     }
 }
 
-/// What is left of files that hold what an image says, and the archive of an older layout that is read of them, or why none is.
-pub fn old_of(alloc: Global, image: &Image) -> Result<(Image, Result<OldBook, KeepFault>), Unread> {
-    let (files, old) = old_in::<Broken>(alloc, files_of(alloc, image, SOUND)?);
-    Ok((image_of(alloc, &files)?, old))
+/// Works with the database in files that hold what an image says, and of which one is to fail.
+pub fn done(alloc: Global, image: &Image, plan: Plan, work: Work<'_>) -> Result<Left, Unread> {
+    done_with(alloc, image, plan, work, &mut None)
+}
+
+/// Reads the archive of an older layout in files that hold what an image says. The archive is there where the answer is no fault.
+pub fn old_of(alloc: Global, image: &Image) -> Result<(Left, Option<OldBook>), Unread> {
+    let mut old = None;
+    let left = done_with(alloc, image, SOUND, Work::ReadOld, &mut old)?;
+    Ok((left, old))
 }

@@ -41,6 +41,8 @@ pub enum Work<'a> {
     Count(&'a str),
     /// Opens the archive in a transaction, and again behind its end.
     OpenTwice,
+    /// Reads the archive of an older layout.
+    ReadOld,
 }
 
 /// What came of a task with the archive of a keeper, where there is one; and the connection.
@@ -60,6 +62,15 @@ fn with_archive<S: Alter + Drop>(
         }
         Err((connection, fault)) => (connection, Ok(Err(fault))),
     }
+}
+
+/// What came of a task with the archive that is there.
+fn opened<S: InOrder + Drop>(
+    alloc: Global,
+    connection: Connection<S>,
+    task: Task<'_>,
+) -> (Connection<S>, Answer) {
+    with_archive(alloc, TableKeeper::open(alloc, connection), task)
 }
 
 impl<'a> Making<'a> {
@@ -104,6 +115,21 @@ fn counted<S: Alter>(alloc: Global, connection: &mut Connection<S>, query: &str)
     }
 }
 
+/// Reads the archive of an older layout.
+fn read_old<S: Alter>(
+    alloc: Global,
+    connection: &mut Connection<S>,
+    old: &mut Option<OldBook>,
+) -> Answer {
+    match OldBook::read(alloc, connection) {
+        Ok(found) => {
+            *old = Some(found);
+            Ok(Ok(Vec::new(alloc)))
+        }
+        Err(fault) => Ok(Err(fault)),
+    }
+}
+
 /// A number, as it is printed.
 fn number(alloc: Global, number: usize) -> Answer {
     let text = said(alloc, number.to_string(alloc)?.as_str())?;
@@ -145,19 +171,11 @@ fn opened_twice<S: InOrder + Drop>(
 ) -> (Connection<S>, Answer) {
     let mut connection = connection;
     let has_begun = connection.execute_batch("BEGIN").is_ok();
-    let (mut connection, within) = with_archive(
-        alloc,
-        TableKeeper::open(alloc, connection),
-        Task::Nothing,
-    );
+    let (mut connection, within) = opened(alloc, connection, Task::Nothing);
     if !has_begun || connection.execute_batch("COMMIT").is_err() {
         return (connection, Ok(Err(KeepFault::Disk)));
     }
-    let (connection, behind) = with_archive(
-        alloc,
-        TableKeeper::open(alloc, connection),
-        Task::Nothing,
-    );
+    let (connection, behind) = opened(alloc, connection, Task::Nothing);
     (connection, both(alloc, within, behind))
 }
 
@@ -167,19 +185,18 @@ impl Work<'_> {
         matches!(self, Work::Reopen | Work::Run(_))
     }
 
-    /// Does it, and gives the connection back.
+    /// Does it, and gives the connection back. An archive of an older layout that is read is put into `old`.
     pub fn perform<S: InOrder + Drop>(
         self,
         alloc: Global,
         connection: Connection<S>,
+        old: &mut Option<OldBook>,
     ) -> (Connection<S>, Answer) {
         let mut connection = connection;
         match self {
-            Work::Open(task) => with_archive(alloc, TableKeeper::open(alloc, connection), task),
+            Work::Open(task) => opened(alloc, connection, task),
             Work::Make(making, task) => with_archive(alloc, made(alloc, connection, making), task),
-            Work::Reopen => {
-                with_archive(alloc, TableKeeper::open(alloc, connection), Task::Nothing)
-            }
+            Work::Reopen => opened(alloc, connection, Task::Nothing),
             Work::Run(list) => {
                 let answer = run(alloc, &mut connection, list);
                 (connection, answer)
@@ -189,6 +206,10 @@ impl Work<'_> {
                 (connection, answer)
             }
             Work::OpenTwice => opened_twice(alloc, connection),
+            Work::ReadOld => {
+                let answer = read_old(alloc, &mut connection, old);
+                (connection, answer)
+            }
         }
     }
 }

@@ -1,6 +1,7 @@
 //! A keeper that counts the index texts and the pieces of bodies that it is handed.
 
 use super::checks::{BOX, config_of, same};
+use super::databases::{Subject, expect_in_memory};
 use super::uploads::{File, HELLO, MOMENT, TIE, TIE_AGAIN};
 use desk::{DeskFault, answer};
 use keep::{
@@ -190,24 +191,12 @@ fn expect_runs<K: Keeper>(
     expect_run(rt, alloc, archive, &TIE_AGAIN, MOMENT + 3, &lines, 4)
 }
 
-/// Checks the same over the tables of a database that has none.
-fn expect_runs_over_tables<S: InOrder + Drop>(
-    rt: &impl Abort,
-    alloc: Global,
-    connection: Connection<S>,
-) -> Result<(), Fail> {
-    let Ok((archive, _)) = drive_created(alloc, connection, config_of(alloc, BOX)?, 0, &[]) else {
-        return Err(Fail::from("not made"));
-    };
-    expect_runs(rt, alloc, &mut counted(alloc, archive.into_keeper()))
-}
-
 /// A run after which all indices are as before names no text to the keeper.
 #[test]
 fn a_run_that_changes_nothing_names_no_text(rt: HostRuntime) -> Result<(), Fail> {
     let alloc = rt.alloc();
     expect_runs(&rt, alloc, &mut counted(alloc, in_memory(alloc)?))?;
-    expect_runs_over_tables(&rt, alloc, Connection::open_in_memory(alloc)?)
+    expect_in_memory(&rt, alloc, Subject::Counts(Counts::Texts))
 }
 
 /// Bytes behind which the reader fails.
@@ -310,16 +299,42 @@ fn expect_pieces<K: Keeper>(
     expect_cut_request(rt, alloc, archive)
 }
 
-/// Checks the same over the tables of a database that has none.
-fn expect_pieces_over_tables<S: InOrder + Drop>(
+/// What is counted.
+#[derive(Clone, Copy)]
+pub enum Counts {
+    Texts,
+    Pieces,
+}
+
+/// Checks one of both over an archive.
+fn expect_counts<K: Keeper>(
+    rt: &impl Abort,
+    alloc: Global,
+    archive: &mut Archive<Counting<K>>,
+    counts: Counts,
+) -> Result<(), Fail> {
+    match counts {
+        Counts::Texts => expect_runs(rt, alloc, archive),
+        Counts::Pieces => expect_pieces(rt, alloc, archive),
+    }
+}
+
+/// Checks it over the tables of a database that has none.
+pub fn expect_counts_over_tables<S: InOrder + Drop>(
     rt: &impl Abort,
     alloc: Global,
     connection: Connection<S>,
+    counts: Counts,
 ) -> Result<(), Fail> {
     let Ok((archive, _)) = drive_created(alloc, connection, config_of(alloc, BOX)?, 0, &[]) else {
         return Err(Fail::from("not made"));
     };
-    expect_pieces(rt, alloc, &mut counted(alloc, archive.into_keeper()))
+    expect_counts(
+        rt,
+        alloc,
+        &mut counted(alloc, archive.into_keeper()),
+        counts,
+    )
 }
 
 /// Each piece of a body is stored before the next is read.
@@ -327,5 +342,5 @@ fn expect_pieces_over_tables<S: InOrder + Drop>(
 fn pieces_are_stored_as_they_come(rt: HostRuntime) -> Result<(), Fail> {
     let alloc = rt.alloc();
     expect_pieces(&rt, alloc, &mut counted(alloc, in_memory(alloc)?))?;
-    expect_pieces_over_tables(&rt, alloc, Connection::open_in_memory(alloc)?)
+    expect_in_memory(&rt, alloc, Subject::Counts(Counts::Pieces))
 }

@@ -1,6 +1,7 @@
 //! Archives from their first call on: in memory, in a database, one that is opened again, and one that gets another configuration.
 
 use super::checks::{BOX, config_of, same};
+use super::databases::{Subject, expect_in_memory};
 use keep::Keeper;
 use promise::{InOrder, drive_configured, drive_created, drive_opened};
 use queue::{Arrived, Command, Outcome, drive_anew};
@@ -78,18 +79,22 @@ fn expect_opened<S: InOrder + Drop>(
 }
 
 /// Makes the commands over an archive in a database without tables, and then once more over what that keeps.
-fn expect_created<S: InOrder + Drop>(
+pub fn expect_created<S: InOrder + Drop>(
     rt: &impl Abort,
     alloc: Global,
     connection: Connection<S>,
-    commands: &[Command],
 ) -> Result<(), Fail> {
-    let config = config_of(alloc, BOX)?;
-    let Ok((archive, outcomes)) = drive_created(alloc, connection, config, 0, commands) else {
+    let (config, commands) = (config_of(alloc, BOX)?, commands(alloc)?);
+    let Ok((archive, outcomes)) = drive_created(alloc, connection, config, 0, &commands) else {
         return Err(Fail::from("not made"));
     };
     same(rt, &delivered(&outcomes?), &Some(Arrived::New));
-    expect_opened(rt, alloc, archive.into_keeper().into_connection(), commands)
+    expect_opened(
+        rt,
+        alloc,
+        archive.into_keeper().into_connection(),
+        &commands,
+    )
 }
 
 /// The same commands have the same outcomes in memory and in a database, and behind them nothing is new, also under another
@@ -97,7 +102,6 @@ fn expect_created<S: InOrder + Drop>(
 #[test]
 fn commands_follow_the_making_and_the_opening(rt: HostRuntime) -> Result<(), Fail> {
     let alloc = rt.alloc();
-    let commands = commands(alloc)?;
-    expect_anew(&rt, alloc, &commands)?;
-    expect_created(&rt, alloc, Connection::open_in_memory(alloc)?, &commands)
+    expect_anew(&rt, alloc, &commands(alloc)?)?;
+    expect_in_memory(&rt, alloc, Subject::Commands)
 }

@@ -1,6 +1,7 @@
 //! The uploads that want something are found without a look at those that were judged.
 
 use super::checks::same;
+use super::databases::{Subject, expect_in_memory};
 use sqlite::{Alter, Connection, Error, Transaction};
 use std::alloc::Global;
 use std::process::Abort;
@@ -57,16 +58,21 @@ fn next_upload<S: Alter>(
 }
 
 /// Checks that ten steps, of which a scan takes one for each row, are enough for each of these uploads, and not for a scan.
-fn expect_few_steps<S: Alter>(
+pub fn expect_few_steps<S: Alter + Drop>(
     rt: &impl Abort,
     alloc: Global,
-    conn: &mut Connection<S>,
+    connection: Connection<S>,
 ) -> Result<(), Fail> {
-    filled(conn)?;
+    let mut conn = connection;
+    filled(&mut conn)?;
     conn.set_step_limit(Some(10));
-    same(rt, &next_upload(alloc, conn, None)?, &Some((1, true)));
-    same(rt, &next_upload(alloc, conn, Some(1))?, &Some((302, true)));
-    same(rt, &next_upload(alloc, conn, Some(302))?, &None);
+    same(rt, &next_upload(alloc, &mut conn, None)?, &Some((1, true)));
+    same(
+        rt,
+        &next_upload(alloc, &mut conn, Some(1))?,
+        &Some((302, true)),
+    );
+    same(rt, &next_upload(alloc, &mut conn, Some(302))?, &None);
     let all = conn.query_all("SELECT id FROM uploads", &[]);
     same(rt, &all.is_err(), &true);
     Ok(())
@@ -75,6 +81,5 @@ fn expect_few_steps<S: Alter>(
 /// Ten steps, of which a scan takes one for each row, are enough among 300 uploads.
 #[test]
 fn judged_uploads_are_not_read(rt: HostRuntime) -> Result<(), Fail> {
-    let alloc = rt.alloc();
-    expect_few_steps(&rt, alloc, &mut Connection::open_in_memory(alloc)?)
+    expect_in_memory(&rt, rt.alloc(), Subject::Uploads)
 }
