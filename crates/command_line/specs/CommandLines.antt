@@ -77,6 +77,15 @@ IsRequested found db at request.Clean = IsNamed found (codes "clean") (λ rows. 
 IsRequested found db at request.Waiting = IsNamed found (codes "waiting") (λ rows. IsWord (codes "db") rows db × IsMoment rows at)
 IsRequested found db at request.Verdicts = IsNamed found (codes "verdicts") (λ rows. IsWord (codes "db") rows db × (at ≡ 0))
 
+-- the database and the moment are those that were found
+pub record IsTimed (rows : List Row) (db : Bor (List ℕ)) (at : ℕ) : Type 0 where
+  pub word : IsWord (codes "db") rows db
+  pub moment : IsMoment rows at
+
+-- a command of this name asks for this, whatever its database and its moment
+abbrev pub Asks : Text → List Row → Request (Bor (List ℕ)) (Vec (Bor (List ℕ)) Global) (Option (Vec (Bor (List ℕ)) Global)) → Type 0
+Asks name rows asked = (db : Bor (List ℕ)) (at : ℕ) → IsTimed rows db at → IsRequested (Some (name, rows)) db at asked
+
 -- a serving that lacks the folder which `--signed` or `--by-hash` is about
 abbrev pub lacks_export : Serving → Bool
 lacks_export serving = not (is_some serving.export) && (serving.signed || serving.by_hash)
