@@ -12,8 +12,8 @@ use Rattle.usage.specs.Shape.{most_connections}
 use Rattle.command_line.specs.declared.parsed.Serving.{Serving}
 use Rattle.command_line.specs.declared.parsed.CommandLine.{CommandLine}
 use Rattle.command_line.specs.declared.parsed.CommandLine.TheVariants.{Try, Compare, Check, Init, Ask, Batch, Configure, Migrate, Show, List as Listing, Why, Configuration, Export, Serve}
-use Rattle.command_line.specs.declared.request.Request.{Request}
-use Rattle.command_line.specs.declared.request.Request.TheVariants as request
+use Rattle.lists.specs.declared.request.Request.{Request}
+use Rattle.lists.specs.declared.request.Request.TheVariants as request
 
 -- the words name this command, and P holds of its values
 abbrev pub IsNamed : Option (Text × List Row) → Text → (List Row → Type 0) → Type 0

@@ -5,12 +5,12 @@ ghost use Rattle.clap.specs.Words.{Text, found_of, rows_of};
 ghost use Rattle.command_line.specs.CommandLines.{Asks, IsLine, IsTimed, is_true, lacks_export as lacks_export_of};
 
 use crate::parsed::{CommandLine, Exporting, LineFault, Manner, Serving};
-use crate::request::{LineRequest, Request};
 use crate::values::{
     is_set, lacking, moment, number, optional, optional_moment, paths, required, sources,
     without_export,
 };
 use clap::ArgMatches;
+use lists::{LineRequest, Request};
 use std::alloc::Global;
 use usage::MOST_CONNECTIONS;
 

@@ -5,10 +5,10 @@ use Rattle.std.proofs.lemmas.List.Splits.{join_with_byte-slice_split}
 use Rattle.std.specs.Prelude.{if◌then◌else◌}
 use Rattle.std.specs.List.{AllByRecursion, cons_option, join_with_byte, list_any, onto_first}
 use Rattle.para.specs.Bytes.{is_newline}
-use Rattle.command_line.specs.declared.list.BatchFault.TheVariants.{Line}
-use Rattle.command_line.specs.Grammar.{AskFor, HasLines, IsBadAt, IsGoodLine, SpellsList}
-use Rattle.command_line.specs.Lists.{RequestBytes, asked, asked_by_lines, asked_by_list, fault_behind, is_bad, lines_in, list_fault}
-use Rattle.command_line.proofs.LineLemmas.{command_back, good_line, line_good, not_asked, passed_over}
+use Rattle.lists.specs.declared.list.BatchFault.TheVariants.{Line}
+use Rattle.lists.specs.Grammar.{AskFor, HasLines, IsBadAt, IsGoodLine, SpellsList}
+use Rattle.lists.specs.Lists.{RequestBytes, asked, asked_by_lines, asked_by_list, fault_behind, is_bad, lines_in, list_fault}
+use Rattle.lists.proofs.LineLemmas.{command_back, good_line, line_good, not_asked, passed_over}
 
 -- ---- lines
 

@@ -11,7 +11,7 @@ use Rattle.std.proofs.lemmas.List.Sums.{passes_at_first}
 use Rattle.std.proofs.lemmas.Str.{IsUtf8-from_is_utf8, is_utf8-from_IsUtf8}
 use Rattle.sums.specs.Lines.{is_space}
 use Rattle.records.proofs.Different.{texts}
-use Rattle.command_line.specs.Lists.{RequestBytes, asked, asked_by_lines, command_in, command_of, parted}
+use Rattle.lists.specs.Lists.{RequestBytes, asked, asked_by_lines, command_in, command_of, parted}
 
 -- ---- parting
 

@@ -4,8 +4,8 @@ ghost use Rattle.std.specs.Prelude.{◌≡◌, ◌⊎◌, Some, None, map, is_so
 ghost use Rattle.std.specs.Option.{option_map};
 ghost use Rattle.std.specs.List.{list_any};
 ghost use Rattle.sums.specs.Lines.{is_space};
-ghost use Rattle.command_line.specs.Lists.{asked, asked_by_lines, asked_by_list, bytes_of, command_in, command_of, copy_of, fault_behind, is_bad, is_one_word, is_passed_over, lines_in, list_fault, lone, parted, promotion_of, put_of, removal_of, two_words, worded};
-ghost use Rattle.command_line.specs.declared.list.BatchFault.TheVariants.{OutOfMemory};
+ghost use Rattle.lists.specs.Lists.{asked, asked_by_lines, asked_by_list, bytes_of, command_in, command_of, copy_of, fault_behind, is_bad, is_one_word, is_passed_over, lines_in, list_fault, lone, parted, promotion_of, put_of, removal_of, two_words, worded};
+ghost use Rattle.lists.specs.declared.list.BatchFault.TheVariants.{OutOfMemory};
 
 use crate::request::{ListRequest, Request};
 use std::alloc::{AllocError, Global};

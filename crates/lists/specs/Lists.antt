@@ -6,10 +6,10 @@ use Rattle.std.specs.Str.{bytes_eq, is_utf8}
 use Rattle.std.specs.Borrow.{Bor}
 use Rattle.para.specs.Bytes.{is_newline}
 use Rattle.sums.specs.Lines.{is_space}
-use Rattle.command_line.specs.declared.list.BatchFault.{BatchFault}
-use Rattle.command_line.specs.declared.list.BatchFault.TheVariants.{Line}
-use Rattle.command_line.specs.declared.request.Request.{Request}
-use Rattle.command_line.specs.declared.request.Request.TheVariants as request
+use Rattle.lists.specs.declared.list.BatchFault.{BatchFault}
+use Rattle.lists.specs.declared.list.BatchFault.TheVariants.{Line}
+use Rattle.lists.specs.declared.request.Request.{Request}
+use Rattle.lists.specs.declared.request.Request.TheVariants as request
 
 -- what a line asks for, without where its words lie in memory
 abbrev pub RequestBytes : Type 0

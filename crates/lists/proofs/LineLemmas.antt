@@ -10,10 +10,10 @@ use Rattle.std.specs.Option.{option_and_then}
 use Rattle.std.specs.List.{list_any, position_or_len, before_first, after_first}
 use Rattle.std.specs.Str.{bytes_eq, is_utf8}
 use Rattle.sums.specs.Lines.{is_space}
-use Rattle.command_line.specs.Grammar.{IsCommand, IsGoodLine, IsAskable, IsOneWord, IsPassedOver, print_request}
-use Rattle.command_line.specs.Lists.{RequestBytes, asked, command_by, command_in, command_of, copy_of, is_bad, is_one_word, is_passed_over, lone, parted, promotion_of, put_of, removal_of, two_words, worded}
-use Rattle.command_line.specs.declared.request.Request.TheVariants as request
-use Rattle.command_line.proofs.ListLemmas.{as_text}
+use Rattle.lists.specs.Grammar.{IsCommand, IsGoodLine, IsAskable, IsOneWord, IsPassedOver, print_request}
+use Rattle.lists.specs.Lists.{RequestBytes, asked, command_by, command_in, command_of, copy_of, is_bad, is_one_word, is_passed_over, lone, parted, promotion_of, put_of, removal_of, two_words, worded}
+use Rattle.lists.specs.declared.request.Request.TheVariants as request
+use Rattle.lists.proofs.ListLemmas.{as_text}
 
 -- ---- a text with a space, and a text with none
 

@@ -1,6 +1,6 @@
 use Rattle.std.proofs.Common.{◌≡◌, map, take}
-use Rattle.command_line.specs.Lists.{asked_by_lines, bytes_of}
-use Rattle.command_line.proofs.list.requests_of.Given as goal
+use Rattle.lists.specs.Lists.{asked_by_lines, bytes_of}
+use Rattle.lists.proofs.list.requests_of.Given as goal
 
 -- the lines so far
 abbrev pub invariant-loop-line : goal.invariant-loop-line

@@ -1,9 +1,9 @@
 //! Laws of lists of commands and of their lines.
 
 ghost use Rattle.std.specs.Prelude.{◌≡◌, ◌↔◌, ℕ, false, List, Some, None};
-ghost use Rattle.command_line.specs.Grammar.{IsBadAt, IsCommand, IsGoodLine, IsAskable, SpellsList, print_request};
-ghost use Rattle.command_line.specs.Lists.{RequestBytes, asked, asked_by_list, command_of, is_bad, list_fault};
-ghost use Rattle.command_line.specs.declared.list.BatchFault.TheVariants.{Line};
+ghost use Rattle.lists.specs.Grammar.{IsBadAt, IsCommand, IsGoodLine, IsAskable, SpellsList, print_request};
+ghost use Rattle.lists.specs.Lists.{RequestBytes, asked, asked_by_list, command_of, is_bad, list_fault};
+ghost use Rattle.lists.specs.declared.list.BatchFault.TheVariants.{Line};
 
 /// A text asks for that whose line it is: a command's words, with one space between each two. It asks for nothing else, and no
 /// other text asks for this. A line of a list is that text in UTF-8, or is passed over, or is bad. Nothing is done: the law is

@@ -3,8 +3,8 @@ use Rattle.std.specs.Prelude.{◌≡◌, ◌⊎◌, ℕ, ◌+◌, ◌<◌, false
 use Rattle.std.specs.List.{AllByRecursion, join_with_byte, list_any}
 use Rattle.para.specs.Bytes.{is_newline}
 use Rattle.sums.specs.Lines.{is_space}
-use Rattle.command_line.specs.Lists.{RequestBytes}
-use Rattle.command_line.specs.declared.request.Request.TheVariants as request
+use Rattle.lists.specs.Lists.{RequestBytes}
+use Rattle.lists.specs.declared.request.Request.TheVariants as request
 
 -- ---- a line
 

@@ -1,5 +1,5 @@
-use Rattle.command_line.proofs.LineLemmas.{as_command, as_printed, command_back, good_line, line_good, read_back}
-use Rattle.command_line.proofs.laws.lines_of_commands.Goals as goal
+use Rattle.lists.proofs.LineLemmas.{as_command, as_printed, command_back, good_line, line_good, read_back}
+use Rattle.lists.proofs.laws.lines_of_commands.Goals as goal
 
 pub returns-clause-text : goal.returns-clause-text
 returns-clause-text c text m = (as_printed text m, λ h. read_back text m h.0 h.1)

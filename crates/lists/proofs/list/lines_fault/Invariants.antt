@@ -1,6 +1,6 @@
 use Rattle.std.proofs.Common.{◌≡◌, map, drop}
-use Rattle.command_line.specs.Lists.{fault_behind}
-use Rattle.command_line.proofs.list.lines_fault.Given as goal
+use Rattle.lists.specs.Lists.{fault_behind}
+use Rattle.lists.proofs.list.lines_fault.Given as goal
 
 -- what has not been looked at decides
 abbrev pub invariant-loop-index : goal.invariant-loop-index

@@ -1,11 +1,11 @@
 use Rattle.std.proofs.Common.{ap, ◌∙◌, sym, ℕ, List, [], ◌∷◌, ◌++◌, map, take, get_or, Bor, Vec, Global, arith}
 use Rattle.std.proofs.lemmas.List.{map-append, append-nil}
 use Rattle.records.proofs.Different.{texts}
-use Rattle.command_line.specs.Lists.{asked_by_lines, bytes_of}
-use Rattle.command_line.specs.declared.request.Request.{Request}
-use Rattle.command_line.proofs.ListLemmas.{one_more, single_none, single_some}
-use Rattle.command_line.proofs.list.requests_of.Goals as goal
-use Rattle.command_line.proofs.list.requests_of.Goals.{in-Some+in_ok-push, in_default}
+use Rattle.lists.specs.Lists.{asked_by_lines, bytes_of}
+use Rattle.lists.specs.declared.request.Request.{Request}
+use Rattle.lists.proofs.ListLemmas.{one_more, single_none, single_some}
+use Rattle.lists.proofs.list.requests_of.Goals as goal
+use Rattle.lists.proofs.list.requests_of.Goals.{in-Some+in_ok-push, in_default}
 
 pub loop-line-preserved : goal.loop-line-preserved
 loop-line-preserved c =
