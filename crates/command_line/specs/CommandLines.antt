@@ -12,8 +12,8 @@ use Rattle.usage.specs.Shape.{most_connections}
 use Rattle.command_line.specs.declared.parsed.Serving.{Serving}
 use Rattle.command_line.specs.declared.parsed.CommandLine.{CommandLine}
 use Rattle.command_line.specs.declared.parsed.CommandLine.TheVariants.{Try, Compare, Check, Init, Ask, Batch, Configure, Migrate, Show, List as Listing, Why, Configuration, Export, Serve}
-use Rattle.command_line.specs.declared.request.Request.{Request}
-use Rattle.command_line.specs.declared.request.Request.TheVariants as request
+use Rattle.lists.specs.declared.request.Request.{Request}
+use Rattle.lists.specs.declared.request.Request.TheVariants as request
 
 -- the words name this command, and P holds of its values
 abbrev pub IsNamed : Option (Text × List Row) → Text → (List Row → Type 0) → Type 0
@@ -76,6 +76,15 @@ IsRequested found db at (request.Remove suite name) = IsNamed found (codes "remo
 IsRequested found db at request.Clean = IsNamed found (codes "clean") (λ rows. IsWord (codes "db") rows db × IsMoment rows at)
 IsRequested found db at request.Waiting = IsNamed found (codes "waiting") (λ rows. IsWord (codes "db") rows db × IsMoment rows at)
 IsRequested found db at request.Verdicts = IsNamed found (codes "verdicts") (λ rows. IsWord (codes "db") rows db × (at ≡ 0))
+
+-- the database and the moment are those that were found
+pub record IsTimed (rows : List Row) (db : Bor (List ℕ)) (at : ℕ) : Type 0 where
+  pub word : IsWord (codes "db") rows db
+  pub moment : IsMoment rows at
+
+-- a command of this name asks for this, whatever its database and its moment
+abbrev pub Asks : Text → List Row → Request (Bor (List ℕ)) (Vec (Bor (List ℕ)) Global) (Option (Vec (Bor (List ℕ)) Global)) → Type 0
+Asks name rows asked = (db : Bor (List ℕ)) (at : ℕ) → IsTimed rows db at → IsRequested (Some (name, rows)) db at asked
 
 -- a serving that lacks the folder which `--signed` or `--by-hash` is about
 abbrev pub lacks_export : Serving → Bool

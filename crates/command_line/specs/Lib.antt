@@ -1,4 +1,2 @@
 pub mod CommandLines
 pub mod Fault
-pub mod Grammar
-pub mod Lists

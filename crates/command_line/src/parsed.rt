@@ -1,8 +1,8 @@
 //! What a command line says.
 
-use crate::request::LineRequest;
 use clap::Error;
 use clap::error::ErrorKind;
+use lists::LineRequest;
 use std::alloc::AllocError;
 use std::fmt;
 

@@ -1,16 +1,16 @@
 //! Each command of a line, from its matches.
 
 ghost use Rattle.std.specs.Prelude.{◌≡◌, codes, IfOk, Some};
-ghost use Rattle.clap.specs.Words.{found_of, rows_of};
-ghost use Rattle.command_line.specs.CommandLines.{IsLine, is_true, lacks_export as lacks_export_of};
+ghost use Rattle.clap.specs.Words.{Text, found_of, rows_of};
+ghost use Rattle.command_line.specs.CommandLines.{Asks, IsLine, IsTimed, is_true, lacks_export as lacks_export_of};
 
 use crate::parsed::{CommandLine, Exporting, LineFault, Manner, Serving};
-use crate::request::Request;
 use crate::values::{
     is_set, lacking, moment, number, optional, optional_moment, paths, required, sources,
     without_export,
 };
 use clap::ArgMatches;
+use lists::{LineRequest, Request};
 use std::alloc::Global;
 use usage::MOST_CONNECTIONS;
 
@@ -23,6 +23,39 @@ fn manner(found: &ArgMatches<'_>) -> Manner
         strict: is_set(found, "strict"),
         json: is_set(found, "json"),
     }
+}
+
+/// The database of an archive, and the moment at which it is asked.
+#[derive(Clone, Copy)]
+struct Timed<'a> {
+    db: &'a str,
+    at: u64,
+}
+
+fn timed<'a>(alloc: Global, found: &ArgMatches<'a>) -> Result<Timed<'a>, LineFault>
+    ensures { IfOk result (λ timed. IsTimed (rows_of (found_of found.now)) timed.db timed.at) }
+{
+    Ok(Timed {
+        db: required(alloc, found, "db")?,
+        at: moment(alloc, found)?,
+    })
+}
+
+/// What is asked of an archive, with its database, the moment and the flags.
+fn asked<'a>(
+    alloc: Global,
+    found: &ArgMatches<'a>,
+    request: LineRequest<'a>,
+) -> Result<CommandLine<'a>, LineFault>
+    ensures { (name : Text) → Asks name (rows_of (found_of found.now)) request.entry → IfOk result (IsLine (Some (name, rows_of (found_of found.now)))) }
+{
+    let timed = timed(alloc, found)?;
+    Ok(CommandLine::Ask {
+        db: timed.db,
+        at: timed.at,
+        request,
+        manner: manner(found),
+    })
 }
 
 fn read_try<'a>(alloc: Global, found: &ArgMatches<'a>) -> Result<CommandLine<'a>, LineFault>
@@ -53,9 +86,10 @@ fn read_check<'a>(alloc: Global, found: &ArgMatches<'a>) -> Result<CommandLine<'
 fn read_init<'a>(alloc: Global, found: &ArgMatches<'a>) -> Result<CommandLine<'a>, LineFault>
     ensures { IfOk result (IsLine (Some (codes "init", rows_of (found_of found.now)))) }
 {
+    let timed = timed(alloc, found)?;
     Ok(CommandLine::Init {
-        db: required(alloc, found, "db")?,
-        at: moment(alloc, found)?,
+        db: timed.db,
+        at: timed.at,
         conf: required(alloc, found, "CONF")?,
     })
 }
@@ -63,40 +97,28 @@ fn read_init<'a>(alloc: Global, found: &ArgMatches<'a>) -> Result<CommandLine<'a
 fn read_put<'a>(alloc: Global, found: &ArgMatches<'a>) -> Result<CommandLine<'a>, LineFault>
     ensures { IfOk result (IsLine (Some (codes "put", rows_of (found_of found.now)))) }
 {
-    Ok(CommandLine::Ask {
-        db: required(alloc, found, "db")?,
-        at: moment(alloc, found)?,
-        request: Request::Put {
-            path: paths(alloc, found)?,
-        },
-        manner: manner(found),
-    })
+    let path = paths(alloc, found)?;
+    asked(alloc, found, Request::Put { path })
 }
 
 fn read_run<'a>(alloc: Global, found: &ArgMatches<'a>) -> Result<CommandLine<'a>, LineFault>
     ensures { IfOk result (IsLine (Some (codes "run", rows_of (found_of found.now)))) }
 {
-    Ok(CommandLine::Ask {
-        db: required(alloc, found, "db")?,
-        at: moment(alloc, found)?,
-        request: Request::Run,
-        manner: manner(found),
-    })
+    asked(alloc, found, Request::Run)
 }
 
 fn read_copy<'a>(alloc: Global, found: &ArgMatches<'a>) -> Result<CommandLine<'a>, LineFault>
     ensures { IfOk result (IsLine (Some (codes "copy", rows_of (found_of found.now)))) }
 {
-    Ok(CommandLine::Ask {
-        db: required(alloc, found, "db")?,
-        at: moment(alloc, found)?,
-        request: Request::Copy {
+    asked(
+        alloc,
+        found,
+        Request::Copy {
             from: required(alloc, found, "FROM")?,
             to: required(alloc, found, "TO")?,
             source: required(alloc, found, "SOURCE")?,
         },
-        manner: manner(found),
-    })
+    )
 }
 
 fn read_promote<'a>(alloc: Global, found: &ArgMatches<'a>) -> Result<CommandLine<'a>, LineFault>
@@ -104,49 +126,36 @@ fn read_promote<'a>(alloc: Global, found: &ArgMatches<'a>) -> Result<CommandLine
 {
     let from = required(alloc, found, "FROM")?;
     let to = required(alloc, found, "TO")?;
-    Ok(CommandLine::Ask {
-        db: required(alloc, found, "db")?,
-        at: moment(alloc, found)?,
-        request: Request::Promote {
-            from,
-            to,
-            sources: sources(alloc, found)?,
-        },
-        manner: manner(found),
-    })
+    let sources = sources(alloc, found)?;
+    asked(alloc, found, Request::Promote { from, to, sources })
 }
 
 fn read_remove<'a>(alloc: Global, found: &ArgMatches<'a>) -> Result<CommandLine<'a>, LineFault>
     ensures { IfOk result (IsLine (Some (codes "remove", rows_of (found_of found.now)))) }
 {
-    Ok(CommandLine::Ask {
-        db: required(alloc, found, "db")?,
-        at: moment(alloc, found)?,
-        request: Request::Remove {
+    asked(
+        alloc,
+        found,
+        Request::Remove {
             suite: required(alloc, found, "SUITE")?,
             name: required(alloc, found, "PACKAGE")?,
         },
-        manner: manner(found),
-    })
+    )
 }
 
 fn read_clean<'a>(alloc: Global, found: &ArgMatches<'a>) -> Result<CommandLine<'a>, LineFault>
     ensures { IfOk result (IsLine (Some (codes "clean", rows_of (found_of found.now)))) }
 {
-    Ok(CommandLine::Ask {
-        db: required(alloc, found, "db")?,
-        at: moment(alloc, found)?,
-        request: Request::Clean,
-        manner: manner(found),
-    })
+    asked(alloc, found, Request::Clean)
 }
 
 fn read_batch<'a>(alloc: Global, found: &ArgMatches<'a>) -> Result<CommandLine<'a>, LineFault>
     ensures { IfOk result (IsLine (Some (codes "batch", rows_of (found_of found.now)))) }
 {
+    let timed = timed(alloc, found)?;
     Ok(CommandLine::Batch {
-        db: required(alloc, found, "db")?,
-        at: moment(alloc, found)?,
+        db: timed.db,
+        at: timed.at,
         list: required(alloc, found, "LIST")?,
         strict: is_set(found, "strict"),
     })
@@ -155,9 +164,10 @@ fn read_batch<'a>(alloc: Global, found: &ArgMatches<'a>) -> Result<CommandLine<'
 fn read_configure<'a>(alloc: Global, found: &ArgMatches<'a>) -> Result<CommandLine<'a>, LineFault>
     ensures { IfOk result (IsLine (Some (codes "configure", rows_of (found_of found.now)))) }
 {
+    let timed = timed(alloc, found)?;
     Ok(CommandLine::Configure {
-        db: required(alloc, found, "db")?,
-        at: moment(alloc, found)?,
+        db: timed.db,
+        at: timed.at,
         conf: required(alloc, found, "CONF")?,
     })
 }
@@ -165,10 +175,11 @@ fn read_configure<'a>(alloc: Global, found: &ArgMatches<'a>) -> Result<CommandLi
 fn read_migrate<'a>(alloc: Global, found: &ArgMatches<'a>) -> Result<CommandLine<'a>, LineFault>
     ensures { IfOk result (IsLine (Some (codes "migrate", rows_of (found_of found.now)))) }
 {
+    let timed = timed(alloc, found)?;
     Ok(CommandLine::Migrate {
         from: required(alloc, found, "from")?,
-        db: required(alloc, found, "db")?,
-        at: moment(alloc, found)?,
+        db: timed.db,
+        at: timed.at,
         conf: required(alloc, found, "CONF")?,
     })
 }
@@ -195,12 +206,7 @@ fn read_list<'a>(alloc: Global, found: &ArgMatches<'a>) -> Result<CommandLine<'a
 fn read_waiting<'a>(alloc: Global, found: &ArgMatches<'a>) -> Result<CommandLine<'a>, LineFault>
     ensures { IfOk result (IsLine (Some (codes "waiting", rows_of (found_of found.now)))) }
 {
-    Ok(CommandLine::Ask {
-        db: required(alloc, found, "db")?,
-        at: moment(alloc, found)?,
-        request: Request::Waiting,
-        manner: manner(found),
-    })
+    asked(alloc, found, Request::Waiting)
 }
 
 fn read_verdicts<'a>(alloc: Global, found: &ArgMatches<'a>) -> Result<CommandLine<'a>, LineFault>

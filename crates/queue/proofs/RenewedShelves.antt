@@ -24,7 +24,8 @@ use Rattle.suites.specs.declared.item.Item.{Item}
 use Rattle.suites.specs.declared.key.ShelfKey.{ShelfKey}
 use Rattle.suites.specs.declared.plan.Plan.{Plan}
 use Rattle.texts.specs.Release.{is_source, listed_text}
-use Rattle.texts.specs.Stanzas.{is_in_packages, is_in_sources, package_stanza, packages_text, source_stanza, sources_text}
+use Rattle.indices.specs.Listed.{is_in_packages, is_in_sources}
+use Rattle.texts.specs.Stanzas.{package_stanza, packages_text, source_stanza, sources_text}
 use Rattle.queue.specs.Renewal.{changes_index, is_listed, some_changes_index}
 use Rattle.texts.specs.Places.{place_text}
 use Rattle.texts.specs.declared.places.Place.{Place}

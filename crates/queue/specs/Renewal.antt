@@ -14,7 +14,7 @@ use Rattle.suites.specs.declared.item.Item.{Item}
 use Rattle.suites.specs.declared.key.ShelfKey.{ShelfKey}
 use Rattle.suites.specs.declared.plan.Plan.{Plan}
 use Rattle.texts.specs.Release.{index_of, is_source, release_text}
-use Rattle.texts.specs.Stanzas.{is_in_packages, is_in_sources}
+use Rattle.indices.specs.Listed.{is_in_packages, is_in_sources}
 use Rattle.texts.specs.Indices as indices
 use Rattle.texts.specs.Places.{place_path, place_text, places_in}
 use Rattle.texts.specs.declared.index.Index.{Index}

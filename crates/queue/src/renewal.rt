@@ -17,15 +17,14 @@ ghost use Rattle.queue.specs.Renewal.{changes_index, folder_of, index_after, ind
 ghost use Rattle.texts.specs.Places.{place_at, place_path, place_text, places_in};
 
 use crate::printed::{PrintedText, print_next};
+use indices::{lists_package, lists_source};
 use keep::{IndexText, KeepFault, Keeper, Step, some_changes_suite};
 use para::{Listed, Text};
 use rules::Suite;
 use std::alloc::{AllocError, Global};
 use suites::{Item, Plan, ShelfKey, Shelves};
 use sums::{Print, print_of};
-use texts::{
-    Index, Place, index_path, listed_text, lists_package, lists_source, path_in, places_of, release,
-};
+use texts::{Index, Place, index_path, listed_text, path_in, places_of, release};
 
 /// A suite as its paths name it: its position in the configuration, its codename, and the places of its indices.
 #[derive(Drop)]

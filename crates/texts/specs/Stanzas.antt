@@ -1,5 +1,5 @@
 -- The index texts of a component: Packages and Sources (the Debian repository format).
-use Rattle.std.specs.Prelude.{ℕ, ◌==◌, Bool, true, false, not, ◌&&◌, ◌||◌, List, [], ◌∷◌, ◌++◌, map, filter, codes, bytes_eq}
+use Rattle.std.specs.Prelude.{ℕ, ◌==◌, Bool, not, List, [], ◌∷◌, ◌++◌, map, filter, codes}
 use Rattle.std.specs.Fmt.{decimal}
 use Rattle.std.specs.Result.{result_unwrap_or}
 use Rattle.std.specs.Str.{str_eq_ignore_ascii_case}
@@ -13,11 +13,9 @@ use Rattle.records.specs.Records.{dsc_limit}
 use Rattle.sums.specs.declared.print.Print.{Print}
 use Rattle.suites.specs.Pool.{directory_of}
 use Rattle.suites.specs.Shelves.{ShelvesValue}
-use Rattle.suites.specs.declared.key.ShelfKey.{ShelfKey}
 use Rattle.suites.specs.declared.item.Item.{Item}
 use Rattle.suites.specs.declared.item.PoolFile.{PoolFile}
-use Rattle.suites.specs.declared.key.Kind.{Kind}
-use Rattle.suites.specs.declared.key.Kind.TheVariants.{Source, Binary}
+use Rattle.indices.specs.Listed.{is_in_packages, is_in_sources}
 use Rattle.texts.specs.declared.stanza.Digest.{Digest}
 use Rattle.texts.specs.declared.stanza.Digest.TheVariants.{Md5, Sha1, Sha256}
 
@@ -32,10 +30,6 @@ line_field name value = record { name = name; first = value; more = [] }
 -- whether a field has the name, ASCII case ignored
 abbrev pub is_named : List ℕ → FieldValue → Bool
 is_named name f = str_eq_ignore_ascii_case f.name name
-
-abbrev pub is_binary : Kind → Bool
-is_binary Binary = true
-is_binary Source = false
 
 -- the fields of a package file
 unfoldable pub file_fields : PoolFile → Fields
@@ -55,12 +49,6 @@ package_fields p = filter (is_named (codes "Package")) p ++ filter (λ f. not (i
 unfoldable pub package_stanza : Item → List ℕ
 package_stanza item =
     paragraph_text (package_fields (fields_of_text item.paragraph) ++ flat_map file_fields item.files) ++ codes "\n"
-
--- the binary items of a suite and a component that an index of the architecture lists
-unfoldable pub is_in_packages : ℕ → List ℕ → List ℕ → ShelfKey × Item → Bool
-is_in_packages suite component architecture a =
-    (a.0.suite == suite) && is_binary a.0.kind && bytes_eq a.1.component component
-    && (bytes_eq a.0.architecture architecture || bytes_eq a.0.architecture (codes "all"))
 
 -- Packages: the stanzas of these items, in the order of the bytes of package and architecture.
 unfoldable pub packages_text : ShelvesValue → ℕ → List ℕ → List ℕ → List ℕ
@@ -116,11 +104,6 @@ unfoldable pub source_stanza : Item → List ℕ
 source_stanza item =
     paragraph_text (source_fields (fields_of_text item.paragraph)
     ++ line_field (codes "Directory") (directory_of item.component item.source) ∷ source_lists item.files) ++ codes "\n"
-
--- the source items of a suite and a component
-unfoldable pub is_in_sources : ℕ → List ℕ → ShelfKey × Item → Bool
-is_in_sources suite component a =
-    (a.0.suite == suite) && not (is_binary a.0.kind) && bytes_eq a.1.component component
 
 -- Sources: the stanzas of these items, in the order of the bytes of the source.
 unfoldable pub sources_text : ShelvesValue → ℕ → List ℕ → List ℕ

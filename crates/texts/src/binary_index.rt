@@ -5,17 +5,19 @@ ghost use Rattle.std.specs.List.{flat_map};
 ghost use Rattle.para.specs.Field.{field_values};
 ghost use Rattle.para.specs.Printing.{paragraph_text};
 ghost use Rattle.texts.specs.Positions.{components_at, architectures_at, component_at, architecture_at};
-ghost use Rattle.texts.specs.Stanzas.{is_named, file_fields, package_fields, package_stanza, fields_of_text, is_binary, is_in_packages, packages_text};
+ghost use Rattle.texts.specs.Stanzas.{is_named, file_fields, package_fields, package_stanza, fields_of_text, packages_text};
+ghost use Rattle.indices.specs.Listed.{is_in_packages};
 
 use crate::position::{architecture_name, component_name};
 use crate::stanza::{
     Digest, USUAL_STANZA, has_name, paragraph_in, push_digest_field, push_if, push_line_field,
     push_number_field,
 };
+use indices::lists_package;
 use para::Field;
 use rules::Config;
 use std::alloc::{AllocError, Global};
-use suites::{Item, Kind, PoolFile, ShelfKey, Shelves};
+use suites::{Item, PoolFile, ShelfKey, Shelves};
 
 /// Appends the fields of the name Package.
 fn push_own_name(fields: &[Field<'_>], out: &mut Vec<u8>) -> Result<(), AllocError>
@@ -88,25 +90,6 @@ fn package_stanza(alloc: Global, item: &Item) -> Result<Vec<u8>, AllocError>
     push_files(alloc, item.files.as_slice(), &mut stanza)?;
     stanza.push(b'\n')?;
     Ok(stanza)
-}
-
-/// Whether the index of the architecture lists the item: it is a package of the suite and component, of that
-/// architecture or of all.
-#[tactic(auto, unfolding(crate::specs::Stanzas::is_in_packages))]
-pub fn lists_package(
-    key: &ShelfKey,
-    item: &Item,
-    suite: usize,
-    component: &str,
-    architecture: &str,
-) -> bool
-    ensures { result ≡ is_in_packages suite component.now architecture.now (key.now, item.now) }
-{
-    if key.suite != suite || key.kind != Kind::Binary {
-        return false;
-    }
-    let name = key.architecture.as_str();
-    item.component.as_str() == component && (name == architecture || name == "all")
 }
 
 /// Appends the stanza of an item that the index of the architecture lists, of another one nothing.

@@ -10,9 +10,9 @@ mod source_index;
 mod stanza;
 mod suite_release;
 
-pub use binary_index::{lists_package, packages};
+pub use binary_index::packages;
 pub use date::{LATEST, date_text};
 pub use index::{Index, index_path, index_text, indices_of, listed_text};
 pub use places::{Place, path_in, places_of};
-pub use source_index::{file_name, lists_source, sources};
+pub use source_index::{file_name, sources};
 pub use suite_release::release;

@@ -6,16 +6,18 @@ ghost use Rattle.para.specs.Field.{field_value, field_values};
 ghost use Rattle.para.specs.Printing.{field_text, more_text, paragraph_text};
 ghost use Rattle.suites.specs.Pool.{directory_of};
 ghost use Rattle.texts.specs.Positions.{components_at, component_at};
-ghost use Rattle.texts.specs.Stanzas.{is_named, is_placed, line_field, as_package, source_fields, fields_of_text, file_name, list_line, list_field, source_lists, source_stanza, is_in_sources, sources_text};
+ghost use Rattle.texts.specs.Stanzas.{is_named, is_placed, line_field, as_package, source_fields, fields_of_text, file_name, list_line, list_field, source_lists, source_stanza, sources_text};
+ghost use Rattle.indices.specs.Listed.{is_in_sources};
 
 use crate::position::component_name;
 use crate::stanza::{
     Digest, has_name, paragraph_in, push_field, push_if, push_line_field, push_list_line,
 };
+use indices::lists_source;
 use para::Field;
 use rules::Config;
 use std::alloc::{AllocError, Global};
-use suites::{Item, Kind, PoolFile, ShelfKey, Shelves, directory};
+use suites::{Item, PoolFile, ShelfKey, Shelves, directory};
 
 /// Whether a field has one of the names, ASCII case ignored.
 fn has_one_of(field: &Field<'_>, names: &[&str]) -> bool
@@ -167,17 +169,6 @@ fn source_stanza(alloc: Global, item: &Item) -> Result<Vec<u8>, AllocError>
     push_lists(alloc, item.files.as_slice(), &mut stanza)?;
     stanza.push(b'\n')?;
     Ok(stanza)
-}
-
-/// Whether Sources lists the item: it is a source of the suite and component.
-#[tactic(auto, unfolding(crate::specs::Stanzas::is_in_sources))]
-pub fn lists_source(key: &ShelfKey, item: &Item, suite: usize, component: &str) -> bool
-    ensures { result ≡ is_in_sources suite component.now (key.now, item.now) }
-{
-    if key.suite != suite || key.kind != Kind::Source {
-        return false;
-    }
-    item.component.as_str() == component
 }
 
 /// Appends the stanza of an item that Sources lists, of another one nothing.

@@ -1,7 +1,7 @@
 //! The commands of the program, each with its arguments.
 
-ghost use Rattle.std.specs.Prelude.{IfOk, codes};
-ghost use Rattle.clap.specs.Words.{App, with_rule, with_subcommand};
+ghost use Rattle.std.specs.Prelude.{◌≡◌, IfOk, codes, false};
+ghost use Rattle.clap.specs.Words.{App, Rule, new_app, rule_of, with_rule, with_subcommand};
 ghost use Rattle.usage.specs.Shape.{archive_app, new_archive, IsCommand, try_app, compare_app, check_app, init_app, put_app, run_app, db_app, timed_app, copy_app, promote_app, remove_app, batch_app, configure_app, migrate_app, show_app, list_app, waiting_app, verdicts_app, why_app, export_app, serve_app, serve_by_hash, serve_options, word_rule, with_changes, with_others, with_questions};
 
 use crate::arguments::{
@@ -9,41 +9,75 @@ use crate::arguments::{
     paths, signed, strict, word,
 };
 use crate::version::VERSION;
-use clap::Command;
+use clap::{Arg, Command};
 use std::alloc::{AllocError, Global};
+
+/// A command without arguments, and what it does.
+fn bare_command<'a>(alloc: Global, name: &'a str, about: &'a str) -> Command<'a>
+    ensures { IsCommand (new_app name.now) result }
+{
+    Command::new(alloc, name).about(about)
+}
+
+/// A command with one more argument. The commands are made by calls of it, since each `?` of their own would drop a command.
+fn with_arg<'a>(
+    command: Result<Command<'a>, AllocError>,
+    arg: Arg<'a>,
+) -> Result<Command<'a>, AllocError>
+    ensures { (app : App) (rule : Rule) → IfOk command.entry (IsCommand app) → rule_of arg.entry ≡ rule → arg.entry.global ≡ false → IfOk result (IsCommand (with_rule app rule)) }
+{
+    command?.arg(arg)
+}
 
 fn try_command<'a>(alloc: Global) -> Result<Command<'a>, AllocError>
     ensures { IfOk result (IsCommand try_app) }
 {
-    Command::new(alloc, "try")
-        .about(
-            "Delivers files to a fresh archive in memory, runs its queue and prints its Packages",
-        )
-        .arg(paths(alloc, "A file to deliver, in this order"))
+    let command = bare_command(
+        alloc,
+        "try",
+        "Delivers files to a fresh archive in memory, runs its queue and prints its Packages",
+    );
+    with_arg(
+        Ok(command),
+        paths(alloc, "A file to deliver, in this order"),
+    )
 }
 
 fn compare_command<'a>(alloc: Global) -> Result<Command<'a>, AllocError>
     ensures { IfOk result (IsCommand compare_app) }
 {
-    Command::new(alloc, "compare")
-        .about("Says how two versions compare: less, equal or greater")
-        .arg(word(alloc, "A", "A version"))?
-        .arg(word(alloc, "B", "The version that it is compared with"))
+    let command = bare_command(
+        alloc,
+        "compare",
+        "Says how two versions compare: less, equal or greater",
+    );
+    let command = with_arg(Ok(command), word(alloc, "A", "A version"));
+    with_arg(
+        command,
+        word(alloc, "B", "The version that it is compared with"),
+    )
 }
 
 fn check_command<'a>(alloc: Global) -> Result<Command<'a>, AllocError>
     ensures { IfOk result (IsCommand check_app) }
 {
-    Command::new(alloc, "check")
-        .about("Reads a configuration, prints what it says, and which fields are passed over")
-        .arg(word(alloc, "CONF", "The file of the configuration"))
+    let command = bare_command(
+        alloc,
+        "check",
+        "Reads a configuration, prints what it says, and which fields are passed over",
+    );
+    with_arg(
+        Ok(command),
+        word(alloc, "CONF", "The file of the configuration"),
+    )
 }
 
 /// A command on the archive of a database, and what it does.
 fn db_command<'a>(alloc: Global, name: &'a str, about: &'a str) -> Result<Command<'a>, AllocError>
     ensures { IfOk result (IsCommand (db_app name.now)) }
 {
-    Command::new(alloc, name).about(about).arg(db(alloc))
+    let command = bare_command(alloc, name, about);
+    with_arg(Ok(command), db(alloc))
 }
 
 /// A command on the archive of a database that is handed a moment, and what it does.
@@ -54,7 +88,7 @@ fn timed_command<'a>(
 ) -> Result<Command<'a>, AllocError>
     ensures { IfOk result (IsCommand (timed_app name.now)) }
 {
-    db_command(alloc, name, about)?.arg(at(alloc))
+    with_arg(db_command(alloc, name, about), at(alloc))
 }
 
 /// A command on the archive of a database that is handed a moment and a word, and what it and the word mean.
@@ -67,7 +101,10 @@ fn worded_command<'a>(
 ) -> Result<Command<'a>, AllocError>
     ensures { IfOk result (IsCommand (with_rule (timed_app name.now) (word_rule first.now))) }
 {
-    timed_command(alloc, name, about)?.arg(word(alloc, first, meaning))
+    with_arg(
+        timed_command(alloc, name, about),
+        word(alloc, first, meaning),
+    )
 }
 
 fn init_command<'a>(alloc: Global) -> Result<Command<'a>, AllocError>
@@ -85,71 +122,80 @@ fn init_command<'a>(alloc: Global) -> Result<Command<'a>, AllocError>
 fn put_command<'a>(alloc: Global) -> Result<Command<'a>, AllocError>
     ensures { IfOk result (IsCommand put_app) }
 {
-    timed_command(
+    let command = timed_command(
         alloc,
         "put",
         "Delivers files: new, again or refused, a line for each",
-    )?
-    .arg(paths(
-        alloc,
-        "A file, delivered under the text behind its last slash",
-    ))
+    );
+    with_arg(
+        command,
+        paths(
+            alloc,
+            "A file, delivered under the text behind its last slash",
+        ),
+    )
 }
 
 fn run_command<'a>(alloc: Global) -> Result<Command<'a>, AllocError>
     ensures { IfOk result (IsCommand run_app) }
 {
-    timed_command(
+    let command = timed_command(
         alloc,
         "run",
         "Runs the queue: a line for each upload that is judged",
-    )?
-    .arg(strict(alloc))
+    );
+    with_arg(command, strict(alloc))
 }
 
 fn copy_command<'a>(alloc: Global) -> Result<Command<'a>, AllocError>
     ensures { IfOk result (IsCommand copy_app) }
 {
-    worded_command(
+    let command = worded_command(
         alloc,
         "copy",
         "Copies a source's packages to another suite, prints how many are new",
         "FROM",
         "The suite that shows them",
-    )?
-    .arg(word(alloc, "TO", "The suite that is to show them"))?
-    .arg(word(alloc, "SOURCE", "The name of the source"))
+    );
+    let command = with_arg(command, word(alloc, "TO", "The suite that is to show them"));
+    with_arg(command, word(alloc, "SOURCE", "The name of the source"))
 }
 
 fn promote_command<'a>(alloc: Global) -> Result<Command<'a>, AllocError>
     ensures { IfOk result (IsCommand promote_app) }
 {
-    worded_command(
+    let command = worded_command(
         alloc,
         "promote",
         "Copies several sources or all of a suite at once, prints how many are new",
         "FROM",
         "The suite that shows them",
-    )?
-    .arg(word(alloc, "TO", "The suite that is to show them"))?
-    .arg(many(
-        alloc,
-        "SOURCE",
-        "The name of a source; without one, all that FROM shows",
-    ))
+    );
+    let command = with_arg(command, word(alloc, "TO", "The suite that is to show them"));
+    with_arg(
+        command,
+        many(
+            alloc,
+            "SOURCE",
+            "The name of a source; without one, all that FROM shows",
+        ),
+    )
 }
 
 fn remove_command<'a>(alloc: Global) -> Result<Command<'a>, AllocError>
     ensures { IfOk result (IsCommand remove_app) }
 {
-    worded_command(
+    let command = worded_command(
         alloc,
         "remove",
         "Removes a package from a suite, prints how many items it showed",
         "SUITE",
         "The suite that shows it",
-    )?
-    .arg(word(alloc, "PACKAGE", "The name of the package or source"))
+    );
+    with_arg(
+        command,
+        word(alloc, "PACKAGE", "The name of the package or source"),
+    )
 }
 
 fn clean_command<'a>(alloc: Global) -> Result<Command<'a>, AllocError>
@@ -165,17 +211,20 @@ fn clean_command<'a>(alloc: Global) -> Result<Command<'a>, AllocError>
 fn batch_command<'a>(alloc: Global) -> Result<Command<'a>, AllocError>
     ensures { IfOk result (IsCommand batch_app) }
 {
-    timed_command(
+    let command = timed_command(
         alloc,
         "batch",
         "Does the commands of a list over one opening, prints what each answers",
-    )?
-    .arg(strict(alloc))?
-    .arg(word(
-        alloc,
-        "LIST",
-        "The file of the list, a command a line; - is standard input",
-    ))
+    );
+    let command = with_arg(command, strict(alloc));
+    with_arg(
+        command,
+        word(
+            alloc,
+            "LIST",
+            "The file of the list, a command a line; - is standard input",
+        ),
+    )
 }
 
 fn configure_command<'a>(alloc: Global) -> Result<Command<'a>, AllocError>
@@ -193,67 +242,80 @@ fn configure_command<'a>(alloc: Global) -> Result<Command<'a>, AllocError>
 fn migrate_command<'a>(alloc: Global) -> Result<Command<'a>, AllocError>
     ensures { IfOk result (IsCommand migrate_app) }
 {
-    Command::new(alloc, "migrate")
-        .about("Makes an archive in a database file from one of an older layout")
-        .arg(from(alloc))?
-        .arg(db(alloc))?
-        .arg(at(alloc))?
-        .arg(word(alloc, "CONF", "The file of its configuration"))
+    let command = bare_command(
+        alloc,
+        "migrate",
+        "Makes an archive in a database file from one of an older layout",
+    );
+    let command = with_arg(Ok(command), from(alloc));
+    let command = with_arg(command, db(alloc));
+    let command = with_arg(command, at(alloc));
+    with_arg(
+        command,
+        word(alloc, "CONF", "The file of its configuration"),
+    )
 }
 
 fn show_command<'a>(alloc: Global) -> Result<Command<'a>, AllocError>
     ensures { IfOk result (IsCommand show_app) }
 {
-    db_command(alloc, "show", "Prints an index or a file of the pool")?.arg(word(
-        alloc,
-        "PATH",
-        "Where it stands, such as dists/box/Release",
-    ))
+    let command = db_command(alloc, "show", "Prints an index or a file of the pool");
+    with_arg(
+        command,
+        word(alloc, "PATH", "Where it stands, such as dists/box/Release"),
+    )
 }
 
 fn list_command<'a>(alloc: Global) -> Result<Command<'a>, AllocError>
     ensures { IfOk result (IsCommand list_app) }
 {
-    db_command(alloc, "list", "Lists what a suite shows, an item a line")?
-        .arg(json(alloc))?
-        .arg(word(alloc, "SUITE", "The suite that shows it"))
+    let command = db_command(alloc, "list", "Lists what a suite shows, an item a line");
+    let command = with_arg(command, json(alloc));
+    with_arg(command, word(alloc, "SUITE", "The suite that shows it"))
 }
 
 fn waiting_command<'a>(alloc: Global) -> Result<Command<'a>, AllocError>
     ensures { IfOk result (IsCommand waiting_app) }
 {
-    timed_command(
+    let command = timed_command(
         alloc,
         "waiting",
         "Lists the uploads without a verdict, each with how many files it lacks",
-    )?
-    .arg(json(alloc))
+    );
+    with_arg(command, json(alloc))
 }
 
 fn verdicts_command<'a>(alloc: Global) -> Result<Command<'a>, AllocError>
     ensures { IfOk result (IsCommand verdicts_app) }
 {
-    db_command(alloc, "verdicts", "Lists the verdicts of all runs")?.arg(json(alloc))
+    let command = db_command(alloc, "verdicts", "Lists the verdicts of all runs");
+    with_arg(command, json(alloc))
 }
 
 fn why_command<'a>(alloc: Global) -> Result<Command<'a>, AllocError>
     ensures { IfOk result (IsCommand why_app) }
 {
-    db_command(
+    let command = db_command(
         alloc,
         "why",
         "Says why an upload is refused, what one lacks that waits, and what to do",
-    )?
-    .arg(optional_at(
-        alloc,
-        "The moment; without it all that was not cleaned counts",
-    ))?
-    .arg(json(alloc))?
-    .arg(optional_word(
-        alloc,
-        "NAME",
-        "The name of a .changes; without it, all that wait",
-    ))
+    );
+    let command = with_arg(
+        command,
+        optional_at(
+            alloc,
+            "The moment; without it all that was not cleaned counts",
+        ),
+    );
+    let command = with_arg(command, json(alloc));
+    with_arg(
+        command,
+        optional_word(
+            alloc,
+            "NAME",
+            "The name of a .changes; without it, all that wait",
+        ),
+    )
 }
 
 fn configuration_command<'a>(alloc: Global) -> Result<Command<'a>, AllocError>
@@ -269,53 +331,63 @@ fn configuration_command<'a>(alloc: Global) -> Result<Command<'a>, AllocError>
 fn export_command<'a>(alloc: Global) -> Result<Command<'a>, AllocError>
     ensures { IfOk result (IsCommand export_app) }
 {
-    db_command(
+    let command = db_command(
         alloc,
         "export",
         "Writes what the suites show into a folder that any web server can show",
-    )?
-    .arg(optional_at(
-        alloc,
-        "The moment of uploads.html; without it all that was not cleaned counts",
-    ))?
-    .arg(signed(alloc))?
-    .arg(by_hash(alloc))?
-    .arg(word(
-        alloc,
-        "DIR",
-        "The folder, which is made where it is not there",
-    ))
+    );
+    let command = with_arg(
+        command,
+        optional_at(
+            alloc,
+            "The moment of uploads.html; without it all that was not cleaned counts",
+        ),
+    );
+    let command = with_arg(command, signed(alloc));
+    let command = with_arg(command, by_hash(alloc));
+    with_arg(
+        command,
+        word(
+            alloc,
+            "DIR",
+            "The folder, which is made where it is not there",
+        ),
+    )
 }
 
 /// The command that serves, with its options alone.
 fn serve_with_options<'a>(alloc: Global) -> Result<Command<'a>, AllocError>
     ensures { IfOk result (IsCommand serve_options) }
 {
-    timed_command(
+    let command = timed_command(
         alloc,
         "serve",
         "Answers HTTP connections, one after the other",
-    )?
-    .arg(moments(alloc))?
-    .arg(log(alloc))?
-    .arg(export(alloc))?
-    .arg(signed(alloc))
+    );
+    let command = with_arg(command, moments(alloc));
+    let command = with_arg(command, log(alloc));
+    let command = with_arg(command, export(alloc));
+    with_arg(command, signed(alloc))
 }
 
 /// The same with `--by-hash`.
 fn serve_with_by_hash<'a>(alloc: Global) -> Result<Command<'a>, AllocError>
     ensures { IfOk result (IsCommand serve_by_hash) }
 {
-    serve_with_options(alloc)?.arg(by_hash(alloc))
+    let command = serve_with_options(alloc);
+    with_arg(command, by_hash(alloc))
 }
 
 /// The command that serves.
 pub fn serve_command<'a>(alloc: Global) -> Result<Command<'a>, AllocError>
     ensures { IfOk result (IsCommand serve_app) }
 {
-    serve_with_by_hash(alloc)?
-        .arg(word(alloc, "ADDRESS", "Where to listen, such as 127.0.0.1:8080"))?
-        .arg(count(alloc))
+    let command = serve_with_by_hash(alloc);
+    let command = with_arg(
+        command,
+        word(alloc, "ADDRESS", "Where to listen, such as 127.0.0.1:8080"),
+    );
+    with_arg(command, count(alloc))
 }
 
 fn archive<'a>(alloc: Global) -> Result<Command<'a>, AllocError>

@@ -5,7 +5,8 @@ use Rattle.std.specs.Map.Iter.{deref_pair}
 use Rattle.suites.specs.declared.key.ShelfKey.{ShelfKey}
 use Rattle.suites.specs.declared.item.Item.{Item}
 use Rattle.para.proofs.Fronts.{front_trans, front_append}
-use Rattle.texts.specs.Stanzas.{package_stanza, is_in_packages, packages_text}
+use Rattle.indices.specs.Listed.{is_in_packages}
+use Rattle.texts.specs.Stanzas.{package_stanza, packages_text}
 use Rattle.texts.proofs.Listing.{listed_more, shown_more, all_shown}
 use Rattle.texts.proofs.binary_index.push_packages.Goals as goal
 

@@ -1,0 +1,6 @@
+use Rattle.std.specs.Prelude.{codes}
+use Rattle.std.proofs.Common.{refl}
+use Rattle.command_line.proofs.readings.read_waiting.Goals as goal
+
+pub returns : goal.returns
+returns c = c.asked.ensures (codes "waiting") (λ db at timed. (_, (refl, (timed.word, timed.moment))))

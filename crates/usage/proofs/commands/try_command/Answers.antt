@@ -1,0 +1,4 @@
+use Rattle.usage.proofs.commands.try_command.Goals as goal
+
+pub returns : goal.returns
+returns c = c.with_arg.ensures _ _ c.bare_command-command.ensures c.paths.ensures.rule c.paths.ensures.local
