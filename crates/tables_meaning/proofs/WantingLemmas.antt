@@ -15,7 +15,7 @@ use Rattle.records.specs.Values.{ChangesValue}
 use Rattle.records.specs.declared.fault.RecordFault.{RecordFault}
 use Rattle.records.proofs.RecordRead.{changes_of_read}
 use Rattle.sums.specs.declared.print.Print.{Print}
-use Rattle.keep.specs.Book.{candidate_of, candidates, is_judged}
+use Rattle.keep.specs.Book.{Candidate, candidate_of, candidates, is_judged}
 use Rattle.sums.specs.FileNames.{is_changes_name}
 use Rattle.keep.specs.declared.arrival.Arrival.{Arrival}
 use Rattle.keep.specs.declared.change.Judgement.{Judgement}
