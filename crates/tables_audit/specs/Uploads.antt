@@ -12,7 +12,6 @@ use Rattle.sums.specs.Prints.{same_print}
 use Rattle.keep.specs.Book.{candidates, is_judged}
 use Rattle.sums.specs.FileNames.{is_changes_name}
 use Rattle.keep.specs.declared.change.Judgement.{Judgement}
-use Rattle.tables.specs.Pieces.{is_of}
 use Rattle.tables.specs.Rows.{Numbered, Tables, rows_of}
 use Rattle.tables.specs.Uploads.{is_judged as has_place}
 use Rattle.tables.specs.Wants.{is_wanted_by}
@@ -21,7 +20,7 @@ use Rattle.tables.specs.declared.rows.BodyRow.{BodyRow}
 use Rattle.tables.specs.declared.rows.Piece.{Piece}
 use Rattle.tables.specs.declared.rows.UploadRow.{UploadRow}
 use Rattle.tables.specs.declared.rows.Want.{Want}
-use Rattle.tables_meaning.specs.Kept.{Request, arrivals_in, is_placed, request_in, request_of}
+use Rattle.tables_meaning.specs.Kept.{Request, arrivals_in, is_placed, pieces_among, request_in, request_of}
 use Rattle.tables_audit.specs.declared.uploads.arrived.Arrived.{Arrived}
 use Rattle.tables_audit.specs.declared.uploads.awaited.Awaited.{Awaited}
 
@@ -81,7 +80,7 @@ is_there_among arrived e = list_any (is_listed_as e) arrived
 
 -- the bytes of a body
 abbrev pub bytes_among : Numbered Piece → ℕ → List ℕ
-bytes_among pieces id = flat_map (λ p. p.bytes) (filter (is_of id) (rows_of pieces))
+bytes_among pieces id = flat_map (λ p. p.bytes) (pieces_among (rows_of pieces) id)
 
 -- one of the judgements is on what arrived
 abbrev pub has_judgement : List Judgement → Printed → Bool
