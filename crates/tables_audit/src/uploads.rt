@@ -30,10 +30,10 @@ fn are_asked(
     alloc: Global,
     all: &AllRows,
     arrived: &[Arrived<'_>],
-    awaited: &[Awaited<'_>],
+    awaited: Vec<Awaited<'_>>,
 ) -> Result<bool, AllocError>
-    ensures { AreApart all.now.uploads.items → IfOk result (λ fit. MatchBool fit (AreAsked all.now.uploads.items all.now.wants.items arrived.now awaited.now)
-        (AreAsked all.now.uploads.items all.now.wants.items arrived.now awaited.now → ⊥)) }
+    ensures { AreApart all.now.uploads.items → IfOk result (λ fit. MatchBool fit (AreAsked all.now.uploads.items all.now.wants.items arrived.now awaited.entry.items)
+        (AreAsked all.now.uploads.items all.now.wants.items arrived.now awaited.entry.items → ⊥)) }
 {
     // Where none waits, nothing is looked up among what arrived.
     if awaited.is_empty() {
@@ -57,7 +57,7 @@ fn are_besides(alloc: Global, all: &AllRows, judged: &[Judgement]) -> Result<boo
     let pieces = Pieces::new(all);
     let verdicts = Verdicts::new(alloc, judged)?;
     let awaited = awaited_among(alloc, &pieces, &verdicts, &arrived)?;
-    if !are_asked(alloc, all, &arrived, &awaited)? {
+    if !are_asked(alloc, all, &arrived, awaited)? {
         return Ok(false);
     }
     let uploads = Rows::new(&all.uploads);

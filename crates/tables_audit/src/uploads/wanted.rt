@@ -185,20 +185,6 @@ fn rows_in_order<'a>(mut rows: Vec<&'a (u64, UploadRow)>) -> Result<Vec<&'a (u64
     Ok(rows)
 }
 
-/// The .changes that wait, as they arrived.
-fn as_arrived<'a, 'b>(
-    alloc: Global,
-    awaited: &'a [Awaited<'b>],
-) -> Result<Vec<&'a Awaited<'b>>, AllocError>
-    ensures { IfOk result (λ all. map (λ a. a.now) all.items ≡ awaited.now) }
-{
-    let mut all = Vec::new(alloc);
-    for one in awaited {
-        all.push(one)?;
-    }
-    Ok(all)
-}
-
 /// The order of judging, of two .changes.
 fn waiting_order(a: &Awaited<'_>, b: &Awaited<'_>) -> Ordering
     ensures { result ≡ waiting_order (awaited_view a.now) (awaited_view b.now) }
@@ -212,10 +198,8 @@ fn waiting_order(a: &Awaited<'_>, b: &Awaited<'_>) -> Ordering
 }
 
 /// The .changes that wait, in the order of judging.
-fn waiting_in_order<'a, 'b>(
-    mut awaited: Vec<&'a Awaited<'b>>,
-) -> Result<Vec<&'a Awaited<'b>>, AllocError>
-    ensures { IfOk result (λ sorted. map (λ a. awaited_view a.now) sorted.items ≡ sorted_by waiting_order (map (λ a. awaited_view a.now) awaited.entry.items)) }
+fn waiting_in_order<'a>(mut awaited: Vec<Awaited<'a>>) -> Result<Vec<Awaited<'a>>, AllocError>
+    ensures { IfOk result (λ sorted. map awaited_view sorted.items ≡ sorted_by waiting_order (map awaited_view awaited.entry.items)) }
 {
     awaited.sort_by(|a, b| waiting_order(a, b))?;
     Ok(awaited)
@@ -227,17 +211,17 @@ fn are_each(
     rows: &[&(u64, UploadRow)],
     wants: &Rows<'_, (u64, Want)>,
     arrived: &There<'_>,
-    awaited: &[&Awaited<'_>],
+    awaited: &[Awaited<'_>],
 ) -> Result<bool, AllocError>
     ensures { IfOk result (λ are. MatchBool are
-        (map (λ x. request_row wants.now.all.now x.now) rows.now ≡ map (λ a. request_among (map printed arrived.now.all.now) (awaited_view a.now)) awaited.now)
-        (map (λ x. request_row wants.now.all.now x.now) rows.now ≡ map (λ a. request_among (map printed arrived.now.all.now) (awaited_view a.now)) awaited.now → ⊥)) }
+        (map (λ x. request_row wants.now.all.now x.now) rows.now ≡ map (λ a. request_among (map printed arrived.now.all.now) (awaited_view a)) awaited.now)
+        (map (λ x. request_row wants.now.all.now x.now) rows.now ≡ map (λ a. request_among (map printed arrived.now.all.now) (awaited_view a)) awaited.now → ⊥)) }
 {
     if rows.len() != awaited.len() {
         return Ok(false);
     }
     for index in 0..rows.len() {
-        if !is_request(alloc, rows[index], wants, arrived, awaited[index])? {
+        if !is_request(alloc, rows[index], wants, arrived, &awaited[index])? {
             return Ok(false);
         }
     }
@@ -250,14 +234,14 @@ pub fn are_requests(
     uploads: &[(u64, UploadRow)],
     wants: &Rows<'_, (u64, Want)>,
     arrived: &There<'_>,
-    awaited: &[Awaited<'_>],
+    awaited: Vec<Awaited<'_>>,
 ) -> Result<bool, AllocError>
     ensures { AreApart uploads.now → IfOk result (λ are. MatchBool are
-        (AreAsked uploads.now wants.now.all.now arrived.now.all.now awaited.now)
-        (AreAsked uploads.now wants.now.all.now arrived.now.all.now awaited.now → ⊥)) }
+        (AreAsked uploads.now wants.now.all.now arrived.now.all.now awaited.entry.items)
+        (AreAsked uploads.now wants.now.all.now arrived.now.all.now awaited.entry.items → ⊥)) }
 {
     let rows = rows_in_order(unplaced(alloc, uploads)?)?;
-    let all = waiting_in_order(as_arrived(alloc, awaited)?)?;
+    let all = waiting_in_order(awaited)?;
     are_each(alloc, &rows, wants, arrived, &all)
 }
 

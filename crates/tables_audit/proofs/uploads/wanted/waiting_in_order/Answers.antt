@@ -8,7 +8,7 @@ use Rattle.tables_audit.proofs.uploads.wanted.waiting_in_order.Goals as goal
 
 pub returns : goal.returns
 returns c =
-    ap (map (λ a. awaited_view a.now))
-    (sorted_same (λ a b. waiting_order (awaited_view a.now) (awaited_view b.now)) (on_total (λ a. awaited_view a.now) waiting_order_total) c.args.awaited.items c.sort_by.new.self.items c.in_ok-sort_by.ensures.sorted c.sort_by.ensures.stable
+    ap (map awaited_view)
+    (sorted_same (λ a b. waiting_order (awaited_view a) (awaited_view b)) (on_total awaited_view waiting_order_total) c.args.awaited.items c.sort_by.new.self.items c.in_ok-sort_by.ensures.sorted c.sort_by.ensures.stable
     (λ a r q k. search rules))
-    ∙ sym (sort_by-map waiting_order (λ a. awaited_view a.now) c.args.awaited.items)
+    ∙ sym (sort_by-map waiting_order awaited_view c.args.awaited.items)
