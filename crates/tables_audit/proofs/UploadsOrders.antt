@@ -44,7 +44,7 @@ pub requests_apart : (uploads : Numbered UploadRow) (wants : Numbered Want) → 
 requests_apart uploads wants apart =
     ascending-map (λ (r s : Request). is_eq (request_order r s) ≡ false) (request_row wants) (filter (λ x. not (has_place x.1)) uploads) (signs_apart uploads apart)
 
-nothing : {X : Type 0} (xs : List X) → length xs ≡ 0 → xs ≡ []
+pub nothing : {X : Type 0} (xs : List X) → length xs ≡ 0 → xs ≡ []
 nothing [] e = refl
 nothing (x ∷ xs) e = absurd (omega arith)
 
