@@ -4,10 +4,10 @@
 //! What keys keep is not tested here, since the library checks each key of a file that it opens. The rest is: types beyond STRICT (no
 //! number below zero), and all that the rows mean.
 //!
-//! Uploads without a verdict are in the order of their arrival, what each wants in that of its entries, and rows of `texts` and `dates` in
-//! the order of the configuration. An archive's tables in another order are not taken for one. So what was tested is a list, and not one of
-//! its permutations, and each read answers that list. VACUUM and a dump keep these orders. The rows of pieces and of the files of items may
-//! stand in any order: those of a body or of an item are put in that of their numbers, here and in each read.
+//! Rows of `texts` and `dates` are in the order of the configuration. An archive's tables in another order are not taken for one. So what was
+//! tested of them is a list, and not one of its permutations. VACUUM and a dump keep these orders. The rows of pieces, of the files of items,
+//! of uploads and of what they want may stand in any order. Those of a body or of an item are put in the order of their numbers, here and in
+//! each read; uploads without a verdict in the order of judging, and what each wants in that of the names.
 //!
 //! All rows are in memory while they are tested, bodies with their bytes among them: each once, since rows are typed as the query gives
 //! them, and one body more, beside what the library holds.
