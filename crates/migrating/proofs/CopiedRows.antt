@@ -5,7 +5,9 @@ use Rattle.std.specs.List.{cons_option, enumerate_from, flat_map, list_any}
 use Rattle.std.specs.Option.{option_and_then}
 use Rattle.std.specs.FinMap.{get}
 use Rattle.std.proofs.lemmas.List.Elements.{All-map, All-weaker}
-use Rattle.sqlite_keyed.proofs.ListLemmas.{map-map}
+use Rattle.std.proofs.lemmas.List.Sorted.{IsPermutation-trans}
+use Rattle.sqlite_keyed.specs.Lists.{sort_by as sorted_by}
+use Rattle.sqlite_keyed.proofs.ListLemmas.{IsPermutation-same, map-map}
 use Rattle.rules.specs.Values.{ConfigValue}
 use Rattle.rules.specs.declared.suite.Suite.{Suite}
 use Rattle.sums.specs.Prints.{print as print_of}
@@ -30,7 +32,7 @@ use Rattle.tables.specs.declared.rows.Piece.{Piece}
 use Rattle.tables.specs.declared.rows.Ref.{Ref}
 use Rattle.tables.specs.declared.rows.UploadRow.{UploadRow}
 use Rattle.tables.specs.declared.rows.Want.{Want}
-use Rattle.tables_meaning.specs.Kept.{AreArrivals, AreBodies, AreFiles, AreItems, AreUploads, IsBook, arrival_in, arrivals_in, bytes_of, files_in, has_body, is_on, is_used, pieces_among, pieces_for, print_at, refs_among, shown_row, sign_in, used_in, wants_in}
+use Rattle.tables_meaning.specs.Kept.{AreArrivals, AreBodies, AreFiles, AreItems, AreUploads, IsBook, arrival_in, arrivals_in, bytes_of, files_in, has_body, is_on, is_used, pieces_among, pieces_for, print_at, refs_among, shown_row, sign_in, used_in, want_order, wants_in}
 use Rattle.copying.specs.Copying.{anew, arrived_at}
 use Rattle.migrating.proofs.FoundedRows.{meta_for}
 
@@ -113,7 +115,7 @@ module _ (t : Tables) (moment : ℕ) (text : List ℕ) where
 
   wants_copied : wants_in copy ≡ wants_in t
   unfolding wants_in
-  wants_copied = λ i id. map (λ (w : Want). (w.name, w.print, w.here)) (filter (is_wanted_by id) (wants_rows i))
+  wants_copied = λ i id. sorted_by want_order (map (λ (w : Want). (w.name, w.print, w.here)) (filter (is_wanted_by id) (wants_rows i)))
 
   -- ---- each fact of an archive
 
@@ -148,9 +150,11 @@ module _ (t : Tables) (moment : ℕ) (text : List ℕ) where
       let there : (e : Entry) → is_there (arrivals_in copy) e ≡ is_there (arrivals_in t) e = λ e. ap (λ arrivals. is_there arrivals e) arrivals_copied ∙ there_then moment (arrivals_in t) e in
       record {
         waiting =
-            (λ i. map (λ (x : ℕ × UploadRow). (sign_in x.1, wants_copied i x.0)) (filter (λ x. not (has_place x.1)) t.uploads))
-            ∙ h.waiting
-            ∙ sym (λ i. map (λ (c : Candidate). (sign_of c, map (λ (e : Entry). (e.name, e.print, there e i)) c.changes.entries)) (filter (λ c. not (is_judged judged c)) (asked i)));
+            IsPermutation-trans _ _ _
+            (IsPermutation-same _ _ (λ i. map (λ (x : ℕ × UploadRow). (sign_in x.1, wants_copied i x.0)) (filter (λ x. not (has_place x.1)) t.uploads)))
+            (IsPermutation-trans _ _ _ h.waiting
+            (IsPermutation-same _ _
+            (sym (λ i. map (λ (c : Candidate). (sign_of c, sorted_by want_order (map (λ (e : Entry). (e.name, e.print, there e i)) c.changes.entries))) (filter (λ c. not (is_judged judged c)) (asked i))))));
         owned = subst (All (λ (w : Want). IsTrue (list_any (λ x. nat_eq x.0 w.upload && not (has_place x.1)) t.uploads))) (sym wants_rows) h.owned;
         unjudged = h.unjudged;
         places = h.places;

@@ -70,7 +70,7 @@ abbrev pub first_layout : Asked
 first_layout = record {
   meta = codes "SELECT rowid, 3, configuration FROM meta WHERE version = 1 ORDER BY rowid";
   bodies = codes "SELECT min(id), size, md5, sha1, sha256 FROM arrivals GROUP BY size, md5, sha1, sha256 ORDER BY min(id)";
-  pieces = codes "WITH RECURSIVE k (n) AS (SELECT 1 UNION ALL SELECT n + 1 FROM k LIMIT 64), b (id) AS (SELECT min(id) FROM arrivals GROUP BY size, md5, sha1, sha256) SELECT 64 * a.id + k.n, a.id, k.n, substr(a.body, CAST(65536 * k.n - 65535 AS INTEGER), 65536) FROM b JOIN arrivals AS a ON a.id = b.id JOIN k ON 65536 * k.n - 65535 <= length(a.body) ORDER BY a.id, k.n";
+  pieces = codes "WITH RECURSIVE k (n) AS (SELECT 1 UNION ALL SELECT n + 1 FROM k LIMIT 64), b (id) AS (SELECT min(id) FROM arrivals GROUP BY size, md5, sha1, sha256) SELECT k.n, a.id, k.n, substr(a.body, CAST(65536 * k.n - 65535 AS INTEGER), 65536) FROM b JOIN arrivals AS a ON a.id = b.id JOIN k ON 65536 * k.n - 65535 <= length(a.body) ORDER BY a.id, k.n";
   arrivals = codes "SELECT a.id, a.name, min(b.id), 0 FROM arrivals AS a JOIN arrivals AS b ON b.size = a.size AND b.md5 = a.md5 AND b.sha1 = a.sha1 AND b.sha256 = a.sha256 AND b.body = a.body GROUP BY a.id, a.name ORDER BY a.id";
   uploads = codes "SELECT u.arrival, a.name, a.size, a.md5, a.sha1, a.sha256, u.place, u.verdict FROM uploads AS u JOIN arrivals AS a ON a.id = u.arrival ORDER BY u.arrival";
   wants = codes "SELECT rowid, upload, name, size, md5, sha1, sha256, here FROM wants ORDER BY rowid";

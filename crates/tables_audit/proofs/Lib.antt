@@ -14,6 +14,7 @@ pub mod UnderWayLemmas
 pub mod UploadsFits
 pub mod UploadsJudged
 pub mod UploadsLists
+pub mod UploadsOrders
 pub mod UploadsSteps
 pub mod UploadsWaiting
 pub mod WholeLemmas

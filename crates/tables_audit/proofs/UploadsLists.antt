@@ -2,7 +2,7 @@
 use Rattle.std.proofs.Common.{◌≡◌, ◌↔◌, ℕ, zero, suc, ◌+◌, ◌<◌, ◌≤◌, Bool, true, false, cond, nat_eq, Option, Some, None, option_map, slice_get, List, [], ◌∷◌, ◌++◌, map, filter, find, drop, take, length, get_or, All, Contains, refl, sym, ap, ap₂, subst, ◌∙◌, arith, MatchBool, true≢false}
 use Rattle.std.specs.List.{AllByRecursion, range_with_len}
 use Rattle.std.proofs.lemmas.Bool.Decides.{Decides-eqb}
-use Rattle.std.proofs.lemmas.List.{drop_all, drop_more, length-append, length-drop, map-append, take-append-drop, take_more}
+use Rattle.std.proofs.lemmas.List.{drop_all, drop_more, get_or-map, length-append, length-drop, length-map, map-append, map_more, take-append-drop, take_all, take_more}
 use Rattle.std.proofs.lemmas.List.Elements.{All-cons, All-head, All-tail, All-contains, All-from_recursion, filter-append}
 use Rattle.std.proofs.lemmas.List.FromFn.{get_or-map-range_with_len, length-map-range_with_len}
 use Rattle.tables.specs.Rows.{Numbered, rows_of}
@@ -100,6 +100,24 @@ from_slices f from [] h = refl
 from_slices f from (x ∷ xs) h =
     ap₂ ◌∷◌ (let e : from + 0 ≡ from = omega arith in subst (λ n. f n ≡ Some x) e (h 0))
     (from_slices f (from + 1) xs (λ n. let e : from + suc n ≡ from + 1 + n = omega arith in subst (λ m. f m ≡ slice_get xs n) e (h (suc n))))
+
+-- Two lists gone over side by side by place.
+module _ {X Y Z : Type 0} (f : X → Z) (g : Y → Z) (xs : List X) (ys : List Y) (i : ℕ) (x : X) (y : Y) (inside : i < length xs) (within : i < length ys) (is : x ≡ get_or xs i x) (at : y ≡ get_or ys i y) where
+  pub pair_differs : (f x ≡ g y → ⊥) → map f xs ≡ map g ys → ⊥
+  pair_differs apart e =
+      apart (ap f is ∙ sym (get_or-map f xs i x (f x) inside) ∙ ap (λ (l : List Z). get_or l i (f x)) e ∙ get_or-map g ys i y (f x) within ∙ ap g (sym at))
+
+  pub pair_more : f x ≡ g y → map f (take i xs) ≡ map g (take i ys) → map f (take (i + 1) xs) ≡ map g (take (i + 1) ys)
+  pair_more same so_far =
+      map_more f xs i x inside ∙ ap (λ z. map f (take i xs) ++ f z ∷ []) (sym is)
+      ∙ ap₂ (λ l z. l ++ z ∷ []) so_far same
+      ∙ sym (map_more g ys i y within ∙ ap (λ z. map g (take i ys) ++ g z ∷ []) (sym at))
+
+pub pairs_differ : {X Y Z : Type 0} (f : X → Z) (g : Y → Z) (xs : List X) (ys : List Y) → (length xs ≡ length ys → ⊥) → map f xs ≡ map g ys → ⊥
+pairs_differ f g xs ys apart e = apart (sym (length-map xs f) ∙ ap length e ∙ length-map ys g)
+
+pub pairs_all : {X Y Z : Type 0} (f : X → Z) (g : Y → Z) (xs : List X) (ys : List Y) (n : ℕ) → length xs ≤ n → length xs ≡ length ys → map f (take n xs) ≡ map g (take n ys) → map f xs ≡ map g ys
+pairs_all f g xs ys n all same e = ap (map f) (sym (take_all n xs all)) ∙ e ∙ ap (map g) (take_all n ys (omega (arith, all, same)))
 
 module _ {X : Type 0} (p : X → Bool) where
   pub found_passes : (xs : List X) (x : X) → find p xs ≡ Some x → p x ≡ true

@@ -5,12 +5,10 @@ use Rattle.std.specs.Option.{option_and_then}
 use Rattle.std.proofs.lemmas.List.{map-append, take_more}
 use Rattle.std.proofs.lemmas.List.Elements.{filter_map-append}
 use Rattle.tables.specs.Rows.{Numbered, rows_of}
-use Rattle.tables.specs.Wants.{is_wanted_by}
 use Rattle.tables.specs.declared.rows.BodyRow.{BodyRow}
-use Rattle.tables.specs.declared.rows.Want.{Want}
-use Rattle.tables_audit.specs.Uploads.{Printed, Waiting, print_among, printed, want_row, wants_among}
+use Rattle.tables_audit.specs.Uploads.{Printed, Waiting, print_among, printed}
 use Rattle.tables_audit.specs.declared.uploads.arrived.Arrived.{Arrived}
-use Rattle.tables_audit.proofs.KeyedLemmas.{find_same, rows_same}
+use Rattle.tables_audit.proofs.KeyedLemmas.{find_same}
 
 -- a row of which nothing is told
 pub none_at_row : {X Y : Type 0} (f : X → Option Y) (xs : Numbered X) (i : ℕ) (x : ℕ × X) → i < length xs → x ≡ get_or xs i x → f x.1 ≡ None → Contains (map f (rows_of xs)) None
@@ -33,6 +31,3 @@ pub print_same : (id : ℕ) (part all : Numbered BodyRow) → filter (λ (x : �
 unfolding print_among
 print_same id part all e = ap (option_and_then (λ (x : ℕ × BodyRow). x.1.print)) (find_same (λ (x : ℕ × BodyRow). nat_eq x.0 id) part all e)
 
--- and those of an upload what it wants
-pub wants_same : (id : ℕ) (part all : Numbered Want) → filter (λ (x : ℕ × Want). nat_eq x.1.upload id) part ≡ filter (λ (x : ℕ × Want). nat_eq x.1.upload id) all → wants_among part id ≡ wants_among all id
-wants_same id part all e = ap (map want_row) (rows_same (is_wanted_by id) part all e)

@@ -1,10 +1,11 @@
 -- The uploads that wait for a verdict: as the rows tell them, and as what arrived does.
-use Rattle.std.proofs.Common.{◌≡◌, ℕ, Bool, true, false, not, ◌||◌, cond, if◌then◌else◌, nat_eq, Option, Some, None, option_map, IsTrue, List, [], ◌∷◌, map, filter, find, Contains, refl, sym, ap, ap₂, ◌∙◌, true≢false}
+use Rattle.std.proofs.Common.{◌≡◌, ℕ, Bool, true, false, not, ◌||◌, cond, if◌then◌else◌, nat_eq, Option, Some, None, option_map, IsTrue, List, [], ◌∷◌, map, filter, find, Contains, refl, sym, ap, ap₂, subst₂, ◌∙◌, true≢false, IsPermutation}
 use Rattle.std.specs.List.{AllByRecursion, list_any, filter_map, cons_option}
 use Rattle.std.specs.Option.{option_and_then}
 use Rattle.std.specs.Result.{result_ok}
 use Rattle.std.proofs.lemmas.Bool.Decides.{Decides-eqb}
 use Rattle.std.proofs.lemmas.List.Elements.{All-contains, All-from_recursion, recursion_from_All}
+use Rattle.sqlite_keyed.specs.Lists.{sort_by as sorted_by}
 use Rattle.sqlite_keyed.proofs.ListLemmas.{map_same}
 use Rattle.records.specs.Records.{changes_in}
 use Rattle.records.specs.Values.{ChangesValue}
@@ -19,9 +20,9 @@ use Rattle.tables.specs.Uploads.{is_judged as has_place}
 use Rattle.tables.specs.declared.rows.ArrivalRow.{ArrivalRow}
 use Rattle.tables.specs.declared.rows.BodyRow.{BodyRow}
 use Rattle.tables_read.specs.All.{AreConstrained}
-use Rattle.tables_meaning.specs.Kept.{arrival_in, arrivals_in, bytes_of, request_in, request_of, wanted, wants_in}
+use Rattle.tables_meaning.specs.Kept.{arrival_in, arrivals_in, bytes_of, request_in, request_of, want_order, wanted, wants_in}
 use Rattle.tables_audit.specs.Parts.{BodiesFit}
-use Rattle.tables_audit.specs.Uploads.{AreBesides, Printed, Waiting, awaited_view, changes_awaited, found_awaited, has_judgement, is_listed_as, is_there_among, print_among, printed, request_among, request_row, wanted_among, with_print, with_print_in}
+use Rattle.tables_audit.specs.Uploads.{AreAsked, AreBesides, Printed, Waiting, awaited_view, changes_awaited, found_awaited, has_judgement, is_listed_as, is_there_among, print_among, printed, request_among, request_row, wanted_among, with_print, with_print_in}
 use Rattle.tables_audit.specs.declared.uploads.arrived.Arrived.{Arrived}
 use Rattle.tables_audit.specs.declared.uploads.awaited.Awaited.{Awaited}
 
@@ -114,7 +115,7 @@ module _ (t : Tables) (judged : List Judgement) where
   unfolding candidate_at
   request_same a c =
       ap (λ (ws : List (List ℕ × Print × Bool)). ((a.name, print_in t a.body), ws))
-      (map_same (wanted_among (arrivals_printed t)) (wanted (arrivals_in t)) (λ e. ap (λ (b : Bool). (e.name, e.print, b)) (there_same t e)) c.entries)
+      (ap (sorted_by want_order) (map_same (wanted_among (arrivals_printed t)) (wanted (arrivals_in t)) (λ e. ap (λ (b : Bool). (e.name, e.print, b)) (there_same t e)) c.entries))
 
   step : (a : ArrivalRow) (left : List Waiting) (right : List Candidate) (named : Bool) (record_there : Option ChangesValue) (has : Bool) → has_judgement judged (a, print_in t a.body) ≡ has
       → map (request_among (arrivals_printed t)) left ≡ map (request_of (arrivals_in t)) (filter waits right)
@@ -158,12 +159,12 @@ module _ (t : Tables) (judged : List Judgement) where
 
   pub waiting_from : (arrived : List Arrived) (awaited : List Awaited) → map printed arrived ≡ arrivals_printed t
       → map awaited_view awaited ≡ filter_map (found_awaited t.pieces judged) (map printed arrived)
-      → map (request_row t.wants) (filter (λ x. not (has_place x.1)) t.uploads) ≡ map (request_among (map printed arrived)) (map awaited_view awaited)
-      → map (request_in t) (filter (λ x. not (has_place x.1)) t.uploads) ≡ map (request_of (arrivals_in t)) (filter (λ c. not (is_judged judged c)) (candidates (arrivals_in t)))
-  waiting_from arrived awaited prints found e = sym rows_same ∙ e ∙ asked_same arrived awaited prints found
+      → AreAsked t.uploads t.wants arrived awaited
+      → IsPermutation (map (request_in t) (filter (λ x. not (has_place x.1)) t.uploads)) (map (request_of (arrivals_in t)) (filter (λ c. not (is_judged judged c)) (candidates (arrivals_in t))))
+  waiting_from arrived awaited prints found e = subst₂ IsPermutation rows_same (asked_same arrived awaited prints found) e
 
   pub waiting_to : (arrived : List Arrived) (awaited : List Awaited) → map printed arrived ≡ arrivals_printed t
       → map awaited_view awaited ≡ filter_map (found_awaited t.pieces judged) (map printed arrived)
       → AreBesides t judged
-      → map (request_row t.wants) (filter (λ x. not (has_place x.1)) t.uploads) ≡ map (request_among (map printed arrived)) (map awaited_view awaited)
-  waiting_to arrived awaited prints found b = rows_same ∙ b.waiting ∙ sym (asked_same arrived awaited prints found)
+      → AreAsked t.uploads t.wants arrived awaited
+  waiting_to arrived awaited prints found b = subst₂ IsPermutation (sym rows_same) (sym (asked_same arrived awaited prints found)) b.waiting

@@ -1,5 +1,5 @@
 -- The parts of `IsBook`, each as far as the keys of the tables leave it open.
-use Rattle.std.specs.Prelude.{◌≡◌, ◌≢◌, ◌≤◌, ℕ, ◌+◌, not, nat_eq, ◌&&◌, All, List, map, filter, find, None, Some, slice_get, option_map, IsTrue}
+use Rattle.std.specs.Prelude.{◌≡◌, ◌≢◌, ◌≤◌, ℕ, ◌+◌, not, nat_eq, ◌&&◌, All, List, map, filter, find, None, Some, slice_get, option_map, IsTrue, IsPermutation}
 use Rattle.std.specs.List.{list_any}
 use Rattle.sums.specs.Prints.{print as print_of}
 use Rattle.keep.specs.Book.{candidates, is_judged, latest}
@@ -22,8 +22,8 @@ ArrivalsFit t = All (λ a. IsDeliverable a.name a.body × (a.moment ≤ latest))
 -- Those without a verdict are the .changes that arrived and are not judged, with the entries that each lists; the others are
 -- these judged ones, at places from 1 on.
 pub record UploadsFit (t : Tables) (judged : List Judgement) : Type 0 where
-  pub waiting : map (request_in t) (filter (λ x. not (has_place x.1)) t.uploads)
-      ≡ map (request_of (arrivals_in t)) (filter (λ c. not (is_judged judged c)) (candidates (arrivals_in t)))
+  pub waiting : IsPermutation (map (request_in t) (filter (λ x. not (has_place x.1)) t.uploads))
+      (map (request_of (arrivals_in t)) (filter (λ c. not (is_judged judged c)) (candidates (arrivals_in t))))
   pub owned : All (λ w. IsTrue (list_any (λ x. nat_eq x.0 w.upload && not (has_place x.1)) t.uploads)) (rows_of t.wants)
   pub unjudged : All (λ u. u.place ≡ None → u.verdict ≡ None) (rows_of t.uploads)
   pub places : (n : ℕ) → find (is_placed (n + 1)) (rows_of t.uploads) ≡ option_map (judged_row (n + 1)) (slice_get judged n)

@@ -1,6 +1,9 @@
 -- The words of the functions on uploads.
-use Rattle.std.specs.Prelude.{◌≡◌, ◌≢◌, ℕ, nat_eq, nat_lt, Bool, ◌&&◌, not, if◌then◌else◌, List, map, filter, find, fold, bytes_eq, All, IsTrue, Option, Some, None, option_map}
-use Rattle.std.specs.List.{list_any, flat_map}
+use Rattle.std.specs.Prelude.{◌≡◌, ◌≢◌, ℕ, nat_eq, nat_lt, Bool, ◌&&◌, not, if◌then◌else◌, List, map, filter, find, fold, bytes_eq, All, IsTrue, IsPermutation, Option, Some, None, option_map}
+use Rattle.std.specs.List.{AllPairs, list_any, flat_map}
+use Rattle.std.specs.declared.cmp.Ordering.{Ordering}
+use Rattle.sqlite_keyed.specs.Lists.{sort_by as sorted_by}
+use Rattle.suites.specs.Keys.{text_order}
 use Rattle.std.specs.Option.{option_and_then}
 use Rattle.std.specs.Result.{result_ok}
 use Rattle.records.specs.Records.{changes_in}
@@ -9,10 +12,9 @@ use Rattle.rules.specs.Verdicts.{verdict_numbered}
 use Rattle.sums.specs.declared.entries.Entry.{Entry}
 use Rattle.sums.specs.declared.print.Print.{Print}
 use Rattle.sums.specs.Prints.{same_print}
-use Rattle.keep.specs.Book.{candidates, is_judged}
+use Rattle.keep.specs.Book.{candidates, is_judged, judging_order}
 use Rattle.sums.specs.FileNames.{is_changes_name}
 use Rattle.keep.specs.declared.change.Judgement.{Judgement}
-use Rattle.tables.specs.Pieces.{is_of}
 use Rattle.tables.specs.Rows.{Numbered, Tables, rows_of}
 use Rattle.tables.specs.Uploads.{is_judged as has_place}
 use Rattle.tables.specs.Wants.{is_wanted_by}
@@ -21,7 +23,7 @@ use Rattle.tables.specs.declared.rows.BodyRow.{BodyRow}
 use Rattle.tables.specs.declared.rows.Piece.{Piece}
 use Rattle.tables.specs.declared.rows.UploadRow.{UploadRow}
 use Rattle.tables.specs.declared.rows.Want.{Want}
-use Rattle.tables_meaning.specs.Kept.{Request, arrivals_in, is_placed, request_in, request_of}
+use Rattle.tables_meaning.specs.Kept.{Request, arrivals_in, is_placed, pieces_among, request_in, request_of, sign_in, want_order}
 use Rattle.tables_audit.specs.declared.uploads.arrived.Arrived.{Arrived}
 use Rattle.tables_audit.specs.declared.uploads.awaited.Awaited.{Awaited}
 
@@ -81,7 +83,7 @@ is_there_among arrived e = list_any (is_listed_as e) arrived
 
 -- the bytes of a body
 abbrev pub bytes_among : Numbered Piece → ℕ → List ℕ
-bytes_among pieces id = flat_map (λ p. p.bytes) (filter (is_of id) (rows_of pieces))
+bytes_among pieces id = flat_map (λ p. p.bytes) (pieces_among (rows_of pieces) id)
 
 -- one of the judgements is on what arrived
 abbrev pub has_judgement : List Judgement → Printed → Bool
@@ -113,20 +115,35 @@ abbrev pub wanted_among : List Printed → Entry → List ℕ × Print × Bool
 wanted_among arrived e = (e.name, e.print, is_there_among arrived e)
 
 abbrev pub wants_among : Numbered Want → ℕ → List (List ℕ × Print × Bool)
-wants_among wants id = map want_row (filter (is_wanted_by id) (rows_of wants))
+wants_among wants id = sorted_by want_order (map want_row (filter (is_wanted_by id) (rows_of wants)))
 
 abbrev pub request_row : Numbered Want → ℕ × UploadRow → Request
 request_row wants x = ((x.1.name, x.1.print), wants_among wants x.0)
 
 abbrev pub request_among : List Printed → Waiting → Request
-request_among arrived w = ((w.0.0.name, w.0.1), map (wanted_among arrived) w.1.entries)
+request_among arrived w = ((w.0.0.name, w.0.1), sorted_by want_order (map (wanted_among arrived) w.1.entries))
 
--- The rows without a place are those of the .changes that wait, in their order, with what they want.
+-- the order of judging, of requests and of what waits
+abbrev pub request_order : Request → Request → Ordering
+request_order r s = judging_order r.0 s.0
+
+abbrev pub waiting_order : Waiting → Waiting → Ordering
+waiting_order v w = judging_order (v.0.0.name, v.0.1) (w.0.0.name, w.0.1)
+
+-- the order of listed files: by name
+abbrev pub entry_order : Entry → Entry → Ordering
+entry_order d e = text_order d.name e.name
+
+-- The rows without a place are those of the .changes that wait, in some order, with what they want.
 abbrev pub AreAsked : Numbered UploadRow → Numbered Want → List Arrived → List Awaited → Type 0
-AreAsked uploads wants arrived awaited = map (request_row wants) (filter (λ x. not (has_place x.1)) uploads) ≡ map (request_among (map printed arrived)) (map awaited_view awaited)
+AreAsked uploads wants arrived awaited = IsPermutation (map (request_row wants) (filter (λ x. not (has_place x.1)) uploads)) (map (request_among (map printed arrived)) (map awaited_view awaited))
+
+-- name and print tell uploads apart
+abbrev pub AreApart : Numbered UploadRow → Type 0
+AreApart uploads = AllPairs (λ u v. sign_in u ≢ sign_in v) (rows_of uploads)
 
 -- Beside these judged ones, the uploads are the .changes that wait for a verdict, with the entries that each lists.
 pub record AreBesides (t : Tables) (judged : List Judgement) : Type 0 where
-  pub waiting : map (request_in t) (filter (λ x. not (has_place x.1)) t.uploads)
-      ≡ map (request_of (arrivals_in t)) (filter (λ c. not (is_judged judged c)) (candidates (arrivals_in t)))
+  pub waiting : IsPermutation (map (request_in t) (filter (λ x. not (has_place x.1)) t.uploads))
+      (map (request_of (arrivals_in t)) (filter (λ c. not (is_judged judged c)) (candidates (arrivals_in t))))
   pub owned : All (λ w. IsTrue (list_any (λ x. nat_eq x.0 w.upload && not (has_place x.1)) t.uploads)) (rows_of t.wants)

@@ -4,10 +4,9 @@
 //! What keys keep is not tested here, since the library checks each key of a file that it opens. The rest is: types beyond STRICT (no
 //! number below zero), and all that the rows mean.
 //!
-//! Uploads without a verdict are in the order of their arrival, what each wants in that of its entries, pieces and the files of an item by
-//! their numbers. An archive's tables in another order are not taken for one. So what was tested is a list, and not one of its
-//! permutations, and each read answers that list. VACUUM and a dump keep these orders. Rows of `texts` and `dates` may stand in any order,
-//! since each is found by its path or its suite: each that has to be there is looked up, and there are as many.
+//! Rows may stand in any order. Those of `texts` and `dates` are found by their path and their suite: each that has to be there is looked up,
+//! and there are as many. Pieces of a body and files of an item are put in the order of their numbers, here and in each read; uploads without a
+//! verdict in the order of judging, and what each wants in that of the names.
 //!
 //! All rows are in memory while they are tested, bodies with their bytes among them: each once, since rows are typed as the query gives
 //! them, and one body more, beside what the library holds.

@@ -12,7 +12,7 @@ ghost use Rattle.std.specs.Prelude.{◌≡◌, None, IfOk, IfSome, List, MatchBo
 ghost use Rattle.keep.specs.declared.change.Judgement.{Judgement as JudgementValue};
 ghost use Rattle.tables_read.specs.All.{AreConstrained, tables_with};
 ghost use Rattle.tables_audit.specs.Parts.{BodiesFit, UploadsFit};
-ghost use Rattle.tables_audit.specs.Uploads.{AreAsked, AreBesides};
+ghost use Rattle.tables_audit.specs.Uploads.{AreApart, AreAsked, AreBesides};
 
 use crate::keyed::Rows;
 use crate::pieces::Pieces;
@@ -25,15 +25,15 @@ use std::alloc::{AllocError, Global};
 use tables_read::AllRows;
 use wanted::{are_owned, are_requests, have_places};
 
-/// Whether the rows without a place are those of the .changes that wait, in their order, with what they want.
+/// Whether the rows without a place are those of the .changes that wait, in some order, with what they want.
 fn are_asked(
     alloc: Global,
     all: &AllRows,
     arrived: &[Arrived<'_>],
-    awaited: &[Awaited<'_>],
+    awaited: Vec<Awaited<'_>>,
 ) -> Result<bool, AllocError>
-    ensures { IfOk result (λ fit. MatchBool fit (AreAsked all.now.uploads.items all.now.wants.items arrived.now awaited.now)
-        (AreAsked all.now.uploads.items all.now.wants.items arrived.now awaited.now → ⊥)) }
+    ensures { AreApart all.now.uploads.items → IfOk result (λ fit. MatchBool fit (AreAsked all.now.uploads.items all.now.wants.items arrived.now awaited.entry.items)
+        (AreAsked all.now.uploads.items all.now.wants.items arrived.now awaited.entry.items → ⊥)) }
 {
     // Where none waits, nothing is looked up among what arrived.
     if awaited.is_empty() {
@@ -41,7 +41,7 @@ fn are_asked(
     }
     let there = There::new(alloc, arrived)?;
     let wants = Rows::new(&all.wants);
-    Ok(are_requests(&all.uploads, &wants, &there, awaited))
+    are_requests(alloc, &all.uploads, &wants, &there, awaited)
 }
 
 /// Whether, beside these judged ones, the rows are those of the .changes that wait for a verdict, with what they want.
@@ -57,7 +57,7 @@ fn are_besides(alloc: Global, all: &AllRows, judged: &[Judgement]) -> Result<boo
     let pieces = Pieces::new(all);
     let verdicts = Verdicts::new(alloc, judged)?;
     let awaited = awaited_among(alloc, &pieces, &verdicts, &arrived)?;
-    if !are_asked(alloc, all, &arrived, &awaited)? {
+    if !are_asked(alloc, all, &arrived, awaited)? {
         return Ok(false);
     }
     let uploads = Rows::new(&all.uploads);

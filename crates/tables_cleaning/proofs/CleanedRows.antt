@@ -3,6 +3,9 @@ use Rattle.std.proofs.Common.{◌≡◌, ◌⊎◌, inl, inr, ℕ, Bool, true, f
 use Rattle.std.specs.List.{AllByRecursion, list_any, cons_option}
 use Rattle.std.proofs.lemmas.Bool.{and_from, and_parts, and_right, eq-eqb, eqb-true, or_cases, or_left, or_right}
 use Rattle.std.proofs.lemmas.List.Elements.{All-contains, All-from_recursion, recursion_from_All}
+use Rattle.std.proofs.lemmas.List.Sorted.{Contains-permutation, IsPermutation-sym}
+use Rattle.sqlite_keyed.specs.Lists.{sort_by as sorted_by}
+use Rattle.sqlite_keyed.proofs.SortLemmas.{IsPermutation-sort_by}
 use Rattle.sqlite_keyed.proofs.ListLemmas.{all-filter, all_weaker, filter_same}
 use Rattle.rules.specs.Values.{ConfigValue}
 use Rattle.sums.specs.Prints.{print as print_of}
@@ -20,7 +23,8 @@ use Rattle.tables.specs.declared.rows.ArrivalRow.{ArrivalRow}
 use Rattle.tables.specs.declared.rows.UploadRow.{UploadRow}
 use Rattle.tables.specs.declared.rows.Want.{Want}
 use Rattle.tables_meaning.specs.Cleaning.{cleaned, counts_row, ended_rows, has_ended, is_current, with_cleaned, with_current, with_gone}
-use Rattle.tables_meaning.specs.Kept.{AreArrivals, AreNumbered, AreStored, AreUploads, IsBook, arrival_in, arrivals_in, bytes_of, has_body, print_at, request_of, sign_in, wanted}
+use Rattle.tables_meaning.specs.Kept.{AreArrivals, AreNumbered, AreStored, AreUploads, IsBook, arrival_in, arrivals_in, bytes_of, has_body, print_at, request_of, sign_in, want_order, wanted}
+use Rattle.tables_meaning.proofs.NumberOrders.{want_order_total}
 use Rattle.tables_meaning.specs.Sweeping.{swept}
 use Rattle.tables_meaning.proofs.AmendedLemmas.{print_is}
 use Rattle.tables_meaning.proofs.BodyLemmas.{all_if, are_stored, list_any-map}
@@ -168,12 +172,17 @@ module _ (t : Tables) (stored : AreStored t) (arrived : AreArrivals t) (seconds 
         let x = any_some (waits_as w.upload) t.uploads owned in
         let parts = and_parts (nat_eq x.0.0 w.upload) (not (has_place x.0.1)) x.2 in
         let waits : Contains (filter is_waiting t.uploads) x.0 = in_filter is_waiting x.0 t.uploads x.1 parts.1 in
-        let asked = subst (λ rs. Contains rs (request (rows_of t.wants) x.0)) rows.waiting (contains_map (request (rows_of t.wants)) x.0 (filter is_waiting t.uploads) waits) in
+        let asked = Contains-permutation _ _ (request (rows_of t.wants) x.0) rows.waiting (contains_map (request (rows_of t.wants)) x.0 (filter is_waiting t.uploads) waits) in
         let from = from_map (request_of (arrivals_in t)) (request (rows_of t.wants) x.0) (filter (λ d. not (is_judged judged d)) (candidates (arrivals_in t))) asked in
         let mine : is_wanted_by x.0.0 w ≡ true = is_numbered_turned w.upload x.0.0 ∙ parts.0 in
         let entry : Contains (wants_of (rows_of t.wants) x.0.0) (entry_in w) =
         contains_map entry_in w (filter (is_wanted_by x.0.0) (rows_of t.wants)) (in_filter (is_wanted_by x.0.0) w (rows_of t.wants) c mine) in
-        let listed : Contains (map (wanted (arrivals_in t)) from.0.changes.entries) (entry_in w) = subst (λ l. Contains l (entry_in w)) (sym (ap (λ r. r.1) from.2)) entry in
+        let mine_sorted = Contains-permutation (wants_of (rows_of t.wants) x.0.0) (sorted_by want_order (wants_of (rows_of t.wants) x.0.0)) (entry_in w)
+        (IsPermutation-sym _ _ (IsPermutation-sort_by want_order want_order_total (wants_of (rows_of t.wants) x.0.0))) entry in
+        let all_asked = map (wanted (arrivals_in t)) from.0.changes.entries in
+        let listed : Contains all_asked (entry_in w) =
+        Contains-permutation (sorted_by want_order all_asked) all_asked (entry_in w) (IsPermutation-sort_by want_order want_order_total all_asked)
+        (subst (λ l. Contains l (entry_in w)) (sym (ap (λ r. r.1) from.2)) mine_sorted) in
         let e = from_map (wanted (arrivals_in t)) (entry_in w) from.0.changes.entries listed in
         sym (ap (λ v. v.2) e.2)
         ∙ there_by t stored arrived seconds moment e.0

@@ -3,8 +3,12 @@ use Rattle.std.proofs.Common.{◌≡◌, ◌≢◌, ℕ, ◌+◌, Bool, true, fa
 use Rattle.std.specs.List.{AllByRecursion, filter_map, list_any, cons_option}
 use Rattle.std.specs.Option.{option_map_or}
 use Rattle.std.proofs.lemmas.Bool.{and_from, and_parts, and_right, eqb-true, not_from_false}
+use Rattle.std.specs.List.Sorted.{IsPermutation}
 use Rattle.std.proofs.lemmas.List.Elements.{recursion_from_All}
-use Rattle.sqlite_keyed.proofs.ListLemmas.{all-filter, all_map, all_of, all_weaker, ascending-filter, filter-filter, filter-map, filter_same, map-map, map_same}
+use Rattle.std.proofs.lemmas.List.Sorted.{IsPermutation-map, IsPermutation-trans}
+use Rattle.sqlite_keyed.specs.Lists.{sort_by as sorted_by}
+use Rattle.sqlite_keyed.proofs.SortLemmas.{sort_by-map}
+use Rattle.sqlite_keyed.proofs.ListLemmas.{IsPermutation-filter, IsPermutation-same, all-filter, all_map, all_of, all_weaker, ascending-filter, filter-filter, filter-map, filter_same, map-map, map_same}
 use Rattle.sums.specs.Prints.{print as print_of}
 use Rattle.sums.specs.declared.entries.Entry.{Entry}
 use Rattle.sums.specs.declared.print.Print.{Print}
@@ -20,7 +24,7 @@ use Rattle.tables.specs.declared.rows.ArrivalRow.{ArrivalRow}
 use Rattle.tables.specs.declared.rows.UploadRow.{UploadRow}
 use Rattle.tables.specs.declared.rows.Want.{Want}
 use Rattle.tables_meaning.specs.Cleaning.{has_ended, is_current, with_current}
-use Rattle.tables_meaning.specs.Kept.{AreArrivals, AreStored, AreUploads, Request, arrival_in, arrivals_in, bytes_of, is_placed, request_of, sign_in, wanted}
+use Rattle.tables_meaning.specs.Kept.{AreArrivals, AreStored, AreUploads, Request, arrival_in, arrivals_in, bytes_of, is_placed, request_of, sign_in, want_order, wanted}
 use Rattle.tables_meaning.proofs.ArrivalLemmas.{counts_as}
 use Rattle.tables_meaning.proofs.BodyLemmas.{all_if}
 use Rattle.tables_meaning.proofs.RequestLemmas.{requests, rows_from_uploads, sign_made, uploads_from_rows}
@@ -193,7 +197,7 @@ module _ (t : Tables) (seconds : Option ℕ) (moment : ℕ) where
     asked_rows =
         all-filter IsAsked is_waiting t.uploads
         (all_weaker (λ x. has_gone x.0 ≡ ended x.1) IsAsked
-        (λ x one. (refl, λ e. ap (λ l. (sign_in x.1, l)) (wants_then x.0 (one ∙ not_ended x.1 e) (rows_of t.wants)))) t.uploads
+        (λ x one. (refl, λ e. ap (λ l. (sign_in x.1, l)) (ap (sorted_by want_order) (wants_then x.0 (one ∙ not_ended x.1 e) (rows_of t.wants)) ∙ sort_by-map want_order (fresh_entry keep) (wants_of (rows_of t.wants) x.0)))) t.uploads
         (only_one (λ x. ended x.1) t.uploads up))
 
     -- ---- the candidates
@@ -202,7 +206,7 @@ module _ (t : Tables) (seconds : Option ℕ) (moment : ℕ) where
     IsChosen c = (keep (sign_of c) ≡ keep (request_of all c).0) × (keep (sign_of c) ≡ true → request_of some c ≡ fresh keep (request_of all c))
 
     asked_candidates : AllByRecursion IsChosen (filter unjudged (candidates all))
-    asked_candidates = all_of IsChosen (λ c. (refl, λ e. ap (λ l. (sign_of c, l)) (entries c.changes.entries))) (filter unjudged (candidates all))
+    asked_candidates = all_of IsChosen (λ c. (refl, λ e. ap (λ l. (sign_of c, l)) (ap (sorted_by want_order) (entries c.changes.entries) ∙ sort_by-map want_order (fresh_entry keep) (map (wanted all) c.changes.entries)))) (filter unjudged (candidates all))
       where
         entries : (es : List Entry) → map (wanted some) es ≡ map (fresh_entry keep) (map (wanted all) es)
         entries es =
@@ -231,13 +235,17 @@ module _ (t : Tables) (seconds : Option ℕ) (moment : ℕ) where
         filter_turned (λ c. keep (sign_of c)) unjudged (candidates all)
         ∙ ap (filter unjudged) (sym (candidates-filter candidate_of (counts seconds moment) (λ c. keep (sign_of c)) all told))
 
-    waiting_then : map (request wants) (filter is_waiting left) ≡ requests some judged
+    waiting_then : IsPermutation (map (request wants) (filter is_waiting left)) (requests some judged)
     waiting_then =
-        ap (map (request wants)) waiting_left
-        ∙ recounted keep (request (rows_of t.wants)) (request wants) (λ x. cur x.1.name x.1.print) (filter is_waiting t.uploads) asked_rows
-        ∙ ap (λ rs. map (fresh keep) (filter (λ r. keep r.0) rs)) rows.waiting
-        ∙ sym (recounted keep (request_of all) (request_of some) (λ c. keep (sign_of c)) (filter unjudged (candidates all)) asked_candidates)
-        ∙ ap (map (request_of some)) candidates_left
+        IsPermutation-trans _ _ _
+        (IsPermutation-same _ _
+        (ap (map (request wants)) waiting_left
+        ∙ recounted keep (request (rows_of t.wants)) (request wants) (λ x. cur x.1.name x.1.print) (filter is_waiting t.uploads) asked_rows))
+        (IsPermutation-trans _ _ _
+        (IsPermutation-map (fresh keep) _ _ (IsPermutation-filter (λ r. keep r.0) _ _ rows.waiting))
+        (IsPermutation-same _ _
+        (sym (recounted keep (request_of all) (request_of some) (λ c. keep (sign_of c)) (filter unjudged (candidates all)) asked_candidates)
+        ∙ ap (map (request_of some)) candidates_left)))
 
     -- ---- the other facts
 

@@ -1,5 +1,6 @@
 -- The first rows of an archive are those of one in which nothing is yet.
 use Rattle.std.proofs.Common.{◌≡◌, ◌≤◌, ℕ, true, Ok, List, [], ◌∷◌, ◌++◌, map, fold, length, None, option_map, append_assoc, refl, sym, ap, subst, ◌∙◌, arith}
+use Rattle.std.proofs.lemmas.List.Sorted.{IsPermutation-refl}
 use Rattle.std.specs.FinMap.{empty, entries, get, get-empty, len-empty, len-entries}
 use Rattle.std.proofs.lemmas.List.{map-append, append-nil, length-replicate}
 use Rattle.std.proofs.lemmas.List.Elements.{All-nil, All-replicate}
@@ -117,7 +118,7 @@ module _ (config : ConfigValue) (meta : Numbered Meta) (texts : Numbered TextRow
   no_uploads : AreUploads (first_rows meta texts dates) []
   unfolding arrivals_in
   no_uploads = record {
-    waiting = refl;
+    waiting = IsPermutation-refl [];
     owned = All-nil _;
     unjudged = All-nil _;
     places = λ n. refl;

@@ -6,7 +6,10 @@ use Rattle.std.proofs.lemmas.List.Folds.{list_any-append, list_any-from_Any}
 use Rattle.std.proofs.lemmas.Bool.{and_parts, and_right, both_ways, eq-eqb, eqb-true, false_from_ne_true, ne_eqb, not-true}
 use Rattle.std.proofs.lemmas.List.Elements.{filter_passes, recursion_from_All}
 use Rattle.sqlite_trees.specs.Tree.{IsAscending}
-use Rattle.sqlite_keyed.proofs.ListLemmas.{all-filter, all_map, all_unmap, all_weaker, ascending-map, ascending_weaker, filter-map, filter-filter, filter_same, map-map}
+use Rattle.std.specs.List.Sorted.{IsPermutation}
+use Rattle.std.proofs.lemmas.List.Sorted.{IsPermutation-trans}
+use Rattle.sqlite_keyed.specs.Lists.{sort_by as sorted_by}
+use Rattle.sqlite_keyed.proofs.ListLemmas.{IsPermutation-filter, IsPermutation-same, all-filter, all_map, all_unmap, all_weaker, ascending-map, ascending_weaker, filter-map, filter-filter, filter_same, map-map}
 use Rattle.rules.specs.Verdicts.{number_of}
 use Rattle.keep.proofs.Finds.{none_is}
 use Rattle.keep.specs.Book.{Candidate, candidates, is_judged}
@@ -19,7 +22,7 @@ use Rattle.tables.specs.Wants.{is_wanted_by, without_wants}
 use Rattle.tables.specs.declared.rows.ArrivalRow.{ArrivalRow}
 use Rattle.tables.specs.declared.rows.UploadRow.{UploadRow}
 use Rattle.tables.specs.declared.rows.Want.{Want}
-use Rattle.tables_meaning.specs.Kept.{AreNumbered, AreUploads, Request, arrivals_in, bytes_of, is_placed, judged_row, pieces_among, request_of, sign_in}
+use Rattle.tables_meaning.specs.Kept.{AreNumbered, AreUploads, Request, arrivals_in, bytes_of, is_placed, judged_row, pieces_among, request_of, sign_in, want_order}
 use Rattle.tables_meaning.specs.Making.{with_judged}
 use Rattle.tables_meaning.proofs.StepLemmas.{rises_changed}
 use Rattle.tables_meaning.proofs.RowLists.{found_passes, found_holds, none_passes, all_filtered}
@@ -140,16 +143,18 @@ module _ (uploads : Numbered UploadRow) (wants : List Want) (verdicts : List Jud
   -- the wants of another upload stay
   wants_left : (x : ℕ × UploadRow) → nat_eq x.0 one.0 ≡ false → request left (turn x) ≡ request wants x
   wants_left x apart =
-      rw apart (ap (λ l. (sign_in x.1, map entry_in l)) (filter-filter (is_wanted_by x.0) (λ w. not (is_wanted_by one.0 w)) (λ w e. implied w e (is_wanted_by one.0 w) refl) wants))
+      rw apart (ap (λ l. (sign_in x.1, sorted_by want_order (map entry_in l))) (filter-filter (is_wanted_by x.0) (λ w. not (is_wanted_by one.0 w)) (λ w e. implied w e (is_wanted_by one.0 w) refl) wants))
     where
       implied : (w : Want) → is_wanted_by x.0 w ≡ true → (b : Bool) → is_wanted_by one.0 w ≡ b → not b ≡ true
       implied w e true f = absurd (both_ways (nat_eq x.0 one.0) apart (eq-eqb x.0 one.0 (sym (eqb-true w.upload x.0 e) ∙ eqb-true w.upload one.0 f)))
       implied w e false f = refl
 
-  waiting_then : map (request left) (filter is_waiting (map turn uploads)) ≡ filter (λ r. not (is_sign s r.0)) requests
+  waiting_then : IsPermutation (map (request left) (filter is_waiting (map turn uploads))) (filter (λ r. not (is_sign s r.0)) requests)
   waiting_then =
       let others = filter (λ x. not (nat_eq x.0 one.0)) (filter is_waiting uploads) in
-      ap (map (request left)) (filter-map is_waiting turn uploads ∙ ap (map turn) (filter_same (λ x. is_waiting (turn x)) (λ x. is_waiting x && not (nat_eq x.0 one.0)) still_waiting uploads
+      IsPermutation-trans _ _ _
+      (IsPermutation-same _ _
+      (ap (map (request left)) (filter-map is_waiting turn uploads ∙ ap (map turn) (filter_same (λ x. is_waiting (turn x)) (λ x. is_waiting x && not (nat_eq x.0 one.0)) still_waiting uploads
       ∙ filter_twice is_waiting (λ x. not (nat_eq x.0 one.0)) uploads))
       ∙ map-map (request left) turn others
       ∙ map_same_on (λ x. request left (turn x)) (request wants) others
@@ -158,8 +163,8 @@ module _ (uploads : Numbered UploadRow) (wants : List Want) (verdicts : List Jud
       ∙ ap (map (request wants)) (filter_same_on (λ x. not (nat_eq x.0 one.0)) (λ x. not (is_sign s (sign_in x.1))) (filter is_waiting uploads)
       (all-filter (λ x. not (nat_eq x.0 one.0) ≡ not (is_sign s (sign_in x.1))) is_waiting uploads
       (all_weaker (IsOne s one) (λ x. not (nat_eq x.0 one.0) ≡ not (is_sign s (sign_in x.1))) (λ x h. ap not h.test) uploads ones)))
-      ∙ sym (filter-map (λ r. not (is_sign s r.0)) (request wants) (filter is_waiting uploads))
-      ∙ ap (filter (λ r. not (is_sign s r.0))) are.waiting
+      ∙ sym (filter-map (λ r. not (is_sign s r.0)) (request wants) (filter is_waiting uploads))))
+      (IsPermutation-filter (λ r. not (is_sign s r.0)) _ _ are.waiting)
 
   owned_then : AllByRecursion (λ w. list_any (waits_as w.upload) (map turn uploads) ≡ true) left
   owned_then =

@@ -15,6 +15,7 @@ use Rattle.keep.specs.declared.change.Judgement.{Judgement}
 use Rattle.keep.specs.declared.change.Step.{Step}
 use Rattle.tables.specs.Rows.{Rises, Tables, rows_of}
 use Rattle.tables_meaning.specs.Kept.{AreNumbered, AreUploads, Request, arrivals_in, request_of, sign_in}
+use Rattle.tables_meaning.proofs.Orders.{pairs_permuted}
 use Rattle.tables_meaning.specs.Planned.{KeepsOthers}
 use Rattle.tables_meaning.specs.Making.{with_judged, with_plan, with_step, with_steps}
 use Rattle.tables_meaning.proofs.PlanLemmas.{plan_keeps}
@@ -219,7 +220,7 @@ waiting_differ : (t : Tables) (judged : List Judgement) → AreUploads t judged 
 waiting_differ t judged are =
     let rows = rows_from_uploads t judged are in
     ascending_from_map (λ r q. r.0 ≢ q.0) (request_of (arrivals_in t)) (waiting (arrivals_in t) judged)
-    (subst (IsAscending (λ (r q : Request). r.0 ≢ q.0)) rows.waiting
+    (pairs_permuted (λ (r q : Request). r.0 ≢ q.0) (λ r q h e. h (sym e)) _ _ rows.waiting
     (ascending-map (λ r q. r.0 ≢ q.0) (request (rows_of t.wants)) (filter is_waiting t.uploads) (ascending-filter (λ x y. sign_in x.1 ≢ sign_in y.1) is_waiting t.uploads rows.apart)))
 
 -- The uploads after the steps of a change whose judged uploads are the first of those that are due among some of the arrivals.

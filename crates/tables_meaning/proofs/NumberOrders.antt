@@ -1,4 +1,4 @@
--- Pieces and files of items in the order of their numbers.
+-- Pieces and files of items in the order of their numbers, and what uploads want in that of the names.
 use Rattle.std.proofs.Common.{◌≡◌, ◌⊎◌, inl, inr, ℕ, zero, suc, ◌+◌, ◌<◌, ◌≤◌, Bool, true, false, cond, not, ◌&&◌, ◌==◌, nat_eq, nat_lt, List, [], ◌∷◌, map, filter, find, slice_get, All, Contains, refl, sym, ap, ap₂, ◌∙◌, arith}
 use Rattle.std.specs.Cmp.{IsTotalOrder}
 use Rattle.std.specs.List.{AllByRecursion, enumerate_from, range_with_len}
@@ -11,10 +11,11 @@ use Rattle.std.proofs.lemmas.List.Elements.{filter_agree}
 use Rattle.sqlite_trees.specs.Tree.{IsAscending}
 use Rattle.sqlite_keyed.specs.Lists.{sort_by as sorted_by}
 use Rattle.sqlite_keyed.proofs.ListLemmas.{ascending-map, ascending_weaker, slice_get-filter}
+use Rattle.suites.specs.KeyLemmas.{text_order_total}
 use Rattle.suites.specs.declared.item.Item as shelf
 use Rattle.tables.specs.declared.rows.Piece.{Piece}
 use Rattle.tables.specs.declared.rows.Ref.{Ref}
-use Rattle.tables_meaning.specs.Kept.{piece_count, piece_order, pieces_for, ref_order, refs_for}
+use Rattle.tables_meaning.specs.Kept.{piece_count, piece_order, pieces_for, ref_order, refs_for, want_order}
 use Rattle.tables_meaning.proofs.Orders.{sorted_rising}
 use Rattle.tables_meaning.proofs.SortedLemmas.{stays_sorted}
 
@@ -66,6 +67,9 @@ piece_order_total = on_total (λ p. p.number) nat_cmp_total
 
 pub ref_order_total : IsTotalOrder ref_order
 ref_order_total = on_total (λ r. r.number) nat_cmp_total
+
+pub want_order_total : IsTotalOrder want_order
+want_order_total = on_total (λ w. w.0) text_order_total
 
 -- the pieces of a body that is written are in their order
 pub pieces_in_order : (id : ℕ) (bytes : List ℕ) → sorted_by piece_order (pieces_for id bytes) ≡ pieces_for id bytes

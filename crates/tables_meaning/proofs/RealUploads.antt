@@ -1,11 +1,14 @@
 -- The rows of bodies, arrivals, uploads and what these want can be held.
-use Rattle.std.proofs.Common.{◌≡◌, ◌≢◌, ℕ, zero, suc, ◌+◌, Bool, true, false, not, ◌&&◌, if◌then◌else◌, List, [], ◌∷◌, filter, find, Option, Some, None, Result, Ok, Err, IfSome, All, IsTrue, is_some, ◌≤◌, refl, sym, ap, subst, ◌∙◌, arith, nat_eq, slice_get, get_or}
+use Rattle.std.proofs.Common.{◌≡◌, ◌≢◌, ℕ, zero, suc, ◌+◌, Bool, true, false, not, ◌&&◌, if◌then◌else◌, List, [], ◌∷◌, map, filter, find, Option, Some, None, Result, Ok, Err, IfSome, All, IsTrue, is_some, ◌≤◌, refl, sym, ap, subst, ◌∙◌, arith, nat_eq, slice_get, get_or}
 use Rattle.std.specs.Prelude.{Contains}
 use Rattle.std.specs.List.{AllByRecursion, cons_option, list_any}
 use Rattle.std.specs.Option.{option_map, option_map_or}
 use Rattle.std.specs.Result.{result_ok}
 use Rattle.std.proofs.lemmas.Bool.{and_parts, both_ways, eq-eqb, eqb-true}
 use Rattle.std.proofs.lemmas.List.Elements.{All-from_recursion, Contains-get_or, recursion_from_All}
+use Rattle.std.proofs.lemmas.List.Sorted.{Contains-permutation, IsPermutation-sym}
+use Rattle.sqlite_keyed.specs.Lists.{sort_by as sorted_by}
+use Rattle.sqlite_keyed.proofs.SortLemmas.{IsPermutation-sort_by}
 use Rattle.std.proofs.lemmas.Option.{same_Some, slice_get_within, slice_get-get_or}
 use Rattle.records.proofs.RecordRead.{changes_of_read}
 use Rattle.records.specs.Records.{changes_in}
@@ -29,7 +32,8 @@ use Rattle.tables.specs.Uploads.{is_judged as has_place}
 use Rattle.tables.specs.Wants.{is_wanted_by}
 use Rattle.tables.specs.declared.rows.UploadRow.{UploadRow}
 use Rattle.tables.specs.declared.rows.Want.{Want}
-use Rattle.tables_meaning.specs.Kept.{AreArrivals, AreBodies, AreSigned, AreUploads, IsSigned, arrival_in, arrivals_in, bytes_of, is_placed, judged_row, request_in, request_of, wanted, wants_in}
+use Rattle.tables_meaning.specs.Kept.{AreArrivals, AreBodies, AreSigned, AreUploads, IsSigned, arrival_in, arrivals_in, bytes_of, is_placed, judged_row, request_in, request_of, want_order, wanted, wants_in}
+use Rattle.tables_meaning.proofs.NumberOrders.{want_order_total}
 use Rattle.tables_meaning.proofs.AsciiLemmas.{ascii-IsUtf8, file_name_ascii}
 use Rattle.tables_meaning.proofs.BodyLemmas.{apart_same, found, none_found}
 use Rattle.tables_meaning.proofs.Searches.{all_in_rows}
@@ -85,7 +89,7 @@ module _ (t : Tables) (judged : List Judgement) (arrivals : AreArrivals t) (uplo
   waiting_is : (x : ℕ × UploadRow) → Contains t.uploads x → has_place x.1 ≡ false → IsOf x
   waiting_is x at unplaced =
       let waits = contains_map (request_in t) x (filter (λ y. not (has_place y.1)) t.uploads) (to_filter (λ y. not (has_place y.1)) x t.uploads at (ap not unplaced)) in
-      let from = from_map (request_of (arrivals_in t)) (request_in t x) (filter (λ c. not (is_judged judged c)) (candidates (arrivals_in t))) (subst (λ rs. Contains rs (request_in t x)) uploads.waiting waits) in
+      let from = from_map (request_of (arrivals_in t)) (request_in t x) (filter (λ c. not (is_judged judged c)) (candidates (arrivals_in t))) (Contains-permutation _ _ (request_in t x) uploads.waiting waits) in
       let all = All-from_recursion IsRead (candidates (arrivals_in t)) (read_candidates (arrivals_in t) (recursion_from_All (λ a. IsDeliverable a.name a.body × (a.moment ≤ latest)) (arrivals_in t) arrivals.deliverable)) in
       record {
         of = from.0;
@@ -107,8 +111,14 @@ module _ (t : Tables) (judged : List Judgement) (arrivals : AreArrivals t) (uplo
   unfolding wants_in
   wants_real x is w at its =
       let entries = is.of.changes.entries in
-      let listed : Contains (wants_in t x.0) (w.name, w.print, w.here) = contains_map (λ v. (v.name, v.print, v.here)) w (filter (is_wanted_by x.0) (rows_of t.wants)) (to_filter (is_wanted_by x.0) w (rows_of t.wants) at its) in
-      let from = from_map (wanted (arrivals_in t)) (w.name, w.print, w.here) entries (subst (λ ws. Contains ws (w.name, w.print, w.here)) (sym (ap (λ r. r.1) is.request)) listed) in
+      let rows = map (λ (v : Want). (v.name, v.print, v.here)) (filter (is_wanted_by x.0) (rows_of t.wants)) in
+      let asked = map (wanted (arrivals_in t)) entries in
+      let listed : Contains (wants_in t x.0) (w.name, w.print, w.here) =
+      Contains-permutation rows (sorted_by want_order rows) (w.name, w.print, w.here) (IsPermutation-sym _ _ (IsPermutation-sort_by want_order want_order_total rows))
+      (contains_map (λ v. (v.name, v.print, v.here)) w (filter (is_wanted_by x.0) (rows_of t.wants)) (to_filter (is_wanted_by x.0) w (rows_of t.wants) at its)) in
+      let from = from_map (wanted (arrivals_in t)) (w.name, w.print, w.here) entries
+      (Contains-permutation (sorted_by want_order asked) asked (w.name, w.print, w.here) (IsPermutation-sort_by want_order want_order_total asked)
+      (subst (λ ws. Contains ws (w.name, w.print, w.here)) (sym (ap (λ r. r.1) is.request)) listed)) in
       let file = all_at (IsFile Changes) entries from.0 (changes_of_read is.of.body is.of.changes is.read.changes).made.entries.listed.each from.1 in
       let name : from.0.name ≡ w.name = ap (λ v. v.0) from.2 in
       let print : from.0.print ≡ w.print = ap (λ v. v.1) from.2 in

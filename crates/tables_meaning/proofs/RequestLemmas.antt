@@ -8,7 +8,10 @@ use Rattle.std.proofs.lemmas.List.{map-append}
 use Rattle.std.proofs.lemmas.List.Elements.{All-from_recursion, filter-append, filter_map-append, recursion_from_All}
 use Rattle.std.proofs.lemmas.List.Folds.{list_any-append}
 use Rattle.std.proofs.lemmas.Slice.Eq.{bytes_eq-Decides}
+use Rattle.std.specs.List.Sorted.{IsPermutation}
+use Rattle.sqlite_keyed.specs.Lists.{sort_by as sorted_by}
 use Rattle.sqlite_keyed.proofs.ListLemmas.{map-map, map_same}
+use Rattle.sqlite_keyed.proofs.SortLemmas.{sort_by-map}
 use Rattle.records.specs.Records.{changes_in}
 use Rattle.records.specs.Values.{ChangesValue}
 use Rattle.sums.specs.Prints.{print as print_of, same_print}
@@ -21,9 +24,9 @@ use Rattle.keep.specs.declared.change.Judgement.{Judgement}
 use Rattle.tables.specs.Rows.{Numbered, Tables, rows_of}
 use Rattle.tables.specs.declared.rows.UploadRow.{UploadRow}
 use Rattle.tables.specs.declared.rows.Want.{Want}
-use Rattle.tables_meaning.specs.Kept.{AreUploads, Request, arrivals_in, request_of, sign_in, wanted, wants_in}
+use Rattle.tables_meaning.specs.Kept.{AreUploads, Request, arrivals_in, request_of, sign_in, want_order, wanted, wants_in}
 use Rattle.tables_meaning.proofs.Searches.{same_tests, all_of_rows, all_in_rows, pairs_of_rows, pairs_in_rows, list_any-map, list_any-filter, any_same, any_weaker}
-use Rattle.tables_meaning.proofs.WantLemmas.{Sign, is_sign, is_sign-Decides, is_sign-turned, AreRows, marked_entry, marked_request, or_false}
+use Rattle.tables_meaning.proofs.WantLemmas.{Sign, is_sign, is_sign-Decides, is_sign-turned, AreRows, is_waiting, marked_entry, marked_request, or_false, request}
 
 -- ---- the uploads as rows and requests
 
@@ -59,7 +62,7 @@ uploads_from_rows t judged h =
     let one : AreRows t.uploads h.wants judged h.asked = subst (λ us. AreRows us h.wants judged h.asked) (sym h.uploads_are) h.are in
     let two : AreRows t.uploads (rows_of t.wants) judged h.asked = subst (λ ws. AreRows t.uploads ws judged h.asked) (sym h.wants_are) one in
     record {
-      waiting = two.waiting ∙ sym h.asked_are;
+      waiting = subst (IsPermutation (map (request (rows_of t.wants)) (filter is_waiting t.uploads))) (sym h.asked_are) two.waiting;
       owned = All-from_recursion (λ w. IsTrue (list_any (λ x. nat_eq x.0 w.upload && not (is_some x.1.place)) t.uploads)) (rows_of t.wants) two.owned;
       unjudged = all_in_rows (λ u. u.place ≡ None → u.verdict ≡ None) t.uploads two.unjudged;
       places = two.places;
@@ -131,8 +134,10 @@ sign_at a = (a.name, print_of a.body)
 pub request_with : (arrivals : List Arrival) (a : Arrival) (c : Candidate) → request_of (with_arrival arrivals a) c ≡ marked_request (sign_at a) (request_of arrivals c)
 request_with arrivals a c =
     ap (λ l. (sign_of c, l))
+    (ap (sorted_by want_order)
     (map_same (wanted (with_arrival arrivals a)) (λ e. marked_entry (sign_at a) (wanted arrivals e)) (λ e. ap (λ h. (e.name, e.print, h)) (there_with arrivals a e ∙ ap (λ b. is_there arrivals e || b) (body_sign e a))) c.changes.entries
     ∙ sym (map-map (marked_entry (sign_at a)) (wanted arrivals) c.changes.entries))
+    ∙ sort_by-map want_order (marked_entry (sign_at a)) (map (wanted arrivals) c.changes.entries))
 
 -- ---- which requests wait after an arrival
 

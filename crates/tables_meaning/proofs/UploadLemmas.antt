@@ -6,6 +6,7 @@ use Rattle.std.specs.Result.{result_ok}
 use Rattle.std.proofs.lemmas.Bool.{both_ways, eqb-true, or_from, or_left, or_right}
 use Rattle.std.proofs.lemmas.List.{map-append}
 use Rattle.std.proofs.lemmas.List.Elements.{recursion_from_All}
+use Rattle.sqlite_keyed.specs.Lists.{sort_by as sorted_by}
 use Rattle.sqlite_keyed.proofs.ListLemmas.{all_map, all_weaker, map_same}
 use Rattle.records.specs.Records.{changes_in}
 use Rattle.records.specs.Values.{ChangesValue}
@@ -27,7 +28,7 @@ use Rattle.tables.specs.declared.rows.ArrivalRow.{ArrivalRow}
 use Rattle.tables.specs.declared.rows.Piece.{Piece}
 use Rattle.tables.specs.declared.rows.UploadRow.{UploadRow}
 use Rattle.tables.specs.declared.rows.Want.{Want}
-use Rattle.tables_meaning.specs.Kept.{AreArrivals, AreBodies, AreNumbered, AreUploads, arrivals_in, arrival_in, bytes_of, has_body, pieces_for, request_of, sign_in, wanted, Request}
+use Rattle.tables_meaning.specs.Kept.{AreArrivals, AreBodies, AreNumbered, AreUploads, arrivals_in, arrival_in, bytes_of, has_body, pieces_for, request_of, sign_in, want_order, wanted, Request}
 use Rattle.tables_meaning.specs.Making.{is_here, number_with, with_arrived, with_bytes, with_delivered, with_pieces, with_requested, with_wants}
 use Rattle.tables_meaning.proofs.BodyLemmas.{are_stored, by_number, of_no_print}
 use Rattle.tables_meaning.proofs.Searches.{list_any-map}
@@ -228,7 +229,7 @@ module _ (t : Tables) (judged : List Judgement) (name bytes : List ℕ) (moment 
           uploads_from_rows new judged (record {
             uploads = added t.uploads (new_upload s);
             wants = map (marked_want name print) (rows_of t.wants) ++ map (new_want (next_in t.uploads)) es;
-            asked = asked ++ (s, es) ∷ [];
+            asked = asked ++ (s, sorted_by want_order es) ∷ [];
             are = with_one_more t.uploads (map (marked_want name print) (rows_of t.wants)) judged asked s es numbered.uploads rows_marked absent;
             uploads_are =
                 ap (λ x. x.uploads) made_new ∙ wants_uploads (next_in marked.uploads) entries put
@@ -241,7 +242,7 @@ module _ (t : Tables) (judged : List Judgement) (name bytes : List ℕ) (moment 
             asked_are =
                 asked_then
                 ∙ ap (λ cs. asked ++ map (request_of (with_arrival (arrivals_in t) arrival)) cs) one
-                ∙ ap₂ (λ r l. asked ++ (r, l) ∷ []) (sign_made arrival c made arrival c made)
+                ∙ ap₂ (λ r l. asked ++ (r, sorted_by want_order l) ∷ []) (sign_made arrival c made arrival c made)
                 (map_same (wanted (with_arrival (arrivals_in t) arrival)) (entry_here marked) (λ e. ap (λ h. (e.name, e.print, h)) (sym (here_marked e))) entries);
           })
 

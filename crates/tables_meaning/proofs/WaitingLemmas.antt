@@ -1,7 +1,10 @@
 -- What the uploads that are not judged wait for, as the book has it and as the tables do.
 use Rattle.std.proofs.Common.{◌≡◌, ℕ, Bool, not, List, map, filter, length, ap, sym, ◌∙◌}
 use Rattle.std.proofs.lemmas.List.{length-map}
-use Rattle.sqlite_keyed.proofs.ListLemmas.{filter-map, map-map, map_same}
+use Rattle.std.proofs.lemmas.List.Sorted.{IsPermutation-sym, length_permutation}
+use Rattle.sqlite_keyed.specs.Lists.{sort_by as sorted_by}
+use Rattle.sqlite_keyed.proofs.ListLemmas.{IsPermutation-filter, filter-map, map-map, map_same}
+use Rattle.sqlite_keyed.proofs.SortLemmas.{IsPermutation-sort_by}
 use Rattle.sums.specs.declared.print.Print.{Print}
 use Rattle.keep.specs.Book.{Book, Candidate, is_there, missing, unjudged, waiting_list}
 use Rattle.keep.specs.declared.arrival.Arrival.{Arrival}
@@ -9,25 +12,34 @@ use Rattle.keep.specs.declared.change.Waiting.{Waiting}
 use Rattle.tables.specs.Rows.{Rises, Tables, rows_of}
 use Rattle.tables.specs.Wants.{is_wanted_by}
 use Rattle.tables.specs.declared.rows.Want.{Want}
-use Rattle.tables_meaning.specs.Kept.{AreUploads, arrivals_in, request_in, request_of, wanted, wants_in}
+use Rattle.tables_meaning.specs.Kept.{AreUploads, arrivals_in, request_in, request_of, want_order, wanted, wants_in}
 use Rattle.tables_meaning.specs.Reads.{missing_in, wanting_rows, waiting_in}
+use Rattle.tables_meaning.proofs.NumberOrders.{want_order_total}
 use Rattle.tables_meaning.proofs.OrderLemmas.{unjudged_requests}
 
 -- how many have not arrived
 pub missing_wants : List (List ℕ × Print × Bool) → ℕ
 missing_wants wants = length (filter (λ w. not w.2) wants)
 
+-- their order does not tell
+as_many : (wants : List (List ℕ × Print × Bool)) → missing_wants (sorted_by want_order wants) ≡ missing_wants wants
+unfolding missing_wants
+as_many wants =
+    length_permutation (filter (λ w. not w.2) wants) (filter (λ w. not w.2) (sorted_by want_order wants))
+    (IsPermutation-filter (λ w. not w.2) _ _ (IsPermutation-sym _ _ (IsPermutation-sort_by want_order want_order_total wants)))
+
 pub missing_in-wants : (t : Tables) (id : ℕ) → missing_in t id ≡ missing_wants (wants_in t id)
 unfolding missing_in missing_wants wants_in
 missing_in-wants t id =
     let wants = filter (is_wanted_by id) (rows_of t.wants) in
     let shown : Want → List ℕ × Print × Bool = λ w. (w.name, w.print, w.here) in
-    sym (length-map (filter (λ w. not w.here) wants) shown) ∙ ap length (sym (filter-map (λ w. not w.2) shown wants))
+    sym (length-map (filter (λ w. not w.here) wants) shown) ∙ ap length (sym (filter-map (λ w. not w.2) shown wants)) ∙ sym (as_many (map shown wants))
 
-pub missing-wants : (arrivals : List Arrival) (c : Candidate) → length (missing arrivals c) ≡ missing_wants (map (wanted arrivals) c.changes.entries)
+pub missing-wants : (arrivals : List Arrival) (c : Candidate) → length (missing arrivals c) ≡ missing_wants (request_of arrivals c).1
 unfolding missing missing_wants
 missing-wants arrivals c =
     sym (length-map (filter (λ e. not (is_there arrivals e)) c.changes.entries) (wanted arrivals)) ∙ ap length (sym (filter-map (λ w. not w.2) (wanted arrivals) c.changes.entries))
+    ∙ sym (as_many (map (wanted arrivals) c.changes.entries))
 
 -- what a request waits for
 abbrev waiting_for : (List ℕ × Print) × List (List ℕ × Print × Bool) → Waiting

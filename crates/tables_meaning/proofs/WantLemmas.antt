@@ -8,8 +8,12 @@ use Rattle.std.proofs.lemmas.List.{map-append}
 use Rattle.std.proofs.lemmas.List.Folds.{find-append, list_any-append}
 use Rattle.std.proofs.lemmas.List.Elements.{filter-append}
 use Rattle.std.proofs.lemmas.Slice.Eq.{bytes_eq-Decides}
+use Rattle.std.specs.List.Sorted.{IsPermutation}
+use Rattle.std.proofs.lemmas.List.Sorted.{IsPermutation-append_left, IsPermutation-map, IsPermutation-trans, list_any-IsPermutation}
 use Rattle.sqlite_trees.specs.Tree.{IsAscending}
-use Rattle.sqlite_keyed.proofs.ListLemmas.{all-append, all-filter, all-map, all_map, all_weaker, ascending-append, filter-map, filter_same, map-map, map_same}
+use Rattle.sqlite_keyed.specs.Lists.{sort_by as sorted_by}
+use Rattle.sqlite_keyed.proofs.SortLemmas.{sort_by-map}
+use Rattle.sqlite_keyed.proofs.ListLemmas.{IsPermutation-same, all-append, all-filter, all-map, all_map, all_weaker, ascending-append, filter-map, filter_same, map-map, map_same}
 use Rattle.sums.specs.Prints.{same_print}
 use Rattle.sums.specs.declared.print.Print.{Print}
 use Rattle.keep.specs.Keeping.{sign_on}
@@ -21,7 +25,7 @@ use Rattle.tables.specs.Uploads.{is_judged as has_place}
 use Rattle.tables.specs.Wants.{is_want, is_wanted_by}
 use Rattle.tables.specs.declared.rows.UploadRow.{UploadRow}
 use Rattle.tables.specs.declared.rows.Want.{Want}
-use Rattle.tables_meaning.specs.Kept.{Request, is_placed, judged_row, sign_in}
+use Rattle.tables_meaning.specs.Kept.{Request, is_placed, judged_row, sign_in, want_order}
 use Rattle.tables_meaning.proofs.Searches.{same_tests, all_from, map_same_on, list_any-map, list_any-filter, any_parts, found_any, slice_any, any_slice, below_next}
 
 -- ---- signs
@@ -52,7 +56,7 @@ abbrev pub wants_of : List Want → ℕ → List (List ℕ × Print × Bool)
 wants_of wants id = map entry_in (filter (is_wanted_by id) wants)
 
 abbrev pub request : List Want → ℕ × UploadRow → Request
-request wants x = (sign_in x.1, wants_of wants x.0)
+request wants x = (sign_in x.1, sorted_by want_order (wants_of wants x.0))
 
 -- not judged
 abbrev pub is_waiting : ℕ × UploadRow → Bool
@@ -64,7 +68,7 @@ waits_as id x = nat_eq x.0 id && not (has_place x.1)
 
 -- The rows of the uploads and of their wants are those of these requests and these judged uploads.
 pub record AreRows (uploads : Numbered UploadRow) (wants : List Want) (verdicts : List Judgement) (requests : List Request) : Type 0 where
-  pub waiting : map (request wants) (filter is_waiting uploads) ≡ requests
+  pub waiting : IsPermutation (map (request wants) (filter is_waiting uploads)) requests
   pub owned : AllByRecursion (λ w. list_any (waits_as w.upload) uploads ≡ true) wants
   pub unjudged : AllByRecursion (λ x. x.1.place ≡ None → x.1.verdict ≡ None) uploads
   pub places : (n : ℕ) → find (is_placed (n + 1)) (rows_of uploads) ≡ option_map (judged_row (n + 1)) (slice_get verdicts n)
@@ -131,7 +135,7 @@ module _ (uploads : Numbered UploadRow) (wants : List Want) (verdicts : List Jud
   any_waiting =
       sym (list_any-filter (λ x. is_sign s (sign_in x.1)) is_waiting uploads)
       ∙ sym (list_any-map (λ r. is_sign s r.0) (request wants) (filter is_waiting uploads))
-      ∙ ap (list_any (λ r. is_sign s r.0)) are.waiting
+      ∙ list_any-IsPermutation (λ r. is_sign s r.0) (map (request wants) (filter is_waiting uploads)) requests are.waiting
 
   to_judged : list_any (λ x. not (is_waiting x) && is_sign s (sign_in x.1)) uploads ≡ true → list_any (λ j. is_sign s (sign_on j)) verdicts ≡ true
   to_judged h =
@@ -195,15 +199,22 @@ wants_marked name print wants id =
     ∙ map_same (λ w. entry_in (mark w)) (λ w. marked_entry (name, print) (entry_in w)) (entry_marked name print) (filter (is_wanted_by id) wants)
     ∙ sym (map-map (marked_entry (name, print)) entry_in (filter (is_wanted_by id) wants))
 
+-- their order stays, which is by name
+sorted_marked : (name : List ℕ) (print : Print) (wants : List Want) (id : ℕ)
+    → sorted_by want_order (wants_of (map (marked_want name print) wants) id) ≡ map (marked_entry (name, print)) (sorted_by want_order (wants_of wants id))
+sorted_marked name print wants id = ap (sorted_by want_order) (wants_marked name print wants id) ∙ sort_by-map want_order (marked_entry (name, print)) (wants_of wants id)
+
 pub with_marked : (uploads : Numbered UploadRow) (wants : List Want) (verdicts : List Judgement) (requests : List Request) (name : List ℕ) (print : Print)
     → AreRows uploads wants verdicts requests → AreRows uploads (map (marked_want name print) wants) verdicts (map (marked_request (name, print)) requests)
 with_marked uploads wants verdicts requests name print are =
     let mark = marked_want name print in
     record {
       waiting =
-          map_same (request (map mark wants)) (λ x. marked_request (name, print) (request wants x)) (λ x. ap (λ l. (sign_in x.1, l)) (wants_marked name print wants x.0)) (filter is_waiting uploads)
-          ∙ sym (map-map (marked_request (name, print)) (request wants) (filter is_waiting uploads))
-          ∙ ap (map (marked_request (name, print))) are.waiting;
+          IsPermutation-trans _ _ _
+          (IsPermutation-same _ _
+          (map_same (request (map mark wants)) (λ x. marked_request (name, print) (request wants x)) (λ x. ap (λ l. (sign_in x.1, l)) (sorted_marked name print wants x.0)) (filter is_waiting uploads)
+          ∙ sym (map-map (marked_request (name, print)) (request wants) (filter is_waiting uploads))))
+          (IsPermutation-map (marked_request (name, print)) _ _ are.waiting);
       owned =
           all_map (λ w. list_any (waits_as w.upload) uploads ≡ true) mark wants
           (all_weaker (λ w. list_any (waits_as w.upload) uploads ≡ true) (λ w. list_any (waits_as (mark w).upload) uploads ≡ true)
@@ -251,7 +262,7 @@ no_row_named s (x ∷ uploads) h =
 -- An upload of which no row is there gets one, with its wants behind the others.
 pub with_one_more : (uploads : Numbered UploadRow) (wants : List Want) (verdicts : List Judgement) (requests : List Request) (s : Sign) (es : List (List ℕ × Print × Bool))
     → Rises uploads → AreRows uploads wants verdicts requests → list_any (λ x. is_sign s (sign_in x.1)) uploads ≡ false
-    → AreRows (added uploads (new_upload s)) (wants ++ map (new_want (next_in uploads)) es) verdicts (requests ++ (s, es) ∷ [])
+    → AreRows (added uploads (new_upload s)) (wants ++ map (new_want (next_in uploads)) es) verdicts (requests ++ (s, sorted_by want_order es) ∷ [])
 with_one_more uploads wants verdicts requests s es rise are absent =
     let next = next_in uploads in
     let row : ℕ × UploadRow = (next, new_upload s) in
@@ -260,15 +271,18 @@ with_one_more uploads wants verdicts requests s es rise are absent =
     let others : AllByRecursion (λ w. nat_eq w.upload next ≡ false) wants =
     all_weaker (λ w. list_any (waits_as w.upload) uploads ≡ true) (λ w. nat_eq w.upload next ≡ false) (λ w h. not_next uploads next w.upload below h) wants are.owned in
     let old : (x : ℕ × UploadRow) → x.0 < next → request ws x ≡ request wants x = λ x l.
-    ap (λ l. (sign_in x.1, l)) (wants-append wants (map (new_want next) es) x.0
+    ap (λ l. (sign_in x.1, sorted_by want_order l)) (wants-append wants (map (new_want next) es) x.0
     ∙ ap (λ l. wants_of wants x.0 ++ l) (no_wants (map (new_want next) es) x.0 (all-map (λ w. nat_eq w.upload x.0 ≡ false) (new_want next) (λ e. ne_eqb next x.0 (λ q. omega (arith, l, q))) es))
     ∙ append-nil (wants_of wants x.0)) in
-    let new : request ws row ≡ (s, es) = ap (λ l. (s, l)) (wants-append wants (map (new_want next) es) next ∙ ap₂ (λ a b. a ++ b) (no_wants wants next others) (all_wants es next)) in
+    let new : request ws row ≡ (s, sorted_by want_order es) = ap (λ l. (s, sorted_by want_order l)) (wants-append wants (map (new_want next) es) next ∙ ap₂ (λ a b. a ++ b) (no_wants wants next others) (all_wants es next)) in
     record {
       waiting =
-          ap (map (request ws)) (filter-append is_waiting uploads (row ∷ []))
+          IsPermutation-trans _ _ _
+          (IsPermutation-same _ _
+          (ap (map (request ws)) (filter-append is_waiting uploads (row ∷ []))
           ∙ map-append (request ws) (filter is_waiting uploads) (row ∷ [])
-          ∙ ap₂ (λ a b. a ++ b ∷ []) (map_same_on (request ws) (request wants) (filter is_waiting uploads) (all-filter (λ x. request ws x ≡ request wants x) is_waiting uploads (all_weaker (λ x. x.0 < next) (λ x. request ws x ≡ request wants x) old uploads below)) ∙ are.waiting) new;
+          ∙ ap₂ (λ a b. a ++ b ∷ []) (map_same_on (request ws) (request wants) (filter is_waiting uploads) (all-filter (λ x. request ws x ≡ request wants x) is_waiting uploads (all_weaker (λ x. x.0 < next) (λ x. request ws x ≡ request wants x) old uploads below))) new))
+          (IsPermutation-append_left ((s, sorted_by want_order es) ∷ []) _ _ are.waiting);
       owned =
           all-append (λ w. list_any (waits_as w.upload) (added uploads (new_upload s)) ≡ true) wants (map (new_want next) es)
           (all_weaker (λ w. list_any (waits_as w.upload) uploads ≡ true) (λ w. list_any (waits_as w.upload) (added uploads (new_upload s)) ≡ true)

@@ -1,19 +1,21 @@
 -- The uploads that want something are those that are not judged, and are found one by one.
-use Rattle.std.proofs.Common.{◌≡◌, ℕ, ◌<◌, ◌≤◌, Bool, true, false, not, ◌&&◌, ◌||◌, cond, nat_eq, List, [], ◌∷◌, filter, find, length, Option, Some, None, option_map, IsTrue, Result, Ok, Err, refl, sym, ap, subst, ◌∙◌, arith, true≢false, inl, inr}
+use Rattle.std.proofs.Common.{◌≡◌, ℕ, ◌<◌, ◌≤◌, Bool, true, false, not, ◌&&◌, ◌||◌, cond, nat_eq, List, [], ◌∷◌, map, filter, find, length, Option, Some, None, option_map, IsTrue, Result, Ok, Err, refl, sym, ap, subst, ◌∙◌, arith, true≢false, inl, inr}
 use Rattle.std.specs.Prelude.{nat_lt, if◌then◌else◌}
 use Rattle.std.specs.List.{AllByRecursion, cons_option, list_any}
 use Rattle.std.specs.Result.{result_ok}
 use Rattle.std.proofs.lemmas.Bool.{and_parts, or_cases}
 use Rattle.std.proofs.lemmas.Bool.Decides.{nat_tests}
 use Rattle.std.proofs.lemmas.List.{length-map}
-use Rattle.std.proofs.lemmas.List.Elements.{recursion_from_All}
+use Rattle.std.proofs.lemmas.List.Elements.{All-from_recursion, recursion_from_All}
+use Rattle.std.proofs.lemmas.List.Sorted.{All-permutation, IsPermutation-sym, length_permutation}
 use Rattle.sqlite_keyed.proofs.ListLemmas.{all-filter, all_map, all_unmap, all_weaker, none_counted}
+use Rattle.sqlite_keyed.proofs.SortLemmas.{IsPermutation-sort_by}
 use Rattle.records.specs.Records.{changes_in}
 use Rattle.records.specs.Values.{ChangesValue}
 use Rattle.records.specs.declared.fault.RecordFault.{RecordFault}
 use Rattle.records.proofs.RecordRead.{changes_of_read}
 use Rattle.sums.specs.declared.print.Print.{Print}
-use Rattle.keep.specs.Book.{candidate_of, candidates, is_judged}
+use Rattle.keep.specs.Book.{Candidate, candidate_of, candidates, is_judged}
 use Rattle.sums.specs.FileNames.{is_changes_name}
 use Rattle.keep.specs.declared.arrival.Arrival.{Arrival}
 use Rattle.keep.specs.declared.change.Judgement.{Judgement}
@@ -22,7 +24,8 @@ use Rattle.tables.specs.Uploads.{is_judged as has_place}
 use Rattle.tables.specs.Wants.{IsNextWanting, is_behind, is_wanted_by, wants_behind}
 use Rattle.tables.specs.declared.rows.UploadRow.{UploadRow}
 use Rattle.tables.specs.declared.rows.Want.{Want}
-use Rattle.tables_meaning.specs.Kept.{AreUploads, arrivals_in, request_in, request_of, wants_in}
+use Rattle.tables_meaning.specs.Kept.{AreUploads, arrivals_in, request_in, request_of, want_order, wanted, wants_in}
+use Rattle.tables_meaning.proofs.NumberOrders.{want_order_total}
 use Rattle.tables_meaning.specs.Reads.{next_wanting_in, wanting}
 use Rattle.tables_meaning.proofs.Searches.{all_both, filter_same_on, same_tests}
 use Rattle.tables_meaning.proofs.WantLemmas.{waits_as}
@@ -174,7 +177,7 @@ unfolding wants_in
 some_wanted t id h = go (list_any (is_wanted_by id) (rows_of t.wants)) refl
   where
     count : length (wants_in t id) ≡ length (filter (is_wanted_by id) (rows_of t.wants))
-    count = length-map _ _
+    count = length_permutation _ _ (IsPermutation-sym _ _ (IsPermutation-sort_by want_order want_order_total (map (λ (w : Want). (w.name, w.print, w.here)) (filter (is_wanted_by id) (rows_of t.wants))))) ∙ length-map _ _
 
     go : (b : Bool) → list_any (is_wanted_by id) (rows_of t.wants) ≡ b → b ≡ true
     go true e = refl
@@ -196,11 +199,15 @@ unjudged_want t judged are =
     let waiting = filter (λ c. not (is_judged judged c)) (candidates (arrivals_in t)) in
     let HasSome : (List ℕ × Print) × List (List ℕ × Print × Bool) → Type 0 = λ r. 0 < length r.1 in
     let asked = all_map HasSome (request_of (arrivals_in t)) waiting
-    (all_weaker (λ c. 0 < length c.changes.entries) (λ c. HasSome (request_of (arrivals_in t) c)) (λ c h. subst (λ n. 0 < n) (sym (length-map _ _)) h) waiting
+    (all_weaker (λ c. 0 < length c.changes.entries) (λ c. HasSome (request_of (arrivals_in t) c)) (λ c h. subst (λ n. 0 < n) (sym (asked_length c)) h) waiting
     (all-filter (λ c. 0 < length c.changes.entries) (λ c. not (is_judged judged c)) (candidates (arrivals_in t)) (all_list_some (arrivals_in t)))) in
     from_filter (λ x. list_any (is_wanted_by x.0) (rows_of t.wants) ≡ true) (λ x. not (has_place x.1)) t.uploads
     (all_weaker (λ x. 0 < length (wants_in t x.0)) (λ x. list_any (is_wanted_by x.0) (rows_of t.wants) ≡ true) (λ x h. some_wanted t x.0 h) (filter (λ x. not (has_place x.1)) t.uploads)
-    (all_unmap HasSome (request_in t) (filter (λ x. not (has_place x.1)) t.uploads) (subst (AllByRecursion HasSome) (sym are.waiting) asked)))
+    (all_unmap HasSome (request_in t) (filter (λ x. not (has_place x.1)) t.uploads)
+    (recursion_from_All HasSome _ (All-permutation HasSome _ _ (IsPermutation-sym _ _ are.waiting) (All-from_recursion HasSome _ asked)))))
+  where
+    asked_length : (c : Candidate) → length (request_of (arrivals_in t) c).1 ≡ length c.changes.entries
+    asked_length c = length_permutation _ _ (IsPermutation-sym _ _ (IsPermutation-sort_by want_order want_order_total (map (wanted (arrivals_in t)) c.changes.entries))) ∙ length-map _ _
 
 -- the entries of a number that some entry is of
 wanted_waits : (uploads : Numbered UploadRow) (wants : List Want) → AllByRecursion (λ w. list_any (waits_as w.upload) uploads ≡ true) wants

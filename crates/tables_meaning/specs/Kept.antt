@@ -16,7 +16,7 @@ use Rattle.sums.specs.FileNames.{is_file_name, is_changes_name}
 use Rattle.sums.specs.Prints.{print as print_of}
 use Rattle.sums.specs.declared.entries.Entry.{Entry}
 use Rattle.sums.specs.declared.print.Print.{Print}
-use Rattle.suites.specs.Keys.{kind_number}
+use Rattle.suites.specs.Keys.{kind_number, text_order}
 use Rattle.suites.specs.Shelves.{ShelvesValue, AreSound, pool}
 use Rattle.suites.specs.Told.{AreTold}
 use Rattle.suites.specs.declared.item.Item as shelf
@@ -134,15 +134,19 @@ pub record AreArrivals (t : Tables) : Type 0 where
 abbrev pub sign_in : UploadRow → List ℕ × Print
 sign_in u = (u.name, u.print)
 
--- the entries of an upload, each with whether it is there
+-- the order of what an upload wants: by name
+abbrev pub want_order : List ℕ × Print × Bool → List ℕ × Print × Bool → Ordering
+want_order v w = text_order v.0 w.0
+
+-- the entries of an upload by name, each with whether it is there, whatever the order of the rows
 unfoldable pub wants_in : Tables → ℕ → List (List ℕ × Print × Bool)
-wants_in t id = map (λ w. (w.name, w.print, w.here)) (filter (is_wanted_by id) (rows_of t.wants))
+wants_in t id = sorted_by want_order (map (λ w. (w.name, w.print, w.here)) (filter (is_wanted_by id) (rows_of t.wants)))
 
 -- an entry as it is wanted
 abbrev pub wanted : List Arrival → Entry → List ℕ × Print × Bool
 wanted arrivals e = (e.name, e.print, is_there arrivals e)
 
--- an upload's name and print, and its entries, each with whether it is there
+-- an upload's name and print, and its entries by name, each with whether it is there
 abbrev pub Request : Type 0
 Request = (List ℕ × Print) × List (List ℕ × Print × Bool)
 
@@ -151,7 +155,7 @@ abbrev pub request_in : Tables → ℕ × UploadRow → Request
 request_in t x = (sign_in x.1, wants_in t x.0)
 
 abbrev pub request_of : List Arrival → Candidate → Request
-request_of arrivals c = (sign_of c, map (wanted arrivals) c.changes.entries)
+request_of arrivals c = (sign_of c, sorted_by want_order (map (wanted arrivals) c.changes.entries))
 
 -- the row of a judged upload, at its place in the order of judging, from 1
 abbrev pub judged_row : ℕ → Judgement → UploadRow
@@ -172,11 +176,11 @@ pub record IsSigned (name : List ℕ) (print : Print) : Type 0 where
 abbrev pub AreSigned : List Judgement → Type 0
 AreSigned judged = All (λ j. IsSigned j.name j.print) judged
 
--- Those without a verdict are the .changes that arrived and are not judged, in the order of their arrival, each with the
--- entries that it lists; the others are the judged ones, at places from 1 on. Name and print tell uploads apart.
+-- Those without a verdict are the .changes that arrived and are not judged, in some order, each with the entries that it
+-- lists; the others are the judged ones, at places from 1 on. Name and print tell uploads apart.
 pub record AreUploads (t : Tables) (judged : List Judgement) : Type 0 where
-  pub waiting : map (request_in t) (filter (λ x. not (has_place x.1)) t.uploads)
-      ≡ map (request_of (arrivals_in t)) (filter (λ c. not (is_judged judged c)) (candidates (arrivals_in t)))
+  pub waiting : IsPermutation (map (request_in t) (filter (λ x. not (has_place x.1)) t.uploads))
+      (map (request_of (arrivals_in t)) (filter (λ c. not (is_judged judged c)) (candidates (arrivals_in t))))
   pub owned : All (λ w. IsTrue (list_any (λ x. nat_eq x.0 w.upload && not (has_place x.1)) t.uploads)) (rows_of t.wants)
   pub unjudged : All (λ u. u.place ≡ None → u.verdict ≡ None) (rows_of t.uploads)
   pub places : (n : ℕ) → find (is_placed (n + 1)) (rows_of t.uploads) ≡ option_map (judged_row (n + 1)) (slice_get judged n)

@@ -48,7 +48,7 @@ pub fn sign_of_entry(entry: &Entry) -> Sign<'_>
 }
 
 /// The order of judging: by the bytes of the names, then by the prints.
-fn compare(a: &Sign<'_>, b: &Sign<'_>) -> Ordering
+pub fn compare(a: &Sign<'_>, b: &Sign<'_>) -> Ordering
     ensures { result ≡ judging_order (sign_of a.now) (sign_of b.now) }
 {
     judging_order(a.name, &a.print, b.name, &b.print)

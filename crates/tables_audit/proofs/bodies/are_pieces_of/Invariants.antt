@@ -1,4 +1,4 @@
-use Rattle.std.proofs.Common.{◌≡◌, ℕ, All, take}
+use Rattle.std.proofs.Common.{◌≡◌, ◌≤◌, ℕ, All, length, take}
 use Rattle.sums.specs.Prints.{Holds}
 use Rattle.tables_audit.specs.Bodies.{bytes_in}
 use Rattle.tables_audit.proofs.BodiesLemmas.{AreFirst, views}

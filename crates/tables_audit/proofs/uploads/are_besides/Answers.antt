@@ -1,4 +1,4 @@
-use Rattle.std.proofs.Common.{◌≡◌, List, Vec, Global, map, ap, ap₂, ◌∙◌, arith}
+use Rattle.std.proofs.Common.{◌≡◌, List, Vec, Global, map, refl, ap, ap₂, ◌∙◌, arith}
 use Rattle.std.specs.List.{filter_map}
 use Rattle.std.proofs.lemmas.Bool.Decides.{when_false, when_true}
 use Rattle.keep.specs.declared.change.Judgement.{Judgement}
@@ -30,7 +30,7 @@ returns-then-not-branch c keys fit b =
     ∙ ap (λ (js : List Judgement). filter_map (found_awaited c.new-pieces.result.all.now.pieces.items js) (map printed c.deref-3.result.now)) c.in_ok-verdicts.ensures
     ∙ ap₂ (λ (ps : Numbered Piece) (xs : List Arrived). filter_map (found_awaited ps c.args.judged.now) (map printed xs)) (ap (λ (a : AllRows). a.pieces.items) c.new-pieces.ensures) c.deref-3.ensures.value)
     (when_false (AreAsked all.uploads.items all.wants.items arrived awaited) (AreAsked all.uploads.items all.wants.items arrived awaited → ⊥) (grind arith)
-    (asked_at c.in_ok-are_asked.field-0 all.uploads.items all.wants.items c.deref-4.result.now arrived c.deref-5.result.now awaited c.deref-4.ensures.value c.deref-5.ensures.value c.in_ok-are_asked.ensures))
+    (asked_at c.in_ok-are_asked.field-0 all.uploads.items all.wants.items c.deref-4.result.now arrived awaited awaited c.deref-4.ensures.value refl (c.in_ok-are_asked.ensures keys.uploads_apart)))
     b
 
 pub returns : goal.returns
@@ -46,5 +46,5 @@ returns c keys fit =
     ∙ ap₂ (λ (ps : Numbered Piece) (xs : List Arrived). filter_map (found_awaited ps c.args.judged.now) (map printed xs)) (ap (λ (a : AllRows). a.pieces.items) c.new-pieces.ensures) c.deref-3.ensures.value)
     c.are_owned.result
     (when_true (AreAsked all.uploads.items all.wants.items arrived awaited) (AreAsked all.uploads.items all.wants.items arrived awaited → ⊥) (grind arith)
-    (asked_at c.in_ok-are_asked.field-0 all.uploads.items all.wants.items c.deref-4.result.now arrived c.deref-5.result.now awaited c.deref-4.ensures.value c.deref-5.ensures.value c.in_ok-are_asked.ensures))
-    (owned_at c.are_owned.result c.new-uploads.result.all.now all.uploads.items c.deref-7.result.now all.wants.items (c.new-uploads.ensures ∙ c.deref-6.ensures.value) c.deref-7.ensures.value c.are_owned.ensures)
+    (asked_at c.in_ok-are_asked.field-0 all.uploads.items all.wants.items c.deref-4.result.now arrived awaited awaited c.deref-4.ensures.value refl (c.in_ok-are_asked.ensures keys.uploads_apart)))
+    (owned_at c.are_owned.result c.new-uploads.result.all.now all.uploads.items c.deref-6.result.now all.wants.items (c.new-uploads.ensures ∙ c.deref-5.ensures.value) c.deref-6.ensures.value c.are_owned.ensures)

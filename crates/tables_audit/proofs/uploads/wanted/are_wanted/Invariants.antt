@@ -1,10 +1,7 @@
-use Rattle.std.proofs.Common.{◌≡◌, ◌≤◌, ◌↔◌, length, map, drop}
-use Rattle.tables_audit.specs.Uploads.{printed, wanted_among, wants_among}
+use Rattle.std.proofs.Common.{◌≡◌, map, take}
+use Rattle.tables_audit.specs.Uploads.{printed, want_row, wanted_among}
 use Rattle.tables_audit.proofs.uploads.wanted.are_wanted.Given as goal
 
-abbrev pub invariant-loop-want : goal.invariant-loop-want
-invariant-loop-want l = record {
-  within : l.next ≤ length l.entries;
-  left : (wants_among l.wants l.upload ≡ map (wanted_among (map printed l.arrived.all.now)) l.entries)
-      ↔ (wants_among (drop l.want-index l.wants) l.upload ≡ map (wanted_among (map printed l.arrived.all.now)) (drop l.next l.entries));
-}
+-- the rows so far are those of the listed files so far
+abbrev pub invariant-loop-index : goal.invariant-loop-index
+invariant-loop-index l = map (λ w. want_row w.now) (take l.index l.wants) ≡ map (λ e. wanted_among (map printed l.arrived.all.now) e.now) (take l.index l.entries)
