@@ -80,11 +80,6 @@ class Pages(unittest.TestCase):
         for text, count in (("a\n" * 100, 0), ("a\n" * 101, 1), ("a" * 100, 0), ("a" * 101, 1)):
             self.assertEqual(len(self.other(pages.check_lengths, "README.md", text)), count)
 
-    def test_a_page_of_too_many_words_is_refused(self):
-        for path, most in (("docs/DEFINITIONS.md", 3500), ("docs/DECISIONS.md", 2500)):
-            for count, wanted in ((most, 0), (most + 1, 1)):
-                self.assertEqual(len(self.other(pages.check_lengths, path, "word " * count)), wanted, path)
-
     def test_what_is_not_there_is_refused(self):
         for named in (
             "`crates/keep/src/nothing.rt`",

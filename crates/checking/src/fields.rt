@@ -1,10 +1,11 @@
 //! The fields of a configuration that are passed over, since it has none of that name.
 
-ghost use Rattle.std.specs.Prelude.{◌≡◌, ◌++◌, ◌∷◌, [], cond, not, IfOk, List, map, Ok};
+ghost use Rattle.std.specs.Prelude.{◌≡◌, ◌++◌, ◌∷◌, ◌⊎◌, [], cond, not, IfOk, IfErr, IsErrAnd, List, map, Ok};
 ghost use Rattle.std.specs.Str.{str_eq_ignore_ascii_case};
 ghost use Rattle.para.specs.Field.{field_values};
 ghost use Rattle.para.specs.Fields.{Fields, paragraphs_in};
 ghost use Rattle.rules.specs.Configuration.{config_limit};
+ghost use Rattle.rules.specs.Fault.{of_paragraph};
 ghost use Rattle.checking.specs.Fields.{is_known, unknown_among, unknown_behind};
 
 use para::{Field, Paragraph, Text, read_many};
@@ -114,6 +115,7 @@ fn unknown_of(alloc: Global, paragraphs: &[Paragraph<'_>]) -> Result<Vec<(usize,
 /// text. Refused where the text is longer than a configuration may be, or is not one or more paragraphs, as `Config::read` does.
 pub fn unknown_fields(alloc: Global, text: &[u8]) -> Result<Vec<(usize, Text)>, ConfigFault>
     ensures found { IfOk result (λ found. (ps : List Fields) × (paragraphs_in text.now config_limit ≡ Ok ps) × (found.items ≡ unknown_behind 0 ps)) }
+    ensures refused { IfErr result (λ e. (e ≡ ConfigFault.OutOfMemory) ⊎ IsErrAnd (paragraphs_in text.now config_limit) (λ fault. e ≡ of_paragraph fault)) }
 {
     let paragraphs = read_many(alloc, text, MOST_CONFIG)?;
     Ok(unknown_of(alloc, &paragraphs)?)

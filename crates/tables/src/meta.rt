@@ -1,7 +1,7 @@
 //! The one row of `meta`: the layout of the tables, and the text of the configuration.
 //!
 //! The number of the layout is 3: bodies in pieces and each stored once, arrivals with moments, uploads with a number of their own. It
-//! names the columns and keys of the tables and what their rows mean, and is in the code once (`VERSION`).
+//! names the columns and keys of the tables and what their rows mean, and is in the code once (`VERSION`): a law says it once more.
 
 ghost use Rattle.std.specs.Prelude.{◌≡◌, false};
 ghost use Rattle.tables.specs.Rows.{with_meta};
