@@ -30,4 +30,3 @@ found_more h xs i x within is =
 pub print_same : (id : ℕ) (part all : Numbered BodyRow) → filter (λ (x : ℕ × BodyRow). nat_eq x.0 id) part ≡ filter (λ (x : ℕ × BodyRow). nat_eq x.0 id) all → print_among part id ≡ print_among all id
 unfolding print_among
 print_same id part all e = ap (option_and_then (λ (x : ℕ × BodyRow). x.1.print)) (find_same (λ (x : ℕ × BodyRow). nat_eq x.0 id) part all e)
-

@@ -178,7 +178,9 @@ fn row_order(a: &(u64, UploadRow), b: &(u64, UploadRow)) -> Ordering
 }
 
 /// Rows in the order of judging.
-fn rows_in_order<'a>(mut rows: Vec<&'a (u64, UploadRow)>) -> Result<Vec<&'a (u64, UploadRow)>, AllocError>
+fn rows_in_order<'a>(
+    mut rows: Vec<&'a (u64, UploadRow)>,
+) -> Result<Vec<&'a (u64, UploadRow)>, AllocError>
     ensures { IfOk result (λ sorted. map (λ x. x.now) sorted.items ≡ sorted_by row_order (map (λ x. x.now) rows.entry.items)) }
 {
     rows.sort_by(|a, b| row_order(a, b))?;
