@@ -9,6 +9,7 @@ import shutil
 import subprocess
 import sys
 import tempfile
+import time
 import unittest
 import unittest.mock
 
@@ -70,6 +71,12 @@ def run(*words, **more):
     return ran.returncode, ran.stdout, ran.stderr
 
 
+def make_deb():
+    """What makes the package, as a module."""
+    with unittest.mock.patch.object(sys, "path", [f"{ROOT}/packaging", *sys.path]):
+        return tool("packaging/make_deb")
+
+
 class Room(unittest.TestCase):
     def setUp(self):
         room = tempfile.TemporaryDirectory()
@@ -115,8 +122,7 @@ class Manuals(Room):
     def test_each_command_has_a_line_with_its_options(self):
         """In the manual, on the page, and among what bash offers."""
         synopsis, _, rest = self.shown("archive.1").partition("\nDESCRIPTION\n")
-        with unittest.mock.patch.object(sys, "path", [f"{ROOT}/packaging", *sys.path]):
-            offered = tool("packaging/make_deb").completion()
+        offered = make_deb().completion()
         self.assertEqual(re.findall(r"^ +archive ([a-z]+)", synopsis, re.M), re.findall(r"^archive ([a-z]+)", snippet("commands"), re.M))
         self.assertEqual(set(re.findall(r"^ +archive ([a-z]+)", synopsis, re.M)), set(USAGES))
         for command, usage in USAGES.items():
@@ -149,6 +155,7 @@ class Package(Room):
     """The package of a program in place of the built one."""
 
     def made(self, program="/bin/true", **variables):
+        """Makes it, with a time of its own if no variable says another."""
         status, path, told = run(MAKE, program, self.room, env={**os.environ, "SOURCE_DATE_EPOCH": "1467436850", **variables})
         self.assertEqual((status, told), (0, ""))
         return path.strip()
@@ -194,8 +201,19 @@ class Package(Room):
     @needs("lintian")
     def test_lintian_reports_no_error(self):
         program = os.path.abspath(PROGRAM) if os.path.exists(PROGRAM) else "/bin/true"
-        status, printed, told = run("lintian", "--allow-root", "--fail-on", "error,warning", self.made(program))
+        now = str(make_deb().moment())
+        status, printed, told = run("lintian", "--allow-root", "--fail-on", "error,warning", self.made(program, SOURCE_DATE_EPOCH=now))
         self.assertEqual((status, printed), (0, ""), told)
+
+    def test_each_version_has_its_day(self):
+        """The newest has that of the package, and each other that of the page."""
+        made = make_deb().changes(1467436850).splitlines()
+        page = (ROOT / "CHANGELOG.md").read_text(encoding="utf-8")
+        self.assertEqual([line.split()[1] for line in made if line.startswith("boqitsel ")], [f"({it})" for it in re.findall(r"^## (\S+)", page, re.M)])
+        days = [time.strptime(line.partition(">  ")[2], "%a, %d %b %Y %H:%M:%S +0000") for line in made if line.startswith(" -- ")]
+        self.assertEqual(time.strftime("%Y-%m-%d %H:%M:%S", days[0]), "2016-07-02 05:20:50")
+        self.assertEqual([time.strftime("(%Y-%m-%d)", it) for it in days[1:]], re.findall(r"^## \S+ (.*)", page, re.M))
+        self.assertEqual(days[1:], sorted(days[1:], reverse=True))
 
     def test_words_and_what_is_missing(self):
         self.assertEqual(run(MAKE)[0], 2)
