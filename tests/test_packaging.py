@@ -13,10 +13,12 @@ import time
 import unittest
 import unittest.mock
 
+from tests.ports import free_port
 from tests.program import PROGRAM
-from tests.snippets import free_port, needs, snippet
+from tests.snippets import snippet
 from tests.test_command_lines import OPTIONS, USAGES
 from tests.tools import ROOT, tool
+from tests.wants import main, needs, needs_file, needs_root, no_file_system
 from uploads import uploads
 
 MAKE = f"{ROOT}/packaging/make_deb"
@@ -246,8 +248,8 @@ def changes_of(deb, number):
     return text.replace("  * Made.", f"  * Made {number}.")
 
 
-@unittest.skipUnless(os.path.exists(PROGRAM), f"there is no program {PROGRAM}")
-@unittest.skipUnless(os.geteuid() == 0, "only root can install in a root of its own")
+@needs_file(PROGRAM)
+@needs_root
 @needs("dpkg-deb", "dpkg-shlibdeps", "strip", "unshare", "chroot", "apt-get", "curl")
 class Installed(Room):
     """The package of the built program, installed."""
@@ -260,7 +262,7 @@ class Installed(Room):
 
     def test_it_serves_its_own_package_to_apt(self):
         if not self.can_mount():
-            self.skipTest("no file system can be mounted over another here")
+            raise no_file_system()
         status, path, told = run("make", "-s", "deb", f"PROGRAM={os.path.abspath(PROGRAM)}", cwd=ROOT)
         self.assertEqual((status, told), (0, ""))
         deb = self.room / DEB
@@ -285,4 +287,4 @@ class Installed(Room):
 
 
 if __name__ == "__main__":
-    unittest.main()
+    main()

@@ -5,6 +5,7 @@ import pathlib
 import unittest
 
 from tests.tools import ROOT
+from tests.wants import main
 
 
 class Texts(unittest.TestCase):
@@ -20,4 +21,4 @@ class Texts(unittest.TestCase):
 
 
 if __name__ == "__main__":
-    unittest.main()
+    main()
