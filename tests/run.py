@@ -70,7 +70,7 @@ BEHIND = [
     "tests.test_export_apt",
     "tests.test_web_pages",
     "tests.test_packaging",
-    "tests.refuse_growths --lists",
+    "tests.refuse_growths --part",
 ]
 COUNTS = re.compile(r"(\d+) passed, (\d+) failed$")
 # The first kit that proves crates by name, and keeps that.
