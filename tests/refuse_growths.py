@@ -36,18 +36,22 @@ WHOLE, STEP = "over lists", 10
 
 LIBRARY = r"""
 #![no_std]
-use core::ffi::{c_char, c_long, c_void};
+use core::ffi::c_void;
 use core::sync::atomic::{AtomicBool, AtomicI64, Ordering::Relaxed};
+
+// Of C, on x86-64: older compilers than 1.64 name them elsewhere.
+type Char = i8;
+type Long = i64;
 
 extern "C" {
     fn __libc_malloc(size: usize) -> *mut c_void;
     fn __libc_realloc(block: *mut c_void, size: usize) -> *mut c_void;
-    fn getenv(name: *const c_char) -> *const c_char;
-    fn atol(text: *const c_char) -> c_long;
-    fn syscall(number: c_long, ...) -> c_long;
+    fn getenv(name: *const Char) -> *const Char;
+    fn atol(text: *const Char) -> Long;
+    fn syscall(number: Long, ...) -> Long;
 }
 
-const WRITE: c_long = 1;
+const WRITE: Long = 1;
 
 /// How many marks have come, and whether growths count now; how many came while they did.
 static MARKS: AtomicI64 = AtomicI64::new(0);
@@ -81,7 +85,7 @@ fn tell() {
         text[at] = b'0' + (rest % 10) as u8;
         rest /= 10;
     }
-    unsafe { syscall(WRITE, 2 as c_long, text.as_ptr().add(at), 21 - at) };
+    unsafe { syscall(WRITE, 2 as Long, text.as_ptr().add(at), 21 - at) };
 }
 
 /// A write is passed on; a mark begins to count, or ends it.
@@ -94,7 +98,7 @@ pub unsafe extern "C" fn write(file: i32, text: *const u8, size: usize) -> isize
     if file == 1 && bytes.starts_with(b"end") && COUNTS.swap(false, Relaxed) {
         tell();
     }
-    syscall(WRITE, file as c_long, text, size) as isize
+    syscall(WRITE, file as Long, text, size) as isize
 }
 
 #[no_mangle]
