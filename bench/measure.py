@@ -14,6 +14,8 @@ import sys
 import tempfile
 import time
 
+from tests.ports import free_port
+
 # The word of prctl(2) that has a process take over the children of its children.
 PR_SET_CHILD_SUBREAPER = 36
 
@@ -128,12 +130,6 @@ def digests(file):
         parts += taken
     held.close()
     return total(parts)
-
-
-def free_port():
-    with socket.socket() as it:
-        it.bind(("127.0.0.1", 0))
-        return it.getsockname()[1]
 
 
 class Server:

@@ -6,7 +6,6 @@ Each waits for a limited time, and each process is ended whatever happens."""
 import contextlib
 import hashlib
 import os
-import shutil
 import signal
 import socket
 import struct
@@ -14,6 +13,9 @@ import subprocess
 import tempfile
 import time
 import unittest
+
+from tests.ports import free_address, give_back
+from tests.wants import needs_file, no_file_system, path_of
 
 ROOT = os.path.dirname(os.path.dirname(os.path.abspath(__file__)))
 PROGRAM = os.environ.get("ARCHIVE", f"{ROOT}/crates/archive/out/archive")
@@ -46,7 +48,7 @@ SHA256: ba7816bf8f01cfea414140de5dae2223b00361a396177a9cb410ff61f20015ad
 # ---- over a database file
 
 
-@unittest.skipUnless(os.path.exists(PROGRAM), f"there is no program {PROGRAM}")
+@needs_file(PROGRAM)
 class Lines(unittest.TestCase):
     """Lines of the program over a database file."""
 
@@ -76,33 +78,26 @@ class Lines(unittest.TestCase):
 
 @contextlib.contextmanager
 def mounted(size):
-    """A folder on a file system of so many bytes, or None where it can't be had."""
-    folder = tempfile.mkdtemp()
-    done = subprocess.run(["mount", "-t", "tmpfs", "-o", f"size={size}", "none", folder], capture_output=True, check=False)
-    try:
-        yield folder if done.returncode == 0 else None
-    finally:
-        if done.returncode == 0:
+    """A folder on a file system of so many bytes. The test is skipped if it can't be had."""
+    with tempfile.TemporaryDirectory() as folder:
+        words = ["mount", "-t", "tmpfs", "-o", f"size={size}", "none", folder]
+        if not path_of("mount") or subprocess.run(words, capture_output=True, check=False).returncode:
+            raise no_file_system()
+        try:
+            yield folder
+        finally:
             subprocess.run(["umount", "-l", folder], check=False)
-        shutil.rmtree(folder, ignore_errors=True)
 
 
 # ---- served
 
 
-def free_address():
-    """An address at which nothing listens."""
-    with socket.socket() as it:
-        it.bind(("127.0.0.1", 0))
-        return it.getsockname()
-
-
 class Serving:
     """`serve` over a database file, with so many connections at a moment, and more words. It may run under another program, and its
-    standard error may go elsewhere. The program may be another, too, and the address one that is given."""
+    standard error may go elsewhere. The program may be another, too."""
 
-    def __init__(self, db, count, *words, at="0", under=(), stderr=None, program=PROGRAM, address=None):
-        self.address = address or free_address()
+    def __init__(self, db, count, *words, at="0", under=(), stderr=None, program=PROGRAM):
+        self.address = free_address()
         self.printed, self.told = tempfile.TemporaryFile(), tempfile.TemporaryFile()
         line = [*under, program, "serve", "--db", db, "--at", at, *words, "%s:%d" % self.address, str(count)]
         streams = {"stdin": subprocess.DEVNULL, "stdout": self.printed, "stderr": stderr or self.told}
@@ -115,6 +110,7 @@ class Serving:
         with contextlib.suppress(ProcessLookupError):
             os.killpg(self.process.pid, signal.SIGKILL)
         self.process.wait()
+        give_back(self.address[1])
         self.printed.close()
         self.told.close()
 

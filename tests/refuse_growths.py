@@ -1,23 +1,27 @@
-"""Each growth of each call is refused once: `python3 -m tests.refuse_growths [--lists] [CALL..]`.
+"""Each growth of each call is refused once: `python3 -m tests.refuse_growths [--part] [CALL..]`.
 
 The calls are the rows `call ..` of data/*.growths and data/*.moves of the crate `test_archives`, of which the latter read and migrate
-archives of older layouts; CALL is the first word of some of them, and --lists leaves out all but the keeper in memory. For each call a file
-is written that has its story alone, in which this one call is marked, so that the program that `rt ci` built of `test_archives` (or the one
-that TEST_ARCHIVES names) prints `begin` and `end` around it. It runs once for each growth between the marks, and this one is refused: a
-library that is loaded before the C library counts what `malloc` and `realloc` are asked for. That goes on until a growth is not reached.
+archives of older layouts; CALL is the first word of some of them. For each call a file is written that has its story alone, in which this one
+call is marked, so that the program that `rt ci` built of `test_archives` (or the one that TEST_ARCHIVES names) prints `begin` and `end`
+around it. It runs once for each growth between the marks, and this one is refused: a library that is loaded before the C library counts
+what `malloc` and `realloc` are asked for. That goes on until a growth is not reached.
 
-The program answers the row, at once or where the call is made again behind a fault of memory, with all that the archive shows as it was;
-else its line differs. For each call and keeper a line is printed: how many growths the call has, and at how many of them it was refused
-or was answered at once. The status is 0 where each call has a growth, but those that make nothing grow, and no run printed another line.
-Without rustc, which makes that library, it says so and tries nothing."""
+With --part, as `make test` has it, each growth is refused over the keeper in memory alone. Over tables, and of an archive of an older layout, the
+first is, each tenth, and the last of those that come if none is refused.
+
+The program answers the row, at once or if the call is made again after a fault of memory, with all that the archive shows as it was;
+else its line differs. For each call and keeper a line is printed: how many growths the call has, how many of them were tried, and at how many
+of these it was refused or was answered at once. The status is 0 if each call has a growth, but those that make nothing grow, and no run
+printed another line. Without rustc, which makes that library, it says so and tries nothing."""
 import os
 import re
-import shutil
 import subprocess
 import sys
 import tempfile
 from concurrent.futures import ThreadPoolExecutor
 from pathlib import Path
+
+from tests.wants import named, path_of, tell_skipped
 
 CRATE = Path(__file__).resolve().parent.parent / "crates" / "test_archives"
 PROGRAM = Path(os.environ.get("TEST_ARCHIVES", CRATE / "out" / "test_archives")).resolve()
@@ -27,21 +31,27 @@ KEEPERS = {"growths": ["over lists", "over tables"], "moves": ["of older ones"]}
 NOTHING_GROWS = {("over lists", "open"), ("over lists", "clean")}
 # How many runs are begun before the answers of those before are looked at.
 TOGETHER = 64
+# What a part has whole, and each how many-th growth of the others it has.
+WHOLE, STEP = "over lists", 10
 
 LIBRARY = r"""
 #![no_std]
-use core::ffi::{c_char, c_long, c_void};
+use core::ffi::c_void;
 use core::sync::atomic::{AtomicBool, AtomicI64, Ordering::Relaxed};
+
+// Of C, on x86-64: older compilers than 1.64 name them elsewhere.
+type Char = i8;
+type Long = i64;
 
 extern "C" {
     fn __libc_malloc(size: usize) -> *mut c_void;
     fn __libc_realloc(block: *mut c_void, size: usize) -> *mut c_void;
-    fn getenv(name: *const c_char) -> *const c_char;
-    fn atol(text: *const c_char) -> c_long;
-    fn syscall(number: c_long, ...) -> c_long;
+    fn getenv(name: *const Char) -> *const Char;
+    fn atol(text: *const Char) -> Long;
+    fn syscall(number: Long, ...) -> Long;
 }
 
-const WRITE: c_long = 1;
+const WRITE: Long = 1;
 
 /// How many marks have come, and whether growths count now; how many came while they did.
 static MARKS: AtomicI64 = AtomicI64::new(0);
@@ -75,7 +85,7 @@ fn tell() {
         text[at] = b'0' + (rest % 10) as u8;
         rest /= 10;
     }
-    unsafe { syscall(WRITE, 2 as c_long, text.as_ptr().add(at), 21 - at) };
+    unsafe { syscall(WRITE, 2 as Long, text.as_ptr().add(at), 21 - at) };
 }
 
 /// A write is passed on; a mark begins to count, or ends it.
@@ -88,7 +98,7 @@ pub unsafe extern "C" fn write(file: i32, text: *const u8, size: usize) -> isize
     if file == 1 && bytes.starts_with(b"end") && COUNTS.swap(false, Relaxed) {
         tell();
     }
-    syscall(WRITE, file as c_long, text, size) as isize
+    syscall(WRITE, file as Long, text, size) as isize
 }
 
 #[no_mangle]
@@ -182,32 +192,44 @@ class Call:
                     return
             first += TOGETHER
 
+    def refuse_some(self, pool):
+        """Refuses the first growth, some after it and the last, of those that come if none is refused."""
+        _, printed, told = self.run(0)
+        if self.outcome(printed) != "at once" or not re.fullmatch(r"\d+\n", told):
+            self.ill.append(f"no growth: {(printed + told)[-600:]!r}")
+            return
+        count = int(told)
+        for answer in pool.map(self.run, sorted({1, *range(STEP, count, STEP), count}) if count else ()):
+            if not self.take(*answer):
+                self.ill.append(f"growth {answer[0]} of {count} is not reached")
+        self.growths = count
+
     def report(self):
         """Prints how it went, and answers whether it went well."""
         has_growths = self.growths > 0 or (self.keeper, self.line.split()[1]) in NOTHING_GROWS
         line = self.line if len(self.line) < 70 else self.line[:67] + "..."
-        print(f"{self.keeper}: {line}: {self.growths} growths, {self.refused} refused, {self.at_once} answered at once", flush=True)
+        counts = f"{self.growths} growths, {self.refused + self.at_once} tried, {self.refused} refused, {self.at_once} answered at once"
+        print(f"{self.keeper}: {line}: {counts}", flush=True)
         for it in [*self.ill, *([] if has_growths else ["no growth lies between the marks"])]:
             print(f"    {it}", flush=True)
         return has_growths and not self.ill
 
 
 def main():
-    if not shutil.which("rustc"):
-        print("skipped: there is no rustc here, which makes the library that refuses a growth")
+    if not path_of("rustc"):
+        tell_skipped("tests.refuse_growths", f"there is no {named('rustc')}")
         return 0
-    words = sys.argv[1:]
+    is_part, words = "--part" in sys.argv[1:], [it for it in sys.argv[1:] if it != "--part"]
     keepers = [(ending, it) for ending, all_ in KEEPERS.items() for it in all_]
-    if "--lists" in words:
-        keepers = keepers[:1]
     well, count = True, 0
     with tempfile.TemporaryDirectory() as name, ThreadPoolExecutor(len(os.sched_getaffinity(0))) as pool:
         folder = Path(name)
         library = make_library(folder)
         for ending, keeper in keepers:
-            for line, story in calls(ending, [it for it in words if it != "--lists"]):
+            for line, story in calls(ending, words):
                 call = Call(folder, library, line, story, ending, keeper)
-                call.refuse_each(pool)
+                refuse = call.refuse_some if is_part and keeper != WHOLE else call.refuse_each
+                refuse(pool)
                 well, count = call.report() and well, count + 1
     print(f"{count} calls: {'all as they should' if well and count else 'some otherwise'}")
     return 0 if well and count else 1

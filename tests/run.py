@@ -1,8 +1,9 @@
 """All tests of this repository, one after another, as `make test` and CI run them.
 
 First come those that take seconds: whether the pages and the wrong bodies fit the sources, and the tests of the tools. Then
-comes the gate, rt ci, and behind it the tests of the program that it built. Each is run, also where one before it failed. The
-last line is 'N passed, M failed': what the gate counts, and one more for each of the others. The status is 0 where none failed."""
+comes the gate, rt ci, and after it the tests of the program that it built. Each is run, even if one before it failed. At the end
+each test that was skipped has a line, below what there is not on this machine, and then comes a line that counts them. The
+last line is 'N passed, M failed': what the gate counts, and one more for each of the others. The status is 0 if none failed."""
 import os
 import re
 import shutil
@@ -20,10 +21,17 @@ BEFORE = [
     "tests.test_format",
     "tests.test_using",
     "tests.test_wrong_bodies",
-    "tests.test_with_sidecars",
+    "tests.test_ports",
+    "tests.test_run",
+    "tests.test_tools",
     "tests.test_upload",
 ]
 GATE = ["rt", "ci"]
+# How the gate is begun. With a head start its first crates, which wait for each other, are proved before it, by two jobs each. It takes a kit that
+# keeps what was proved of crates that are named; such a kit proves none by name if CI=true. With jobs there is a check for each
+# processor, of one job each, if there is memory for it. Else rt goes by its own count of memory, and gives idle processors to checks.
+HAS_HEAD_START = True
+HAS_JOBS = True
 # The crates that stand on each other at its beginning, lowest first, and those that stand on few of them and on which much waits.
 CHAIN = ["para", "vers", "sums", "records", "rules", "suites", "texts", "keep"]
 BESIDE = ["test_rows", "tables", "tables_read", "copying", "old_rows"]
@@ -32,6 +40,7 @@ SECONDS_TO_BEGIN = 10
 # The memory that a check takes at most, in bytes, over the four that take the most side by side.
 MEMORY_OF_CHECK = 5_500_000_000
 BEHIND = [
+    "tests.test_with_sidecars",
     "tests.test_database",
     "tests.test_archives",
     "tests.test_others",
@@ -61,9 +70,11 @@ BEHIND = [
     "tests.test_export_apt",
     "tests.test_web_pages",
     "tests.test_packaging",
-    "tests.refuse_growths --lists",
+    "tests.refuse_growths --part",
 ]
 COUNTS = re.compile(r"(\d+) passed, (\d+) failed$")
+# The first kit that proves crates by name, and keeps that.
+KEEPING_KIT = 13, "f"
 
 
 def is_passed(line):
@@ -81,12 +92,24 @@ def free_memory():
     return 1024 * int(found[1]) if found else 0
 
 
+def kit():
+    """The number and the letter of the kit, as (13, "f"), or None if it says none."""
+    ran = subprocess.run(["rt", "--version"], stdin=subprocess.DEVNULL, capture_output=True, text=True, check=False)
+    found = re.match(r"rattle-kit-(\d+)([a-z]*) ", ran.stdout)
+    return found and (int(found[1]), found[2])
+
+
 def environment_of_gate():
     """The environment that the gate is run in. rt counts more memory for a check than one takes here, and leaves processors idle
-    by that count. Where there is memory for one check on each processor, RT_JOBS says so. Each check has one processor then."""
+    by that count. RT_JOBS has it run a check on each processor, if there is memory for that."""
     processors = len(os.sched_getaffinity(0))
     is_enough = free_memory() >= processors * MEMORY_OF_CHECK
-    return {**({"RT_JOBS": str(processors)} if is_enough else {}), **os.environ}
+    return {**({"RT_JOBS": str(processors)} if HAS_JOBS and is_enough else {}), **os.environ}
+
+
+def can_begin_before():
+    """Whether the gate has a head start here."""
+    return HAS_HEAD_START and os.environ.get("CI") != "true" and (kit() or (0, "")) >= KEEPING_KIT
 
 
 def prove_first():
@@ -106,10 +129,13 @@ def prove_first():
 
 
 def gate():
-    """Runs the gate, says how long it took, and answers how much of it passed and failed. Its first crates wait for each other, so they
-    are proved before."""
+    """Runs the gate, says how long it took, and answers how much of it passed and failed."""
+    if not shutil.which(GATE[0]):
+        print("There is no rt on the path, so nothing is proved.", flush=True)
+        return 0, 1
     last, began = "", time.monotonic()
-    prove_first()
+    if can_begin_before():
+        prove_first()
     with subprocess.Popen(GATE, cwd=ROOT, env=environment_of_gate(), stdout=subprocess.PIPE, text=True, errors="replace") as run:
         for line in run.stdout:
             print(line, end="", flush=True)
@@ -120,14 +146,41 @@ def gate():
     return passed, failed or int(run.returncode != 0)
 
 
-def main():
+def told_of_skipped(lines):
+    """What is printed of the tests that were skipped, of each what it is and why: below each reason, those that it skipped."""
+    found = {}
+    for it in lines:
+        what, _, why = it.rstrip("\n").partition("\t")
+        found.setdefault(why, []).append(what)
+    told = [line for why, names in found.items() for line in (f"Skipped, since {why}:", *(f"    {it}" for it in names))]
+    return [*told, f"{sum(map(len, found.values()))} skipped"]
+
+
+def run_all(*parts):
+    """Runs parts, each of which answers how much passed and failed, and prints what that comes to, as the last lines. Answers the status."""
     passed, failed = 0, 0
-    for part in (BEFORE, None, BEHIND):
-        results = [is_passed(it) for it in part] if part else []
-        well, ill = (sum(results), len(results) - sum(results)) if part else gate()
-        passed, failed = passed + well, failed + ill
+    with tempfile.NamedTemporaryFile("r", encoding="utf-8") as skipped:
+        os.environ["SKIPPED"] = skipped.name
+        for part in parts:
+            well, ill = part()
+            passed, failed = passed + well, failed + ill
+        print(*told_of_skipped(skipped), sep="\n")
     print(f"{passed} passed, {failed} failed")
     return 1 if failed else 0
+
+
+def each_of(lines):
+    """A part that runs each of these tools."""
+
+    def run():
+        results = [is_passed(it) for it in lines]
+        return sum(results), len(results) - sum(results)
+
+    return run
+
+
+def main():
+    return run_all(each_of(BEFORE), gate, each_of(BEHIND))
 
 
 if __name__ == "__main__":

@@ -1,10 +1,10 @@
 """The tests that take minutes, one after another, as `make test-long` runs them: each is a line of LINES, a module and its words.
 
-They are of the program that `rt ci` or `make build` built, or of the one that ARCHIVE names. Each is run, also where one before it
-failed. The last line is 'N passed, M failed', and the status is 0 where none failed."""
+They are of the program that `rt ci` or `make build` built, or of the one that ARCHIVE names. Each is run, even if one before it
+failed. The last lines are those of `make test`: what was skipped, and 'N passed, M failed'. The status is 0 if none failed."""
 import sys
 
-from tests.run import is_passed
+from tests.run import each_of, run_all
 
 LINES = [
     "tests.test_waits",
@@ -13,11 +13,5 @@ LINES = [
 ]
 
 
-def main():
-    results = [is_passed(it) for it in LINES]
-    print(f"{sum(results)} passed, {len(results) - sum(results)} failed")
-    return 0 if all(results) else 1
-
-
 if __name__ == "__main__":
-    sys.exit(main())
+    sys.exit(run_all(each_of(LINES)))

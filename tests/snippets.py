@@ -119,15 +119,6 @@ def commands_of(unit):
     return [shlex.split(line.replace("%%", "%")) for line in re.findall(r"^ExecStart=(.*)$", unit, re.M)]
 
 
-def free_port(ports=(0,)):
-    """A port of these that is free. Of 0 it is any."""
-    for port in ports:
-        with contextlib.suppress(OSError), socket.socket() as it:
-            it.bind(("127.0.0.1", port))
-            return it.getsockname()[1]
-    raise OSError("no port is free")
-
-
 def built(folder, package):
     """Writes what dpkg-buildpackage would of a package, which lists no sidecar: its files to a folder. Answers the path of the .changes."""
     files = {f"{package.name}_{package.version}_amd64.deb": uploads.deb_of(package)}
@@ -156,19 +147,6 @@ uwsgi_temp_path {folder}/uwsgi; scgi_temp_path {folder}/scgi;
 {text}
 }}
 """
-
-
-def needs(*names):
-    """Skips a test where one of these programs is not there."""
-    missing = [name for name in names if not shutil.which(name)]
-    return unittest.skipIf(missing, f"there is no {', no '.join(missing)}")
-
-
-def needs_dput(name):
-    """Skips a test if dput is not there, or is not that of this package: dput and dput-ng can't both be installed."""
-    path = shutil.which("dput")
-    owner = subprocess.run(["dpkg-query", "-S", path], capture_output=True, text=True, check=False).stdout if path and shutil.which("dpkg-query") else ""
-    return unittest.skipUnless(owner.startswith(f"{name}:"), f"there is no {name}")
 
 
 class Room:

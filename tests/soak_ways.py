@@ -6,7 +6,6 @@ what the answer is the second time. It also tells what it shows before, between 
 import collections
 import contextlib
 import dataclasses
-import itertools
 import os
 import random
 import signal
@@ -42,10 +41,6 @@ TIMELESS = {"show", "verdicts"}
 MANY, LONG = 1_000_000, 300
 
 
-# Ports that the system gives to no client by itself, so that one that is free stays so until `serve` has it.
-PORTS = itertools.cycle(range(10_000, 32_000))
-
-
 class Difference(Exception):
     """What is not as it has to be."""
 
@@ -72,17 +67,6 @@ class Attempt:
     status: int
     told: bytes
     is_again: bool = False
-
-
-def free_address():
-    """An address at which nothing listens. A process that is started meanwhile may hold this socket for a moment, too: so it is one
-    beside which `serve` may have the address."""
-    while True:
-        address = "127.0.0.1", next(PORTS)
-        with socket.socket() as it, contextlib.suppress(OSError):
-            it.setsockopt(socket.SOL_SOCKET, socket.SO_REUSEADDR, 1)
-            it.bind(address)
-            return address
 
 
 def request_of(command):
@@ -284,8 +268,7 @@ class Side:
         with open(f"{self.db}.moment", "w", encoding="ascii") as it:
             it.write(f"{moment}\n")
         self.begun = time.monotonic()
-        more = {"program": self.program, "address": free_address()}
-        self.serving = Serving(self.db, count, "--moments", f"{self.db}.moment", at=str(moment), **more)
+        self.serving = Serving(self.db, count, "--moments", f"{self.db}.moment", at=str(moment), program=self.program)
 
     def stop(self):
         self.serving.__exit__()

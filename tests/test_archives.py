@@ -15,8 +15,9 @@ import unittest
 
 from tests import older
 from tests.program import DATA, NAMES, PROGRAM, ROOT, Lines
-from tests.snippets import needs, snippet
+from tests.snippets import snippet
 from tests.test_lines import ended
+from tests.wants import main, needs, needs_strict_tables
 from uploads import uploads
 
 ARCHIVES = pathlib.Path(ROOT, "tests/archives")
@@ -68,13 +69,13 @@ class Layouts(unittest.TestCase):
         for number in numbers:
             self.assertTrue(expected(number), number)
 
-    @unittest.skipIf(sqlite3.sqlite_version_info < (3, 37), "SQLite has no STRICT tables")
+    @needs_strict_tables
     def test_each_file_is_of_its_layout(self):
         for path in ARCHIVES.glob("*.db"):
             with self.subTest(path.name):
                 self.assertEqual(rows_of(path, "SELECT version FROM meta"), [(int(path.stem),)])
 
-    @unittest.skipIf(sqlite3.sqlite_version_info < (3, 37), "SQLite has no STRICT tables")
+    @needs_strict_tables
     def test_the_first_layouts_are_of_their_statements(self):
         """No program made these two: each file has the rows that older.py writes."""
         for number in older.TABLES:
@@ -155,7 +156,7 @@ def former(sql):
     return sql
 
 
-@unittest.skipIf(sqlite3.sqlite_version_info < (3, 37), "SQLite has no STRICT tables")
+@needs_strict_tables
 class Upgrading(Lines):
     """An archive of other keys, which a program before the first release made."""
 
@@ -209,4 +210,4 @@ class Upgrading(Lines):
 
 
 if __name__ == "__main__":
-    unittest.main()
+    main()

@@ -12,6 +12,7 @@ import tempfile
 import unittest
 
 from tests.program import PROGRAM, mounted
+from tests.wants import main, needs_file
 from uploads import uploads
 
 # The moment of all commands, in seconds since 1970-01-01 00:00:00 UTC.
@@ -52,7 +53,7 @@ def least(is_enough, most):
     return most
 
 
-@unittest.skipUnless(os.path.exists(PROGRAM), f"there is no program {PROGRAM}")
+@needs_file(PROGRAM)
 class Folder(unittest.TestCase):
     """A folder that lines are run in."""
 
@@ -199,11 +200,8 @@ class Moving(Folder):
 
         self.expect(moved, f"{self.folder}/move.db", lambda: None, 512, "archive: Q4 K2\n")
 
-    @unittest.skipUnless(os.geteuid() == 0 and shutil.which("mount"), "only root can mount a file system that fills")
     def test_over_a_disk_that_is_nearly_full(self):
         with mounted(8_000_000) as folder:
-            if not folder:
-                self.skipTest("no file system can be mounted here")
             filler = f"{folder}/filler"
 
             def free():
@@ -222,4 +220,4 @@ class Moving(Folder):
 
 
 if __name__ == "__main__":
-    unittest.main()
+    main()

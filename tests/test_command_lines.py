@@ -6,9 +6,9 @@ import shutil
 import sqlite3
 import subprocess
 import tempfile
-import unittest
 
 from tests.program import DATA, NAMES, PROGRAM, ROOT, Lines
+from tests.wants import main
 
 # A configuration, which lies outside of the folders of the tests.
 CONF = tempfile.NamedTemporaryFile(suffix=".conf")
@@ -251,4 +251,4 @@ class Help(Words):
 
 
 if __name__ == "__main__":
-    unittest.main()
+    main()

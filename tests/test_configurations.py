@@ -11,9 +11,9 @@ import sqlite3
 import subprocess
 import tempfile
 import time
-import unittest
 
 from tests.program import DATA, NAMES, PACKAGES, PROGRAM, Lines, Serving, get, put, put_of, replied
+from tests.wants import main, needs, needs_strict_tables
 from uploads import uploads
 
 BOX = "Codename: box\nArchitectures: amd64 source\nComponents: main\n"
@@ -131,7 +131,7 @@ class Words(Configurations):
         self.assertEqual(self.text_at(db, "dists/box/Release"), RELEASES[BOX])
 
 
-@unittest.skipIf(sqlite3.sqlite_version_info < (3, 37), "SQLite has no STRICT tables")
+@needs_strict_tables
 class Rows(Configurations):
     def rows(self, db, table):
         with contextlib.closing(sqlite3.connect(db)) as held:
@@ -230,7 +230,7 @@ class Kills(Configurations):
                 seen[name] += 1
                 yield name, seen[name]
 
-    @unittest.skipUnless(shutil.which("strace"), "there is no strace")
+    @needs("strace")
     def test_at_each_call(self):
         done = []
         for name, number in list(self.calls()):
@@ -258,4 +258,4 @@ class Kills(Configurations):
 
 
 if __name__ == "__main__":
-    unittest.main()
+    main()

@@ -4,9 +4,9 @@ the one that ARCHIVE names; where there is none the tests say that they were ski
 old for STRICT tables."""
 import contextlib
 import sqlite3
-import unittest
 
 from tests.program import DATA, NAMES, Lines, Serving
+from tests.wants import main, needs_strict_tables
 
 
 class Held(Lines):
@@ -20,7 +20,7 @@ class Held(Lines):
         self.assertEqual(self.line(0, "verdicts", db), f"accepted {NAMES[0]}\n")
 
 
-@unittest.skipIf(sqlite3.sqlite_version_info < (3, 37), "SQLite has no STRICT tables")
+@needs_strict_tables
 class Database(Lines):
     def change(self, db, statement):
         held = sqlite3.connect(db)
@@ -87,4 +87,4 @@ class Database(Lines):
 
 
 if __name__ == "__main__":
-    unittest.main()
+    main()

@@ -12,9 +12,9 @@ import subprocess
 import tempfile
 import threading
 import time
-import unittest
 
 from tests.program import MOMENT, PROGRAM, Lines, mounted
+from tests.wants import main, needs
 from uploads import uploads
 
 SECONDS = float(os.environ.get("EXPORT_SECONDS", "20"))
@@ -526,7 +526,7 @@ class InTheWay(Exports):
         self.export()
         self.check_tree()
 
-    @unittest.skipIf(os.geteuid() == 0 and not shutil.which("setpriv"), "the superuser has each right, and there is no setpriv")
+    @needs(*["setpriv"] * (os.geteuid() == 0))
     def test_a_tree_without_rights(self):
         self.archive()
         os.makedirs(self.tree)
@@ -543,8 +543,6 @@ class InTheWay(Exports):
     def test_a_full_disk(self):
         self.archive()
         with mounted(1 << 20) as folder:
-            if folder is None:
-                self.skipTest("no file system can be mounted")
             self.tree = f"{folder}/www"
             self.upload("hello", "1.0-1", b"a" * 300_000)
             self.export()
@@ -655,4 +653,4 @@ class Killed(Exports):
 
 
 if __name__ == "__main__":
-    unittest.main()
+    main()

@@ -8,10 +8,10 @@ import random
 import re
 import threading
 import time
-import unittest
 
 from tests import snippets
 from tests.test_export import Exports
+from tests.wants import main, needs
 
 SECONDS = float(os.environ.get("EXPORT_APT_SECONDS", "15"))
 PAUSE = float(os.environ.get("EXPORT_APT_PAUSE", "1"))
@@ -132,14 +132,14 @@ class Apt(Exports):
         print(f"{option}: {updates} updates beside {len(self.states)} exports, {failed} failed; {downloads} downloads")
         return failed
 
-    @snippets.needs("apt-get")
+    @needs("apt-get")
     def test_each_failure_is_a_switch_between_two_requests(self):
         self.loop("trusted=yes", [])
 
-    @snippets.needs("apt-get")
+    @needs("apt-get")
     def test_none_fails_with_names_by_digest(self):
         self.assertEqual(self.loop("trusted=yes by-hash=force", ["--by-hash"]), 0)
 
 
 if __name__ == "__main__":
-    unittest.main()
+    main()

@@ -8,9 +8,9 @@ import resource
 import shutil
 import sqlite3
 import tempfile
-import unittest
 
 from tests.program import NAMES, Lines, Serving, get, mounted, put, put_of, replied, status_of
+from tests.wants import main, needs
 
 NEW = replied("201 Created", b"new\n")
 AGAIN = replied("200 OK", b"again\n")
@@ -70,14 +70,11 @@ class FullFile(Lines):
             self.assertEqual(serving.ended(), (0, "", ""))
 
 
-@unittest.skipUnless(os.geteuid() == 0 and shutil.which("mount"), "only root can mount a file system that fills")
 class FullDisk(Lines):
     """What came of a file that did not fit stays until the next body begins, for which there may be no room either."""
 
     def test_what_is_answered_over_a_full_disk(self):
         with mounted(20_000_000) as folder:
-            if not folder:
-                self.skipTest("no file system can be mounted here")
             db = self.made()
             shutil.copy(db, f"{folder}/box.db")
             self.fill(folder, f"{folder}/box.db")
@@ -194,7 +191,7 @@ class FailingCalls(Lines):
         return next((name, number) for name, number, connection in self.failures() if connection == 2)
 
 
-@unittest.skipUnless(shutil.which("strace"), "there is no strace")
+@needs("strace")
 class FailingSyncs(FailingCalls):
     NAMES, FAULT = ("fsync", "fdatasync"), "EIO"
 
@@ -239,4 +236,4 @@ class FailingSyncs(FailingCalls):
 
 
 if __name__ == "__main__":
-    unittest.main()
+    main()

@@ -6,11 +6,12 @@ import tempfile
 import unittest
 
 from tests.tools import ROOT
+from tests.wants import main, needs
 
 LAID_OUT, NOT = "fn one() -> u8 {\n    1\n}\n", "fn one()  -> u8 {\n  1\n}\n"
 
 
-@unittest.skipUnless(shutil.which("rt"), "there is no rt")
+@needs("rt")
 class Format(unittest.TestCase):
     def setUp(self):
         room = tempfile.TemporaryDirectory()
@@ -44,4 +45,4 @@ class Format(unittest.TestCase):
 
 
 if __name__ == "__main__":
-    unittest.main()
+    main()

@@ -3,9 +3,9 @@ import contextlib
 import os
 import subprocess
 import time
-import unittest
 
 from tests.program import DATA, NAMES, PROGRAM, Lines, Serving, get, rest, seconds_since
+from tests.wants import main
 
 # The words of each command behind `--db FILE`, and what it answers where nobody has the file: status, and both outputs.
 COMMANDS = {
@@ -97,4 +97,4 @@ class Holders(Lines):
 
 
 if __name__ == "__main__":
-    unittest.main()
+    main()

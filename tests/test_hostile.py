@@ -11,9 +11,9 @@ import signal
 import socket
 import sys
 import time
-import unittest
 
 from tests.program import Lines, Serving, get, put_of, replied, reset, rest, seconds_since, status_of
+from tests.wants import main
 
 COUNT = 1000
 NAME, BODY = "noise_1.0-1_amd64.deb", b"noise" * 20_000
@@ -247,4 +247,4 @@ class Hostile(Lines):
 if __name__ == "__main__":
     if len(sys.argv) > 1 and sys.argv[1].isdigit():
         COUNT = int(sys.argv.pop(1))
-    unittest.main()
+    main()

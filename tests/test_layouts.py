@@ -3,11 +3,11 @@ it, for an older one with what reads it. The program is that of program.py."""
 import os
 import pathlib
 import sqlite3
-import unittest
 
 from tests.program import NAMES, Lines
 from tests.test_archives import layout
 from tests.test_command_lines import COMMANDS, Words
+from tests.wants import main, needs_strict_tables
 
 CONFIGURATION = b"Codename: box\nArchitectures: amd64 source\nComponents: main\n"
 META = "CREATE TABLE meta (version INTEGER NOT NULL, configuration BLOB NOT NULL)"
@@ -95,7 +95,7 @@ class Layouts(Words):
         self.refused(ALONE)
 
 
-@unittest.skipIf(sqlite3.sqlite_version_info < (3, 37), "SQLite has no STRICT tables")
+@needs_strict_tables
 class Numbered(Lines):
     """An archive of this program."""
 
@@ -117,4 +117,4 @@ class Numbered(Lines):
 
 
 if __name__ == "__main__":
-    unittest.main()
+    main()

@@ -24,6 +24,7 @@ import unittest
 
 from tests.program import PROGRAM, ROOT
 from tests.rows import Row, Unread, questions_of, read_rows
+from tests.wants import main, needs_file
 
 FILES = sorted(pathlib.Path(ROOT, "tests/lines").glob("*.rows"))
 PROGRAMS = [os.path.abspath(it) for it in (PROGRAM, f"{PROGRAM}.by-rattle") if os.path.exists(it)]
@@ -239,7 +240,7 @@ class Reading(unittest.TestCase):
         self.assertEqual(list(differences(Folder("no program", "no folder"), rows)), found)
 
 
-@unittest.skipUnless(os.path.exists(PROGRAM), f"there is no program {PROGRAM}")
+@needs_file(PROGRAM)
 class Rows(unittest.TestCase):
     def expect(self, path):
         """Asks the rows of a file."""
@@ -265,4 +266,4 @@ for file_of_rows in FILES:
 
 
 if __name__ == "__main__":
-    unittest.main()
+    main()

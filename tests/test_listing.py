@@ -4,9 +4,9 @@ import json
 import os
 import subprocess
 import tempfile
-import unittest
 
 from tests.program import DATA, MOMENT, NAMES, PROGRAM, Lines, Serving, get, put, replied
+from tests.wants import main
 
 CHANGES, DEB, CONTROL = NAMES
 
@@ -322,4 +322,4 @@ class Exported(Archive):
 
 
 if __name__ == "__main__":
-    unittest.main()
+    main()

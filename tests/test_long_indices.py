@@ -4,9 +4,9 @@ program is that of program.py."""
 import hashlib
 import re
 import tempfile
-import unittest
 
 from tests.program import Lines, Serving, get, put_of, status_of
+from tests.wants import main
 from uploads import uploads
 
 INDICES = ("main/binary-amd64/Packages", "main/source/Sources")
@@ -104,4 +104,4 @@ class LongIndices(Lines):
 
 
 if __name__ == "__main__":
-    unittest.main()
+    main()

@@ -11,12 +11,12 @@ import shutil
 import sqlite3
 import subprocess
 import time
-import unittest
 
 from tests import older
 from tests.older import BOX, LAB, RUN
 from tests.program import DATA, NAMES, PROGRAM
 from tests.test_command_lines import Words
+from tests.wants import main, needs, needs_root, needs_strict_tables
 from uploads import uploads
 
 LAYOUTS = sorted(older.TABLES)
@@ -55,7 +55,7 @@ CHANGES = [
 ONE_OFF = {1: ["UPDATE arrivals SET body = x'616264' WHERE id = 2", "UPDATE files SET size = 4"], 2: ["UPDATE pieces SET bytes = x'616264' WHERE body = 2", "UPDATE bodies SET size = 4 WHERE id = 2", "DELETE FROM pieces WHERE body = 2"]}
 
 
-@unittest.skipIf(sqlite3.sqlite_version_info < (3, 37), "SQLite has no STRICT tables")
+@needs_strict_tables
 class Migrations(Words):
     """An older file in a folder of its own, and a folder for what is made."""
 
@@ -417,7 +417,7 @@ class Files(Migrations):
                 self.assertEqual(process.wait(timeout=60), 0)
         self.expect(older.archive())
 
-    @unittest.skipUnless(os.geteuid() == 0, "only root may run a program as another user")
+    @needs_root
     def test_a_file_of_another_owner(self):
         """It need not be writable, nor its folder; but it has to be readable."""
         nobody = 65_534
@@ -462,7 +462,7 @@ class Kills(Migrations):
                 seen[name] += 1
                 yield name, seen[name]
 
-    @unittest.skipUnless(shutil.which("strace"), "there is no strace")
+    @needs("strace")
     def test_at_each_call(self):
         self.make(2, more=[older.waiting()])
         before, done = self.held(), []
@@ -494,4 +494,4 @@ class Kills(Migrations):
 
 
 if __name__ == "__main__":
-    unittest.main()
+    main()

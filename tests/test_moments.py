@@ -1,9 +1,9 @@
 """Tests of the moments of `serve --moments`, and of the lines of `serve --log`. The program is that of program.py."""
 import os
 import re
-import unittest
 
 from tests.program import NAMES, PACKAGES, Lines, Serving, get, put, release, replied, reset, rest, wait_until_read
+from tests.wants import main
 
 NOTHING = replied("200 OK", b"")
 BAD = replied("400 Bad Request", b"400 Bad Request\n")
@@ -169,4 +169,4 @@ class Log(Lines):
 
 
 if __name__ == "__main__":
-    unittest.main()
+    main()

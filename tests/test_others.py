@@ -6,10 +6,9 @@ import os
 import shutil
 import sqlite3
 import subprocess
-import unittest
 
 from tests.program import DATA, NAMES, PROGRAM, Lines, Serving, get
-from tests.snippets import needs
+from tests.wants import main, needs, needs_strict_tables
 from uploads import uploads
 
 COUNT = 100
@@ -102,7 +101,7 @@ def kept(db):
     return {table: rows_of(db, f"SELECT * FROM {table} ORDER BY 1, 2") for table in KEPT}
 
 
-@unittest.skipIf(sqlite3.sqlite_version_info < (3, 37), "SQLite has no STRICT tables")
+@needs_strict_tables
 class Others(Lines):
     def setUp(self):
         self.alone = self.made()
@@ -240,4 +239,4 @@ class Others(Lines):
 
 
 if __name__ == "__main__":
-    unittest.main()
+    main()

@@ -9,13 +9,16 @@ import shutil
 import subprocess
 import sys
 import tempfile
+import time
 import unittest
 import unittest.mock
 
+from tests.ports import free_port
 from tests.program import PROGRAM
-from tests.snippets import free_port, needs, snippet
+from tests.snippets import snippet
 from tests.test_command_lines import OPTIONS, USAGES
 from tests.tools import ROOT, tool
+from tests.wants import main, needs, needs_file, needs_root, no_file_system
 from uploads import uploads
 
 MAKE = f"{ROOT}/packaging/make_deb"
@@ -70,6 +73,12 @@ def run(*words, **more):
     return ran.returncode, ran.stdout, ran.stderr
 
 
+def make_deb():
+    """What makes the package, as a module."""
+    with unittest.mock.patch.object(sys, "path", [f"{ROOT}/packaging", *sys.path]):
+        return tool("packaging/make_deb")
+
+
 class Room(unittest.TestCase):
     def setUp(self):
         room = tempfile.TemporaryDirectory()
@@ -115,8 +124,7 @@ class Manuals(Room):
     def test_each_command_has_a_line_with_its_options(self):
         """In the manual, on the page, and among what bash offers."""
         synopsis, _, rest = self.shown("archive.1").partition("\nDESCRIPTION\n")
-        with unittest.mock.patch.object(sys, "path", [f"{ROOT}/packaging", *sys.path]):
-            offered = tool("packaging/make_deb").completion()
+        offered = make_deb().completion()
         self.assertEqual(re.findall(r"^ +archive ([a-z]+)", synopsis, re.M), re.findall(r"^archive ([a-z]+)", snippet("commands"), re.M))
         self.assertEqual(set(re.findall(r"^ +archive ([a-z]+)", synopsis, re.M)), set(USAGES))
         for command, usage in USAGES.items():
@@ -149,6 +157,7 @@ class Package(Room):
     """The package of a program in place of the built one."""
 
     def made(self, program="/bin/true", **variables):
+        """Makes it, with a time of its own if no variable says another."""
         status, path, told = run(MAKE, program, self.room, env={**os.environ, "SOURCE_DATE_EPOCH": "1467436850", **variables})
         self.assertEqual((status, told), (0, ""))
         return path.strip()
@@ -194,8 +203,19 @@ class Package(Room):
     @needs("lintian")
     def test_lintian_reports_no_error(self):
         program = os.path.abspath(PROGRAM) if os.path.exists(PROGRAM) else "/bin/true"
-        status, printed, told = run("lintian", "--allow-root", "--fail-on", "error,warning", self.made(program))
+        now = str(make_deb().moment())
+        status, printed, told = run("lintian", "--allow-root", "--fail-on", "error,warning", self.made(program, SOURCE_DATE_EPOCH=now))
         self.assertEqual((status, printed), (0, ""), told)
+
+    def test_each_version_has_its_day(self):
+        """The newest has that of the package, and each other that of the page."""
+        made = make_deb().changes(1467436850).splitlines()
+        page = (ROOT / "CHANGELOG.md").read_text(encoding="utf-8")
+        self.assertEqual([line.split()[1] for line in made if line.startswith("boqitsel ")], [f"({it})" for it in re.findall(r"^## (\S+)", page, re.M)])
+        days = [time.strptime(line.partition(">  ")[2], "%a, %d %b %Y %H:%M:%S +0000") for line in made if line.startswith(" -- ")]
+        self.assertEqual(time.strftime("%Y-%m-%d %H:%M:%S", days[0]), "2016-07-02 05:20:50")
+        self.assertEqual([time.strftime("(%Y-%m-%d)", it) for it in days[1:]], re.findall(r"^## \S+ (.*)", page, re.M))
+        self.assertEqual(days[1:], sorted(days[1:], reverse=True))
 
     def test_words_and_what_is_missing(self):
         self.assertEqual(run(MAKE)[0], 2)
@@ -228,8 +248,8 @@ def changes_of(deb, number):
     return text.replace("  * Made.", f"  * Made {number}.")
 
 
-@unittest.skipUnless(os.path.exists(PROGRAM), f"there is no program {PROGRAM}")
-@unittest.skipUnless(os.geteuid() == 0, "only root can install in a root of its own")
+@needs_file(PROGRAM)
+@needs_root
 @needs("dpkg-deb", "dpkg-shlibdeps", "strip", "unshare", "chroot", "apt-get", "curl")
 class Installed(Room):
     """The package of the built program, installed."""
@@ -242,7 +262,7 @@ class Installed(Room):
 
     def test_it_serves_its_own_package_to_apt(self):
         if not self.can_mount():
-            self.skipTest("no file system can be mounted over another here")
+            raise no_file_system()
         status, path, told = run("make", "-s", "deb", f"PROGRAM={os.path.abspath(PROGRAM)}", cwd=ROOT)
         self.assertEqual((status, told), (0, ""))
         deb = self.room / DEB
@@ -267,4 +287,4 @@ class Installed(Room):
 
 
 if __name__ == "__main__":
-    unittest.main()
+    main()

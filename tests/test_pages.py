@@ -7,6 +7,7 @@ import tempfile
 import unittest
 
 from tests.tools import ROOT, tool
+from tests.wants import main
 
 FAULTS = "docs/FAULTS.md"
 
@@ -212,4 +213,4 @@ class Pages(unittest.TestCase):
 
 
 if __name__ == "__main__":
-    unittest.main()
+    main()

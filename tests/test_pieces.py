@@ -2,14 +2,13 @@
 within one, the memory that one takes, and files that hold less than their length says, can't be read, or have no length. The program
 is that of program.py."""
 import os
-import shutil
 import signal
 import sqlite3
 import subprocess
 import threading
-import unittest
 
 from tests.program import PROGRAM, Lines, Serving, put_of, replied, reset, status_of, wait_until_read
+from tests.wants import main, needs, needs_file, needs_that
 
 NEW = replied("201 Created", b"new\n")
 AGAIN = replied("200 OK", b"again\n")
@@ -89,7 +88,7 @@ class CutOff(Bodies):
         self.expect_rows(db, 1, 64)
 
 
-@unittest.skipUnless(os.path.exists("/proc/self/status"), "there is no /proc")
+@needs_file("/proc/self/status")
 class Memory(Lines):
     def peak(self, body):
         """The most memory that a fresh server has taken behind the delivery of a body, in KiB."""
@@ -108,7 +107,7 @@ class Memory(Lines):
 
 
 class Files(Bodies):
-    @unittest.skipUnless(is_short(), f"there is no {SHORT} that ends before its length")
+    @needs_that(is_short(), f"{SHORT} that ends before its length")
     def test_a_file_that_ends_before_its_length_is_refused_and_the_next_taken(self):
         db = self.made()
         folder = os.path.dirname(db)
@@ -118,7 +117,7 @@ class Files(Bodies):
         self.assertEqual(printed, "refused Q9 short.deb\nnew whole.deb\n")
         self.expect_rows(db, 1, 64)
 
-    @unittest.skipUnless(shutil.which("strace"), "there is no strace")
+    @needs("strace")
     def test_a_file_that_can_not_be_read_to_its_end_is_refused_and_the_next_taken(self):
         db = self.made()
         folder = os.path.dirname(db)
@@ -151,4 +150,4 @@ class Files(Bodies):
 
 
 if __name__ == "__main__":
-    unittest.main()
+    main()

@@ -9,9 +9,9 @@ import re
 import subprocess
 import threading
 import time
-import unittest
 
 from tests.program import LONG, MOMENT, PROGRAM, SOON, Lines
+from tests.wants import main
 from uploads import uploads
 
 # How long a pipe holds a command up, and how long a line stands at least, in seconds.
@@ -211,4 +211,4 @@ class Progress(Lines):
 
 
 if __name__ == "__main__":
-    unittest.main()
+    main()

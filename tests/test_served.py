@@ -1,8 +1,8 @@
 """A test of an archive in a database file that is served on loopback: clients are sent what the program prints by its other words,
 and what they deliver stays in the file. The program is that of program.py."""
-import unittest
 
 from tests.program import MOMENT, NAMES, PACKAGES, Lines, Serving, get, put, release, replied, rest
+from tests.wants import main
 
 # Requests in their order, each with its whole reply: a delivery is new once, at no path is nothing, HTTP 1.0 will do, what ends early or
 # brings no byte delivers nothing.
@@ -44,4 +44,4 @@ class Served(Lines):
 
 
 if __name__ == "__main__":
-    unittest.main()
+    main()

@@ -7,15 +7,15 @@ import fcntl
 import os
 import re
 import resource
-import shutil
 import signal
 import socket
 import stat
 import tempfile
 import time
-import unittest
 
-from tests.program import DATA, NAMES, Lines, Serving, free_address, get, put, put_of, replied, reset, rest, seconds_since, status_of, wait_until_read
+from tests.ports import free_address
+from tests.program import DATA, NAMES, Lines, Serving, get, put, put_of, replied, reset, rest, seconds_since, status_of, wait_until_read
+from tests.wants import main, needs
 
 NOTHING = replied("200 OK", b"")
 NEW = replied("201 Created", b"new\n")
@@ -219,7 +219,7 @@ class Beginnings(Lines):
             self.assertEqual(serving.answer(get("verdicts")), NOTHING)
             self.assertEqual(serving.ended(), (0, "", ""))
 
-    @unittest.skipUnless(shutil.which("strace"), "there is no strace")
+    @needs("strace")
     def test_which_errors_of_accept_end_it(self):
         """Each comes twice. Those that pass count as no connection."""
         db = self.made()
@@ -347,4 +347,4 @@ class Readers(Lines):
 
 
 if __name__ == "__main__":
-    unittest.main()
+    main()

@@ -8,6 +8,7 @@ import tempfile
 import unittest
 
 from tests.program import PROGRAM, ROOT
+from tests.wants import main, needs_file
 
 # How many commands are given, and how many where something else is done, which has to be found.
 COMMANDS, FEW = 3000, 1000
@@ -36,7 +37,7 @@ RUN = "'{program}' run --db \"$3\" --at \"$5\" > /dev/null"
 CLEAN = "'{program}' clean --db \"$3\" --at 4000000000 > /dev/null"
 
 
-@unittest.skipUnless(os.path.exists(PROGRAM), f"there is no program {PROGRAM}")
+@needs_file(PROGRAM)
 class Soak(unittest.TestCase):
     def setUp(self):
         room = tempfile.TemporaryDirectory()
@@ -87,4 +88,4 @@ class Soak(unittest.TestCase):
 
 
 if __name__ == "__main__":
-    unittest.main()
+    main()

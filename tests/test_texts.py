@@ -11,6 +11,7 @@ import unittest
 
 from tests.test_archives import ARCHIVES, layout
 from tests.tools import ROOT
+from tests.wants import main
 
 INDEX_TEXT = re.compile(r"^text (\S+\.(?:Packages|Sources|Release))\n((?:\|.*\n)+)", re.M)
 
@@ -49,4 +50,4 @@ class Texts(unittest.TestCase):
 
 
 if __name__ == "__main__":
-    unittest.main()
+    main()

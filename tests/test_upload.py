@@ -17,8 +17,10 @@ import threading
 import time
 import unittest
 
-from tests.snippets import built, free_port, needs
+from tests.ports import free_port
+from tests.snippets import built
 from tests.tools import ROOT, tool
+from tests.wants import main, needs
 from uploads import uploads
 
 TOOL = f"{ROOT}/bin/upload"
@@ -437,4 +439,4 @@ class Uploads(unittest.TestCase):
 
 
 if __name__ == "__main__":
-    unittest.main()
+    main()

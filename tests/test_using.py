@@ -4,12 +4,12 @@ test says that it was skipped. What they show is run by test_using_program.py, t
 import os
 import pathlib
 import re
-import shutil
 import subprocess
-import unittest
 
 from tests import snippets
+from tests.ports import free_port
 from tests.snippets import snippet
+from tests.wants import main, needs
 
 HERE = pathlib.Path(__file__).resolve().parent
 
@@ -33,7 +33,7 @@ class Using(snippets.Case):
         tests = "".join(it.read_text(encoding="utf-8") for it in HERE.glob("test_*.py"))
         self.assertEqual(set(snippets.PIECES) - set(re.findall(r'snippet\("([^"]+)"', tests)), set())
 
-    @unittest.skipUnless(shutil.which("systemd-analyze"), "there is no systemd-analyze")
+    @needs("systemd-analyze")
     def test_the_units_are_right(self):
         # The programs need not be installed here.
         self.room.write("units/boqitsel.service", snippet("box.service", {"/usr/local/bin/archive": "/bin/true"}))
@@ -47,16 +47,16 @@ class Using(snippets.Case):
         for name in (".service", "-queue.service", "-queue.timer", "-clean.service", "-clean.timer"):
             self.assertEqual(self.passes("systemd-analyze", "verify", f"{self.room.folder}/units/boqitsel{name}"), "")
 
-    @unittest.skipUnless(shutil.which("nginx") and shutil.which("openssl"), "there is no nginx, or no openssl")
+    @needs("nginx", "openssl")
     def test_the_texts_for_nginx_are_right(self):
         """They are taken with other paths for the certificate, the cache and the logins, and with a port that needs no right."""
         tree = {"/srv/box/www": f"{self.room.work}/www"}
         for path in (
-            self.room.proxy(snippet("nginx"), snippets.free_port(), 8080),
-            self.room.nginx(snippet("tree by nginx"), snippets.free_port(), tree),
+            self.room.proxy(snippet("nginx"), free_port(), 8080),
+            self.room.nginx(snippet("tree by nginx"), free_port(), tree),
         ):
             self.assertIn("test is successful", self.passes("nginx", "-t", "-c", path))
 
 
 if __name__ == "__main__":
-    unittest.main()
+    main()

@@ -11,13 +11,14 @@ import socket
 import subprocess
 import threading
 import time
-import unittest
 
 from tests import snippets
+from tests.ports import free_port
 from tests.program import PROGRAM, mounted, put_of
-from tests.snippets import ROOT, built, commands_of, free_port, needs, needs_dput, snippet
+from tests.snippets import ROOT, built, commands_of, snippet
 from tests.test_configurations import arm64_upload
 from tests.test_upload import Proxy
+from tests.wants import main, needs, needs_dput, needs_file, needs_root
 from uploads import uploads
 
 HELLO = uploads.Package("hello", source=True)
@@ -32,7 +33,7 @@ def hello(version):
     return uploads.Package("hello", version=version, source=True)
 
 
-@unittest.skipUnless(os.path.exists(PROGRAM), f"there is no program {PROGRAM}")
+@needs_file(PROGRAM)
 class Case(snippets.Case):
     def made(self, changes=()):
         """Makes the archive of the page, with other words in its configuration."""
@@ -727,7 +728,7 @@ class Refusals(Case):
             self.shell("rm -f box.db-wal")
             self.k2()
 
-    @unittest.skipUnless(os.geteuid() == 0, "only root can run a command as somebody else")
+    @needs_root
     def test_no_right_to_write(self):
         shutil.copy(PROGRAM, f"{self.room.folder}/copy")
         os.chmod(self.room.folder, 0o755)
@@ -738,11 +739,8 @@ class Refusals(Case):
             ran = subprocess.run(words, cwd=self.room.work, user=65534, group=65534, capture_output=True, text=True, check=False, timeout=60)
             self.assertEqual((ran.returncode, ran.stdout, ran.stderr), (3, "", "archive: K2\n"), (mode, folder))
 
-    @unittest.skipUnless(os.geteuid() == 0 and shutil.which("mount"), "only root can mount a file system that fills")
     def test_a_full_disk(self):
         with mounted(4_000_000) as folder:
-            if not folder:
-                self.skipTest("no file system can be mounted here")
             self.shell(f"cp box.db {folder}/; head -c 2000000 /dev/zero > large_1.0-1_amd64.deb")
             self.shell(f"head -c 3000000 /dev/zero > {folder}/filler")
             put = f"archive put --db {folder}/box.db --at 4000000000 large_1.0-1_amd64.deb"
@@ -751,14 +749,11 @@ class Refusals(Case):
             self.shell(f"rm {folder}/filler")
             self.assertEqual(self.shell(put), "new large_1.0-1_amd64.deb\n")
 
-    @unittest.skipUnless(os.geteuid() == 0 and shutil.which("mount"), "only root can mount a file system that fills")
     def test_a_full_disk_of_its_own(self):
         """What does not fit fills it, so that a small file is refused, too, until the reserve is taken away, or the archive was elsewhere."""
         self.shell("head -c 2500000 /dev/zero > large_1.0-1_amd64.deb; echo small > small_1.0-1_amd64.deb")
         for has_reserve in (True, False):
             with mounted(4_000_000) as folder:
-                if not folder:
-                    self.skipTest("no file system can be mounted here")
                 self.shell(f"cp box.db {folder}/")
                 self.shell(snippet("reserve", {"80M reserve": f"2M {folder}/reserve"}))
                 put = f"archive put --db {folder}/box.db --at 4000000000"
@@ -770,14 +765,11 @@ class Refusals(Case):
                     self.shell(f"mkdir other; mv {folder}/box.db* other/; archive verdicts --db other/box.db; mv other/box.db* {folder}/")
                 self.assertEqual(self.shell(f"{put} small_1.0-1_amd64.deb"), "new small_1.0-1_amd64.deb\n")
 
-    @unittest.skipUnless(os.geteuid() == 0 and shutil.which("mount"), "only root can mount a file system that fills")
     def test_a_reserve_is_larger_than_the_log(self):
         """What the log has is brought into box.db first, and then the log goes. A smaller reserve is used up by that."""
         self.shell("for name in a b c d e f g; do head -c 3000000 /dev/urandom > ${name}_1.0-1_amd64.deb; done")
         for size, is_enough in ((3, False), (12, True)):
             with self.subTest(size), mounted(20_000_000) as folder:
-                if not folder:
-                    self.skipTest("no file system can be mounted here")
                 self.shell(f"cp box.db {folder}/")
                 self.shell(snippet("reserve", {"80M reserve": f"{size}M {folder}/reserve"}))
                 self.fails(f"archive put --db {folder}/box.db --at 4000000000 ?_1.0-1_amd64.deb")
@@ -787,4 +779,4 @@ class Refusals(Case):
 
 
 if __name__ == "__main__":
-    unittest.main()
+    main()

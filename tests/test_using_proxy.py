@@ -10,15 +10,15 @@ import time
 import unittest
 
 from tests import snippets
+from tests.ports import free_port
 from tests.program import PROGRAM
-from tests.snippets import built, free_port, needs, needs_dput, snippet
+from tests.snippets import built, snippet
+from tests.wants import main, needs, needs_dput, needs_file
 from uploads import uploads
 
 HELLO = uploads.Package("hello", source=True)
 DEB = "pool/main/h/hello/hello_1.0-1_amd64.deb"
 PASSWORD = "a secret"
-# apt-cacher-ng takes none above.
-LOW_PORTS = range(20_000, 32_768)
 KEYRING = "/usr/share/keyrings/box.gpg"
 
 
@@ -27,7 +27,7 @@ class Site(snippets.Room):
 
     def __init__(self):
         super().__init__()
-        self.behind, self.front = free_port(), free_port(LOW_PORTS)
+        self.behind, self.front = free_port(), free_port()
         self.url = f"https://localhost:{self.front}"
         self.keyring = f"{self.work}/signed/box.gpg"
         certificate = self.certificate()[0]
@@ -72,7 +72,7 @@ class Site(snippets.Room):
         return self.sure("./sign")
 
 
-@unittest.skipUnless(os.path.exists(PROGRAM), f"there is no program {PROGRAM}")
+@needs_file(PROGRAM)
 @needs("curl", "dpkg-deb", "nginx", "openssl")
 class Proxy(unittest.TestCase):
     def setUp(self):
@@ -238,7 +238,7 @@ class Proxy(unittest.TestCase):
     def test_a_cache_at_a_site(self):
         changes = self.signed()
         del changes["https://archive.example.org"]
-        port, folder = free_port(LOW_PORTS), f"{self.site.folder}/cacher"
+        port, folder = free_port(), f"{self.site.folder}/cacher"
         self.site.write("cacher/box.conf", snippet("cache", {"https://archive.example.org": self.site.url}))
         os.mkdir(f"{folder}/cache")
         words = ["ForeGround=1", f"Port={port}", "BindAddress=127.0.0.1", f"CacheDir={folder}/cache", f"LogDir={folder}"]
@@ -275,4 +275,4 @@ class Proxy(unittest.TestCase):
 
 
 if __name__ == "__main__":
-    unittest.main()
+    main()

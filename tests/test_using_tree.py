@@ -12,11 +12,12 @@ import subprocess
 import sys
 import threading
 import time
-import unittest
 
 from tests import snippets
+from tests.ports import free_port
 from tests.program import PROGRAM
-from tests.snippets import built, commands_of, free_port, needs, snippet
+from tests.snippets import built, commands_of, snippet
+from tests.wants import main, needs, needs_file
 from uploads import uploads
 
 HELLO = uploads.Package("hello", source=True)
@@ -92,7 +93,7 @@ class Watch:
             time.sleep(0.001)
 
 
-@unittest.skipUnless(os.path.exists(PROGRAM), f"there is no program {PROGRAM}")
+@needs_file(PROGRAM)
 @needs("dpkg-deb")
 class Case(snippets.Case):
     """A test with an archive that shows the package hello."""
@@ -392,4 +393,4 @@ class Copies(Case):
 
 
 if __name__ == "__main__":
-    unittest.main()
+    main()

@@ -2,12 +2,11 @@
 `--json`, and a tree that gpg signs. Where gpg is not there, the test says that it was skipped."""
 import json
 import pathlib
-import shutil
-import unittest
 
 from tests import snippets
 from tests.program import DATA, NAMES
 from tests.snippets import snippet
+from tests.wants import main, needs
 
 
 def keys(line):
@@ -61,7 +60,7 @@ class Words(snippets.Case):
             it["sha256"] = digest
         self.assertEqual(json.loads(self.shell("archive why --db box.db --json", self.room.work)), wanted)
 
-    @unittest.skipUnless(shutil.which("gpg"), "there is no gpg")
+    @needs("gpg")
     def test_a_tree_that_gpg_signs(self):
         self.archive()
         self.room.run("gpg --batch --quiet --passphrase '' --quick-generate-key archive@example.org")
@@ -75,4 +74,4 @@ class Words(snippets.Case):
 
 
 if __name__ == "__main__":
-    unittest.main()
+    main()

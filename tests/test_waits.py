@@ -1,6 +1,7 @@
 """Tests of how long `serve` waits for a slow client, which take minutes. They run beside each other. The program is that of
 program.py."""
 import contextlib
+import itertools
 import socket
 import sys
 import threading
@@ -8,6 +9,7 @@ import time
 import unittest
 
 from tests.program import Lines, Serving, get, put, replied, rest, seconds_since
+from tests.wants import name_of, tell_skipped
 from uploads import uploads
 
 NOTHING = replied("200 OK", b"")
@@ -92,7 +94,9 @@ def all_at_once():
     for result in results:
         for test, text in result.failures + result.errors:
             print(f"{test}\n{text}")
-    print(f"Ran {len(tests)} tests, {sum(not it.wasSuccessful() for it in results)} failed, {sum(len(it.skipped) for it in results)} skipped.")
+    for test, why in itertools.chain.from_iterable(it.skipped for it in results):
+        tell_skipped(name_of(test), why)
+    print(f"Ran {len(tests)} tests, {sum(not it.wasSuccessful() for it in results)} failed.")
     return all(it.wasSuccessful() for it in results)
 
 

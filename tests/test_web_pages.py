@@ -2,25 +2,24 @@
 texts that look like markup, and those pages in a browser. Where the program, its `export` or the browser is not there the tests of it
 say that they were skipped."""
 import base64
-import functools
 import hashlib
 import html
 import html.parser
 import os
 import pathlib
 import re
-import shutil
 import subprocess
 import tempfile
 import unittest
 import urllib.parse
 
-from tests.program import DATA, MOMENT, NAMES, PROGRAM, ROOT, Lines
+from tests.program import DATA, MOMENT, NAMES, ROOT, Lines
 from tests.snippets import changed
+from tests.wants import main, needs_that, path_of
 from uploads import uploads
 
 SOURCES = pathlib.Path(ROOT, "crates/pages/src")
-BROWSER = shutil.which("chromium") or shutil.which("chromium-browser") or shutil.which("google-chrome")
+BROWSER = path_of("chromium") or path_of("chromium-browser") or path_of("google-chrome")
 
 # What a page may have: its elements with their attributes. `meta` and `link` have no end.
 ELEMENTS = {
@@ -116,21 +115,12 @@ class Sources(unittest.TestCase):
         self.assertEqual(source("link.rt").count("append_to(&mut text)"), source("link.rt").count("append_to"))
 
 
-@functools.cache
-def exports():
-    """Whether the program has the command."""
-    ran = subprocess.run([PROGRAM, "export", "--help"], capture_output=True, text=True, check=False, timeout=60)
-    return ran.returncode == 0
-
-
 class Tree(Lines):
     """An archive of a configuration, and the tree that it is exported to."""
 
     CONF = ""
 
     def setUp(self):
-        if not exports():
-            self.skipTest("the program has no export")
         room = tempfile.TemporaryDirectory()
         self.addCleanup(room.cleanup)
         self.room, self.tree, self.db = room.name, f"{room.name}/www", f"{room.name}/it.db"
@@ -210,9 +200,8 @@ class Exported(Tree):
         self.assertIn("deb [signed-by=/usr/share/keyrings/box.gpg] ", text)
         self.assertNotIn("trusted", text)
 
+    @needs_that(BROWSER, "chromium")
     def test_a_browser_runs_the_script_and_nothing_else(self):
-        if not BROWSER:
-            self.skipTest("there is no chromium")
         self.export()
         words = ["--headless", "--no-sandbox", "--disable-gpu", f"--user-data-dir={self.room}/browser", "--dump-dom"]
         ran = subprocess.run([BROWSER, *words, f"file://{self.tree}/index.html"], capture_output=True, text=True, check=True, timeout=120)
@@ -271,4 +260,4 @@ class Waits(Tree):
 
 
 if __name__ == "__main__":
-    unittest.main()
+    main()

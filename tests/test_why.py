@@ -3,11 +3,11 @@ here of the bytes that are handed in and of the sentences of docs/FAULTS.md, as 
 import json
 import pathlib
 import re
-import unittest
 
 from tests.program import ROOT
 from tests.snippets import changed
 from tests.test_listing import Archive, digest
+from tests.wants import main
 from uploads import uploads
 
 DAY = 86_400
@@ -472,4 +472,4 @@ class NotFound(Why):
 
 
 if __name__ == "__main__":
-    unittest.main()
+    main()

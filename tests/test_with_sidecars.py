@@ -12,6 +12,7 @@ import tempfile
 import unittest
 
 from tests.program import PROGRAM, ROOT
+from tests.wants import main, missing, needs
 
 TOOL = f"{ROOT}/bin/with_sidecars"
 
@@ -115,7 +116,7 @@ def told(*lines):
     return "".join(f"with_sidecars: {line}\n" for line in lines)
 
 
-@unittest.skipUnless(shutil.which("dpkg-deb"), "dpkg-deb is missing")
+@needs("dpkg-deb")
 class Uploads(unittest.TestCase):
     def setUp(self):
         room = tempfile.TemporaryDirectory()
@@ -159,7 +160,7 @@ class Uploads(unittest.TestCase):
     def check_accepted(self, paths, packages):
         """Checks what the archive shows of an upload, where its program is built."""
         if not os.path.exists(PROGRAM):
-            self.skipTest(f"there is no program {PROGRAM}")
+            raise missing(PROGRAM)
         tried = run(PROGRAM, "try", *paths)
         self.assertEqual((tried.stderr, tried.returncode), ("", 0))
         self.assertEqual([line for line in tried.stdout.splitlines() if line.startswith("Package:")], packages)
@@ -276,7 +277,7 @@ class Uploads(unittest.TestCase):
         wanted = "other_1.0-1_all.deb is not named by its own fields, as hallo_1.0-1_all.deb"
         self.assertEqual(done.stderr, told(f"hello_1.0-1_amd64.changes: {wanted}"))
 
-    @unittest.skipUnless(shutil.which("dpkg-buildpackage"), "dpkg-buildpackage is missing")
+    @needs("dpkg-buildpackage")
     def test_what_dpkg_buildpackage_makes(self):
         debian = self.built / "hello/debian"
         (debian / "source").mkdir(parents=True)
@@ -310,4 +311,4 @@ class Uploads(unittest.TestCase):
 
 
 if __name__ == "__main__":
-    unittest.main()
+    main()

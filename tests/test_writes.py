@@ -1,12 +1,11 @@
 """Tests of `serve` over a file whose writes fail one by one, or whose disk is full at one of them. They take minutes, and need strace.
 The program is that of program.py."""
-import shutil
-import unittest
 
 from tests import test_failing
+from tests.wants import main, needs
 
 
-@unittest.skipUnless(shutil.which("strace"), "there is no strace")
+@needs("strace")
 class FailingWrites(test_failing.FailingCalls):
     NAMES, FAULT = ("pwrite64", "ftruncate"), "EIO"
 
@@ -14,7 +13,7 @@ class FailingWrites(test_failing.FailingCalls):
         self.each_fails_once()
 
 
-@unittest.skipUnless(shutil.which("strace"), "there is no strace")
+@needs("strace")
 class FullWrites(test_failing.FailingCalls):
     NAMES, FAULT = ("pwrite64",), "ENOSPC"
 
@@ -23,4 +22,4 @@ class FullWrites(test_failing.FailingCalls):
 
 
 if __name__ == "__main__":
-    unittest.main()
+    main()

@@ -4,6 +4,7 @@ import tempfile
 import unittest
 
 from tests import tools
+from tests.wants import main
 
 tool = tools.tool("checks/try_wrong_bodies")
 
@@ -176,4 +177,4 @@ class WrongBodies(unittest.TestCase):
 
 
 if __name__ == "__main__":
-    unittest.main()
+    main()

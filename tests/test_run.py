@@ -1,0 +1,87 @@
+"""Tests of tests/run.py: how the gate is begun with which kit, by an rt that writes down what it is asked, and what the last lines are."""
+import contextlib
+import io
+import os
+import pathlib
+import tempfile
+import unittest
+import unittest.mock
+
+from tests import run
+from tests.wants import main
+
+RT = """#!/bin/sh
+test "$1" = --version && echo "rattle-kit-{kit} logic 0" && exit
+echo "$* RT_JOBS=$RT_JOBS" >> {room}/asked
+test $# = 1 && echo "7 passed, {failed} failed" && exit {failed}
+echo "2 passed, 0 failed ($*)"
+"""
+
+
+class Gate(unittest.TestCase):
+    def setUp(self):
+        room = tempfile.TemporaryDirectory()
+        self.addCleanup(room.cleanup)
+        self.room = pathlib.Path(room.name)
+        (self.room / "crates").mkdir()
+        for name in ("HANDLES", "crates.txt"):
+            (self.room / name).touch()
+        changed = unittest.mock.patch.multiple(run, ROOT=room.name, SECONDS_TO_BEGIN=0)
+        changed.start()
+        self.addCleanup(changed.stop)
+
+    def asked(self, kit="13f", failed=0, ci=None):
+        """Runs the gate. Answers what it comes to, and what rt was asked."""
+        (self.room / "rt").write_text(RT.format(kit=kit, room=self.room, failed=failed))
+        (self.room / "rt").chmod(0o755)
+        (self.room / "asked").write_text("")
+        changes = {"PATH": f"{self.room}:/usr/bin:/bin", **({"CI": ci} if ci else {})}
+        with unittest.mock.patch.dict(os.environ, changes), contextlib.redirect_stdout(io.StringIO()):
+            for name in {"RT_JOBS", "CI"} - set(changes):
+                os.environ.pop(name, None)
+            return run.gate(), (self.room / "asked").read_text().splitlines()
+
+    def words(self, **words):
+        return [" ".join(it.split()[:-1]) for it in self.asked(**words)[1]]
+
+    def test_the_head_start_is_of_a_kit_that_keeps_it(self):
+        before = [f"ci {' '.join(run.CHAIN)}", f"ci {' '.join(run.BESIDE)}"]
+        with unittest.mock.patch.object(run, "HAS_HEAD_START", True), unittest.mock.patch.object(run, "free_memory", lambda: 1 << 40):
+            for kit in ("13f", "13g", "14", "14a", "20b"):
+                found = self.words(kit=kit)
+                self.assertEqual((sorted(found[:-1]), found[-1]), (sorted(before), "ci"), kit)
+            for kit in ("13b", "13e", "13", "12z", "some"):
+                self.assertEqual(self.words(kit=kit), ["ci"], kit)
+            self.assertEqual(self.words(ci="true"), ["ci"])
+        with unittest.mock.patch.object(run, "HAS_HEAD_START", False):
+            self.assertEqual(self.words(), ["ci"])
+
+    def test_jobs_are_given_if_there_is_memory(self):
+        jobs = len(os.sched_getaffinity(0))
+        for has_jobs, memory, wanted in ((True, 1 << 40, f"ci RT_JOBS={jobs}"), (True, 1 << 30, "ci RT_JOBS="), (False, 1 << 40, "ci RT_JOBS=")):
+            with unittest.mock.patch.object(run, "HAS_JOBS", has_jobs), unittest.mock.patch.object(run, "free_memory", lambda: memory):
+                self.assertEqual(self.asked(ci="true")[1], [wanted])
+
+    def test_what_it_comes_to(self):
+        self.assertEqual([self.asked(ci="true", failed=it)[0] for it in (0, 1)], [(7, 0), (7, 1)])
+        with unittest.mock.patch.dict(os.environ, {"PATH": str(self.room / "none")}), contextlib.redirect_stdout(io.StringIO()):
+            self.assertEqual(run.gate(), (0, 1))
+
+
+class Lines(unittest.TestCase):
+    def test_the_last_lines(self):
+        def part():
+            with open(os.environ["SKIPPED"], "a", encoding="utf-8") as file:
+                file.write("tests.a One.b\tthere is no strace\ntests.c Two.d\tthere is no gpg\ntests.c Two.e\tthere is no strace\n")
+            return 5, 0
+
+        printed = io.StringIO()
+        with contextlib.redirect_stdout(printed), unittest.mock.patch.dict(os.environ):
+            status = run.run_all(part, lambda: (1, 2))
+        wanted = ["Skipped, since there is no strace:", "    tests.a One.b", "    tests.c Two.e", "Skipped, since there is no gpg:", "    tests.c Two.d"]
+        self.assertEqual((status, printed.getvalue().splitlines()), (1, [*wanted, "3 skipped", "6 passed, 2 failed"]))
+        self.assertEqual(run.told_of_skipped([]), ["0 skipped"])
+
+
+if __name__ == "__main__":
+    main()
