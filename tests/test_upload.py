@@ -5,9 +5,12 @@ import collections
 import contextlib
 import hashlib
 import http.server
+import io
+import itertools
 import pathlib
 import random
 import re
+import resource
 import socket
 import struct
 import subprocess
@@ -16,6 +19,7 @@ import tempfile
 import threading
 import time
 import unittest
+import unittest.mock
 
 from tests.snippets import built, free_port, needs
 from tests.tools import ROOT, tool
@@ -153,6 +157,30 @@ def reset(client):
     """Ends a connection by a reset."""
     client.setsockopt(socket.SOL_SOCKET, socket.SO_LINGER, struct.pack("ii", 1, 0))
     client.close()
+
+
+class Answers:
+    """A server that is no archive: it reads the head of each request, and then sends these pieces, without end if there is no end of them."""
+
+    def __init__(self, pieces):
+        self.pieces, self.count = pieces, 0
+        self.listener = socket.create_server(("127.0.0.1", 0))
+        self.port = self.listener.getsockname()[1]
+        threading.Thread(target=self.go, daemon=True).start()
+
+    def go(self):
+        with contextlib.suppress(OSError):
+            while True:
+                client = self.listener.accept()[0]
+                self.count += 1
+                with contextlib.suppress(OSError), client, client.makefile("rb") as request:
+                    while request.readline().strip():
+                        pass
+                    for piece in self.pieces():
+                        client.sendall(piece)
+
+    def close(self):
+        self.listener.close()
 
 
 class Proxy:
@@ -392,6 +420,66 @@ class Uploads(unittest.TestCase):
         status, printed, told = self.upload("--run", "--within", "3")
         self.assertEqual((status, printed), (3, NEW))
         self.assertIn(f"upload: not done within 3 seconds: {CHANGES} has no verdict yet, and lacks 1 files\n", told)
+
+    def answered(self, pieces, *words):
+        """What the command ends with where the server sends these pieces to each request, and how many requests there were. It has 512 MiB."""
+        server = Answers(pieces)
+        self.addCleanup(server.close)
+        line = [sys.executable, TOOL, self.url_of(server.port), self.changes, *words]
+        limit = lambda: resource.setrlimit(resource.RLIMIT_AS, (1 << 29, 1 << 29))
+        ran = subprocess.run(line, capture_output=True, text=True, check=False, timeout=LONG, preexec_fn=limit)
+        return ran.returncode, ran.stdout, ran.stderr, server.count
+
+    def test_a_reply_that_is_too_long(self):
+        """Whatever its head says of its length, no more is read, and there is one request."""
+        head, block = b"HTTP/1.1 200 OK\r\n", bytes(1 << 16)
+        told = "upload: the reply to GET /verdicts has more than 67108864 bytes\n"
+        for name, first, rest in (
+            ("a length", head + b"Content-Length: 99999999999999\r\n\r\n", block),
+            ("no length", head + b"\r\n", block),
+            ("a chunk", head + b"Transfer-Encoding: chunked\r\n\r\n7fffffffffffffff\r\n", block),
+            ("chunks", head + b"Transfer-Encoding: chunked\r\n\r\n", b"10000\r\n" + block + b"\r\n"),
+            ("a trailer", head + b"Transfer-Encoding: chunked\r\n\r\n0\r\n", b"Name: value\r\n" * 5000),
+            ("an answer before the answer", b"", b"HTTP/1.1 100 Continue\r\n\r\n" * 2000),
+        ):
+            with self.subTest(name):
+                self.assertEqual(self.answered(lambda: itertools.chain([first], itertools.repeat(rest)), "--run"), (3, "", told, 1))
+
+    def test_a_reply_that_is_none(self):
+        """It is asked again, until the time is over."""
+        head = b"HTTP/1.1 200 OK\r\n"
+        for name, reply in (
+            ("nothing", b""),
+            ("no line", b"\xff\x1b]0;x\x07\r\n\r\n"),
+            ("another protocol", b"SSH-2.0-OpenSSH_9.2\r\n"),
+            ("half a head", head + b"Content-Le"),
+            ("a line without end", head + b"Name: " + b"x" * 70_000),
+            ("many lines", head + b"Name: value\r\n" * 200 + b"\r\n"),
+            ("half a body", head + b"Content-Length: 4\r\n\r\nnew"),
+            ("half a chunk", head + b"Transfer-Encoding: chunked\r\n\r\n5\r\nnew\n"),
+            ("a chunk of no length", head + b"Transfer-Encoding: chunked\r\n\r\nlong\r\nnew\n"),
+            ("a chunk of less than nothing", head + b"Transfer-Encoding: chunked\r\n\r\n-5\r\nnew\n"),
+        ):
+            with self.subTest(name):
+                status, printed, told, count = self.answered(lambda: [reply], "--within", "1")
+                self.assertEqual((status, printed, count > 1), (3, "", True), told)
+                self.assertRegex(told, r"\A(upload: .*; trying again\n)+upload: not done within 1 seconds: .*\n\Z")
+                self.assertNotRegex(told, "[\x00-\x09\x0b-\x1f\x7f-\x9f]")
+
+    def test_a_reply_that_takes_too_long(self):
+        """A byte now and then is none that is silent."""
+        def pieces():
+            yield b"HTTP/1.1 200 OK\r\n"
+            while True:
+                time.sleep(0.2)
+                yield b"N"
+
+        server = Answers(pieces)
+        self.addCleanup(server.close)
+        upload, told = tool("bin/upload"), io.StringIO()
+        with unittest.mock.patch.object(upload, "REPLY_SECONDS", 1), contextlib.redirect_stderr(told):
+            self.assertEqual(upload.main([self.url_of(server.port), self.changes, "--run"]), 3)
+        self.assertEqual((told.getvalue(), server.count), ("upload: the reply to GET /verdicts took more than 1 seconds\n", 1))
 
     def cut(self):
         """A proxy that cuts connections."""
