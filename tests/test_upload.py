@@ -7,6 +7,7 @@ import hashlib
 import http.server
 import io
 import itertools
+import os
 import pathlib
 import random
 import re
@@ -379,6 +380,46 @@ class Uploads(unittest.TestCase):
                 path.write_text(text)
             status, printed, told = self.upload(changes=str(path))
             self.assertEqual((status, printed, told.startswith(f"upload: {name}.changes: ")), (1, "", True), told)
+        self.assertEqual(self.archive.requests, [])
+
+    def test_a_file_elsewhere_is_not_opened(self):
+        """Whoever opened one of these would wait for good."""
+        text = pathlib.Path(self.changes).read_text()
+        folder = self.room / "secret"
+        folder.mkdir()
+        os.mkfifo(folder / "s.dsc")
+        for name in ("secret/s.dsc", f"{self.room}/secret/s.dsc", "secret/../secret/s.dsc", "-x.dsc", "s\0.dsc"):
+            lists = "".join(f"{field}:\n {'0' * 40} 3{' utils optional' * (field == 'Files')} {name}\n" for field in uploads.LISTS)
+            path = self.room / "odd.changes"
+            path.write_text(f"{text.partition('Checksums-Sha1:')[0]}{lists}")
+            self.check((1, ""), changes=str(path), told=f"upload: odd.changes: {name} is no file name\n".replace("\0", "?"))
+        self.assertEqual(self.archive.requests, [])
+
+    def test_what_is_no_file_of_its_own_is_not_sent(self):
+        """Neither of an upload that is made here, nor of one that is sent as it is."""
+        ready = self.room / "ready"
+        subprocess.run([sys.executable, f"{ROOT}/bin/with_sidecars", self.changes, ready], check=True, capture_output=True, timeout=LONG)
+        for folder in (self.room, ready):
+            dsc = folder / "hello_1.0-1.dsc"
+            for kind, make in (("a link: put the file itself there", lambda it: it.symlink_to("kept")), ("no regular file", os.mkfifo)):
+                with self.subTest(kind):
+                    dsc.rename(folder / "kept")
+                    make(dsc)
+                    self.check((1, ""), changes=str(folder / CHANGES), told=f"upload: {CHANGES}: {dsc.name} is {kind}\n")
+                    (folder / "kept").rename(dsc)
+        self.assertEqual(self.archive.requests, [])
+
+    def test_what_is_told_has_no_control_character(self):
+        path = self.room / "odd.changes"
+        for text, wanted in (
+            ("no field \x1b]0;pwned\x07\x9b", "not a field of one paragraph: no field ?]0;pwned??"),
+            ("Format: 1.8\n\x1b: x\n\x1b: y", "not a field of one paragraph: ?: y"),
+        ):
+            path.write_text(text)
+            self.check((1, ""), changes=str(path), told=f"upload: odd.changes: {wanted}\n")
+        path = self.room / "\x1b[2J\nrefused 3.changes"
+        path.write_text("Format: 1.8\n")
+        self.check((1, ""), changes=str(path), told="upload: ?[2J?refused 3.changes: ?[2J?refused 3.changes is no file name\n")
         self.assertEqual(self.archive.requests, [])
 
     def test_what_is_not_reached(self):

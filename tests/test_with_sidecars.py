@@ -5,15 +5,21 @@ Where there is the program of program.py, it takes the uploads.
 import hashlib
 import os
 import pathlib
+import resource
 import shutil
+import stat
 import subprocess
 import sys
 import tempfile
 import unittest
+import unittest.mock
 
 from tests.program import PROGRAM, ROOT
+from tests.tools import tool
 
 TOOL = f"{ROOT}/bin/with_sidecars"
+# How long a test waits for what should come, in seconds, and how much memory with_sidecars gets.
+LONG, MEMORY = 120, 1 << 28
 
 CONTROL = """Package: {package}
 Version: {version}
@@ -102,12 +108,13 @@ def names_in(fields, field):
     return [line.split()[-1] for line in fields[field][1:]]
 
 
-def run(*words, cwd=None):
-    return subprocess.run(words, cwd=cwd, capture_output=True, text=True, check=False)
+def run(*words, **more):
+    return subprocess.run(words, capture_output=True, text=True, check=False, timeout=LONG, **more)
 
 
-def with_sidecars(*words):
-    return run(sys.executable, TOOL, *words)
+def with_sidecars(*words, **more):
+    """Runs the command, which has 256 MiB."""
+    return run(sys.executable, TOOL, *words, preexec_fn=lambda: resource.setrlimit(resource.RLIMIT_AS, (MEMORY, MEMORY)), **more)
 
 
 def told(*lines):
@@ -128,7 +135,7 @@ class Uploads(unittest.TestCase):
     def build(self, package, version):
         """Builds a package file, and answers its name."""
         tree = self.room / package
-        (tree / "DEBIAN").mkdir(parents=True)
+        (tree / "DEBIAN").mkdir(parents=True, exist_ok=True)
         (tree / "DEBIAN/control").write_text(CONTROL.format(package=package, version=version))
         name = f"{package}_{version.partition(':')[2] or version}_all.deb"
         run("dpkg-deb", "--root-owner-group", "--build", tree, self.built / name).check_returncode()
@@ -263,6 +270,110 @@ class Uploads(unittest.TestCase):
             self.check_lists(done.stdout.splitlines())
             lines = fields_of((self.ready / changes.name).read_text())["Files"][1:]
             self.assertEqual([" ".join(line.split()[2:4]) for line in lines], [wanted] * 2)
+
+    def listing(self, name, body=b"", file="odd.changes"):
+        """A .changes that lists the package hello, and another file by its name with these contents. The file itself is not made."""
+        changes = self.changes(name=file)
+        lists = (("Checksums-Sha1", "sha1"), ("Checksums-Sha256", "sha256"), ("Files", "md5"))
+        text = changes.read_text()
+        for field, digest in lists:
+            text = text.replace(f"{field}:\n", list_of(field, digest, {name: body}))
+        changes.write_text(text)
+        return changes
+
+    def check_refused(self, changes, wanted):
+        """Checks that an upload is refused with this line, and that nothing of it is written, and the one after it all the same."""
+        good = self.changes(name="good.changes")
+        done = with_sidecars(changes, good, self.ready)
+        self.assertEqual((done.stderr, done.returncode), (told(f"{changes.name}: {wanted}"), 1))
+        self.assertEqual(done.stdout.splitlines()[-1], str(self.ready / good.name))
+        self.assertEqual(sorted(it.name for it in self.ready.iterdir()), ["good.changes", "hello_1.0-1_all.control", "hello_1.0-1_all.deb"])
+
+    def test_a_file_elsewhere_is_not_opened(self):
+        """Whoever opened one of these would wait for good."""
+        os.mkfifo(self.room / "secret.dsc")
+        os.mkfifo(self.built / "-x.deb")
+        for name in ("../secret.dsc", str(self.room / "secret.dsc"), "..", ".", "built/../../secret.dsc", "-x.deb", "x" * 201, "s\0.dsc", "s\u00e9.dsc"):
+            with self.subTest(name):
+                self.check_refused(self.listing(name), f"{name} is no file name".replace("\0", "?"))
+
+    def test_what_is_no_file_of_its_own_is_not_opened(self):
+        body = b"contents"
+        for kind, make in (
+            ("link", lambda it: it.symlink_to("/etc/hostname")),
+            ("link", lambda it: it.symlink_to("/dev/zero")),
+            ("link", lambda it: it.symlink_to("hello_1.0-1_all.deb")),
+            ("link", lambda it: it.symlink_to(it.name)),
+            ("fifo", os.mkfifo),
+            ("folder", os.mkdir),
+            ("device", lambda it: os.mknod(it, 0o666 | stat.S_IFCHR, os.makedev(1, 5))),
+        ):
+            with self.subTest(kind):
+                changes = self.listing("odd.tar.gz", body)
+                odd = self.built / "odd.tar.gz"
+                try:
+                    make(odd)
+                except PermissionError:
+                    continue
+                wanted = "odd.tar.gz is a link: put the file itself there" if kind == "link" else "odd.tar.gz is no regular file"
+                self.check_refused(changes, wanted)
+                changes.unlink()
+                odd.rename(changes)
+                self.check_refused(changes, wanted.replace("odd.tar.gz", changes.name))
+                os.rmdir(changes) if kind == "folder" else changes.unlink()
+
+    def test_a_file_of_any_size(self):
+        """No more is read of it than the archive takes."""
+        for name, listed in (("large.tar.gz", True), ("large.changes", False)):
+            changes = self.listing(name) if listed else self.built / name
+            with open(self.built / name, "wb") as it:
+                it.truncate(1 << 40)
+            self.check_refused(changes, f"{name} has more than 4194304 bytes")
+
+    def test_a_file_that_changes_while_it_is_read(self):
+        """As at the second reading, which copies it."""
+        changes = self.changes()
+        deb = self.built / "hello_1.0-1_all.deb"
+        it = tool("bin/with_sidecars")
+        write, size = it.write, deb.stat().st_size
+
+        def other(*words):
+            deb.write_bytes(bytes(size))
+            write(*words)
+
+        with unittest.mock.patch.object(it, "write", other), self.assertRaisesRegex(it.Wrong, f"^{deb.name} changed while it was read$"):
+            it.write_upload(changes, self.ready)
+
+    def test_what_is_no_name_of_a_changes(self):
+        good = self.changes().read_text()
+        for name, wanted in (
+            ("hello_1.0-1_all.deb", "it is no .changes"),
+            ("hello\nready.changes", "hello?ready.changes is no file name"),
+            ("\x1b]0;pwned\x07.changes", "?]0;pwned?.changes is no file name"),
+            ("-x.changes", "-x.changes is no file name"),
+            ("\udcff.changes", "\\udcff.changes is no file name"),
+        ):
+            path = self.built / name
+            if name.endswith(".changes"):
+                path.write_text(good)
+            done = with_sidecars(path, self.ready)
+            shown = name.replace("\n", "?").replace("\x1b", "?").replace("\x07", "?").replace("\udcff", "\\udcff")
+            self.assertEqual((done.stdout, done.stderr, done.returncode), ("", told(f"{shown}: {wanted}"), 1))
+        self.assertFalse(self.ready.exists())
+
+    def test_what_is_told_has_no_control_character(self):
+        """Of a long text it has the beginning. A file name that is taken for an option is one of these texts, too."""
+        changes = self.changes()
+        good = changes.read_text()
+        changes.write_text(f"{good}no field \x1b]0;pwned\x07\x7f\x9b\n")
+        wanted = told(f"{changes.name}: not a field of one paragraph: no field ?]0;pwned???")
+        self.assertEqual(with_sidecars(changes, self.ready).stderr, wanted)
+        changes.write_text(f"{good}{'x' * 100_000}\n")
+        text = f"{changes.name}: not a field of one paragraph: {'x' * 400}"
+        self.assertEqual(with_sidecars(changes, self.ready).stderr, told(f"{text[:400]}.."))
+        done = with_sidecars("-\x1b]0;pwned\x07.changes", changes, self.ready)
+        self.assertEqual((done.returncode, done.stdout), (2, ""))
+        self.assertEqual(done.stderr.splitlines()[1], "with_sidecars: error: unrecognized arguments: -?]0;pwned?.changes")
 
     def test_help(self):
         done = run(sys.executable, TOOL, "--help")
