@@ -3,6 +3,7 @@
 Where there is the program of program.py, it takes the uploads.
 """
 import hashlib
+import lzma
 import os
 import pathlib
 import resource
@@ -16,6 +17,7 @@ import unittest.mock
 
 from tests.program import PROGRAM, ROOT
 from tests.tools import tool
+from uploads import uploads
 
 TOOL = f"{ROOT}/bin/with_sidecars"
 # How long a test waits for what should come, in seconds, and how much memory with_sidecars gets.
@@ -91,6 +93,23 @@ def list_of(field, digest, bodies):
     place = "utils optional " if field == "Files" else ""
     lines = [f" {hashlib.new(digest, body).hexdigest()} {len(body)} {place}{name}\n" for name, body in bodies.items()]
     return f"{field}:\n{''.join(lines)}"
+
+
+def tar_of(members):
+    """A tar of members, each its name, its text and its kind."""
+    parts = []
+    for name, text, kind in members:
+        body = text.encode(errors="surrogateescape")
+        head = name.encode().ljust(100, b"\0") + b"0000644\x000000000\x000000000\0%011o\x0012735645120\0" % len(body)
+        head += b" " * 8 + kind + b"/etc/hostname".ljust(100, b"\0") + b"ustar\x0000"
+        head = head.ljust(512, b"\0").replace(b" " * 8 + kind, b"%06o\0 " % sum(head.ljust(512, b"\0")) + kind)
+        parts += [head, body, bytes(-len(body) % 512)]
+    return b"".join(parts) + bytes(1024)
+
+
+def deb_with(tar):
+    """A package file whose control files are in this tar."""
+    return uploads.ar_of({"debian-binary": b"2.0\n", "control.tar.xz": lzma.compress(tar, preset=0), "data.tar.gz": uploads.tar_of({})})
 
 
 def fields_of(text):
@@ -360,6 +379,72 @@ class Uploads(unittest.TestCase):
             shown = name.replace("\n", "?").replace("\x1b", "?").replace("\x07", "?").replace("\udcff", "\\udcff")
             self.assertEqual((done.stdout, done.stderr, done.returncode), ("", told(f"{shown}: {wanted}"), 1))
         self.assertFalse(self.ready.exists())
+
+    def odd(self, body):
+        """A .changes of the package hello whose .deb has other contents, and the name of that."""
+        deb = self.built / "hello_1.0-1_all.deb"
+        deb.write_bytes(body)
+        text = HEAD.format(package="hello", version="1.0-1")
+        for field, digest in (("Checksums-Sha1", "sha1"), ("Checksums-Sha256", "sha256"), ("Files", "md5")):
+            text += list_of(field, digest, {deb.name: body})
+        changes = self.built / "odd.changes"
+        changes.write_text(text)
+        return changes, deb.name
+
+    def test_a_deb_of_any_kind(self):
+        """Its control paragraph is the one file of the name, and no more of it is read or kept than a sidecar may have."""
+        control = CONTROL.format(package="hello", version="1.0-1")
+        self.changes()
+        good = (self.built / "hello_1.0-1_all.deb").read_bytes()
+        tar, size = tar_of([("./control", control, b"0")]), b"%011o" % len(control)
+        none, no_tar = "it has no control paragraph, or more than one", "its control files are in no tar"
+        for name, tar, wanted in (
+            ("no control", tar_of([("./md5sums", "x", b"0")]), none),
+            ("a large one", tar_of([("./control", f"{control} {'x' * 20_000_000}\n", b"0")]), "its control paragraph has more than 65536 bytes"),
+            ("two", tar_of([("./control", control, b"0"), ("control", control, b"0")]), none),
+            ("a link", tar_of([("./control", "", b"2")]), none),
+            ("a size that is none", tar.replace(size, b"0000000026x"), no_tar),
+            ("a size without end", tar.replace(size, b"\x80" + b"\xff" * 10), no_tar),
+            ("a size beyond the end", tar.replace(size, b"00000100000"), none),
+            ("half of it", tar[:600], none),
+            ("no tar", b"hello" * 200, no_tar),
+            ("nothing", b"", none),
+        ):
+            with self.subTest(name):
+                changes, deb = self.odd(deb_with(tar))
+                done = with_sidecars(changes, self.ready)
+                self.assertEqual((done.stdout, done.stderr, done.returncode), ("", told(f"odd.changes: {deb}: {wanted}"), 1))
+        for name, body in (("no .deb", b"hello"), ("nothing", b""), ("half of it", good[:200]), ("another", good.replace(b"control.tar", b"control.zip"))):
+            with self.subTest(name):
+                done = with_sidecars(self.odd(body)[0], self.ready)
+                self.assertEqual((done.stdout, done.returncode), ("", 1))
+                self.assertRegex(done.stderr, r"\Awith_sidecars: odd.changes: hello_1.0-1_all.deb: .*dpkg-deb: error: .*\n\Z")
+        self.assertFalse(self.ready.exists())
+
+    def test_a_deb_with_much_beside_its_control(self):
+        changes, deb = self.odd(deb_with(tar_of([("./md5sums", "x" * 1_000_000, b"0"), ("./control", CONTROL.format(package="hello", version="1.0-1"), b"0")])))
+        it = tool("bin/with_sidecars")
+        self.assertEqual(it.write_upload(changes, self.ready)[-1], self.ready / "odd.changes")
+        wanted = f"^{deb}: its control files have more than 900000 bytes$"
+        with unittest.mock.patch.object(it, "MOST_CONTROL", 900_000), self.assertRaisesRegex(it.Wrong, wanted):
+            it.write_upload(changes, self.ready)
+
+    def test_a_control_paragraph_with_odd_fields(self):
+        """The sidecar's name is that of the .deb, and no other."""
+        control = CONTROL.format(package="hello", version="1.0-1")
+        for text, wanted in (
+            (control.replace("Package: hello", "Package: ../hello"), "hello_1.0-1_all.deb is not named by its own fields, as ../hello_1.0-1_all.deb"),
+            (control.replace("Package: hello", "Package: \x1b]0;x\x07"), "hello_1.0-1_all.deb is not named by its own fields, as ?]0;x?_1.0-1_all.deb"),
+            (control.replace("Package: hello\n", ""), "no field Package"),
+            (control.replace("Package", "Pack\0age"), "no field Package"),
+            (control + control, "not a field of one paragraph: Package: hello"),
+            ("\n", "not a field of one paragraph: "),
+        ):
+            with self.subTest(text):
+                done = with_sidecars(self.odd(deb_with(tar_of([("./control", text, b"0")])))[0], self.ready)
+                self.assertEqual((done.stdout, done.stderr, done.returncode), ("", told(f"odd.changes: {wanted}"), 1))
+        done = with_sidecars(self.odd(deb_with(tar_of([("./control", control.replace("Ann", "\udcff"), b"0")])))[0], self.ready)
+        self.assertEqual(done.stderr, told("odd.changes: hello_1.0-1_all.deb is no text in UTF-8"))
 
     def test_what_is_told_has_no_control_character(self):
         """Of a long text it has the beginning. A file name that is taken for an option is one of these texts, too."""
