@@ -12,6 +12,7 @@ import stat
 import subprocess
 import sys
 import tempfile
+import time
 import unittest
 import unittest.mock
 
@@ -22,6 +23,8 @@ from uploads import uploads
 TOOL = f"{ROOT}/bin/with_sidecars"
 # How long a test waits for what should come, in seconds, and how much memory with_sidecars gets.
 LONG, MEMORY = 120, 1 << 28
+UMASK = os.umask(0)
+os.umask(UMASK)
 
 CONTROL = """Package: {package}
 Version: {version}
@@ -445,6 +448,62 @@ class Uploads(unittest.TestCase):
                 self.assertEqual((done.stdout, done.stderr, done.returncode), ("", told(f"odd.changes: {wanted}"), 1))
         done = with_sidecars(self.odd(deb_with(tar_of([("./control", control.replace("Ann", "\udcff"), b"0")])))[0], self.ready)
         self.assertEqual(done.stderr, told("odd.changes: hello_1.0-1_all.deb is no text in UTF-8"))
+
+    def test_what_is_there_in_the_folder_is_replaced(self):
+        """A link is not followed, nor a second name of a file written to. What can't be replaced is a line."""
+        changes = self.changes()
+        self.ready.mkdir()
+        kept = self.room / "kept"
+        kept.write_text("kept\n")
+        deb, sidecar = self.ready / "hello_1.0-1_all.deb", self.ready / "hello_1.0-1_all.control"
+        for make in (
+            lambda it: it.symlink_to(kept),
+            lambda it: it.symlink_to(self.room / "none"),
+            lambda it: os.link(kept, it),
+            os.mkfifo,
+            lambda it: it.write_text("other"),
+        ):
+            for it in (deb, sidecar, self.ready / changes.name):
+                it.unlink(missing_ok=True)
+                make(it)
+            done = with_sidecars(changes, self.ready)
+            self.assertEqual((done.stderr, done.returncode), ("", 0))
+            self.check_lists(done.stdout.splitlines())
+            self.assertEqual((kept.read_text(), (self.room / "none").exists()), ("kept\n", False))
+            self.assertEqual({(it.is_symlink(), it.stat().st_mode & 0o777) for it in self.ready.iterdir()}, {(False, 0o666 & ~UMASK)})
+        sidecar.unlink()
+        sidecar.mkdir()
+        done = with_sidecars(changes, self.ready)
+        self.assertEqual((done.stdout, done.returncode), ("", 1))
+        self.assertRegex(done.stderr, r"\Awith_sidecars: hello_1.0-1_amd64.changes: .*Is a directory: .*\n\Z")
+        self.assertEqual(sorted(it.name for it in self.ready.iterdir()), ["hello_1.0-1_all.control", "hello_1.0-1_all.deb", changes.name])
+
+    def test_a_folder_of_any_kind(self):
+        changes = self.changes()
+        (self.room / "loop").symlink_to("loop")
+        (self.room / "file").write_text("")
+        (self.room / "here").symlink_to(self.built)
+        for name in ("loop", "loop/ready", "file", "file/ready", "here", "here/../built", "x" * 300):
+            done = with_sidecars(changes, self.room / name)
+            self.assertEqual((done.stdout, done.returncode), ("", 1), name)
+            self.assertRegex(done.stderr, r"\Awith_sidecars: hello_1.0-1_amd64.changes: .*\n\Z")
+        deep = "/".join("d" * 1500)
+        self.assertEqual(with_sidecars(changes, deep, cwd=self.room).returncode, 0)
+        self.assertTrue((self.room / deep / changes.name).exists())
+        run("rm", "-r", self.room / "d").check_returncode()  # which Python can't
+
+    def test_ended_it_leaves_nothing(self):
+        """Here it is ended while it has a fifo in place of dpkg-deb, which waits."""
+        changes = self.changes()
+        os.mkfifo(self.room / "waits")
+        (self.room / "dpkg-deb").write_text(f"#!/bin/sh\ntouch {self.room}/began\nread line < {self.room}/waits\n")
+        (self.room / "dpkg-deb").chmod(0o755)
+        with subprocess.Popen([sys.executable, TOOL, changes, self.ready], env={"PATH": f"{self.room}:/usr/bin:/bin"}, stderr=subprocess.PIPE) as process:
+            while not (self.room / "began").exists():
+                time.sleep(0.01)
+            process.terminate()
+            self.assertEqual((process.wait(LONG), process.stderr.read()), (143, b""))
+        self.assertFalse(self.ready.exists())
 
     def test_what_is_told_has_no_control_character(self):
         """Of a long text it has the beginning. A file name that is taken for an option is one of these texts, too."""
