@@ -2,10 +2,14 @@
 
 Where there is the program of program.py, it takes the uploads.
 """
+import collections
+import contextlib
 import hashlib
+import io
 import lzma
 import os
 import pathlib
+import random
 import resource
 import shutil
 import stat
@@ -487,6 +491,10 @@ class Uploads(unittest.TestCase):
             done = with_sidecars(changes, self.room / name)
             self.assertEqual((done.stdout, done.returncode), ("", 1), name)
             self.assertRegex(done.stderr, r"\Awith_sidecars: hello_1.0-1_amd64.changes: .*\n\Z")
+        for name, status in (("re\nady", 2), ("\x1b]0;pwned\x07", 2), ("\udcff\u00e9", 0)):
+            done = with_sidecars(changes, self.room / name, errors="surrogateescape")
+            self.assertEqual((done.returncode, bool(done.stdout)), (status, not status), done.stderr)
+            self.assertEqual([os.path.exists(it) for it in done.stdout.splitlines()], [True] * (0 if status else 3))
         deep = "/".join("d" * 1500)
         self.assertEqual(with_sidecars(changes, deep, cwd=self.room).returncode, 0)
         self.assertTrue((self.room / deep / changes.name).exists())
@@ -504,6 +512,34 @@ class Uploads(unittest.TestCase):
             process.terminate()
             self.assertEqual((process.wait(LONG), process.stderr.read()), (143, b""))
         self.assertFalse(self.ready.exists())
+
+    def test_no_changes_ends_it_by_a_traceback(self):
+        """Each is another that was changed at random places: in its lists, its names, its signature and its control paragraph."""
+        it, chance, statuses = tool("bin/with_sidecars"), random.Random(62), collections.Counter()
+        changes = self.changes(armoured=True)
+        (self.built / "hello_1.0-1.dsc").write_text("Format: 3.0 (quilt)\n")
+        deb = self.built / "hello_1.0-1_all.deb"
+        good, contents = changes.read_bytes(), deb.read_bytes()
+        odd = [b"\0", b"\n", b"\r", b"\n\n", b"\n ", b"\t", b":", b"/", b"..", b"-", b"\xff", b"\xc2\x85", b"\xe2\x80\xa8", b"\x1b[2J", b"9" * 30, b"-----BEGIN PGP SIGNATURE-----\n", b""]
+        for number in range(400):
+            text, body = bytearray(good), bytearray(contents)
+            for _ in range(chance.randrange(4)):
+                start = chance.randrange(len(text))
+                text[start:start + chance.choice((0, 1, 1, 40))] = chance.choice(odd)
+            if number % 8 == 0:
+                start = chance.randrange(len(body))
+                body[start:start + chance.choice((0, 1, 200))] = chance.choice(odd)
+                for digest in ("md5", "sha1", "sha256"):
+                    text = text.replace(hashlib.new(digest, contents).hexdigest().encode(), hashlib.new(digest, body).hexdigest().encode())
+                text = text.replace(b" %d " % len(contents), b" %d " % len(body))
+            changes.write_bytes(text)
+            deb.write_bytes(body)
+            with self.subTest(bytes(text)), contextlib.redirect_stderr(io.StringIO()) as errors, contextlib.redirect_stdout(io.StringIO()) as printed:
+                status = it.main([str(changes), str(self.ready)])
+                self.assertNotRegex(errors.getvalue() + printed.getvalue(), "[\x00-\x09\x0b-\x1f\x7f-\x9f]")
+                self.assertEqual(bool(printed.getvalue()), status == 0)
+                statuses[status] += 1
+        self.assertEqual((set(statuses), min(statuses.values()) > 50), ({0, 1}, True), statuses)
 
     def test_what_is_told_has_no_control_character(self):
         """Of a long text it has the beginning. A file name that is taken for an option is one of these texts, too."""
