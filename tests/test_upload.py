@@ -423,7 +423,8 @@ class Uploads(unittest.TestCase):
         """Each is another that was changed at random places, of an upload that was made ready and of one that was not."""
         ready, upload, chance = self.room / "ready", tool("bin/upload"), random.Random(62)
         subprocess.run([sys.executable, f"{ROOT}/bin/with_sidecars", self.changes, ready], check=True, capture_output=True, timeout=LONG)
-        odd = [b"\0", b"\n", b"\r", b"\n\n", b"\n ", b":", b"/", b"..", b"-", b"\xff", b"\xc2\x85", b"\x1b[2J", b"9" * 30, b"-----BEGIN PGP SIGNED MESSAGE-----\n", b""]
+        odd = [b"\0", b"\n", b"\r", b"\n\n", b"\n ", b":", b"/", b"..", b"-", b"\xff", b"\xc2\x85", b"\x1b[2J", b"9" * 30, b""]
+        odd.append(b"-----BEGIN PGP SIGNED MESSAGE-----\n")
         sent = refused = 0
         for number in range(100):
             path = ready / CHANGES if number % 2 else pathlib.Path(self.changes)

@@ -429,7 +429,8 @@ class Uploads(unittest.TestCase):
         self.assertFalse(self.ready.exists())
 
     def test_a_deb_with_much_beside_its_control(self):
-        changes, deb = self.odd(deb_with(tar_of([("./md5sums", "x" * 1_000_000, b"0"), ("./control", CONTROL.format(package="hello", version="1.0-1"), b"0")])))
+        control = CONTROL.format(package="hello", version="1.0-1")
+        changes, deb = self.odd(deb_with(tar_of([("./md5sums", "x" * 1_000_000, b"0"), ("./control", control, b"0")])))
         it = tool("bin/with_sidecars")
         self.assertEqual(it.write_upload(changes, self.ready)[-1], self.ready / "odd.changes")
         wanted = f"^{deb}: its control files have more than 900000 bytes$"
@@ -520,7 +521,8 @@ class Uploads(unittest.TestCase):
         (self.built / "hello_1.0-1.dsc").write_text("Format: 3.0 (quilt)\n")
         deb = self.built / "hello_1.0-1_all.deb"
         good, contents = changes.read_bytes(), deb.read_bytes()
-        odd = [b"\0", b"\n", b"\r", b"\n\n", b"\n ", b"\t", b":", b"/", b"..", b"-", b"\xff", b"\xc2\x85", b"\xe2\x80\xa8", b"\x1b[2J", b"9" * 30, b"-----BEGIN PGP SIGNATURE-----\n", b""]
+        odd = [b"\0", b"\n", b"\r", b"\n\n", b"\n ", b"\t", b":", b"/", b"..", b"-", b"\xff", b"\xc2\x85", b"\xe2\x80\xa8", b"\x1b[2J", b"9" * 30, b""]
+        odd.append(b"-----BEGIN PGP SIGNATURE-----\n")
         for number in range(400):
             text, body = bytearray(good), bytearray(contents)
             for _ in range(chance.randrange(4)):
