@@ -51,6 +51,7 @@ BEHIND = [
     "tests.test_batch",
     "tests.test_configurations",
     "tests.test_migrations",
+    "tests.test_orders",
     "tests.test_long_indices",
     "tests.test_lines",
     "tests.test_serving",

@@ -119,16 +119,28 @@ def commands_of(unit):
     return [shlex.split(line.replace("%%", "%")) for line in re.findall(r"^ExecStart=(.*)$", unit, re.M)]
 
 
-def built(folder, package):
-    """Writes what dpkg-buildpackage would of a package, which lists no sidecar: its files to a folder. Answers the path of the .changes."""
+def built(folder, package, more=()):
+    """Writes what dpkg-buildpackage would of a package, which lists no sidecar: its files to a folder. Its source may list more files, each a
+    body by its name. Answers the path of the .changes."""
     files = {f"{package.name}_{package.version}_amd64.deb": uploads.deb_of(package)}
     if package.source:
-        files.update(uploads.source_of(package))
+        *source, (dsc, text) = uploads.source_of(package).items()
+        text = text.partition(b"Checksums-Sha1:")[0] + uploads.lists_of({**dict(source), **dict(more)}).encode()
+        files.update([*source, *dict(more).items(), (dsc, text)])
     files[f"{package.name}_{package.version}_amd64.changes"] = uploads.changes_of(package.name, package.version, files)
     for name, body in files.items():
         pathlib.Path(folder, name).write_bytes(body)
     return f"{folder}/{package.name}_{package.version}_amd64.changes"
 
+
+# Files that a browser would run, if it took them for pages: each asks for an address that has its name.
+SCRIPT = "<script>fetch('/ran/{}')</script>"
+EVIL = {
+    "evil.html": f"<!doctype html><title>evil</title><p>evil</p>{SCRIPT}",
+    "evil.svg": f'<svg xmlns="http://www.w3.org/2000/svg"><text>evil</text>{SCRIPT}</svg>',
+    "evil.xhtml": f'<html xmlns="http://www.w3.org/1999/xhtml"><head><title>evil</title></head><body>{SCRIPT}</body></html>',
+}
+EVIL = {name: text.format(name).encode() for name, text in EVIL.items()}
 
 APT = """Dir "{base}";
 Dir::State::status "{base}/status";
@@ -261,6 +273,32 @@ class Room:
             "/srv/box/signed": f"{self.work}/signed",
             "http://127.0.0.1:8080": f"http://127.0.0.1:{behind}",
         })
+
+    def browser(self):
+        """The words that start chromium, with a folder of its own."""
+        folder = tempfile.mkdtemp(dir=self.folder)
+        return ["chromium", "--headless", "--no-sandbox", "--disable-gpu", "--ignore-certificate-errors", f"--user-data-dir={folder}"]
+
+    def browsed(self, url):
+        """What chromium makes of a page."""
+        words = [*self.browser(), "--timeout=20000", "--virtual-time-budget=3000", "--dump-dom", url]
+        return subprocess.run(words, capture_output=True, text=True, check=True, timeout=120).stdout
+
+    def framed(self, url, paths, log):
+        """Has chromium look at each of these paths of a server, in a frame of a page of another's. Answers what the server writes to its log
+        meanwhile. Seconds after all frames have got what they get the page asks for `done`."""
+        frames = "".join(f'<iframe src="{url}/{it}"></iframe>' for it in paths)
+        script = f"<script>onload = () => setTimeout(() => fetch('{url}/done', {{mode: 'no-cors'}}), 3000)</script>"
+        page = self.write("frames.html", f"<!doctype html><title>Frames</title>{script}{frames}")
+        with open(log, encoding="utf-8") as it:
+            it.seek(0, os.SEEK_END)
+            process, written = self.start([*self.browser(), "--remote-debugging-port=0", f"file://{page}"]), ""
+            end = time.monotonic() + 120
+            while '"GET /done ' not in written and time.monotonic() < end:
+                time.sleep(0.1)
+                written += it.read()
+        self.end(process)
+        return written
 
     def apt(self, sources):
         """Makes an apt of its own, with a sources.list of this text, which apt-get uses from then on."""

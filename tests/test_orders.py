@@ -16,6 +16,7 @@ import unittest
 
 from tests import older
 from tests.program import PROGRAM
+from tests.wants import main, missing, needs_strict_tables
 from uploads import uploads
 
 SHUFFLES = 20
@@ -126,15 +127,14 @@ def take_away(held, layout, table, rowid):
     held.execute(f"DELETE FROM {table} WHERE rowid = ?", (rowid,))
 
 
+@needs_strict_tables
 class Orders(unittest.TestCase):
     """An archive of each layout, made once."""
 
     @classmethod
     def setUpClass(cls):
         if not os.path.exists(PROGRAM):
-            raise unittest.SkipTest(f"there is no program {PROGRAM}")
-        if sqlite3.sqlite_version_info < (3, 37):
-            raise unittest.SkipTest("SQLite has no STRICT tables")
+            raise missing(PROGRAM)
         room = tempfile.TemporaryDirectory()
         cls.addClassCleanup(room.cleanup)
         cls.folder = pathlib.Path(room.name)
@@ -308,4 +308,4 @@ class Orders(unittest.TestCase):
 
 
 if __name__ == "__main__":
-    unittest.main()
+    main()

@@ -33,6 +33,11 @@ class Using(snippets.Case):
         tests = "".join(it.read_text(encoding="utf-8") for it in HERE.glob("test_*.py"))
         self.assertEqual(set(snippets.PIECES) - set(re.findall(r'snippet\("([^"]+)"', tests)), set())
 
+    def test_the_policy_of_the_text_for_nginx_is_that_of_the_pages(self):
+        source = (snippets.ROOT / "crates/pages/src/frame.rt").read_text(encoding="utf-8")
+        policy = re.search(r'const POLICY: &str =\s*"([^"\\]*)";', source)[1]
+        self.assertIn(f'\n    add_header Content-Security-Policy "{policy}" always;\n', snippet("tree by nginx"))
+
     @needs("systemd-analyze")
     def test_the_units_are_right(self):
         # The programs need not be installed here.

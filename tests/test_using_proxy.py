@@ -3,6 +3,7 @@ test's own; logins, dput over https, the signature beside the archive with apt, 
 program is that of program.py. Where a tool is not there, the test says that it was skipped."""
 import os
 import pathlib
+import re
 import subprocess
 import sys
 import threading
@@ -48,9 +49,9 @@ class Site(snippets.Room):
         words = ["archive", "serve", "--db", "box.db", "--at", str(int(time.time())), f"127.0.0.1:{self.behind}", "100000"]
         self.serving = self.start(words, port=self.behind)
 
-    def upload(self, package):
-        """Has the archive accept a package, behind the proxy."""
-        self.sure(f"with_sidecars {built(self.folder, package)} {package.name} > {package.name}.files")
+    def upload(self, package, more=()):
+        """Has the archive accept a package, behind the proxy. Its source may list more files."""
+        self.sure(f"with_sidecars {built(self.folder, package, more)} {package.name} > {package.name}.files")
         self.sure(f"for file in $(cat {package.name}.files); do curl -sS --fail -H 'Expect:' -T $file http://127.0.0.1:{self.behind}/incoming/; done")
         return self.queue()
 
@@ -172,6 +173,31 @@ class Proxy(unittest.TestCase):
                 self.assertEqual(pathlib.Path(self.site.work, "got").read_bytes(), wanted, path)
         for path in ("dists/box/Release", "/dists/box/Release", "/dists/box//main/binary-amd64/Packages", "dists/box/main/source/Sources"):
             self.assertEqual(self.status(path, "--path-as-is"), "200", path)
+
+    @needs("chromium")
+    def test_no_file_of_the_pool_is_a_page(self):
+        """Whatever its name, and also where the archive is away and the proxy answers alone."""
+        self.site.upload(uploads.Package("evil", source=True), snippets.EVIL)
+        heads = ["content-type: application/octet-stream", "content-disposition: attachment", "x-content-type-options: nosniff"]
+        heads.append("content-security-policy: default-src 'none'; sandbox")
+        paths = [f"pool/main/e/evil/{name}" for name in snippets.EVIL]
+        port, log = free_port(), f"{self.site.folder}/log"
+        text = snippet("nginx", {"server_name": f"access_log {log}; server_name"})
+        self.site.start(["nginx", "-c", self.site.proxy(text, port, self.site.behind)], port=port)
+        for _ in range(2):
+            for path in paths:
+                got = self.site.sure(f"curl -sS --fail --path-as-is -D - -o got https://localhost:{port}/{path}").lower().splitlines()
+                self.assertEqual([it for it in heads if it not in got], [], got)
+                self.assertEqual(pathlib.Path(self.site.work, "got").read_bytes(), snippets.EVIL[path.rpartition("/")[2]])
+            asked = self.site.framed(f"https://localhost:{port}", paths, log)
+            self.assertIn('"GET /done ', asked)
+            self.assertNotIn("/ran/", asked)
+            self.assertEqual(set(re.findall(r'"GET /pool/main/e/evil/(\S+) HTTP/[\d.]+" 200 .*Chrome', asked)), set(snippets.EVIL))
+            if self.site.serving.poll() is None:
+                self.site.end(self.site.serving)
+        for path in ("dists/box/Release", "queue", "pool/none.html"):
+            got = self.site.sure(f"curl -sS -D - -o got https://localhost:{port}/{path}").lower().splitlines()
+            self.assertEqual([it for it in heads[2:] if it not in got], [], got)
 
     def test_the_largest_file_passes(self):
         body = uploads.deb_of(uploads.Package("large", pad=4_190_000))

@@ -1,6 +1,7 @@
 """Tests of docs/OPERATING.md, of the tree that `archive export` makes, with the built program: what nginx hands out of it by the page's text, its
 signature with apt, and copies of it by rsync and by rclone, which are looked at after each of their steps. The program is that of program.py. Where a
 tool is not there, the test says that it was skipped."""
+import base64
 import hashlib
 import http.client
 import os
@@ -106,9 +107,9 @@ class Case(snippets.Case):
         self.shell('archive init --db box.db --at "$(date +%s)" box.conf')
         self.upload(HELLO)
 
-    def upload(self, package):
-        """Has the archive judge a package."""
-        self.shell(f"with_sidecars {built(self.room.folder, package)} ready > files")
+    def upload(self, package, more=()):
+        """Has the archive judge a package, whose source may list more files."""
+        self.shell(f"with_sidecars {built(self.room.folder, package, more)} ready > files")
         printed = self.shell('archive put --db box.db --at "$(date +%s)" $(cat files); archive run --db box.db --at "$(date +%s)"')
         self.assertIn(f"accepted {package.name}_{package.version}_amd64.changes\n", printed)
 
@@ -193,6 +194,47 @@ class Nginx(Case):
         self.assertEqual(self.asked(connection, "dists/box/Release", If_None_Match=tag)[0].status, 200)
         # All that went over one connection.
         self.assertIs(connection.sock, socket)
+
+    def test_each_page_has_its_policy_and_no_other_is_a_page(self):
+        self.upload(uploads.Package("evil", source=True), snippets.EVIL)
+        self.export()
+        self.room.write("uploaders", f"{LOGIN.replace(':', ':{PLAIN}')}\n")
+        _, port = self.served()
+        connection = self.connected(port)
+        login = {"Authorization": f"Basic {base64.b64encode(LOGIN.encode()).decode()}"}
+        names = "Content-Type", "Content-Disposition", "X-Content-Type-Options", "Content-Security-Policy", "Cache-Control"
+        for path in ("", "index.html", "uploads.html", "dists/box/", "dists/box/index.html"):
+            reply, body = self.asked(connection, path, **login)
+            [policy] = re.findall(r'<meta http-equiv="Content-Security-Policy" content="([^"]*)">', body.decode())
+            self.assertEqual((reply.status, [reply.getheader(it) for it in names]), (200, ["text/html", None, "nosniff", policy, "no-cache"]), path)
+        for name in (*snippets.EVIL, "evil_1.0-1.dsc", "evil_1.0-1_amd64.deb"):
+            wanted = ["application/octet-stream", "attachment", "nosniff", "default-src 'none'; sandbox", "no-cache"]
+            for front in ("pool/main", "/pool//main", "dists/box/../../pool/main", "%70ool/main"):
+                path = f"{front}/e/evil/{name}"
+                reply, _ = self.asked(connection, path)
+                self.assertEqual((reply.status, [reply.getheader(it) for it in names]), (200, wanted), path)
+        others = ("dists/box/Release", 200), ("dists/box/main/source/Sources", 200), ("uploads.html", 401), ("pool/none.html", 404), ("none.html", 404)
+        for path, wanted in others:
+            reply, _ = self.asked(connection, path)
+            self.assertEqual((reply.status, reply.getheader("X-Content-Type-Options")), (wanted, "nosniff"), path)
+            self.assertIn("default-src 'none'; ", reply.getheader("Content-Security-Policy"))
+
+    @needs("chromium")
+    def test_a_browser_runs_no_file_of_the_pool(self):
+        """It does by a text that has no location for the pool, and no policy: so these would be seen here."""
+        self.upload(uploads.Package("evil", source=True), snippets.EVIL)
+        self.export()
+        text = snippet("tree by nginx")
+        open_text = re.sub(r"(?ms)^    location /pool/ \{.*?^    \}\n|^    add_header (?:X|Content)-[^\n]*\n", "", text)
+        for it, wanted in ((text, []), (open_text, sorted(snippets.EVIL))):
+            log = f"{self.room.folder}/log{len(wanted)}"
+            url, _ = self.served(it, server_name=f"access_log {log}; server_name")
+            asked = self.room.framed(url, [f"pool/main/e/evil/{name}" for name in snippets.EVIL], log)
+            self.assertIn('"GET /done ', asked)
+            self.assertEqual(sorted(re.findall(r'"GET /ran/(\S+) ', asked)), wanted)
+            self.assertEqual(sorted(re.findall(r'"GET /pool/main/e/evil/(\S+) HTTP/[\d.]+" 200 ', asked)), sorted(snippets.EVIL))
+            # The pages themselves are as they were made.
+            self.assertIn(f'<span class="url">{url}/</span>', self.room.browsed(f"{url}/index.html"))
 
     def test_what_is_not_handed_out(self):
         self.export()

@@ -2,19 +2,34 @@
 
 Where there is the program of program.py, it takes the uploads.
 """
+import collections
+import contextlib
 import hashlib
+import io
+import lzma
 import os
 import pathlib
+import random
+import resource
 import shutil
+import stat
 import subprocess
 import sys
 import tempfile
+import time
 import unittest
+import unittest.mock
 
 from tests.program import PROGRAM, ROOT
+from tests.tools import tool
 from tests.wants import main, missing, needs
+from uploads import uploads
 
 TOOL = f"{ROOT}/bin/with_sidecars"
+# How long a test waits for what should come, in seconds, and how much memory with_sidecars gets.
+LONG, MEMORY = 120, 1 << 28
+UMASK = os.umask(0)
+os.umask(UMASK)
 
 CONTROL = """Package: {package}
 Version: {version}
@@ -88,6 +103,23 @@ def list_of(field, digest, bodies):
     return f"{field}:\n{''.join(lines)}"
 
 
+def tar_of(members):
+    """A tar of members, each its name, its text and its kind."""
+    parts = []
+    for name, text, kind in members:
+        body = text.encode(errors="surrogateescape")
+        head = name.encode().ljust(100, b"\0") + b"0000644\x000000000\x000000000\0%011o\x0012735645120\0" % len(body)
+        head += b" " * 8 + kind + b"/etc/hostname".ljust(100, b"\0") + b"ustar\x0000"
+        head = head.ljust(512, b"\0").replace(b" " * 8 + kind, b"%06o\0 " % sum(head.ljust(512, b"\0")) + kind)
+        parts += [head, body, bytes(-len(body) % 512)]
+    return b"".join(parts) + bytes(1024)
+
+
+def deb_with(tar):
+    """A package file whose control files are in this tar."""
+    return uploads.ar_of({"debian-binary": b"2.0\n", "control.tar.xz": lzma.compress(tar, preset=0), "data.tar.gz": uploads.tar_of({})})
+
+
 def fields_of(text):
     """The lines of each field, by its name."""
     fields = {}
@@ -103,12 +135,13 @@ def names_in(fields, field):
     return [line.split()[-1] for line in fields[field][1:]]
 
 
-def run(*words, cwd=None):
-    return subprocess.run(words, cwd=cwd, capture_output=True, text=True, check=False)
+def run(*words, **more):
+    return subprocess.run(words, capture_output=True, text=True, check=False, timeout=LONG, **more)
 
 
-def with_sidecars(*words):
-    return run(sys.executable, TOOL, *words)
+def with_sidecars(*words, **more):
+    """Runs the command, which has 256 MiB."""
+    return run(sys.executable, TOOL, *words, preexec_fn=lambda: resource.setrlimit(resource.RLIMIT_AS, (MEMORY, MEMORY)), **more)
 
 
 def told(*lines):
@@ -129,7 +162,7 @@ class Uploads(unittest.TestCase):
     def build(self, package, version):
         """Builds a package file, and answers its name."""
         tree = self.room / package
-        (tree / "DEBIAN").mkdir(parents=True)
+        (tree / "DEBIAN").mkdir(parents=True, exist_ok=True)
         (tree / "DEBIAN/control").write_text(CONTROL.format(package=package, version=version))
         name = f"{package}_{version.partition(':')[2] or version}_all.deb"
         run("dpkg-deb", "--root-owner-group", "--build", tree, self.built / name).check_returncode()
@@ -264,6 +297,266 @@ class Uploads(unittest.TestCase):
             self.check_lists(done.stdout.splitlines())
             lines = fields_of((self.ready / changes.name).read_text())["Files"][1:]
             self.assertEqual([" ".join(line.split()[2:4]) for line in lines], [wanted] * 2)
+
+    def listing(self, name, body=b"", file="odd.changes"):
+        """A .changes that lists the package hello, and another file by its name with these contents. The file itself is not made."""
+        changes = self.changes(name=file)
+        lists = (("Checksums-Sha1", "sha1"), ("Checksums-Sha256", "sha256"), ("Files", "md5"))
+        text = changes.read_text()
+        for field, digest in lists:
+            text = text.replace(f"{field}:\n", list_of(field, digest, {name: body}))
+        changes.write_text(text)
+        return changes
+
+    def check_refused(self, changes, wanted):
+        """Checks that an upload is refused with this line, and that nothing of it is written, and the one after it all the same."""
+        good = self.changes(name="good.changes")
+        done = with_sidecars(changes, good, self.ready)
+        self.assertEqual((done.stderr, done.returncode), (told(f"{changes.name}: {wanted}"), 1))
+        self.assertEqual(done.stdout.splitlines()[-1], str(self.ready / good.name))
+        self.assertEqual(sorted(it.name for it in self.ready.iterdir()), ["good.changes", "hello_1.0-1_all.control", "hello_1.0-1_all.deb"])
+
+    def test_a_file_elsewhere_is_not_opened(self):
+        """Whoever opened one of these would wait for good."""
+        os.mkfifo(self.room / "secret.dsc")
+        os.mkfifo(self.built / "-x.deb")
+        for name in ("../secret.dsc", str(self.room / "secret.dsc"), "..", ".", "built/../../secret.dsc", "-x.deb", "x" * 201, "s\0.dsc", "s\u00e9.dsc"):
+            with self.subTest(name):
+                self.check_refused(self.listing(name), f"{name} is no file name".replace("\0", "?"))
+
+    def test_what_is_no_file_of_its_own_is_not_opened(self):
+        body = b"contents"
+        for kind, make in (
+            ("link", lambda it: it.symlink_to("/etc/hostname")),
+            ("link", lambda it: it.symlink_to("/dev/zero")),
+            ("link", lambda it: it.symlink_to("hello_1.0-1_all.deb")),
+            ("link", lambda it: it.symlink_to(it.name)),
+            ("fifo", os.mkfifo),
+            ("folder", os.mkdir),
+            ("device", lambda it: os.mknod(it, 0o666 | stat.S_IFCHR, os.makedev(1, 5))),
+        ):
+            with self.subTest(kind):
+                changes = self.listing("odd.tar.gz", body)
+                odd = self.built / "odd.tar.gz"
+                try:
+                    make(odd)
+                except PermissionError:
+                    continue
+                wanted = "odd.tar.gz is a link: put the file itself there" if kind == "link" else "odd.tar.gz is no regular file"
+                self.check_refused(changes, wanted)
+                changes.unlink()
+                odd.rename(changes)
+                self.check_refused(changes, wanted.replace("odd.tar.gz", changes.name))
+                os.rmdir(changes) if kind == "folder" else changes.unlink()
+
+    def test_a_file_of_any_size(self):
+        """No more is read of it than the archive takes."""
+        for name, listed in (("large.tar.gz", True), ("large.changes", False)):
+            changes = self.listing(name) if listed else self.built / name
+            with open(self.built / name, "wb") as it:
+                it.truncate(1 << 40)
+            self.check_refused(changes, f"{name} has more than 4194304 bytes")
+
+    def test_a_file_that_changes_while_it_is_read(self):
+        """As at the second reading, which copies it."""
+        changes = self.changes()
+        deb = self.built / "hello_1.0-1_all.deb"
+        it = tool("bin/with_sidecars")
+        write, size = it.write, deb.stat().st_size
+
+        def other(*words):
+            deb.write_bytes(bytes(size))
+            write(*words)
+
+        with unittest.mock.patch.object(it, "write", other), self.assertRaisesRegex(it.Wrong, f"^{deb.name} changed while it was read$"):
+            it.write_upload(changes, self.ready)
+
+    def test_what_is_no_name_of_a_changes(self):
+        good = self.changes().read_text()
+        for name, wanted in (
+            ("hello_1.0-1_all.deb", "it is no .changes"),
+            ("hello\nready.changes", "hello?ready.changes is no file name"),
+            ("\x1b]0;pwned\x07.changes", "?]0;pwned?.changes is no file name"),
+            ("-x.changes", "-x.changes is no file name"),
+            ("\udcff.changes", "\\udcff.changes is no file name"),
+        ):
+            path = self.built / name
+            if name.endswith(".changes"):
+                path.write_text(good)
+            done = with_sidecars(path, self.ready)
+            shown = name.replace("\n", "?").replace("\x1b", "?").replace("\x07", "?").replace("\udcff", "\\udcff")
+            self.assertEqual((done.stdout, done.stderr, done.returncode), ("", told(f"{shown}: {wanted}"), 1))
+        self.assertFalse(self.ready.exists())
+
+    def odd(self, body):
+        """A .changes of the package hello whose .deb has other contents, and the name of that."""
+        deb = self.built / "hello_1.0-1_all.deb"
+        deb.write_bytes(body)
+        text = HEAD.format(package="hello", version="1.0-1")
+        for field, digest in (("Checksums-Sha1", "sha1"), ("Checksums-Sha256", "sha256"), ("Files", "md5")):
+            text += list_of(field, digest, {deb.name: body})
+        changes = self.built / "odd.changes"
+        changes.write_text(text)
+        return changes, deb.name
+
+    def test_a_deb_of_any_kind(self):
+        """Its control paragraph is the one file of the name, and no more of it is read or kept than a sidecar may have."""
+        control = CONTROL.format(package="hello", version="1.0-1")
+        self.changes()
+        good = (self.built / "hello_1.0-1_all.deb").read_bytes()
+        tar, size = tar_of([("./control", control, b"0")]), b"%011o" % len(control)
+        none, no_tar = "it has no control paragraph, or more than one", "its control files are in no tar"
+        for name, tar, wanted in (
+            ("no control", tar_of([("./md5sums", "x", b"0")]), none),
+            ("a large one", tar_of([("./control", f"{control} {'x' * 20_000_000}\n", b"0")]), "its control paragraph has more than 65536 bytes"),
+            ("two", tar_of([("./control", control, b"0"), ("control", control, b"0")]), none),
+            ("a link", tar_of([("./control", "", b"2")]), none),
+            ("a size that is none", tar.replace(size, b"0000000026x"), no_tar),
+            ("a size without end", tar.replace(size, b"\x80" + b"\xff" * 10), no_tar),
+            ("a size beyond the end", tar.replace(size, b"00000100000"), none),
+            ("half of it", tar[:600], none),
+            ("no tar", b"hello" * 200, no_tar),
+            ("nothing", b"", none),
+        ):
+            with self.subTest(name):
+                changes, deb = self.odd(deb_with(tar))
+                done = with_sidecars(changes, self.ready)
+                self.assertEqual((done.stdout, done.stderr, done.returncode), ("", told(f"odd.changes: {deb}: {wanted}"), 1))
+        for name, body in (("no .deb", b"hello"), ("nothing", b""), ("half of it", good[:200]), ("another", good.replace(b"control.tar", b"control.zip"))):
+            with self.subTest(name):
+                done = with_sidecars(self.odd(body)[0], self.ready)
+                self.assertEqual((done.stdout, done.returncode), ("", 1))
+                self.assertRegex(done.stderr, r"\Awith_sidecars: odd.changes: hello_1.0-1_all.deb: .*dpkg-deb: error: .*\n\Z")
+        self.assertFalse(self.ready.exists())
+
+    def test_a_deb_with_much_beside_its_control(self):
+        control = CONTROL.format(package="hello", version="1.0-1")
+        changes, deb = self.odd(deb_with(tar_of([("./md5sums", "x" * 1_000_000, b"0"), ("./control", control, b"0")])))
+        it = tool("bin/with_sidecars")
+        self.assertEqual(it.write_upload(changes, self.ready)[-1], self.ready / "odd.changes")
+        wanted = f"^{deb}: its control files have more than 900000 bytes$"
+        with unittest.mock.patch.object(it, "MOST_CONTROL", 900_000), self.assertRaisesRegex(it.Wrong, wanted):
+            it.write_upload(changes, self.ready)
+
+    def test_a_control_paragraph_with_odd_fields(self):
+        """The sidecar's name is that of the .deb, and no other."""
+        control = CONTROL.format(package="hello", version="1.0-1")
+        for text, wanted in (
+            (control.replace("Package: hello", "Package: ../hello"), "hello_1.0-1_all.deb is not named by its own fields, as ../hello_1.0-1_all.deb"),
+            (control.replace("Package: hello", "Package: \x1b]0;x\x07"), "hello_1.0-1_all.deb is not named by its own fields, as ?]0;x?_1.0-1_all.deb"),
+            (control.replace("Package: hello\n", ""), "no field Package"),
+            (control.replace("Package", "Pack\0age"), "no field Package"),
+            (control + control, "not a field of one paragraph: Package: hello"),
+            ("\n", "not a field of one paragraph: "),
+        ):
+            with self.subTest(text):
+                done = with_sidecars(self.odd(deb_with(tar_of([("./control", text, b"0")])))[0], self.ready)
+                self.assertEqual((done.stdout, done.stderr, done.returncode), ("", told(f"odd.changes: {wanted}"), 1))
+        done = with_sidecars(self.odd(deb_with(tar_of([("./control", control.replace("Ann", "\udcff"), b"0")])))[0], self.ready)
+        self.assertEqual(done.stderr, told("odd.changes: hello_1.0-1_all.deb is no text in UTF-8"))
+
+    def test_what_is_there_in_the_folder_is_replaced(self):
+        """A link is not followed, nor a second name of a file written to. What can't be replaced is a line."""
+        changes = self.changes()
+        self.ready.mkdir()
+        kept = self.room / "kept"
+        kept.write_text("kept\n")
+        deb, sidecar = self.ready / "hello_1.0-1_all.deb", self.ready / "hello_1.0-1_all.control"
+        for make in (
+            lambda it: it.symlink_to(kept),
+            lambda it: it.symlink_to(self.room / "none"),
+            lambda it: os.link(kept, it),
+            os.mkfifo,
+            lambda it: it.write_text("other"),
+        ):
+            for it in (deb, sidecar, self.ready / changes.name):
+                it.unlink(missing_ok=True)
+                make(it)
+            done = with_sidecars(changes, self.ready)
+            self.assertEqual((done.stderr, done.returncode), ("", 0))
+            self.check_lists(done.stdout.splitlines())
+            self.assertEqual((kept.read_text(), (self.room / "none").exists()), ("kept\n", False))
+            self.assertEqual({(it.is_symlink(), it.stat().st_mode & 0o777) for it in self.ready.iterdir()}, {(False, 0o666 & ~UMASK)})
+        sidecar.unlink()
+        sidecar.mkdir()
+        done = with_sidecars(changes, self.ready)
+        self.assertEqual((done.stdout, done.returncode), ("", 1))
+        self.assertRegex(done.stderr, r"\Awith_sidecars: hello_1.0-1_amd64.changes: .*Is a directory: .*\n\Z")
+        self.assertEqual(sorted(it.name for it in self.ready.iterdir()), ["hello_1.0-1_all.control", "hello_1.0-1_all.deb", changes.name])
+
+    def test_a_folder_of_any_kind(self):
+        changes = self.changes()
+        (self.room / "loop").symlink_to("loop")
+        (self.room / "file").write_text("")
+        (self.room / "here").symlink_to(self.built)
+        for name in ("loop", "loop/ready", "file", "file/ready", "here", "here/../built", "x" * 300):
+            done = with_sidecars(changes, self.room / name)
+            self.assertEqual((done.stdout, done.returncode), ("", 1), name)
+            self.assertRegex(done.stderr, r"\Awith_sidecars: hello_1.0-1_amd64.changes: .*\n\Z")
+        for name, status in (("re\nady", 2), ("\x1b]0;pwned\x07", 2), ("\udcff\u00e9", 0)):
+            done = with_sidecars(changes, self.room / name, errors="surrogateescape")
+            self.assertEqual((done.returncode, bool(done.stdout)), (status, not status), done.stderr)
+            self.assertEqual([os.path.exists(it) for it in done.stdout.splitlines()], [True] * (0 if status else 3))
+        deep = "/".join("d" * 1500)
+        self.assertEqual(with_sidecars(changes, deep, cwd=self.room).returncode, 0)
+        self.assertTrue((self.room / deep / changes.name).exists())
+        run("rm", "-r", self.room / "d").check_returncode()  # which Python can't
+
+    def test_ended_it_leaves_nothing(self):
+        """Here it is ended while it has a fifo in place of dpkg-deb, which waits."""
+        changes = self.changes()
+        os.mkfifo(self.room / "waits")
+        (self.room / "dpkg-deb").write_text(f"#!/bin/sh\ntouch {self.room}/began\nread line < {self.room}/waits\n")
+        (self.room / "dpkg-deb").chmod(0o755)
+        with subprocess.Popen([sys.executable, TOOL, changes, self.ready], env={"PATH": f"{self.room}:/usr/bin:/bin"}, stderr=subprocess.PIPE) as process:
+            while not (self.room / "began").exists():
+                time.sleep(0.01)
+            process.terminate()
+            self.assertEqual((process.wait(LONG), process.stderr.read()), (143, b""))
+        self.assertFalse(self.ready.exists())
+
+    def test_no_changes_ends_it_by_a_traceback(self):
+        """Each is another that was changed at random places: in its lists, its names, its signature and its control paragraph."""
+        it, chance, statuses = tool("bin/with_sidecars"), random.Random(62), collections.Counter()
+        changes = self.changes(armoured=True)
+        (self.built / "hello_1.0-1.dsc").write_text("Format: 3.0 (quilt)\n")
+        deb = self.built / "hello_1.0-1_all.deb"
+        good, contents = changes.read_bytes(), deb.read_bytes()
+        odd = [b"\0", b"\n", b"\r", b"\n\n", b"\n ", b"\t", b":", b"/", b"..", b"-", b"\xff", b"\xc2\x85", b"\xe2\x80\xa8", b"\x1b[2J", b"9" * 30, b""]
+        odd.append(b"-----BEGIN PGP SIGNATURE-----\n")
+        for number in range(400):
+            text, body = bytearray(good), bytearray(contents)
+            for _ in range(chance.randrange(4)):
+                start = chance.randrange(len(text))
+                text[start:start + chance.choice((0, 1, 1, 40))] = chance.choice(odd)
+            if number % 8 == 0:
+                start = chance.randrange(len(body))
+                body[start:start + chance.choice((0, 1, 200))] = chance.choice(odd)
+                for digest in ("md5", "sha1", "sha256"):
+                    text = text.replace(hashlib.new(digest, contents).hexdigest().encode(), hashlib.new(digest, body).hexdigest().encode())
+                text = text.replace(b" %d " % len(contents), b" %d " % len(body))
+            changes.write_bytes(text)
+            deb.write_bytes(body)
+            with self.subTest(bytes(text)), contextlib.redirect_stderr(io.StringIO()) as errors, contextlib.redirect_stdout(io.StringIO()) as printed:
+                status = it.main([str(changes), str(self.ready)])
+                self.assertNotRegex(errors.getvalue() + printed.getvalue(), "[\x00-\x09\x0b-\x1f\x7f-\x9f]")
+                self.assertEqual(bool(printed.getvalue()), status == 0)
+                statuses[status] += 1
+        self.assertEqual((set(statuses), min(statuses.values()) > 50), ({0, 1}, True), statuses)
+
+    def test_what_is_told_has_no_control_character(self):
+        """Of a long text it has the beginning. A file name that is taken for an option is one of these texts, too."""
+        changes = self.changes()
+        good = changes.read_text()
+        changes.write_text(f"{good}no field \x1b]0;pwned\x07\x7f\x9b\n")
+        wanted = told(f"{changes.name}: not a field of one paragraph: no field ?]0;pwned???")
+        self.assertEqual(with_sidecars(changes, self.ready).stderr, wanted)
+        changes.write_text(f"{good}{'x' * 100_000}\n")
+        text = f"{changes.name}: not a field of one paragraph: {'x' * 400}"
+        self.assertEqual(with_sidecars(changes, self.ready).stderr, told(f"{text[:400]}.."))
+        done = with_sidecars("-\x1b]0;pwned\x07.changes", changes, self.ready)
+        self.assertEqual((done.returncode, done.stdout), (2, ""))
+        self.assertEqual(done.stderr.splitlines()[1], "with_sidecars: error: unrecognized arguments: -?]0;pwned?.changes")
 
     def test_help(self):
         done = run(sys.executable, TOOL, "--help")
