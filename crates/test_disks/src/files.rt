@@ -5,7 +5,7 @@ use crate::image::Image;
 use crate::interrupted::interrupted;
 use crate::steps::{Step, paths_of};
 use crate::tampered::{changed, front, opening, opening_of, tampered, without_end};
-use crate::trial::{Plan, SOUND, Which, done, old_of};
+use crate::trial::{Left, Plan, SOUND, Which, done, old_of};
 use crate::work::{Work, told_fault, word_or_fault};
 use keep::KeepFault;
 use old_book::OldBook;
@@ -92,6 +92,15 @@ fn in_transaction(alloc: Global, image: &Image) -> Result<Vec<u8>, Unread> {
     told(alloc, done(alloc, image, SOUND, Work::OpenTwice)?.answer)
 }
 
+/// Says that the archive of an older layout was read in files, or the fault; with a word where that changes the database file.
+fn told_old(alloc: Global, image: &Image, left: &Left) -> Result<Vec<u8>, Unread> {
+    let mut text = word_or_fault(alloc, "read", &left.answer)?;
+    if left.stood.database.as_slice() != image.database.as_slice() {
+        text.extend_from_slice(b" and other bytes")?;
+    }
+    Ok(text)
+}
+
 impl Case {
     /// Works with the files.
     fn works(
@@ -128,20 +137,21 @@ impl Case {
         answer
     }
 
+    /// Reads the archive of an older layout in files, and says so, or the fault.
+    fn read_old_in(&mut self, alloc: Global, image: &Image) -> Result<Vec<u8>, Unread> {
+        let (left, old) = old_of(alloc, image)?;
+        self.old = old;
+        told_old(alloc, image, &left)
+    }
+
     /// `old SQL..`: reads the archive of an older layout that lists of statements make in empty files, and says so, or the fault; with a
     /// word where that changes the database file.
     fn read_old(&mut self, alloc: Global, lists: &[Vec<u8>]) -> Result<Vec<u8>, Unread> {
         self.old = None;
-        let Some(image) = changed(alloc, &Image::empty(alloc), lists)? else {
-            return said(alloc, "not run");
-        };
-        let (left, old) = old_of(alloc, &image)?;
-        self.old = old;
-        let mut text = word_or_fault(alloc, "read", &left.answer)?;
-        if left.stood.database.as_slice() != image.database.as_slice() {
-            text.extend_from_slice(b" and other bytes")?;
+        match changed(alloc, &Image::empty(alloc), lists)? {
+            Some(image) => self.read_old_in(alloc, &image),
+            None => said(alloc, "not run"),
         }
-        Ok(text)
     }
 
     /// `archive CONFIGURATION`: makes an archive in empty files.
