@@ -80,23 +80,30 @@ fn file_of(alloc: Global, bytes: &[u8]) -> io::Result<Memory> {
     Ok(file)
 }
 
-/// The files of a database in memory. A journal that SQLite left, behind a change that was cut short, is for SQLite alone.
-fn files_of(rt: &HostRuntime, path: &str) -> io::Result<Files<Memory>> {
-    let real = fs::canonicalize(rt, path)?;
-    let mut file = opened(rt, real.as_str())?;
-    lock(rt, &file)?;
-    if !matches!(
-        beside(rt, real.as_str(), "-journal")?.first(),
-        None | Some(0)
-    ) {
+/// Whether SQLite left a journal beside a database, behind a change that was cut short.
+fn has_journal(rt: &HostRuntime, path: &str) -> io::Result<bool> {
+    Ok(!matches!(beside(rt, path, "-journal")?.first(), None | Some(0)))
+}
+
+/// The files of a database in memory, of which one is open. A journal that SQLite left is for SQLite alone.
+fn files_beside(rt: &HostRuntime, path: &str, file: &mut File) -> io::Result<Files<Memory>> {
+    if has_journal(rt, path)? {
         return Err(ErrorKind::Unsupported.into());
     }
-    let log = beside(rt, real.as_str(), "-wal")?;
-    let bytes = bytes_of(rt.alloc(), &mut file)?;
+    let log = beside(rt, path, "-wal")?;
+    let bytes = bytes_of(rt.alloc(), file)?;
     Ok(Files {
         log: file_of(rt.alloc(), &log)?,
         db: file_of(rt.alloc(), &bytes)?,
     })
+}
+
+/// The files of a database in memory.
+fn files_of(rt: &HostRuntime, path: &str) -> io::Result<Files<Memory>> {
+    let real = fs::canonicalize(rt, path)?;
+    let mut file = opened(rt, real.as_str())?;
+    lock(rt, &file)?;
+    files_beside(rt, real.as_str(), &mut file)
 }
 
 /// The files of a database in memory, with what the file at the path and the log beside it hold. What SQLite takes for another name than

@@ -6,6 +6,7 @@ mod database;
 
 use crate::database::act_in_file;
 use program::explain;
+use std::alloc::{AllocError, Global};
 use std::io::Write;
 use std::process::ExitCode;
 use std::{env, io};
@@ -19,13 +20,19 @@ fn given_words(rt: &HostRuntime) -> io::Result<Vec<String>> {
     Ok(given)
 }
 
-/// Does what these words say, and answers the exit status.
-fn do_words(rt: &HostRuntime, given: &[String]) -> io::Result<u8> {
-    let alloc = rt.alloc();
+/// The words that these texts are.
+fn words_of(alloc: Global, given: &[String]) -> Result<Vec<&str>, AllocError> {
     let mut words = Vec::new(alloc);
     for word in given {
         words.push(word.as_str())?;
     }
+    Ok(words)
+}
+
+/// Does what these words say, and answers the exit status.
+fn do_words(rt: &HostRuntime, given: &[String]) -> io::Result<u8> {
+    let alloc = rt.alloc();
+    let words = words_of(alloc, given)?;
     let (mut out, mut err) = (io::writer(rt), rt.stderr());
     match command_line::line(alloc, &words) {
         Ok(line) => Ok(act_in_file(rt, &line, &mut out, &mut err)),

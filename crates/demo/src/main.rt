@@ -74,6 +74,24 @@ fn judged<K: Keeper>(alloc: Global, archive: &mut Archive<K>) -> Result<Vec<u8>,
     }
 }
 
+/// Delivers the files at these paths to an archive, and answers the index of what was accepted.
+fn index_of<R: Files + AllocGlobal, K: Keeper>(
+    rt: &R,
+    archive: &mut Archive<K>,
+    paths: &[String],
+) -> Result<Vec<u8>, Stop> {
+    for path in paths {
+        deliver(rt, archive, path.as_str())?;
+    }
+    Ok(judged(rt.alloc(), archive)?)
+}
+
+/// The same with an archive of their own.
+fn own_index_of(rt: &HostRuntime, paths: &[String]) -> Result<Vec<u8>, Stop> {
+    let mut archive = box_archive(rt.alloc())?;
+    index_of(rt, &mut archive, paths)
+}
+
 /// The paths that the program was given.
 fn paths(rt: &HostRuntime) -> io::Result<Vec<String>> {
     let mut paths = Vec::new(rt.alloc());
@@ -84,11 +102,7 @@ fn paths(rt: &HostRuntime) -> io::Result<Vec<String>> {
 }
 
 fn main(rt: HostRuntime) -> Result<(), Stop> {
-    let mut archive = box_archive(rt.alloc())?;
-    for path in &paths(&rt)? {
-        deliver(&rt, &mut archive, path.as_str())?;
-    }
-    let index = judged(rt.alloc(), &mut archive)?;
+    let index = own_index_of(&rt, &paths(&rt)?)?;
     io::writer(&rt).write_all(&index)?;
     Ok(())
 }

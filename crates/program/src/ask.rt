@@ -1,7 +1,7 @@
 //! What is asked of the archive of a database file.
 
 use crate::database::{InFile, Opening, close, open_shown};
-use crate::fault::Stop;
+use crate::fault::{Stop, all_taken};
 use crate::print;
 use crate::progress::Progress;
 use crate::why::{Asked, tell};
@@ -37,20 +37,21 @@ fn ask<'a, K: Keeper, W: Write, E: Write>(
 ) -> Result<bool, Stop<'a>> {
     let (alloc, at) = (rt.alloc(), opening.at);
     match request {
-        Request::Put { path } => return put(rt, archive, opening, path, out, err),
-        Request::Run => return print::run(alloc, archive, at, manner.strict, out),
+        Request::Put { path } => put(rt, archive, opening, path, out, err),
+        Request::Run => print::run(alloc, archive, at, manner.strict, out),
         Request::Copy { from, to, source } => {
-            print::copy(alloc, archive, at, from, to, source, out)?;
+            all_taken(print::copy(alloc, archive, at, from, to, source, out))
         }
         Request::Promote { from, to, sources } => {
-            return print::promote(alloc, archive, at, from, to, sources, out);
+            print::promote(alloc, archive, at, from, to, sources, out)
         }
-        Request::Remove { suite, name } => print::remove(alloc, archive, at, suite, name, out)?,
-        Request::Clean => print::clean(alloc, archive, at, out)?,
-        Request::Waiting => print::waiting(alloc, archive, at, manner.json, out)?,
-        Request::Verdicts => print::verdicts(alloc, archive, manner.json, out)?,
+        Request::Remove { suite, name } => {
+            all_taken(print::remove(alloc, archive, at, suite, name, out))
+        }
+        Request::Clean => all_taken(print::clean(alloc, archive, at, out)),
+        Request::Waiting => all_taken(print::waiting(alloc, archive, at, manner.json, out)),
+        Request::Verdicts => all_taken(print::verdicts(alloc, archive, manner.json, out)),
     }
-    Ok(true)
 }
 
 /// Asks the archive of a database file, and says whether all that was given was taken. How far a `put` is comes to `err`, where that is

@@ -197,6 +197,25 @@ fn name_of<'l>(request: &ListRequest<'l>) -> &'l str {
     }
 }
 
+/// Prints words, each behind a space and as it is shown, and ends the line.
+fn print_words<W: Write>(words: &[&str], out: &mut W) -> io::Result<()> {
+    for word in words {
+        let word = Shown(word);
+        write!(out, " {word}")?;
+    }
+    out.write_all(b"\n")
+}
+
+/// Prints the words of a line behind its first.
+fn print_rest<W: Write>(request: &ListRequest<'_>, out: &mut W) -> io::Result<()> {
+    match *request {
+        Request::Copy { from, to, source } => print_words(&[from, to, source], out),
+        Request::Promote { from, to, .. } => print_words(&[from, to], out),
+        Request::Remove { suite, name } => print_words(&[suite, name], out),
+        _ => print_words(&[], out),
+    }
+}
+
 /// Prints `refused FAULT` and the words of a line behind its first, as they are shown, and says that it was not done. Want of memory
 /// and a fault of the keeper end the program instead.
 fn print_refused<'a, W: Write>(
@@ -207,21 +226,8 @@ fn print_refused<'a, W: Write>(
     if matches!(fault, Fault::OutOfMemory | Fault::Keeper(_)) {
         return Err(Stop::Refused(fault));
     }
-    match request {
-        Request::Copy { from, to, source } => {
-            let (from, to, source) = (Shown(from), Shown(to), Shown(source));
-            writeln!(out, "refused {fault} {from} {to} {source}")?;
-        }
-        Request::Promote { from, to, .. } => {
-            let (from, to) = (Shown(from), Shown(to));
-            writeln!(out, "refused {fault} {from} {to}")?;
-        }
-        Request::Remove { suite, name } => {
-            let (suite, name) = (Shown(suite), Shown(name));
-            writeln!(out, "refused {fault} {suite} {name}")?;
-        }
-        _ => writeln!(out, "refused {fault}")?,
-    }
+    write!(out, "refused {fault}")?;
+    print_rest(request, out)?;
     Ok(false)
 }
 
@@ -269,7 +275,22 @@ fn print_promotion<'a, W: Write>(
     }
 }
 
-/// Prints `copied COUNT SOURCE`, `removed COUNT PACKAGE` or `cleaned COUNT`, and says whether the command was done.
+/// Prints `copied COUNT SOURCE`, `removed COUNT PACKAGE` or `cleaned COUNT`.
+fn print_number<W: Write>(count: u64, request: &ListRequest<'_>, out: &mut W) -> io::Result<()> {
+    match *request {
+        Request::Copy { source, .. } => {
+            let source = Shown(source);
+            writeln!(out, "copied {count} {source}")
+        }
+        Request::Remove { name, .. } => {
+            let name = Shown(name);
+            writeln!(out, "removed {count} {name}")
+        }
+        _ => writeln!(out, "cleaned {count}"),
+    }
+}
+
+/// Prints the count that a command answers, and says whether it was done.
 fn print_count<'a, W: Write>(
     done: &Result<u64, Fault>,
     request: &ListRequest<'_>,
@@ -277,17 +298,7 @@ fn print_count<'a, W: Write>(
 ) -> Result<bool, Stop<'a>> {
     match done {
         Ok(count) => {
-            match request {
-                Request::Copy { source, .. } => {
-                    let source = Shown(source);
-                    writeln!(out, "copied {count} {source}")?;
-                }
-                Request::Remove { name, .. } => {
-                    let name = Shown(name);
-                    writeln!(out, "removed {count} {name}")?;
-                }
-                _ => writeln!(out, "cleaned {count}")?,
-            }
+            print_number(*count, request, out)?;
             Ok(true)
         }
         Err(fault) => print_refused(*fault, request, out),
@@ -349,6 +360,40 @@ fn make_group<'a, K: Keeper, W: Write, E: Write>(
     printed
 }
 
+/// Adds a delivery to a group, which is made before where its bodies leave no room. It says whether all that it made was done.
+fn take_delivery<'a, 'l, K: Keeper, W: Write, E: Write>(
+    alloc: Global,
+    archive: &mut Archive<K>,
+    request: &ListRequest<'l>,
+    command: Command,
+    group: &mut Group<'l>,
+    out: &mut W,
+    progress: &mut Progress<'_, E>,
+) -> Result<bool, Stop<'a>> {
+    let mut all = true;
+    if !has_room(group.bytes, size_of(&command)) {
+        all = make_group(alloc, archive, group, out, progress)?;
+    }
+    group.push(*request, command)?;
+    Ok(all)
+}
+
+/// Makes a group, and a command behind it as a group of its own. It says whether all that it made was done.
+fn make_alone<'a, 'l, K: Keeper, W: Write, E: Write>(
+    alloc: Global,
+    archive: &mut Archive<K>,
+    request: &ListRequest<'l>,
+    command: Command,
+    group: &mut Group<'l>,
+    out: &mut W,
+    progress: &mut Progress<'_, E>,
+) -> Result<bool, Stop<'a>> {
+    let before = make_group(alloc, archive, group, out, progress)?;
+    group.push(*request, command)?;
+    let done = make_group(alloc, archive, group, out, progress)?;
+    Ok(before && done)
+}
+
 /// Adds the delivery of a line to a group, which is made before where its bodies leave no room. A command of another kind is a
 /// group of its own, made at once, and the group before it is made first: so nothing is made behind one that ends the program but
 /// deliveries, which may be given again. It says whether all that it made was done, and the file of the line could be read.
@@ -365,16 +410,31 @@ fn take_line<'a, 'l, R: Files + AllocGlobal, K: Keeper, W: Write, E: Write>(
         progress.advance(1);
         return Ok(false);
     };
+    if is_delivery(request) {
+        take_delivery(rt.alloc(), archive, request, command, group, out, progress)
+    } else {
+        make_alone(rt.alloc(), archive, request, command, group, out, progress)
+    }
+}
+
+/// Makes the commands of lines behind those of a group, and says whether all were done and each file could be read.
+fn take_lines<'a, 'l, R: Files + AllocGlobal, K: Keeper, W: Write, E: Write>(
+    rt: &R,
+    archive: &mut Archive<K>,
+    opening: Opening<'_>,
+    requests: &[ListRequest<'l>],
+    group: &mut Group<'l>,
+    out: &mut W,
+    progress: &mut Progress<'_, E>,
+) -> Result<bool, Stop<'a>> {
     let mut all = true;
-    if !is_delivery(request) || !has_room(group.bytes, size_of(&command)) {
-        all = make_group(rt.alloc(), archive, group, out, progress)?;
+    for request in requests {
+        if !take_line(rt, archive, opening, request, group, out, progress)? {
+            all = false;
+        }
     }
-    group.push(*request, command)?;
-    if !is_delivery(request) {
-        let done = make_group(rt.alloc(), archive, group, out, progress)?;
-        all = all && done;
-    }
-    Ok(all)
+    let last = make_group(rt.alloc(), archive, group, out, progress)?;
+    Ok(all && last)
 }
 
 /// Makes the commands of lines in groups, and says whether all were done and each file could be read. It goes on behind a
@@ -388,16 +448,9 @@ fn make_lines<'a, R: Files + AllocGlobal, K: Keeper, W: Write, E: Write>(
     out: &mut W,
     progress: &mut Progress<'_, E>,
 ) -> Result<bool, Stop<'a>> {
-    let mut all = true;
     let mut group = Group::new(rt.alloc(), is_strict);
     progress.expect(requests.len() as u64);
-    for request in requests {
-        if !take_line(rt, archive, opening, request, &mut group, out, progress)? {
-            all = false;
-        }
-    }
-    let last = make_group(rt.alloc(), archive, &mut group, out, progress)?;
-    Ok(all && last)
+    take_lines(rt, archive, opening, requests, &mut group, out, progress)
 }
 
 /// Reads a list of commands, and makes them all at one moment, over one opening of the archive of a database file. It prints what each

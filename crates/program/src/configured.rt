@@ -8,8 +8,15 @@ use checking::{check_lines, unknown_fields};
 use keep::{Keeper, LATEST};
 use queue::Fault;
 use rules::Config;
+use std::alloc::Global;
 use std::io::Write;
 use std::rt::Files;
+
+/// The configuration of a file.
+fn config_of<'a, R: Files + AllocGlobal>(rt: &R, conf: &'a str) -> Result<Config, Stop<'a>> {
+    let text = body_of(rt, conf)?;
+    Ok(Config::read(rt.alloc(), &text)?)
+}
 
 /// Makes an archive in a database file at a moment, in seconds since 1970-01-01 00:00:00 UTC, with the configuration of
 /// a file.
@@ -19,11 +26,19 @@ pub fn init<'a, K: Keeper + Drop, F: InFile<K>>(
     at: u64,
     conf: &'a str,
 ) -> Result<(), Stop<'a>> {
-    let text = body_of(rt, conf)?;
-    let config = Config::read(rt.alloc(), &text)?;
+    let config = config_of(rt, conf)?;
     let archive = create_archive::<K, F>(rt, db, config, at)?;
     close::<K, F>(archive);
     Ok(())
+}
+
+/// Prints what the configuration of a text says, and which of its fields are passed over. It says whether none is.
+fn check_text<'a, W: Write>(alloc: Global, text: &[u8], out: &mut W) -> Result<bool, Stop<'a>> {
+    let config = Config::read(alloc, text)?;
+    let passed_over = unknown_fields(alloc, text)?;
+    let lines = check_lines(alloc, &config, &passed_over)?;
+    print::print_lines(&lines, out)?;
+    Ok(passed_over.is_empty())
 }
 
 /// Prints what the configuration of a file says, and which of its fields are passed over. It says whether none is.
@@ -33,11 +48,7 @@ pub fn check<'a, R: Files + AllocGlobal, W: Write>(
     out: &mut W,
 ) -> Result<bool, Stop<'a>> {
     let text = body_of(rt, conf)?;
-    let config = Config::read(rt.alloc(), &text)?;
-    let passed_over = unknown_fields(rt.alloc(), &text)?;
-    let lines = check_lines(rt.alloc(), &config, &passed_over)?;
-    print::print_lines(&lines, out)?;
-    Ok(passed_over.is_empty())
+    check_text(rt.alloc(), &text, out)
 }
 
 /// Gives the archive of a database file another configuration, that of a file, at a moment, in seconds since 1970-01-01 00:00:00 UTC. It
@@ -51,8 +62,7 @@ pub fn configure<'a, K: Keeper + Drop, F: InFile<K>>(
     if at > LATEST {
         return Err(Stop::Refused(Fault::Moment));
     }
-    let text = body_of(rt, conf)?;
-    let config = Config::read(rt.alloc(), &text)?;
+    let config = config_of(rt, conf)?;
     let mut archive = open_archive::<K, F>(rt, db)?;
     let done = print::configure(rt.alloc(), &mut archive, config, at);
     close::<K, F>(archive);
@@ -68,8 +78,7 @@ pub fn migrate<'a, K: Keeper + Drop, F: InFile<K>>(
     at: u64,
     conf: &'a str,
 ) -> Result<(), Stop<'a>> {
-    let text = body_of(rt, conf)?;
-    let config = Config::read(rt.alloc(), &text)?;
+    let config = config_of(rt, conf)?;
     let archive = migrate_archive::<K, F>(rt, from, db, config, at)?;
     close::<K, F>(archive);
     Ok(())

@@ -16,7 +16,7 @@ use keep::{KeepFault, Keeper, LATEST};
 use queue::{Archive, Fault};
 use rules::Config;
 use std::alloc::AllocError;
-use std::fs::{File, OpenFile, Permissions};
+use std::fs::{File, Metadata, OpenFile, Permissions};
 use std::os::unix::fs::{MetadataExt, PermissionsExt};
 use std::rt::Files;
 use std::{fs, io};
@@ -110,12 +110,28 @@ fn is_blank<R: Files + AllocGlobal>(rt: &R, path: &str) -> Result<bool, AllocErr
     Ok(length_of(rt, path) == Some(0) && matches!(length_of(rt, log.as_str()), None | Some(0)))
 }
 
+/// Whether two looks found one file.
+fn is_same(one: &Metadata, other: &Metadata) -> bool {
+    one.dev() == other.dev() && one.ino() == other.ino()
+}
+
 /// Whether two paths lead to one file.
 fn is_one_file<R: Files>(rt: &R, one: &str, other: &str) -> bool {
     match (fs::metadata(rt, one), fs::metadata(rt, other)) {
-        (Ok(one), Ok(other)) => one.dev() == other.dev() && one.ino() == other.ino(),
+        (Ok(one), Ok(other)) => is_same(&one, &other),
         _ => false,
     }
+}
+
+/// Whether a path leads to the file beside a database whose name ends so.
+fn is_beside<R: Files + AllocGlobal>(
+    rt: &R,
+    db: &str,
+    end: &str,
+    path: &str,
+) -> Result<bool, AllocError> {
+    let own = format!(in rt.alloc(); "{db}{end}")?;
+    Ok(is_one_file(rt, own.as_str(), path))
 }
 
 /// Whether a path leads to the file of a database, or to one that SQLite keeps beside it.
@@ -125,8 +141,7 @@ pub fn is_of_database<R: Files + AllocGlobal>(
     path: &str,
 ) -> Result<bool, AllocError> {
     for end in ["", "-wal", "-journal", "-shm"] {
-        let own = format!(in rt.alloc(); "{db}{end}")?;
-        if is_one_file(rt, own.as_str(), path) {
+        if is_beside(rt, db, end, path)? {
             return Ok(true);
         }
     }
@@ -136,22 +151,44 @@ pub fn is_of_database<R: Files + AllocGlobal>(
 /// The bits of a mode by which a file may be read, written and run.
 const ACCESS: u32 = 0o777;
 
+/// The path of the log that lies beside the database at a path.
+fn log_of<R: Files + AllocGlobal>(rt: &R, path: &str) -> io::Result<String> {
+    let real = fs::canonicalize(rt, path)?;
+    Ok(format!(in rt.alloc(); "{}-wal", real.as_str())?)
+}
+
+/// Gives the file at a path the mode, if it is the one that was looked at.
+fn set_mode<R: Files>(rt: &R, path: &str, named: &Metadata, mode: u32) -> io::Result<()> {
+    let file = File::open(rt, path)?;
+    if !is_same(&file.metadata()?, named) {
+        return Ok(());
+    }
+    file.set_permissions(Permissions::from_mode(mode))
+}
+
+/// Whether a file is a regular one of one name, and its mode another.
+fn lacks_mode(named: &Metadata, mode: u32) -> bool {
+    named.is_file() && named.nlink() == 1 && named.mode() & ACCESS != mode
+}
+
 /// Gives the log that lies beside a database the mode of the database, where this process may. A log stays behind a command, so that it
 /// has the mode which the database had once. Only a file with this one name is changed: the one that was looked at.
 fn share_mode<R: Files + AllocGlobal>(rt: &R, path: &str) -> io::Result<()> {
     let mode = fs::metadata(rt, path)?.mode() & ACCESS;
-    let real = fs::canonicalize(rt, path)?;
-    let log = format!(in rt.alloc(); "{}-wal", real.as_str())?;
+    let log = log_of(rt, path)?;
     let named = fs::symlink_metadata(rt, log.as_str())?;
-    if !named.is_file() || named.nlink() != 1 || named.mode() & ACCESS == mode {
+    if !lacks_mode(&named, mode) {
         return Ok(());
     }
-    let file = File::open(rt, log.as_str())?;
-    let found = file.metadata()?;
-    if found.dev() != named.dev() || found.ino() != named.ino() {
-        return Ok(());
+    set_mode(rt, log.as_str(), &named, mode)
+}
+
+/// Whether the file of a database is not there, or has no bytes.
+fn is_new<R: Files + AllocGlobal>(rt: &R, path: &str) -> Result<bool, AllocError> {
+    if would_make(rt, path) {
+        return Ok(true);
     }
-    file.set_permissions(Permissions::from_mode(mode))
+    is_blank(rt, path)
 }
 
 /// Opens the archive of a database file. A file that is not there or has no bytes is no archive, and nothing is made. The log beside it
@@ -160,7 +197,7 @@ pub fn open_archive<'a, K: Keeper + Drop, F: InFile<K>>(
     rt: &HostRuntime,
     path: &str,
 ) -> Result<Archive<K>, Stop<'a>> {
-    if would_make(rt, path) || is_blank(rt, path)? {
+    if is_new(rt, path)? {
         return Err(Stop::NoArchive(KeepFault::NoArchive));
     }
     let _ = share_mode(rt, path);
@@ -223,8 +260,7 @@ pub fn migrate_archive<'a, K: Keeper + Drop, F: InFile<K>>(
         return Err(Stop::Refused(Fault::Moment));
     }
     let old = old_archive::<K, F>(rt, from, path)?;
-    let is_new = would_make(rt, path) || is_blank(rt, path)?;
-    if is_new && !F::are_alike(&old, &config) {
+    if is_new(rt, path)? && !F::are_alike(&old, &config) {
         return Err(Stop::NoArchive(KeepFault::Configuration));
     }
     let keeper = F::migrated(rt, path, &old, config, moment)?;

@@ -146,3 +146,11 @@ impl Stop<'_> {
         }
     }
 }
+
+/// Says that all that was given was taken, where it is done.
+pub fn all_taken<'a>(done: Result<(), Stop<'a>>) -> Result<bool, Stop<'a>> {
+    match done {
+        Ok(()) => Ok(true),
+        Err(stop) => Err(stop),
+    }
+}

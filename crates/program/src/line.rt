@@ -5,7 +5,7 @@ use crate::batch::batch_file;
 use crate::configured::{check, configure, init, migrate};
 use crate::database::{InFile, Opening};
 use crate::export::export_file;
-use crate::fault::Stop;
+use crate::fault::{Stop, all_taken};
 use crate::files::{body_of, file_name};
 use crate::serving_file::serve_file;
 use crate::shown::Shown;
@@ -108,34 +108,45 @@ fn done<'a, K: Keeper + Drop, F: InFile<K>, W: Write, E: Write>(
     err: &mut E,
 ) -> Result<bool, Stop<'a>> {
     match line {
-        CommandLine::Try { paths } => try_upload(rt, paths, out)?,
-        CommandLine::Compare { left, right } => compare(rt.alloc(), left, right, out)?,
-        CommandLine::Init { db, at, conf } => init::<K, F>(rt, db, *at, conf)?,
-        CommandLine::Check { conf } => return check(rt, conf, out),
+        CommandLine::Try { paths } => all_taken(try_upload(rt, paths, out)),
+        CommandLine::Compare { left, right } => all_taken(compare(rt.alloc(), left, right, out)),
+        CommandLine::Init { db, at, conf } => all_taken(init::<K, F>(rt, db, *at, conf)),
+        CommandLine::Check { conf } => check(rt, conf, out),
         CommandLine::Ask {
             db,
             at,
             request,
             manner,
-        } => return ask_file::<K, F, W, E>(rt, Opening { db, at: *at }, request, *manner, out, err),
+        } => ask_file::<K, F, W, E>(rt, Opening { db, at: *at }, request, *manner, out, err),
         CommandLine::Batch {
             db,
             at,
             list,
             strict,
-        } => return batch_file::<K, F, W, E>(rt, Opening { db, at: *at }, list, *strict, out, err),
-        CommandLine::Configure { db, at, conf } => configure::<K, F>(rt, db, *at, conf)?,
-        CommandLine::Migrate { from, db, at, conf } => migrate::<K, F>(rt, from, db, *at, conf)?,
-        CommandLine::Show { db, path } => show_file::<K, F, W>(rt, db, path, out)?,
-        CommandLine::List { db, suite, json } => list_file::<K, F, W>(rt, db, suite, *json, out)?,
-        CommandLine::Why { db, at, name, json } => {
-            why_file::<K, F, W>(rt, db, Asked::new(*at, *name, *json), out)?;
+        } => batch_file::<K, F, W, E>(rt, Opening { db, at: *at }, list, *strict, out, err),
+        CommandLine::Configure { db, at, conf } => {
+            all_taken(configure::<K, F>(rt, db, *at, conf))
         }
-        CommandLine::Configuration { db } => configuration_file::<K, F, W>(rt, db, out)?,
-        CommandLine::Export { db, exporting } => export_file::<K, F, W>(rt, db, *exporting, out)?,
-        CommandLine::Serve { db, serving } => serve_file::<K, F, E>(rt, db, *serving, err)?,
+        CommandLine::Migrate { from, db, at, conf } => {
+            all_taken(migrate::<K, F>(rt, from, db, *at, conf))
+        }
+        CommandLine::Show { db, path } => all_taken(show_file::<K, F, W>(rt, db, path, out)),
+        CommandLine::List { db, suite, json } => {
+            all_taken(list_file::<K, F, W>(rt, db, suite, *json, out))
+        }
+        CommandLine::Why { db, at, name, json } => {
+            all_taken(why_file::<K, F, W>(rt, db, Asked::new(*at, *name, *json), out))
+        }
+        CommandLine::Configuration { db } => {
+            all_taken(configuration_file::<K, F, W>(rt, db, out))
+        }
+        CommandLine::Export { db, exporting } => {
+            all_taken(export_file::<K, F, W>(rt, db, *exporting, out))
+        }
+        CommandLine::Serve { db, serving } => {
+            all_taken(serve_file::<K, F, E>(rt, db, *serving, err))
+        }
     }
-    Ok(true)
 }
 
 /// The same, with its output written out.

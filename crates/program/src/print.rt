@@ -110,6 +110,21 @@ fn size_of_all<R: Files>(rt: &R, paths: &[&str]) -> u64 {
     size
 }
 
+/// Delivers the file at a path, if that is none of the database's own, prints a line for it, and says whether it was taken.
+fn put_other<'a, R: Files + AllocGlobal, K: Keeper, W: Write, E: Write>(
+    rt: &R,
+    archive: &mut Archive<K>,
+    opening: Opening<'_>,
+    path: &'a str,
+    out: &mut W,
+    progress: &mut Progress<'_, E>,
+) -> Result<bool, Stop<'a>> {
+    if is_of_database(rt, opening.db, path)? {
+        return Err(Stop::Unreadable(Shown(path)));
+    }
+    put_file(rt, archive, opening.at, path, out, progress)
+}
+
 /// Delivers files, each under the text behind its path's last slash, and prints a line for each. It goes on behind a file that is
 /// refused, and says whether all were taken. Each file is read while it is delivered. The files of the database itself can't be read. How
 /// many bytes are delivered is shown; what is no regular file counts none.
@@ -126,10 +141,7 @@ pub fn put_files<'a, R: Files + AllocGlobal, K: Keeper, W: Write, E: Write>(
         progress.expect(size_of_all(rt, paths));
     }
     for path in paths {
-        if is_of_database(rt, opening.db, path)? {
-            return Err(Stop::Unreadable(Shown(path)));
-        }
-        if !put_file(rt, archive, opening.at, path, out, progress)? {
+        if !put_other(rt, archive, opening, path, out, progress)? {
             all = false;
         }
     }
@@ -325,6 +337,20 @@ fn shelves_of<K: Keeper>(
     Ok((place, shelves))
 }
 
+/// A line for each item that the suite at a position shows, or an object of JSON.
+fn shown_texts(
+    alloc: Global,
+    shelves: &Shelves,
+    place: usize,
+    json: bool,
+) -> Result<Vec<String>, AllocError> {
+    if json {
+        shown_json(alloc, shelves, place)
+    } else {
+        shown_lines(alloc, shelves, place)
+    }
+}
+
 /// Prints a line for each item that a suite shows, by its codename, or an object of JSON. Refused for a codename that no suite has.
 pub fn list<'a, K: Keeper, W: Write>(
     alloc: Global,
@@ -334,11 +360,7 @@ pub fn list<'a, K: Keeper, W: Write>(
     out: &mut W,
 ) -> Result<(), Stop<'a>> {
     let (place, shelves) = shelves_of(alloc, archive, suite)?;
-    if json {
-        print_lines(&shown_json(alloc, &shelves, place)?, out)?;
-    } else {
-        print_lines(&shown_lines(alloc, &shelves, place)?, out)?;
-    }
+    print_lines(&shown_texts(alloc, &shelves, place, json)?, out)?;
     Ok(())
 }
 

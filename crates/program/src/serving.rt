@@ -320,26 +320,34 @@ fn attended<K: Keeper, R: Read, W: Write>(
     }
 }
 
+/// Reads what a client goes on to send, within what is left of the patience with its parting, and says how many bytes came: none at the
+/// end, or once that time is over.
+fn drained<R: Clock>(
+    client: &Client<'_, R>,
+    begun: Instant,
+    buffer: &mut [u8],
+) -> io::Result<usize> {
+    let passed = begun.elapsed(client.rt)?;
+    let left = client.patience.parting.saturating_sub(passed);
+    if left.is_zero() {
+        return Ok(0);
+    }
+    client.read_within(left, buffer)
+}
+
 /// Ends what a client is sent, and reads on to the end of what it sends, for the patience with its parting and so many bytes. A
 /// stream that is closed with bytes unread is reset, and then a client that is still sending loses the reply.
 fn part<R: Clock>(client: &Client<'_, R>) -> io::Result<()> {
     client.stream.shutdown(Shutdown::Write)?;
     let begun = Instant::now(client.rt)?;
     let mut buffer = [0; 16_384];
-    let mut drained = 0usize;
+    let mut all = 0usize;
     for _ in 0..MOST_DRAINED {
-        let left = client
-            .patience
-            .parting
-            .saturating_sub(begun.elapsed(client.rt)?);
-        if left.is_zero() || drained >= MOST_DRAINED as usize {
-            return Ok(());
+        let count = drained(client, begun, &mut buffer)?;
+        all = all.saturating_add(count);
+        if count == 0 || all >= MOST_DRAINED as usize {
+            break;
         }
-        let count = client.read_within(left, &mut buffer)?;
-        if count == 0 {
-            return Ok(());
-        }
-        drained = drained.saturating_add(count);
     }
     Ok(())
 }

@@ -174,6 +174,29 @@ fn tree_of<'t>(serving: &Serving<'t>) -> Option<Tree<'t>> {
     }
 }
 
+/// Serves so many connections of a listener, and opens the archive once more each time that its keeper is shut.
+fn serve_all<'a, K: Keeper + Drop, F: InFile<K>, E: Write>(
+    rt: &HostRuntime,
+    db: &str,
+    listener: &io::Result<TcpListener>,
+    count: u64,
+    moments: &mut Moments<'_>,
+    tree: Option<Tree<'_>>,
+    notes: &mut Notes<'_, E>,
+) -> Result<(), Stop<'a>> {
+    let mut left = serve_some::<K, F, E>(rt, db, listener, count, moments, tree, notes)?;
+    for _ in 1..count {
+        if left == 0 {
+            break;
+        }
+        left = match serve_some::<K, F, E>(rt, db, listener, left, moments, tree, notes) {
+            Ok(left) => left,
+            Err(stop) => return Err(again(stop)),
+        };
+    }
+    Ok(())
+}
+
 /// Serves the archive of a database file. The listener is made before the file is opened, so that clients wait meanwhile, and
 /// ends behind it. Where the keeper is shut by a disk that fails, the file is opened again, and the rest of the connections is
 /// answered from what is found then.
@@ -188,31 +211,6 @@ pub fn serve_file<'a, K: Keeper + Drop, F: InFile<K>, E: Write>(
     let mut moments = Moments::new(serving.at, serving.moments);
     let tree = tree_of(&serving);
     let mut notes = notes_on(rt, serving.log, err);
-    let mut left = serve_some::<K, F, E>(
-        rt,
-        db,
-        &listener,
-        serving.count,
-        &mut moments,
-        tree,
-        &mut notes,
-    )?;
-    for _ in 1..serving.count {
-        if left == 0 {
-            break;
-        }
-        left = match serve_some::<K, F, E>(
-            rt,
-            db,
-            &listener,
-            left,
-            &mut moments,
-            tree,
-            &mut notes,
-        ) {
-            Ok(left) => left,
-            Err(stop) => return Err(again(stop)),
-        };
-    }
-    Ok(())
+    let count = serving.count;
+    serve_all::<K, F, E>(rt, db, &listener, count, &mut moments, tree, &mut notes)
 }

@@ -179,6 +179,19 @@ fn print_answer<'a, W: Write>(
     Ok(())
 }
 
+/// Prints why a judged upload has its verdict, as it is found in an archive.
+fn print_judged<'a, K: Keeper, W: Write>(
+    alloc: Global,
+    archive: &mut Archive<K>,
+    shelves: &Shelves,
+    judgement: &Judgement,
+    json: bool,
+    out: &mut W,
+) -> Result<(), Stop<'a>> {
+    let answer = answer_on(alloc, archive, shelves, judgement)?;
+    print_answer(alloc, judgement, &answer, json, out)
+}
+
 /// What the suites show.
 fn shelves_of<K: Keeper>(alloc: Global, archive: &mut Archive<K>) -> Result<Shelves, Fault> {
     Ok(archive.keeper.shelves(alloc)?)
@@ -199,8 +212,7 @@ fn print_all_judged<'a, K: Keeper, W: Write>(
     }
     let shelves = shelves_of(alloc, archive)?;
     for judgement in &found {
-        let answer = answer_on(alloc, archive, &shelves, judgement)?;
-        print_answer(alloc, judgement, &answer, json, out)?;
+        print_judged(alloc, archive, &shelves, judgement, json, out)?;
     }
     Ok(true)
 }
