@@ -175,7 +175,7 @@ class Package(Room):
             self.assertIn(b".SH NAME", gzip.decompress(manual.read_bytes()))
         self.assertIn("upload URL FILE.changes", run(root / "usr/bin/boqitsel-upload", "--help")[1])
         self.assertIn(" FOLDER\n", run(root / "usr/bin/boqitsel-with-sidecars", "--help")[1])
-        units = root / "lib/systemd/system"
+        units = root / "usr/lib/systemd/system"
         for name, text in (
             ("boqitsel.service", snippet("box.service", {"/usr/local/bin/archive": "/usr/bin/boqitsel"})),
             ("boqitsel-queue.service", snippet("queue.service")),
