@@ -27,15 +27,15 @@ fn manner(found: &ArgMatches<'_>) -> Manner
 
 /// The database of an archive, and the moment at which it is asked.
 #[derive(Clone, Copy)]
-struct Timed<'a> {
+struct DatabaseAt<'a> {
     db: &'a str,
     at: u64,
 }
 
-fn timed<'a>(alloc: Global, found: &ArgMatches<'a>) -> Result<Timed<'a>, LineFault>
+fn timed<'a>(alloc: Global, found: &ArgMatches<'a>) -> Result<DatabaseAt<'a>, LineFault>
     ensures { IfOk result (λ timed. IsTimed (rows_of (found_of found.now)) timed.db timed.at) }
 {
-    Ok(Timed {
+    Ok(DatabaseAt {
         db: required(alloc, found, "db")?,
         at: moment(alloc, found)?,
     })
