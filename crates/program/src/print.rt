@@ -1,9 +1,11 @@
 //! What the program prints of an archive, over any keeper.
 
-ghost use Rattle.std.specs.Prelude.{◌≡◌, ◌≤◌, true, false, OnOk, OnErr, IfErr, IfOk, Some};
+ghost use Rattle.std.specs.Prelude.{◌≡◌, ◌⊎◌, ◌≤◌, true, false, OnOk, OnErr, IfErr, IfOk, Some};
 ghost use Rattle.std.specs.Io.KnownBytes.{Appends};
 ghost use Rattle.keep.specs.Book.{latest};
 ghost use Rattle.keep.specs.Configured.{configured, keeps_shown};
+ghost use Rattle.keep.specs.Keeping.{MayAnswer};
+ghost use Rattle.keep.specs.declared.fault.KeepFault.{KeepFault as KeepersFault};
 ghost use Rattle.keep.specs.declared.fault.KeepFault.TheVariants.{Configuration as NotKept};
 ghost use Rattle.queue.specs.Configuring.{Endures, LeavesConfigured};
 ghost use Rattle.queue.specs.Steps.{IsUndone, Reads};
@@ -257,7 +259,9 @@ pub fn show<'a, K: Keeper, W: Write>(
     archive: &mut Archive<K>,
     path: &str,
     out: &mut W,
-) -> Result<(), Stop<'a>> {
+) -> Result<(), Stop<'a>>
+    ensures reads { Reads K.Keeper archive.old.keeper archive.new.keeper }
+{
     match archive.fetch(alloc, path)? {
         Some(body) => {
             out.write_all(&body)?;
@@ -272,7 +276,9 @@ fn waiting_objects<K: Keeper>(
     alloc: Global,
     archive: &mut Archive<K>,
     at: u64,
-) -> Result<Vec<String>, Fault> {
+) -> Result<Vec<String>, Fault>
+    ensures reads { Reads K.Keeper archive.old.keeper archive.new.keeper }
+{
     if at > LATEST {
         return Err(Fault::Moment);
     }
@@ -287,7 +293,9 @@ pub fn waiting<'a, K: Keeper, W: Write>(
     at: u64,
     json: bool,
     out: &mut W,
-) -> Result<(), Stop<'a>> {
+) -> Result<(), Stop<'a>>
+    ensures reads { Reads K.Keeper archive.old.keeper archive.new.keeper }
+{
     if json {
         print_lines(&waiting_objects(alloc, archive, at)?, out)?;
     } else {
@@ -297,10 +305,9 @@ pub fn waiting<'a, K: Keeper, W: Write>(
 }
 
 /// An object of JSON for each upload that runs have judged.
-fn verdict_objects<K: Keeper>(
-    alloc: Global,
-    archive: &mut Archive<K>,
-) -> Result<Vec<String>, Fault> {
+fn verdict_objects<K: Keeper>(alloc: Global, archive: &mut Archive<K>) -> Result<Vec<String>, Fault>
+    ensures reads { Reads K.Keeper archive.old.keeper archive.new.keeper }
+{
     let judged = archive.keeper.verdicts(alloc)?;
     Ok(verdict_json(alloc, &judged)?)
 }
@@ -311,7 +318,9 @@ pub fn verdicts<'a, K: Keeper, W: Write>(
     archive: &mut Archive<K>,
     json: bool,
     out: &mut W,
-) -> Result<(), Stop<'a>> {
+) -> Result<(), Stop<'a>>
+    ensures reads { Reads K.Keeper archive.old.keeper archive.new.keeper }
+{
     if json {
         print_lines(&verdict_objects(alloc, archive)?, out)?;
     } else {
@@ -358,7 +367,9 @@ pub fn list<'a, K: Keeper, W: Write>(
     suite: &str,
     json: bool,
     out: &mut W,
-) -> Result<(), Stop<'a>> {
+) -> Result<(), Stop<'a>>
+    ensures reads { Reads K.Keeper archive.old.keeper archive.new.keeper }
+{
     let (place, shelves) = shelves_of(alloc, archive, suite)?;
     print_lines(&shown_texts(alloc, &shelves, place, json)?, out)?;
     Ok(())
@@ -381,6 +392,8 @@ pub fn configure<'a, K: Keeper>(
     ensures err { OnErr result (IsUndone K.Keeper archive.old.keeper archive.new.keeper) }
     // K5 comes only where something that is shown would not be kept.
     ensures differs { K.is_clean archive.new.keeper → IfErr result (λ stop. stop ≡ NoArchive NotKept → keeps_shown config (K.book archive.old.keeper) ≡ false) }
+    // What is told is the fault: that, or one of the keeper's own.
+    ensures cause { IfErr result (λ stop. (stop ≡ NoArchive NotKept) ⊎ ((fault : KeepersFault) × (stop ≡ NoArchive fault) × MayAnswer K.may_fail fault)) }
     // A crash leaves what it would have left before, or the configured book.
     ensures crash { LeavesConfigured K.Keeper archive.old.keeper config at archive.new.keeper }
 {

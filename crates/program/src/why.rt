@@ -3,6 +3,8 @@
 //! An archive keeps verdicts, and not why they were given: that is found again from the files of an upload, by the configuration and by
 //! what the suites show today. Where today's verdict is another, that is said, and of the older one nothing but its number.
 
+ghost use Rattle.queue.specs.Steps.{Reads};
+
 use crate::fault::Stop;
 use crate::print::{print_line, print_lines};
 use explaining::{Answer, answer_json, answer_lines, waiting_json, waiting_lines};
@@ -64,7 +66,10 @@ fn found_waiting(
 }
 
 /// What arrived, was judged and waits, and what counts at a moment.
-fn course_of<K: Keeper>(alloc: Global, archive: &mut Archive<K>, at: u64) -> Result<Course, Fault> {
+#[tactic(auto, using(keep::proofs::ReadLemmas::reads_none, keep::proofs::ReadLemmas::reads_more))]
+fn course_of<K: Keeper>(alloc: Global, archive: &mut Archive<K>, at: u64) -> Result<Course, Fault>
+    ensures reads { Reads K.Keeper archive.old.keeper archive.new.keeper }
+{
     if at > LATEST {
         return Err(Fault::Moment);
     }
@@ -87,7 +92,9 @@ fn lacks_in<K: Keeper>(
     archive: &mut Archive<K>,
     course: &Course,
     upload: &WaitingUpload,
-) -> Result<Option<Vec<Lack>>, Fault> {
+) -> Result<Option<Vec<Lack>>, Fault>
+    ensures reads { Reads K.Keeper archive.old.keeper archive.new.keeper }
+{
     let name = upload.name.as_str();
     let Some(changes) = read_changes(alloc, &mut archive.keeper, name, &upload.print)? else {
         return Ok(None);
@@ -113,13 +120,16 @@ fn print_waiting<'a, W: Write>(
 }
 
 /// Prints each upload that waits and is asked for, and says whether there is one.
+#[tactic(auto, using(keep::proofs::ReadLemmas::reads_none, keep::proofs::ReadLemmas::reads_more))]
 fn print_all_waiting<'a, K: Keeper, W: Write>(
     alloc: Global,
     archive: &mut Archive<K>,
     course: &Course,
     asked: Asked<'_>,
     out: &mut W,
-) -> Result<bool, Stop<'a>> {
+) -> Result<bool, Stop<'a>>
+    ensures reads { Reads K.Keeper archive.old.keeper archive.new.keeper }
+{
     let mut has_printed = false;
     for upload in &course.waiting {
         if !is_asked(asked, upload.name.as_str()) {
@@ -154,7 +164,9 @@ fn answer_on<K: Keeper>(
     archive: &mut Archive<K>,
     shelves: &Shelves,
     judgement: &Judgement,
-) -> Result<Answer, Fault> {
+) -> Result<Answer, Fault>
+    ensures reads { Reads K.Keeper archive.old.keeper archive.new.keeper }
+{
     let (name, given) = (judgement.name.as_str(), judgement.verdict);
     let Some(upload) = read_upload(alloc, &mut archive.keeper, name, &judgement.print)? else {
         return Ok(Answer::cleaned(alloc));
@@ -193,11 +205,14 @@ fn print_judged<'a, K: Keeper, W: Write>(
 }
 
 /// What the suites show.
-fn shelves_of<K: Keeper>(alloc: Global, archive: &mut Archive<K>) -> Result<Shelves, Fault> {
+fn shelves_of<K: Keeper>(alloc: Global, archive: &mut Archive<K>) -> Result<Shelves, Fault>
+    ensures reads { Reads K.Keeper archive.old.keeper archive.new.keeper }
+{
     Ok(archive.keeper.shelves(alloc)?)
 }
 
 /// Prints each judged upload of a name, and says whether there is one.
+#[tactic(auto, using(keep::proofs::ReadLemmas::reads_none, keep::proofs::ReadLemmas::reads_more))]
 fn print_all_judged<'a, K: Keeper, W: Write>(
     alloc: Global,
     archive: &mut Archive<K>,
@@ -205,7 +220,9 @@ fn print_all_judged<'a, K: Keeper, W: Write>(
     name: &str,
     json: bool,
     out: &mut W,
-) -> Result<bool, Stop<'a>> {
+) -> Result<bool, Stop<'a>>
+    ensures reads { Reads K.Keeper archive.old.keeper archive.new.keeper }
+{
     let found = judgements_of(alloc, judged, name)?;
     if found.is_empty() {
         return Ok(false);
@@ -218,13 +235,16 @@ fn print_all_judged<'a, K: Keeper, W: Write>(
 }
 
 /// Prints why the uploads of a name have their verdicts, and what those lack that wait; without a name, what each upload lacks that waits.
-/// A name that no upload has is not found.
+/// A name that no upload has is not found. The archive is only read.
+#[tactic(auto, using(keep::proofs::ReadLemmas::reads_none, keep::proofs::ReadLemmas::reads_more))]
 pub fn tell<'a, K: Keeper, W: Write>(
     alloc: Global,
     archive: &mut Archive<K>,
     asked: Asked<'_>,
     out: &mut W,
-) -> Result<(), Stop<'a>> {
+) -> Result<(), Stop<'a>>
+    ensures reads { Reads K.Keeper archive.old.keeper archive.new.keeper }
+{
     let course = course_of(alloc, archive, asked.at)?;
     let has_waiting = print_all_waiting(alloc, archive, &course, asked, out)?;
     let Some(name) = asked.name else {
