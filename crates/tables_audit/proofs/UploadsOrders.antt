@@ -1,7 +1,6 @@
 -- Requests in the order of judging: lists of them that are one in some order.
-use Rattle.std.proofs.Common.{◌≡◌, ◌≢◌, ℕ, Bool, true, false, not, List, [], ◌∷◌, map, filter, length, MatchBool, IsPermutation, refl, sym, ap, ◌∙◌, arith}
+use Rattle.std.proofs.Common.{◌≡◌, Bool, true, false, not, List, [], ◌∷◌, map, filter, length, MatchBool, IsPermutation, refl, sym, ap, ◌∙◌, arith}
 use Rattle.std.specs.Cmp.{IsTotalOrder}
-use Rattle.std.specs.List.{AllPairs}
 use Rattle.std.specs.Ordering.{is_eq}
 use Rattle.std.proofs.lemmas.Cmp.{on_total}
 use Rattle.std.proofs.lemmas.List.{length-map}
@@ -10,7 +9,6 @@ use Rattle.sqlite_trees.specs.Tree.{IsAscending}
 use Rattle.sqlite_keyed.specs.Lists.{sort_by as sorted_by}
 use Rattle.sqlite_keyed.proofs.ListLemmas.{IsPermutation-same, ascending-map}
 use Rattle.sqlite_keyed.proofs.SortLemmas.{IsPermutation-sort_by}
-use Rattle.keep.specs.Book.{judging_order}
 use Rattle.tables.specs.Rows.{Numbered}
 use Rattle.tables.specs.Uploads.{is_judged as has_place}
 use Rattle.tables.specs.declared.rows.UploadRow.{UploadRow}

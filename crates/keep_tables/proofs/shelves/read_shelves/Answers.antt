@@ -1,9 +1,11 @@
-use Rattle.std.proofs.Common.{◌≡◌, List, length, subst, ◌∙◌, arith}
+use Rattle.std.proofs.Common.{◌≡◌, List, length, ap, subst, ◌∙◌, arith}
 use Rattle.sqlite.specs.Held.{state}
 use Rattle.sqlite.specs.State.{HasCleanDisk}
 use Rattle.sqlite.proofs.Callers.{unchanged_then}
 use Rattle.rules.specs.declared.suite.Suite.{Suite}
 use Rattle.tables.specs.declared.rows.Ref.{Ref}
+use Rattle.tables_meaning.specs.Kept.{ref_order}
+use Rattle.tables_meaning.specs.Reads.{sorted_by}
 use Rattle.tables_meaning.specs.Shown.{PutsRow}
 use Rattle.texts.proofs.Paths.{config_codenames}
 use Rattle.tables_meaning.proofs.ReadsLemmas.{held_after, survives_after, survives_foreign}
@@ -34,14 +36,21 @@ loop-id-preserved g c =
       read = λ clean t was.
           let early : HasCleanDisk mid = omega (arith, c.refs_of.ensures.survives.clean, clean) in
           let before = c.loop-id.invariant.read early t was in
-          let read = c.in_ok-refs.ensures.ok clean t (held_after old mid before.1 t was) in (
+          let read = c.in_ok-refs_of.ensures.ok clean t (held_after old mid before.1 t was) in
+          let refs = c.in_ok-refs.ensures ∙ ap (sorted_by ref_order) read.0 in (
             one_less c.args.config.now.suites t c.loop-id.shelves c.put_row.new.shelves (c.in-Some.id, c.in-Some.row) c.next.new.self.rest.items c.loop-id.id-iterator.rest.items
-                (subst (λ (p : List Suite × List Ref). PutsRow p.0 c.in-Some.row p.1 c.loop-id.shelves c.put_row.new.shelves) (λ i. (c.suites.ensures i, read.0 i)) c.in_ok-put_row.ensures.ok)
+                (subst (λ (p : List Suite × List Ref). PutsRow p.0 c.in-Some.row p.1 c.loop-id.shelves c.put_row.new.shelves) (λ i. (c.suites.ensures i, refs i)) c.in_ok-put_row.ensures.ok)
                 c.in-Some.ensures.steps.0 before.0,
             unchanged_then old mid new before.1 read.1,
           );
     }
     )
+
+pub returns-in_err-refs_of-clause-survives : goal.returns-in_err-refs_of-clause-survives
+returns-in_err-refs_of-clause-survives g c =
+    survives_after (state g.S.Store c.args.conn.now) (state g.S.Store c.loop-id.conn) (state g.S.Store c.refs_of.new.conn)
+    (λ clean t was. (c.loop-id.invariant.read clean t was).1) c.loop-id.invariant.survives
+    (survives_foreign (state g.S.Store c.loop-id.conn) (state g.S.Store c.refs_of.new.conn) c.refs_of.ensures.survives)
 
 pub returns-in_err-refs-clause-survives : goal.returns-in_err-refs-clause-survives
 returns-in_err-refs-clause-survives g c =
