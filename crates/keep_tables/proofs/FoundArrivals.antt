@@ -28,7 +28,7 @@ use Rattle.tables_meaning.specs.Making.{with_bytes, with_pieces}
 use Rattle.tables_meaning.proofs.BodyLemmas.{only_pieces}
 use Rattle.tables_meaning.proofs.Searches.{list_any-map, pairs_of_rows}
 use Rattle.tables_meaning.proofs.FinishedLemmas.{or_false}
-use Rattle.keep_tables.specs.Moments.{found_current}
+use Rattle.tables_counting.specs.Moments.{found_current}
 
 abbrev arrivals_of : Tables → Numbered ArrivalRow
 arrivals_of t = t.arrivals

@@ -44,7 +44,8 @@ use Rattle.tables_meaning.proofs.SweptFinished.{and_true}
 use Rattle.tables_meaning.proofs.SweptLemmas.{unset}
 use Rattle.tables_cleaning.proofs.CurrentLemmas.{arrivals_current, arrivals_left}
 use Rattle.tables_cleaning.proofs.CurrentUploads.{uploads_left, wants_left}
-use Rattle.keep_tables.specs.Moments.{due_at, found_current, is_had, missing_at, rows_at, waiting_at}
+use Rattle.keep_tables.specs.Moments.{due_at, missing_at, rows_at, waiting_at}
+use Rattle.tables_counting.specs.Moments.{found_current, is_had}
 use Rattle.keep_tables.proofs.FoundArrivals.{current_if_found}
 
 -- ---- lists

@@ -24,7 +24,6 @@ use crate::coming::{
     is_one_piece, number_of, stop, take_piece,
 };
 use crate::configurations::take_configuration;
-use crate::counting::span_of;
 use crate::reads::{
     read_arrivals, read_arrived, read_due, read_file, read_kept, read_nothing, read_print,
     read_text, read_waiting, show,
@@ -41,6 +40,7 @@ use suites::{Shelves, Upload};
 use sums::{Print, Printer, print_of};
 use tables_bodies::{Begun, Finished, OnePiece, some_take_files};
 use tables_changes::{create, is_without_tables};
+use tables_counting::span_of;
 use tables_meaning::fault_of;
 
 /// A keeper over the tables of a database, which its connection is to. The configuration, the judgements and the dates are

@@ -8,7 +8,6 @@ mod changes;
 mod cleanings;
 mod coming;
 mod configurations;
-mod counting;
 mod keeper;
 mod laws;
 mod opening;

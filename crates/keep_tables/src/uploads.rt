@@ -10,11 +10,11 @@ ghost use Rattle.suites.specs.Upload.{IsTextOf};
 ghost use Rattle.keep.specs.Book.{judging_order};
 ghost use Rattle.tables_meaning.specs.Reads.{next_wanting_in, wanting, row_order, sorted_by, bytes_with, text_in, upload_in};
 ghost use Rattle.tables_meaning.specs.Kept.{sign_in};
-ghost use Rattle.keep_tables.specs.Moments.{is_had, missing_at, row_at, rows_at, waiting_at, due_at};
+ghost use Rattle.keep_tables.specs.Moments.{missing_at, row_at, rows_at, waiting_at, due_at};
+ghost use Rattle.tables_counting.specs.Moments.{is_had};
 ghost use Rattle.tables.specs.Calls.{CommitsNoRows, OverRows, Reads};
 ghost use Rattle.tables_meaning.specs.Calls.{ReadUndone, ReadsAtRest};
 
-use crate::counting::{counts_still, missing_of_one};
 use keep::{Waiting, judging_order};
 use para::Listed;
 use records::{Changes, RecordFault};
@@ -28,6 +28,7 @@ use tables::rows::{UploadRow, Want};
 use tables::uploads::upload_numbered;
 use tables::wants::{next_wanting, wants_of};
 use tables_bodies::read_body;
+use tables_counting::{counts_still, missing_of_one};
 
 /// The first upload behind a number that wants something, with its number. One that is not there, which cannot be in an
 /// archive, is refused.

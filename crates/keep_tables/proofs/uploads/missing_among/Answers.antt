@@ -4,7 +4,7 @@ use Rattle.sqlite.specs.Held.{state}
 use Rattle.sqlite.specs.State.{HasCleanDisk}
 use Rattle.tables.proofs.ReadLemmas.{on_err}
 use Rattle.tables_meaning.proofs.ReadsLemmas.{held_if_rested, rests_itself, rests_then, survives_itself, survives_rested, undone_rested}
-use Rattle.keep_tables.specs.Moments.{is_had}
+use Rattle.tables_counting.specs.Moments.{is_had}
 use Rattle.keep_tables.proofs.MomentLemmas.{counted_more}
 use Rattle.keep_tables.proofs.uploads.missing_among.Goals as goal
 

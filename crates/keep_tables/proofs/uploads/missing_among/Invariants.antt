@@ -3,7 +3,7 @@ use Rattle.sqlite.specs.Held.{state}
 use Rattle.sqlite.specs.State.{HasCleanDisk, Survives}
 use Rattle.tables.specs.Rows.{Tables, Holds}
 use Rattle.tables_meaning.specs.Reads.{Rests}
-use Rattle.keep_tables.specs.Moments.{is_had}
+use Rattle.tables_counting.specs.Moments.{is_had}
 use Rattle.keep_tables.proofs.uploads.missing_among.Given as goal
 
 -- those so far

@@ -4,7 +4,8 @@ use Rattle.sqlite.specs.State.{HasCleanDisk}
 use Rattle.sqlite.proofs.Callers.{unchanged_then}
 use Rattle.tables.proofs.ReadLemmas.{on_err}
 use Rattle.tables_meaning.proofs.ReadsLemmas.{held_after, survives_after, survives_foreign, undone_after}
-use Rattle.keep_tables.specs.Moments.{is_had, missing_at}
+use Rattle.keep_tables.specs.Moments.{missing_at}
+use Rattle.tables_counting.specs.Moments.{is_had}
 use Rattle.keep_tables.proofs.uploads.missing_of.Goals as goal
 
 pub returns-in_err-wants-clause-survives : goal.returns-in_err-wants-clause-survives

@@ -1,5 +1,5 @@
 use Rattle.std.proofs.Common.{if◌then◌else◌, Some, None, sym, ap, ◌∙◌}
-use Rattle.keep_tables.specs.Moments.{still_counts}
+use Rattle.tables_counting.specs.Moments.{still_counts}
 use Rattle.keep_tables.proofs.uploads.row_if_still.Goals as goal
 
 pub returns-then-still-clause-ok : goal.returns-then-still-clause-ok

@@ -2,8 +2,8 @@ use Rattle.std.proofs.Common.{sym, ap, ◌∙◌}
 use Rattle.std.proofs.lemmas.Result.{IfOk-weaker}
 use Rattle.sqlite.specs.Held.{state}
 use Rattle.tables_meaning.proofs.ReadsLemmas.{rests_if_unchanged, rests_itself, survives_itself}
-use Rattle.keep_tables.specs.Moments.{still_counts}
-use Rattle.keep_tables.proofs.counting.counts_still.Goals as goal
+use Rattle.tables_counting.specs.Moments.{still_counts}
+use Rattle.tables_counting.proofs.counting.counts_still.Goals as goal
 
 pub returns-in-Some-clause-ok : goal.returns-in-Some-clause-ok
 returns-in-Some-clause-ok g c clean t was =

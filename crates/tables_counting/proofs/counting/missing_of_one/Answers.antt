@@ -1,5 +1,5 @@
 use Rattle.std.proofs.Common.{if◌then◌else◌, sym, ap, ◌∙◌}
-use Rattle.keep_tables.proofs.counting.missing_of_one.Goals as goal
+use Rattle.tables_counting.proofs.counting.missing_of_one.Goals as goal
 
 pub returns-then-had-clause-ok : goal.returns-then-had-clause-ok
 returns-then-had-clause-ok g c clean t was =

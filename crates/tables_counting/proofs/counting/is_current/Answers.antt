@@ -7,8 +7,8 @@ use Rattle.sqlite.proofs.Callers.{unchanged_then}
 use Rattle.tables_bodies.specs.Counting.{arrival_counts}
 use Rattle.tables_meaning.proofs.AmendLemmas.{err_then}
 use Rattle.tables_meaning.proofs.ReadsLemmas.{held_after, survives_after, survives_foreign, undone_after, undone_if_failed}
-use Rattle.keep_tables.specs.Moments.{found_current}
-use Rattle.keep_tables.proofs.counting.is_current.Goals as goal
+use Rattle.tables_counting.specs.Moments.{found_current}
+use Rattle.tables_counting.proofs.counting.is_current.Goals as goal
 
 pub returns-in_err-body-clause-survives : goal.returns-in_err-body-clause-survives
 returns-in_err-body-clause-survives g c =

@@ -3,7 +3,7 @@
 ghost use Rattle.std.specs.Prelude.{if◌then◌else◌, ◌≡◌, ◌≤◌, false, Some, IfOk};
 ghost use Rattle.keep.specs.Book.{span};
 ghost use Rattle.tables_bodies.specs.Counting.{arrival_counts};
-ghost use Rattle.keep_tables.specs.Moments.{found_current, is_had, still_counts};
+ghost use Rattle.tables_counting.specs.Moments.{found_current, is_had, still_counts};
 ghost use Rattle.tables.specs.Calls.{CommitsNoRows, CommitsNothingOfOurs, ReadFails, Reads};
 ghost use Rattle.tables_meaning.specs.Calls.{ReadUndone, ReadsAtRest};
 
@@ -17,7 +17,7 @@ use tables::rows::Want;
 use tables_bodies::counts;
 
 /// For how many seconds what arrives counts in an archive of this configuration, or nothing where it does so for good.
-pub(crate) fn span_of(config: &Config) -> Option<u64>
+pub fn span_of(config: &Config) -> Option<u64>
     ensures { result ≡ span config.now }
 {
     match config.keep_days() {
@@ -69,7 +69,7 @@ fn is_current<S: Alter>(
 
 /// Whether what has arrived under this name with this print counts still at the moment. Where it does so for good nothing is
 /// looked up.
-pub(crate) fn counts_still<S: Alter>(
+pub fn counts_still<S: Alter>(
     alloc: Global,
     conn: &mut Connection<S>,
     name: &str,
@@ -108,7 +108,7 @@ fn is_had<S: Alter>(
 }
 
 /// How many of one entry are missing: 1 where it has not arrived or counts no more.
-pub(crate) fn missing_of_one<S: Alter>(
+pub fn missing_of_one<S: Alter>(
     alloc: Global,
     conn: &mut Connection<S>,
     want: &Want,

@@ -1,7 +1,7 @@
 use Rattle.std.proofs.Common.{false, Some, sym, ap, ◌∙◌}
 use Rattle.std.specs.Option.{option_map_or}
 use Rattle.tables_meaning.specs.Cleaning.{counts_row}
-use Rattle.keep_tables.proofs.counting.counts_under.Goals as goal
+use Rattle.tables_counting.proofs.counting.counts_under.Goals as goal
 
 pub returns-in-Some-clause-ok : goal.returns-in-Some-clause-ok
 returns-in-Some-clause-ok g c clean t was =

@@ -2,8 +2,8 @@ use Rattle.std.proofs.Common.{◌&&◌, sym, ap, ◌∙◌}
 use Rattle.std.proofs.lemmas.Result.{IfOk-weaker}
 use Rattle.sqlite.specs.Held.{state}
 use Rattle.tables_meaning.proofs.ReadsLemmas.{rests_itself, survives_itself}
-use Rattle.keep_tables.specs.Moments.{still_counts}
-use Rattle.keep_tables.proofs.counting.is_had.Goals as goal
+use Rattle.tables_counting.specs.Moments.{still_counts}
+use Rattle.tables_counting.proofs.counting.is_had.Goals as goal
 
 pub returns-then-not-want-clause-ok : goal.returns-then-not-want-clause-ok
 returns-then-not-want-clause-ok g c clean t was =

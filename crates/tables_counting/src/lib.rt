@@ -1,0 +1,6 @@
+//! Whether what has arrived counts still at a moment, and whether an entry that an upload wants is there.
+#![tactic(auto)]
+
+mod counting;
+
+pub use counting::{counts_still, missing_of_one, span_of};
