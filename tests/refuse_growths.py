@@ -12,7 +12,7 @@ first is, each tenth, and the last of those that come if none is refused.
 The program answers the row, at once or if the call is made again after a fault of memory, with all that the archive shows as it was;
 else its line differs. For each call and keeper a line is printed: how many growths the call has, how many of them were tried, and at how many
 of these it was refused or was answered at once. The status is 0 if each call has a growth, but those that make nothing grow, and no run
-printed another line. Without rustc, which makes that library, it says so and tries nothing."""
+printed another line. Without the program, or without rustc, which makes that library, it says so and tries nothing."""
 import os
 import re
 import subprocess
@@ -216,8 +216,8 @@ class Call:
 
 
 def main():
-    if not path_of("rustc"):
-        tell_skipped("tests.refuse_growths", f"there is no {named('rustc')}")
+    if not path_of("rustc") or not PROGRAM.exists():
+        tell_skipped("tests.refuse_growths", f"there is no {PROGRAM if path_of('rustc') else named('rustc')}")
         return 0
     is_part, words = "--part" in sys.argv[1:], [it for it in sys.argv[1:] if it != "--part"]
     keepers = [(ending, it) for ending, all_ in KEEPERS.items() for it in all_]

@@ -14,7 +14,7 @@ RT = """#!/bin/sh
 test "$1" = --version && echo "rattle-kit-{kit} logic 0" && exit
 echo "$* RT_JOBS=$RT_JOBS" >> {room}/asked
 test $# = 1 && echo "7 passed, {failed} failed" && exit {failed}
-echo "2 passed, 0 failed ($*)"
+exit 0
 """
 
 

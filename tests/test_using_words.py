@@ -4,15 +4,16 @@ import json
 import pathlib
 
 from tests import snippets
-from tests.program import DATA, NAMES
+from tests.program import DATA, NAMES, PROGRAM
 from tests.snippets import snippet
-from tests.wants import main, needs
+from tests.wants import main, needs, needs_file
 
 
 def keys(line):
     return sorted(json.loads(line))
 
 
+@needs_file(PROGRAM)
 class Words(snippets.Case):
     def test_what_a_configuration_says(self):
         self.room.write("work/box.conf", snippet("configuration", {"Uploaders:": "Uploader:"}))
