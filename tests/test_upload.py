@@ -498,7 +498,7 @@ class Uploads(unittest.TestCase):
         self.assertIn(f"upload: not done within 3 seconds: {CHANGES} has no verdict yet, and lacks 1 files\n", told)
 
     def answered(self, pieces, *words):
-        """What the command ends with where the server sends these pieces to each request, and how many requests there were. It has 512 MiB."""
+        """What the command ends with if the server sends these pieces to each request, and how many requests there were. It has 512 MiB."""
         server = Answers(pieces)
         self.addCleanup(server.close)
         line = [sys.executable, TOOL, self.url_of(server.port), self.changes, *words]

@@ -176,7 +176,7 @@ class Proxy(unittest.TestCase):
 
     @needs("chromium")
     def test_no_file_of_the_pool_is_a_page(self):
-        """Whatever its name, and also where the archive is away and the proxy answers alone."""
+        """Whatever its name, and also while the archive is away and the proxy answers alone."""
         self.site.upload(uploads.Package("evil", source=True), snippets.EVIL)
         heads = ["content-type: application/octet-stream", "content-disposition: attachment", "x-content-type-options: nosniff"]
         heads.append("content-security-policy: default-src 'none'; sandbox")
