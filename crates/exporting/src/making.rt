@@ -1,7 +1,9 @@
 //! The folders of states, made of the archive's texts.
 
-ghost use Rattle.std.specs.Prelude.{◌≡◌};
+ghost use Rattle.std.specs.Prelude.{◌≡◌, IfOk};
 ghost use Rattle.queue.specs.Steps.{Reads};
+ghost use Rattle.texts.specs.Indices.{path_in};
+ghost use Rattle.exporting.specs.Fetched.{IsFetched};
 
 use crate::asked::Job;
 use crate::by_hash::add_by_hash;
@@ -24,6 +26,7 @@ pub fn body_at<K: Keeper>(
     path: &str,
 ) -> Result<Vec<u8>, ExportFault>
     ensures reads { Reads K.Keeper archive.old.keeper archive.new.keeper }
+    ensures body { IfOk result (λ body. IsFetched K.Keeper archive.old.keeper path.now body.items archive.new.keeper) }
 {
     match archive.fetch(alloc, path)? {
         Some(body) => Ok(body),
@@ -39,6 +42,7 @@ pub fn text_at<K: Keeper>(
     path: &str,
 ) -> Result<Vec<u8>, ExportFault>
     ensures reads { Reads K.Keeper archive.old.keeper archive.new.keeper }
+    ensures body { IfOk result (λ body. IsFetched K.Keeper archive.old.keeper (path_in codename.now path.now) body.items archive.new.keeper) }
 {
     let whole = path_in(alloc, codename, path)?;
     body_at(alloc, archive, whole.as_str())

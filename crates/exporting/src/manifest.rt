@@ -12,9 +12,10 @@
 //! what would be written, to the byte.
 
 ghost use Rattle.std.specs.Prelude.{◌≡◌, true, IfOk, IfSome, string_bytes};
+ghost use Rattle.std.specs.List.{list_all};
 ghost use Rattle.exporting.specs.Lines.{nine_digits, path_line as line_of_path, shown_line as line_of_suite, states_line as line_of_states};
 ghost use Rattle.hex.specs.Hex.{encode_lower};
-ghost use Rattle.exporting.specs.Names.{is_pool_path as is_path_in_pool};
+ghost use Rattle.exporting.specs.Names.{have_pool_paths, is_pool_path as is_path_in_pool};
 
 use crate::disk::Stamp;
 use crate::names::is_pool_path;
@@ -81,6 +82,8 @@ pub struct Manifest {
     shown: BTreeMap<String, Shown>,
     /// Whether something is other than it was read.
     is_changed: bool,
+    // No path leads out of the pool.
+    ghost within: { have_pool_paths words.entries ≡ true },
 }
 
 /// A digest in hexadecimal.
@@ -261,7 +264,10 @@ impl Manifest {
         Ok(true)
     }
 
-    fn put(&mut self, alloc: Global, path: &str, known: Known) -> Result<(), AllocError> {
+    /// Knows something of a path of the pool.
+    fn put(&mut self, alloc: Global, path: &str, known: Known) -> Result<(), AllocError>
+        requires { is_path_in_pool path.now ≡ true }
+    {
         self.words.insert(String::from_str(alloc, path)?, known)?;
         Ok(())
     }
@@ -307,9 +313,9 @@ impl Manifest {
         Some(known.word)
     }
 
-    /// Says something of a path.
+    /// Says something of a path. Of one that is none of a file of the pool nothing is said.
     pub fn set(&mut self, alloc: Global, path: &str, word: Word) -> Result<(), AllocError> {
-        if self.word(path) == Some(word) {
+        if self.word(path) == Some(word) || !is_pool_path(path) {
             return Ok(());
         }
         let line = path_line(alloc, path, word)?;
@@ -353,8 +359,11 @@ impl Manifest {
         &self.words
     }
 
-    /// The paths that were left.
-    pub fn left(&self, alloc: Global) -> Result<Vec<Text>, AllocError> {
+    /// The paths that were left. None of them leads out of the pool.
+    #[tactic(auto, using(crate::proofs::PathLemmas::first_within, crate::proofs::PathLemmas::rest_within, crate::proofs::PathLemmas::pushed_within))]
+    pub fn left(&self, alloc: Global) -> Result<Vec<Text>, AllocError>
+        ensures within { IfOk result (λ left. list_all is_path_in_pool left.items ≡ true) }
+    {
         let mut left = Vec::new(alloc);
         for (path, known) in &self.words {
             if known.word == Word::Left {

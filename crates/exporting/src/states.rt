@@ -1,7 +1,8 @@
 //! The states that suites show, and that they are to show.
 
-ghost use Rattle.std.specs.Prelude.{◌≡◌};
+ghost use Rattle.std.specs.Prelude.{◌≡◌, IfOk, string_bytes};
 ghost use Rattle.queue.specs.Steps.{Reads};
+ghost use Rattle.exporting.specs.Fetched.{IsStateOf};
 
 use crate::disk::{Disk, is_file_at, link_at};
 use crate::fault::ExportFault;
@@ -160,6 +161,7 @@ fn wanted_state<K: Keeper>(
     codename: &str,
 ) -> Result<String, ExportFault>
     ensures reads { Reads K.Keeper archive.old.keeper archive.new.keeper }
+    ensures named { IfOk result (λ name. IsStateOf K.Keeper archive.old.keeper codename.now (string_bytes name) archive.new.keeper) }
 {
     let release = text_at(alloc, archive, codename, "Release")?;
     Ok(state_name(alloc, codename, &release)?)

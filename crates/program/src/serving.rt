@@ -14,6 +14,7 @@
 
 ghost use Rattle.std.specs.Prelude.{◌≡◌, ◌≤◌, ℕ, All, None, length};
 ghost use Rattle.desk.specs.Connections.{HasServed, IsClientsWithin};
+ghost use Rattle.program.specs.Ends.{end_of, first_end};
 ghost use Rattle.queue.specs.Steps.{Reads};
 
 use crate::client::{Client, FirstLine, FromClient, Patience, ToClient};
@@ -303,6 +304,26 @@ fn connection<R, W>(reader: R, writer: W, moment: u64) -> Connection<R, W>
     }
 }
 
+/// How a connection ended, where it did.
+fn end_of(end: &Option<Result<Served, DeskFault>>) -> Result<Served, DeskFault>
+    ensures { result ≡ end_of end.now }
+{
+    match end {
+        Some(end) => *end,
+        None => Ok(Served::Nothing),
+    }
+}
+
+/// How the first of connections ended.
+fn first_end<R, W>(connections: &[Connection<R, W>]) -> Result<Served, DeskFault>
+    ensures { result ≡ first_end connections.now }
+{
+    match connections.first() {
+        Some(one) => end_of(&one.end),
+        None => Ok(Served::Nothing),
+    }
+}
+
 /// Answers connections, and says how the first of them ended.
 fn attended<K: Keeper, R: Read, W: Write>(
     alloc: Global,
@@ -312,12 +333,10 @@ fn attended<K: Keeper, R: Read, W: Write>(
 ) -> Result<Served, DeskFault>
     ensures served { (moment : ℕ) → All (λ one. (R.remaining one.reader ≡ None) × (one.moment ≡ moment)) connections.old
         → HasServed K.Keeper (length connections.old) (IsClientsWithin moment moment) archive.old.keeper archive.new.keeper }
+    ensures end { result ≡ first_end connections.new }
 {
     attend(alloc, desk, archive, connections);
-    match connections.first() {
-        Some(Connection { end: Some(end), .. }) => *end,
-        _ => Ok(Served::Nothing),
-    }
+    first_end(connections)
 }
 
 /// Reads what a client goes on to send, within what is left of the patience with its parting, and says how many bytes came: none at the

@@ -23,20 +23,9 @@ module _ {R W : Type 0} (remaining : R → Option (List ℕ)) (contents : W → 
       (record { from_first = omega (arith, here.1); to_last = omega (arith, here.1); foreign = here.0 })
       (of_clients moment olds news (All-tail (λ one. (remaining one.reader ≡ None) × (one.moment ≡ moment)) old olds all))
 
-pub returns-in-Some-Some : goal.returns-in-Some-Some
-returns-in-Some-Some g c = record {
-  served = λ moment all.
-      a_turn g.K.Keeper (length c.args.connections.now) (IsClientsWithin moment moment) c.args.archive.now.keeper c.attend.new.archive.keeper
-      (visits g.R.Read.remaining g.W.Write.contents c.args.connections.now c.attend.new.connections)
-      (no_more g.R.Read.remaining g.W.Write.contents c.args.connections.now c.attend.new.connections)
-      (of_clients g.R.Read.remaining g.W.Write.contents moment c.args.connections.now c.attend.new.connections all) c.attend.ensures.lasts c.attend.ensures.served;
-}
-
-pub returns-in_default : goal.returns-in_default
-returns-in_default g c = record {
-  served = λ moment all.
-      a_turn g.K.Keeper (length c.args.connections.now) (IsClientsWithin moment moment) c.args.archive.now.keeper c.attend.new.archive.keeper
-      (visits g.R.Read.remaining g.W.Write.contents c.args.connections.now c.attend.new.connections)
-      (no_more g.R.Read.remaining g.W.Write.contents c.args.connections.now c.attend.new.connections)
-      (of_clients g.R.Read.remaining g.W.Write.contents moment c.args.connections.now c.attend.new.connections all) c.attend.ensures.lasts c.attend.ensures.served;
-}
+pub returns-clause-served : goal.returns-clause-served
+returns-clause-served g c = λ moment all.
+    a_turn g.K.Keeper (length c.args.connections.now) (IsClientsWithin moment moment) c.args.archive.now.keeper c.attend.new.archive.keeper
+    (visits g.R.Read.remaining g.W.Write.contents c.args.connections.now c.attend.new.connections)
+    (no_more g.R.Read.remaining g.W.Write.contents c.args.connections.now c.attend.new.connections)
+    (of_clients g.R.Read.remaining g.W.Write.contents moment c.args.connections.now c.attend.new.connections all) c.attend.ensures.lasts c.attend.ensures.served
