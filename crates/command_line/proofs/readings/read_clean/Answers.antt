@@ -3,4 +3,4 @@ use Rattle.std.proofs.Common.{refl}
 use Rattle.command_line.proofs.readings.read_clean.Goals as goal
 
 pub returns : goal.returns
-returns c = c.asked.ensures (codes "clean") (λ db at timed. (_, (refl, (timed.word, timed.moment))))
+returns c = c.asked.ensures (codes "clean") (λ db at timed. (_, refl, (timed.word, timed.moment)))

@@ -3,4 +3,4 @@ use Rattle.std.proofs.Common.{refl}
 use Rattle.command_line.proofs.readings.read_put.Goals as goal
 
 pub returns : goal.returns
-returns c = c.asked.ensures (codes "put") (λ db at timed. (_, (refl, (timed.word, (timed.moment, c.in_ok-path.ensures)))))
+returns c = c.asked.ensures (codes "put") (λ db at timed. (_, refl, (timed.word, timed.moment, c.in_ok-path.ensures)))

@@ -4,4 +4,4 @@ use Rattle.command_line.proofs.readings.read_remove.Goals as goal
 
 pub returns : goal.returns
 returns c =
-    c.asked.ensures (codes "remove") (λ db at timed. (_, (refl, (timed.word, (timed.moment, (c.in_ok-required.ensures, c.in_ok-required-2.ensures))))))
+    c.asked.ensures (codes "remove") (λ db at timed. (_, refl, (timed.word, timed.moment, c.in_ok-required.ensures, c.in_ok-required-2.ensures)))
