@@ -1,4 +1,4 @@
-use Rattle.std.proofs.Common.{rules, ◌≡◌, IfOk, None, inr, refl, sym, subst, ap, ◌∙◌, arith}
+use Rattle.std.proofs.Common.{rules, ◌≡◌, IfOk, None, inr, sym, subst, ap, ◌∙◌, arith}
 use Rattle.sqlite.specs.State.{HasCleanDisk, IsUnchanged}
 use Rattle.sqlite.specs.Held.{state}
 use Rattle.sqlite.proofs.StateLemmas.{survives_then}
@@ -87,5 +87,6 @@ pub returns-in-Ok-None-clause-refused : goal.returns-in-Ok-None-clause-refused
 returns-in-Ok-None-clause-refused g c same clean =
     let old = state g.S.Store c.args.connection in
     let mid = state g.S.Store c.find_archive.new.conn in
-    let found = subst (λ r. IfOk r (λ o. o ≡ None → Stands old mid × IsNoArchive old.now)) c.in-Ok-None.is (c.find_archive.ensures.none clean) refl in
+    let none : c.in-Ok-None.field-0 ≡ None = search rules in
+    let found = subst (λ r. IfOk r (λ o. o ≡ None → Stands old mid × IsNoArchive old.now)) c.in-Ok-None.is (c.find_archive.ensures.none clean) none in
     inr found.1
