@@ -199,7 +199,9 @@ fn print_judged<'a, K: Keeper, W: Write>(
     judgement: &Judgement,
     json: bool,
     out: &mut W,
-) -> Result<(), Stop<'a>> {
+) -> Result<(), Stop<'a>>
+    ensures reads { Reads K.Keeper archive.old.keeper archive.new.keeper }
+{
     let answer = answer_on(alloc, archive, shelves, judgement)?;
     print_answer(alloc, judgement, &answer, json, out)
 }
