@@ -7,7 +7,7 @@ use queue::Archive;
 use rules::Config;
 use std::alloc::Global;
 use test_rows::{Answers, Unread, said, text_of};
-use test_story::{Answered, Call, Pieces, Question, Story, Task, difference};
+use test_story::{Call, Pieces, Question, Story, Task, difference};
 
 /// Room for the reply of a request.
 const ROOM: usize = 65_536;
@@ -86,35 +86,7 @@ fn again<K: Keeper>(
     }
 }
 
-/// What a call answers that is made between the marks.
-fn answered_to<K: Keeper, R: Print + AllocGlobal>(
-    marks: Marks<'_, R>,
-    archive: &mut Archive<K>,
-    call: &Call,
-) -> Result<Answered, Unread> {
-    let alloc = marks.rt.alloc();
-    let room = Vec::with_capacity(alloc, ROOM)?;
-    marks.begin()?;
-    let answered = call.make(alloc, archive, room);
-    marks.end(answered.is_refused())?;
-    Ok(answered)
-}
-
-/// What a call answers, at once or where it is made again, of an archive that shows this.
-fn answer_to<K: Keeper, R: Print + AllocGlobal>(
-    marks: Marks<'_, R>,
-    archive: &mut Archive<K>,
-    call: &Call,
-    before: &[Vec<u8>],
-) -> Result<Vec<u8>, Unread> {
-    let answered = answered_to(marks, archive, call)?;
-    if answered.is_refused() {
-        return again(marks.rt.alloc(), archive, call, before);
-    }
-    answered.text(marks.rt.alloc())
-}
-
-/// What the call of a row answers.
+/// What a call answers, at once or where it is made again.
 fn called<K: Keeper, R: Print + AllocGlobal>(
     marks: Marks<'_, R>,
     archive: &mut Archive<K>,
@@ -123,7 +95,14 @@ fn called<K: Keeper, R: Print + AllocGlobal>(
     let alloc = marks.rt.alloc();
     let call = Call::read(alloc, words)?;
     let before = shown(alloc, archive)?;
-    answer_to(marks, archive, &call, before.as_slice())
+    let room = Vec::with_capacity(alloc, ROOM)?;
+    marks.begin()?;
+    let answered = call.make(alloc, archive, room);
+    marks.end(answered.is_refused())?;
+    if answered.is_refused() {
+        return again(alloc, archive, &call, before.as_slice());
+    }
+    answered.text(alloc)
 }
 
 /// A word where a keeper is there, which the story then has, or the fault.
