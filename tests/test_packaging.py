@@ -141,6 +141,29 @@ while read -r link name path; do ls -d "/etc/alternatives/$name" "/var/lib/dpkg/
 echo gone
 """
 
+# Removes the package while its units are enabled. A systemctl of its own says what it is asked for, and does what needs no systemd.
+UNITS_END = """
+exec < /dev/null
+rm -f /var/lib/man-db/auto-update
+rm -f /usr/sbin/policy-rc.d
+dpkg -i /given/*.deb > /dev/null
+systemctl --quiet enable boqitsel.service boqitsel-queue.timer boqitsel-clean.timer
+mkdir -p /run/systemd/system
+dpkg-divert --quiet --local --rename --add /usr/bin/systemctl
+cp /given/systemctl /usr/bin/systemctl
+ls /etc/systemd/system/*.wants | grep boqitsel | sort
+dpkg -i /given/*.deb > /dev/null
+cat /asked 2> /dev/null || true
+echo again
+dpkg -r boqitsel > /dev/null
+cat /asked
+ls /etc/systemd/system/*.wants | grep boqitsel || echo none
+"""
+SYSTEMCTL = """#!/bin/sh
+echo "systemctl $*" >> /asked
+case "$*" in *disable*) rmdir /run/systemd/system; systemctl.distrib "$@"; mkdir /run/systemd/system ;; esac
+"""
+
 
 def run(*words, **more):
     ran = subprocess.run(words, capture_output=True, text=True, check=False, timeout=LONG, **more)
@@ -267,7 +290,7 @@ class Package(Room):
         self.assertEqual((examples / "nginx.conf").read_text(), snippet("nginx"))
         self.assertEqual((examples / "nginx-tree.conf").read_text(), snippet("tree by nginx"))
         self.assertNotIn("enable", (root / "DEBIAN/postinst").read_text())
-        for name in ("postinst", "prerm"):
+        for name in ("postinst", "prerm", "postrm"):
             self.assertEqual(run("sh", "-n", root / "DEBIAN" / name), (0, "", ""))
 
     def test_the_same_files_make_the_same_package(self):
@@ -365,6 +388,20 @@ class Scripts(Root):
         half = [it for it in given if it not in ("given /usr/bin/archive", "given /usr/bin/upload")]
         links = ["/bin/echo", "/etc/alternatives/archive-upload", "/bin/echo"]
         self.assertEqual(self.inside(FOREIGN).splitlines(), [*given, "half", *half, *links, *links, "gone"])
+
+    @needs("systemctl", "deb-systemd-invoke")
+    def test_a_removal_ends_the_units(self):
+        """An upgrade does not."""
+        self.with_package()
+        (self.room / "given/systemctl").write_text(SYSTEMCTL)
+        (self.room / "given/systemctl").chmod(0o755)
+        enabled = ["boqitsel-clean.timer", "boqitsel-queue.timer", "boqitsel.service"]
+        *first, disabling, reloading, last = self.inside(UNITS_END).splitlines()
+        self.assertEqual(first[:4], [*enabled, "again"])
+        stopped = [it for line in first[4:] for it in line.split() if it.startswith("boqitsel") and " stop " in line]
+        self.assertEqual(sorted(stopped), sorted(make_deb().UNITS))
+        self.assertEqual(sorted(disabling.split()[3:]), enabled)
+        self.assertEqual((" disable " in disabling, reloading, last), (True, "systemctl --system daemon-reload", "none"))
 
 
 @needs_file(PROGRAM)
