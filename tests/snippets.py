@@ -39,6 +39,7 @@ PIECES = {
     "waits": " lacks hello_1.0-1_amd64.deb",
     "waits as JSON": '"lacks":[',
     "signed tree": "archive export --db box.db --signed www",
+    "suite that is gone": "rm -r www/dists/.lab.*",
     "export.conf": "--export www --signed",
     "sign-tree": "for state in www/dists/",
     "tree by nginx": "root /srv/box/www;",

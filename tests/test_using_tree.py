@@ -341,6 +341,32 @@ class Nginx(Case):
         self.assertEqual(self.room.run("./sign-tree"), (0, "", ""))
 
 
+class ByHand(Case):
+    """What is done to a tree by hand."""
+
+    def test_a_suite_that_is_gone_is_taken_away(self):
+        lab = "\nCodename: lab\nArchitectures: amd64 source\nComponents: main\n"
+        self.room.write("work/more.conf", snippet("configuration") + lab)
+        self.shell('archive configure --db box.db --at "$(date +%s)" more.conf')
+        for words in ("", "--by-hash"):
+            self.assertIn("shown lab ", self.export(words))
+            self.shell("archive promote --db box.db --at \"$(date +%s)\" box lab")
+            self.export(words)
+            self.shell("archive remove --db box.db --at \"$(date +%s)\" lab hello")
+            self.shell('archive configure --db box.db --at "$(date +%s)" box.conf')
+            before = self.export(words)
+            # As the page says, no export takes it away.
+            dists = pathlib.Path(self.room.work, "www/dists")
+            self.assertNotIn("lab", before)
+            self.assertTrue((dists / "lab/Release").exists())
+            self.shell(snippet("suite that is gone"))
+            self.assertEqual([it.name for it in dists.iterdir() if "lab" in it.name], [])
+            self.assertEqual(self.export(words), before)
+            self.assertEqual(faults(f"{self.room.work}/www", suites(f"{self.room.work}/www")), [])
+            # If it comes again, it is shown again.
+            self.shell('archive configure --db box.db --at "$(date +%s)" more.conf')
+
+
 class Copies(Case):
     """Copies of the tree, which are kept as they were after each step."""
 
