@@ -18,7 +18,7 @@ from tests import snippets
 from tests.ports import free_port
 from tests.program import PROGRAM
 from tests.snippets import built, commands_of, snippet
-from tests.wants import main, needs, needs_file
+from tests.wants import main, missing, needs, needs_file, needs_root
 from uploads import uploads
 
 HELLO = uploads.Package("hello", source=True)
@@ -365,6 +365,31 @@ class ByHand(Case):
             self.assertEqual(faults(f"{self.room.work}/www", suites(f"{self.room.work}/www")), [])
             # If it comes again, it is shown again.
             self.shell('archive configure --db box.db --at "$(date +%s)" more.conf')
+
+    @needs_root
+    @needs("setpriv")
+    def test_a_tree_of_which_a_part_is_of_root(self):
+        """A file in place of the signature does here: that is what an export looks for."""
+        user = "setpriv --reuid 65534 --regid 65534 --clear-groups"
+        sign = f"for state in www/dists/.box.*; do {user} touch $state/InRelease; done"
+        os.chmod(self.room.folder, 0o755)
+        if self.room.run(f"{user} archive --version")[0]:
+            raise missing("right of another user to run the program")
+        self.shell(f"chown -R 65534:65534 .; {user} archive export --db box.db --signed www; {sign}")
+        self.assertIn("shown box ", self.shell(f"{user} archive export --db box.db --signed www"))
+        # What a root does who forgets both.
+        self.upload(uploads.Package("another"))
+        self.assertIn("unsigned box\n", self.export())
+        self.upload(uploads.Package("avahi"))
+        self.shell("chown 65534:65534 box.db*")
+        status, _, told = self.room.run(f"{user} archive export --db box.db --signed www")
+        self.assertEqual((status, told[:26]), (3, "archive: cannot write www/"))
+        # The page's lines, of another user.
+        printed = self.shell(snippet("tree of another user", {"archive: ": "65534:65534 ", "runuser -u archive --": user}))
+        self.assertTrue(printed.startswith("waits box ."), printed)
+        self.shell(sign)
+        self.assertIn("shown box ", self.shell(f"{user} archive export --db box.db --signed www"))
+        self.assertEqual(self.shell("find box.db* www ! -user 65534"), "")
 
 
 class Copies(Case):
