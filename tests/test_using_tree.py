@@ -268,11 +268,11 @@ class Nginx(Case):
     def with_key(self):
         """Makes the page's key."""
         self.addCleanup(subprocess.run, ["gpgconf", "--kill", "all"], env=self.room.variables, check=False)
-        status, _, told = self.room.run(snippet("key"))
+        status, _, told = self.room.run(f"{snippet('key')}gpg --export archive@example.org > key.gpg")
         self.assertEqual(status, 0, told)
 
     def signed_list(self, url):
-        return snippet("signed", {KEYRING: f"{self.room.work}/signed/box.gpg", "https://archive.example.org": url})
+        return snippet("signed", {KEYRING: f"{self.room.work}/key.gpg", "https://archive.example.org": url})
 
     def check_signed(self, url, name="hello", version="1.0-1"):
         """Checks that apt takes a tree by its key alone, and says nothing of a signature that is missing."""
@@ -300,7 +300,7 @@ class Nginx(Case):
         self.check_signed(url, version="1.0-2")
         self.shell("gpg --export archive@example.org > www/box.gpg")
         self.export("--signed")
-        self.shell(f"curl -sS --fail -o got.gpg {url}/box.gpg; cmp got.gpg signed/box.gpg")
+        self.shell(f"curl -sS --fail -o got.gpg {url}/box.gpg; cmp got.gpg key.gpg")
 
     def install(self, url):
         """Has apt install the package into a root of its own."""
