@@ -67,8 +67,8 @@ test ! -e /usr/bin/archive && test ! -e /usr/bin/boqitsel && test ! -e /etc/alte
 test -e /srv/box/box.db && echo kept
 """
 
-# Puts something else at the place of each name, before the package is there and while it is there, and looks whether it stays. `given` prints what the
-# package has given of the names, and `state` what is at each of them.
+# Puts something else at the place of each name, before the package is installed and after, and looks whether it stays. `given` prints the names that
+# the package has given, and `state` what is at each.
 FOREIGN = """
 exec < /dev/null
 rm -f /var/lib/man-db/auto-update
@@ -125,7 +125,7 @@ given
 plant
 through while
 clear
-# Of names that are half free, those are given, and an alternative of another's stays.
+# Only names that nothing else has are given, and an alternative of something else stays.
 ln -s /bin/echo /usr/bin/archive
 update-alternatives --quiet --install /usr/bin/other archive-upload /bin/echo 10
 dpkg -i /given/*.deb > /dev/null
