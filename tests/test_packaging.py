@@ -35,7 +35,7 @@ mount -t overlay overlay -o "lowerdir=/,upperdir=$1/room/upper,workdir=$1/room/w
 mount --rbind /dev "$1/room/system/dev"
 mount --rbind /proc "$1/room/system/proc"
 mkdir "$1/room/system/given"
-cp "$1"/*.deb "$1"/*.changes "$1/inside" "$1/steps" "$1/dput.cf" "$1/room/system/given"
+cp "$1"/given/* "$1/room/system/given"
 chroot "$1/room/system" sh -ec '. /given/inside' inside "$2"
 """
 
@@ -65,6 +65,103 @@ apt remove -y boqitsel > /dev/null
 kill $serving
 test ! -e /usr/bin/archive && test ! -e /usr/bin/boqitsel && test ! -e /etc/alternatives/archive
 test -e /srv/box/box.db && echo kept
+"""
+
+# Puts something else at the place of each name, before the package is installed and after, and looks whether it stays. `given` prints the names that
+# the package has given, and `state` what is at each.
+FOREIGN = """
+exec < /dev/null
+rm -f /var/lib/man-db/auto-update
+names=$(sed "s/ .*//" /given/names)
+given() {
+    for it in $names; do
+        case $(readlink -f "$it") in */boqitsel*) echo "given $it" ;; esac
+    done
+}
+state() {
+    for it in $names; do
+        stat -c "%n %F %s %N" "$it"
+        if [ -f "$it" ] && [ ! -L "$it" ]; then cat "$it"; fi
+    done
+}
+check() {
+    state > /now
+    cmp -s /before /now || { echo "$1:"; diff /before /now || true; }
+}
+clear() {
+    rm -rf $names
+}
+plant() {
+    set -- $names
+    rm -rf "$@"
+    ln -s /bin/echo "$1"
+    ln -s /nowhere "$2"
+    ln -s /usr "$3"
+    echo text > "$4"
+    mkdir "$5"
+    mkfifo "$6"
+    ln -s "$4" "$7"
+    ln -s /etc/alternatives/other "$8"
+    shift 8
+    for it in "$@"; do ln -s /bin/true "$it"; done
+    state > /before
+}
+through() {
+    dpkg -i /given/*.deb > /dev/null
+    check "$1, installed again"
+    dpkg -r boqitsel > /dev/null
+    check "$1, removed"
+    dpkg -P boqitsel > /dev/null
+    check "$1, purged"
+}
+clear
+plant
+dpkg -i /given/*.deb > /dev/null
+check "before, installed"
+through before
+clear
+dpkg -i /given/*.deb > /dev/null
+given
+plant
+through while
+clear
+# Only names that nothing else has are given, and an alternative of something else stays.
+ln -s /bin/echo /usr/bin/archive
+update-alternatives --quiet --install /usr/bin/other archive-upload /bin/echo 10
+dpkg -i /given/*.deb > /dev/null
+echo half
+given
+readlink /usr/bin/archive /usr/bin/other /etc/alternatives/archive-upload
+dpkg -P boqitsel > /dev/null
+readlink /usr/bin/archive /usr/bin/other /etc/alternatives/archive-upload
+update-alternatives --quiet --remove archive-upload /bin/echo
+rm /usr/bin/archive
+for it in $names; do ls -d "$it"* 2> /dev/null || true; done
+while read -r link name path; do ls -d "/etc/alternatives/$name" "/var/lib/dpkg/alternatives/$name" 2> /dev/null || true; done < /given/names
+echo gone
+"""
+
+# Removes the package while its units are enabled. A systemctl of its own says what it is asked for, and does what needs no systemd.
+UNITS_END = """
+exec < /dev/null
+rm -f /var/lib/man-db/auto-update
+rm -f /usr/sbin/policy-rc.d
+dpkg -i /given/*.deb > /dev/null
+systemctl --quiet enable boqitsel.service boqitsel-queue.timer boqitsel-clean.timer
+mkdir -p /run/systemd/system
+dpkg-divert --quiet --local --rename --add /usr/bin/systemctl
+cp /given/systemctl /usr/bin/systemctl
+ls /etc/systemd/system/*.wants | grep boqitsel | sort
+dpkg -i /given/*.deb > /dev/null
+cat /asked 2> /dev/null || true
+echo again
+dpkg -r boqitsel > /dev/null
+cat /asked
+ls /etc/systemd/system/*.wants | grep boqitsel || echo none
+"""
+SYSTEMCTL = """#!/bin/sh
+echo "systemctl $*" >> /asked
+case "$*" in *disable*) rmdir /run/systemd/system; systemctl.distrib "$@"; mkdir /run/systemd/system ;; esac
 """
 
 
@@ -193,7 +290,7 @@ class Package(Room):
         self.assertEqual((examples / "nginx.conf").read_text(), snippet("nginx"))
         self.assertEqual((examples / "nginx-tree.conf").read_text(), snippet("tree by nginx"))
         self.assertNotIn("enable", (root / "DEBIAN/postinst").read_text())
-        for name in ("postinst", "prerm"):
+        for name in ("postinst", "prerm", "postrm"):
             self.assertEqual(run("sh", "-n", root / "DEBIAN" / name), (0, "", ""))
 
     def test_the_same_files_make_the_same_package(self):
@@ -248,11 +345,15 @@ def changes_of(deb, number):
     return text.replace("  * Made.", f"  * Made {number}.")
 
 
-@needs_file(PROGRAM)
 @needs_root
-@needs("dpkg-deb", "dpkg-shlibdeps", "strip", "unshare", "chroot", "apt-get", "curl")
-class Installed(Room):
-    """The package of the built program, installed."""
+@needs("dpkg-deb", "dpkg-shlibdeps", "strip", "unshare", "chroot")
+class Root(Room):
+    """A root over this machine's, in which the package is installed."""
+
+    def setUp(self):
+        super().setUp()
+        for name in ("room", "given"):
+            (self.room / name).mkdir()
 
     def can_mount(self):
         """Whether a root of its own can be had."""
@@ -260,23 +361,67 @@ class Installed(Room):
         (self.room / "try").mkdir()
         return run("unshare", "-m", "sh", "-ec", text, "sh", self.room / "try")[0] == 0
 
-    def test_it_serves_its_own_package_to_apt(self):
+    def inside(self, text, port=""):
+        """Runs a text in a root that has what is in the folder `given`. Answers what it prints."""
         if not self.can_mount():
             raise no_file_system()
-        status, path, told = run("make", "-s", "deb", f"PROGRAM={os.path.abspath(PROGRAM)}", cwd=ROOT)
-        self.assertEqual((status, told), (0, ""))
-        deb = self.room / DEB
-        shutil.copy(ROOT / path.strip(), deb)
-        self.assertLess(deb.stat().st_size, LARGEST)
-        (self.room / "room").mkdir()
-        port = free_port()
-        for number, name in ((1, "one"), (2, "two")):
-            (self.room / f"{name}.changes").write_text(changes_of(deb, number))
-        (self.room / "inside").write_text(INSIDE)
-        (self.room / "steps").write_text(snippet("first steps"))
-        (self.room / "dput.cf").write_text(snippet("dput.cf", {"archive.example.org:8080": f"127.0.0.1:{port}"}))
+        (self.room / "given/inside").write_text(text)
         status, printed, told = run("unshare", "-m", "sh", "-ec", OUTSIDE, "sh", self.room, str(port))
         self.assertEqual(status, 0, printed + told)
+        return printed
+
+    def with_package(self):
+        """Makes the package of a program in place of the built one."""
+        status, _, told = run(MAKE, "/bin/true", self.room / "given", env={**os.environ, "SOURCE_DATE_EPOCH": "1467436850"})
+        self.assertEqual((status, told), (0, ""))
+
+
+class Scripts(Root):
+    """What is done when the package is installed, upgraded, removed and purged."""
+
+    @needs("update-alternatives")
+    def test_what_is_of_something_else_stays(self):
+        self.with_package()
+        names = make_deb().NAMES
+        (self.room / "given/names").write_text("".join(f"{' '.join(it)}\n" for it in names))
+        given = [f"given {it}" for it, _, _ in names]
+        half = [it for it in given if it not in ("given /usr/bin/archive", "given /usr/bin/upload")]
+        links = ["/bin/echo", "/etc/alternatives/archive-upload", "/bin/echo"]
+        self.assertEqual(self.inside(FOREIGN).splitlines(), [*given, "half", *half, *links, *links, "gone"])
+
+    @needs("systemctl", "deb-systemd-invoke")
+    def test_a_removal_ends_the_units(self):
+        """An upgrade does not."""
+        self.with_package()
+        (self.room / "given/systemctl").write_text(SYSTEMCTL)
+        (self.room / "given/systemctl").chmod(0o755)
+        enabled = ["boqitsel-clean.timer", "boqitsel-queue.timer", "boqitsel.service"]
+        *first, disabling, reloading, last = self.inside(UNITS_END).splitlines()
+        self.assertEqual(first[:4], [*enabled, "again"])
+        stopped = [it for line in first[4:] for it in line.split() if it.startswith("boqitsel") and " stop " in line]
+        self.assertEqual(sorted(stopped), sorted(make_deb().UNITS))
+        self.assertEqual(sorted(disabling.split()[3:]), enabled)
+        self.assertEqual((" disable " in disabling, reloading, last), (True, "systemctl --system daemon-reload", "none"))
+
+
+@needs_file(PROGRAM)
+@needs("apt-get", "curl")
+class Installed(Root):
+    """The package of the built program, installed."""
+
+    def test_it_serves_its_own_package_to_apt(self):
+        status, path, told = run("make", "-s", "deb", f"PROGRAM={os.path.abspath(PROGRAM)}", cwd=ROOT)
+        self.assertEqual((status, told), (0, ""))
+        given = self.room / "given"
+        deb = given / DEB
+        shutil.copy(ROOT / path.strip(), deb)
+        self.assertLess(deb.stat().st_size, LARGEST)
+        port = free_port()
+        for number, name in ((1, "one"), (2, "two")):
+            (given / f"{name}.changes").write_text(changes_of(deb, number))
+        (given / "steps").write_text(snippet("first steps"))
+        (given / "dput.cf").write_text(snippet("dput.cf", {"archive.example.org:8080": f"127.0.0.1:{port}"}))
+        printed = self.inside(INSIDE, port)
         lines = printed.splitlines()
         wanted = ["accepted one.changes", "accepted two.changes"] if "dput" in lines else ["accepted one.changes"]
         self.assertEqual([line for line in lines if line.startswith("accepted")], wanted)

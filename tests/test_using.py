@@ -5,6 +5,7 @@ import os
 import pathlib
 import re
 import subprocess
+import textwrap
 
 from tests import snippets
 from tests.ports import free_port
@@ -38,6 +39,12 @@ class Using(snippets.Case):
         policy = re.search(r'const POLICY: &str =\s*"([^"\\]*)";', source)[1]
         self.assertIn(f'\n    add_header Content-Security-Policy "{policy}" always;\n', snippet("tree by nginx"))
 
+    def test_the_way_of_signing_without_a_mismatch_comes_first(self):
+        text = snippets.pages()
+        names = "key", "signed tree", "sign-tree", "tree by nginx", "signed folder", "sign"
+        places = [text.index(textwrap.indent(snippet(it), "    ")) for it in names]
+        self.assertEqual(places, sorted(places))
+
     @needs("systemd-analyze")
     def test_the_units_are_right(self):
         # The programs need not be installed here.
@@ -45,6 +52,7 @@ class Using(snippets.Case):
         self.room.write("units/boqitsel.service.d/export.conf", snippet("export.conf", {"/usr/local/bin/archive": "/bin/true"}))
         self.room.write("units/boqitsel-queue.service", snippet("queue.service"))
         self.room.write("units/boqitsel-queue.service.d/sign.conf", snippet("sign.conf", {"/srv/box/sign": "/bin/true"}))
+        self.room.write("units/boqitsel-queue.service.d/sign-tree.conf", snippet("sign-tree.conf", {"/srv/box/sign-tree": "/bin/true"}))
         self.room.write("units/boqitsel-queue.timer", snippet("queue.timer"))
         self.room.write("units/boqitsel-clean.service", snippet("clean.service"))
         self.room.write("units/boqitsel-clean.timer", snippet("clean.timer"))

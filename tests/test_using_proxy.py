@@ -68,7 +68,7 @@ class Site(snippets.Room):
         """Signs the Release by the page's script, with the page's key, which is made where there is none."""
         if not os.path.exists(self.keyring):
             self.ending.callback(subprocess.run, ["gpgconf", "--kill", "all"], env=self.variables, check=False)
-            self.sure(snippet("key"))
+            self.sure(snippet("key") + snippet("signed folder"))
             self.write("work/sign", snippet("sign", {"127.0.0.1:8080": f"127.0.0.1:{self.behind}"}), 0o755)
         return self.sure("./sign")
 
@@ -259,6 +259,21 @@ class Proxy(unittest.TestCase):
         self.site.apt(snippet("signed", {**changes, KEYRING: f"{self.site.work}/other.gpg"}))
         status, _, told = self.site.run("apt-get update")
         self.assertEqual((status, "NO_PUBKEY" in told), (100, True), told)
+
+    @needs("gpg", "apt-get")
+    def test_between_a_change_and_its_signature(self):
+        sources = snippet("signed", self.signed())
+        self.site.apt(sources)
+        self.site.sure("apt-get update")
+        self.site.upload(uploads.Package("another"))
+        # Who has what was signed last notices nothing, and who has nothing yet does.
+        self.site.sure("apt-get update")
+        self.site.apt(sources)
+        status, printed, told = self.site.run("apt-get update")
+        self.assertEqual(status, 100, printed + told)
+        self.assertRegex(told, "Hash Sum mismatch|Mirror sync in progress[?]")
+        self.site.sign()
+        self.check_installs(sources)
 
     @needs("gpg", "apt-get", "apt-cacher-ng")
     def test_a_cache_at_a_site(self):

@@ -18,7 +18,7 @@ from tests import snippets
 from tests.ports import free_port
 from tests.program import PROGRAM
 from tests.snippets import built, commands_of, snippet
-from tests.wants import main, needs, needs_file
+from tests.wants import main, missing, needs, needs_file, needs_root
 from uploads import uploads
 
 HELLO = uploads.Package("hello", source=True)
@@ -268,11 +268,11 @@ class Nginx(Case):
     def with_key(self):
         """Makes the page's key."""
         self.addCleanup(subprocess.run, ["gpgconf", "--kill", "all"], env=self.room.variables, check=False)
-        status, _, told = self.room.run(snippet("key"))
+        status, _, told = self.room.run(f"{snippet('key')}gpg --export archive@example.org > key.gpg")
         self.assertEqual(status, 0, told)
 
     def signed_list(self, url):
-        return snippet("signed", {KEYRING: f"{self.room.work}/signed/box.gpg", "https://archive.example.org": url})
+        return snippet("signed", {KEYRING: f"{self.room.work}/key.gpg", "https://archive.example.org": url})
 
     def check_signed(self, url, name="hello", version="1.0-1"):
         """Checks that apt takes a tree by its key alone, and says nothing of a signature that is missing."""
@@ -300,7 +300,7 @@ class Nginx(Case):
         self.check_signed(url, version="1.0-2")
         self.shell("gpg --export archive@example.org > www/box.gpg")
         self.export("--signed")
-        self.shell(f"curl -sS --fail -o got.gpg {url}/box.gpg; cmp got.gpg signed/box.gpg")
+        self.shell(f"curl -sS --fail -o got.gpg {url}/box.gpg; cmp got.gpg key.gpg")
 
     def install(self, url):
         """Has apt install the package into a root of its own."""
@@ -339,6 +339,57 @@ class Nginx(Case):
             self.check_signed(url, version=f"1.0-{number}")
         # Where nothing is to be signed, nothing is done.
         self.assertEqual(self.room.run("./sign-tree"), (0, "", ""))
+
+
+class ByHand(Case):
+    """What is done to a tree by hand."""
+
+    def test_a_suite_that_is_gone_is_taken_away(self):
+        lab = "\nCodename: lab\nArchitectures: amd64 source\nComponents: main\n"
+        self.room.write("work/more.conf", snippet("configuration") + lab)
+        self.shell('archive configure --db box.db --at "$(date +%s)" more.conf')
+        for words in ("", "--by-hash"):
+            self.assertIn("shown lab ", self.export(words))
+            self.shell("archive promote --db box.db --at \"$(date +%s)\" box lab")
+            self.export(words)
+            self.shell("archive remove --db box.db --at \"$(date +%s)\" lab hello")
+            self.shell('archive configure --db box.db --at "$(date +%s)" box.conf')
+            before = self.export(words)
+            # As the page says, no export takes it away.
+            dists = pathlib.Path(self.room.work, "www/dists")
+            self.assertNotIn("lab", before)
+            self.assertTrue((dists / "lab/Release").exists())
+            self.shell(snippet("suite that is gone"))
+            self.assertEqual([it.name for it in dists.iterdir() if "lab" in it.name], [])
+            self.assertEqual(self.export(words), before)
+            self.assertEqual(faults(f"{self.room.work}/www", suites(f"{self.room.work}/www")), [])
+            # If it comes again, it is shown again.
+            self.shell('archive configure --db box.db --at "$(date +%s)" more.conf')
+
+    @needs_root
+    @needs("setpriv")
+    def test_a_tree_of_which_a_part_is_of_root(self):
+        """A file in place of the signature does here: that is what an export looks for."""
+        user = "setpriv --reuid 65534 --regid 65534 --clear-groups"
+        sign = f"for state in www/dists/.box.*; do {user} touch $state/InRelease; done"
+        os.chmod(self.room.folder, 0o755)
+        if self.room.run(f"{user} archive --version")[0]:
+            raise missing("right of another user to run the program")
+        self.shell(f"chown -R 65534:65534 .; {user} archive export --db box.db --signed www; {sign}")
+        self.assertIn("shown box ", self.shell(f"{user} archive export --db box.db --signed www"))
+        # What a root does who forgets both.
+        self.upload(uploads.Package("another"))
+        self.assertIn("unsigned box\n", self.export())
+        self.upload(uploads.Package("avahi"))
+        self.shell("chown 65534:65534 box.db*")
+        status, _, told = self.room.run(f"{user} archive export --db box.db --signed www")
+        self.assertEqual((status, told[:26]), (3, "archive: cannot write www/"))
+        # The page's lines, of another user.
+        printed = self.shell(snippet("tree of another user", {"archive: ": "65534:65534 ", "runuser -u archive --": user}))
+        self.assertTrue(printed.startswith("waits box ."), printed)
+        self.shell(sign)
+        self.assertIn("shown box ", self.shell(f"{user} archive export --db box.db --signed www"))
+        self.assertEqual(self.shell("find box.db* www ! -user 65534"), "")
 
 
 class Copies(Case):
