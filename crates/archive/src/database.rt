@@ -35,63 +35,21 @@ use std::alloc::Global;
 use std::cmp::Ordering;
 use std::hash::{BuildHasher, RandomState};
 use std::io::{ErrorKind, Write};
-use std::marker::PhantomData;
 use std::thread;
 use std::time::Duration;
 
-/// What connects to the databases of files, on stores of this type, and disconnects from them. Only what implements it names the store of a
-/// database file, since each function that does takes the prover long.
-trait Connects<S: Alter> {
-    /// The connection to the database of the file at the path, none while another process holds it, or why there is none.
-    fn connected(rt: &HostRuntime, path: &str) -> Result<Option<Connection<S>>, KeepFault>;
+/// The keeper over the tables of a database file.
+pub type FileKeeper = TableKeeper<FileStore<FileFrom<Wary>>>;
 
-    /// Copies the log into the database file, where that does not fail, and closes both.
-    fn disconnected(connection: Connection<S>);
-}
+/// Opens, makes and closes archives in database files.
+#[derive(Clone, Copy)]
+pub struct DatabaseFile;
 
-/// The store of a database file.
-type Store = FileStore<FileFrom<Wary>>;
-
-/// Connects to the databases of files in the file system.
-struct DatabaseFile;
-
-impl Connects<Store> for DatabaseFile {
-    /// What SQLite takes for another name than that of a file is refused.
-    fn connected(rt: &HostRuntime, path: &str) -> Result<Option<Connection<Store>>, KeepFault> {
-        if path == ":memory:" || path.starts_with("file:") {
-            return Err(KeepFault::Disk);
-        }
-        let options = options(rt)?;
-        let files = match sqlite_std_file::open(rt, path, Wary) {
-            Ok(files) => files,
-            Err(OpenError::Busy) => return Ok(None),
-            Err(OpenError::OutOfMemory) => return Err(KeepFault::OutOfMemory),
-            Err(OpenError::Io(error)) if error.kind() == ErrorKind::OutOfMemory => {
-                return Err(KeepFault::OutOfMemory);
-            }
-            Err(_) => return Err(KeepFault::Disk),
-        };
-        match Connection::open_files(rt.alloc(), files, options) {
-            Ok(connection) => Ok(Some(connection)),
-            Err((error, _)) => Err(fault_of(error)),
-        }
-    }
-
-    fn disconnected(connection: Connection<Store>) {
-        disconnect(connection);
-    }
-}
-
-/// Opens, makes and closes archives in the databases that `C` connects to.
-struct Databases<C> {
-    _by: PhantomData<C>,
-}
-
-impl<S: InOrder + Drop, C: Connects<S>> InFile<TableKeeper<S>> for Databases<C> {
+impl InFile<FileKeeper> for DatabaseFile {
     type Old = OldBook;
 
-    fn opened(rt: &HostRuntime, path: &str) -> Result<TableKeeper<S>, OpenFault> {
-        opened_over(rt.alloc(), connect::<S, C>(rt, path))
+    fn opened(rt: &HostRuntime, path: &str) -> Result<FileKeeper, OpenFault> {
+        opened_over(rt.alloc(), connect(rt, path))
     }
 
     fn made(
@@ -99,8 +57,8 @@ impl<S: InOrder + Drop, C: Connects<S>> InFile<TableKeeper<S>> for Databases<C> 
         path: &str,
         config: Config,
         moment: u64,
-    ) -> Result<TableKeeper<S>, KeepFault> {
-        made_over(rt.alloc(), connect::<S, C>(rt, path), config, moment)
+    ) -> Result<FileKeeper, KeepFault> {
+        made_over(rt.alloc(), connect(rt, path), config, moment)
     }
 
     fn old(rt: &HostRuntime, path: &str) -> Result<OldBook, KeepFault> {
@@ -117,12 +75,12 @@ impl<S: InOrder + Drop, C: Connects<S>> InFile<TableKeeper<S>> for Databases<C> 
         old: &OldBook,
         config: Config,
         moment: u64,
-    ) -> Result<TableKeeper<S>, KeepFault> {
-        migrated_over(rt.alloc(), connect::<S, C>(rt, path), old, config, moment)
+    ) -> Result<FileKeeper, KeepFault> {
+        migrated_over(rt.alloc(), connect(rt, path), old, config, moment)
     }
 
-    fn closed(keeper: TableKeeper<S>) {
-        C::disconnected(keeper.into_connection());
+    fn closed(keeper: FileKeeper) {
+        disconnect(connection_of(keeper));
     }
 }
 
@@ -148,21 +106,51 @@ fn options(rt: &HostRuntime) -> Result<Options, KeepFault> {
     })
 }
 
-/// The connection to the database of a file. One that another process holds is waited for, up to 10 seconds.
-fn connect<S: Alter + Drop, C: Connects<S>>(
+/// The connection to the database of a file, none while another process holds it, or why there is none. What SQLite takes for another
+/// name than that of a file is refused.
+fn connect_once(
     rt: &HostRuntime,
     path: &str,
-) -> Result<Connection<S>, KeepFault> {
+) -> Result<Option<Connection<FileStore<FileFrom<Wary>>>>, KeepFault> {
+    if path == ":memory:" || path.starts_with("file:") {
+        return Err(KeepFault::Disk);
+    }
+    let options = options(rt)?;
+    let files = match sqlite_std_file::open(rt, path, Wary) {
+        Ok(files) => files,
+        Err(OpenError::Busy) => return Ok(None),
+        Err(OpenError::OutOfMemory) => return Err(KeepFault::OutOfMemory),
+        Err(OpenError::Io(error)) if error.kind() == ErrorKind::OutOfMemory => {
+            return Err(KeepFault::OutOfMemory);
+        }
+        Err(_) => return Err(KeepFault::Disk),
+    };
+    match Connection::open_files(rt.alloc(), files, options) {
+        Ok(connection) => Ok(Some(connection)),
+        Err((error, _)) => Err(fault_of(error)),
+    }
+}
+
+/// The connection to the database of a file. One that another process holds is waited for, up to 10 seconds.
+fn connect(
+    rt: &HostRuntime,
+    path: &str,
+) -> Result<Connection<FileStore<FileFrom<Wary>>>, KeepFault> {
     for _ in 0..TRIES {
-        if let Some(connection) = C::connected(rt, path)? {
+        if let Some(connection) = connect_once(rt, path)? {
             return Ok(connection);
         }
         thread::sleep(rt, Duration::from_millis(BETWEEN_TRIES));
     }
-    match C::connected(rt, path)? {
+    match connect_once(rt, path)? {
         Some(connection) => Ok(connection),
         None => Err(KeepFault::Disk),
     }
+}
+
+/// The connection of a keeper.
+fn connection_of<S: Alter + Drop>(keeper: TableKeeper<S>) -> Connection<S> {
+    keeper.into_connection()
 }
 
 /// Copies the log into the database file, where that does not fail, and closes both.
@@ -257,14 +245,15 @@ fn migrated_over<S: Alter + Drop>(
     }
 }
 
-/// Does a line over archives in the databases that `C` connects to, and answers the exit status.
-fn act_over<S: InOrder + Drop, C: Connects<S>, W: Write, E: Write>(
+/// Does a line over keepers on stores of this type, and answers the exit status. Where the store is not named, the prover has little to
+/// compare.
+fn act_over<S: InOrder + Drop, F: InFile<TableKeeper<S>>, W: Write, E: Write>(
     rt: &HostRuntime,
     line: &CommandLine<'_>,
     out: &mut W,
     err: &mut E,
 ) -> u8 {
-    act::<TableKeeper<S>, Databases<C>, W, E>(rt, line, out, err)
+    act::<TableKeeper<S>, F, W, E>(rt, line, out, err)
 }
 
 /// Does a line over database files, and answers the exit status.
@@ -274,5 +263,5 @@ pub fn act_in_file<W: Write, E: Write>(
     out: &mut W,
     err: &mut E,
 ) -> u8 {
-    act_over::<Store, DatabaseFile, W, E>(rt, line, out, err)
+    act_over::<FileStore<FileFrom<Wary>>, DatabaseFile, W, E>(rt, line, out, err)
 }
