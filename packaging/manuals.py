@@ -216,7 +216,7 @@ def helper(name):
     usage, _, text = text.partition("\n\n")
     what = escaped(first[0].lower() + first[1:].rstrip("."))
     made = head(name, "1", f"{name}, boqitsel\\-{name.replace('_', chr(92) + '-')} \\- {what}")
-    made += titled("Synopsis", f".B {escaped(usage.strip())}\n") + titled("Description", f"{body(text)}.PP\n{NAMES}")
+    made += titled("Synopsis", "".join(f".B {escaped(line.strip())}\n.br\n" for line in usage.splitlines())) + titled("Description", f"{body(text)}.PP\n{NAMES}")
     return made + see("archive(1)", "archive.conf(5)")
 
 

@@ -349,6 +349,16 @@ class Serving(Case):
         self.assertEqual(printed.splitlines()[len(self.names()):][-4:-2], [f"refused 1 {CHANGES}", "No suite takes the distribution: it is no suite's Codename or Suite, and in no AlsoAcceptFor."])
 
     @needs("dpkg-deb")
+    def test_uploading_a_package_file_alone(self):
+        """Its .changes is made each time anew, and is the same."""
+        self.room.write("work/vendor-latest.deb", "")
+        shutil.copy(built(self.room.folder, HELLO).replace(".changes", ".deb"), f"{self.room.work}/vendor-latest.deb")
+        text = snippet("package file alone", self.at(self.serve()))
+        names = ["hello_1.0-1_amd64.deb", "hello_1.0-1_amd64.control", CHANGES]
+        for word in ("new", "again"):
+            self.assertEqual(self.shell(text), "".join(f"{word} {it}\n" for it in names) + f"accepted {CHANGES}\n")
+
+    @needs("dpkg-deb")
     def test_uploading_where_one_connection_in_three_is_cut(self):
         proxy = Proxy(self.serve())
         self.addCleanup(proxy.close)
