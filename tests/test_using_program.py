@@ -100,7 +100,7 @@ class Commands(Case):
     def test_the_programs_are_installed(self):
         prefix = f"{self.room.folder}/prefix"
         self.shell(f"make -s install PREFIX={prefix} PROGRAM={os.path.abspath(PROGRAM)}", cwd=ROOT)
-        self.assertEqual(sorted(os.listdir(f"{prefix}/bin")), ["archive", "upload", "with_sidecars"])
+        self.assertEqual(sorted(os.listdir(f"{prefix}/bin")), ["adopt", "archive", "upload", "with_sidecars"])
         self.assertEqual(self.shell(f"{prefix}/bin/archive compare 1.0 1.1"), "less\n")
         self.assertIn("with_sidecars [--section SECTION] FILE.changes.. FOLDER", self.shell(f"{prefix}/bin/with_sidecars --help"))
         self.assertIn("upload URL FILE.changes", self.shell(f"{prefix}/bin/upload --help"))
