@@ -351,12 +351,12 @@ class Serving(Case):
     @needs("dpkg-deb")
     def test_uploading_a_package_file_alone(self):
         """Its .changes is made each time anew, and is the same."""
-        self.room.write("work/vendor-latest.deb", "")
         shutil.copy(built(self.room.folder, HELLO).replace(".changes", ".deb"), f"{self.room.work}/vendor-latest.deb")
         text = snippet("package file alone", self.at(self.serve()))
         names = ["hello_1.0-1_amd64.deb", "hello_1.0-1_amd64.control", CHANGES]
+        told = f"with_sidecars: vendor-latest.deb is {names[0]} by its own fields, and is named so\n"
         for word in ("new", "again"):
-            self.assertEqual(self.shell(text), "".join(f"{word} {it}\n" for it in names) + f"accepted {CHANGES}\n")
+            self.assertEqual(self.room.run(text), (0, "".join(f"{word} {it}\n" for it in names) + f"accepted {CHANGES}\n", told))
 
     @needs("dpkg-deb")
     def test_uploading_where_one_connection_in_three_is_cut(self):
