@@ -86,7 +86,7 @@ def options(text):
     """Options, each with a text that may go on in lines below it."""
     made = ""
     for line in textwrap.dedent(text).splitlines():
-        option = re.fullmatch(r"(--\w+(?: [A-Z]+)?) +(\S.*)", line)
+        option = re.fullmatch(r"(--\w+(?: [A-Z=]+)?) +(\S.*)", line)
         made += f".TP\n.B {escaped(option[1])}\n{inline(option[2])}\n" if option else f"{inline(line.strip())}\n"
     return made
 
