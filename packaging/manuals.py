@@ -3,7 +3,7 @@
 
     packaging/manuals.py FOLDER
 
-writes archive.1, archive.conf.5, upload.1 and with_sidecars.1 to FOLDER."""
+writes archive.1, archive.conf.5, upload.1, with_sidecars.1 and adopt.1 to FOLDER."""
 import pathlib
 import re
 import subprocess
@@ -26,8 +26,8 @@ CONFIGURATION = ["What a configuration says", "Until when a Release is valid", "
 # What is said of a fault's letter, in archive.conf(5) and in archive(1).
 FAULTS_OF_CONFIGURATIONS = "Configurations: F"
 
-NAMES = """The Debian package has the program as \\fBboqitsel\\fR, and its helpers as \\fBboqitsel\\-upload\\fR and \\fBboqitsel\\-with\\-sidecars\\fR, names of its
-own. \\fBarchive\\fR, \\fBupload\\fR and \\fBwith_sidecars\\fR are other names of them, which update\\-alternatives(1) gives if nothing else has these.
+NAMES = """The Debian package has the program as \\fBboqitsel\\fR, and its helpers as \\fBboqitsel\\-upload\\fR, \\fBboqitsel\\-with\\-sidecars\\fR and
+\\fBboqitsel\\-adopt\\fR, names of its own. \\fBarchive\\fR, \\fBupload\\fR, \\fBwith_sidecars\\fR and \\fBadopt\\fR are other names of them, which update\\-alternatives(1) gives if nothing else has these.
 """
 
 
@@ -62,7 +62,7 @@ def escaped(text):
 def inline(text):
     """A text with its spans, `code` and **strong**, as roff has it. Pages of the repository are named where the package has them."""
     text = re.sub(r"\bdocs/(\w+\.md)", rf"{DOCS}/\1", text)
-    text = re.sub(r"\bbin/(upload|with_sidecars)\b", r"\1", text)
+    text = re.sub(r"\bbin/(upload|with_sidecars|adopt)\b", r"\1", text)
     made = ""
     for part in re.split(r"(`[^`]+`|\*\*(?:`[^`]+`|[^*`])+\*\*)", text):
         if part.startswith("**"):
@@ -86,7 +86,7 @@ def options(text):
     """Options, each with a text that may go on in lines below it."""
     made = ""
     for line in textwrap.dedent(text).splitlines():
-        option = re.fullmatch(r"(--\w+(?: [A-Z]+)?) +(\S.*)", line)
+        option = re.fullmatch(r"(--\w+(?: [A-Z=]+)?) +(\S.*)", line)
         made += f".TP\n.B {escaped(option[1])}\n{inline(option[2])}\n" if option else f"{inline(line.strip())}\n"
     return made
 
@@ -188,7 +188,7 @@ def archive():
     made += "".join(titled(it, body(section("docs/USING.md", it))) for it in COMMANDS)
     made += "".join(titled(it, body(section("docs/OPERATING.md", it))) for it in SERVICE)
     made += "".join(titled(it, body(section("docs/FAULTS.md", it))) for it in sections("docs/FAULTS.md"))
-    return made + see("archive.conf(5)", "upload(1)", "with_sidecars(1)", "apt(8)", "sources.list(5)", "dput(1)", "dpkg-buildpackage(1)")
+    return made + see("archive.conf(5)", "upload(1)", "with_sidecars(1)", "adopt(1)", "apt(8)", "sources.list(5)", "dput(1)", "dpkg-buildpackage(1)")
 
 
 def see(*names):
@@ -216,7 +216,7 @@ def helper(name):
     usage, _, text = text.partition("\n\n")
     what = escaped(first[0].lower() + first[1:].rstrip("."))
     made = head(name, "1", f"{name}, boqitsel\\-{name.replace('_', chr(92) + '-')} \\- {what}")
-    made += titled("Synopsis", f".B {escaped(usage.strip())}\n") + titled("Description", f"{body(text)}.PP\n{NAMES}")
+    made += titled("Synopsis", "".join(f".B {escaped(line.strip())}\n.br\n" for line in usage.splitlines())) + titled("Description", f"{body(text)}.PP\n{NAMES}")
     return made + see("archive(1)", "archive.conf(5)")
 
 
@@ -225,6 +225,7 @@ MANUALS = {
     "archive.conf.5": configuration,
     "upload.1": lambda: helper("upload"),
     "with_sidecars.1": lambda: helper("with_sidecars"),
+    "adopt.1": lambda: helper("adopt"),
 }
 
 

@@ -94,10 +94,10 @@ def mounted(size):
 
 class Serving:
     """`serve` over a database file, with so many connections at a moment, and more words. It may run under another program, and its
-    standard error may go elsewhere. The program may be another, too."""
+    standard error may go elsewhere. The program may be another, too, and the address one that was free."""
 
-    def __init__(self, db, count, *words, at="0", under=(), stderr=None, program=PROGRAM):
-        self.address = free_address()
+    def __init__(self, db, count, *words, at="0", under=(), stderr=None, program=PROGRAM, address=None):
+        self.address = address or free_address()
         self.printed, self.told = tempfile.TemporaryFile(), tempfile.TemporaryFile()
         line = [*under, program, "serve", "--db", db, "--at", at, *words, "%s:%d" % self.address, str(count)]
         streams = {"stdin": subprocess.DEVNULL, "stdout": self.printed, "stderr": stderr or self.told}

@@ -27,8 +27,9 @@ PIECES = {
     "configuration": "Codename: box\n",
     "first commands": "with_sidecars ../hello",
     "commands": "archive try PATH..",
-    "upload": "upload http:",
+    "upload": "amd64.changes --run\n",
     "upload with a login": "upload https:",
+    "package file alone": "vendor-latest.deb",
     "curl": "for file in $(cat files)",
     "dput.cf": "[box]\n",
     "dput": "dput box ready/",
@@ -64,7 +65,7 @@ PIECES = {
     "log": "1467436850 PUT ",
     "queue.service": "Description=One run of the queue of box\n",
     "queue.timer": "Description=Runs the queue of box each minute\n",
-    "batch": "archive batch --db box.db",
+    "batch": "echo run; echo waiting;",
     "another configuration": "archive configure --db box.db",
     "clean": "archive clean --db box.db",
     "clean.service": "Description=One cleaning of box\n",
@@ -82,6 +83,7 @@ PIECES = {
     "mirror": "debmirror --method",
     "copy": "copy=copies/",
     "reserve": "fallocate -l",
+    "adopt": "adopt conf old",
     "anew": "> accepted",
     "look": 'archive verdicts --db "$copy"',
     "pack": "VACUUM",
@@ -175,7 +177,7 @@ class Room:
             os.mkdir(f"{self.folder}/{name}")
         self.home, self.work = f"{self.folder}/home", f"{self.folder}/work"
         os.symlink(os.path.abspath(PROGRAM), f"{self.folder}/bin/archive")
-        for name in ("with_sidecars", "upload"):
+        for name in ("with_sidecars", "upload", "adopt"):
             os.symlink(ROOT / "bin" / name, f"{self.folder}/bin/{name}")
         self.variables = {
             "PATH": f"{self.folder}/bin:{os.environ['PATH']}:/usr/sbin:/sbin",

@@ -208,7 +208,7 @@ class Manuals(Room):
         text = self.shown("archive.conf.5")
         for line in [*snippet("configuration").splitlines(), *snippet("three suites").splitlines()]:
             self.assertIn(line, text)
-        for name in ("upload", "with_sidecars"):
+        for name in ("upload", "with_sidecars", "adopt"):
             told = run(sys.executable, f"{ROOT}/bin/{name}", "--help")[1]
             text = " ".join(self.shown(f"{name}.1").split())
             for paragraph in told.split("\n\n")[2:]:
@@ -266,7 +266,7 @@ class Package(Room):
         root = self.room / "root"
         run("dpkg-deb", "-x", deb, root)
         run("dpkg-deb", "-e", deb, root / "DEBIAN")
-        for name in ("boqitsel", "boqitsel-upload", "boqitsel-with-sidecars"):
+        for name in ("boqitsel", "boqitsel-upload", "boqitsel-with-sidecars", "boqitsel-adopt"):
             self.assertTrue(os.access(root / "usr/bin" / name, os.X_OK))
             manual = root / f"usr/share/man/man1/{name}.1.gz"
             self.assertIn(b".SH NAME", gzip.decompress(manual.read_bytes()))

@@ -557,6 +557,30 @@ class Uploads(unittest.TestCase):
             self.assertEqual(upload.main([self.url_of(server.port), self.changes, "--run"]), 3)
         self.assertEqual((told.getvalue(), server.count), ("upload: the reply to GET /verdicts took more than 1 seconds\n", 1))
 
+    def test_package_files_alone(self):
+        """A vendor's package file has neither a .changes nor the name of its fields."""
+        vendors = self.room / "hello-latest.deb"
+        (self.room / FILES[0]).rename(vendors)
+        words = ("--distribution", "box", "--by", "Ann <ann@example.org>", "--section", "contrib/utils", "--run")
+        named = f"with_sidecars: hello-latest.deb is {FILES[0]} by its own fields, and is named so\n"
+        for word in ("new", "again"):
+            wanted = "".join(f"{word} {name}\n" for name in (FILES[0], FILES[1], CHANGES)) + f"accepted {CHANGES}\n"
+            self.check((0, wanted), *words, changes=str(vendors), told=named)
+        [body] = self.archive.bodies[CHANGES]
+        text = body.decode()
+        wanted = "Source: hello\nArchitecture: amd64\nVersion: 1.0-1\nDistribution: box\nMaintainer: Ann <ann@example.org>\nChanged-By: Ann <ann@example.org>\n"
+        self.assertIn(wanted, text)
+        self.assertEqual(len(re.findall(r"contrib/utils optional hello_1.0-1_amd64.(deb|control)$", text, re.M)), 2)
+        self.archive.requests.clear()
+        (self.room / "bad.deb").write_bytes(b"no package")
+        status, printed, told = self.upload(str(self.room / "bad.deb"), *words, changes=str(vendors))
+        self.assertEqual((status, printed, told.startswith("upload: bad.deb: dpkg-deb: ")), (1, "", True), told)
+        for more in ((), (self.changes, "--distribution", "box"), ("--distribution", "two words")):
+            self.assertEqual(self.upload(*more, changes=str(vendors))[0], 2)
+        for more in (("--distribution", "box"), ("--by", "Ann"), ("--section", "utils")):
+            self.assertEqual(self.upload(*more)[0], 2)
+        self.assertEqual(self.archive.requests, [])
+
     def cut(self):
         """A proxy that cuts connections."""
         proxy = Proxy(self.server.server_port)

@@ -100,7 +100,7 @@ class Commands(Case):
     def test_the_programs_are_installed(self):
         prefix = f"{self.room.folder}/prefix"
         self.shell(f"make -s install PREFIX={prefix} PROGRAM={os.path.abspath(PROGRAM)}", cwd=ROOT)
-        self.assertEqual(sorted(os.listdir(f"{prefix}/bin")), ["archive", "upload", "with_sidecars"])
+        self.assertEqual(sorted(os.listdir(f"{prefix}/bin")), ["adopt", "archive", "upload", "with_sidecars"])
         self.assertEqual(self.shell(f"{prefix}/bin/archive compare 1.0 1.1"), "less\n")
         self.assertIn("with_sidecars [--section SECTION] FILE.changes.. FOLDER", self.shell(f"{prefix}/bin/with_sidecars --help"))
         self.assertIn("upload URL FILE.changes", self.shell(f"{prefix}/bin/upload --help"))
@@ -347,6 +347,16 @@ class Serving(Case):
         status, printed, told = self.room.run(text)
         self.assertEqual((status, told), (1, ""))
         self.assertEqual(printed.splitlines()[len(self.names()):][-4:-2], [f"refused 1 {CHANGES}", "No suite takes the distribution: it is no suite's Codename or Suite, and in no AlsoAcceptFor."])
+
+    @needs("dpkg-deb")
+    def test_uploading_a_package_file_alone(self):
+        """Its .changes is made each time anew, and is the same."""
+        shutil.copy(built(self.room.folder, HELLO).replace(".changes", ".deb"), f"{self.room.work}/vendor-latest.deb")
+        text = snippet("package file alone", self.at(self.serve()))
+        names = ["hello_1.0-1_amd64.deb", "hello_1.0-1_amd64.control", CHANGES]
+        told = f"with_sidecars: vendor-latest.deb is {names[0]} by its own fields, and is named so\n"
+        for word in ("new", "again"):
+            self.assertEqual(self.room.run(text), (0, "".join(f"{word} {it}\n" for it in names) + f"accepted {CHANGES}\n", told))
 
     @needs("dpkg-deb")
     def test_uploading_where_one_connection_in_three_is_cut(self):

@@ -10,6 +10,7 @@ import lzma
 import os
 import pathlib
 import random
+import re
 import resource
 import shutil
 import stat
@@ -374,7 +375,7 @@ class Uploads(unittest.TestCase):
     def test_what_is_no_name_of_a_changes(self):
         good = self.changes().read_text()
         for name, wanted in (
-            ("hello_1.0-1_all.deb", "it is no .changes"),
+            ("hello_1.0-1_all.dsc", "it is no .changes"),
             ("hello\nready.changes", "hello?ready.changes is no file name"),
             ("\x1b]0;pwned\x07.changes", "?]0;pwned?.changes is no file name"),
             ("-x.changes", "-x.changes is no file name"),
@@ -569,6 +570,111 @@ class Uploads(unittest.TestCase):
         done = with_sidecars(self.changes(more=["other_1.0-1_all.deb"]), self.ready)
         wanted = "other_1.0-1_all.deb is not named by its own fields, as hallo_1.0-1_all.deb"
         self.assertEqual(done.stderr, told(f"hello_1.0-1_amd64.changes: {wanted}"))
+
+    def lone(self, file, text):
+        """Builds a package file of this control paragraph, which has a name of its own."""
+        tree = self.room / "lone"
+        (tree / "DEBIAN").mkdir(parents=True, exist_ok=True)
+        (tree / "DEBIAN/control").write_bytes(text.encode("utf-8", "surrogateescape"))
+        words = ("dpkg-deb", "--root-owner-group", "--nocheck", "--build", tree, self.built / file)
+        run(*words, env={**os.environ, "SOURCE_DATE_EPOCH": "1467435600"}).check_returncode()
+        return self.built / file
+
+    def test_package_files_alone(self):
+        """Those of one source and version come together, each by the name that its fields give it. The same files give the same."""
+        text = CONTROL.format(package="hello", version="1:1.0-1")
+        other = text.replace("Package: hello", "Package: hello-dev\nSource: hello (1:1.0-1)\nSection: contrib/devel").replace("1:1.0-1\nA", "1:1.0-1+b1\nA")
+        debs = [self.lone("hello-latest.deb", text), self.lone("dev 2.deb", other), self.lone("world_1.0-1_all.deb", CONTROL.format(package="world", version="1.0-1"))]
+        words = ("--distribution", "box", "--by", "Ann \u00c5 <ann@example.org>", *debs)
+        done = with_sidecars(*words, self.ready)
+        named = "{} is {} by its own fields, and is named so"
+        wanted = told(named.format("hello-latest.deb", "hello_1.0-1_all.deb"), named.format("dev 2.deb", "hello-dev_1.0-1+b1_all.deb"))
+        self.assertEqual((done.returncode, sorted(done.stderr.splitlines())), (0, sorted(wanted.splitlines())))
+        names = ["hello-dev_1.0-1+b1_all.deb", "hello-dev_1.0-1+b1_all.control", "hello_1.0-1_all.deb", "hello_1.0-1_all.control", "hello_1.0-1_all.changes"]
+        names += ["world_1.0-1_all.deb", "world_1.0-1_all.control", "world_1.0-1_all.changes"]
+        paths = done.stdout.splitlines()
+        self.assertEqual(paths, [str(self.ready / it) for it in names])
+        self.check_lists(paths[:5])
+        self.check_lists(paths[5:])
+        made = (self.ready / names[4]).read_text(encoding="utf-8")
+        self.assertIn("Date: Sat, 02 Jul 2016 05:00:00 +0000\nSource: hello\nArchitecture: all\nVersion: 1:1.0-1\nDistribution: box\n", made)
+        self.assertIn("Maintainer: Ann <ann@example.org>\nChanged-By: Ann \u00c5 <ann@example.org>\nChanges:\n", made)
+        self.assertRegex(made, r"(?m)^ \S+ \d+ contrib/devel optional hello-dev_1.0-1\+b1_all.deb$")
+        self.assertRegex(made, r"(?m)^ \S+ \d+ - optional hello_1.0-1_all.control$")
+        bodies = {it: (self.ready / it).read_bytes() for it in names}
+        again = with_sidecars(*words[:4], *reversed(debs), self.ready)
+        self.assertEqual((again.returncode, bodies), (0, {it: (self.ready / it).read_bytes() for it in names}))
+        done = with_sidecars("--section", "utils", *words, self.room / "one")
+        self.assertEqual(len(re.findall(" utils optional ", (self.room / "one" / names[4]).read_text(encoding="utf-8"))), 4)
+        self.check_accepted([str(self.room / "one" / it) for it in names[:5]], ["Package: hello", "Package: hello-dev"])
+
+    def test_what_is_no_package_file_to_upload(self):
+        """It is said, and nothing of any of them is written."""
+        good = CONTROL.format(package="hello", version="1.0-1")
+        first = self.lone("first.deb", good)
+        for change, wanted in (
+            (("Maintainer:", "Other:"), "its control file has no Maintainer"),
+            (("Description: greets", "Filename: x\nDescription: greets"), "its control file has a field Filename"),
+            (("greets", "gr\udce9ets"), "its control file is not UTF-8"),
+            (("greets", "gr\x1b[2Jeets"), "its control file has a control character"),
+            (("Package: hello", "Package: Hello"), "Hello is no name of a package"),
+            (("Package: hello", "Source: hello (1) (2)\nPackage: hello"), "hello (1) (2) is no name of a source"),
+            (("Package: hello", "Source: hello (a)\nPackage: hello"), "its control file has the version a"),
+            (("Architecture: all", "Architecture: any"), "its control file has the architecture any"),
+            (("1.0-1", "a1.0"), "its control file has the version a1.0"),
+            (("1.0-1", "1.0-"), "its control file has the version 1.0-"),
+            (("Architecture: all", "Section: two words\nArchitecture: all"), "two words is no section: give --section"),
+            (("nothing", "something"), "two files are hello_1.0-1_all.deb by their fields, with other contents"),
+            (("hello\nVersion: 1.0-1", "hello\nSource: hello (1.0-1)\nVersion: 1.0-1+b1"), "two versions of hello for all are of one source and version"),
+        ):
+            with self.subTest(wanted):
+                bad = self.lone("odd.deb", good.replace(*change))
+                done = with_sidecars("--distribution", "box", first, bad, self.ready)
+                lines = [it for it in done.stderr.splitlines() if not it.endswith(" by its own fields, and is named so")]
+                lines = [it.replace("first.deb", "odd.deb") for it in lines]
+                self.assertEqual((done.returncode, done.stdout, lines), (1, "", [f"with_sidecars: odd.deb: {wanted}"]))
+                self.assertFalse(self.ready.exists())
+        (self.built / "odd.deb").write_bytes(b"no package")
+        (self.built / "link.deb").symlink_to("first.deb")
+        os.mkfifo(self.built / "fifo.deb")
+        with open(self.built / "large.deb", "wb") as it:
+            it.truncate(1 << 40)
+        for name, wanted in (
+            ("odd.deb", "odd.deb: dpkg-deb: error: "),
+            ("link.deb", "link.deb is a link: put the file itself there"),
+            ("fifo.deb", "fifo.deb is no regular file"),
+            ("large.deb", "large.deb has more than 4194304 bytes"),
+        ):
+            done = with_sidecars("--distribution", "box", first, self.built / name, self.ready)
+            self.assertEqual((done.returncode, done.stdout, done.stderr.startswith(told(wanted)[:-1])), (1, "", True), done.stderr)
+        self.assertEqual(with_sidecars("--distribution", "box", first, self.built).returncode, 1)
+        for words in ((), ("--distribution", "two words"), ("--distribution", "box", "--by", "Ann\nOther: x")):
+            self.assertEqual(with_sidecars(*words, first, self.ready).returncode, 2, words)
+        self.assertEqual(with_sidecars("--distribution", "box", self.changes(), self.ready).returncode, 2)
+        self.assertFalse(self.ready.exists())
+
+    def test_no_package_file_ends_it_by_a_traceback(self):
+        """Each is another that was changed at random places, in its control paragraph or in its bytes."""
+        it, chance, statuses = tool("bin/with_sidecars"), random.Random(66), collections.Counter()
+        good = CONTROL.format(package="hello", version="1.0-1").encode()
+        odd = [b"\0", b"\n", b"\r", b"\n\n", b"\n ", b"\t", b":", b"/", b"..", b"-", b"\xff", b"\xc2\x85", b"\x1b[2J", b"9" * 30, b"(", b"#", b""]
+        deb = self.built / "odd.deb"
+        for number in range(300):
+            text = bytearray(good)
+            for _ in range(chance.randrange(3)):
+                start = chance.randrange(len(text))
+                text[start:start + chance.choice((0, 1, 1, 40))] = chance.choice(odd)
+            body = bytearray(deb_with(tar_of([("./control", text.decode(errors="surrogateescape"), b"0")])))
+            if number % 4 == 0:
+                start = chance.randrange(len(body))
+                body[start:start + chance.choice((0, 1, 200))] = chance.choice(odd)
+            deb.write_bytes(body)
+            with self.subTest(bytes(text)), contextlib.redirect_stderr(io.StringIO()) as errors, contextlib.redirect_stdout(io.StringIO()) as printed:
+                status = it.main(["--distribution", "box", str(deb), str(self.ready)])
+                self.assertNotRegex(errors.getvalue() + printed.getvalue(), "[\x00-\x09\x0b-\x1f\x7f-\x9f]")
+                self.assertEqual(bool(printed.getvalue()), status == 0)
+                statuses[status] += 1
+        self.assertEqual((set(statuses), min(statuses.values()) > 30), ({0, 1}, True), statuses)
 
     @needs("dpkg-buildpackage")
     def test_what_dpkg_buildpackage_makes(self):
