@@ -72,8 +72,8 @@ def opened(db):
 
 
 def numbers(rng, count):
-    """So many numbers, which rise."""
-    return sorted(rng.sample(range(1, 1_000_000), count))
+    """So many numbers, which rise, some below 0."""
+    return sorted(rng.sample(range(-1_000_000, 1_000_000), count))
 
 
 def renumbered(held, layout, rng):

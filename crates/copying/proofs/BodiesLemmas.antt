@@ -6,7 +6,7 @@ use Rattle.sqlite.specs.declared.error.Error.{Error}
 use Rattle.sqlite.specs.State.{State, ExecutesInside}
 use Rattle.sums.specs.declared.print.Print.{Print}
 use Rattle.tables.specs.Schema.{bodies_table}
-use Rattle.tables.specs.Rows.{whole, print_cells, Changes, body_cells, stored}
+use Rattle.tables.specs.Rows.{id_cell, id_int, print_cells, Changes, body_cells, stored}
 use Rattle.tables.proofs.CastLemmas.{cast_null, cast_int}
 use Rattle.tables.proofs.InsertLemmas.{puts}
 use Rattle.tables.proofs.HoldsLemmas.{with_bodies}
@@ -17,16 +17,16 @@ use Rattle.copying.specs.declared.bodies.TheConstants.{COPY_BODY, COPY_BEGUN}
 use Rattle.copying.proofs.Meaning.{copy_body_terms, copy_body_is, copy_body_plain, copy_begun_terms, copy_begun_is, copy_begun_plain}
 use Rattle.copying.proofs.PlaceLemmas.{places_row, placed_of}
 
-body_cast : (id : ℕ) (p : Print) → cast_row bodies_table (whole id ∷ (Null ∷ print_cells p)) ≡ stored body_cells (id, whole_body p)
-body_cast id p = rw (cast_null, cast_int (pos id), cast_int (pos p.size))
+body_cast : (id : ℕ) (p : Print) → cast_row bodies_table (id_cell id ∷ (Null ∷ print_cells p)) ≡ stored body_cells (id, whole_body p)
+body_cast id p = rw (cast_null, cast_int (id_int id), cast_int (pos p.size))
 
-pub copies_body : (old new : State) (id : ℕ) (p : Print) (r : Result ℕ Error) → ExecutesInside 0 COPY_BODY.now (whole id ∷ print_cells p) old new r
+pub copies_body : (old new : State) (id : ℕ) (p : Print) (r : Result ℕ Error) → ExecutesInside 0 COPY_BODY.now (id_cell id ∷ print_cells p) old new r
     → OnOk r (Changes old new (with_body_at (id, whole_body p)))
 copies_body old new id p (Ok count) h = record {
   held = λ t was.
       let put =
       puts COPY_BODY.now 1 copy_body_terms 6 copy_body_is copy_body_plain _ _ _ _ _ _ 1 (λ _. refl) (lit≤ tt)
-      old new (whole id ∷ print_cells p) (whole id ∷ (Null ∷ print_cells p)) count refl was.schema h.0 in
+      old new (id_cell id ∷ print_cells p) (id_cell id ∷ (Null ∷ print_cells p)) count refl was.schema h.0 in
       let r = raw_rows storing t.bodies (old.now.trees 1) was.rows.bodies in
       let now = places_row (raw_cells storing) bodies_table _ (id, raw storing (whole_body p)) (body_cast id p) old new put r.of r.has in
       record {
@@ -37,16 +37,16 @@ copies_body old new id p (Ok count) h = record {
 }
 copies_body old new id p (Err e) h = tt
 
-begun_cast : (id : ℕ) → cast_row bodies_table (whole id ∷ (Null ∷ Null ∷ Null ∷ Null ∷ Null ∷ [])) ≡ stored body_cells (id, begun_body)
-begun_cast id = rw (cast_null, cast_int (pos id)) refl
+begun_cast : (id : ℕ) → cast_row bodies_table (id_cell id ∷ (Null ∷ Null ∷ Null ∷ Null ∷ Null ∷ [])) ≡ stored body_cells (id, begun_body)
+begun_cast id = rw (cast_null, cast_int (id_int id)) refl
 
-pub copies_begun : (old new : State) (id : ℕ) (r : Result ℕ Error) → ExecutesInside 0 COPY_BEGUN.now (whole id ∷ []) old new r
+pub copies_begun : (old new : State) (id : ℕ) (r : Result ℕ Error) → ExecutesInside 0 COPY_BEGUN.now (id_cell id ∷ []) old new r
     → OnOk r (Changes old new (with_body_at (id, begun_body)))
 copies_begun old new id (Ok count) h = record {
   held = λ t was.
       let put =
       puts COPY_BEGUN.now 1 copy_begun_terms 6 copy_begun_is copy_begun_plain _ _ _ _ _ _ 1 (λ _. refl) (lit≤ tt)
-      old new (whole id ∷ []) (whole id ∷ (Null ∷ Null ∷ Null ∷ Null ∷ Null ∷ [])) count refl was.schema h.0 in
+      old new (id_cell id ∷ []) (id_cell id ∷ (Null ∷ Null ∷ Null ∷ Null ∷ Null ∷ [])) count refl was.schema h.0 in
       let r = raw_rows storing t.bodies (old.now.trees 1) was.rows.bodies in
       let now = places_row (raw_cells storing) bodies_table _ (id, raw storing begun_body) (begun_cast id) old new put r.of r.has in
       record {

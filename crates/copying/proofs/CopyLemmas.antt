@@ -2,7 +2,7 @@
 use Rattle.std.proofs.Common.{◌≡◌, ℕ, ◌+◌, List, [], ◌∷◌, ◌++◌, map, fold, refl, sym, ap, subst, ◌∙◌, append-nil, append_assoc}
 use Rattle.std.specs.List.{enumerate_from}
 use Rattle.sqlite.specs.State.{State}
-use Rattle.tables.specs.Rows.{Tables, Numbered, Holds, Rises, added, next_from, next_in, rows_of}
+use Rattle.tables.specs.Rows.{Tables, Numbered, Holds, Rises, added, first_number, next_from, next_in, rows_of}
 use Rattle.copying.specs.Copying.{AreRising, Copies, IsBare, anew, arrived_at, copied}
 use Rattle.copying.specs.Placed.{Writes, each, put_at, with_arrival_at, with_arrived, with_body_at, with_file_of, with_item_at, with_piece_of, with_ref_of, with_shown, with_upload_at, with_uploaded, with_want_of}
 use Rattle.copying.proofs.PutLemmas.{puts_all}
@@ -66,7 +66,7 @@ adds_behind f [] front = sym (append-nil front)
 adds_behind {X} {Y} f (x ∷ rows) front =
     let one : ℕ × Y = (next_in front, f x.1) in
     adds_behind f rows (added front (f x.1))
-    ∙ ap (λ n. (front ++ one ∷ []) ++ enumerate_from n (map f (rows_of rows))) (next_last 1 front one)
+    ∙ ap (λ n. (front ++ one ∷ []) ++ enumerate_from n (map f (rows_of rows))) (next_last first_number front one)
     ∙ append_assoc front (one ∷ []) (enumerate_from (next_in front + 1) (map f (rows_of rows)))
 
 -- into a table that has none

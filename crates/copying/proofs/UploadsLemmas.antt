@@ -8,7 +8,7 @@ use Rattle.sqlite.specs.Values.{bound_value, or_null}
 use Rattle.sqlite.specs.declared.error.Error.{Error}
 use Rattle.sqlite.specs.State.{State, ExecutesInside}
 use Rattle.tables.specs.Schema.{uploads_table}
-use Rattle.tables.specs.Rows.{whole, print_cells, Changes, upload_cells, stored}
+use Rattle.tables.specs.Rows.{id_cell, id_int, whole, print_cells, Changes, upload_cells, stored}
 use Rattle.tables.specs.declared.rows.UploadRow.{UploadRow}
 use Rattle.tables.proofs.CastLemmas.{cast_null, cast_int}
 use Rattle.tables.proofs.InsertLemmas.{puts}
@@ -33,16 +33,16 @@ cast_some : (n : Option ℕ) → cast Integer (or_null whole n) ≡ or_null whol
 cast_some None = cast_null
 cast_some (Some n) = cast_int (pos n)
 
-upload_cast : (id : ℕ) (u : UploadRow) → cast_row uploads_table (whole id ∷ Null ∷ upload_params u) ≡ stored upload_cells (id, u)
-upload_cast id u = rw (cast_null, cast_int (pos id), cast_int (pos u.print.size), cast_some u.place, cast_some u.verdict)
+upload_cast : (id : ℕ) (u : UploadRow) → cast_row uploads_table (id_cell id ∷ Null ∷ upload_params u) ≡ stored upload_cells (id, u)
+upload_cast id u = rw (cast_null, cast_int (id_int id), cast_int (pos u.print.size), cast_some u.place, cast_some u.verdict)
 
-pub copies_upload : (old new : State) (id : ℕ) (u : UploadRow) (r : Result ℕ Error) → ExecutesInside 0 COPY_UPLOAD.now (whole id ∷ upload_params u) old new r
+pub copies_upload : (old new : State) (id : ℕ) (u : UploadRow) (r : Result ℕ Error) → ExecutesInside 0 COPY_UPLOAD.now (id_cell id ∷ upload_params u) old new r
     → OnOk r (Changes old new (with_upload_at (id, u)))
 copies_upload old new id u (Ok count) h = record {
   held = λ t was.
       let put =
       puts COPY_UPLOAD.now 4 copy_upload_terms 9 copy_upload_is copy_upload_plain _ _ _ _ _ _ 7 (λ _. refl) (lit≤ tt)
-      old new (whole id ∷ upload_params u) (whole id ∷ Null ∷ upload_params u) count refl was.schema h.0 in
+      old new (id_cell id ∷ upload_params u) (id_cell id ∷ Null ∷ upload_params u) count refl was.schema h.0 in
       let r = raw_rows storing t.uploads (old.now.trees 7) was.rows.uploads in
       let now = places_row (raw_cells storing) uploads_table _ (id, raw storing u) (upload_cast id u) old new put r.of r.has in
       record {

@@ -2,12 +2,12 @@
 use Rattle.std.specs.Prelude.{◌≡◌, ℕ, true, List, [], map, IsTrue}
 use Rattle.std.specs.List.{enumerate_from}
 use Rattle.sqlite.specs.State.{State, KeepsCommit}
-use Rattle.tables.specs.Rows.{Tables, Numbered, Rises, Holds, rows_of}
+use Rattle.tables.specs.Rows.{Tables, Numbered, Rises, Holds, first_number, rows_of}
 use Rattle.tables.specs.declared.rows.ArrivalRow.{ArrivalRow}
 
--- the rows of a table, numbered from 1 in their order
+-- the rows of a table in their order, under the numbers that an empty table gives
 abbrev pub anew : {X : Type 0} → List X → Numbered X
-anew rows = enumerate_from 1 rows
+anew rows = enumerate_from first_number rows
 
 -- an arrival, as of another moment
 abbrev pub arrived_at : ℕ → ArrivalRow → ArrivalRow

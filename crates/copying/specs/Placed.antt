@@ -1,8 +1,8 @@
 -- Rows that are written one after another: under their own numbers, or under the next ones.
-use Rattle.std.specs.Prelude.{◌≡◌, ℕ, pos, true, List, fold, IsTrue}
+use Rattle.std.specs.Prelude.{◌≡◌, ℕ, true, List, fold, IsTrue}
 use Rattle.sqlite.specs.State.{State, KeepsCommit}
 use Rattle.sqlite_keyed.specs.Keyed.{insert_by}
-use Rattle.tables.specs.Rows.{Tables, Numbered, Holds, with_piece, with_arrival, with_want, with_ref, with_file}
+use Rattle.tables.specs.Rows.{id_int, Tables, Numbered, Holds, with_piece, with_arrival, with_want, with_ref, with_file}
 use Rattle.tables.specs.declared.rows.BodyRow.{BodyRow}
 use Rattle.tables.specs.declared.rows.Piece.{Piece}
 use Rattle.tables.specs.declared.rows.ArrivalRow.{ArrivalRow}
@@ -15,7 +15,7 @@ use Rattle.copying.specs.Copying.{arrived_at}
 
 -- the rows with this one at its place among rising numbers, and in place of one of its number
 abbrev pub put_at : {X : Type 0} → ℕ × X → Numbered X → Numbered X
-put_at x rows = insert_by (λ y. pos y.0) rows x
+put_at x rows = insert_by (λ y. id_int y.0) rows x
 
 -- ---- a row more, with its number
 

@@ -4,7 +4,7 @@ ghost use Rattle.std.specs.Prelude.{Some, None};
 ghost use Rattle.copying.specs.Placed.{with_body_at};
 ghost use Rattle.tables.specs.Calls.{CommitsNothing, FailsInside, IsSame, Writes};
 
-use crate::number::whole;
+use crate::number::{as_id, whole};
 use sqlite::{Alter, Error, Transaction, params};
 use sums::Print;
 use tables::rows::BodyRow;
@@ -21,7 +21,7 @@ fn insert_whole<S: Alter>(tx: &mut Transaction<'_, S>, id: u64, print: &Print) -
     ensures err { FailsInside S.Store tx.old tx.new result }
     ensures survives { CommitsNothing S.Store tx.old tx.new }
 {
-    let id = whole(id)?;
+    let id = as_id(id);
     let size = whole(print.size)?;
     let md5: &[u8] = &print.md5;
     let sha1: &[u8] = &print.sha1;
@@ -37,7 +37,7 @@ fn insert_begun<S: Alter>(tx: &mut Transaction<'_, S>, id: u64) -> Result<(), Er
     ensures err { FailsInside S.Store tx.old tx.new result }
     ensures survives { CommitsNothing S.Store tx.old tx.new }
 {
-    let id = whole(id)?;
+    let id = as_id(id);
     tx.execute(COPY_BEGUN, params![id])?;
     Ok(())
 }

@@ -3,7 +3,7 @@
 ghost use Rattle.copying.specs.Placed.{with_item_at};
 ghost use Rattle.tables.specs.Calls.{CommitsNothing, FailsInside, IsSame, Writes};
 
-use crate::number::whole;
+use crate::number::{as_id, whole};
 use sqlite::{Alter, Error, Transaction, params};
 use tables::rows::ItemRow;
 
@@ -21,7 +21,7 @@ pub(crate) fn insert_item<S: Alter>(
     ensures err { FailsInside S.Store tx.old tx.new result }
     ensures survives { CommitsNothing S.Store tx.old tx.new }
 {
-    let id = whole(id)?;
+    let id = as_id(id);
     let suite = item.suite.as_str();
     let kind = whole(item.kind)?;
     let package = item.package.as_str();

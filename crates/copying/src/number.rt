@@ -2,6 +2,7 @@
 
 ghost use Rattle.std.specs.Prelude.{◌≡◌, ℕ, pos, unsigned_abs, IfOk};
 ghost use Rattle.sqlite_value.specs.declared.value.Value.TheVariants.{Int};
+ghost use Rattle.tables.specs.Rows.{id_cell, id_int, id_nat};
 
 use sqlite::types::{ToSql, ValueRef};
 use sqlite::{Error, ErrorCode};
@@ -36,6 +37,37 @@ pub(crate) fn whole(n: u64) -> Result<Number, Error>
     match i64::try_from(n) {
         Ok(n) => Ok(Number { n }),
         Err(_) => Err(Error::SqliteFailure(ErrorCode::TooBig)),
+    }
+}
+
+/// The number of a row, as its id holds it: counted from the least integer of SQLite on.
+#[derive(Drop)]
+pub(crate) struct Id {
+    n: i64,
+}
+
+impl Model for Id {
+    ghost Value = { ℕ };
+
+    ghost view = { λ w. id_nat w.n };
+
+    ghost invariant = { λ w. w.n ≡ id_int (id_nat w.n) };
+}
+
+impl<'a> ToSql<'a> for Id {
+    ghost to_sql = { id_cell };
+
+    fn to_sql(self) -> ValueRef<'a> {
+        ValueRef::Int(self.n)
+    }
+}
+
+/// The number as that of a row. Each is one.
+pub(crate) fn as_id(n: u64) -> Id
+    ensures { result ≡ n }
+{
+    Id {
+        n: i64::MIN.saturating_add_unsigned(n),
     }
 }
 

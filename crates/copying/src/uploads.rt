@@ -3,7 +3,7 @@
 ghost use Rattle.copying.specs.Placed.{with_upload_at};
 ghost use Rattle.tables.specs.Calls.{CommitsNothing, FailsInside, IsSame, Writes};
 
-use crate::number::{some_whole, whole};
+use crate::number::{as_id, some_whole, whole};
 use sqlite::{Alter, Error, Transaction, params};
 use tables::rows::UploadRow;
 
@@ -21,7 +21,7 @@ pub(crate) fn insert_upload<S: Alter>(
     ensures err { FailsInside S.Store tx.old tx.new result }
     ensures survives { CommitsNothing S.Store tx.old tx.new }
 {
-    let id = whole(id)?;
+    let id = as_id(id);
     let name = upload.name.as_str();
     let size = whole(upload.print.size)?;
     let md5: &[u8] = &upload.print.md5;

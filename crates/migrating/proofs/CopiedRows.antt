@@ -21,7 +21,7 @@ use Rattle.keep.specs.declared.arrival.Arrival as book
 use Rattle.keep.specs.declared.change.Judgement.{Judgement}
 use Rattle.tables.specs.Arrivals.{is_arrival}
 use Rattle.tables.specs.Files.{is_file_at}
-use Rattle.tables.specs.Rows.{Tables, rows_of}
+use Rattle.tables.specs.Rows.{Tables, first_number, rows_of}
 use Rattle.tables.specs.Uploads.{is_judged as has_place}
 use Rattle.tables.specs.Wants.{is_wanted_by}
 use Rattle.tables.specs.declared.rows.ArrivalRow.{ArrivalRow}
@@ -73,19 +73,19 @@ module _ (t : Tables) (moment : ℕ) (text : List ℕ) where
   }
 
   pieces_rows : rows_of copy.pieces ≡ rows_of t.pieces
-  pieces_rows = rows_anew 1 (rows_of t.pieces)
+  pieces_rows = rows_anew first_number (rows_of t.pieces)
 
   arrivals_rows : rows_of copy.arrivals ≡ map (arrived_at moment) (rows_of t.arrivals)
-  arrivals_rows = rows_anew 1 (map (arrived_at moment) (rows_of t.arrivals))
+  arrivals_rows = rows_anew first_number (map (arrived_at moment) (rows_of t.arrivals))
 
   wants_rows : rows_of copy.wants ≡ rows_of t.wants
-  wants_rows = rows_anew 1 (rows_of t.wants)
+  wants_rows = rows_anew first_number (rows_of t.wants)
 
   refs_rows : rows_of copy.refs ≡ rows_of t.refs
-  refs_rows = rows_anew 1 (rows_of t.refs)
+  refs_rows = rows_anew first_number (rows_of t.refs)
 
   files_rows : rows_of copy.files ≡ rows_of t.files
-  files_rows = rows_anew 1 (rows_of t.files)
+  files_rows = rows_anew first_number (rows_of t.files)
 
   -- ---- what is read of them
 

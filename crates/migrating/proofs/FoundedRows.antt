@@ -3,7 +3,7 @@ use Rattle.std.proofs.Common.{◌≡◌, ℕ, List, [], ◌∷◌, map, fold, ap
 use Rattle.std.specs.FinMap.{empty}
 use Rattle.rules.specs.Values.{ConfigValue}
 use Rattle.texts.specs.Indices.{all_texts}
-use Rattle.tables.specs.Rows.{Tables, Numbered, added, no_rows, with_meta}
+use Rattle.tables.specs.Rows.{Tables, Numbered, added, first_number, no_rows, with_meta}
 use Rattle.tables.specs.declared.meta.TheConstants.{VERSION}
 use Rattle.tables.specs.declared.rows.Meta.{Meta}
 use Rattle.tables_meaning.specs.Founding.{first_date, first_dates, founded, with_first_rows, with_texts}
@@ -12,7 +12,7 @@ use Rattle.copying.specs.Copying.{IsBare}
 
 -- the one row of `meta`
 abbrev pub meta_for : List ℕ → Numbered Meta
-meta_for text = (1, record { version = VERSION; configuration = text }) ∷ []
+meta_for text = (first_number, record { version = VERSION; configuration = text }) ∷ []
 
 founded_are : (config : ConfigValue) (moment : ℕ) → founded config moment ≡ record no_rows {
   meta = meta_for config.text;

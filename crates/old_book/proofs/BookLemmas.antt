@@ -3,7 +3,7 @@ use Rattle.std.proofs.Common.{◌≡◌, ◌↔◌, ℕ, true, false, find, List
 use Rattle.rules.specs.Values.{ConfigValue}
 use Rattle.suites.specs.Shelves.{ShelvesValue}
 use Rattle.keep.specs.declared.change.Judgement.{Judgement}
-use Rattle.tables.specs.Rows.{Numbered, Tables, rows_of, without}
+use Rattle.tables.specs.Rows.{first_number, Numbered, Tables, rows_of, without}
 use Rattle.tables.specs.declared.meta.TheConstants.{VERSION}
 use Rattle.tables.specs.declared.rows.Meta.{Meta}
 use Rattle.tables.specs.declared.rows.UploadRow.{UploadRow}
@@ -52,7 +52,7 @@ listed_in t uploads items o is some none keys bodies =
 
 -- ---- as those of an archive of today
 
-pub rows_renewed : (t : Tables) (text : List ℕ) (meta : Numbered Meta) (wants : Numbered Want) → meta ≡ (1, record { version = VERSION; configuration = text }) ∷ []
+pub rows_renewed : (t : Tables) (text : List ℕ) (meta : Numbered Meta) (wants : Numbered Want) → meta ≡ (first_number, record { version = VERSION; configuration = text }) ∷ []
     → wants ≡ without (λ w. has_judged t.uploads w.1.upload) t.wants → record t { meta = meta; wants = wants } ≡ with_meta_row text (settled t)
 rows_renewed t text meta wants m w = λ i. record t { meta = m i; wants = w i }
 

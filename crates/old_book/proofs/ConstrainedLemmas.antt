@@ -6,7 +6,7 @@ use Rattle.texts.proofs.Pairs.{pairs_map, pairs_unmap}
 use Rattle.tables_meaning.proofs.ArrivalLemmas.{all_unmapped}
 use Rattle.sums.proofs.Words.{list_any-map}
 use Rattle.tables.specs.Arrivals.{is_arrival}
-use Rattle.tables.specs.Rows.{Numbered, Tables, rows_of, without}
+use Rattle.tables.specs.Rows.{first_number, Numbered, Tables, rows_of, without}
 use Rattle.tables.specs.declared.rows.ArrivalRow.{ArrivalRow}
 use Rattle.tables.specs.declared.rows.File.{File}
 use Rattle.tables.specs.declared.rows.Piece.{Piece}
@@ -24,7 +24,7 @@ rows_from n [] = refl
 rows_from n (x ∷ xs) = ap (λ ys. x ∷ ys) (rows_from (n + 1) xs)
 
 rows_anew : {X : Type 0} (xs : List X) → rows_of (anew xs) ≡ xs
-rows_anew xs = rows_from 1 xs
+rows_anew xs = rows_from first_number xs
 
 -- what the keys keep true of copied rows they keep true of the rows
 pub constrained_copied : (t : Tables) (moment : ℕ) (into : Tables) → AreConstrained (copied t moment into) → AreConstrained t

@@ -1,7 +1,7 @@
 -- From the rows that are shown to those of an archive of today.
 use Rattle.std.specs.Prelude.{ℕ, nat_eq, Bool, ◌&&◌, List, [], ◌∷◌, map, filter, None}
 use Rattle.std.specs.List.{list_any}
-use Rattle.tables.specs.Rows.{Numbered, Tables, without}
+use Rattle.tables.specs.Rows.{first_number, Numbered, Tables, without}
 use Rattle.tables.specs.Uploads.{is_judged as has_place}
 use Rattle.tables.specs.declared.meta.TheConstants.{VERSION}
 use Rattle.tables.specs.declared.rows.UploadRow.{UploadRow}
@@ -31,4 +31,4 @@ settled t = record t { wants = without (λ w. has_judged t.uploads w.1.upload) t
 
 -- the one row of meta is that of this layout with this text
 abbrev pub with_meta_row : List ℕ → Tables → Tables
-with_meta_row text t = record t { meta = (1, record { version = VERSION; configuration = text }) ∷ [] }
+with_meta_row text t = record t { meta = (first_number, record { version = VERSION; configuration = text }) ∷ [] }

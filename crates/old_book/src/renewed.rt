@@ -1,6 +1,7 @@
 //! The rows of an old archive as those of an archive of today.
 
 ghost use Rattle.std.specs.Prelude.{◌≡◌, ℕ, [], ◌∷◌, List, IfOk, IfSome, None};
+ghost use Rattle.tables.specs.Rows.{first_number};
 ghost use Rattle.tables_read.specs.All.{tables_with};
 ghost use Rattle.old_book.specs.Old.{HasText, HasTextIn};
 ghost use Rattle.old_book.specs.Settling.{settled, with_meta_row};
@@ -35,16 +36,19 @@ pub fn text_among(alloc: Global, meta: &[(u64, Meta)]) -> Result<Option<Vec<u8>>
     text_in_row(alloc, &meta[0].1)
 }
 
+/// The number of the rowid 1.
+const FIRST_NUMBER: u64 = 9_223_372_036_854_775_809;
+
 /// The one row of `meta`, with this text.
 fn meta_with(alloc: Global, text: Vec<u8>) -> Result<Vec<(u64, Meta)>, AllocError>
-    ensures { IfOk result (λ meta. meta.items ≡ (1, record { version = VERSION; configuration = text.items }) ∷ []) }
+    ensures { IfOk result (λ meta. meta.items ≡ (first_number, record { version = VERSION; configuration = text.items }) ∷ []) }
 {
     let row = Meta {
         version: VERSION,
         configuration: Listed::from_vec(text),
     };
     let mut meta = Vec::new(alloc);
-    meta.push((1, row))?;
+    meta.push((FIRST_NUMBER, row))?;
     Ok(meta)
 }
 

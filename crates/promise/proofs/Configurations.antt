@@ -10,7 +10,7 @@ use Rattle.keep.specs.Book.{Book, HasItsFiles}
 use Rattle.keep.specs.Configured.{configured, keeps_shown}
 use Rattle.tables_meaning.specs.Archives.{KeepsFinished}
 use Rattle.tables_meaning.proofs.BookFiles.{finished_files}
-use Rattle.queue.proofs.ConfiguredLemmas.{configured_files}
+use Rattle.history.proofs.ConfiguredLemmas.{configured_files}
 use Rattle.promise.proofs.Stops.{own_config}
 
 claims_prop : (config : ConfigValue) → IsProp (ClaimApart config.suites)

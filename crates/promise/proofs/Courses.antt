@@ -13,12 +13,12 @@ use Rattle.queue.specs.Archives.{Stands}
 use Rattle.queue.specs.Commands.{call_of, outcome_of}
 use Rattle.queue.specs.Histories.{Call, History, bodies_of, opened_with}
 use Rattle.queue.specs.Steps.{IsLeftAlong}
-use Rattle.queue.specs.declared.command.Command.{Command}
-use Rattle.queue.specs.declared.command.Outcome.{Outcome}
-use Rattle.queue.proofs.Kept.{stands_kept}
-use Rattle.queue.proofs.Openings.{faithful_anew, fresh_stands}
+use Rattle.history.specs.declared.command.Command.{Command}
+use Rattle.history.specs.declared.command.Outcome.{Outcome}
+use Rattle.history.proofs.Kept.{stands_kept}
+use Rattle.history.proofs.Openings.{faithful_anew, fresh_stands}
 use Rattle.keep.proofs.Staying.{more_before}
-use Rattle.queue.proofs.Reopening.{opens_itself}
+use Rattle.history.proofs.Reopening.{opens_itself}
 use Rattle.promise.proofs.Refusals.{both_then}
 
 -- calls behind a book that has its files, where no two bodies of these and of the book have one print

@@ -15,8 +15,8 @@ use Rattle.tables_meaning.specs.Archives.{KeepsFinished}
 use Rattle.keep_tables.specs.Keepers.{config_in_use, connection_of, table_book}
 use Rattle.keep_tables.specs.declared.keeper.TableKeeper.{TableKeeper}
 use Rattle.queue.specs.Configuring.{IsLeftConfigured}
-use Rattle.queue.specs.declared.command.Command.{Command}
-use Rattle.queue.specs.declared.command.Outcome.{Outcome}
+use Rattle.history.specs.declared.command.Command.{Command}
+use Rattle.history.specs.declared.command.Outcome.{Outcome}
 use Rattle.promise.specs.Lists.{GoesOn, MayFind}
 
 -- what came of a configuration and the commands behind it: the fault for which it was refused, or the outcomes, if memory sufficed for

@@ -15,9 +15,9 @@ use Rattle.queue.specs.Answers.{IsRun}
 use Rattle.queue.specs.Commands.{call_of, outcome_of}
 use Rattle.queue.specs.Histories.{Call, Reply, bodies_of, opened_with}
 use Rattle.queue.specs.Steps.{IsLeftAlong}
-use Rattle.queue.specs.declared.command.Command.{Command}
-use Rattle.queue.specs.declared.command.Outcome.{Outcome}
-use Rattle.queue.specs.declared.fault.Fault.{Fault}
+use Rattle.history.specs.declared.command.Command.{Command}
+use Rattle.history.specs.declared.command.Outcome.{Outcome}
+use Rattle.history.specs.declared.fault.Fault.{Fault}
 
 -- an opening of the keeper's database may find this after a crash at this moment: a book, or no archive
 abbrev pub MayFind : {S : Type 0} {g : Ghosts S} → TableKeeper S g → Option Book → Type 0

@@ -8,7 +8,7 @@ use Rattle.sqlite.specs.Tree.{put_row, rowid}
 use Rattle.sqlite.specs.Edit.{with_rowid, id_in}
 use Rattle.sqlite.specs.Rowids.TheVariants.{Chosen}
 use Rattle.sqlite.specs.State.{State}
-use Rattle.tables.specs.Rows.{Numbered, HasRows, added, next_in}
+use Rattle.tables.specs.Rows.{first_number, id_int, Numbered, HasRows, added, next_in}
 use Rattle.tables.proofs.RowLemmas.{put_added, rises_added, next_is}
 use Rattle.tables.proofs.InsertLemmas.{PutsRow}
 
@@ -23,7 +23,7 @@ module _ {X : Type 0} (cells : X → Row) (into : Table) (given : Row) (x : X) (
   }
 
   -- the connection tells the number that the row got
-  pub adds_id : new.last_rowid ≡ pos (next_in xs)
+  pub adds_id : new.last_rowid ≡ id_int (next_in xs)
   adds_id =
       put.last ∙ ap (λ row. id_in (rowid (with_rowid Chosen (old.now.trees into.tree) row))) cast
-      ∙ ap (λ rows. id_in (rowid (with_rowid Chosen rows (Null ∷ cells x)))) was.are ∙ next_is cells 1 xs
+      ∙ ap (λ rows. id_in (rowid (with_rowid Chosen rows (Null ∷ cells x)))) was.are ∙ next_is cells first_number xs

@@ -6,7 +6,7 @@ use Rattle.sqlite.specs.Cast.{cast_row}
 use Rattle.sqlite.specs.declared.error.Error.{Error}
 use Rattle.sqlite.specs.State.{State, ExecutesInside}
 use Rattle.tables.specs.Schema.{dates_table}
-use Rattle.tables.specs.Rows.{whole, Changes, with_date, date_cells, stored, HasRows, Numbered}
+use Rattle.tables.specs.Rows.{id_cell, id_int, whole, Changes, with_date, date_cells, stored, HasRows, Numbered}
 use Rattle.tables.specs.Dates.{has_suite, with_new_date, without_dates}
 use Rattle.tables.specs.declared.rows.Date.{Date}
 use Rattle.tables.specs.declared.dates.TheConstants.{INSERT_DATE, UPDATE_DATE, DELETE_DATES}
@@ -39,10 +39,10 @@ changes_insert_date old new x (Err e) h = tt
 
 -- the row that an update makes of a row
 abbrev updated : ℕ → ℕ × Date → Row
-updated moment x = whole x.0 ∷ whole x.0 ∷ Text x.1.suite ∷ whole moment ∷ []
+updated moment x = id_cell x.0 ∷ id_cell x.0 ∷ Text x.1.suite ∷ whole moment ∷ []
 
 updated_cast : (moment : ℕ) (x : ℕ × Date) → cast_row dates_table (drop 1 (updated moment x)) ≡ stored date_cells (x.0, record x.1 { moment = moment })
-updated_cast moment x = rw (cast_int (pos x.0), cast_int (pos moment))
+updated_cast moment x = rw (cast_int (id_int x.0), cast_int (pos moment))
 
 pub changes_update_date : (old new : State) (suite : List ℕ) (moment : ℕ) (r : Result ℕ Error) → ExecutesInside 0 UPDATE_DATE.now (Text suite ∷ whole moment ∷ []) old new r
     → OnOk r (Changes old new (with_new_date suite moment))
@@ -62,7 +62,7 @@ pub removes_dates : (old new : State) (r : Result ℕ Error) → ExecutesInside 
 removes_dates old new (Ok count) h = record {
   held = λ t was.
       let did = deletes DELETE_DATES.now 10 _ delete_dates_plain dates_table (λ _. refl) (lit≤ tt) delete_dates_is old new [] count was.schema h.0 in
-      let now = deletes_rows date_cells 21 [] delete_dates_columns [] (λ _. true) (λ x. whole x.0 ∷ []) (λ _. refl) (λ _. refl) (λ _. refl) (λ _. refl)
+      let now = deletes_rows date_cells 21 [] delete_dates_columns [] (λ _. true) (λ x. id_cell x.0 ∷ []) (λ _. refl) (λ _. refl) (λ _. refl) (λ _. refl)
       old new t.dates was.rows.dates did.0 did.1 did.2 in
       let none = subst (λ (rows : Numbered Date). HasRows date_cells rows (new.now.trees 21)) (none_left t.dates) now in
       record { schema = did.2.schema_is; rows = with_dates old.now.trees new.now.trees t was.rows [] none did.2.others };

@@ -16,17 +16,17 @@ use Rattle.sqlite.proofs.Callers.{command_of, IsPlain}
 use Rattle.sqlite_sql.specs.Term.{eval_all, holds}
 use Rattle.sqlite_keyed.proofs.ListLemmas.{map-map, map_same, map_back, filter-map, slice_get-filter, ascending-map, ascending_from_map}
 use Rattle.tables.specs.Others.{IsArchiveSchema, Others, with_others}
-use Rattle.tables.specs.Rows.{whole, row_of, Numbered, Rises, HasRows, stored, added, next_from, next_in, changed, without}
+use Rattle.tables.specs.Rows.{first_number, id_cell, id_int, row_of, Numbered, Rises, HasRows, stored, added, next_from, next_in, changed, without}
 use Rattle.tables.specs.Reading.{IsRead, IsReadFirst}
 use Rattle.tables.proofs.SelectLemmas.{reads_rows, rows_query}
-use Rattle.tables.proofs.ShownLemmas.{Shows, shown}
+use Rattle.tables.proofs.ShownLemmas.{Shows, shown, shown_back}
 use Rattle.tables.proofs.UpdateLemmas.{Edits, deletes_rows, edit_query}
 
 -- How a table stores its values, and a stored row with NULL in each column that it lacks, whatever its rowid.
 pub record Storing (X : Type 0) : Type 0 where
   pub cells : X → Row
   pub full : Row → Row
-  pub same : (x : X) → full (whole 0 ∷ cells x) ≡ stored cells (0, x)
+  pub same : (x : X) → full (id_cell 0 ∷ cells x) ≡ stored cells (0, x)
   pub again : (v w : Value) (rest : Row) → full (v ∷ rest) ≡ v ∷ drop 1 (full (w ∷ rest))
   pub none : column (full []) 0 ≡ Null
 
@@ -35,7 +35,7 @@ module _ {X : Type 0} (s : Storing X) where
   pub record Raw : Type 0 where
     pub value : X
     pub cells : Row
-    pub full : s.full (whole 0 ∷ cells) ≡ stored s.cells (0, value)
+    pub full : s.full (id_cell 0 ∷ cells) ≡ stored s.cells (0, value)
 
   abbrev pub raw_cells : Raw → Row
   raw_cells k = k.cells
@@ -44,7 +44,7 @@ module _ {X : Type 0} (s : Storing X) where
   value_in x = (x.0, x.1.value)
 
   pub full_as : (x : ℕ × Raw) → s.full (stored raw_cells x) ≡ stored s.cells (value_in x)
-  full_as x = s.again (whole x.0) (whole 0) x.1.cells ∙ ap (λ r. whole x.0 ∷ drop 1 r) x.1.full
+  full_as x = s.again (id_cell x.0) (id_cell 0) x.1.cells ∙ ap (λ r. id_cell x.0 ∷ drop 1 r) x.1.full
 
   -- a row that is stored with all its columns
   abbrev pub raw : X → Raw
@@ -62,9 +62,9 @@ module _ {X : Type 0} (s : Storing X) where
     is : r ≡ stored raw_cells (x.0, one)
 
   is_raw : (x : ℕ × X) (r : Row) → s.full r ≡ stored s.cells x → IsRaw x r
-  is_raw x [] e = absurd (let k : Null ≡ whole x.0 = sym s.none ∙ ap (λ r. column r 0) e in cc)
+  is_raw x [] e = absurd (let k : Null ≡ id_cell x.0 = sym s.none ∙ ap (λ r. column r 0) e in cc)
   is_raw x (v ∷ rest) e = record {
-    one = record { value = x.1; cells = rest; full = s.again (whole 0) v rest ∙ ap (λ r. whole 0 ∷ drop 1 r) e };
+    one = record { value = x.1; cells = rest; full = s.again (id_cell 0) v rest ∙ ap (λ r. id_cell 0 ∷ drop 1 r) e };
     value = refl;
     is = ap (λ c. c ∷ rest) (sym (ap (λ r. column r 0) (s.again v v rest)) ∙ ap (λ r. column r 0) e);
   }
@@ -122,11 +122,11 @@ module _ {X : Type 0} (s : Storing X) where
   map_last (y ∷ of) x = ap (λ l. value_in y ∷ l) (map_last of x)
 
   pub next_of : (rows : Numbered X) (of : Numbered Raw) → rows ≡ map value_in of → next_in of ≡ next_in rows
-  next_of rows of same = sym (ap next_in same ∙ next_same 1 of)
+  next_of rows of same = sym (ap next_in same ∙ next_same first_number of)
 
   pub added_of : (rows : Numbered X) (of : Numbered Raw) (u : X) → rows ≡ map value_in of → map value_in (added of (raw u)) ≡ added rows u
   added_of rows of u same =
-      map_last of (next_in of, raw u) ∙ ap (λ n. map value_in of ++ (n, u) ∷ []) (sym (next_same 1 of)) ∙ sym (ap (λ l. added l u) same)
+      map_last of (next_in of, raw u) ∙ ap (λ n. map value_in of ++ (n, u) ∷ []) (sym (next_same first_number of)) ∙ sym (ap (λ l. added l u) same)
 
   -- ---- rows that are changed, and rows that are taken out
 
@@ -168,7 +168,7 @@ module _ {X : Type 0} (s : Storing X) where
         reads_rows raw_cells tree where_ project params (λ x. p (value_in x)) (λ x. show (value_in x)) raw_tests raw_shows sql names real old new rows raws.of is plain unlisted schema raws.has h
         ∙ sym (map-map show value_in _) ∙ ap (map show) (sym (filter-map p value_in raws.of) ∙ ap (filter p) (sym raws.values))
 
-    pub deletes_full : ((x : ℕ × X) → id_in (rowid (show x)) ≡ pos x.0) → ((db : Trees) → overlay db [] tree ≡ db tree) → (old new : State) (xs : Numbered X) → HasRows s.cells xs (map s.full (old.now.trees tree))
+    pub deletes_full : ((x : ℕ × X) → id_in (rowid (show x)) ≡ id_int x.0) → ((db : Trees) → overlay db [] tree ≡ db tree) → (old new : State) (xs : Numbered X) → HasRows s.cells xs (map s.full (old.now.trees tree))
         → (found : List Row) → IsAnswer (edit_query tree where_ project) (overlay old.now.trees []) params found → Edits tree found [] old new → HasRows s.cells (without p xs) (map s.full (new.now.trees tree))
     deletes_full names real old new xs has found answer edits =
         let raws = raw_rows xs (old.now.trees tree) has in
@@ -176,12 +176,12 @@ module _ {X : Type 0} (s : Storing X) where
         (deletes_rows raw_cells tree where_ project params (λ x. p (value_in x)) (λ x. show (value_in x)) raw_tests raw_shows (λ x. names (value_in x)) real old new raws.of raws.has found answer edits)
 
   module _ (tree : ℕ) (where_ project : List Term) (params : Row) (sql : List ℕ) (old new : State) (rows : Numbered X) (schema : IsArchiveSchema old.now.schema)
-      (has : HasRows s.cells rows (map s.full (old.now.trees tree))) (p : ℕ × X → Bool) (read : Row → X) (back : (x : ℕ × X) → row_of read (shown s.cells x) ≡ x)
+      (has : HasRows s.cells rows (map s.full (old.now.trees tree))) (p : ℕ × X → Bool) (read : Row → X) (back : (x : ℕ × X) → read (shown s.cells x) ≡ x.1)
       (q : Shows s.cells tree where_ project params p (shown s.cells) sql) (c : ReadsColumns where_ project params) where
     pub reads_values : (all : List (ℕ × X)) → IsRead (row_of read) sql params old new all → (all ≡ filter p rows) × IsUnchanged old new
     reads_values all h =
         let given = reads_full tree where_ project params p (shown s.cells) c q.tests q.shows sql q.names q.real old new h.rows rows q.is q.plain q.unlisted schema has h.shown in
-        (h.are ∙ ap (map (row_of read)) given ∙ map_back (shown s.cells) (row_of read) back (filter p rows), h.same)
+        (h.are ∙ ap (map (row_of read)) given ∙ map_back (shown s.cells) (row_of read) (shown_back s.cells read back) (filter p rows), h.same)
 
     pub first_value : (found : Option (ℕ × X)) → IsReadFirst (row_of read) sql params old new found → (found ≡ find p rows) × IsUnchanged old new
     first_value found h =

@@ -9,13 +9,13 @@ use Rattle.sqlite_typed.proofs.TestLemmas.{then_term, last_term}
 use Rattle.sqlite_typed.proofs.AnswerLemmas.{unfiltered}
 use Rattle.tables.specs.Reading.{IsRead, IsReadFirst}
 use Rattle.tables.proofs.CastLemmas.{cast_null, cast_int}
-use Rattle.tables.proofs.EqualLemmas.{whole_test, text_test}
+use Rattle.tables.proofs.EqualLemmas.{id_test, whole_test, text_test}
 use Rattle.tables.proofs.InsertLemmas.{puts}
 use Rattle.tables.proofs.AddLemmas.{adds_row, adds_id}
 use Rattle.tables.proofs.ShownLemmas.{Shows, shown, reads_shown, first_shown}
 use Rattle.std.specs.Prelude.{nat_eq, bytes_eq, ◌&&◌}
 use Rattle.tables.specs.Schema.{items_table}
-use Rattle.tables.specs.Rows.{whole, Tables, Holds, Changes, with_item, item_cells, item_of, row_of, next_in}
+use Rattle.tables.specs.Rows.{id_cell, id_int, whole, Tables, Holds, Changes, with_item, item_cells, item_of, row_of, next_in}
 use Rattle.tables.specs.Items.{is_item, without_item}
 use Rattle.tables.specs.declared.rows.ItemRow.{ItemRow}
 use Rattle.tables.specs.declared.items.TheConstants.{INSERT_ITEM, SELECT_ITEMS, SELECT_ITEM, DELETE_ITEM}
@@ -33,7 +33,7 @@ item_cast : (x : ItemRow) → cast_row items_table (Null ∷ Null ∷ item_param
 item_cast x = rw (cast_null, cast_int (pos x.kind))
 
 pub inserts_item : (old new : State) (x : ItemRow) (count : ℕ) → ExecutesInside 0 INSERT_ITEM.now (item_params x) old new (Ok count)
-    → Changes old new (with_item x) × ((t : Tables) → Holds old.now t → new.last_rowid ≡ pos (next_in t.items))
+    → Changes old new (with_item x) × ((t : Tables) → Holds old.now t → new.last_rowid ≡ id_int (next_in t.items))
 inserts_item old new x count h =
     let put = λ (t : Tables) (was : Holds old.now t).
     puts INSERT_ITEM.now 6 insert_item_terms 10 insert_item_is insert_item_plain _ _ _ _ _ _ 13 (λ _. refl) (lit≤ tt)
@@ -81,13 +81,13 @@ pub item_answer : (old new : State) (t : Tables) (suite : List ℕ) (kind : ℕ)
 item_answer old new t suite kind name architecture found was h =
     first_shown item_cells 13 item_is item_columns (key_params suite kind name architecture) SELECT_ITEM.now old new t.items was.schema was.rows.items (λ x. is_item suite kind name architecture x.1) item_of (λ _. refl) (item_shows suite kind name architecture) found h
 
-pub removes_item : (old new : State) (id : ℕ) (r : Result ℕ Error) → ExecutesInside 0 DELETE_ITEM.now (whole id ∷ []) old new r → OnOk r (Changes old new (without_item id))
+pub removes_item : (old new : State) (id : ℕ) (r : Result ℕ Error) → ExecutesInside 0 DELETE_ITEM.now (id_cell id ∷ []) old new r → OnOk r (Changes old new (without_item id))
 removes_item old new id (Ok count) h = record {
   held = λ t was.
-      let params = whole id ∷ [] in
+      let params = id_cell id ∷ [] in
       let did = deletes DELETE_ITEM.now 6 _ delete_item_plain items_table (λ _. refl) (lit≤ tt) delete_item_is old new params count was.schema h.0 in
-      let now = deletes_rows item_cells 13 item_id_is delete_item_columns params (λ x. nat_eq x.0 id) (λ x. whole x.0 ∷ [])
-      (λ x. last_term (whole_test x.0 id)) (λ _. refl) (λ _. refl) (λ _. refl)
+      let now = deletes_rows item_cells 13 item_id_is delete_item_columns params (λ x. nat_eq x.0 id) (λ x. id_cell x.0 ∷ [])
+      (λ x. last_term (id_test x.0 id)) (λ _. refl) (λ _. refl) (λ _. refl)
       old new t.items was.rows.items did.0 did.1 did.2 in
       record { schema = did.2.schema_is; rows = with_items old.now.trees new.now.trees t was.rows _ now did.2.others };
   shown = h.1;

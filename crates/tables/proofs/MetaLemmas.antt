@@ -6,7 +6,7 @@ use Rattle.sqlite.specs.Cast.{cast_row}
 use Rattle.sqlite.specs.declared.error.Error.{Error}
 use Rattle.sqlite.specs.State.{State, ExecutesInside}
 use Rattle.tables.specs.Schema.{meta_table}
-use Rattle.tables.specs.Rows.{whole, Changes, with_meta, meta_cells, stored}
+use Rattle.tables.specs.Rows.{id_cell, id_int, whole, Changes, with_meta, meta_cells, stored}
 use Rattle.tables.specs.Metas.{with_configuration}
 use Rattle.tables.specs.declared.rows.Meta.{Meta}
 use Rattle.tables.specs.declared.meta.TheConstants.{INSERT_META, UPDATE_META}
@@ -35,10 +35,10 @@ changes_insert_meta old new x (Err e) h = tt
 
 -- the row that an update makes of a row
 abbrev updated : List ℕ → ℕ × Meta → Row
-updated configuration x = whole x.0 ∷ whole x.0 ∷ whole x.1.version ∷ Blob configuration ∷ []
+updated configuration x = id_cell x.0 ∷ id_cell x.0 ∷ whole x.1.version ∷ Blob configuration ∷ []
 
 updated_cast : (configuration : List ℕ) (x : ℕ × Meta) → cast_row meta_table (drop 1 (updated configuration x)) ≡ stored meta_cells (x.0, record x.1 { configuration = configuration })
-updated_cast configuration x = rw (cast_int (pos x.0), cast_int (pos x.1.version))
+updated_cast configuration x = rw (cast_int (id_int x.0), cast_int (pos x.1.version))
 
 pub changes_update_meta : (old new : State) (configuration : List ℕ) (r : Result ℕ Error) → ExecutesInside 0 UPDATE_META.now (Blob configuration ∷ []) old new r
     → OnOk r (Changes old new (with_configuration configuration))

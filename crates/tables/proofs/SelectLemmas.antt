@@ -1,5 +1,6 @@
 -- What the queries on one table answer.
 use Rattle.std.proofs.Common.{◌≡◌, ℕ, pos, negsuc, List, None, [], ◌∷◌, map, filter, false, refl, sym, ap, ◌∙◌, arith, lt→ltb, map-id, subst, Bool, find, slice_get}
+use Rattle.std.proofs.lemmas.Int.{ints}
 use Rattle.std.specs.List.{list_all}
 use Rattle.sqlite.specs.Order.{Row}
 use Rattle.sqlite.specs.Schema.{Schema}
@@ -19,7 +20,7 @@ use Rattle.sqlite_value.proofs.OrderLemmas.{value_cmp-Int, then-Equal}
 use Rattle.sqlite_keyed.proofs.ListLemmas.{ascending_weaker, map-map, map_same, filter-map, slice_get-filter}
 use Rattle.sqlite_keyed.specs.Keyed.{IsKeyedBy}
 use Rattle.sqlite_typed.proofs.AnswerLemmas.{last_table, at_end, answer_by_keys}
-use Rattle.tables.specs.Rows.{Numbered, HasRows, Rises, stored, rows_of}
+use Rattle.tables.specs.Rows.{id_int, Numbered, HasRows, Rises, stored, rows_of}
 use Rattle.tables.specs.Others.{IsArchiveSchema, Others, others_in, with_others}
 
 -- the rows of one table that pass the terms, in the order of their rowids
@@ -36,14 +37,14 @@ rows_query tree where_ project = record {
   offset = lit (Int (pos 0));
 }
 
-pub keyed_if_rises : {X : Type 0} (xs : Numbered X) → Rises xs → IsKeyedBy (λ (x : ℕ × X). pos x.0) xs
-keyed_if_rises xs up = ascending_weaker _ _ (λ a b h. omega (arith, lt→ltb, h)) xs up
+pub keyed_if_rises : {X : Type 0} (xs : Numbered X) → Rises xs → IsKeyedBy (λ (x : ℕ × X). id_int x.0) xs
+keyed_if_rises xs up = ascending_weaker _ _ (λ a b h. omega (arith, ints, lt→ltb, h)) xs up
 
 module _ {X : Type 0} (cells : X → Row) (tree : ℕ) (where_ project : List Term) (params : Row) (p : ℕ × X → Bool) (show : ℕ × X → Row)
     (tests : (x : ℕ × X) → list_all (holds (params ∷ stored cells x ∷ [])) where_ ≡ p x) (shows : (x : ℕ × X) → eval_all project (params ∷ stored cells x ∷ []) ≡ show x) where
   answered : (db : Trees) (xs : Numbered X) → HasRows cells xs (db tree) → (rows : List Row) → IsAnswer (rows_query tree where_ project) db params rows → rows ≡ map show (filter p xs)
   answered db xs has rows got =
-      let source = last_table db tree (stored cells) (λ (x : ℕ × X). pos x.0) xs has.are (keyed_if_rises xs has.rise) (at_end db) in
+      let source = last_table db tree (stored cells) (λ (x : ℕ × X). id_int x.0) xs has.are (keyed_if_rises xs has.rise) (at_end db) in
       sym (map-id rows) ∙ answer_by_keys (rows_query tree where_ project) db params source p tests (λ r. r) show shows refl refl (λ a b. then-Equal _ ∙ value_cmp-Int _ _) rows got
 
   pub reads_rows : (sql : List ℕ) (names : List (List ℕ)) (real : (db : Trees) → overlay db [] tree ≡ db tree) (old new : State) (rows : List Row) (xs : Numbered X)

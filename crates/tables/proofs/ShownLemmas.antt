@@ -12,17 +12,21 @@ use Rattle.sqlite.specs.Term.{Term}
 use Rattle.sqlite_sql.specs.Term.{eval_all, holds}
 use Rattle.sqlite_keyed.proofs.ListLemmas.{map-map, map_same, map_back, filter-map, slice_get-filter}
 use Rattle.tables.specs.Others.{IsArchiveSchema, Others, with_others}
-use Rattle.tables.specs.Rows.{whole, Numbered, HasRows, stored, row_of, rows_of}
+use Rattle.tables.specs.Rows.{id_cell, Numbered, HasRows, stored, row_of, rows_of}
 use Rattle.tables.specs.Reading.{IsRead, IsReadFirst}
+use Rattle.tables.proofs.EqualLemmas.{id_back}
 use Rattle.tables.proofs.SelectLemmas.{rows_query, reads_rows}
 
 -- a row of a table with an id, as SELECT shows it: the id is the rowid
 abbrev pub with_id : ℕ → Row → Row
 with_id id [] = []
-with_id id (_ ∷ rest) = whole id ∷ rest
+with_id id (_ ∷ rest) = id_cell id ∷ rest
 
 abbrev pub shown : {X : Type 0} → (X → Row) → ℕ × X → Row
-shown cells x = whole x.0 ∷ with_id x.0 (cells x.1)
+shown cells x = id_cell x.0 ∷ with_id x.0 (cells x.1)
+
+pub shown_back : {X : Type 0} (cells : X → Row) (read : Row → X) → ((x : ℕ × X) → read (shown cells x) ≡ x.1) → (x : ℕ × X) → row_of read (shown cells x) ≡ x
+shown_back cells read back x = λ i. (id_back x.0 i, back x i)
 
 -- what a query on one table means, and what it shows of a row
 pub record Shows {X : Type 0} (cells : X → Row) (tree : ℕ) (where_ project : List Term) (params : Row) (p : ℕ × X → Bool) (show : ℕ × X → Row) (sql : List ℕ) : Type 0 where
@@ -36,11 +40,11 @@ pub record Shows {X : Type 0} (cells : X → Row) (tree : ℕ) (where_ project :
 
 module _ {X : Type 0} (cells : X → Row) (tree : ℕ) (where_ project : List Term) (params : Row) (sql : List ℕ) (old new : State) (xs : Numbered X)
     (schema : IsArchiveSchema old.now.schema) (has : HasRows cells xs (old.now.trees tree)) where
-  module _ (p : ℕ × X → Bool) (read : Row → X) (back : (x : ℕ × X) → row_of read (shown cells x) ≡ x) (q : Shows cells tree where_ project params p (shown cells) sql) where
+  module _ (p : ℕ × X → Bool) (read : Row → X) (back : (x : ℕ × X) → read (shown cells x) ≡ x.1) (q : Shows cells tree where_ project params p (shown cells) sql) where
     pub reads_shown : (all : List (ℕ × X)) → IsRead (row_of read) sql params old new all → (all ≡ filter p xs) × IsUnchanged old new
     reads_shown all h =
         let rows = reads_rows cells tree where_ project params p (shown cells) q.tests q.shows sql q.names q.real old new h.rows xs q.is q.plain q.unlisted schema has h.shown in
-        (h.are ∙ ap (map (row_of read)) rows ∙ map_back (shown cells) (row_of read) back (filter p xs), h.same)
+        (h.are ∙ ap (map (row_of read)) rows ∙ map_back (shown cells) (row_of read) (shown_back cells read back) (filter p xs), h.same)
 
     pub first_shown : (found : Option (ℕ × X)) → IsReadFirst (row_of read) sql params old new found → (found ≡ find p xs) × IsUnchanged old new
     first_shown found h =

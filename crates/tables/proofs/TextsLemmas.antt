@@ -6,7 +6,7 @@ use Rattle.sqlite.specs.Cast.{cast_row}
 use Rattle.sqlite.specs.declared.error.Error.{Error}
 use Rattle.sqlite.specs.State.{State, ExecutesInside, Shown, IsUnchanged}
 use Rattle.tables.specs.Schema.{texts_table}
-use Rattle.tables.specs.Rows.{whole, Tables, Holds, Changes, with_text, text_cells, text_of, stored, rows_of, HasRows, Numbered}
+use Rattle.tables.specs.Rows.{id_cell, id_int, Tables, Holds, Changes, with_text, text_cells, text_of, stored, rows_of, HasRows, Numbered}
 use Rattle.tables.specs.Texts.{has_path, with_new_text, without_texts}
 use Rattle.tables.specs.Reading.{IsReadFirst}
 use Rattle.tables.specs.declared.rows.TextRow.{TextRow}
@@ -53,10 +53,10 @@ text_answer old new t path found was h =
 
 -- the row that an update makes of a row
 abbrev updated : List ℕ → ℕ × TextRow → Row
-updated body x = whole x.0 ∷ whole x.0 ∷ Text x.1.path ∷ Blob body ∷ []
+updated body x = id_cell x.0 ∷ id_cell x.0 ∷ Text x.1.path ∷ Blob body ∷ []
 
 updated_cast : (body : List ℕ) (x : ℕ × TextRow) → cast_row texts_table (drop 1 (updated body x)) ≡ stored text_cells (x.0, record x.1 { body = body })
-updated_cast body x = rw (cast_int (pos x.0))
+updated_cast body x = rw (cast_int (id_int x.0))
 
 pub changes_update_text : (old new : State) (path : List ℕ) (body : List ℕ) (r : Result ℕ Error) → ExecutesInside 0 UPDATE_TEXT.now (Text path ∷ Blob body ∷ []) old new r
     → OnOk r (Changes old new (with_new_text path body))
@@ -76,7 +76,7 @@ pub removes_texts : (old new : State) (r : Result ℕ Error) → ExecutesInside 
 removes_texts old new (Ok count) h = record {
   held = λ t was.
       let did = deletes DELETE_TEXTS.now 9 _ delete_texts_plain texts_table (λ _. refl) (lit≤ tt) delete_texts_is old new [] count was.schema h.0 in
-      let now = deletes_rows text_cells 19 [] delete_texts_columns [] (λ _. true) (λ x. whole x.0 ∷ []) (λ _. refl) (λ _. refl) (λ _. refl) (λ _. refl)
+      let now = deletes_rows text_cells 19 [] delete_texts_columns [] (λ _. true) (λ x. id_cell x.0 ∷ []) (λ _. refl) (λ _. refl) (λ _. refl) (λ _. refl)
       old new t.texts was.rows.texts did.0 did.1 did.2 in
       let none = subst (λ (rows : Numbered TextRow). HasRows text_cells rows (new.now.trees 19)) (none_left t.texts) now in
       record { schema = did.2.schema_is; rows = with_texts old.now.trees new.now.trees t was.rows [] none did.2.others };

@@ -32,7 +32,7 @@ use Rattle.tables.specs.Schema.{archive_schema}
 use Rattle.tables.specs.Others.{IsArchiveSchema, Others, last_tree, others_in, with_others}
 use Rattle.tables.proofs.CalmLemmas.{calm}
 use Rattle.tables.proofs.OtherLemmas.{own_tables, stays}
-use Rattle.tables.specs.Rows.{Numbered, HasRows, stored, changed, without}
+use Rattle.tables.specs.Rows.{id_int, Numbered, HasRows, stored, changed, without}
 use Rattle.tables.proofs.InsertLemmas.{went, same_value}
 use Rattle.tables.proofs.SelectLemmas.{keyed_if_rises}
 use Rattle.tables.proofs.DeleteLemmas.{deleted}
@@ -127,7 +127,7 @@ numbered_given rows (n ∷ news) = ap (λ l. n ∷ l) (numbered_given (put_row n
 module _ {X : Type 0} (cells : X → Row) (tree : ℕ) (where_ project : List Term) (params : Row) (p : ℕ × X → Bool) (show : ℕ × X → Row)
     (tests : (x : ℕ × X) → list_all (holds (params ∷ stored cells x ∷ [])) where_ ≡ p x) (shows : (x : ℕ × X) → eval_all project (params ∷ stored cells x ∷ []) ≡ show x) where
   abbrev key : ℕ × X → ℤ
-  key x = pos x.0
+  key x = id_int x.0
 
   -- the query finds the rows that pass, in some order
   found_are : (db : Trees) (xs : Numbered X) → HasRows cells xs (db tree) → (found : List Row) → IsAnswer (edit_query tree where_ project) db params found → IsImage show (filter p xs) found
@@ -142,7 +142,7 @@ module _ {X : Type 0} (cells : X → Row) (tree : ℕ) (where_ project : List Te
       map-map (λ (o : Row × Row). o.1) (λ x. output q (env x)) (filter p xs) ∙ map_same _ show shows (filter p xs) in
       image_of show (filter p xs) found (subst₂ IsPermutation all (sym answer.shown) shown)
 
-  module _ (names : (x : ℕ × X) → id_in (rowid (show x)) ≡ pos x.0) (real : (db : Trees) → overlay db [] tree ≡ db tree) (old new : State) (xs : Numbered X) (has : HasRows cells xs (old.now.trees tree))
+  module _ (names : (x : ℕ × X) → id_in (rowid (show x)) ≡ id_int x.0) (real : (db : Trees) → overlay db [] tree ≡ db tree) (old new : State) (xs : Numbered X) (has : HasRows cells xs (old.now.trees tree))
       (found : List Row) (answer : IsAnswer (edit_query tree where_ project) (overlay old.now.trees []) params found) where
     abbrev keyed : IsKeyedBy key xs
     keyed = keyed_if_rises xs has.rise

@@ -1,5 +1,5 @@
 -- What the tables of an archive hold, row by row.
-use Rattle.std.specs.Prelude.{◌≡◌, ◌⊎◌, true, not, ◌==◌, ℕ, ◌+◌, ◌<◌, pos, Bool, if◌then◌else◌, List, [], ◌∷◌, ◌++◌, map, fold, Option, Some, None, IsTrue}
+use Rattle.std.specs.Prelude.{◌≡◌, ◌⊎◌, true, not, ◌==◌, ℕ, ℤ, ◌+◌, ◌<◌, pos, unsigned_abs, ◌+ℤ◌, ◌-ℤ◌, Bool, if◌then◌else◌, List, [], ◌∷◌, ◌++◌, map, fold, Option, Some, None, IsTrue}
 use Rattle.sqlite.specs.declared.types.Value.TheVariants.{Null, Int, Text, Blob}
 use Rattle.sqlite.specs.declared.types.Value.{Value}
 use Rattle.sqlite.specs.Order.{Row, column, bytes}
@@ -28,6 +28,14 @@ use Rattle.tables.specs.Others.{IsArchiveSchema}
 abbrev pub whole : ℕ → Value
 whole n = Int (pos n)
 
+-- The integer of an id: SQLite's integers as numbers from 0 on, so that their order is that of the numbers.
+abbrev pub id_int : ℕ → ℤ
+id_int n = pos n -ℤ pos 9223372036854775808
+
+-- an id, a rowid or a reference to one
+abbrev pub id_cell : ℕ → Value
+id_cell n = Int (id_int n)
+
 abbrev pub flag : Bool → Value
 flag b = Int (if b then pos 1 else pos 0)
 
@@ -42,25 +50,25 @@ abbrev pub body_cells : BodyRow → Row
 body_cells b = Null ∷ or_null (λ p. whole p.size) b.print ∷ or_null (λ p. Blob p.md5) b.print ∷ or_null (λ p. Blob p.sha1) b.print ∷ or_null (λ p. Blob p.sha256) b.print ∷ []
 
 abbrev pub piece_cells : Piece → Row
-piece_cells p = whole p.body ∷ whole p.number ∷ Blob p.bytes ∷ []
+piece_cells p = id_cell p.body ∷ whole p.number ∷ Blob p.bytes ∷ []
 
 abbrev pub arrival_cells : ArrivalRow → Row
-arrival_cells a = Null ∷ Text a.name ∷ whole a.body ∷ whole a.moment ∷ []
+arrival_cells a = Null ∷ Text a.name ∷ id_cell a.body ∷ whole a.moment ∷ []
 
 abbrev pub upload_cells : UploadRow → Row
 upload_cells u = Null ∷ Text u.name ∷ (print_cells u.print ++ or_null whole u.place ∷ or_null whole u.verdict ∷ [])
 
 abbrev pub want_cells : Want → Row
-want_cells w = whole w.upload ∷ Text w.name ∷ (print_cells w.print ++ flag w.here ∷ [])
+want_cells w = id_cell w.upload ∷ Text w.name ∷ (print_cells w.print ++ flag w.here ∷ [])
 
 abbrev pub item_cells : ItemRow → Row
 item_cells i = Null ∷ Text i.suite ∷ whole i.kind ∷ Text i.«package» ∷ Text i.architecture ∷ Text i.version ∷ Text i.component ∷ Text i.source ∷ Blob i.paragraph ∷ []
 
 abbrev pub ref_cells : Ref → Row
-ref_cells r = whole r.item ∷ whole r.number ∷ Text r.path ∷ print_cells r.print
+ref_cells r = id_cell r.item ∷ whole r.number ∷ Text r.path ∷ print_cells r.print
 
 abbrev pub file_cells : File → Row
-file_cells f = Text f.path ∷ whole f.body ∷ []
+file_cells f = Text f.path ∷ id_cell f.body ∷ []
 
 abbrev pub text_cells : TextRow → Row
 text_cells t = Text t.path ∷ Blob t.body ∷ []
@@ -76,7 +84,7 @@ Numbered X = List (ℕ × X)
 
 -- a row as a table stores it: its rowid, and then its columns
 abbrev pub stored : {X : Type 0} → (X → Row) → ℕ × X → Row
-stored cells x = whole x.0 ∷ cells x.1
+stored cells x = id_cell x.0 ∷ cells x.1
 
 -- the rows without their rowids
 abbrev pub rows_of : {X : Type 0} → Numbered X → List X
@@ -86,12 +94,16 @@ rows_of = map (λ x. x.1)
 abbrev pub Rises : {X : Type 0} → Numbered X → Type 0
 Rises = IsAscending (λ a b. a.0 < b.0)
 
--- the rowid that the next row gets: one above the last, or 1
+-- the number of the rowid 1, which the first row of a table gets
+abbrev pub first_number : ℕ
+first_number = 9223372036854775809
+
+-- the number that the next row gets: one above the last, or the first
 abbrev pub next_from : {X : Type 0} → ℕ → Numbered X → ℕ
 next_from = fold (λ _ r. r.0 + 1)
 
 abbrev pub next_in : {X : Type 0} → Numbered X → ℕ
-next_in = next_from 1
+next_in = next_from first_number
 
 abbrev pub added : {X : Type 0} → Numbered X → X → Numbered X
 added rows x = rows ++ (next_in rows, x) ∷ []
@@ -164,6 +176,14 @@ abbrev pub nat_of : Value → ℕ
 nat_of (Int (pos n)) = n
 nat_of _ = 0
 
+-- the number of an id
+abbrev pub id_nat : ℤ → ℕ
+id_nat z = unsigned_abs (z +ℤ pos 9223372036854775808)
+
+abbrev pub id_of : Value → ℕ
+id_of (Int z) = id_nat z
+id_of _ = 0
+
 abbrev pub some_nat : Value → Option ℕ
 some_nat (Int (pos n)) = Some n
 some_nat _ = None
@@ -177,7 +197,7 @@ some_print row at None = None
 some_print row at (Some n) = Some (print_at row at)
 
 abbrev pub row_of : {X : Type 0} → (Row → X) → Row → ℕ × X
-row_of read row = (nat_of (column row 0), read row)
+row_of read row = (id_of (column row 0), read row)
 
 abbrev pub meta_of : Row → Meta
 meta_of row = record { version = nat_of (column row 1); configuration = bytes (column row 2) }
@@ -186,16 +206,16 @@ abbrev pub body_of : Row → BodyRow
 body_of row = record { print = some_print row 2 (some_nat (column row 2)) }
 
 abbrev pub piece_of : Row → Piece
-piece_of row = record { body = nat_of (column row 1); number = nat_of (column row 2); bytes = bytes (column row 3) }
+piece_of row = record { body = id_of (column row 1); number = nat_of (column row 2); bytes = bytes (column row 3) }
 
 abbrev pub arrival_of : Row → ArrivalRow
-arrival_of row = record { name = bytes (column row 2); body = nat_of (column row 3); moment = nat_of (column row 4) }
+arrival_of row = record { name = bytes (column row 2); body = id_of (column row 3); moment = nat_of (column row 4) }
 
 abbrev pub upload_of : Row → UploadRow
 upload_of row = record { name = bytes (column row 2); print = print_at row 3; place = some_nat (column row 7); verdict = some_nat (column row 8) }
 
 abbrev pub want_of : Row → Want
-want_of row = record { upload = nat_of (column row 1); name = bytes (column row 2); print = print_at row 3; here = not (nat_of (column row 7) == 0) }
+want_of row = record { upload = id_of (column row 1); name = bytes (column row 2); print = print_at row 3; here = not (nat_of (column row 7) == 0) }
 
 abbrev pub item_of : Row → ItemRow
 item_of row = record {
@@ -210,10 +230,10 @@ item_of row = record {
 }
 
 abbrev pub ref_of : Row → Ref
-ref_of row = record { item = nat_of (column row 1); number = nat_of (column row 2); path = bytes (column row 3); print = print_at row 4 }
+ref_of row = record { item = id_of (column row 1); number = nat_of (column row 2); path = bytes (column row 3); print = print_at row 4 }
 
 abbrev pub file_of : Row → File
-file_of row = record { path = bytes (column row 1); body = nat_of (column row 2) }
+file_of row = record { path = bytes (column row 1); body = id_of (column row 2) }
 
 abbrev pub text_of : Row → TextRow
 text_of row = record { path = bytes (column row 1); body = bytes (column row 2) }

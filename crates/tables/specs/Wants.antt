@@ -1,5 +1,5 @@
 -- What the statements on wants speak of.
-use Rattle.std.specs.Prelude.{ℕ, ℤ, pos, negsuc, ◌≤◌, Bool, true, false, ◌&&◌, List, Option, None, Some, IfSome, MatchOption, IsTrue, nat_eq, nat_lt, bytes_eq}
+use Rattle.std.specs.Prelude.{ℕ, ◌≤◌, Bool, true, false, ◌&&◌, List, Option, None, Some, IfSome, MatchOption, IsTrue, nat_eq, nat_lt, bytes_eq}
 use Rattle.std.specs.List.{list_any}
 use Rattle.sums.specs.declared.print.Print.{Print}
 use Rattle.sums.specs.Prints.{same_print}
@@ -30,11 +30,6 @@ without_wants upload t = record t { wants = without (λ x. is_wanted_by upload x
 abbrev pub is_behind : Option ℕ → ℕ → Bool
 is_behind None id = true
 is_behind (Some after) id = nat_lt after id
-
--- the integer below exactly these numbers
-abbrev pub bound_below : Option ℕ → ℤ
-bound_below None = negsuc 0
-bound_below (Some after) = pos after
 
 -- the upload has entries, and its number stands behind this one
 abbrev pub wants_behind : Option ℕ → List Want → ℕ → Bool

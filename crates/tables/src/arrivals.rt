@@ -6,9 +6,9 @@ ghost use Rattle.tables.specs.Arrivals.{is_arrival, with_moment, without_arrival
 ghost use Rattle.tables.specs.Calls.{CommitsNothing, CommitsNothingOfOurs, FailsInside, GoesOnInside, IsSame, KeepsCommitted, LookFails, Looks, ReadFails, Reads, Writes, WritesAnd};
 
 use crate::cells::row_number;
-use crate::number::whole;
+use crate::number::{as_id, whole};
 use crate::read::{
-    FromRow, select, select_first, select_first_inside, select_inside, text_at, whole_at,
+    FromRow, id_at, select, select_first, select_first_inside, select_inside, text_at, whole_at,
 };
 use crate::rows::ArrivalRow;
 use sqlite::{Alter, Connection, Error, Row, Transaction, params};
@@ -33,7 +33,7 @@ impl FromRow for ArrivalRow {
     fn from_row(row: &Row) -> Result<ArrivalRow, Error> {
         Ok(ArrivalRow {
             name: text_at(row, 2)?,
-            body: whole_at(row, 3)?,
+            body: id_at(row, 3)?,
             moment: whole_at(row, 4)?,
         })
     }
@@ -51,7 +51,7 @@ pub fn insert_arrival<S: Alter>(
     ensures err { FailsInside S.Store tx.old tx.new result }
     ensures survives { CommitsNothing S.Store tx.old tx.new }
 {
-    let body = whole(body)?;
+    let body = as_id(body);
     let moment = whole(moment)?;
     tx.execute(INSERT_ARRIVAL, params![name, body, moment])?;
     Ok(row_number(tx.last_insert_rowid()))
@@ -71,7 +71,7 @@ pub fn arrival_of<S: Alter>(
     ensures kept { KeepsCommitted S.Store tx.old tx.new result }
     ensures survives { CommitsNothing S.Store tx.old tx.new }
 {
-    let body = whole(body)?;
+    let body = as_id(body);
     select_first_inside(alloc, tx, SELECT_ARRIVAL, params![name, body])
 }
 
@@ -87,7 +87,7 @@ pub fn arrival_at<S: Alter>(
     ensures err { ReadFails S.Store conn.old conn.new result }
     ensures survives { CommitsNothingOfOurs S.Store conn.old conn.new }
 {
-    let body = whole(body)?;
+    let body = as_id(body);
     select_first(alloc, conn, SELECT_ARRIVAL, params![name, body])
 }
 
@@ -145,7 +145,7 @@ pub fn update_moment<S: Alter>(
     ensures err { FailsInside S.Store tx.old tx.new result }
     ensures survives { CommitsNothing S.Store tx.old tx.new }
 {
-    let id = whole(id)?;
+    let id = as_id(id);
     let moment = whole(moment)?;
     tx.execute(UPDATE_MOMENT, params![id, moment])?;
     Ok(())
@@ -158,7 +158,7 @@ pub fn delete_arrival<S: Alter>(tx: &mut Transaction<'_, S>, id: u64) -> Result<
     ensures err { FailsInside S.Store tx.old tx.new result }
     ensures survives { CommitsNothing S.Store tx.old tx.new }
 {
-    let id = whole(id)?;
+    let id = as_id(id);
     tx.execute(DELETE_ARRIVAL, params![id])?;
     Ok(())
 }

@@ -6,7 +6,7 @@ ghost use Rattle.tables.specs.Bodies.{body_with, with_print, without_body};
 ghost use Rattle.tables.specs.Calls.{CommitsNothing, CommitsNothingOfOurs, FailsInside, GoesOnInside, IsSame, KeepsCommitted, LookFails, Looks, ReadFails, Reads, Writes, WritesAnd};
 
 use crate::cells::{row_number, some_print_at};
-use crate::number::whole;
+use crate::number::{as_id, whole};
 use crate::read::{FromRow, select_first, select_first_inside, select_inside};
 use crate::rows::BodyRow;
 use sqlite::{Alter, Connection, Error, Row, Transaction, params};
@@ -74,7 +74,7 @@ pub fn set_print<S: Alter>(tx: &mut Transaction<'_, S>, id: u64, print: &Print) 
     ensures err { FailsInside S.Store tx.old tx.new result }
     ensures survives { CommitsNothing S.Store tx.old tx.new }
 {
-    let id = whole(id)?;
+    let id = as_id(id);
     let size = whole(print.size)?;
     let md5: &[u8] = &print.md5;
     let sha1: &[u8] = &print.sha1;
@@ -132,7 +132,7 @@ pub fn body_numbered<S: Alter>(
     ensures err { ReadFails S.Store conn.old conn.new result }
     ensures survives { CommitsNothingOfOurs S.Store conn.old conn.new }
 {
-    let id = whole(id)?;
+    let id = as_id(id);
     select_first(alloc, conn, SELECT_NUMBERED, params![id])
 }
 
@@ -149,7 +149,7 @@ pub fn body_numbered_inside<S: Alter>(
     ensures kept { KeepsCommitted S.Store tx.old tx.new result }
     ensures survives { CommitsNothing S.Store tx.old tx.new }
 {
-    let id = whole(id)?;
+    let id = as_id(id);
     select_first_inside(alloc, tx, SELECT_NUMBERED, params![id])
 }
 
@@ -175,7 +175,7 @@ pub fn delete_body<S: Alter>(tx: &mut Transaction<'_, S>, id: u64) -> Result<(),
     ensures err { FailsInside S.Store tx.old tx.new result }
     ensures survives { CommitsNothing S.Store tx.old tx.new }
 {
-    let id = whole(id)?;
+    let id = as_id(id);
     tx.execute(DELETE_BODY, params![id])?;
     Ok(())
 }

@@ -1,29 +1,29 @@
 //! Numbers that may be absent, flags and prints, in the columns of an answer.
 
-ghost use Rattle.std.specs.Prelude.{◌≡◌, ℕ, pos, ◌<◌, ◌+◌, ◌^◌, ◌==◌, not, length, IfOk, IfSome};
+ghost use Rattle.std.specs.Prelude.{◌≡◌, ◌<◌, ◌+◌, ◌^◌, ◌==◌, not, length, IfOk, IfSome};
 ghost use Rattle.sqlite.specs.Order.{column, bytes};
-ghost use Rattle.tables.specs.Rows.{nat_of, some_nat, some_print, print_at};
+ghost use Rattle.tables.specs.Rows.{id_nat, id_of, nat_of, some_nat, some_print, print_at};
 
-use crate::read::{FromRow, whole_at};
+use crate::read::{FromRow, id_at, whole_at};
 use sqlite::types::Type;
 use sqlite::{Error, Row};
 use std::alloc::Global;
 use sums::Print;
 
-/// The number in the first column, where the rowid stands.
+/// The number of a row in the first column.
 impl FromRow for u64 {
-    ghost of_row = { λ row. nat_of (column row 0) };
+    ghost of_row = { λ row. id_of (column row 0) };
 
     fn from_row(row: &Row) -> Result<u64, Error> {
-        whole_at(row, 0)
+        id_at(row, 0)
     }
 }
 
 /// The number of a row, of its rowid.
 pub(crate) fn row_number(rowid: i64) -> u64
-    ensures { (n : ℕ) → rowid ≡ pos n → result ≡ n }
+    ensures { result ≡ id_nat rowid }
 {
-    rowid.unsigned_abs()
+    rowid.abs_diff(i64::MIN)
 }
 
 /// The number in a column that may be NULL.

@@ -5,8 +5,8 @@ ghost use Rattle.tables.specs.Rows.{with_file, file_of, rows_of};
 ghost use Rattle.tables.specs.Files.{is_file_at, without_file};
 ghost use Rattle.tables.specs.Calls.{CommitsNothing, CommitsNothingOfOurs, FailsInside, GoesOnInside, IsSame, KeepsCommitted, LookFails, Looks, ReadFails, Reads, Writes};
 
-use crate::number::whole;
-use crate::read::{FromRow, select_first, select_inside, text_at, whole_at};
+use crate::number::as_id;
+use crate::read::{FromRow, id_at, select_first, select_inside, text_at};
 use crate::rows::File;
 use sqlite::{Alter, Connection, Error, Row, Transaction, params};
 use std::alloc::Global;
@@ -25,7 +25,7 @@ impl FromRow for File {
     fn from_row(row: &Row) -> Result<File, Error> {
         Ok(File {
             path: text_at(row, 1)?,
-            body: whole_at(row, 2)?,
+            body: id_at(row, 2)?,
         })
     }
 }
@@ -41,7 +41,7 @@ pub fn insert_file<S: Alter>(
     ensures err { FailsInside S.Store tx.old tx.new result }
     ensures survives { CommitsNothing S.Store tx.old tx.new }
 {
-    let body = whole(body)?;
+    let body = as_id(body);
     tx.execute(INSERT_FILE, params![path, body])?;
     Ok(())
 }

@@ -6,7 +6,7 @@ ghost use Rattle.tables.specs.Items.{is_item, without_item};
 ghost use Rattle.tables.specs.Calls.{CommitsNothing, CommitsNothingOfOurs, FailsInside, GoesOnInside, IsSame, KeepsCommitted, LookFails, Looks, ReadFails, Reads, Writes, WritesAnd};
 
 use crate::cells::row_number;
-use crate::number::whole;
+use crate::number::{as_id, whole};
 use crate::read::{FromRow, bytes_at, select, select_first_inside, text_at, whole_at};
 use crate::rows::ItemRow;
 use sqlite::{Alter, Connection, Error, Row, Transaction, params};
@@ -104,7 +104,7 @@ pub fn delete_item<S: Alter>(tx: &mut Transaction<'_, S>, id: u64) -> Result<(),
     ensures err { FailsInside S.Store tx.old tx.new result }
     ensures survives { CommitsNothing S.Store tx.old tx.new }
 {
-    let id = whole(id)?;
+    let id = as_id(id);
     tx.execute(DELETE_ITEM, params![id])?;
     Ok(())
 }

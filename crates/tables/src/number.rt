@@ -1,10 +1,11 @@
 //! Numbers as the tables take them.
 //!
-//! Numbers in Rust are `u64`, and SQLite's are signed: one from 2^63 on is refused as too big.
+//! Numbers in Rust are `u64`, and SQLite's are signed: a size, a moment or a place from 2^63 on is refused as too big. The number of a row
+//! may be any integer of SQLite. So it is counted from the least of these on: the id 1 is the number 2^63 + 1.
 
 ghost use Rattle.std.specs.Prelude.{◌≡◌, ℕ, pos, unsigned_abs, IfOk};
 ghost use Rattle.sqlite_value.specs.declared.value.Value.TheVariants.{Int};
-ghost use Rattle.tables.specs.Wants.{bound_below};
+ghost use Rattle.tables.specs.Rows.{id_cell, id_int, id_nat};
 
 use sqlite::types::{ToSql, ValueRef};
 use sqlite::{Error, ErrorCode};
@@ -42,31 +43,33 @@ impl<'a> ToSql<'a> for Number {
     }
 }
 
-/// A number below all that stand behind another, or below all where there is none.
+/// The number of a row, as its id, its rowid and the references to it hold it: counted from the least integer of SQLite on.
 #[derive(Drop)]
-pub(crate) struct Bound {
-    after: Option<Number>,
+pub(crate) struct Id {
+    n: i64,
 }
 
-/// The bound below the numbers that stand behind this one.
-pub(crate) fn below(after: Option<u64>) -> Result<Bound, Error>
-    ensures { IfOk result (λ bound. bound.after ≡ after) }
+impl Model for Id {
+    ghost Value = { ℕ };
+
+    ghost view = { λ w. id_nat w.n };
+
+    ghost invariant = { λ w. w.n ≡ id_int (id_nat w.n) };
+}
+
+/// The number as that of a row. Each is one.
+pub(crate) fn as_id(n: u64) -> Id
+    ensures { result ≡ n }
 {
-    match after {
-        Some(n) => Ok(Bound {
-            after: Some(whole(n)?),
-        }),
-        None => Ok(Bound { after: None }),
+    Id {
+        n: i64::MIN.saturating_add_unsigned(n),
     }
 }
 
-impl<'a> ToSql<'a> for Bound {
-    ghost to_sql = { λ bound. Int (bound_below bound.after) };
+impl<'a> ToSql<'a> for Id {
+    ghost to_sql = { id_cell };
 
     fn to_sql(self) -> ValueRef<'a> {
-        match self.after {
-            Some(n) => n.to_sql(),
-            None => ValueRef::Int(-1),
-        }
+        ValueRef::Int(self.n)
     }
 }

@@ -5,8 +5,8 @@ ghost use Rattle.tables.specs.Rows.{with_piece, piece_of, rows_of};
 ghost use Rattle.tables.specs.Pieces.{is_of, is_piece, without_pieces};
 ghost use Rattle.tables.specs.Calls.{CommitsNothing, CommitsNothingOfOurs, FailsInside, GoesOnInside, IsSame, KeepsCommitted, LookFails, Looks, ReadFails, Reads, Writes};
 
-use crate::number::whole;
-use crate::read::{FromRow, bytes_at, select, select_first_inside, select_inside, whole_at};
+use crate::number::{as_id, whole};
+use crate::read::{FromRow, bytes_at, id_at, select, select_first_inside, select_inside, whole_at};
 use crate::rows::Piece;
 use sqlite::{Alter, Connection, Error, Row, Transaction, params};
 use std::alloc::Global;
@@ -26,7 +26,7 @@ impl FromRow for Piece {
 
     fn from_row(row: &Row) -> Result<Piece, Error> {
         Ok(Piece {
-            body: whole_at(row, 1)?,
+            body: id_at(row, 1)?,
             number: whole_at(row, 2)?,
             bytes: bytes_at(row, 3)?,
         })
@@ -45,7 +45,7 @@ pub fn insert_piece<S: Alter>(
     ensures err { FailsInside S.Store tx.old tx.new result }
     ensures survives { CommitsNothing S.Store tx.old tx.new }
 {
-    let body = whole(body)?;
+    let body = as_id(body);
     let number = whole(number)?;
     tx.execute(INSERT_PIECE, params![body, number, bytes])?;
     Ok(())
@@ -62,7 +62,7 @@ pub fn pieces_of<S: Alter>(
     ensures err { ReadFails S.Store conn.old conn.new result }
     ensures survives { CommitsNothingOfOurs S.Store conn.old conn.new }
 {
-    let body = whole(body)?;
+    let body = as_id(body);
     select(alloc, conn, SELECT_PIECES_OF, params![body])
 }
 
@@ -79,7 +79,7 @@ pub fn pieces_of_inside<S: Alter>(
     ensures kept { KeepsCommitted S.Store tx.old tx.new result }
     ensures survives { CommitsNothing S.Store tx.old tx.new }
 {
-    let body = whole(body)?;
+    let body = as_id(body);
     select_inside(alloc, tx, SELECT_PIECES_OF, params![body])
 }
 
@@ -97,7 +97,7 @@ pub fn piece_inside<S: Alter>(
     ensures kept { KeepsCommitted S.Store tx.old tx.new result }
     ensures survives { CommitsNothing S.Store tx.old tx.new }
 {
-    let body = whole(body)?;
+    let body = as_id(body);
     let number = whole(number)?;
     select_first_inside(alloc, tx, SELECT_PIECE, params![body, number])
 }
@@ -109,7 +109,7 @@ pub fn delete_pieces_of<S: Alter>(tx: &mut Transaction<'_, S>, body: u64) -> Res
     ensures err { FailsInside S.Store tx.old tx.new result }
     ensures survives { CommitsNothing S.Store tx.old tx.new }
 {
-    let body = whole(body)?;
+    let body = as_id(body);
     tx.execute(DELETE_PIECES, params![body])?;
     Ok(())
 }

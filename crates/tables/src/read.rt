@@ -6,10 +6,11 @@ ghost use Rattle.sqlite.specs.Order.{column, bytes};
 ghost use Rattle.sqlite.specs.State.{HasCleanDisk, Survives};
 ghost use Rattle.sqlite.specs.Values.{bound};
 ghost use Rattle.sqlite.specs.Held.{state};
-ghost use Rattle.tables.specs.Rows.{nat_of, Fails};
+ghost use Rattle.tables.specs.Rows.{id_of, nat_of, Fails};
 ghost use Rattle.tables.specs.Reading.{IsPlainIn, IsRead, IsReadFirst};
 ghost use Rattle.tables.specs.Calls.{CommitsNothing, GoesOnInside, IsSame, KeepsCommitted, OnCleanDisk};
 
+use crate::cells::row_number;
 use para::{Listed, Text};
 use sqlite::types::ValueRef;
 use sqlite::{Alter, Connection, Error, Row, Transaction};
@@ -44,6 +45,14 @@ pub(crate) fn whole_at(row: &Row, at: usize) -> Result<u64, Error>
     row.get(at)
 }
 
+/// The number of a row in a column, by its id.
+pub(crate) fn id_at(row: &Row, at: usize) -> Result<u64, Error>
+    ensures { IfOk result (λ n. n ≡ id_of (column row.now at)) }
+{
+    let id: i64 = row.get(at)?;
+    Ok(row_number(id))
+}
+
 /// A row with its rowid.
 impl<T: FromRow> FromRow for (u64, T) {
     ghost use Rattle.tables.specs.Rows.{row_of};
@@ -51,7 +60,7 @@ impl<T: FromRow> FromRow for (u64, T) {
     ghost of_row = { row_of T.FromRow.of_row };
 
     fn from_row(row: &Row) -> Result<(u64, T), Error> {
-        Ok((whole_at(row, 0)?, T::from_row(row)?))
+        Ok((id_at(row, 0)?, T::from_row(row)?))
     }
 }
 

@@ -6,8 +6,8 @@ ghost use Rattle.tables.specs.Refs.{is_ref_of, without_refs};
 ghost use Rattle.tables.specs.Calls.{CommitsNothing, CommitsNothingOfOurs, FailsInside, IsSame, ReadFails, Reads, Writes};
 
 use crate::cells::print_at;
-use crate::number::whole;
-use crate::read::{FromRow, select, text_at, whole_at};
+use crate::number::{as_id, whole};
+use crate::read::{FromRow, id_at, select, text_at, whole_at};
 use crate::rows::Ref;
 use sqlite::{Alter, Connection, Error, Row, Transaction, params};
 use std::alloc::Global;
@@ -25,7 +25,7 @@ impl FromRow for Ref {
 
     fn from_row(row: &Row) -> Result<Ref, Error> {
         Ok(Ref {
-            item: whole_at(row, 1)?,
+            item: id_at(row, 1)?,
             number: whole_at(row, 2)?,
             path: text_at(row, 3)?,
             print: print_at(row, 4)?,
@@ -40,7 +40,7 @@ pub fn insert_ref<S: Alter>(tx: &mut Transaction<'_, S>, reference: &Ref) -> Res
     ensures err { FailsInside S.Store tx.old tx.new result }
     ensures survives { CommitsNothing S.Store tx.old tx.new }
 {
-    let item = whole(reference.item)?;
+    let item = as_id(reference.item);
     let number = whole(reference.number)?;
     let path = reference.path.as_str();
     let size = whole(reference.print.size)?;
@@ -65,7 +65,7 @@ pub fn refs_of<S: Alter>(
     ensures err { ReadFails S.Store conn.old conn.new result }
     ensures survives { CommitsNothingOfOurs S.Store conn.old conn.new }
 {
-    let item = whole(item)?;
+    let item = as_id(item);
     select(alloc, conn, SELECT_REFS_OF, params![item])
 }
 
@@ -76,7 +76,7 @@ pub fn delete_refs<S: Alter>(tx: &mut Transaction<'_, S>, item: u64) -> Result<(
     ensures err { FailsInside S.Store tx.old tx.new result }
     ensures survives { CommitsNothing S.Store tx.old tx.new }
 {
-    let item = whole(item)?;
+    let item = as_id(item);
     tx.execute(DELETE_REFS, params![item])?;
     Ok(())
 }

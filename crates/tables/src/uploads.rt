@@ -6,7 +6,7 @@ ghost use Rattle.tables.specs.Uploads.{is_upload, with_verdict, without_upload};
 ghost use Rattle.tables.specs.Calls.{CommitsNothing, CommitsNothingOfOurs, FailsInside, GoesOnInside, IsSame, KeepsCommitted, LookFails, Looks, ReadFails, Reads, Writes, WritesAnd};
 
 use crate::cells::{print_at, row_number, some_whole_at};
-use crate::number::whole;
+use crate::number::{as_id, whole};
 use crate::read::{FromRow, select_first, select_first_inside, text_at};
 use crate::rows::UploadRow;
 use sqlite::{Alter, Connection, Error, Row, Transaction, params};
@@ -95,7 +95,7 @@ pub fn upload_numbered<S: Alter>(
     ensures err { ReadFails S.Store conn.old conn.new result }
     ensures survives { CommitsNothingOfOurs S.Store conn.old conn.new }
 {
-    let id = whole(id)?;
+    let id = as_id(id);
     select_first(alloc, conn, SELECT_NUMBERED, params![id])
 }
 
@@ -111,7 +111,7 @@ pub fn set_verdict<S: Alter>(
     ensures err { FailsInside S.Store tx.old tx.new result }
     ensures survives { CommitsNothing S.Store tx.old tx.new }
 {
-    let id = whole(id)?;
+    let id = as_id(id);
     let place = whole(place)?;
     let verdict = whole(verdict)?;
     tx.execute(UPDATE_VERDICT, params![id, place, verdict])?;
@@ -125,7 +125,7 @@ pub fn delete_upload<S: Alter>(tx: &mut Transaction<'_, S>, id: u64) -> Result<(
     ensures err { FailsInside S.Store tx.old tx.new result }
     ensures survives { CommitsNothing S.Store tx.old tx.new }
 {
-    let id = whole(id)?;
+    let id = as_id(id);
     tx.execute(DELETE_UPLOAD, params![id])?;
     Ok(())
 }

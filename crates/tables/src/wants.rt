@@ -13,8 +13,8 @@ ghost use Rattle.tables.specs.Wants.{IsNextWanting, is_wanted_by, with_away, wit
 ghost use Rattle.tables.specs.Calls.{CommitsNothing, CommitsNothingOfOurs, FailsInside, IsSame, ReadFails, Reads, Writes};
 
 use crate::cells::{flag_at, print_at};
-use crate::number::{below, whole};
-use crate::read::{FromRow, select, select_first, text_at, whole_at};
+use crate::number::{as_id, whole};
+use crate::read::{FromRow, id_at, select, select_first, text_at};
 use crate::rows::Want;
 use sqlite::{Alter, Connection, Error, Row, Transaction, params};
 use std::alloc::Global;
@@ -25,6 +25,8 @@ const INSERT_WANT: &str =
 
 const SELECT_WANTS_OF: &str =
     "SELECT rowid, upload, name, size, md5, sha1, sha256, here FROM wants WHERE upload = ?1 ORDER BY rowid";
+
+const SELECT_FIRST: &str = "SELECT upload FROM wants ORDER BY upload LIMIT 1";
 
 const SELECT_NEXT: &str = "SELECT upload FROM wants WHERE upload > ?1 ORDER BY upload LIMIT 1";
 
@@ -41,7 +43,7 @@ impl FromRow for Want {
 
     fn from_row(row: &Row) -> Result<Want, Error> {
         Ok(Want {
-            upload: whole_at(row, 1)?,
+            upload: id_at(row, 1)?,
             name: text_at(row, 2)?,
             print: print_at(row, 3)?,
             here: flag_at(row, 7)?,
@@ -62,7 +64,7 @@ pub fn insert_want<S: Alter>(
     ensures err { FailsInside S.Store tx.old tx.new result }
     ensures survives { CommitsNothing S.Store tx.old tx.new }
 {
-    let upload = whole(upload)?;
+    let upload = as_id(upload);
     let size = whole(print.size)?;
     let md5: &[u8] = &print.md5;
     let sha1: &[u8] = &print.sha1;
@@ -123,7 +125,7 @@ pub fn wants_of<S: Alter>(
     ensures err { ReadFails S.Store conn.old conn.new result }
     ensures survives { CommitsNothingOfOurs S.Store conn.old conn.new }
 {
-    let upload = whole(upload)?;
+    let upload = as_id(upload);
     select(alloc, conn, SELECT_WANTS_OF, params![upload])
 }
 
@@ -138,8 +140,13 @@ pub fn next_wanting<S: Alter>(
     ensures err { ReadFails S.Store conn.old conn.new result }
     ensures survives { CommitsNothingOfOurs S.Store conn.old conn.new }
 {
-    let below = below(after)?;
-    select_first(alloc, conn, SELECT_NEXT, params![below])
+    match after {
+        Some(after) => {
+            let after = as_id(after);
+            select_first(alloc, conn, SELECT_NEXT, params![after])
+        }
+        None => select_first(alloc, conn, SELECT_FIRST, &[]),
+    }
 }
 
 /// Removes the entries of an upload.
@@ -149,7 +156,7 @@ pub fn delete_wants<S: Alter>(tx: &mut Transaction<'_, S>, upload: u64) -> Resul
     ensures err { FailsInside S.Store tx.old tx.new result }
     ensures survives { CommitsNothing S.Store tx.old tx.new }
 {
-    let upload = whole(upload)?;
+    let upload = as_id(upload);
     tx.execute(DELETE_WANTS, params![upload])?;
     Ok(())
 }

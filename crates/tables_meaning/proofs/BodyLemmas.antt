@@ -19,7 +19,7 @@ use Rattle.keep.proofs.Finds.{is_some_of_find, none_of_map}
 use Rattle.keep.proofs.Prints.{same_print-Decides}
 use Rattle.tables.specs.Bodies.{body_with, has_print}
 use Rattle.tables.specs.Pieces.{is_of}
-use Rattle.tables.specs.Rows.{Tables, Numbered, Rises, added, next_in, rows_of, with_body, with_piece}
+use Rattle.tables.specs.Rows.{Tables, Numbered, Rises, added, first_number, next_in, rows_of, with_body, with_piece}
 use Rattle.tables.specs.declared.rows.ArrivalRow.{ArrivalRow}
 use Rattle.tables.specs.declared.rows.BodyRow.{BodyRow}
 use Rattle.tables.specs.declared.rows.File.{File}
@@ -95,7 +95,7 @@ none_kept p (x ∷ xs) h = rw (h x (here x xs)) (none_kept p xs (λ y c. h y (th
 
 -- the next number is above each
 pub is_below_next : {X : Type 0} (xs : Numbered X) → Rises xs → (x : ℕ × X) → Contains xs x → x.0 < next_in xs
-is_below_next xs up x h = All-contains (λ y. y.0 < next_in xs) xs x (All-from_recursion (λ y. y.0 < next_in xs) xs (below_next 1 xs up)) h
+is_below_next xs up x h = All-contains (λ y. y.0 < next_in xs) xs x (All-from_recursion (λ y. y.0 < next_in xs) xs (below_next first_number xs up)) h
 
 rising : {X : Type 0} (xs : Numbered X) → Rises xs → (i j : ℕ) (d : ℕ × X) → i < j → j < length xs → (get_or xs i d).0 < (get_or xs j d).0
 rising [] up i j d lt within = absurd (omega arith)

@@ -17,7 +17,7 @@ use Rattle.suites.specs.declared.key.ShelfKey.{ShelfKey}
 use Rattle.texts.specs.Indices.{PathText, all_texts}
 use Rattle.keep.specs.Book.{latest}
 use Rattle.keep.specs.Plain.{fresh_book}
-use Rattle.tables.specs.Rows.{Tables, Numbered, rows_of, added, next_in, no_rows, with_date, with_meta}
+use Rattle.tables.specs.Rows.{Tables, Numbered, first_number, rows_of, added, next_in, no_rows, with_date, with_meta}
 use Rattle.tables.specs.declared.rows.Date.{Date}
 use Rattle.tables.specs.declared.rows.TextRow.{TextRow}
 use Rattle.tables.specs.declared.rows.Meta.{Meta}
@@ -80,7 +80,7 @@ first_rows meta texts dates = record {
   dates = dates;
 }
 
-founded_are : (config : ConfigValue) (moment : ℕ) → founded config moment ≡ first_rows ((1, first_meta config) ∷ []) (first_texted config moment) (first_dated config moment)
+founded_are : (config : ConfigValue) (moment : ℕ) → founded config moment ≡ first_rows ((first_number, first_meta config) ∷ []) (first_texted config moment) (first_dated config moment)
 unfolding founded with_first_rows
 founded_are config moment =
     dates_are (map (first_date moment) config.suites) (with_texts (first_texts config moment) (with_meta (first_meta config) no_rows))
@@ -145,18 +145,18 @@ nothing_sound : AreSound empty
 nothing_sound = record { at_home = rw (entries-empty key_order shelf.Item) (All-nil IsAtHome); agreed = rw (entries-empty key_order shelf.Item) (λ path a b x y. absurd (omega (arith, x.1))) }
 
 first_kept : (config : ConfigValue) (moment : ℕ) → config_in config.text ≡ Ok config → moment ≤ latest
-    → IsBook (first_rows ((1, first_meta config) ∷ []) (first_texted config moment) (first_dated config moment)) config [] empty (first_dates config moment)
+    → IsBook (first_rows ((first_number, first_meta config) ∷ []) (first_texted config moment) (first_dated config moment)) config [] empty (first_dates config moment)
 first_kept config moment read early = record {
   meta = refl;
   read = read;
   sound = nothing_sound;
   told = told_empty config.suites;
   signed = All-nil _;
-  bodies = no_bodies config ((1, first_meta config) ∷ []) (first_texted config moment) (first_dated config moment);
-  arrivals = no_arrivals config ((1, first_meta config) ∷ []) (first_texted config moment) (first_dated config moment);
-  uploads = no_uploads config ((1, first_meta config) ∷ []) (first_texted config moment) (first_dated config moment);
-  items = no_items config ((1, first_meta config) ∷ []) (first_texted config moment) (first_dated config moment);
-  files = no_pool config ((1, first_meta config) ∷ []) (first_texted config moment) (first_dated config moment);
+  bodies = no_bodies config ((first_number, first_meta config) ∷ []) (first_texted config moment) (first_dated config moment);
+  arrivals = no_arrivals config ((first_number, first_meta config) ∷ []) (first_texted config moment) (first_dated config moment);
+  uploads = no_uploads config ((first_number, first_meta config) ∷ []) (first_texted config moment) (first_dated config moment);
+  items = no_items config ((first_number, first_meta config) ∷ []) (first_texted config moment) (first_dated config moment);
+  files = no_pool config ((first_number, first_meta config) ∷ []) (first_texted config moment) (first_dated config moment);
   texts =
       IsPermutation-same _ _
       (ap (map (λ x. (x.path, x.body))) (rows_all text_row (first_texts config moment) [])

@@ -6,7 +6,7 @@ use Rattle.std.proofs.lemmas.Bool.Decides.{same_from_decides}
 use Rattle.std.proofs.lemmas.List.Elements.{All-from_recursion, recursion_from_All}
 use Rattle.sqlite_trees.specs.Tree.{IsAscending}
 use Rattle.sqlite_keyed.proofs.ListLemmas.{all_map, all_unmap, all_weaker, ascending-map, ascending_from_map}
-use Rattle.tables.specs.Rows.{Numbered, Rises, next_from, next_in, rows_of}
+use Rattle.tables.specs.Rows.{first_number, Numbered, Rises, next_from, next_in, rows_of}
 use Rattle.tables.proofs.Pairwise.{ascending_from_pairs, pairs_from_ascending}
 use Rattle.tables.proofs.RowLemmas.{past}
 
@@ -149,4 +149,4 @@ below_next_from top (x ∷ xs) up = (past x.0 xs up.1 up.0, below_next_from (x.0
 
 -- each rowid is below the next one
 pub below_next : {X : Type 0} (xs : Numbered X) → Rises xs → AllByRecursion (λ x. x.0 < next_in xs) xs
-below_next xs up = below_next_from 1 xs up
+below_next xs up = below_next_from first_number xs up

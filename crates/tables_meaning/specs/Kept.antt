@@ -273,7 +273,7 @@ abbrev pub date_row : Suite × ℕ → Date
 date_row d = record { suite = d.0.codename; moment = d.1 }
 
 -- The rows are those of an archive of this configuration, with these judged uploads in order, this shown, and these dates. The
--- rows of texts and of dates may stand in any order.
+-- rows of texts, dates, pieces, references, waiting uploads and wants may stand in any order.
 -- The configuration is what its text spells, each item stands on its own shelf and is as its records tell it, and the judged
 -- uploads may have been delivered.
 pub record IsBook (t : Tables) (config : ConfigValue) (judged : List Judgement) (shown : ShelvesValue) (dates : List ℕ) : Type 0 where

@@ -15,7 +15,7 @@ use Rattle.sqlite_value.specs.Order.{value_cmp}
 use Rattle.sqlite_value.proofs.OrderLemmas.{value_cmp-Int}
 use Rattle.sqlite_keyed.proofs.KeyedLemmas.{lt_from_Less}
 use Rattle.sqlite_keyed.proofs.ListLemmas.{map-map, filter_all, all_of, ascending-map, ascending_from_map}
-use Rattle.tables.specs.Rows.{whole, Numbered, HasRows, Rises, stored}
+use Rattle.tables.specs.Rows.{id_cell, id_int, Numbered, HasRows, Rises, stored}
 use Rattle.tables.specs.Schema.{archive_schema}
 use Rattle.tables.specs.Others.{IsArchiveSchema, others_in, with_others}
 use Rattle.tables.proofs.SelectLemmas.{reads_rows}
@@ -23,48 +23,48 @@ use Rattle.tables_read.specs.Reading.{AsksForRows, Spells}
 use Rattle.tables_read.specs.Layout.{Layout, IsLayout, HasTypes, AreRead, AreSmall, ids, show}
 use Rattle.tables_read.proofs.AnswerLemmas.{each_shown}
 
-numbered : (tree : List Row) (ns : List ℕ) → map rowid tree ≡ map whole ns → (zs : Numbered Row) × (tree ≡ map (stored (λ r. r)) zs) × (ids zs ≡ ns)
+numbered : (tree : List Row) (ns : List ℕ) → map rowid tree ≡ map id_cell ns → (zs : Numbered Row) × (tree ≡ map (stored (λ r. r)) zs) × (ids zs ≡ ns)
 numbered [] [] e = ([], refl, refl)
 numbered [] (n ∷ ns) e = absurd (cc)
 numbered (r ∷ rs) [] e = absurd (cc)
-numbered ([] ∷ rs) (n ∷ ns) e = absurd (let h : Null ∷ map rowid rs ≡ Int _ ∷ map whole ns = e in cc)
+numbered ([] ∷ rs) (n ∷ ns) e = absurd (let h : Null ∷ map rowid rs ≡ Int _ ∷ map id_cell ns = e in cc)
 numbered ((v ∷ vs) ∷ rs) (n ∷ ns) e =
-    let h : v ∷ map rowid rs ≡ whole n ∷ map whole ns = e in
-    let here : v ≡ whole n = cc in
-    let there : map rowid rs ≡ map whole ns = cc in
+    let h : v ∷ map rowid rs ≡ id_cell n ∷ map id_cell ns = e in
+    let here : v ≡ id_cell n = cc in
+    let there : map rowid rs ≡ map id_cell ns = cc in
     let more = numbered rs ns there in
     ((n, vs) ∷ more.0, ap₂ ◌∷◌ (ap (λ w. w ∷ vs) here) more.1, ap (λ l. n ∷ l) more.2)
 
-above : (m n : ℕ) → value_cmp (whole m) (whole n) ≡ Less → m < n
-above m n h = let k = lt_from_Less (pos m) (pos n) (sym (value_cmp-Int (pos m) (pos n)) ∙ h) in omega (arith, ints, k)
+above : (m n : ℕ) → value_cmp (id_cell m) (id_cell n) ≡ Less → m < n
+above m n h = let k = lt_from_Less (id_int m) (id_int n) (sym (value_cmp-Int (id_int m) (id_int n)) ∙ h) in omega (arith, ints, k)
 
-above_all : (m : ℕ) (r : Row) (tree : List Row) (ns : List ℕ) → rowid r ≡ whole m → map rowid tree ≡ map whole ns
+above_all : (m : ℕ) (r : Row) (tree : List Row) (ns : List ℕ) → rowid r ≡ id_cell m → map rowid tree ≡ map id_cell ns
     → AllByRecursion (λ s. value_cmp (rowid r) (rowid s) ≡ Less) tree → AllByRecursion (λ n. m < n) ns
 above_all m r [] [] is e all = tt
 above_all m r [] (n ∷ ns) is e all = absurd (cc)
 above_all m r (s ∷ tree) [] is e all = absurd (cc)
 above_all m r (s ∷ tree) (n ∷ ns) is e all =
-    let h : rowid s ∷ map rowid tree ≡ whole n ∷ map whole ns = e in
-    let here : rowid s ≡ whole n = cc in
-    let there : map rowid tree ≡ map whole ns = cc in
+    let h : rowid s ∷ map rowid tree ≡ id_cell n ∷ map id_cell ns = e in
+    let here : rowid s ≡ id_cell n = cc in
+    let there : map rowid tree ≡ map id_cell ns = cc in
     (above m n (sym (ap₂ value_cmp is here) ∙ all.0), above_all m r tree ns is there all.1)
 
 -- the numbers of a table rise
-numbers_rise : (tree : List Row) (ns : List ℕ) → IsRising tree → map rowid tree ≡ map whole ns → IsAscending (λ m n. m < n) ns
+numbers_rise : (tree : List Row) (ns : List ℕ) → IsRising tree → map rowid tree ≡ map id_cell ns → IsAscending (λ m n. m < n) ns
 numbers_rise [] [] up e = tt
 numbers_rise [] (n ∷ ns) up e = absurd (cc)
 numbers_rise (r ∷ tree) [] up e = absurd (cc)
 numbers_rise (r ∷ tree) (n ∷ ns) up e =
-    let h : rowid r ∷ map rowid tree ≡ whole n ∷ map whole ns = e in
-    let here : rowid r ≡ whole n = cc in
-    let there : map rowid tree ≡ map whole ns = cc in
+    let h : rowid r ∷ map rowid tree ≡ id_cell n ∷ map id_cell ns = e in
+    let here : rowid r ≡ id_cell n = cc in
+    let there : map rowid tree ≡ map id_cell ns = cc in
     (above_all n r tree ns here there up.0, numbers_rise tree ns up.1 there)
 
 -- the rowid is a number of code
 abbrev HasNumber : Row → Type 0
-HasNumber row = (n : ℕ) × (n < 2 ^ 64) × (column row 0 ≡ whole n)
+HasNumber row = (n : ℕ) × (n < 2 ^ 64) × (column row 0 ≡ id_cell n)
 
-collect : (tree : List Row) → AllByRecursion HasNumber tree → (ns : List ℕ) × (map rowid tree ≡ map whole ns) × AreSmall ns
+collect : (tree : List Row) → AllByRecursion HasNumber tree → (ns : List ℕ) × (map rowid tree ≡ map id_cell ns) × AreSmall ns
 collect [] h = ([], refl, tt)
 collect (r ∷ rs) h = let more = collect rs h.1 in (h.0.0 ∷ more.0, ap₂ ◌∷◌ h.0.2 more.1, (h.0.1, more.2))
 
@@ -85,7 +85,7 @@ module _ {X : Type 0} (l : Layout X) (laid : IsLayout l) where
       let there : map l.full rs ≡ map (stored l.cells) xs = cc in
       (laid.back x r here, spells_back rs xs there)
 
-  ids_in : (tree : List Row) (xs : Numbered X) → AllZip (Spells l.seen) (map (show l) tree) xs → map rowid tree ≡ map whole (ids xs)
+  ids_in : (tree : List Row) (xs : Numbered X) → AllZip (Spells l.seen) (map (show l) tree) xs → map rowid tree ≡ map id_cell (ids xs)
   ids_in [] [] zip = refl
   ids_in [] (x ∷ xs) zip = absurd zip
   ids_in (r ∷ rs) [] zip = absurd zip
@@ -97,7 +97,7 @@ module _ {X : Type 0} (l : Layout X) (laid : IsLayout l) where
   have_numbers (r ∷ rs) (x ∷ xs) zip small = ((x.0, small.0, zip.0.0), have_numbers rs xs zip.1 small.1)
 
   module _ (sql : List ℕ) (asks : AsksForRows l.tree l.columns sql) (old mid : State) (rows : List Row) (schema : IsArchiveSchema old.now.schema) (shown : Shown sql [] old mid rows) where
-    shown_if : (ns : List ℕ) → IsAscending (λ m n. m < n) ns → map rowid (old.now.trees l.tree) ≡ map whole ns → rows ≡ map (show l) (old.now.trees l.tree)
+    shown_if : (ns : List ℕ) → IsAscending (λ m n. m < n) ns → map rowid (old.now.trees l.tree) ≡ map id_cell ns → rows ≡ map (show l) (old.now.trees l.tree)
     shown_if ns up are =
         let zs = numbered (old.now.trees l.tree) ns are in
         let rise : Rises zs.0 = ascending_from_map (λ m n. m < n) (λ z. z.0) zs.0 (subst (IsAscending (λ m n. m < n)) (sym zs.2) up) in

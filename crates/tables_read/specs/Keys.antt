@@ -17,7 +17,7 @@ use Rattle.sums.proofs.Agree.{same_bytes}
 use Rattle.sums.specs.declared.print.Print.{Print}
 use Rattle.tables.specs.Arrivals.{is_arrival}
 use Rattle.tables.specs.Items.{is_item}
-use Rattle.tables.specs.Rows.{Holds, Tables, arrival_cells, body_cells, file_cells, full_body, full_upload, item_cells, piece_cells, ref_cells, stored, upload_cells, want_cells, whole}
+use Rattle.tables.specs.Rows.{Holds, Tables, arrival_cells, body_cells, file_cells, full_body, full_upload, id_cell, item_cells, piece_cells, ref_cells, stored, upload_cells, want_cells, whole}
 use Rattle.tables.specs.Others.{IsArchiveSchema, Others, others_in, with_others}
 use Rattle.tables.specs.Schema.{arrivals_table, bodies_table, files_table, items_table, pieces_table, refers, refs_table, uploads_table, wants_table}
 use Rattle.tables.specs.declared.rows.ArrivalRow.{ArrivalRow}
@@ -118,7 +118,7 @@ same_bodies x y some same =
 same_arrivals : (x y : ℕ × ArrivalRow) → is_arrival x.1.name x.1.body y.1 ≡ true → AreSame (2 ∷ 3 ∷ []) (stored arrival_cells x) (stored arrival_cells y)
 same_arrivals x y same =
     let parts = and_parts _ _ same in
-    ((ap Text (sym (same_bytes _ _ parts.0)), refl), ((ap whole (sym (eqb-true _ _ parts.1)), refl), tt))
+    ((ap Text (sym (same_bytes _ _ parts.0)), refl), ((ap id_cell (sym (eqb-true _ _ parts.1)), refl), tt))
 
 same_uploads : (x y : ℕ × UploadRow) → name_and_print x.1 ≡ name_and_print y.1 → AreSame (2 ∷ 3 ∷ 4 ∷ 5 ∷ 6 ∷ []) (stored upload_cells x) (stored upload_cells y)
 same_uploads x y same =

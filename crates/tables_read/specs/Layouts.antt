@@ -4,7 +4,7 @@ use Rattle.sqlite.specs.declared.types.Value.TheVariants.{Text, Blob}
 use Rattle.sqlite.specs.Order.{Row}
 use Rattle.sqlite.specs.Term.{col}
 use Rattle.sqlite.specs.Values.{or_null}
-use Rattle.tables.specs.Rows.{full_body, full_upload, whole, meta_cells, body_cells, piece_cells, arrival_cells, upload_cells, want_cells, item_cells, ref_cells, file_cells, text_cells, date_cells}
+use Rattle.tables.specs.Rows.{full_body, full_upload, id_cell, whole, meta_cells, body_cells, piece_cells, arrival_cells, upload_cells, want_cells, item_cells, ref_cells, file_cells, text_cells, date_cells}
 use Rattle.tables.specs.Schema as schema
 use Rattle.tables.specs.declared.rows.ArrivalRow.{ArrivalRow}
 use Rattle.tables.specs.declared.rows.BodyRow.{BodyRow}
@@ -37,7 +37,7 @@ abbrev pub piece_layout : Layout Piece
 piece_layout = record { tree = 3; table = schema.pieces; columns = col 1 0 ∷ col 1 1 ∷ col 1 2 ∷ col 1 3 ∷ []; full = λ r. r; cells = piece_cells; seen = piece_cells }
 
 abbrev pub arrival_seen : ArrivalRow → Row
-arrival_seen a = Text a.name ∷ whole a.body ∷ whole a.moment ∷ []
+arrival_seen a = Text a.name ∷ id_cell a.body ∷ whole a.moment ∷ []
 
 abbrev pub arrival_layout : Layout ArrivalRow
 arrival_layout = record { tree = 5; table = schema.arrivals; columns = col 1 0 ∷ col 1 2 ∷ col 1 3 ∷ col 1 4 ∷ []; full = λ r. r; cells = arrival_cells; seen = arrival_seen }

@@ -12,7 +12,7 @@ use Rattle.sqlite.specs.State.{State, HasCleanDisk, IsUnchanged, Survives}
 use Rattle.sqlite.proofs.Callers.{command_of, IsPlain}
 use Rattle.sqlite_typing.specs.Types.{accepts_program}
 use Rattle.tables.specs.Causes.{IsCaused}
-use Rattle.tables.specs.Rows.{Fails, IsForeign, whole}
+use Rattle.tables.specs.Rows.{Fails, IsForeign, id_cell}
 use Rattle.tables.specs.Others.{IsArchiveSchema, Others, with_others}
 use Rattle.tables.proofs.CauseLemmas.{IsAlone}
 use Rattle.tables.proofs.SelectLemmas.{rows_query}
@@ -48,4 +48,4 @@ AsksForRows tree columns = Means (rows_query tree [] columns) tree
 
 -- a row of an answer is that of this number, with these values behind it
 abbrev pub Spells : {X : Type 0} → (X → Row) → Row → ℕ × X → Type 0
-Spells seen row x = (column row 0 ≡ whole x.0) × Agree row 1 (seen x.1)
+Spells seen row x = (column row 0 ≡ id_cell x.0) × Agree row 1 (seen x.1)

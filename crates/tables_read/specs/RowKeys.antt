@@ -24,9 +24,9 @@ use Rattle.sqlite_sql.specs.declared.ops.CompareOp.TheVariants.{Ne}
 use Rattle.sqlite_typed.proofs.TestLemmas.{at_ints, last_term}
 use Rattle.sqlite_value.proofs.OrderLemmas.{value_cmp_total}
 use Rattle.sqlite_value.specs.Keys.{first_key, plain}
-use Rattle.tables.proofs.EqualLemmas.{whole_test}
+use Rattle.tables.proofs.EqualLemmas.{id_test}
 use Rattle.tables.proofs.Pairwise.{pairs_from_ascending}
-use Rattle.tables.specs.Rows.{HasRows, Numbered, rows_of, stored, whole}
+use Rattle.tables.specs.Rows.{HasRows, Numbered, rows_of, stored, id_cell, id_int}
 
 -- ---- lists
 
@@ -83,7 +83,7 @@ guarded schema db t i keeps listed known on =
 module _ {X : Type 0} (cells : X → Row) where
   -- rows whose rowids rise have two rowids
   differ_if_less : (x y : ℕ × X) → x.0 < y.0 → differ (rowid (stored cells x)) (rowid (stored cells y)) ≡ true
-  differ_if_less x y below = at_ints false Ne (pos x.0) (pos y.0) ∙ grind (arith, ints)
+  differ_if_less x y below = at_ints false Ne (id_int x.0) (id_int y.0) ∙ grind (arith, ints)
 
   -- the tree has each row as it is stored
   has_stored : (xs : Numbered X) (x : ℕ × X) → Has xs x → Has (map (stored cells) xs) (stored cells x)
@@ -131,7 +131,7 @@ referred schema db t ref place parent keeps listed known columns key =
 
 -- each row names the number of a row of the parents
 pub owned : {X Y : Type 0} (cells : X → Row) (parent_cells : Y → Row) (tree parents : List Row) (xs : Numbered X) (ys : Numbered Y) (place : ℕ) (id : X → ℕ)
-    → HasRows cells xs tree → HasRows parent_cells ys parents → ((x : ℕ × X) → column (stored cells x) place ≡ whole (id x.1)) → HasParents place parents tree
+    → HasRows cells xs tree → HasRows parent_cells ys parents → ((x : ℕ × X) → column (stored cells x) place ≡ id_cell (id x.1)) → HasParents place parents tree
     → All (λ x. IsTrue (list_any (λ y. nat_eq y.0 (id x)) ys)) (rows_of xs)
 unfolding first_key
 owned {X} cells parent_cells tree parents xs ys place id has have names held =
@@ -144,9 +144,9 @@ owned {X} cells parent_cells tree parents xs ys place id has have names held =
     found : (x : _) → (has_null (place ∷ []) (stored cells x) || list_any (λ parent. agree plain (0 ∷ []) parent (place ∷ []) (stored cells x)) parents) ≡ list_any (λ y. nat_eq y.0 (id x.1)) ys
     found x =
         ap (λ v. (is_null v || false) || list_any (λ parent. equal Binary (column parent 0) v && true) parents) (names x)
-        ∙ ap (list_any (λ parent. equal Binary (column parent 0) (whole (id x.1)) && true)) have.are
+        ∙ ap (list_any (λ parent. equal Binary (column parent 0) (id_cell (id x.1)) && true)) have.are
         ∙ any_map _ (stored parent_cells) ys
-        ∙ (λ i. list_any (λ y. last_term (whole_test y.0 (id x.1)) i) ys)
+        ∙ (λ i. list_any (λ y. last_term (id_test y.0 (id x.1)) i) ys)
 
 -- ---- rows as they are read
 

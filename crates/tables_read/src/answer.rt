@@ -9,7 +9,7 @@ ghost use Rattle.tables_read.specs.Reading.{AsksForRows, Spells, Tells};
 ghost use Rattle.tables_read.specs.Layout.{AreRead, HasAnswer, IsNotRead, IsShort};
 ghost use Rattle.tables_read.specs.Streams.{Adds, Steps};
 
-use crate::cells::Cell;
+use crate::cells::{Cell, Id};
 use crate::stored::Stored;
 use sqlite::{Alter, Connection, Error, ErrorCode, Row, Rows};
 use std::alloc::Global;
@@ -22,11 +22,11 @@ pub fn numbered<T: Stored>(row: &Row) -> Result<Option<(u64, T)>, Error>
         → (x : ℕ × T) → T.is_real x.1 → ¬ Spells T.layout.seen row.now x) }
     ensures cause { IfErr result (λ e. (e ≡ SqliteFailure OutOfMemory) ⊎ IsShort T.layout row.now) }
 {
-    let Some(id) = u64::from_cell(row, 0)? else {
+    let Some(id) = Id::from_cell(row, 0)? else {
         return Ok(None);
     };
     match T::from_row(row)? {
-        Some(typed) => Ok(Some((id, typed))),
+        Some(typed) => Ok(Some((id.number, typed))),
         None => Ok(None),
     }
 }

@@ -7,7 +7,7 @@ ghost use Rattle.sqlite.specs.declared.types.Value.{Value as SqlValue};
 ghost use Rattle.sqlite.specs.declared.types.Value.TheVariants.{Int, Text as SqlText, Blob};
 ghost use Rattle.sqlite.specs.Order.{column};
 ghost use Rattle.sqlite.specs.Values.{or_null};
-ghost use Rattle.tables.specs.Rows.{whole, flag};
+ghost use Rattle.tables.specs.Rows.{flag, id_cell, whole};
 ghost use Rattle.tables_read.specs.Reading.{Agree};
 
 use para::{Listed, Text};
@@ -49,6 +49,34 @@ impl Cell for u64 {
 
     fn from_cell(row: &Row, at: usize) -> Result<Option<u64>, Error> {
         readable(row, at)
+    }
+}
+
+/// The number of a row, which any integer is.
+#[derive(Drop)]
+pub(crate) struct Id {
+    pub(crate) number: u64,
+}
+
+/// The number of the row of an id.
+fn row_id(id: i64) -> Id
+    ensures { id_cell result.number ≡ Int id }
+{
+    Id {
+        number: id.abs_diff(i64::MIN),
+    }
+}
+
+impl Cell for Id {
+    ghost cell = { λ id. id_cell id.number };
+
+    ghost is_real = { λ _. ⊤ };
+
+    fn from_cell(row: &Row, at: usize) -> Result<Option<Id>, Error> {
+        match readable::<i64>(row, at)? {
+            Some(id) => Ok(Some(row_id(id))),
+            None => Ok(None),
+        }
     }
 }
 

@@ -99,7 +99,7 @@ fn all_of(rows: (Arrived, (Judged, Shown))) -> AllRows
     }
 }
 
-/// All rows of the tables, where they are rows of an archive: typed, and with no number below zero.
+/// All rows of the tables, where they are rows of an archive: typed, and with no size, moment or place below zero.
 pub fn read_all<S: InOrder>(
     alloc: Global,
     conn: &mut Connection<S>,

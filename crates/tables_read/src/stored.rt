@@ -10,7 +10,7 @@ ghost use Rattle.tables_read.specs.Layouts.{body_seen, seen_in};
 ghost use Rattle.tables_read.specs.Layouts.{meta_layout, body_layout, piece_layout, arrival_layout, upload_layout, want_layout, item_layout, ref_layout, file_layout, text_layout, date_layout};
 ghost use Rattle.tables_read.specs.Laid.{meta_laid, body_laid, piece_laid, arrival_laid, upload_laid, want_laid, item_laid, ref_laid, file_laid, text_laid, date_laid};
 
-use crate::cells::Cells;
+use crate::cells::{Cells, Id};
 use para::{Listed, Text};
 use sqlite::{Error, Row};
 use sums::Print;
@@ -123,14 +123,14 @@ impl Stored for BodyRow {
 const PIECES: &str = "SELECT rowid, body, number, bytes FROM pieces ORDER BY rowid";
 
 /// The row of these values.
-fn piece(cells: (u64, (u64, (Listed<u8>, ())))) -> Piece
-    ensures { result ≡ record { body = cells.0; number = cells.1.0; bytes = cells.1.1.0 } }
+fn piece(cells: (Id, (u64, (Listed<u8>, ())))) -> Piece
+    ensures { result ≡ record { body = cells.0.number; number = cells.1.0; bytes = cells.1.1.0 } }
 {
     let (body, cells) = cells;
     let (number, cells) = cells;
     let (bytes, ()) = cells;
     Piece {
-        body,
+        body: body.number,
         number,
         bytes,
     }
@@ -148,7 +148,7 @@ impl Stored for Piece {
     }
 
     fn from_row(row: &Row) -> Result<Option<Piece>, Error> {
-        match <(u64, (u64, (Listed<u8>, ())))>::from_cells(row, 1)? {
+        match <(Id, (u64, (Listed<u8>, ())))>::from_cells(row, 1)? {
             Some(cells) => Ok(Some(piece(cells))),
             None => Ok(None),
         }
@@ -158,13 +158,17 @@ impl Stored for Piece {
 const ARRIVALS: &str = "SELECT rowid, name, body, moment FROM arrivals ORDER BY rowid";
 
 /// The row of these values.
-fn arrival(cells: (Text, (u64, (u64, ())))) -> ArrivalRow
-    ensures { result ≡ record { name = cells.0; body = cells.1.0; moment = cells.1.1.0 } }
+fn arrival(cells: (Text, (Id, (u64, ())))) -> ArrivalRow
+    ensures { result ≡ record { name = cells.0; body = cells.1.0.number; moment = cells.1.1.0 } }
 {
     let (name, cells) = cells;
     let (body, cells) = cells;
     let (moment, ()) = cells;
-    ArrivalRow { name, body, moment }
+    ArrivalRow {
+        name,
+        body: body.number,
+        moment,
+    }
 }
 
 impl Stored for ArrivalRow {
@@ -179,7 +183,7 @@ impl Stored for ArrivalRow {
     }
 
     fn from_row(row: &Row) -> Result<Option<ArrivalRow>, Error> {
-        match <(Text, (u64, (u64, ())))>::from_cells(row, 1)? {
+        match <(Text, (Id, (u64, ())))>::from_cells(row, 1)? {
             Some(cells) => Ok(Some(arrival(cells))),
             None => Ok(None),
         }
@@ -237,8 +241,8 @@ const WANTS: &str =
     "SELECT rowid, upload, name, size, md5, sha1, sha256, here FROM wants ORDER BY rowid";
 
 /// The row of these values.
-fn want(cells: (u64, (Text, Printed<(bool, ())>))) -> Want
-    ensures { result ≡ record { upload = cells.0; name = cells.1.0; here = cells.1.1.1.1.1.1.0; print = record { size = cells.1.1.0; md5 = cells.1.1.1.0; sha1 = cells.1.1.1.1.0; sha256 = cells.1.1.1.1.1.0 } } }
+fn want(cells: (Id, (Text, Printed<(bool, ())>))) -> Want
+    ensures { result ≡ record { upload = cells.0.number; name = cells.1.0; here = cells.1.1.1.1.1.1.0; print = record { size = cells.1.1.0; md5 = cells.1.1.1.0; sha1 = cells.1.1.1.1.0; sha256 = cells.1.1.1.1.1.0 } } }
 {
     let (upload, cells) = cells;
     let (name, cells) = cells;
@@ -254,7 +258,7 @@ fn want(cells: (u64, (Text, Printed<(bool, ())>))) -> Want
         sha256,
     };
     Want {
-        upload,
+        upload: upload.number,
         name,
         here,
         print,
@@ -273,7 +277,7 @@ impl Stored for Want {
     }
 
     fn from_row(row: &Row) -> Result<Option<Want>, Error> {
-        match <(u64, (Text, Printed<(bool, ())>))>::from_cells(row, 1)? {
+        match <(Id, (Text, Printed<(bool, ())>))>::from_cells(row, 1)? {
             Some(cells) => Ok(Some(want(cells))),
             None => Ok(None),
         }
@@ -333,8 +337,8 @@ const REFS: &str =
     "SELECT rowid, item, number, path, size, md5, sha1, sha256 FROM refs ORDER BY rowid";
 
 /// The row of these values.
-fn refers(cells: (u64, (u64, (Text, Printed<()>)))) -> Ref
-    ensures { result ≡ record { item = cells.0; number = cells.1.0; path = cells.1.1.0; print = record { size = cells.1.1.1.0; md5 = cells.1.1.1.1.0; sha1 = cells.1.1.1.1.1.0; sha256 = cells.1.1.1.1.1.1.0 } } }
+fn refers(cells: (Id, (u64, (Text, Printed<()>)))) -> Ref
+    ensures { result ≡ record { item = cells.0.number; number = cells.1.0; path = cells.1.1.0; print = record { size = cells.1.1.1.0; md5 = cells.1.1.1.1.0; sha1 = cells.1.1.1.1.1.0; sha256 = cells.1.1.1.1.1.1.0 } } }
 {
     let (item, cells) = cells;
     let (number, cells) = cells;
@@ -350,7 +354,7 @@ fn refers(cells: (u64, (u64, (Text, Printed<()>)))) -> Ref
         sha256,
     };
     Ref {
-        item,
+        item: item.number,
         number,
         path,
         print,
@@ -369,7 +373,7 @@ impl Stored for Ref {
     }
 
     fn from_row(row: &Row) -> Result<Option<Ref>, Error> {
-        match <(u64, (u64, (Text, Printed<()>)))>::from_cells(row, 1)? {
+        match <(Id, (u64, (Text, Printed<()>)))>::from_cells(row, 1)? {
             Some(cells) => Ok(Some(refers(cells))),
             None => Ok(None),
         }
@@ -379,12 +383,15 @@ impl Stored for Ref {
 const FILES: &str = "SELECT rowid, path, body FROM files ORDER BY rowid";
 
 /// The row of these values.
-fn file(cells: (Text, (u64, ()))) -> File
-    ensures { result ≡ record { path = cells.0; body = cells.1.0 } }
+fn file(cells: (Text, (Id, ()))) -> File
+    ensures { result ≡ record { path = cells.0; body = cells.1.0.number } }
 {
     let (path, cells) = cells;
     let (body, ()) = cells;
-    File { path, body }
+    File {
+        path,
+        body: body.number,
+    }
 }
 
 impl Stored for File {
@@ -399,7 +406,7 @@ impl Stored for File {
     }
 
     fn from_row(row: &Row) -> Result<Option<File>, Error> {
-        match <(Text, (u64, ()))>::from_cells(row, 1)? {
+        match <(Text, (Id, ()))>::from_cells(row, 1)? {
             Some(cells) => Ok(Some(file(cells))),
             None => Ok(None),
         }

@@ -11,6 +11,9 @@ use tables::schema::create_tables;
 use tables::uploads::{insert_upload, set_verdict, upload_numbered};
 use tables::wants::{insert_want, next_wanting};
 
+/// The number of the id 1.
+const FIRST: u64 = 9_223_372_036_854_775_809;
+
 /// Adds uploads that are judged, at places from 1 on.
 fn add_judged<S: Alter>(tx: &mut Transaction<'_, S>, judged: u64) -> Result<(), Error> {
     for place in 1..=judged {
@@ -66,13 +69,21 @@ pub fn expect_few_steps<S: Alter + Drop>(
     let mut conn = connection;
     filled(&mut conn)?;
     conn.set_step_limit(Some(10));
-    same(rt, &next_upload(alloc, &mut conn, None)?, &Some((1, true)));
     same(
         rt,
-        &next_upload(alloc, &mut conn, Some(1))?,
-        &Some((302, true)),
+        &next_upload(alloc, &mut conn, None)?,
+        &Some((FIRST, true)),
     );
-    same(rt, &next_upload(alloc, &mut conn, Some(302))?, &None);
+    same(
+        rt,
+        &next_upload(alloc, &mut conn, Some(FIRST))?,
+        &Some((FIRST + 301, true)),
+    );
+    same(
+        rt,
+        &next_upload(alloc, &mut conn, Some(FIRST + 301))?,
+        &None,
+    );
     let all = conn.query_all("SELECT id FROM uploads", &[]);
     same(rt, &all.is_err(), &true);
     Ok(())

@@ -13,8 +13,8 @@ use Rattle.queue.specs.Archives.{Stands}
 use Rattle.queue.specs.Commands.{call_of, outcome_of}
 use Rattle.queue.specs.Configuring.{IsLeftConfigured}
 use Rattle.queue.specs.Histories.{opened_with}
-use Rattle.queue.proofs.Kept.{stands_kept}
-use Rattle.queue.proofs.Reopening.{opens_itself}
+use Rattle.history.proofs.Kept.{stands_kept}
+use Rattle.history.proofs.Reopening.{opens_itself}
 use Rattle.promise.specs.Lists.{GoOn}
 use Rattle.promise.proofs.Configurations.{configured_its, own_keeps}
 use Rattle.promise.proofs.Courses.{go_on}

@@ -9,7 +9,7 @@ use Rattle.tables.proofs.arrivals.arrival_of.Goals as goal
 pub returns-clause-ok : goal.returns-clause-ok
 returns-clause-ok g c clean t was =
     let old = state g.S.Store c.args.tx.now.conn.now in
-    IfOk-weaker c.select_first_inside.result _ _ (λ found h. arrival_answer old (state g.S.Store c.select_first_inside.new.tx.conn.now) t c.args.name.now c.args.body found was (rw (c.params-to_sql.ensures, c.params-to_sql-2.ensures, c.in_ok-body.ensures) at h))
+    IfOk-weaker c.select_first_inside.result _ _ (λ found h. arrival_answer old (state g.S.Store c.select_first_inside.new.tx.conn.now) t c.args.name.now c.args.body found was (rw (c.params-to_sql.ensures, c.params-to_sql-2.ensures, c.as_id-body.ensures) at h))
     (c.select_first_inside.ensures.ok clean (plain_in SELECT_ARRIVAL.now select_arrival_plain old was.schema))
 
 pub returns-clause-err : goal.returns-clause-err

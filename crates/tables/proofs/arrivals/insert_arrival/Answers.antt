@@ -1,11 +1,13 @@
-use Rattle.std.proofs.Common.{◌∙◌, SFits, w64, to_z-of_z, rules}
+use Rattle.std.proofs.Common.{ap, ◌∙◌, SFits, w64, to_z-of_z, rules}
 use Rattle.sqlite.specs.Held.{state}
+use Rattle.tables.specs.Rows.{id_nat}
+use Rattle.tables.proofs.EqualLemmas.{id_back}
 use Rattle.tables.proofs.ArrivalsLemmas.{inserts_arrival}
 use Rattle.tables.proofs.arrivals.insert_arrival.Goals as goal
 
 pub returns-clause-ok : goal.returns-clause-ok
 returns-clause-ok g c clean inside =
-    let ran = rw (c.params-to_sql.ensures, c.params-to_sql-2.ensures, c.params-to_sql-3.ensures, c.in_ok-body.ensures, c.in_ok-moment.ensures) at (c.in_ok-execute.ensures.runs clean inside) in
+    let ran = rw (c.params-to_sql.ensures, c.params-to_sql-2.ensures, c.params-to_sql-3.ensures, c.as_id-body.ensures, c.in_ok-moment.ensures) at (c.in_ok-execute.ensures.runs clean inside) in
     let done = inserts_arrival (state g.S.Store c.args.tx.now.conn.now) (state g.S.Store c.execute.new.self.conn.now) c.args.name.now c.args.body c.args.moment _ ran in
     let fits : SFits w64 c.last_insert_rowid.result = search rules in
-    (done.0, λ t was. c.row_number.ensures _ (to_z-of_z fits ∙ c.last_insert_rowid.ensures ∙ done.1 t was))
+    (done.0, λ t was. c.row_number.ensures ∙ ap id_nat (to_z-of_z fits ∙ c.last_insert_rowid.ensures ∙ done.1 t was) ∙ id_back _)

@@ -5,5 +5,5 @@ use Rattle.tables.proofs.arrivals.update_moment.Goals as goal
 
 pub returns-clause-ok : goal.returns-clause-ok
 returns-clause-ok g c clean inside =
-    let ran = rw (c.params-to_sql.ensures, c.params-to_sql-2.ensures, c.in_ok-id.ensures, c.in_ok-moment.ensures) at (c.in_ok-execute.ensures.runs clean inside) in
+    let ran = rw (c.params-to_sql.ensures, c.params-to_sql-2.ensures, c.as_id-id.ensures, c.in_ok-moment.ensures) at (c.in_ok-execute.ensures.runs clean inside) in
     changes_moment (state g.S.Store c.args.tx.now.conn.now) (state g.S.Store c.execute.new.self.conn.now) c.args.id c.args.moment (Ok _) ran

@@ -9,7 +9,7 @@ use Rattle.tables.proofs.bodies.body_numbered_inside.Goals as goal
 pub returns-clause-ok : goal.returns-clause-ok
 returns-clause-ok g c clean t was =
     let old = state g.S.Store c.args.tx.now.conn.now in
-    IfOk-weaker c.select_first_inside.result _ _ (λ found h. numbered_answer old (state g.S.Store c.select_first_inside.new.tx.conn.now) t c.args.id found was (rw (c.params-to_sql.ensures, c.in_ok-id.ensures) at h))
+    IfOk-weaker c.select_first_inside.result _ _ (λ found h. numbered_answer old (state g.S.Store c.select_first_inside.new.tx.conn.now) t c.args.id found was (rw (c.params-to_sql.ensures, c.as_id-id.ensures) at h))
     (c.select_first_inside.ensures.ok clean (plain_in SELECT_NUMBERED.now select_numbered_plain old was.schema))
 
 pub returns-clause-err : goal.returns-clause-err

@@ -1,5 +1,7 @@
-use Rattle.std.proofs.Common.{◌∙◌, SFits, w64, to_z-of_z, rules}
+use Rattle.std.proofs.Common.{ap, ◌∙◌, SFits, w64, to_z-of_z, rules}
 use Rattle.sqlite.specs.Held.{state}
+use Rattle.tables.specs.Rows.{id_nat}
+use Rattle.tables.proofs.EqualLemmas.{id_back}
 use Rattle.tables.proofs.BodiesLemmas.{inserts_body}
 use Rattle.tables.proofs.bodies.insert_body.Goals as goal
 
@@ -8,4 +10,4 @@ returns-clause-ok g c clean inside =
     let ran = rw (c.params-to_sql.ensures, c.params-to_sql-2.ensures, c.params-to_sql-3.ensures, c.params-to_sql-4.ensures, c.in_ok-size.ensures) at (c.in_ok-execute.ensures.runs clean inside) in
     let done = inserts_body (state g.S.Store c.args.tx.now.conn.now) (state g.S.Store c.execute.new.self.conn.now) c.args.print.now _ ran in
     let fits : SFits w64 c.last_insert_rowid.result = search rules in
-    (done.0, λ t was. c.row_number.ensures _ (to_z-of_z fits ∙ c.last_insert_rowid.ensures ∙ done.1 t was))
+    (done.0, λ t was. c.row_number.ensures ∙ ap id_nat (to_z-of_z fits ∙ c.last_insert_rowid.ensures ∙ done.1 t was) ∙ id_back _)

@@ -10,7 +10,7 @@ pub returns-clause-ok : goal.returns-clause-ok
 returns-clause-ok g c clean t was =
     let old = state g.S.Store c.args.tx.now.conn.now in
     IfOk-weaker c.select_first_inside.result _ _ (λ found h. piece_answer old (state g.S.Store c.select_first_inside.new.tx.conn.now) t c.args.body c.args.number found was
-    (rw (c.params-to_sql.ensures, c.params-to_sql-2.ensures, c.in_ok-body.ensures, c.in_ok-number.ensures) at h))
+    (rw (c.params-to_sql.ensures, c.params-to_sql-2.ensures, c.as_id-body.ensures, c.in_ok-number.ensures) at h))
     (c.select_first_inside.ensures.ok clean (plain_in SELECT_PIECE.now select_piece_plain old was.schema))
 
 pub returns-clause-err : goal.returns-clause-err

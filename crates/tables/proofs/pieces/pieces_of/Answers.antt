@@ -10,7 +10,7 @@ use Rattle.tables.proofs.pieces.pieces_of.Goals as goal
 pub returns-clause-ok : goal.returns-clause-ok
 returns-clause-ok g c clean t was =
     let old = state g.S.Store c.args.conn.now in
-    IfOk-weaker c.select.result _ _ (λ all h. pieces_of_answer old (state g.S.Store c.select.new.conn) t c.args.body all.items was (rw (c.params-to_sql.ensures, c.in_ok-body.ensures) at h))
+    IfOk-weaker c.select.result _ _ (λ all h. pieces_of_answer old (state g.S.Store c.select.new.conn) t c.args.body all.items was (rw (c.params-to_sql.ensures, c.as_id-body.ensures) at h))
     (c.select.ensures.ok clean (plain_in SELECT_PIECES_OF.now select_pieces_of_plain old was.schema))
 
 pub returns-clause-err : goal.returns-clause-err

@@ -10,7 +10,7 @@ use Rattle.tables.proofs.uploads.upload_numbered.Goals as goal
 pub returns-clause-ok : goal.returns-clause-ok
 returns-clause-ok g c clean t was =
     let old = state g.S.Store c.args.conn.now in
-    IfOk-weaker c.select_first.result _ _ (λ found h. numbered_answer old (state g.S.Store c.select_first.new.conn) t c.args.id found was (rw (c.params-to_sql.ensures, c.in_ok-id.ensures) at h))
+    IfOk-weaker c.select_first.result _ _ (λ found h. numbered_answer old (state g.S.Store c.select_first.new.conn) t c.args.id found was (rw (c.params-to_sql.ensures, c.as_id-id.ensures) at h))
     (c.select_first.ensures.ok clean (plain_in SELECT_NUMBERED.now select_numbered_plain old was.schema))
 
 pub returns-clause-err : goal.returns-clause-err
