@@ -21,7 +21,8 @@ use Rattle.texts.specs.Positions.{release_at}
 use Rattle.texts.specs.Release.{index_of, indices_of, listed_texts, release_text}
 use Rattle.tables_meaning.specs.Founding.{from_root, suite_texts_at}
 use Rattle.tables_meaning.proofs.Orders.{contained_permutes}
-use Rattle.tables_audit.specs.TextRows.{text_in, texts_in}
+use Rattle.tables_matching.specs.Rows.{text_in}
+use Rattle.tables_audit.specs.TextRows.{texts_in}
 
 -- ---- each of several
 

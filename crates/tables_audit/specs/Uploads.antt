@@ -24,6 +24,7 @@ use Rattle.tables.specs.declared.rows.Piece.{Piece}
 use Rattle.tables.specs.declared.rows.UploadRow.{UploadRow}
 use Rattle.tables.specs.declared.rows.Want.{Want}
 use Rattle.tables_meaning.specs.Kept.{Request, arrivals_in, is_placed, pieces_among, request_in, request_of, sign_in, want_order}
+use Rattle.tables_matching.specs.Rows.{listed_row, want_row}
 use Rattle.tables_audit.specs.declared.uploads.arrived.Arrived.{Arrived}
 use Rattle.tables_audit.specs.declared.uploads.awaited.Awaited.{Awaited}
 
@@ -108,11 +109,8 @@ found_awaited pieces judged p = option_map (λ c. (p, c)) (changes_awaited piece
 
 -- ---- what they want
 
-abbrev pub want_row : Want → List ℕ × Print × Bool
-want_row w = (w.name, w.print, w.here)
-
 abbrev pub wanted_among : List Printed → Entry → List ℕ × Print × Bool
-wanted_among arrived e = (e.name, e.print, is_there_among arrived e)
+wanted_among arrived e = listed_row e (is_there_among arrived e)
 
 abbrev pub wants_among : Numbered Want → ℕ → List (List ℕ × Print × Bool)
 wants_among wants id = sorted_by want_order (map want_row (filter (is_wanted_by id) (rows_of wants)))

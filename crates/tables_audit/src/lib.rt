@@ -2,7 +2,7 @@
 //! it; and puts rows of items on the shelves of suites.
 //!
 //! What keys keep is not tested here, since the library checks each key of a file that it opens. The rest is: types beyond STRICT (no
-//! number below zero), and all that the rows mean.
+//! size, moment or place below zero), and all that the rows mean.
 //!
 //! Rows may stand in any order. Those of `texts` and `dates` are found by their path and their suite: each that has to be there is looked up,
 //! and there are as many. Pieces of a body and files of an item are put in the order of their numbers, here and in each read; uploads without a

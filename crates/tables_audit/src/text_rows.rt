@@ -2,7 +2,8 @@
 
 ghost use Rattle.std.specs.Prelude.{◌≡◌, ◌≤◌, ◌<◌, ◌↔◌, All, Contains, None, length, map, codes, IsPermutation, IsTrue, IfOk, IfSome};
 ghost use Rattle.tables_meaning.specs.Founding.{from_root, suite_texts_at};
-ghost use Rattle.tables_audit.specs.TextRows.{text_in, texts_in};
+ghost use Rattle.tables_matching.specs.Rows.{text_in};
+ghost use Rattle.tables_audit.specs.TextRows.{texts_in};
 ghost use Rattle.tables.specs.Rows.{rows_of};
 ghost use Rattle.tables_read.specs.All.{tables_with};
 ghost use Rattle.texts.specs.Indices.{all_texts};
@@ -17,6 +18,7 @@ use std::alloc::{AllocError, Global};
 use suites::Shelves;
 use sums::print_of;
 use tables::rows::TextRow;
+use tables_matching::is_text_row;
 use tables_read::AllRows;
 use texts::{Index, Place, index_path, listed_text, path_in, places_of, release};
 
@@ -114,22 +116,12 @@ fn release_over(
     })
 }
 
-/// Whether a row has this text at this path.
-fn is_row_of(row: &TextRow, path: &str, body: &[u8]) -> bool
-    ensures { IsTrue result ↔ (text_in row.now ≡ (path.now, body.now)) }
-{
-    if row.path.as_str() != path {
-        return false;
-    }
-    row.body.as_slice() == body
-}
-
 /// Whether some row has this text at this path.
 fn is_in_rows(rows: &[(u64, TextRow)], path: &str, body: &[u8]) -> bool
     ensures { IsTrue result ↔ Contains (texts_in rows.now) (path.now, body.now) }
 {
     for row in rows {
-        if is_row_of(&row.1, path, body) {
+        if is_text_row(&row.1, path, body) {
             return true;
         }
     }
@@ -141,7 +133,7 @@ fn is_in_rows_from(rows: &[(u64, TextRow)], place: usize, path: &str, body: &[u8
     ensures { IsTrue result ↔ Contains (texts_in rows.now) (path.now, body.now) }
 {
     if place < rows.len() {
-        if is_row_of(&rows[place].1, path, body) {
+        if is_text_row(&rows[place].1, path, body) {
             return true;
         }
     }

@@ -12,7 +12,8 @@ ghost use Rattle.suites.specs.Keys.{text_order};
 ghost use Rattle.keep.specs.Book.{judging_order};
 ghost use Rattle.tables_meaning.specs.Kept.{sign_in, want_order};
 ghost use Rattle.tables_meaning.specs.Reads.{row_order, sorted_by};
-ghost use Rattle.tables_audit.specs.Uploads.{AreApart, AreAsked, awaited_view, entry_order, printed, request_among, request_row, waiting_order, wanted_among, want_row, wants_among};
+ghost use Rattle.tables_matching.specs.Rows.{want_row};
+ghost use Rattle.tables_audit.specs.Uploads.{AreApart, AreAsked, awaited_view, entry_order, printed, request_among, request_row, waiting_order, wanted_among, wants_among};
 
 use crate::keyed::Rows;
 use crate::uploads::arrived::is_there;
@@ -23,19 +24,14 @@ use std::alloc::{AllocError, Global};
 use std::cmp::Ordering;
 use sums::Entry;
 use tables::rows::{UploadRow, Want};
+use tables_matching::is_want_row;
 
 /// Whether the row is that of the listed file, with whether it is there.
 fn is_wanted(want: &Want, arrived: &There<'_>, entry: &Entry) -> bool
     ensures { MatchBool result (want_row want.now ≡ wanted_among (map printed arrived.now.all.now) entry.now)
         (want_row want.now ≡ wanted_among (map printed arrived.now.all.now) entry.now → ⊥) }
 {
-    if want.print != entry.print {
-        return false;
-    }
-    if want.name.as_str() != entry.name.as_str() {
-        return false;
-    }
-    want.here == is_there(arrived, entry)
+    is_want_row(want, entry, is_there(arrived, entry))
 }
 
 /// The order of names, by their bytes.

@@ -6,7 +6,8 @@ use Rattle.rules.specs.declared.suite.Suite.{Suite}
 use Rattle.tables.specs.declared.rows.TextRow.{TextRow}
 use Rattle.texts.specs.Indices.{PathText}
 use Rattle.tables_meaning.specs.Founding.{from_root}
-use Rattle.tables_audit.specs.TextRows.{text_in, texts_in}
+use Rattle.tables_matching.specs.Rows.{text_in}
+use Rattle.tables_audit.specs.TextRows.{texts_in}
 use Rattle.tables_audit.proofs.AmongLemmas.{all_next}
 use Rattle.tables_audit.proofs.text_rows.have_texts.Goals as goal
 

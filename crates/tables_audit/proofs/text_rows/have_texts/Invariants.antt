@@ -1,7 +1,8 @@
 use Rattle.std.proofs.Common.{◌↔◌, map, drop}
 use Rattle.std.specs.Prelude.{All, Contains}
 use Rattle.tables_meaning.specs.Founding.{from_root}
-use Rattle.tables_audit.specs.TextRows.{text_in, texts_in}
+use Rattle.tables_matching.specs.Rows.{text_in}
+use Rattle.tables_audit.specs.TextRows.{texts_in}
 use Rattle.tables_audit.proofs.text_rows.have_texts.Given as goal
 
 -- all texts are among the rows where those that are left are

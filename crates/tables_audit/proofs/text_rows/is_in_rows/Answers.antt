@@ -5,7 +5,8 @@ use Rattle.sums.proofs.Members.{no_member}
 use Rattle.tables.specs.Rows.{Numbered}
 use Rattle.tables.specs.declared.rows.TextRow.{TextRow}
 use Rattle.texts.specs.Indices.{PathText}
-use Rattle.tables_audit.specs.TextRows.{text_in, texts_in}
+use Rattle.tables_matching.specs.Rows.{text_in}
+use Rattle.tables_audit.specs.TextRows.{texts_in}
 use Rattle.tables_audit.proofs.AmongLemmas.{among_next}
 use Rattle.tables_audit.proofs.text_rows.is_in_rows.Goals as goal
 
@@ -16,18 +17,18 @@ next rows i x e within is = among_next (λ (y : ℕ × TextRow). text_in y.1) te
 pub loop-row-init : goal.loop-row-init
 loop-row-init c = (λ at. at, λ at. at)
 
-pub returns-then-is_row_of : goal.returns-then-is_row_of
-returns-then-is_row_of c =
+pub returns-then-is_text_row : goal.returns-then-is_text_row
+returns-then-is_text_row c =
     let e : PathText = (c.args.path.now, c.args.body.now) in
     let step = next c.args.rows.now c.loop-row.row-index c.row-item.result e (omega (arith, c.loop-row-test.true)) c.row-item.is in
-    (λ _. c.loop-row.invariant.1 (step.1 (inl (c.is_row_of.ensures.0 c.if-is_row_of.true))), λ _. refl)
+    (λ _. c.loop-row.invariant.1 (step.1 (inl (c.is_text_row.ensures.0 c.if-is_text_row.true))), λ _. refl)
 
 pub loop-row-preserved : goal.loop-row-preserved
 loop-row-preserved c =
     let e : PathText = (c.args.path.now, c.args.body.now) in
     let step = next c.args.rows.now c.loop-row.row-index c.row-item.result e (omega (arith, c.loop-row-test.true)) c.row-item.is in (
       λ at. elim (step.0 (c.loop-row.invariant.0 at)) [
-        | inl own ↦ absurd (true≢false (sym (c.is_row_of.ensures.1 own) ∙ c.if-is_row_of.false))
+        | inl own ↦ absurd (true≢false (sym (c.is_text_row.ensures.1 own) ∙ c.if-is_text_row.false))
         | inr later ↦ later
       ],
       λ at. c.loop-row.invariant.1 (step.1 (inr at)),

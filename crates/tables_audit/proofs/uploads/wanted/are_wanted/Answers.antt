@@ -1,6 +1,7 @@
 use Rattle.std.proofs.Common.{◌≡◌, map, arith}
 use Rattle.std.proofs.lemmas.Bool.Decides.{when_false, when_true}
-use Rattle.tables_audit.specs.Uploads.{printed, want_row, wanted_among}
+use Rattle.tables_matching.specs.Rows.{want_row}
+use Rattle.tables_audit.specs.Uploads.{printed, wanted_among}
 use Rattle.tables_audit.proofs.UploadsLists.{pair_differs, pair_more, pairs_all, pairs_differ}
 use Rattle.tables_audit.proofs.uploads.wanted.are_wanted.Goals as goal
 

@@ -1,5 +1,6 @@
 use Rattle.std.proofs.Common.{◌≡◌, map, take}
-use Rattle.tables_audit.specs.Uploads.{printed, want_row, wanted_among}
+use Rattle.tables_matching.specs.Rows.{want_row}
+use Rattle.tables_audit.specs.Uploads.{printed, wanted_among}
 use Rattle.tables_audit.proofs.uploads.wanted.are_wanted.Given as goal
 
 -- the rows so far are those of the listed files so far

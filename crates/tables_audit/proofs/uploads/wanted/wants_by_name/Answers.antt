@@ -4,7 +4,7 @@ use Rattle.sqlite_keyed.proofs.SortLemmas.{sort_by-map}
 use Rattle.suites.specs.Keys.{text_order}
 use Rattle.suites.specs.KeyLemmas.{text_order_total}
 use Rattle.tables_meaning.specs.Kept.{want_order}
-use Rattle.tables_audit.specs.Uploads.{want_row}
+use Rattle.tables_matching.specs.Rows.{want_row}
 use Rattle.tables_meaning.proofs.SortedLemmas.{sorted_same}
 use Rattle.tables_audit.proofs.uploads.wanted.wants_by_name.Goals as goal
 
