@@ -4,9 +4,9 @@ use Rattle.std.proofs.KnownBytes.{Consumes-trans}
 use Rattle.std.proofs.lemmas.List.{length-append, length-drop, length-take-le}
 use Rattle.std.proofs.Math.Nat.{add-mod_right}
 use Rattle.std.specs.Io.KnownBytes.{Consumes}
-use Rattle.queue.specs.Receiving.{GaveUpTo, HasRead, WasShort}
-use Rattle.queue.specs.declared.fault.Fault.{Fault}
-use Rattle.queue.specs.declared.fault.Fault.TheVariants.{OutOfMemory, BadName, TooLarge, Record, Keeper, Moment, UnknownSuite, SameSuite, NothingToCopy, Ended, ReaderFailed, NothingToRemove}
+use Rattle.history.specs.Receiving.{GaveUpTo, HasRead, WasShort}
+use Rattle.history.specs.declared.fault.Fault.{Fault}
+use Rattle.history.specs.declared.fault.Fault.TheVariants.{OutOfMemory, BadName, TooLarge, Record, Keeper, Moment, UnknownSuite, SameSuite, NothingToCopy, Ended, ReaderFailed, NothingToRemove}
 
 -- a refusal behind what was read before
 module _ (may_fail : Bool) (a b c : Option (List ℕ)) (front : List ℕ) (n size : ℕ) (before : Consumes a b front) (fits : length front + size ≤ n) where

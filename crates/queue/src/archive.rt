@@ -9,34 +9,31 @@
 //! stops are said of what follows from either (`LeavesCall`).
 
 ghost use Rattle.std.specs.Prelude.{◌≡◌, ◌⊎◌, ◌<◌, ◌≤◌, ⊤, true, Some, None, Err, IfOk, IfErr, OnOk, OnErr, false, map};
-ghost use Rattle.queue.specs.Amending.{IsPlanned, OnceAmended};
-ghost use Rattle.queue.specs.Answers.{copy_line, is_free_copy, is_free_removal};
-ghost use Rattle.queue.specs.Commands.{stored, reported, counted, found, copies_of, lines_of, names_given, promoted};
-ghost use Rattle.queue.specs.Copies.{copy_fault};
-ghost use Rattle.queue.specs.Histories.{Delivery, QueueRun, Copying, Lookup, WaitingList, Cleaning, Removing, Promoting, VerdictList};
+ghost use Rattle.history.specs.Amending.{IsPlanned, OnceAmended};
+ghost use Rattle.history.specs.Answers.{copy_line, is_free_copy, is_free_removal};
+ghost use Rattle.history.specs.Commands.{stored, reported, counted, found, copies_of, lines_of, names_given, promoted};
+ghost use Rattle.history.specs.Copies.{copy_fault};
+ghost use Rattle.history.specs.Histories.{Delivery, QueueRun, Copying, Lookup, WaitingList, Cleaning, Removing, Promoting, VerdictList};
 ghost use Rattle.keep.specs.Book.{latest};
-ghost use Rattle.queue.specs.Deliveries.{delivery_fault, IsKeepers};
-ghost use Rattle.queue.specs.Promotions.{IsPromotionFault, promotion_fault};
-ghost use Rattle.queue.specs.Removals.{removal_fault};
+ghost use Rattle.history.specs.Deliveries.{delivery_fault, IsKeepers};
+ghost use Rattle.history.specs.Promotions.{IsPromotionFault, promotion_fault};
+ghost use Rattle.history.specs.Removals.{removal_fault};
 ghost use Rattle.keep.specs.Configured.{configured, keeps_shown};
 ghost use Rattle.keep.specs.Keeping.{MayAnswer};
 ghost use Rattle.keep.specs.declared.fault.KeepFault.TheVariants.{Configuration};
-ghost use Rattle.queue.specs.Configuring.{Configures, Endures, LeavesConfigured};
-ghost use Rattle.queue.specs.Steps.{Does, IsServed, IsUndone, Lasts, Leaves, LeavesDelivery, LeavesStep, Reads};
+ghost use Rattle.history.specs.Configuring.{Configures, Endures, LeavesConfigured};
+ghost use Rattle.history.specs.Steps.{Does, IsServed, IsUndone, Lasts, Leaves, LeavesDelivery, LeavesStep, Reads};
 
-use crate::command::{Arrived, Promotion, Report};
-use crate::configuring::configured;
-use crate::copy::{copy_plan, only_step, two_suites};
 use crate::delivery::check_delivery;
-use crate::fault::Fault;
-use crate::printed::PrintedText;
-use crate::promotion::{Copied, copied_steps, copy_lines, groups_of, sources_of};
-use crate::removal::{place_of, removal_plan};
-use crate::renewal::renewed_texts;
-use crate::report::{verdict_lines, waiting_lines};
-use crate::run::{judged_steps, report_lines};
+use crate::run::judged_steps;
+use history::{
+    Arrived, Copied, Fault, Promotion, Report, copied_steps, copy_lines, copy_plan, groups_of,
+    only_step, place_of, removal_plan, report_lines, sources_of, two_suites, verdict_lines,
+    waiting_lines,
+};
 use keep::{Change, KeepFault, Keeper, LATEST, Step};
 use para::Listed;
+use renewing::{PrintedText, configured, renewed_texts};
 use rules::Config;
 use std::alloc::Global;
 use suites::Shelves;

@@ -6,13 +6,13 @@
 //! deliveries alone, of which none needs another and each may be given again.
 
 ghost use Rattle.std.specs.Prelude.{◌≡◌, IfOk, OnErr, map};
-ghost use Rattle.queue.specs.Answers.{IsFaithful, IsKept, IsRun};
-ghost use Rattle.queue.specs.Commands.{AreOfKinds, call_of, kind_of_command, kind_of_outcome, outcome_of};
-ghost use Rattle.queue.specs.Histories.{History};
-ghost use Rattle.queue.specs.Steps.{Does, IsOpenBehind, IsServed, Lasts, LeavesCall, LeavesRun};
+ghost use Rattle.history.specs.Answers.{IsFaithful, IsKept, IsRun};
+ghost use Rattle.history.specs.Commands.{AreOfKinds, call_of, kind_of_command, kind_of_outcome, outcome_of};
+ghost use Rattle.history.specs.Histories.{History};
+ghost use Rattle.history.specs.Steps.{Does, IsOpenBehind, IsServed, Lasts, LeavesCall, LeavesRun};
 
 use crate::archive::Archive;
-use crate::command::{Command, Outcome};
+use history::{Command, Outcome};
 use keep::Keeper;
 use std::alloc::{AllocError, Global};
 

@@ -3,30 +3,19 @@
 #![tactic(auto)]
 
 mod archive;
-mod command;
-mod configuring;
-mod copy;
 mod delivery;
 mod drive;
-mod fault;
-mod laws;
-mod printed;
 mod promise;
-mod promotion;
 mod reading;
 mod receiving;
-mod removal;
-mod renewal;
-mod report;
 mod run;
 mod storing;
 
 pub use archive::Archive;
-pub use command::{Arrived, Command, Outcome, Promotion, Report, SourceCopy};
-pub use fault::Fault;
-pub use laws::{
-    a_book_opens_its_history, a_configured_book_opens_its_history, a_crash_in_lists_is_in_one_list,
-    a_crash_is_of_a_call, a_history_goes_on_from_its_book, a_promotion_is_its_copies,
+pub use history::{
+    Arrived, Command, Fault, Outcome, Promotion, Report, SourceCopy, a_book_opens_its_history,
+    a_configured_book_opens_its_history, a_crash_in_lists_is_in_one_list, a_crash_is_of_a_call,
+    a_history_goes_on_from_its_book, a_promotion_is_its_copies,
     a_stop_in_a_configuration_leaves_a_book, a_stop_leaves_a_book, a_stop_leaves_a_part_of_a_list,
     for_good, lists_are_one_list, nothing_is_an_opening,
 };

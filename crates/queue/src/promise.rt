@@ -3,12 +3,12 @@
 ghost use Rattle.std.specs.Prelude.{◌≡◌, ◌≤◌, ⊤, false, IfOk, map};
 ghost use Rattle.keep.specs.Keeping.{NoCollision};
 ghost use Rattle.keep.specs.Plain.{fresh_book, plain_book};
-ghost use Rattle.queue.specs.Answers.{IsRun};
-ghost use Rattle.queue.specs.Commands.{AreOfKinds, call_of, outcome_of};
-ghost use Rattle.queue.specs.Histories.{bodies_of, opened_with};
+ghost use Rattle.history.specs.Answers.{IsRun};
+ghost use Rattle.history.specs.Commands.{AreOfKinds, call_of, outcome_of};
+ghost use Rattle.history.specs.Histories.{bodies_of, opened_with};
 
 use crate::archive::Archive;
-use crate::command::{Command, Outcome};
+use history::{Command, Outcome};
 use keep::{LATEST, PlainKeeper};
 use rules::Config;
 use std::alloc::{AllocError, Global};

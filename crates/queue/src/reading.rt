@@ -3,9 +3,9 @@
 ghost use Rattle.std.specs.Prelude.{◌≡◌, ◌<◌, ◌≤◌, ℕ, List, false, length, take, IfOk, IfErr, OnOk, OnErr};
 ghost use Rattle.std.specs.Io.{ReadsAtMost};
 ghost use Rattle.std.specs.Io.KnownBytes.{Consumes, IsAtEnd, Keeps};
-ghost use Rattle.queue.specs.Receiving.{Gave, HasRead, WasShort};
+ghost use Rattle.history.specs.Receiving.{Gave, HasRead, WasShort};
 
-use crate::fault::Fault;
+use history::Fault;
 use std::alloc::Global;
 use std::io::{ErrorKind, Read};
 

@@ -7,18 +7,17 @@
 
 ghost use Rattle.std.specs.Prelude.{◌≡◌, ◌<◌, ◌≤◌, ℕ, List, Some, true, length, IsErrAnd, OnErr};
 ghost use Rattle.std.specs.Io.KnownBytes.{Keeps};
-ghost use Rattle.queue.specs.Commands.{is_new, stored};
-ghost use Rattle.queue.specs.Deliveries.{delivery_fault};
-ghost use Rattle.queue.specs.Receiving.{IsReceived, LeavesReceived};
-ghost use Rattle.queue.specs.Steps.{IsServed, IsUndone, Lasts};
+ghost use Rattle.history.specs.Commands.{is_new, stored};
+ghost use Rattle.history.specs.Deliveries.{delivery_fault};
+ghost use Rattle.history.specs.Receiving.{IsReceived, LeavesReceived};
+ghost use Rattle.history.specs.Steps.{IsServed, IsUndone, Lasts};
 ghost use Rattle.sums.specs.FileNames.{is_changes_name as is_changes_name_of, is_file_name as is_file_name_of};
 ghost use Rattle.sums.specs.Lines.{most_size};
 
 use crate::archive::Archive;
-use crate::command::Arrived;
-use crate::fault::Fault;
 use crate::reading::{collect, skip};
 use crate::storing::store;
+use history::{Arrived, Fault};
 use keep::{Keeper, LATEST};
 use para::ParaFault;
 use records::{MOST_CHANGES, RecordFault};

@@ -4,11 +4,11 @@ ghost use Rattle.std.specs.Prelude.{◌≡◌, ◌≤◌, ◌++◌, [], List, �
 ghost use Rattle.std.specs.Io.KnownBytes.{Consumes};
 ghost use Rattle.std.specs.Option.{option_map};
 ghost use Rattle.keep.specs.Book.{latest};
-ghost use Rattle.queue.specs.Receiving.{Arrives, Gave, HasRead, LeavesArrived, MayBeKept, MayTake};
-ghost use Rattle.queue.specs.Steps.{Lasts, Stays};
+ghost use Rattle.history.specs.Receiving.{Arrives, Gave, HasRead, LeavesArrived, MayBeKept, MayTake};
+ghost use Rattle.history.specs.Steps.{Lasts, Stays};
 
-use crate::fault::Fault;
 use crate::reading::{collect, fill};
+use history::Fault;
 use keep::{Keeper, PIECE_SIZE};
 use std::alloc::Global;
 use std::io::Read;

@@ -2,10 +2,10 @@ use Rattle.std.proofs.Common.{◌≡◌, map, ap, ◌∙◌}
 use Rattle.std.specs.Prelude.{⊤}
 use Rattle.keep.specs.Book.{Book}
 use Rattle.keep.specs.Plain.{fresh_book, plain_book}
-use Rattle.queue.specs.Commands.{call_of}
-use Rattle.queue.specs.Histories.{opened_with}
-use Rattle.queue.proofs.Kept.{stands_kept}
-use Rattle.queue.proofs.Openings.{faithful_anew, fresh_stands}
+use Rattle.history.specs.Commands.{call_of}
+use Rattle.history.specs.Histories.{opened_with}
+use Rattle.history.proofs.Kept.{stands_kept}
+use Rattle.history.proofs.Openings.{faithful_anew, fresh_stands}
 use Rattle.queue.proofs.promise.drive_anew.Goals as goal
 
 pub returns-clause-kinds : goal.returns-clause-kinds

@@ -2,7 +2,7 @@ use Rattle.std.proofs.Common.{◌≡◌, ◌++◌, ◌∙◌, length, drop, subs
 use Rattle.std.proofs.lemmas.List.{length-append, length-drop, length-take-le}
 use Rattle.std.proofs.lemmas.Result.{err_from_is_err_and}
 use Rattle.std.proofs.KnownBytes.{Consumes-trans}
-use Rattle.queue.specs.Receiving.{WasShort}
+use Rattle.history.specs.Receiving.{WasShort}
 use Rattle.queue.proofs.Stored.{short_behind, sizes_more}
 use Rattle.queue.proofs.reading.skip.Goals as goal
 

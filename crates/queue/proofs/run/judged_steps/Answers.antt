@@ -3,8 +3,8 @@ use Rattle.std.proofs.lemmas.List.{take_more}
 use Rattle.std.proofs.lemmas.Grind.{fold-append}
 use Rattle.suites.specs.Plan.{after_upload}
 use Rattle.suites.specs.Told.{AreTold}
-use Rattle.queue.specs.Judging.{AreJudged, IsJudged, after_uploads}
-use Rattle.queue.proofs.RunJudged.{judged-push}
+use Rattle.history.specs.Judging.{AreJudged, IsJudged, after_uploads}
+use Rattle.history.proofs.RunJudged.{judged-push}
 use Rattle.queue.proofs.run.judged_steps.Goals as goal
 
 pub loop-upload-preserved : goal.loop-upload-preserved

@@ -1,6 +1,6 @@
 use Rattle.std.proofs.Common.{◌≡◌, take}
 use Rattle.suites.specs.Told.{AreTold}
-use Rattle.queue.specs.Judging.{AreJudged, after_uploads}
+use Rattle.history.specs.Judging.{AreJudged, after_uploads}
 use Rattle.queue.proofs.run.judged_steps.Given as goal
 
 abbrev pub invariant-loop-upload : goal.invariant-loop-upload

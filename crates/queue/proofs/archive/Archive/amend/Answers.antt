@@ -1,6 +1,6 @@
 use Rattle.std.proofs.Common.{◌≡◌, Some, inl, inr, sym, ap, ◌∙◌}
 use Rattle.keep.specs.Book.{Book, shown_past}
-use Rattle.queue.proofs.Amended.{once_amended, sound_change}
+use Rattle.history.proofs.Amended.{once_amended, sound_change}
 use Rattle.queue.proofs.archive.Archive.amend.Goals as goal
 
 pub apply-requires-clause-sound : goal.apply-requires-clause-sound

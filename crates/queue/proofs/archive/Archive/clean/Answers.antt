@@ -1,10 +1,10 @@
 use Rattle.std.proofs.Common.{◌≤◌, inl, inr}
 use Rattle.std.proofs.lemmas.Result.{err_from_is_err_and}
 use Rattle.keep.specs.Book.{latest}
-use Rattle.queue.specs.Histories.{Cleaning}
-use Rattle.queue.specs.declared.fault.Fault.TheVariants.{Moment}
-use Rattle.queue.proofs.Kept.{same_by, untouched}
-use Rattle.queue.proofs.StepAnswers.{cleaned_left, cleaned_step, free_cleaning, keeper_step, keepers_own, late_cleaning, refused_step}
+use Rattle.history.specs.Histories.{Cleaning}
+use Rattle.history.specs.declared.fault.Fault.TheVariants.{Moment}
+use Rattle.history.proofs.Kept.{same_by, untouched}
+use Rattle.history.proofs.StepAnswers.{cleaned_left, cleaned_step, free_cleaning, keeper_step, keepers_own, late_cleaning, refused_step}
 use Rattle.queue.proofs.archive.Archive.clean.Goals as goal
 
 pub returns-then-moment-gt-LATEST-clause-step : goal.returns-then-moment-gt-LATEST-clause-step

@@ -6,8 +6,8 @@ use Rattle.rules.proofs.Apart.{claim_apart}
 use Rattle.suites.specs.Pool.{AreAgreed, files_of}
 use Rattle.keep.specs.Book.{Book}
 use Rattle.keep.specs.Configured.{configured, keeps_shown}
-use Rattle.queue.specs.Archives.{book_of}
-use Rattle.queue.proofs.ConfiguredLemmas.{config_of, configured_stands, made_book}
+use Rattle.history.specs.Archives.{book_of}
+use Rattle.history.proofs.ConfiguredLemmas.{config_of, configured_stands, made_book}
 use Rattle.queue.proofs.archive.Archive.configure.Goals as goal
 
 pub returns-in_err-configure-clause-crash : goal.returns-in_err-configure-clause-crash

@@ -2,15 +2,15 @@ use Rattle.std.proofs.Common.{◌≡◌, ◌<◌, true, length, Some, inl, inr, 
 use Rattle.std.proofs.lemmas.Result.{err_from_is_err_and}
 use Rattle.rules.specs.Values.{ConfigValue}
 use Rattle.suites.specs.Plan as plans
-use Rattle.queue.specs.Answers.{is_free_copy}
-use Rattle.queue.specs.Archives.{book_of}
-use Rattle.queue.specs.Copies.{AreSuites, copy_fault}
-use Rattle.queue.specs.Histories.{Copying}
-use Rattle.queue.specs.declared.fault.Fault.TheVariants.{Moment}
-use Rattle.queue.proofs.Amended.{left_past}
-use Rattle.queue.proofs.CopyAnswers.{done_copy, free_copy, late_fault, left_copy, may_copy, named_fault, named_in, named_place, no_fault, nothing_fault, planned_copy, refused_copy}
-use Rattle.queue.proofs.Kept.{same_by, same_past, untouched}
-use Rattle.queue.proofs.StepAnswers.{keeper_step, keepers_own, memory_own, memory_step}
+use Rattle.history.specs.Answers.{is_free_copy}
+use Rattle.history.specs.Archives.{book_of}
+use Rattle.history.specs.Copies.{AreSuites, copy_fault}
+use Rattle.history.specs.Histories.{Copying}
+use Rattle.history.specs.declared.fault.Fault.TheVariants.{Moment}
+use Rattle.history.proofs.Amended.{left_past}
+use Rattle.history.proofs.CopyAnswers.{done_copy, free_copy, late_fault, left_copy, may_copy, named_fault, named_in, named_place, no_fault, nothing_fault, planned_copy, refused_copy}
+use Rattle.history.proofs.Kept.{same_by, same_past, untouched}
+use Rattle.history.proofs.StepAnswers.{keeper_step, keepers_own, memory_own, memory_step}
 use Rattle.queue.proofs.archive.Archive.copy.Goals as goal
 
 pub returns-then-moment-gt-LATEST-clause-step : goal.returns-then-moment-gt-LATEST-clause-step

@@ -1,9 +1,9 @@
 use Rattle.std.proofs.Common.{◌≡◌, None, inl, inr}
 use Rattle.std.proofs.lemmas.Result.{err_from_is_err_and}
-use Rattle.queue.specs.Deliveries.{delivery_fault}
-use Rattle.queue.specs.Histories.{Delivery}
-use Rattle.queue.proofs.Kept.{same_by, untouched}
-use Rattle.queue.proofs.StepAnswers.{refused_step, refused_delivery, left_delivered, delivered_step, deliverable, free_delivery, keeper_step, keepers_own}
+use Rattle.history.specs.Deliveries.{delivery_fault}
+use Rattle.history.specs.Histories.{Delivery}
+use Rattle.history.proofs.Kept.{same_by, untouched}
+use Rattle.history.proofs.StepAnswers.{refused_step, refused_delivery, left_delivered, delivered_step, deliverable, free_delivery, keeper_step, keepers_own}
 use Rattle.queue.proofs.archive.Archive.deliver.Goals as goal
 
 pub returns-in_err-check_delivery-clause-step : goal.returns-in_err-check_delivery-clause-step

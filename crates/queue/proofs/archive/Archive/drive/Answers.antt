@@ -1,10 +1,10 @@
 use Rattle.std.proofs.Common.{◌≡◌, ◌+◌, ◌<◌, List, [], ◌∷◌, ◌++◌, map, take, take_all, length, sym, ap, subst, ◌∙◌, arith}
 use Rattle.std.proofs.lemmas.List.{take_more, map-append}
 use Rattle.keep.proofs.ReadLemmas.{lasts_itself, lasts_more}
-use Rattle.queue.proofs.Runs.{does_append, does_none, does_one, leaves_append, leaves_none, leaves_one, served_last}
-use Rattle.queue.specs.Commands.{call_of, outcome_of, kind_of_command, kind_of_outcome}
-use Rattle.queue.specs.Histories.{Call}
-use Rattle.queue.specs.Steps.{DoesAll, LeavesRun}
+use Rattle.history.proofs.Runs.{does_append, does_none, does_one, leaves_append, leaves_none, leaves_one, served_last}
+use Rattle.history.specs.Commands.{call_of, outcome_of, kind_of_command, kind_of_outcome}
+use Rattle.history.specs.Histories.{Call}
+use Rattle.history.specs.Steps.{DoesAll, LeavesRun}
 use Rattle.queue.proofs.archive.Archive.drive.Goals as goal
 
 pub loop-command-preserved : goal.loop-command-preserved

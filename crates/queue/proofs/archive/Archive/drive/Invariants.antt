@@ -1,7 +1,7 @@
 use Rattle.std.proofs.Common.{◌≡◌, ◌≤◌, map, take, vec_len, length}
 use Rattle.std.specs.Vec.{vec_capacity}
-use Rattle.queue.specs.Steps.{DoesAll, IsServedLast, Lasts, LeavesRun}
-use Rattle.queue.specs.Commands.{call_of, outcome_of, kind_of_command, kind_of_outcome}
+use Rattle.history.specs.Steps.{DoesAll, IsServedLast, Lasts, LeavesRun}
+use Rattle.history.specs.Commands.{call_of, outcome_of, kind_of_command, kind_of_outcome}
 use Rattle.queue.proofs.archive.Archive.drive.Given as goal
 
 abbrev pub invariant-loop-command : goal.invariant-loop-command

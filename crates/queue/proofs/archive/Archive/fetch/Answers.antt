@@ -3,10 +3,10 @@ use Rattle.std.specs.Prelude.{⊤}
 use Rattle.std.specs.Option.{option_or}
 use Rattle.std.proofs.lemmas.Result.{err_from_is_err_and}
 use Rattle.keep.specs.Book.{text_at}
-use Rattle.queue.specs.Histories.{Lookup}
-use Rattle.queue.proofs.Kept.{same_by, same_past}
+use Rattle.history.specs.Histories.{Lookup}
+use Rattle.history.proofs.Kept.{same_by, same_past}
 use Rattle.keep.proofs.ReadLemmas.{reads_more}
-use Rattle.queue.proofs.StepAnswers.{found_step, free_lookup, keeper_step, keepers_own}
+use Rattle.history.proofs.StepAnswers.{found_step, free_lookup, keeper_step, keepers_own}
 use Rattle.queue.proofs.archive.Archive.fetch.Goals as goal
 
 pub returns-in_err-body-clause-step : goal.returns-in_err-body-clause-step

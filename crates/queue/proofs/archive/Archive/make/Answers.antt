@@ -1,9 +1,9 @@
 use Rattle.std.proofs.Common.{ap, sym, subst, ◌∙◌}
 use Rattle.std.specs.Prelude.{string_bytes}
-use Rattle.queue.specs.Commands.{call_of, counted, found, names_given, promoted, reported, stored}
-use Rattle.queue.specs.Histories.{Call, Copying, Delivery, Lookup, Promoting, Removing}
-use Rattle.queue.specs.Steps.{Does, LeavesCall}
-use Rattle.queue.proofs.Runs.{leaves_delivery, leaves_read, leaves_step}
+use Rattle.history.specs.Commands.{call_of, counted, found, names_given, promoted, reported, stored}
+use Rattle.history.specs.Histories.{Call, Copying, Delivery, Lookup, Promoting, Removing}
+use Rattle.history.specs.Steps.{Does, LeavesCall}
+use Rattle.history.proofs.Runs.{leaves_delivery, leaves_read, leaves_step}
 use Rattle.queue.proofs.archive.Archive.make.Goals as goal
 
 pub returns-in-Deliver-clause-step : goal.returns-in-Deliver-clause-step

@@ -2,16 +2,16 @@ use Rattle.std.proofs.Common.{◌≡◌, ◌<◌, true, map, length, inl, inr, s
 use Rattle.std.specs.String.{string_bytes}
 use Rattle.std.proofs.lemmas.Result.{err_from_is_err_and}
 use Rattle.rules.specs.Values.{ConfigValue}
-use Rattle.queue.specs.Answers.{copy_line, is_free_copy}
-use Rattle.queue.specs.Commands.{copy_of, names_given}
-use Rattle.queue.specs.Copies.{AreSuites}
-use Rattle.queue.specs.Histories.{Promoting}
-use Rattle.queue.specs.declared.fault.Fault.TheVariants.{Moment}
-use Rattle.queue.proofs.Amended.{left_past}
-use Rattle.queue.proofs.CopyAnswers.{may_copy, named_place}
-use Rattle.queue.proofs.PromotionAnswers.{done_promotion, free_promotion, late_promotion, left_promotion, named_in_promotion, named_promotion, no_promotion_fault, planned_promotion, refused_promotion}
-use Rattle.queue.proofs.Kept.{same_by, same_past, untouched}
-use Rattle.queue.proofs.StepAnswers.{keeper_step, keepers_own, memory_own, memory_step}
+use Rattle.history.specs.Answers.{copy_line, is_free_copy}
+use Rattle.history.specs.Commands.{copy_of, names_given}
+use Rattle.history.specs.Copies.{AreSuites}
+use Rattle.history.specs.Histories.{Promoting}
+use Rattle.history.specs.declared.fault.Fault.TheVariants.{Moment}
+use Rattle.history.proofs.Amended.{left_past}
+use Rattle.history.proofs.CopyAnswers.{may_copy, named_place}
+use Rattle.history.proofs.PromotionAnswers.{done_promotion, free_promotion, late_promotion, left_promotion, named_in_promotion, named_promotion, no_promotion_fault, planned_promotion, refused_promotion}
+use Rattle.history.proofs.Kept.{same_by, same_past, untouched}
+use Rattle.history.proofs.StepAnswers.{keeper_step, keepers_own, memory_own, memory_step}
 use Rattle.queue.proofs.archive.Archive.promote.Goals as goal
 
 pub returns-then-moment-gt-LATEST-clause-step : goal.returns-then-moment-gt-LATEST-clause-step

@@ -1,7 +1,7 @@
 use Rattle.std.proofs.Common.{sym, inl, inr, arith}
 use Rattle.std.proofs.lemmas.Result.{err_from_is_err_and}
 use Rattle.queue.proofs.ReaderLemmas.{Keeps-same}
-use Rattle.queue.proofs.Received.{bad_name, left_stored, may_be_kept, received_new, received_not, received_short, too_large, too_late}
+use Rattle.history.proofs.Received.{bad_name, left_stored, may_be_kept, received_new, received_not, received_short, too_large, too_late}
 use Rattle.queue.proofs.archive.Archive.receive.Goals as goal
 
 pub returns-then-is_file_name-clause-received : goal.returns-then-is_file_name-clause-received

@@ -1,6 +1,6 @@
 use Rattle.std.proofs.Common.{inl, inr, arith}
 use Rattle.std.proofs.lemmas.Result.{err_from_is_err_and}
-use Rattle.queue.proofs.Received.{received_delivered, received_none, received_short, too_long}
+use Rattle.history.proofs.Received.{received_delivered, received_none, received_short, too_long}
 use Rattle.queue.proofs.archive.Archive.receive_record.Goals as goal
 
 pub returns-in_err-skip-clause-received : goal.returns-in_err-skip-clause-received

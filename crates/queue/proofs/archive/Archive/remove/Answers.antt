@@ -1,15 +1,15 @@
 use Rattle.std.proofs.Common.{◌≡◌, true, length, Some, inl, inr, sym, ap, subst, ◌∙◌}
 use Rattle.std.proofs.lemmas.Result.{err_from_is_err_and}
 use Rattle.suites.specs.Plan as plans
-use Rattle.queue.specs.Answers.{is_free_removal}
-use Rattle.queue.specs.Archives.{book_of, suite_named}
-use Rattle.queue.specs.Histories.{Removing}
-use Rattle.queue.specs.Removals.{removal_fault}
-use Rattle.queue.specs.declared.fault.Fault.TheVariants.{Moment}
-use Rattle.queue.proofs.Amended.{left_past}
-use Rattle.queue.proofs.RemovalAnswers.{done_removal, free_removal, late_fault, left_removal, may_remove, no_fault, nothing_fault, planned_removal, refused_removal, unknown_fault, unknown_in}
-use Rattle.queue.proofs.Kept.{same_by, same_past, untouched}
-use Rattle.queue.proofs.StepAnswers.{keeper_step, keepers_own, memory_own, memory_step}
+use Rattle.history.specs.Answers.{is_free_removal}
+use Rattle.history.specs.Archives.{book_of, suite_named}
+use Rattle.history.specs.Histories.{Removing}
+use Rattle.history.specs.Removals.{removal_fault}
+use Rattle.history.specs.declared.fault.Fault.TheVariants.{Moment}
+use Rattle.history.proofs.Amended.{left_past}
+use Rattle.history.proofs.RemovalAnswers.{done_removal, free_removal, late_fault, left_removal, may_remove, no_fault, nothing_fault, planned_removal, refused_removal, unknown_fault, unknown_in}
+use Rattle.history.proofs.Kept.{same_by, same_past, untouched}
+use Rattle.history.proofs.StepAnswers.{keeper_step, keepers_own, memory_own, memory_step}
 use Rattle.queue.proofs.archive.Archive.remove.Goals as goal
 
 pub returns-then-moment-gt-LATEST-clause-step : goal.returns-then-moment-gt-LATEST-clause-step

@@ -1,10 +1,10 @@
 use Rattle.std.proofs.Common.{ap, ◌∙◌}
 use Rattle.std.specs.Prelude.{⊤, map}
 use Rattle.std.proofs.lemmas.Result.{err_from_is_err_and}
-use Rattle.queue.specs.Answers.{report_line}
-use Rattle.queue.specs.Histories.{VerdictList}
-use Rattle.queue.proofs.Kept.{same_by}
-use Rattle.queue.proofs.StepAnswers.{free_verdicts, keeper_step, keepers_own, memory_own, memory_step, verdicts_step}
+use Rattle.history.specs.Answers.{report_line}
+use Rattle.history.specs.Histories.{VerdictList}
+use Rattle.history.proofs.Kept.{same_by}
+use Rattle.history.proofs.StepAnswers.{free_verdicts, keeper_step, keepers_own, memory_own, memory_step, verdicts_step}
 use Rattle.queue.proofs.archive.Archive.verdicts.Goals as goal
 
 pub returns-in_err-judged-clause-step : goal.returns-in_err-judged-clause-step

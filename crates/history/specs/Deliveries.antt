@@ -1,0 +1,45 @@
+-- Which deliveries are refused, whatever the archive holds.
+use Rattle.std.specs.Prelude.{ℕ, Bool, IsTrue, ⊤, not, nat_lt, if◌then◌else◌, List, length, Option, Some, None, Result, Ok, Err}
+use Rattle.keep.specs.Book.{latest}
+use Rattle.keep.specs.declared.fault.KeepFault.{KeepFault}
+use Rattle.keep.specs.declared.fault.KeepFault.TheVariants as keep_faults
+use Rattle.records.specs.Records.{changes_in}
+use Rattle.records.specs.Values.{ChangesValue}
+use Rattle.records.specs.declared.fault.RecordFault.{RecordFault}
+use Rattle.history.specs.declared.fault.Fault.{Fault}
+use Rattle.history.specs.declared.fault.Fault.TheVariants.{OutOfMemory, BadName, TooLarge, Record, Keeper, Moment}
+use Rattle.sums.specs.FileNames.{is_changes_name, is_file_name}
+use Rattle.sums.specs.Lines.{most_size}
+
+abbrev pub fault_of_read : Result ChangesValue RecordFault → Option Fault
+fault_of_read (Ok changes) = None
+fault_of_read (Err fault) = Some (Record fault)
+
+-- the body of a .changes has to be one
+unfoldable pub record_fault : List ℕ → List ℕ → Option Fault
+record_fault name body = if is_changes_name name then fault_of_read (changes_in body) else None
+
+abbrev pub or_else : Option Fault → Option Fault → Option Fault
+or_else None other = other
+or_else (Some fault) other = Some fault
+
+-- Why a delivery is refused by its name, its body and its moment alone, the lowest that applies: the name is no file name,
+-- the body is too large, the body of a .changes is none, the moment is too late.
+unfoldable pub delivery_fault : List ℕ → List ℕ → ℕ → Option Fault
+delivery_fault name body moment =
+    if not (is_file_name name) then Some BadName
+    else (if nat_lt most_size (length body) then Some TooLarge
+    else or_else (record_fault name body) (if nat_lt latest moment then Some Moment else None))
+
+-- a fault of the disk or of size
+abbrev pub IsOfDisk : KeepFault → Type 0
+IsOfDisk keep_faults.Disk = ⊤
+IsOfDisk keep_faults.Size = ⊤
+IsOfDisk fault = ⊥
+
+-- The refusal is the keeper's own: want of memory, or a disk or size that failed, where the keeper can have one and the call
+-- is free of any other refusal.
+abbrev pub IsKeepers : Bool → (free : Type 0) → Fault → Type 0
+IsKeepers may_fail free OutOfMemory = ⊤
+IsKeepers may_fail free (Keeper fault) = IsTrue may_fail × IsOfDisk fault × free
+IsKeepers may_fail free fault = ⊥

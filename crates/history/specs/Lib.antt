@@ -1,0 +1,16 @@
+pub mod Fault
+pub mod Deliveries
+pub mod Before
+pub mod Histories
+pub mod Archives
+pub mod Copies
+pub mod Removals
+pub mod Amending
+pub mod Answers
+pub mod Promotions
+pub mod Steps
+pub mod Receiving
+pub mod Reports
+pub mod Commands
+pub mod Judging
+pub mod Configuring

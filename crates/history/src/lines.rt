@@ -1,0 +1,45 @@
+//! Lines on uploads: the verdict of one that was judged, and what one lacks that waits.
+
+ghost use Rattle.std.specs.Prelude.{◌≡◌, IfOk, map, string_bytes};
+ghost use Rattle.keep.specs.Book.{judgements};
+ghost use Rattle.history.specs.Answers.{report_line, line_on_waiting};
+
+use keep::{Judgement, Step, Waiting};
+use rules::Verdict;
+use std::alloc::{AllocError, Global};
+
+/// A line of a report: `accepted NAME`, or `refused NUMBER NAME`.
+#[tactic(auto, unfolding(crate::specs::Answers::report_line))]
+pub fn report_line(alloc: Global, judgement: &Judgement) -> Result<String, AllocError>
+    ensures { IfOk result (λ line. string_bytes line ≡ report_line judgement.now) }
+{
+    let name = judgement.name.as_str();
+    match judgement.verdict {
+        Verdict::Accepted => format!(in alloc; "accepted {name}"),
+        verdict => {
+            let number = verdict.number();
+            format!(in alloc; "refused {number} {name}")
+        }
+    }
+}
+
+/// The lines of a report on these steps.
+pub fn report_lines(alloc: Global, steps: &[Step]) -> Result<Vec<String>, AllocError>
+    ensures { IfOk result (λ lines. map string_bytes lines.items ≡ map report_line (judgements steps.now)) }
+{
+    let mut lines = Vec::new(alloc);
+    for step in steps {
+        if let Some(judgement) = &step.judgement {
+            lines.push(report_line(alloc, judgement)?)?;
+        }
+    }
+    Ok(lines)
+}
+
+/// A line on an upload without a verdict: the number of its listed files that are missing, and its name.
+pub fn waiting_line(alloc: Global, upload: &Waiting) -> Result<String, AllocError>
+    ensures { IfOk result (λ line. string_bytes line ≡ line_on_waiting upload.now) }
+{
+    let (missing, name) = (upload.missing, upload.name.as_str());
+    format!(in alloc; "{missing} {name}")
+}

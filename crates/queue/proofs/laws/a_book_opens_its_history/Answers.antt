@@ -1,5 +1,0 @@
-use Rattle.queue.proofs.Reopening.{opens_itself}
-use Rattle.queue.proofs.laws.a_book_opens_its_history.Goals as goal
-
-pub returns : goal.returns
-returns c = opens_itself

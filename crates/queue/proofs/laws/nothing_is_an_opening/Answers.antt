@@ -1,5 +1,0 @@
-use Rattle.queue.proofs.Openings.{fresh_opening}
-use Rattle.queue.proofs.laws.nothing_is_an_opening.Goals as goal
-
-pub returns : goal.returns
-returns c = fresh_opening

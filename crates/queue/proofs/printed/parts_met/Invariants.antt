@@ -1,6 +1,0 @@
-use Rattle.std.proofs.Common.{◌≡◌, ◌++◌, take}
-use Rattle.queue.specs.Printed.{joined}
-use Rattle.queue.proofs.printed.parts_met.Given as goal
-
-abbrev pub invariant-loop-index : goal.invariant-loop-index
-invariant-loop-index l = joined (take l.index l.parts) ++ l.rest ≡ l.text

@@ -1,0 +1,5 @@
+pub mod RenewedShelves
+pub mod RenewedTexts
+pub mod RenewedSteps
+pub mod PrintedLemmas
+pub mod Renewed

@@ -1,0 +1,10 @@
+//! The index texts that a change makes other than before, and what is handed to a keeper with another configuration.
+#![tactic(auto)]
+
+mod configuring;
+mod printed;
+mod renewal;
+
+pub use configuring::configured;
+pub use printed::PrintedText;
+pub use renewal::renewed_texts;
