@@ -3,3 +3,4 @@ pub mod Shown
 pub mod Sections
 pub mod Backwards
 pub mod Alike
+pub mod Addresses

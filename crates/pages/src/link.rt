@@ -18,7 +18,7 @@ const NUMBERED: AsciiSet = ascii_set!(
 );
 
 /// The address of a path, behind a front such as `../../`.
-#[tactic(auto, unfolding(crate::specs::Links::address))]
+#[tactic(auto, using(crate::proofs::Addresses::percent_encode_is), unfolding(crate::specs::Links::address))]
 fn address(alloc: Global, front: &str, path: &str) -> Result<String, AllocError>
     ensures { IfOk result (λ text. string_bytes text ≡ address front.now path.now) }
 {
