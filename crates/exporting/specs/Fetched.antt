@@ -4,7 +4,7 @@ use Rattle.keep.specs.declared.keeper.Keeper.{Ghosts}
 use Rattle.queue.specs.Histories.{Lookup, Found}
 use Rattle.queue.specs.Steps.{Does}
 use Rattle.texts.specs.Indices.{path_in}
-use Rattle.exporting.specs.Names.{state_name}
+use Rattle.exported.specs.Names.{state_name}
 
 -- Behind each history whose book is kept, these are the bytes that its plain archive has at the path.
 abbrev pub IsFetched : {K : Type 0} (g : Ghosts K) (old : K) (path body : List ℕ) (new : K) → Type 0

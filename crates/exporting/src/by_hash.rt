@@ -5,8 +5,8 @@
 
 use crate::disk::{Disk, bytes_at, is_file_at, make_folder, name_too};
 use crate::fault::ExportFault;
-use crate::names::{folder_of, in_dists, inside};
 use crate::states::Wanted;
+use exported::{folder_of, in_dists, inside};
 
 /// A text that a Release lists: its digest, and its path from the folder of the Release.
 #[derive(Clone, Copy)]

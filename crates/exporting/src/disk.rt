@@ -3,7 +3,7 @@
 //! Each function that fails at a path says so by `ExportFault::Place` of that path.
 
 use crate::fault::ExportFault;
-use crate::names::{folder_of, own};
+use exported::{Stamp, folder_of, own};
 use std::alloc::Global;
 use std::fs::{self, File, FileTimes, Metadata, OpenFile};
 use std::io::{self, ErrorKind, Read, Write};
@@ -16,13 +16,6 @@ use sums::{Print, Printer};
 pub trait Disk: Files + Clock + AllocGlobal + Clone + Drop {}
 
 impl<R: Files + Clock + AllocGlobal + Clone + Drop> Disk for R {}
-
-/// When a file was modified last, in seconds and nanoseconds since 1970-01-01 00:00:00 UTC. What is before that counts as that.
-#[derive(Clone, Copy, Debug, PartialEq, Eq)]
-pub struct Stamp {
-    pub seconds: u64,
-    pub nanos: u32,
-}
 
 /// How many bytes of a file are read at once.
 const PIECE: usize = 65_536;

@@ -26,8 +26,6 @@ mod fault;
 mod lacking;
 mod looking;
 mod making;
-mod manifest;
-mod names;
 mod showing;
 mod states;
 mod web;

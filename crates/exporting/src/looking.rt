@@ -3,10 +3,9 @@
 //! The word of the manifest counts where the disk still has a regular file of that size, modified at that moment. Any other file is read,
 //! and known by its print.
 
-use crate::disk::{Disk, Stamp, print_at, seen_at, stamp_of};
+use crate::disk::{Disk, print_at, seen_at, stamp_of};
 use crate::fault::ExportFault;
-use crate::manifest::{Manifest, Vouched, Word};
-use crate::names::inside;
+use exported::{Manifest, Stamp, Vouched, Word, inside};
 use std::collections::BTreeMap;
 use std::fs::Metadata;
 use suites::Shelves;

@@ -11,8 +11,8 @@ use crate::disk::{
     Disk, make_folder, remove_folder, rename, sync_folder, touch_behind, write_file,
 };
 use crate::fault::ExportFault;
-use crate::names::{folder_of, in_dists, inside, new_name};
 use crate::states::Wanted;
+use exported::{folder_of, in_dists, inside, new_name};
 use keep::Keeper;
 use pages::suite_page;
 use queue::Archive;

@@ -10,9 +10,8 @@ use crate::disk::{
 use crate::fault::ExportFault;
 use crate::looking::here;
 use crate::making::{body_at, make_state, touch_release};
-use crate::manifest::{Manifest, Word};
-use crate::names::{folder_of, in_dists, inside, is_state_of, new_name, own};
 use crate::states::{Standing, Wanted};
+use exported::{Manifest, Word, folder_of, in_dists, inside, is_state_of, new_name, own};
 use keep::Keeper;
 use queue::Archive;
 use std::alloc::{AllocError, Global};

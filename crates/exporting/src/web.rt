@@ -7,7 +7,7 @@ ghost use Rattle.queue.specs.Steps.{Reads};
 use crate::disk::{Disk, bytes_at, place};
 use crate::fault::ExportFault;
 use crate::lacking::lacking_uploads;
-use crate::names::inside;
+use exported::inside;
 use keep::Keeper;
 use pages::{index_page, uploads_page};
 use queue::Archive;

@@ -1,5 +1,5 @@
 use Rattle.std.proofs.Common.{ap, ◌∙◌}
-use Rattle.exporting.specs.Names.{state_name}
+use Rattle.exported.specs.Names.{state_name}
 use Rattle.exporting.proofs.states.wanted_state.Goals as goal
 
 pub returns-clause-named : goal.returns-clause-named

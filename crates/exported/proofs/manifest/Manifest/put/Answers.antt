@@ -1,7 +1,7 @@
 use Rattle.std.proofs.Common.{ap, ◌∙◌}
-use Rattle.exporting.specs.Names.{is_pool_path}
-use Rattle.exporting.proofs.PathLemmas.{inserted_or_not}
-use Rattle.exporting.proofs.manifest.Manifest.put.Goals as goal
+use Rattle.exported.specs.Names.{is_pool_path}
+use Rattle.exported.proofs.PathLemmas.{inserted_or_not}
+use Rattle.exported.proofs.manifest.Manifest.put.Goals as goal
 
 pub invariant_of-self-2 : goal.invariant_of-self-2
 invariant_of-self-2 c = record {

@@ -1,8 +1,8 @@
 -- The paths so far lead to files of the pool, and so do those that are not looked at yet.
 use Rattle.std.proofs.Common.{◌≡◌, true}
 use Rattle.std.specs.List.{list_all}
-use Rattle.exporting.specs.Names.{have_pool_paths, is_pool_path}
-use Rattle.exporting.proofs.manifest.Manifest.left.Given as goal
+use Rattle.exported.specs.Names.{have_pool_paths, is_pool_path}
+use Rattle.exported.proofs.manifest.Manifest.left.Given as goal
 
 abbrev pub invariant-loop-path : goal.invariant-loop-path
 invariant-loop-path l = record {

@@ -1,8 +1,8 @@
 use Rattle.std.proofs.Common.{arith, rules}
 use Rattle.std.proofs.lemmas.Iterator.Search.{all_from_yields_List}
 use Rattle.std.proofs.lemmas.Iterator.Splits.{YieldsList-from_str_split}
-use Rattle.exporting.specs.Names.{is_part}
-use Rattle.exporting.proofs.names.has_parts.Goals as goal
+use Rattle.exported.specs.Names.{is_part}
+use Rattle.exported.proofs.names.has_parts.Goals as goal
 
 pub returns : goal.returns
 returns c =

@@ -4,9 +4,9 @@ use Rattle.std.specs.Fmt.{format_spec, decimal, styled_decimal}
 use Rattle.std.specs.declared.string.String.{String}
 use Rattle.std.specs.declared.alloc.Global.{Global}
 use Rattle.hex.specs.Hex.{encode_lower}
-use Rattle.exporting.specs.declared.manifest.Shown.{Shown}
-use Rattle.exporting.specs.declared.manifest.Word.{Word}
-use Rattle.exporting.specs.declared.manifest.Word.TheVariants.{Here, Coming, Left}
+use Rattle.exported.specs.declared.manifest.Shown.{Shown}
+use Rattle.exported.specs.declared.manifest.Word.{Word}
+use Rattle.exported.specs.declared.manifest.Word.TheVariants.{Here, Coming, Left}
 
 -- the decimal digits of a number, with zeros in front up to nine
 abbrev pub nine_digits : ℕ → List ℕ

@@ -13,11 +13,10 @@
 
 ghost use Rattle.std.specs.Prelude.{◌≡◌, true, IfOk, IfSome, string_bytes};
 ghost use Rattle.std.specs.List.{list_all};
-ghost use Rattle.exporting.specs.Lines.{nine_digits, path_line as line_of_path, shown_line as line_of_suite, states_line as line_of_states};
+ghost use Rattle.exported.specs.Lines.{nine_digits, path_line as line_of_path, shown_line as line_of_suite, states_line as line_of_states};
 ghost use Rattle.hex.specs.Hex.{encode_lower};
-ghost use Rattle.exporting.specs.Names.{have_pool_paths, is_pool_path as is_path_in_pool};
+ghost use Rattle.exported.specs.Names.{have_pool_paths, is_pool_path as is_path_in_pool};
 
-use crate::disk::Stamp;
 use crate::names::is_pool_path;
 use hex::FromHex;
 use para::Text;
@@ -26,6 +25,13 @@ use std::collections::BTreeMap;
 
 /// The first line of a manifest.
 const FIRST: &str = "boqitsel files 1";
+
+/// When a file was modified last, in seconds and nanoseconds since 1970-01-01 00:00:00 UTC. What is before that counts as that.
+#[derive(Clone, Copy, Debug, PartialEq, Eq)]
+pub struct Stamp {
+    pub seconds: u64,
+    pub nanos: u32,
+}
 
 /// The contents of a file that an export has written or compared, and when it was modified then.
 #[derive(Clone, Copy, PartialEq, Eq)]

@@ -3,7 +3,7 @@
 ghost use Rattle.std.specs.Prelude.{◌≡◌, IfOk, take, string_bytes};
 ghost use Rattle.std.specs.List.{list_all, slice_split};
 ghost use Rattle.hex.specs.Hex.{encode_lower};
-ghost use Rattle.exporting.specs.Names.{is_part as is_part_of_path, is_plain as is_plain_byte, is_pool_path as is_path_in_pool, ends_part, state_name as name_of_state};
+ghost use Rattle.exported.specs.Names.{is_part as is_part_of_path, is_plain as is_plain_byte, is_pool_path as is_path_in_pool, ends_part, state_name as name_of_state};
 
 use std::alloc::{AllocError, Global};
 use sums::print_of;

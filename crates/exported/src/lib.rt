@@ -1,0 +1,10 @@
+//! What an export leaves in a tree of files, as texts: the paths and names in it, and the manifest for the next export.
+#![tactic(auto)]
+
+mod manifest;
+mod names;
+
+pub use manifest::{Known, Manifest, Shown, Stamp, Vouched, Word};
+pub use names::{
+    OWN, folder_of, in_dists, inside, is_pool_path, is_state_of, new_name, own, state_name,
+};
