@@ -1,10 +1,9 @@
 //! The program: an archive on the command line.
 #![tactic(auto)]
 
-mod copied;
-mod database;
+mod acting;
 
-use crate::database::act_in_file;
+use crate::acting::act_in_file;
 use program::explain;
 use std::alloc::{AllocError, Global};
 use std::io::Write;

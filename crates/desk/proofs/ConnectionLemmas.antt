@@ -1,7 +1,7 @@
 -- Connections that were served, and others behind them.
 use Rattle.std.proofs.Common.{◌≡◌, ◌≤◌, ◌+◌, ℕ, List, [], ◌∷◌, ◌++◌, Option, Some, Result, Ok, Err, refl, sym, ap, subst, ◌⊎◌, inl, inr, ◌∙◌, append-nil, length-append, arith}
 use Rattle.std.proofs.lemmas.Grind.{flat_map-append}
-use Rattle.std.proofs.lemmas.List.Elements.{All-append, All-nil, All-weaker}
+use Rattle.std.proofs.lemmas.List.Elements.{All-append, All-contains, All-nil, All-weaker}
 use Rattle.std.specs.Prelude.{All, Contains, length}
 use Rattle.keep.specs.Book.{Book, HasItsFiles}
 use Rattle.keep.specs.Keeping.{HasBodies, NoCollision}
@@ -10,13 +10,14 @@ use Rattle.queue.specs.Answers.{IsFaithful, IsKept, IsRun}
 use Rattle.queue.specs.Archives.{Stands, book_of}
 use Rattle.queue.specs.Histories.{Call, Reply, History, followed, bodies_of, opened_with}
 use Rattle.queue.specs.Steps.{Does, Lasts, Reads}
-use Rattle.queue.specs.declared.fault.Fault.{Fault}
-use Rattle.queue.proofs.Kept.{stands_kept}
+use Rattle.history.specs.declared.fault.Fault.{Fault}
+use Rattle.history.proofs.Kept.{stands_kept}
 use Rattle.keep.proofs.ReadLemmas.{lasts_itself, lasts_more, reads_none}
-use Rattle.queue.proofs.Reopening.{opens_itself}
-use Rattle.queue.proofs.Runs.{IsFaithful-front, IsFaithful-rest, IsRun-append}
+use Rattle.history.proofs.Reopening.{opens_itself}
+use Rattle.history.proofs.Runs.{IsFaithful-front, IsFaithful-rest, IsRun-append}
+use Rattle.texts.proofs.Pairs.{pairs_append, pairs_none}
 use Rattle.desk.specs.Calls.{call_wanted}
-use Rattle.desk.specs.Connections.{Visit, visit, visits, AllWent, AreServed, HasServed, IsLeftAmong, IsLeftIn, IsServed, IsAt, behind, calls_in, calls_of_course, outcomes_in, outcomes_of_course}
+use Rattle.desk.specs.Connections.{Visit, visit, visits, AllWent, AreServed, HasServed, IsLeftAmong, IsLeftIn, IsServed, IsAt, IsNoLater, NeverFall, behind, calls_in, calls_of_course, outcomes_in, outcomes_of_course}
 use Rattle.desk.specs.Exchange.{Course, Silent, TurnedAway, Short, Broken, Called, Leaves, LeavesCourse}
 use Rattle.desk.specs.Want.{Want}
 use Rattle.desk.specs.declared.connection.Connection.{Connection}
@@ -179,29 +180,32 @@ module _ {K : Type 0} (g : Ghosts K) where
       (record { bodies = bodies; apart = apart; opened = record { known = have; whole = whole }; delivered = there }) clean
 
   -- one turn of connections, and a read between two turns
-  pub a_turn : (most : ℕ) (Fits : Visit → Type 0) (before after : K) (vs : List Visit) → length vs ≤ most → All Fits vs → Lasts g before after → AreServed g before after vs
-      → HasServed g most Fits before after
-  a_turn most Fits before after vs number fit lasts served = record { visits = vs; number = number; fit = fit; lasts = lasts; served = served }
+  pub a_turn : (most : ℕ) (Fits : Visit → Type 0) (before after : K) (vs : List Visit) → length vs ≤ most → All Fits vs → NeverFall vs → Lasts g before after
+      → AreServed g before after vs → HasServed g most Fits before after
+  a_turn most Fits before after vs number fit rise lasts served = record { visits = vs; number = number; fit = fit; rise = rise; lasts = lasts; served = served }
 
   pub no_turn : (most : ℕ) (Fits : Visit → Type 0) (k : K) → HasServed g most Fits k k
-  no_turn most Fits k = a_turn most Fits k k [] (omega arith) (All-nil Fits) (lasts_itself k) (served_none k k (reads_none k))
+  no_turn most Fits k = a_turn most Fits k k [] (omega arith) (All-nil Fits) (pairs_none IsNoLater) (lasts_itself k) (served_none k k (reads_none k))
 
   pub turn_and_read : (most : ℕ) (Fits : Visit → Type 0) (before mid after : K) → HasServed g most Fits before mid → Reads g mid after → HasServed g most Fits before after
   turn_and_read most Fits before mid after turn reads = record {
     visits = turn.visits;
     number = turn.number;
     fit = turn.fit;
+    rise = turn.rise;
     lasts = lasts_more turn.lasts reads.lasts;
     served = subst (AreServed g before after) (append-nil turn.visits) (served_joined before mid after turn.visits [] reads.lasts.clean turn.served (served_none mid after reads));
   }
 
-  -- others behind the first, all of which are as this says
+  -- others behind the first, none at an earlier moment, all of which are as this says
   pub two_turns : (most more whole : ℕ) (One Other Fits : Visit → Type 0) (before mid after : K) → most + more ≤ whole → ((v : Visit) → One v → Fits v) → ((v : Visit) → Other v → Fits v)
-      → HasServed g most One before mid → HasServed g more Other mid after → HasServed g whole Fits before after
-  two_turns most more whole One Other Fits before mid after within one_fits other_fits first others = record {
+      → ((v w : Visit) → One v → Other w → IsNoLater v w) → HasServed g most One before mid → HasServed g more Other mid after → HasServed g whole Fits before after
+  two_turns most more whole One Other Fits before mid after within one_fits other_fits later first others = record {
     visits = first.visits ++ others.visits;
     number = omega (arith, first.number, others.number, within, length-append first.visits others.visits);
     fit = All-append Fits first.visits others.visits (All-weaker One Fits one_fits first.visits first.fit) (All-weaker Other Fits other_fits others.visits others.fit);
+    rise = pairs_append IsNoLater first.visits others.visits first.rise others.rise
+        (λ v w here there. later v w (All-contains One first.visits v first.fit here) (All-contains Other others.visits w others.fit there));
     lasts = lasts_more first.lasts others.lasts;
     served = served_joined before mid after first.visits others.visits others.lasts.clean first.served others.served;
   }

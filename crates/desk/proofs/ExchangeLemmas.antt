@@ -10,11 +10,11 @@ use Rattle.queue.specs.Commands.{is_new, stored}
 use Rattle.queue.specs.Histories.{Call, Delivery, History, Reply as Answered, Stored, followed}
 use Rattle.queue.specs.Receiving.{Gave, IsAsBefore, IsReceived, IsRefusedFor, LeavesReceived}
 use Rattle.queue.specs.Steps.{Does, IsServed, LeavesCall}
-use Rattle.queue.specs.declared.command.Arrived.{Arrived}
-use Rattle.queue.specs.declared.fault.Fault.{Fault}
-use Rattle.queue.specs.declared.fault.Fault.TheVariants as fault
+use Rattle.history.specs.declared.command.Arrived.{Arrived}
+use Rattle.history.specs.declared.fault.Fault.{Fault}
+use Rattle.history.specs.declared.fault.Fault.TheVariants as fault
 use Rattle.queue.specs.declared.reading.ReaderFailed.{ReaderFailed}
-use Rattle.queue.proofs.Received.{refused_does}
+use Rattle.history.proofs.Received.{refused_does}
 use Rattle.desk.specs.Answer.{refusal_message}
 use Rattle.desk.specs.Calls.{call_wanted, done_message, fault_message, reception_message}
 use Rattle.desk.specs.Exchange.{Course, HasReadBehind, IsCalled, IsCarriedOut, IsHandledWith, IsLeftBehind, IsLeftBy, Leaves, LeavesBehind, LeavesCourse, LeavesOr, MayHaveCome, Silent, TurnedAway, Short, Broken, Called, reply_of}

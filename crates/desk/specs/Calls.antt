@@ -4,8 +4,8 @@ use Rattle.std.specs.List.{flat_map}
 use Rattle.queue.specs.Answers.{copy_line}
 use Rattle.queue.specs.Fault.{fault_text}
 use Rattle.queue.specs.Histories.{Call, Delivery, QueueRun, Copying, Lookup, WaitingList, Cleaning, Removing, Promoting, VerdictList, Reply, Stored, Lines, Count, Found, Copies}
-use Rattle.queue.specs.declared.fault.Fault.{Fault}
-use Rattle.queue.specs.declared.fault.Fault.TheVariants as fault
+use Rattle.history.specs.declared.fault.Fault.{Fault}
+use Rattle.history.specs.declared.fault.Fault.TheVariants as fault
 use Rattle.desk.specs.Answer.{refusal_message, text_message}
 use Rattle.desk.specs.Reply.{Message, line}
 use Rattle.desk.specs.Want.{Want, delivery, queue_run, copying, fetching, waiting_list, cleaning, verdict_list, removing, promoting}

@@ -1,13 +1,13 @@
 -- Connections, served one after the other.
 use Rattle.std.specs.Prelude.{◌≡◌, ◌≤◌, ◌⊎◌, ℕ, List, [], ◌∷◌, length, All, Option, Some, None, Result, Ok, Err, ⊤}
-use Rattle.std.specs.List.{flat_map}
+use Rattle.std.specs.List.{AllPairs, flat_map}
 use Rattle.keep.specs.Book.{Book}
 use Rattle.keep.specs.declared.keeper.Keeper.{Ghosts}
 use Rattle.queue.specs.Answers.{IsFaithful, IsKept, IsRun, answer}
 use Rattle.queue.specs.Archives.{book_of}
 use Rattle.queue.specs.Histories.{Call, Reply, History, followed}
 use Rattle.queue.specs.Steps.{Lasts}
-use Rattle.queue.specs.declared.fault.Fault.{Fault}
+use Rattle.history.specs.declared.fault.Fault.{Fault}
 use Rattle.desk.specs.Calls.{call_wanted}
 use Rattle.desk.specs.Exchange.{Course, Called, HasRead, HasWritten, IsAnswered, IsLeftBy, MayHaveCome}
 use Rattle.desk.specs.Want.{Want}
@@ -121,10 +121,20 @@ pub record AreServed {K : Type 0} (g : Ghosts K) (before after : K) (vs : List V
   pub crash : (h : History) → IsKept (g.is_open before) (g.book before) h → IsFaithful h (calls_in courses) → g.is_clean after
       → (left : Option Book) → g.may_leave after left → g.may_leave before left ⊎ IsLeftAmong h vs courses left
 
--- At most so many connections were served, each of which is as this says, and what else was asked of the archive was read.
+-- a connection, and one at the same moment or a later one
+abbrev pub IsNoLater : Visit → Visit → Type 0
+IsNoLater v w = v.moment ≤ w.moment
+
+-- The moments of connections in this order never fall: none is before that of an earlier connection.
+abbrev pub NeverFall : List Visit → Type 0
+NeverFall vs = AllPairs IsNoLater vs
+
+-- At most so many connections were served, each of which is as this says, at moments that never fall, and what else was asked of the
+-- archive was read.
 pub record HasServed {K : Type 0} (g : Ghosts K) (most : ℕ) (Fits : Visit → Type 0) (before after : K) : Type 0 where
   pub visits : List Visit
   pub number : length visits ≤ most
   pub fit : All Fits visits
+  pub rise : NeverFall visits
   pub lasts : Lasts g before after
   pub served : AreServed g before after visits

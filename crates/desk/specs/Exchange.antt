@@ -8,7 +8,7 @@ use Rattle.queue.specs.Archives.{book_of}
 use Rattle.queue.specs.Histories.{Call, Reply, History, followed}
 use Rattle.queue.specs.Receiving.{IsAsBefore}
 use Rattle.queue.specs.Steps.{Does, LeavesCall}
-use Rattle.queue.specs.declared.fault.Fault.{Fault}
+use Rattle.history.specs.declared.fault.Fault.{Fault}
 use Rattle.desk.specs.Answer.{refusal_message}
 use Rattle.desk.specs.Calls.{call_wanted, outcome_message}
 use Rattle.desk.specs.Incoming.{ReadsBeginning, ReadsUpTo}

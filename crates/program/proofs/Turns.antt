@@ -1,12 +1,19 @@
 -- Connections that were served within moments, and others behind them.
-use Rattle.std.proofs.Common.{◌≤◌, ◌+◌, ℕ, arith}
-use Rattle.desk.specs.Connections.{HasServed, IsClientsWithin, Visit}
-use Rattle.desk.proofs.ConnectionLemmas.{no_turn, two_turns}
+use Rattle.std.proofs.Common.{◌≤◌, ◌+◌, ℕ, List, All, arith}
+use Rattle.desk.specs.Connections.{HasServed, IsClientsWithin, NeverFall, Visit}
+use Rattle.desk.proofs.ConnectionLemmas.{two_turns}
 use Rattle.keep.specs.declared.keeper.Keeper.{Ghosts}
 
 -- a later last moment, and an earlier first one
 within : (first last from to : ℕ) (v : Visit) → from ≤ first → last ≤ to → IsClientsWithin first last v → IsClientsWithin from to v
 within first last from to v early late it = record { from_first = omega (arith, it.from_first, early); to_last = omega (arith, it.to_last, late); foreign = it.foreign }
+
+-- connections that are all at one moment
+pub at_one_moment : (moment : ℕ) (vs : List Visit) → All (IsClientsWithin moment moment) vs → NeverFall vs
+at_one_moment moment vs all = λ i j d below within.
+    let earlier = all i d (omega (arith, below, within)) in
+    let later = all j d within in
+    omega (arith, earlier.to_last, later.from_first)
 
 module _ {K : Type 0} (g : Ghosts K) where
   -- one more connection, behind the last moment
@@ -14,11 +21,17 @@ module _ {K : Type 0} (g : Ghosts K) where
       → HasServed g served (IsClientsWithin first last) before mid → HasServed g 1 (IsClientsWithin from next) mid after → HasServed g whole (IsClientsWithin first next) before after
   one_more served whole first last from next before mid after room up on to sofar one =
       two_turns g served 1 whole (IsClientsWithin first last) (IsClientsWithin from next) (IsClientsWithin first next) before mid after room
-      (λ v it. within first last first next v (omega arith) (omega (arith, on, to)) it) (λ v it. within from next first next v (omega (arith, up, on)) (omega arith) it) sofar one
+      (λ v it. within first last first next v (omega arith) (omega (arith, on, to)) it) (λ v it. within from next first next v (omega (arith, up, on)) (omega arith) it)
+      (λ v w here there. omega (arith, here.to_last, there.from_first, on)) sofar one
 
   -- more may have been
   pub or_more : (served whole first last : ℕ) (before after : K) → served ≤ whole → HasServed g served (IsClientsWithin first last) before after
       → HasServed g whole (IsClientsWithin first last) before after
-  or_more served whole first last before after room sofar =
-      two_turns g served 0 whole (IsClientsWithin first last) (IsClientsWithin first last) (IsClientsWithin first last) before after after (omega (arith, room))
-      (λ v it. it) (λ v it. it) sofar (no_turn g 0 (IsClientsWithin first last) after)
+  or_more served whole first last before after room sofar = record {
+    visits = sofar.visits;
+    number = omega (arith, sofar.number, room);
+    fit = sofar.fit;
+    rise = sofar.rise;
+    lasts = sofar.lasts;
+    served = sofar.served;
+  }

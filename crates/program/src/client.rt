@@ -4,7 +4,7 @@ ghost use Rattle.std.specs.Io.{ReadsAtMost, WritesAtMost};
 
 use std::alloc::Global;
 use std::cell::Cell;
-use std::io::{self, Read, Write};
+use std::io::{self, BufReader, Read, Write};
 use std::net::TcpStream;
 use std::time::{Clock, Duration, Instant};
 
@@ -115,15 +115,17 @@ impl<R: Clock> Client<'_, R> {
     }
 }
 
-/// What a client sends.
+/// A reader that gives what a client sends, from its first byte on, and nothing else. None is one but those that this module names.
+pub trait FromOutside {}
+
+/// The stream of a client: its first byte is waited for as long as the patience says, and then for as long as it is silent.
 #[derive(Drop)]
-pub struct FromClient<'f, 'c, R> {
-    pub client: &'f Client<'c, R>,
-    pub line: &'f mut FirstLine,
+pub struct ClientStream<'s, 'c, R> {
+    pub client: &'s Client<'c, R>,
     pub has_begun: bool,
 }
 
-impl<R: Clock> Read for FromClient<'_, '_, R> {
+impl<R: Clock> Read for ClientStream<'_, '_, R> {
     fn read(&mut self, buf: &mut [u8]) -> io::Result<usize> {
         let patience = self.client.patience;
         let most = if self.has_begun {
@@ -133,10 +135,33 @@ impl<R: Clock> Read for FromClient<'_, '_, R> {
         };
         let count = self.client.read_within(most, buf)?;
         self.has_begun = true;
+        Ok(count)
+    }
+}
+
+/// What a client sends: what this source gives, of which the first line is noted.
+#[derive(Drop)]
+pub struct FromClient<'l, S> {
+    pub source: S,
+    pub line: &'l mut FirstLine,
+}
+
+impl<S: Read> Read for FromClient<'_, S> {
+    // The bytes are those of the source.
+    ghost remaining = { λ reader. S.remaining reader.source };
+
+    fn read(&mut self, buf: &mut [u8]) -> io::Result<usize> {
+        let count = self.source.read(buf)?;
         self.line.take_all(buf.get(..count).unwrap_or(&[]));
         Ok(count)
     }
 }
+
+impl<R> FromOutside for FromClient<'_, ClientStream<'_, '_, R>> {}
+
+impl<R> FromOutside for BufReader<&mut FromClient<'_, ClientStream<'_, '_, R>>> {}
+
+impl<I: FromOutside> FromOutside for &mut I {}
 
 /// What a client is sent, and how many bytes it has been sent so far.
 #[derive_where(Clone, Copy)]

@@ -1,24 +1,50 @@
 //! The archive of a database file, exported into a folder.
 
-use crate::database::{InFile, close, open_shown};
-use crate::fault::Stop;
-use crate::progress::Progress;
 use command_line::Exporting;
-use exporting::{Export, Watcher};
+use commands::database::{InFile, close, open_shown};
+use commands::fault::Stop;
+use commands::progress::Progress;
+use commands::shown::OwnedShown;
+use exporting::{Export, ExportFault, Watcher};
 use keep::Keeper;
+use queue::Fault;
 use std::io::Write;
 
-impl<'p, E: Write> Watcher for Progress<'p, E> {
+/// The steps of an export, which are shown as its progress.
+#[derive(Drop)]
+struct Steps<'p, E> {
+    progress: Progress<'p, E>,
+}
+
+impl<'p, E: Write> Watcher for Steps<'p, E> {
     fn is_to_make(&mut self, steps: u64) {
-        self.expect(steps);
+        self.progress.expect(steps);
     }
 
     fn has_made(&mut self) {
-        self.advance(1);
+        self.progress.advance(1);
     }
 
     fn has_ended(&mut self) {
-        self.clear();
+        self.progress.clear();
+    }
+}
+
+/// Why the program ends before it is done if an export does.
+pub fn stop_of<'a>(fault: ExportFault) -> Stop<'a> {
+    match fault {
+        ExportFault::Place(path) => Stop::Unplaced(OwnedShown(path)),
+        ExportFault::Archive(fault) => Stop::Refused(fault),
+        ExportFault::Unwritten => Stop::Unwritten,
+        ExportFault::OutOfMemory => Stop::Refused(Fault::OutOfMemory),
+    }
+}
+
+/// What became of an export, as the program tells it.
+fn told<'a>(done: Result<(), ExportFault>) -> Result<(), Stop<'a>> {
+    match done {
+        Ok(()) => Ok(()),
+        Err(fault) => Err(stop_of(fault)),
     }
 }
 
@@ -38,9 +64,11 @@ pub fn export_file<'a, K: Keeper + Drop, F: InFile<K>, W: Write>(
         by_hash: asked.by_hash,
     };
     let mut err = rt.stderr();
-    let mut progress = Progress::new(rt, &mut err, "export", "steps");
-    let done = exporting::export(rt, &mut archive, &export, out, &mut progress);
-    progress.clear();
+    let mut steps = Steps {
+        progress: Progress::new(rt, &mut err, "export", "steps"),
+    };
+    let done = exporting::export(rt, &mut archive, &export, out, &mut steps);
+    steps.progress.clear();
     close::<K, F>(archive);
-    Ok(done?)
+    told(done)
 }

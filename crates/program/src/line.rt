@@ -1,104 +1,13 @@
 //! What the program does for a line.
 
-use crate::ask::{ask_file, configuration_file, list_file, show_file, why_file};
-use crate::batch::batch_file;
-use crate::configured::{check, configure, init, migrate};
-use crate::database::{InFile, Opening};
 use crate::export::export_file;
-use crate::fault::{Stop, all_taken};
-use crate::files::{body_of, file_name};
 use crate::serving_file::serve_file;
-use crate::shown::Shown;
-use crate::why::Asked;
-use command_line::{CommandLine, LineFault, line};
-use keep::{Keeper, PlainKeeper};
-use queue::{Archive, Fault};
-use rules::Config;
-use std::alloc::{AllocError, Global};
-use std::cmp::Ordering;
-use std::io::{self, Write};
-use std::rt::Files;
-use vers::Version;
-
-/// The configuration of the archive that `try` makes.
-const BOX: &[u8] = b"Codename: box\nArchitectures: amd64 source\nComponents: main\n";
-
-/// The index that `try` prints.
-const BOX_PACKAGES: &str = "dists/box/main/binary-amd64/Packages";
-
-/// An archive of its own, with the configuration that `try` has.
-fn box_archive(alloc: Global) -> Result<Archive<PlainKeeper>, Fault> {
-    match Config::read(alloc, BOX) {
-        Ok(config) => Ok(Archive::new(alloc, PlainKeeper::new(alloc, config, 0)?)),
-        // The text is a configuration, so that nothing but want of memory is left.
-        Err(_) => Err(Fault::OutOfMemory),
-    }
-}
-
-/// Delivers a file at 0, under the text behind its path's last slash.
-fn deliver_file<'a, R: Files + AllocGlobal, K: Keeper>(
-    rt: &R,
-    archive: &mut Archive<K>,
-    path: &'a str,
-) -> Result<(), Stop<'a>> {
-    let body = body_of(rt, path)?;
-    archive.deliver(rt.alloc(), file_name(path), &body, 0)?;
-    Ok(())
-}
-
-/// Prints the Packages of what was accepted.
-fn print_packages<'a, K: Keeper, W: Write>(
-    alloc: Global,
-    archive: &mut Archive<K>,
-    out: &mut W,
-) -> Result<(), Stop<'a>> {
-    if let Some(text) = archive.fetch(alloc, BOX_PACKAGES)? {
-        out.write_all(&text)?;
-    }
-    Ok(())
-}
-
-/// Delivers the files to an archive, runs its queue, and prints the Packages of what was accepted.
-fn try_files<'a, R: Files + AllocGlobal, K: Keeper, W: Write>(
-    rt: &R,
-    archive: &mut Archive<K>,
-    paths: &[&'a str],
-    out: &mut W,
-) -> Result<(), Stop<'a>> {
-    for path in paths {
-        deliver_file(rt, archive, path)?;
-    }
-    archive.run(rt.alloc(), 0)?;
-    print_packages(rt.alloc(), archive, out)
-}
-
-/// The same with an archive of their own.
-fn try_upload<'a, R: Files + AllocGlobal, W: Write>(
-    rt: &R,
-    paths: &[&'a str],
-    out: &mut W,
-) -> Result<(), Stop<'a>> {
-    let mut archive = box_archive(rt.alloc())?;
-    try_files(rt, &mut archive, paths, out)
-}
-
-/// Prints how two versions compare.
-fn compare<'a, W: Write>(
-    alloc: Global,
-    left: &str,
-    right: &str,
-    out: &mut W,
-) -> Result<(), Stop<'a>> {
-    let left = Version::parse(alloc, left)?;
-    let right = Version::parse(alloc, right)?;
-    let word: &[u8] = match left.order(&right) {
-        Ordering::Less => b"less\n",
-        Ordering::Equal => b"equal\n",
-        Ordering::Greater => b"greater\n",
-    };
-    out.write_all(word)?;
-    Ok(())
-}
+use command_line::CommandLine;
+use commands::database::InFile;
+use commands::fault::{Stop, all_taken};
+use in_file::FileArchives;
+use keep::Keeper;
+use std::io::Write;
 
 /// Does a line over keepers of this type, and says whether all that was given was taken, and nothing passed over.
 fn done<'a, K: Keeper + Drop, F: InFile<K>, W: Write, E: Write>(
@@ -108,44 +17,13 @@ fn done<'a, K: Keeper + Drop, F: InFile<K>, W: Write, E: Write>(
     err: &mut E,
 ) -> Result<bool, Stop<'a>> {
     match line {
-        CommandLine::Try { paths } => all_taken(try_upload(rt, paths, out)),
-        CommandLine::Compare { left, right } => all_taken(compare(rt.alloc(), left, right, out)),
-        CommandLine::Init { db, at, conf } => all_taken(init::<K, F>(rt, db, *at, conf)),
-        CommandLine::Check { conf } => check(rt, conf, out),
-        CommandLine::Ask {
-            db,
-            at,
-            request,
-            manner,
-        } => ask_file::<K, F, W, E>(rt, Opening { db, at: *at }, request, *manner, out, err),
-        CommandLine::Batch {
-            db,
-            at,
-            list,
-            strict,
-        } => batch_file::<K, F, W, E>(rt, Opening { db, at: *at }, list, *strict, out, err),
-        CommandLine::Configure { db, at, conf } => {
-            all_taken(configure::<K, F>(rt, db, *at, conf))
-        }
-        CommandLine::Migrate { from, db, at, conf } => {
-            all_taken(migrate::<K, F>(rt, from, db, *at, conf))
-        }
-        CommandLine::Show { db, path } => all_taken(show_file::<K, F, W>(rt, db, path, out)),
-        CommandLine::List { db, suite, json } => {
-            all_taken(list_file::<K, F, W>(rt, db, suite, *json, out))
-        }
-        CommandLine::Why { db, at, name, json } => {
-            all_taken(why_file::<K, F, W>(rt, db, Asked::new(*at, *name, *json), out))
-        }
-        CommandLine::Configuration { db } => {
-            all_taken(configuration_file::<K, F, W>(rt, db, out))
-        }
         CommandLine::Export { db, exporting } => {
             all_taken(export_file::<K, F, W>(rt, db, *exporting, out))
         }
         CommandLine::Serve { db, serving } => {
             all_taken(serve_file::<K, F, E>(rt, db, *serving, err))
         }
+        _ => commands::done::<K, F, W, E>(rt, line, out, err),
     }
 }
 
@@ -161,18 +39,9 @@ fn finished<'a, K: Keeper + Drop, F: InFile<K>, W: Write, E: Write>(
     Ok(all)
 }
 
-/// Does a line over keepers of this type, which `F` opens and makes, and answers the exit status: 0 where it is done; 1 where
-/// something is refused, a field of a configuration is passed over or a file can't be read; 2 where a list has a bad line; 3 where memory
-/// runs out, a disk fails or is full, the address can't be used, a path can't be written, or an output fails. What was refused is a line on
-/// `err`, or two where the archive is of another layout, but for the files of a `put`, the uploads of a run and the commands of a list, which
-/// have their lines on `out`; where an output fails nothing more is printed. The log of a `serve` is on `err` too.
-pub fn act<K: Keeper + Drop, F: InFile<K>, W: Write, E: Write>(
-    rt: &HostRuntime,
-    line: &CommandLine<'_>,
-    out: &mut W,
-    err: &mut E,
-) -> u8 {
-    match finished::<K, F, W, E>(rt, line, out, err) {
+/// The exit status of a line that was done or not, with a line on `err` that says why it was not.
+fn status_of<E: Write>(finished: Result<bool, Stop<'_>>, err: &mut E) -> u8 {
+    match finished {
         Ok(true) => 0,
         Ok(false) => 1,
         Err(Stop::Unwritten) => 3,
@@ -183,61 +52,17 @@ pub fn act<K: Keeper + Drop, F: InFile<K>, W: Write, E: Write>(
     }
 }
 
-/// Prints why words are no line, and has it written out: the help or the version that was asked for on `out`, or what is wrong with the
-/// words on `err`.
-fn explained<W: Write, E: Write>(fault: &LineFault, out: &mut W, err: &mut E) -> io::Result<u8> {
-    match fault {
-        LineFault::OutOfMemory => {
-            writeln!(err, "archive: {fault}")?;
-            Ok(3)
-        }
-        LineFault::Help(text) => {
-            write!(out, "{text}")?;
-            out.flush()?;
-            Ok(0)
-        }
-        LineFault::Refused(text) => {
-            write!(err, "{text}")?;
-            Ok(2)
-        }
-    }
-}
-
-/// Words as they are shown, as texts of their own.
-fn shown_words(alloc: Global, words: &[&str]) -> Result<Vec<String>, AllocError> {
-    let mut texts = Vec::new(alloc);
-    for word in words {
-        let word = Shown(word);
-        texts.push(format!(in alloc; "{word}")?)?;
-    }
-    Ok(texts)
-}
-
-/// The words that these texts are.
-fn words_of(alloc: Global, texts: &[String]) -> Result<Vec<&str>, AllocError> {
-    let mut words = Vec::new(alloc);
-    for text in texts {
-        words.push(text.as_str())?;
-    }
-    Ok(words)
-}
-
-/// Reads words as they are shown, and takes only why they are no line.
-fn read_shown(alloc: Global, words: &[&str]) -> Result<(), LineFault> {
-    let texts = shown_words(alloc, words)?;
-    let shown = words_of(alloc, &texts)?;
-    line(alloc, &shown)?;
-    Ok(())
-}
-
-/// Prints why words are no line, which were found to be none, and answers the exit status: 0 for the help or the version that was
-/// asked for, which is printed on `out`; 2 for words that are refused, with a text on `err` that says why; 3 where memory runs out or an
-/// output fails. The text is that of the words as they are shown, which are read once more for its sake: it quotes what was given.
-pub fn explain<W: Write, E: Write>(alloc: Global, words: &[&str], out: &mut W, err: &mut E) -> u8 {
-    let told = match read_shown(alloc, words) {
-        Err(shown) => explained(&shown, out, err),
-        // No word becomes a good one by a question mark: where no fault is left, memory was wanting before.
-        Ok(()) => explained(&LineFault::OutOfMemory, out, err),
-    };
-    told.unwrap_or(3)
+/// Does a line over archives in files, and answers the exit status: 0 where it is done; 1 where something is refused, a field of a
+/// configuration is passed over or a file can't be read; 2 where a list has a bad line; 3 where memory runs out, a disk fails or is full,
+/// the address can't be used, a path can't be written, or an output fails. What was refused is a line on `err`, or two where the archive
+/// is of another layout, but for the files of a `put`, the uploads of a run and the commands of a list, which have their lines on `out`;
+/// where an output fails nothing more is printed. The log of a `serve` is on `err` too.
+pub fn act<A: FileArchives, W: Write, E: Write>(
+    rt: &HostRuntime,
+    line: &CommandLine<'_>,
+    out: &mut W,
+    err: &mut E,
+) -> u8 {
+    let finished = finished::<A::Keeper, A::File, W, E>(rt, line, out, err);
+    status_of(finished, err)
 }

@@ -4,7 +4,7 @@
 //! shared with other processes, a terminal with its shell. So it is set not to wait for the time of a write alone. Without the descriptor
 //! for that (too many files are open when `serve` begins) a write waits.
 
-use crate::shown::shown_bytes;
+use commands::shown::shown_bytes;
 use desk::{DeskFault, Served};
 use http::StatusCode;
 use std::alloc::{AllocError, Global};

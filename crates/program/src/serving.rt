@@ -17,7 +17,7 @@ ghost use Rattle.desk.specs.Connections.{HasServed, IsClientsWithin};
 ghost use Rattle.program.specs.Ends.{end_of, first_end};
 ghost use Rattle.queue.specs.Steps.{Reads};
 
-use crate::client::{Client, FirstLine, FromClient, Patience, ToClient};
+use crate::client::{Client, ClientStream, FirstLine, FromClient, FromOutside, Patience, ToClient};
 use crate::fault::Stop;
 use crate::log::{Ended, Log};
 use crate::moments::Moments;
@@ -82,7 +82,7 @@ pub fn serve<'a, R: Clock + Files + AllocGlobal, K: Keeper>(
     moment: u64,
 ) -> Result<(), Stop<'a>>
     // Whatever clients send, and whenever they leave: the archive is as `attend` leaves it of some list of connections, at most so many, at
-    // the moment, none of which is made up here.
+    // the moment. Their readers are of types that give what a client sends and nothing else (`FromOutside`).
     ensures served { HasServed K.Keeper count (IsClientsWithin moment moment) archive.old.keeper archive.new.keeper }
 {
     keep_room(rt.alloc());
@@ -110,10 +110,11 @@ pub fn serve_at<'a, R: Clock + Files + AllocGlobal, K: Keeper, E: Write>(
     patience: Patience,
     notes: &mut Notes<'_, E>,
 ) -> Result<(), Stop<'a>>
-    // Each moment is one that they have now or had on the way.
+    // Each moment is one that they have now or had on the way, and none is before that of an earlier connection.
     ensures served { HasServed K.Keeper count (IsClientsWithin moments.old.greatest moments.new.greatest) archive.old.keeper archive.new.keeper }
     ensures rises { moments.old.greatest ≤ moments.new.greatest }
     ensures still { moments.old.file ≡ None → moments.new.greatest ≡ moments.old.greatest }
+    ensures file { moments.new.file ≡ moments.old.file }
 {
     let desk = Desk::new(rt.alloc())?;
     for served in 0..count {
@@ -255,19 +256,19 @@ fn answered<R: Clock + AllocGlobal, K: Keeper>(
 ) -> Result<Served, DeskFault>
     ensures served { HasServed K.Keeper 1 (IsClientsWithin visit.now.moment visit.now.moment) archive.old.keeper archive.new.keeper }
 {
-    let mut reader = FromClient {
+    let source = ClientStream {
         client,
-        line,
         has_begun: false,
     };
+    let mut reader = FromClient { source, line };
     if let Ok(mut buffered) = BufReader::with_capacity(client.rt.alloc(), MOST_AHEAD, &mut reader) {
         return replied(visit, archive, client, &mut buffered, sent);
     }
     replied(visit, archive, client, &mut reader, sent)
 }
 
-/// Answers the request of this reader. The reply goes through a buffer, where there is memory for one.
-fn replied<R: Clock + AllocGlobal, K: Keeper, I: Read>(
+/// Answers the request of this reader of a client. The reply goes through a buffer, where there is memory for one.
+fn replied<R: Clock + AllocGlobal, K: Keeper, I: Read + FromOutside>(
     visit: &Visit<'_, R>,
     archive: &mut Archive<K>,
     client: &Client<'_, R>,
@@ -324,8 +325,8 @@ fn first_end<R, W>(connections: &[Connection<R, W>]) -> Result<Served, DeskFault
     }
 }
 
-/// Answers connections, and says how the first of them ended.
-fn attended<K: Keeper, R: Read, W: Write>(
+/// Answers connections of clients, and says how the first of them ended.
+fn attended<K: Keeper, R: Read + FromOutside, W: Write>(
     alloc: Global,
     desk: &Desk,
     archive: &mut Archive<K>,

@@ -11,7 +11,7 @@
 //! the fault of the database is reported. A `Desk` is made after each opening. If there is no memory for it, `serve` ends with Q0 and
 //! status 3, before a connection is accepted.
 
-ghost use Rattle.std.specs.Prelude.{◌≤◌};
+ghost use Rattle.std.specs.Prelude.{◌≡◌, ◌≤◌, None};
 ghost use Rattle.desk.specs.Connections.{HasServed, IsClientsWithin};
 ghost use Rattle.queue.specs.Steps.{Reads};
 
@@ -40,6 +40,8 @@ fn serve_listener<'a, K: Keeper, E: Write>(
 ) -> Result<(), Stop<'a>>
     ensures served { HasServed K.Keeper left (IsClientsWithin moments.old.greatest moments.new.greatest) archive.old.keeper archive.new.keeper }
     ensures rises { moments.old.greatest ≤ moments.new.greatest }
+    ensures still { moments.old.file ≡ None → moments.new.greatest ≡ moments.old.greatest }
+    ensures file { moments.new.file ≡ moments.old.file }
 {
     match listener {
         Ok(listener) => serve_at(rt, archive, listener, left, moments, patience(), notes),
@@ -73,7 +75,7 @@ fn export_to<K: Keeper, E: Write>(
         by_hash: tree.is_by_hash,
     };
     if let Err(fault) = exporting::export(rt, archive, &asked, &mut io::sink(), &mut Nobody) {
-        let stop = Stop::from(fault);
+        let stop = crate::export::stop_of(fault);
         if let Ok(line) = format!(in rt.alloc(); "{stop}") {
             notes.write_text(rt.alloc(), &line);
         }
@@ -91,6 +93,8 @@ fn serve_one<'a, K: Keeper, E: Write>(
 ) -> Result<(), Stop<'a>>
     ensures served { HasServed K.Keeper 1 (IsClientsWithin moments.old.greatest moments.new.greatest) archive.old.keeper archive.new.keeper }
     ensures rises { moments.old.greatest ≤ moments.new.greatest }
+    ensures still { moments.old.file ≡ None → moments.new.greatest ≡ moments.old.greatest }
+    ensures file { moments.new.file ≡ moments.old.file }
 {
     serve_listener(rt, archive, listener, 1, moments, notes)?;
     if notes.takes_post() {
@@ -112,6 +116,8 @@ fn serve_and_export<'a, K: Keeper, E: Write>(
     // As without an export: that only reads.
     ensures served { HasServed K.Keeper left (IsClientsWithin moments.old.greatest moments.new.greatest) archive.old.keeper archive.new.keeper }
     ensures rises { moments.old.greatest ≤ moments.new.greatest }
+    ensures still { moments.old.file ≡ None → moments.new.greatest ≡ moments.old.greatest }
+    ensures file { moments.new.file ≡ moments.old.file }
 {
     for served in 0..left {
         match serve_one(rt, archive, listener, moments, tree, notes) {

@@ -4,7 +4,7 @@ use Rattle.desk.specs.Want.{cleaning, copying, delivery, fetching, promoting, qu
 use Rattle.desk.specs.declared.head.Wanted.{Wanted}
 use Rattle.queue.specs.Commands.{counted, found, promoted, reported}
 use Rattle.queue.specs.Receiving.{IsReceived, LeavesReceived}
-use Rattle.queue.proofs.Runs.{leaves_read, leaves_step}
+use Rattle.history.proofs.Runs.{leaves_read, leaves_step}
 use Rattle.desk.proofs.ExchangeLemmas.{received_done, received_not, reply_missing, reply_told, without_body}
 use Rattle.desk.proofs.exchange.carry_out.Goals as goal
 use Rattle.sums.specs.Lines.{most_size}

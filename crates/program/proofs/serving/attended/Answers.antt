@@ -5,6 +5,7 @@ use Rattle.std.specs.Prelude.{All}
 use Rattle.desk.specs.Connections.{IsClientsWithin, visit, visits}
 use Rattle.desk.specs.declared.connection.Connection.{Connection}
 use Rattle.desk.proofs.ConnectionLemmas.{a_turn}
+use Rattle.program.proofs.Turns.{at_one_moment}
 use Rattle.program.proofs.serving.attended.Goals as goal
 
 module _ {R W : Type 0} (remaining : R → Option (List ℕ)) (contents : W → Option (List ℕ)) where
@@ -25,7 +26,7 @@ module _ {R W : Type 0} (remaining : R → Option (List ℕ)) (contents : W → 
 
 pub returns-clause-served : goal.returns-clause-served
 returns-clause-served g c = λ moment all.
-    a_turn g.K.Keeper (length c.args.connections.now) (IsClientsWithin moment moment) c.args.archive.now.keeper c.attend.new.archive.keeper
-    (visits g.R.Read.remaining g.W.Write.contents c.args.connections.now c.attend.new.connections)
-    (no_more g.R.Read.remaining g.W.Write.contents c.args.connections.now c.attend.new.connections)
-    (of_clients g.R.Read.remaining g.W.Write.contents moment c.args.connections.now c.attend.new.connections all) c.attend.ensures.lasts c.attend.ensures.served
+    let vs = visits g.R.Read.remaining g.W.Write.contents c.args.connections.now c.attend.new.connections in
+    let fit = of_clients g.R.Read.remaining g.W.Write.contents moment c.args.connections.now c.attend.new.connections all in
+    a_turn g.K.Keeper (length c.args.connections.now) (IsClientsWithin moment moment) c.args.archive.now.keeper c.attend.new.archive.keeper vs
+    (no_more g.R.Read.remaining g.W.Write.contents c.args.connections.now c.attend.new.connections) fit (at_one_moment moment vs fit) c.attend.ensures.lasts c.attend.ensures.served

@@ -10,7 +10,7 @@ ghost use Rattle.keep.specs.declared.fault.KeepFault.TheVariants.{Configuration 
 ghost use Rattle.queue.specs.Configuring.{Endures, LeavesConfigured};
 ghost use Rattle.queue.specs.Steps.{IsUndone, Reads};
 ghost use Rattle.rules.specs.Suites.{suite_named};
-ghost use Rattle.program.specs.declared.fault.Stop.TheVariants.{NoArchive};
+ghost use Rattle.commands.specs.declared.fault.Stop.TheVariants.{NoArchive};
 
 use crate::database::{Opening, is_of_database, length_of};
 use crate::fault::Stop;

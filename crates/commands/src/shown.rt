@@ -28,6 +28,16 @@ impl fmt::Display for Shown<'_> {
     }
 }
 
+/// The same of a name that is kept.
+#[derive(Debug, Drop)]
+pub struct OwnedShown(pub String);
+
+impl fmt::Display for OwnedShown {
+    fn fmt<W: fmt::Write>(&self, f: &mut fmt::Formatter<W>) -> fmt::Result {
+        write!(f, "{}", Shown(self.0.as_str()))
+    }
+}
+
 /// Bytes of which nothing is known, as they are printed: a question mark stands for each that is not of 0x20 to 0x7E.
 pub fn shown_bytes(alloc: Global, bytes: &[u8]) -> Result<String, AllocError> {
     let mut text = String::new(alloc);

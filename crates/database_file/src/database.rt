@@ -22,11 +22,10 @@
 ghost use Rattle.std.specs.Prelude.{◌≤◌};
 
 use crate::copied::copied;
-use command_line::CommandLine;
+use in_file::{InFile, OpenFault};
 use keep::{KeepFault, LATEST};
 use keep_tables::{InOrder, LAYOUT, TableKeeper, fault_of, layout_of};
 use old_book::OldBook;
-use program::{InFile, OpenFault, act};
 use rules::Config;
 use sqlite::{Alter, Connection, FileFrom, FileStore, Files, Options, Wary};
 use sqlite_disk::Disk;
@@ -34,7 +33,7 @@ use sqlite_std_file::OpenError;
 use std::alloc::Global;
 use std::cmp::Ordering;
 use std::hash::{BuildHasher, RandomState};
-use std::io::{ErrorKind, Write};
+use std::io::ErrorKind;
 use std::thread;
 use std::time::Duration;
 
@@ -87,7 +86,7 @@ impl InFile<FileKeeper> for DatabaseFile {
 /// How often a database that another process holds is tried again.
 pub const TRIES: u32 = 100;
 
-/// How many milliseconds are waited behind each try: 10 seconds in all.
+/// How many milliseconds are waited after each try: 10 seconds in all.
 pub const BETWEEN_TRIES: u64 = 100;
 
 /// How many pages of 4,096 bytes the log beside the database file takes before it is copied into that, and how many a transaction writes
@@ -243,25 +242,4 @@ fn migrated_over<S: Alter + Drop>(
         },
         Err(fault) => Err(fault),
     }
-}
-
-/// Does a line over keepers on stores of this type, and answers the exit status. Where the store is not named, the prover has little to
-/// compare.
-fn act_over<S: InOrder + Drop, F: InFile<TableKeeper<S>>, W: Write, E: Write>(
-    rt: &HostRuntime,
-    line: &CommandLine<'_>,
-    out: &mut W,
-    err: &mut E,
-) -> u8 {
-    act::<TableKeeper<S>, F, W, E>(rt, line, out, err)
-}
-
-/// Does a line over database files, and answers the exit status.
-pub fn act_in_file<W: Write, E: Write>(
-    rt: &HostRuntime,
-    line: &CommandLine<'_>,
-    out: &mut W,
-    err: &mut E,
-) -> u8 {
-    act_over::<FileStore<FileFrom<Wary>>, DatabaseFile, W, E>(rt, line, out, err)
 }

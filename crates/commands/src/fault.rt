@@ -1,9 +1,8 @@
 //! Why the program ends before it is done.
 
-use crate::database::OpenFault;
-use crate::shown::Shown;
+use crate::shown::{OwnedShown, Shown};
 use command_line::BatchFault;
-use exporting::ExportFault;
+use in_file::OpenFault;
 use keep::KeepFault;
 use queue::Fault;
 use rules::ConfigFault;
@@ -41,8 +40,8 @@ pub enum Stop<'a> {
     #[error("archive: {0}")]
     NoVersion(VersionFault),
     /// A path below the folder of an export can't be written.
-    #[error("archive: {0}")]
-    Unplaced(ExportFault),
+    #[error("archive: cannot write {0}")]
+    Unplaced(OwnedShown),
     /// The address can't be used, or a connection can't be accepted.
     #[error("archive: cannot listen")]
     CannotListen,
@@ -94,17 +93,6 @@ impl From<ConfigFault> for Stop<'_> {
 impl From<VersionFault> for Stop<'_> {
     fn from(fault: VersionFault) -> Self {
         Stop::NoVersion(fault)
-    }
-}
-
-impl From<ExportFault> for Stop<'_> {
-    fn from(fault: ExportFault) -> Self {
-        match fault {
-            ExportFault::Archive(fault) => Stop::Refused(fault),
-            ExportFault::Unwritten => Stop::Unwritten,
-            ExportFault::OutOfMemory => Stop::Refused(Fault::OutOfMemory),
-            place => Stop::Unplaced(place),
-        }
     }
 }
 

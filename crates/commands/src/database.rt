@@ -8,10 +8,9 @@
 //! name: so whoever may write in the folder has no other file's mode changed by that. If this process may not, as for a file of another
 //! owner, it stays.
 
-ghost use Rattle.std.specs.Prelude.{◌≤◌};
-
 use crate::fault::Stop;
 use crate::progress::Progress;
+pub use in_file::{InFile, OpenFault};
 use keep::{KeepFault, Keeper, LATEST};
 use queue::{Archive, Fault};
 use rules::Config;
@@ -21,56 +20,11 @@ use std::os::unix::fs::{MetadataExt, PermissionsExt};
 use std::rt::Files;
 use std::{fs, io};
 
-/// Why the archive of a database file is not opened.
-#[derive(Clone, Copy, Debug)]
-pub enum OpenFault {
-    /// There is no keeper, for this reason.
-    Keeper(KeepFault),
-    /// The tables are not those of an archive, and say that they are of this older layout, of which a migration makes one.
-    Older(u64),
-    /// The tables say that they are of this layout, which a later program made.
-    Later(u64),
-}
-
 /// The database file whose archive is asked, and the moment at which it is, in seconds since 1970-01-01 00:00:00 UTC.
 #[derive(Clone, Copy)]
 pub struct Opening<'o> {
     pub db: &'o str,
     pub at: u64,
-}
-
-/// What opens, makes and closes the keepers of archives in database files. Only what implements it names a store of files, since each
-/// function that does takes the prover long.
-pub trait InFile<K> {
-    /// What an archive of an older layout holds.
-    type Old: Drop;
-
-    /// A keeper of the archive that the file at the path holds.
-    fn opened(rt: &HostRuntime, path: &str) -> Result<K, OpenFault>;
-
-    /// A keeper of a new archive of the configuration, made at the moment in the file at the path.
-    fn made(rt: &HostRuntime, path: &str, config: Config, moment: u64) -> Result<K, KeepFault>
-        requires { moment ≤ LATEST };
-
-    /// What the archive of an older layout holds that the file at the path has. The file stays as it is, and nothing is made beside it.
-    fn old(rt: &HostRuntime, path: &str) -> Result<Self::Old, KeepFault>;
-
-    /// Whether the configurations are the same but for the fields that a migration may change.
-    fn are_alike(old: &Self::Old, config: &Config) -> bool;
-
-    /// A keeper of a new archive of the configuration, made in the file at the path of what an older one holds, with all arrivals as of
-    /// the moment.
-    fn migrated(
-        rt: &HostRuntime,
-        path: &str,
-        old: &Self::Old,
-        config: Config,
-        moment: u64,
-    ) -> Result<K, KeepFault>
-        requires { moment ≤ LATEST };
-
-    /// Closes the file. The log beside it is copied into it, where that does not fail.
-    fn closed(keeper: K);
 }
 
 /// The folder that a file at the path lies in.

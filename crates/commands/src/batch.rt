@@ -453,6 +453,32 @@ fn make_lines<'a, R: Files + AllocGlobal, K: Keeper, W: Write, E: Write>(
     take_lines(rt, archive, opening, requests, &mut group, out, progress)
 }
 
+/// Makes the commands of lines over one opening of the archive of a database file, and says whether all were done and each file could be
+/// read. How many lines are done comes to `err`, where that is a terminal.
+fn make_in_file<'a, K: Keeper + Drop, F: InFile<K>, W: Write, E: Write>(
+    rt: &HostRuntime,
+    opening: Opening<'_>,
+    requests: &[ListRequest<'_>],
+    is_strict: bool,
+    out: &mut W,
+    err: &mut E,
+) -> Result<bool, Stop<'a>> {
+    let mut archive = open_shown::<K, F>(rt, opening.db)?;
+    let mut progress = Progress::new(rt, err, "batch", "lines");
+    let done = make_lines(
+        rt,
+        &mut archive,
+        opening,
+        requests,
+        is_strict,
+        out,
+        &mut progress,
+    );
+    progress.clear();
+    close::<K, F>(archive);
+    done
+}
+
 /// Reads a list of commands, and makes them all at one moment, over one opening of the archive of a database file. It prints what each
 /// answers, in the order of the list, and says whether all were done; where it is strict, also whether no run refused an upload. The whole
 /// list is read before the database is opened: one with a bad line ends the program before anything is done. How many lines are done comes
@@ -467,18 +493,5 @@ pub fn batch_file<'a, K: Keeper + Drop, F: InFile<K>, W: Write, E: Write>(
 ) -> Result<bool, Stop<'a>> {
     let text = read_of(list_at(rt, list), list)?;
     let requests = read_list(rt.alloc(), &text)?;
-    let mut archive = open_shown::<K, F>(rt, opening.db)?;
-    let mut progress = Progress::new(rt, err, "batch", "lines");
-    let done = make_lines(
-        rt,
-        &mut archive,
-        opening,
-        &requests,
-        is_strict,
-        out,
-        &mut progress,
-    );
-    progress.clear();
-    close::<K, F>(archive);
-    done
+    make_in_file::<K, F, W, E>(rt, opening, &requests, is_strict, out, err)
 }

@@ -2,7 +2,7 @@
 //! any other line and at the end. Elsewhere nothing is written. That it can't be written changes nothing.
 
 ghost use Rattle.std.specs.Prelude.{◌≡◌, ◌≤◌, IfOk, string_bytes};
-ghost use Rattle.program.specs.Progress.{line_of as line_of_command, percent as percent_of};
+ghost use Rattle.commands.specs.Progress.{line_of as line_of_command, percent as percent_of};
 
 use crate::fault::Stop;
 use std::alloc::{AllocError, Global};

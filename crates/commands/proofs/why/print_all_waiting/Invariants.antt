@@ -1,6 +1,6 @@
 -- So far the archive was read alone.
 use Rattle.keep.specs.Keeping.{Reads}
-use Rattle.program.proofs.why.print_all_waiting.Given as goal
+use Rattle.commands.proofs.why.print_all_waiting.Given as goal
 
 abbrev pub invariant-loop-upload : goal.invariant-loop-upload
 invariant-loop-upload g l =

@@ -1,6 +1,6 @@
 -- So far the archive was read alone.
 use Rattle.keep.specs.Keeping.{Reads}
-use Rattle.program.proofs.why.print_all_judged.Given as goal
+use Rattle.commands.proofs.why.print_all_judged.Given as goal
 
 abbrev pub invariant-loop-judgement : goal.invariant-loop-judgement
 invariant-loop-judgement g l =
