@@ -19,7 +19,7 @@ build:
 install:
 	@test -x $(PROGRAM) || { echo 'There is no $(PROGRAM) yet: run make build first.' >&2; exit 1; }
 	install -D -m 755 $(PROGRAM) $(PREFIX)/bin/archive
-	install -D -m 755 -t $(PREFIX)/bin bin/with_sidecars bin/upload bin/adopt
+	install -D -m 755 -t $(PREFIX)/bin bin/with_sidecars bin/upload bin/adopt bin/backup
 
 deb:
 	@test -x $(PROGRAM) || { echo 'There is no $(PROGRAM) yet: run make build first.' >&2; exit 1; }

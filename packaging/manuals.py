@@ -3,7 +3,7 @@
 
     packaging/manuals.py FOLDER
 
-writes archive.1, archive.conf.5, upload.1, with_sidecars.1 and adopt.1 to FOLDER."""
+writes archive.1, archive.conf.5, upload.1, with_sidecars.1, adopt.1 and backup.1 to FOLDER."""
 import pathlib
 import re
 import subprocess
@@ -26,8 +26,9 @@ CONFIGURATION = ["What a configuration says", "Until when a Release is valid", "
 # What is said of a fault's letter, in archive.conf(5) and in archive(1).
 FAULTS_OF_CONFIGURATIONS = "Configurations: F"
 
-NAMES = """The Debian package has the program as \\fBboqitsel\\fR, and its helpers as \\fBboqitsel\\-upload\\fR, \\fBboqitsel\\-with\\-sidecars\\fR and
-\\fBboqitsel\\-adopt\\fR, names of its own. \\fBarchive\\fR, \\fBupload\\fR, \\fBwith_sidecars\\fR and \\fBadopt\\fR are other names of them, which update\\-alternatives(1) gives if nothing else has these.
+NAMES = """The Debian package has the program as \\fBboqitsel\\fR, and its helpers as \\fBboqitsel\\-upload\\fR, \\fBboqitsel\\-with\\-sidecars\\fR,
+\\fBboqitsel\\-adopt\\fR and \\fBboqitsel\\-backup\\fR, names of its own. \\fBarchive\\fR, \\fBupload\\fR, \\fBwith_sidecars\\fR, \\fBadopt\\fR and \\fBbackup\\fR are other names
+of them, which update\\-alternatives(1) gives if nothing else has these.
 """
 
 
@@ -62,7 +63,7 @@ def escaped(text):
 def inline(text):
     """A text with its spans, `code` and **strong**, as roff has it. Pages of the repository are named where the package has them."""
     text = re.sub(r"\bdocs/(\w+\.md)", rf"{DOCS}/\1", text)
-    text = re.sub(r"\bbin/(upload|with_sidecars|adopt)\b", r"\1", text)
+    text = re.sub(r"\bbin/(upload|with_sidecars|adopt|backup)\b", r"\1", text)
     made = ""
     for part in re.split(r"(`[^`]+`|\*\*(?:`[^`]+`|[^*`])+\*\*)", text):
         if part.startswith("**"):
@@ -188,7 +189,7 @@ def archive():
     made += "".join(titled(it, body(section("docs/USING.md", it))) for it in COMMANDS)
     made += "".join(titled(it, body(section("docs/OPERATING.md", it))) for it in SERVICE)
     made += "".join(titled(it, body(section("docs/FAULTS.md", it))) for it in sections("docs/FAULTS.md"))
-    return made + see("archive.conf(5)", "upload(1)", "with_sidecars(1)", "adopt(1)", "apt(8)", "sources.list(5)", "dput(1)", "dpkg-buildpackage(1)")
+    return made + see("archive.conf(5)", "upload(1)", "with_sidecars(1)", "adopt(1)", "backup(1)", "apt(8)", "sources.list(5)", "dput(1)", "dpkg-buildpackage(1)")
 
 
 def see(*names):
@@ -226,6 +227,7 @@ MANUALS = {
     "upload.1": lambda: helper("upload"),
     "with_sidecars.1": lambda: helper("with_sidecars"),
     "adopt.1": lambda: helper("adopt"),
+    "backup.1": lambda: helper("backup"),
 }
 
 

@@ -42,6 +42,7 @@ MEMORY_OF_CHECK = 5_500_000_000
 BEHIND = [
     "tests.test_with_sidecars",
     "tests.test_adopt",
+    "tests.test_backup",
     "tests.test_database",
     "tests.test_archives",
     "tests.test_others",

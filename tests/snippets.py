@@ -81,6 +81,9 @@ PIECES = {
     "cache": "Remap-box:",
     "cached": "cache.example.org:3142",
     "mirror": "debmirror --method",
+    "backup": "mkdir -p copies\n",
+    "backup.service": "Description=One backup of box\n",
+    "backup.timer": "Description=Backs box up each day\n",
     "copy": "copy=copies/",
     "reserve": "fallocate -l",
     "adopt": "adopt conf old",
@@ -177,7 +180,7 @@ class Room:
             os.mkdir(f"{self.folder}/{name}")
         self.home, self.work = f"{self.folder}/home", f"{self.folder}/work"
         os.symlink(os.path.abspath(PROGRAM), f"{self.folder}/bin/archive")
-        for name in ("with_sidecars", "upload", "adopt"):
+        for name in ("with_sidecars", "upload", "adopt", "backup"):
             os.symlink(ROOT / "bin" / name, f"{self.folder}/bin/{name}")
         self.variables = {
             "PATH": f"{self.folder}/bin:{os.environ['PATH']}:/usr/sbin:/sbin",

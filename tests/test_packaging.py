@@ -52,6 +52,8 @@ systemctl() { echo "systemctl $*"; }
 runuser -u archive -- archive serve --db box.db --at "$(date +%s)" "127.0.0.1:$1" 1000 &
 serving=$!
 upload "http://127.0.0.1:$1" /given/one.changes --run
+runuser -u archive -- mkdir copies
+runuser -u archive -- backup --keep 7 box.db copies
 with_sidecars /given/two.changes ready > /dev/null
 if command -v dput > /dev/null; then
     HOME=/given dput -c /given/dput.cf box ready/two.changes && echo dput
@@ -147,7 +149,7 @@ exec < /dev/null
 rm -f /var/lib/man-db/auto-update
 rm -f /usr/sbin/policy-rc.d
 dpkg -i /given/*.deb > /dev/null
-systemctl --quiet enable boqitsel.service boqitsel-queue.timer boqitsel-clean.timer
+systemctl --quiet enable boqitsel.service boqitsel-queue.timer boqitsel-clean.timer boqitsel-backup.timer
 mkdir -p /run/systemd/system
 dpkg-divert --quiet --local --rename --add /usr/bin/systemctl
 cp /given/systemctl /usr/bin/systemctl
@@ -208,7 +210,7 @@ class Manuals(Room):
         text = self.shown("archive.conf.5")
         for line in [*snippet("configuration").splitlines(), *snippet("three suites").splitlines()]:
             self.assertIn(line, text)
-        for name in ("upload", "with_sidecars", "adopt"):
+        for name in ("upload", "with_sidecars", "adopt", "backup"):
             told = run(sys.executable, f"{ROOT}/bin/{name}", "--help")[1]
             text = " ".join(self.shown(f"{name}.1").split())
             for paragraph in told.split("\n\n")[2:]:
@@ -266,12 +268,13 @@ class Package(Room):
         root = self.room / "root"
         run("dpkg-deb", "-x", deb, root)
         run("dpkg-deb", "-e", deb, root / "DEBIAN")
-        for name in ("boqitsel", "boqitsel-upload", "boqitsel-with-sidecars", "boqitsel-adopt"):
+        for name in ("boqitsel", "boqitsel-upload", "boqitsel-with-sidecars", "boqitsel-adopt", "boqitsel-backup"):
             self.assertTrue(os.access(root / "usr/bin" / name, os.X_OK))
             manual = root / f"usr/share/man/man1/{name}.1.gz"
             self.assertIn(b".SH NAME", gzip.decompress(manual.read_bytes()))
         self.assertIn("upload URL FILE.changes", run(root / "usr/bin/boqitsel-upload", "--help")[1])
         self.assertIn(" FOLDER\n", run(root / "usr/bin/boqitsel-with-sidecars", "--help")[1])
+        self.assertIn("\nPROGRAM = \"/usr/bin/boqitsel\"\n", (root / "usr/bin/boqitsel-backup").read_text())
         units = root / "usr/lib/systemd/system"
         for name, text in (
             ("boqitsel.service", snippet("box.service", {"/usr/local/bin/archive": "/usr/bin/boqitsel"})),
@@ -279,6 +282,8 @@ class Package(Room):
             ("boqitsel-queue.timer", snippet("queue.timer")),
             ("boqitsel-clean.service", snippet("clean.service")),
             ("boqitsel-clean.timer", snippet("clean.timer")),
+            ("boqitsel-backup.service", snippet("backup.service", {"/usr/local/bin/backup": "/usr/bin/boqitsel-backup"})),
+            ("boqitsel-backup.timer", snippet("backup.timer")),
         ):
             self.assertEqual((units / name).read_text(), text)
         examples = root / "usr/share/doc/boqitsel/examples"
@@ -395,10 +400,10 @@ class Scripts(Root):
         self.with_package()
         (self.room / "given/systemctl").write_text(SYSTEMCTL)
         (self.room / "given/systemctl").chmod(0o755)
-        enabled = ["boqitsel-clean.timer", "boqitsel-queue.timer", "boqitsel.service"]
+        enabled = ["boqitsel-backup.timer", "boqitsel-clean.timer", "boqitsel-queue.timer", "boqitsel.service"]
         *first, disabling, reloading, last = self.inside(UNITS_END).splitlines()
-        self.assertEqual(first[:4], [*enabled, "again"])
-        stopped = [it for line in first[4:] for it in line.split() if it.startswith("boqitsel") and " stop " in line]
+        self.assertEqual(first[:5], [*enabled, "again"])
+        stopped = [it for line in first[5:] for it in line.split() if it.startswith("boqitsel") and " stop " in line]
         self.assertEqual(sorted(stopped), sorted(make_deb().UNITS))
         self.assertEqual(sorted(disabling.split()[3:]), enabled)
         self.assertEqual((" disable " in disabling, reloading, last), (True, "systemctl --system daemon-reload", "none"))
@@ -427,6 +432,7 @@ class Installed(Root):
         self.assertEqual([line for line in lines if line.startswith("accepted")], wanted)
         self.assertIn(f"archive {VERSION}", printed)
         self.assertIn("systemctl enable --now boqitsel.service boqitsel-queue.timer", lines)
+        self.assertRegex(printed, r"(?m)^copies/\d{8}T\d{6}Z/box\.db$")
         self.assertIn(f"'http://127.0.0.1:{port}/pool/main/b/boqitsel/{DEB}'", printed)
         self.assertEqual(lines[-1], "kept")
 
