@@ -54,11 +54,15 @@ class Pages(unittest.TestCase):
             self.assertIn(f"{FAULTS}: {name} is missing", pages.differences(without(self.faults, row), self.told))
 
     def test_each_line_of_a_fault_is_wanted(self):
-        """Each line of a source that alone gives a fault, a verdict or a line of the program is taken out."""
+        """What gives a fault, a verdict or a line of the program is taken out of a source: each line, with those that give the same."""
         gone = set()
         for text in self.repository.sources():
-            for line in re.findall(r'^.*(?:"[A-Z]\d|Verdict::\w+ => \d|Fault::\w+(?:\(_\))? => \d|(?:#\[error\(|writeln!\(rt\.stderr\(\), )"archive: [^{]).*$', text, re.M):
-                gone |= pages.told_in(text) - pages.told_in(without(text, line))
+            lines = re.findall(r'^.*(?:"[A-Z]\d|Verdict::\w+ => \d|Fault::\w+(?:\(_\))? => \d|(?:#\[error\(|writeln!\(rt\.stderr\(\), )"archive: [^{]).*$', text, re.M)
+            for line in lines:
+                left = text
+                for same in {it for it in lines if pages.told_in(it) == pages.told_in(line)}:
+                    left = without(left, same)
+                gone |= pages.told_in(text) - pages.told_in(left)
         alone = {name for name in self.told if re.fullmatch(r"[A-Z]\d+|refused \d+|accepted|archive: .*", name)}
         self.assertEqual(alone - gone, set())
         for name in gone:

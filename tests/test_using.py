@@ -56,8 +56,10 @@ class Using(snippets.Case):
         self.room.write("units/boqitsel-queue.timer", snippet("queue.timer"))
         self.room.write("units/boqitsel-clean.service", snippet("clean.service"))
         self.room.write("units/boqitsel-clean.timer", snippet("clean.timer"))
+        self.room.write("units/boqitsel-backup.service", snippet("backup.service", {"/usr/local/bin/backup": "/bin/true"}))
+        self.room.write("units/boqitsel-backup.timer", snippet("backup.timer"))
         self.room.variables["SYSTEMD_UNIT_PATH"] = f"{self.room.folder}/units:"
-        for name in (".service", "-queue.service", "-queue.timer", "-clean.service", "-clean.timer"):
+        for name in (".service", "-queue.service", "-queue.timer", "-clean.service", "-clean.timer", "-backup.service", "-backup.timer"):
             self.assertEqual(self.passes("systemd-analyze", "verify", f"{self.room.folder}/units/boqitsel{name}"), "")
 
     @needs("nginx", "openssl")

@@ -6,6 +6,7 @@ import glob
 import os
 import pathlib
 import re
+import shlex
 import shutil
 import socket
 import subprocess
@@ -100,7 +101,7 @@ class Commands(Case):
     def test_the_programs_are_installed(self):
         prefix = f"{self.room.folder}/prefix"
         self.shell(f"make -s install PREFIX={prefix} PROGRAM={os.path.abspath(PROGRAM)}", cwd=ROOT)
-        self.assertEqual(sorted(os.listdir(f"{prefix}/bin")), ["adopt", "archive", "upload", "with_sidecars"])
+        self.assertEqual(sorted(os.listdir(f"{prefix}/bin")), ["adopt", "archive", "backup", "upload", "with_sidecars"])
         self.assertEqual(self.shell(f"{prefix}/bin/archive compare 1.0 1.1"), "less\n")
         self.assertIn("with_sidecars [--section SECTION] FILE.changes.. FOLDER", self.shell(f"{prefix}/bin/with_sidecars --help"))
         self.assertIn("upload URL FILE.changes", self.shell(f"{prefix}/bin/upload --help"))
@@ -656,6 +657,21 @@ class Copies(Case):
                 put = f'archive put --db "$copy"/box.db --at 4000000000 ../file{last}_1.0-1_amd64.deb'
                 self.assertEqual(self.shell(copy + put), f"again file{last}_1.0-1_amd64.deb\n")
         print(f"Copies were taken behind {counts} files that were answered, and each had the last one.")
+
+    def test_the_backup_as_it_stands(self):
+        """By its lines and by its unit, while it is served."""
+        port = self.serve()
+        self.assertEqual(self.asked(port, self.put(0)), 201)
+        printed = self.shell(snippet("backup"))
+        self.assertRegex(printed, r"\Acopies/\d{8}T\d{6}Z/box\.db\n\Z")
+        self.assertEqual(self.asked(port, self.put(1)), 201)
+        [unit] = commands_of(snippet("backup.service", {"/usr/local/bin/backup": "backup"}))
+        paths = [printed, self.shell(shlex.join(unit))]
+        for path, word in zip(paths, ("new", "again")):
+            self.room.write("file1_1.0-1_amd64.deb", "1 " * 30_000)
+            put = f"archive put --db {path.strip()} --at 4000000000 ../file1_1.0-1_amd64.deb"
+            self.assertEqual(self.shell(put), f"{word} file1_1.0-1_amd64.deb\n")
+        self.assertIn("OnCalendar=04:00\n", snippet("backup.timer"))
 
     def test_the_copy_as_it_stands(self):
         port = self.serve()
