@@ -2,8 +2,8 @@
 
 First come those that take seconds: whether the pages and the wrong bodies fit the sources, and the tests of the tools. Then
 comes the gate, rt ci, and after it the tests of the program that it built. Each is run, even if one before it failed. At the end
-each test that was skipped has a line, below what there is not on this machine, and then comes a line that counts them. The
-last line is 'N passed, M failed': what the gate counts, and one more for each of the others. The status is 0 if none failed."""
+a line says once more how long the gate took. Each test that was skipped has a line, below what there is not on this machine, and then comes a line that
+counts them. The last line is 'N passed, M failed': what the gate counts, and one more for each of the others. The status is 0 if none failed."""
 import os
 import re
 import shutil
@@ -132,7 +132,7 @@ def prove_first():
 
 
 def gate():
-    """Runs the gate, says how long it took, and answers how much of it passed and failed."""
+    """Runs the gate, says how long it took, and answers how much of it passed and failed, and what it said."""
     if not shutil.which(GATE[0]):
         print("There is no rt on the path, so nothing is proved.", flush=True)
         return 0, 1
@@ -143,10 +143,11 @@ def gate():
         for line in run.stdout:
             print(line, end="", flush=True)
             last = line.strip() or last
-    print(f"The gate took {(time.monotonic() - began) / 60:.1f} minutes.", flush=True)
+    took = f"The gate took {(time.monotonic() - began) / 60:.1f} minutes."
+    print(took, flush=True)
     found = COUNTS.match(last)
     passed, failed = (int(it) for it in found.groups()) if found else (0, 1)
-    return passed, failed or int(run.returncode != 0)
+    return passed, failed or int(run.returncode != 0), took
 
 
 def told_of_skipped(lines):
@@ -160,14 +161,16 @@ def told_of_skipped(lines):
 
 
 def run_all(*parts):
-    """Runs parts, each of which answers how much passed and failed, and prints what that comes to, as the last lines. Answers the status."""
-    passed, failed = 0, 0
+    """Runs parts, each of which answers how much passed and failed, and lines that are printed once more at the end, where a log that lost its middle has
+    them. Prints what the parts come to, as the last lines. Answers the status."""
+    passed, failed, again = 0, 0, []
     with tempfile.NamedTemporaryFile("r", encoding="utf-8") as skipped:
         os.environ["SKIPPED"] = skipped.name
         for part in parts:
-            well, ill = part()
+            well, ill, *lines = part()
             passed, failed = passed + well, failed + ill
-        print(*told_of_skipped(skipped), sep="\n")
+            again += lines
+        print(*again, *told_of_skipped(skipped), sep="\n")
     print(f"{passed} passed, {failed} failed")
     return 1 if failed else 0
 

@@ -31,15 +31,19 @@ class Gate(unittest.TestCase):
         self.addCleanup(changed.stop)
 
     def asked(self, kit="13f", failed=0, ci=None):
-        """Runs the gate. Answers what it comes to, and what rt was asked."""
+        """Runs the gate. Answers how much passed and failed, and what rt was asked."""
         (self.room / "rt").write_text(RT.format(kit=kit, room=self.room, failed=failed))
         (self.room / "rt").chmod(0o755)
         (self.room / "asked").write_text("")
         changes = {"PATH": f"{self.room}:/usr/bin:/bin", **({"CI": ci} if ci else {})}
-        with unittest.mock.patch.dict(os.environ, changes), contextlib.redirect_stdout(io.StringIO()):
+        printed = io.StringIO()
+        with unittest.mock.patch.dict(os.environ, changes), contextlib.redirect_stdout(printed):
             for name in {"RT_JOBS", "CI"} - set(changes):
                 os.environ.pop(name, None)
-            return run.gate(), (self.room / "asked").read_text().splitlines()
+            passed, count, took = run.gate()
+        self.assertRegex(took, r"\AThe gate took \d+\.\d minutes\.\Z")
+        self.assertEqual(printed.getvalue().splitlines(), [f"7 passed, {failed} failed", took])
+        return (passed, count), (self.room / "asked").read_text().splitlines()
 
     def words(self, **words):
         return [" ".join(it.split()[:-1]) for it in self.asked(**words)[1]]
@@ -77,9 +81,10 @@ class Lines(unittest.TestCase):
 
         printed = io.StringIO()
         with contextlib.redirect_stdout(printed), unittest.mock.patch.dict(os.environ):
-            status = run.run_all(part, lambda: (1, 2))
+            status = run.run_all(part, lambda: (1, 2, "The gate took 2.5 minutes."), lambda: (0, 0))
         wanted = ["Skipped, since there is no strace:", "    tests.a One.b", "    tests.c Two.e", "Skipped, since there is no gpg:", "    tests.c Two.d"]
-        self.assertEqual((status, printed.getvalue().splitlines()), (1, [*wanted, "3 skipped", "6 passed, 2 failed"]))
+        wanted = ["The gate took 2.5 minutes.", *wanted, "3 skipped", "6 passed, 2 failed"]
+        self.assertEqual((status, printed.getvalue().splitlines()), (1, wanted))
         self.assertEqual(run.told_of_skipped([]), ["0 skipped"])
 
 
