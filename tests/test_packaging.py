@@ -1,11 +1,13 @@
 """Tests of packaging/: the manuals, which are made of the pages, and the Debian package. Where the program of program.py is built, and where one
 may mount, the package is installed in a root of its own over this machine's, in which it makes an archive, takes its own package by dput, and
 serves it to apt. Where a tool is missing they say that they were skipped."""
+import contextlib
 import gzip
 import os
 import pathlib
 import re
 import shutil
+import signal
 import subprocess
 import sys
 import tempfile
@@ -51,9 +53,12 @@ systemctl() { echo "systemctl $*"; }
 . /given/steps
 runuser -u archive -- archive serve --db box.db --at "$(date +%s)" "127.0.0.1:$1" 1000 &
 serving=$!
+trap 'kill -KILL $(cat "/proc/$serving/task/$serving/children") "$serving" 2> /dev/null || true' EXIT
 upload "http://127.0.0.1:$1" /given/one.changes --run
 runuser -u archive -- mkdir copies
 runuser -u archive -- backup --keep 7 box.db copies
+# What waits for the server stopped itself with it, and has to go on with it.
+echo "after the backup: $(grep State "/proc/$serving/status")"
 with_sidecars /given/two.changes ready > /dev/null
 if command -v dput > /dev/null; then
     HOME=/given dput -c /given/dput.cf box ready/two.changes && echo dput
@@ -65,6 +70,8 @@ apt-get -o Dir::Etc::sourcelist=/etc/apt/box.list -o Dir::Etc::sourceparts=- --p
 apt install --reinstall -y boqitsel > /dev/null
 apt remove -y boqitsel > /dev/null
 kill $serving
+for _ in $(seq 100); do test ! -e "/proc/$serving" || sleep 0.1; done
+test -e "/proc/$serving" || { trap - EXIT; echo ended; }
 test ! -e /usr/bin/archive && test ! -e /usr/bin/boqitsel && test ! -e /etc/alternatives/archive
 test -e /srv/box/box.db && echo kept
 """
@@ -191,8 +198,8 @@ class Manuals(Room):
         self.assertEqual(run(f"{ROOT}/packaging/manuals.py", self.room), (0, "", ""))
 
     def shown(self, name):
-        """A manual as man shows it."""
-        status, text, told = run("man", "--warnings", "-l", self.room / name, env={**os.environ, "MANWIDTH": "400", "LC_ALL": "C.UTF-8"})
+        """A manual as man shows it, in which no word is divided at the end of a line."""
+        status, text, told = run("man", "--warnings", "--no-hyphenation", "-l", self.room / name, env={**os.environ, "MANWIDTH": "400", "LC_ALL": "C.UTF-8"})
         self.assertEqual((status, told), (0, ""))
         return text
 
@@ -367,13 +374,25 @@ class Root(Room):
         return run("unshare", "-m", "sh", "-ec", text, "sh", self.room / "try")[0] == 0
 
     def inside(self, text, port=""):
-        """Runs a text in a root that has what is in the folder `given`. Answers what it prints."""
+        """Runs a text in a root that has what is in the folder `given`. Answers what it prints. What it has begun is ended with it, or after LONG seconds."""
         if not self.can_mount():
             raise no_file_system()
         (self.room / "given/inside").write_text(text)
-        status, printed, told = run("unshare", "-m", "sh", "-ec", OUTSIDE, "sh", self.room, str(port))
-        self.assertEqual(status, 0, printed + told)
-        return printed
+        words = ["unshare", "-m", "sh", "-ec", OUTSIDE, "sh", self.room, str(port)]
+        streams = {"stdin": subprocess.DEVNULL, "start_new_session": True}
+        # Files in place of pipes: a process that is left would keep a pipe open, and whoever reads it would wait for that.
+        with open(self.room / "printed", "w+b") as printed, open(self.room / "told", "w+b") as told:
+            with subprocess.Popen(words, stdout=printed, stderr=told, **streams) as process:
+                try:
+                    status = process.wait(LONG)
+                except subprocess.TimeoutExpired:
+                    status = f"not ended after {LONG} seconds"
+                finally:
+                    with contextlib.suppress(ProcessLookupError):
+                        os.killpg(process.pid, signal.SIGKILL)
+        both = [(self.room / it).read_text(encoding="utf-8", errors="replace") for it in ("printed", "told")]
+        self.assertEqual(status, 0, "".join(both))
+        return both[0]
 
     def with_package(self):
         """Makes the package of a program in place of the built one."""
@@ -433,6 +452,8 @@ class Installed(Root):
         self.assertIn(f"archive {VERSION}", printed)
         self.assertIn("systemctl enable --now boqitsel.service boqitsel-queue.timer", lines)
         self.assertRegex(printed, r"(?m)^copies/\d{8}T\d{6}Z/box\.db$")
+        self.assertRegex(printed, r"(?m)^after the backup: State:\t[RSD] ")
+        self.assertIn("ended", lines)
         self.assertIn(f"'http://127.0.0.1:{port}/pool/main/b/boqitsel/{DEB}'", printed)
         self.assertEqual(lines[-1], "kept")
 
