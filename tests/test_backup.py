@@ -48,6 +48,21 @@ while True:
         print(number, flush=True)
 """
 
+# Begins what its words say, and waits for it as su, runuser and sudo do: it stops itself if that is stopped, and ends with it. Asked to end, it has that end.
+WAITER = """
+import os, signal, sys
+child = os.fork()
+if not child:
+    if user := int(sys.argv[1]):
+        os.setgid(user)
+        os.setuid(user)
+    os.execv(sys.argv[2], sys.argv[2:])
+signal.signal(signal.SIGTERM, lambda *_: os.kill(child, signal.SIGTERM))
+while os.WIFSTOPPED(os.waitpid(child, os.WUNTRACED)[1]):
+    os.kill(os.getpid(), signal.SIGSTOP)
+    os.kill(child, signal.SIGCONT)
+"""
+
 # In place of the archive: it opens what the stand-in wrote, if the log is of the same step as the database, or of the one before. It says of each that it
 # was opened.
 OPENS = """#!/bin/sh
@@ -62,8 +77,9 @@ exit 1
 class Holder:
     """The stand-in, which has a database."""
 
-    def __init__(self, db, **more):
-        self.process = subprocess.Popen([sys.executable, "-c", HOLDER, db], stdin=subprocess.PIPE, stdout=subprocess.PIPE, **more)
+    def __init__(self, db, *before, python=sys.executable, **more):
+        words = [*before, python, "-c", HOLDER, db]
+        self.process = subprocess.Popen(words, stdin=subprocess.PIPE, stdout=subprocess.PIPE, **more)
         self.process.stdout.readline()
 
     def __enter__(self):
@@ -87,6 +103,16 @@ class Holder:
 def state_of(number):
     """The letter of a process's state, as T if it is stopped."""
     return pathlib.Path(f"/proc/{number}/stat").read_text(encoding="ascii").rpartition(") ")[2][0]
+
+
+def children_of(number):
+    """The numbers of the processes that a process with one thread has begun."""
+    return [int(it) for it in pathlib.Path(f"/proc/{number}/task/{number}/children").read_text(encoding="ascii").split()]
+
+
+def below(number):
+    """The number of a process, and those of what it has begun, each after its parent."""
+    return [number, *(it for child in children_of(number) for it in below(child))]
 
 
 def told(*lines):
@@ -326,8 +352,7 @@ class Holds(Case):
 
     def guard_of(self, number=None):
         """The number of the process that lets others go on, which is a child of a backup, or of this process."""
-        children = pathlib.Path(f"/proc/{number or os.getpid()}/task/{number or os.getpid()}/children").read_text(encoding="ascii").split()
-        [guard] = [int(it) for it in children if HOLDER.encode() not in pathlib.Path(f"/proc/{it}/cmdline").read_bytes()]
+        [guard] = [it for it in children_of(number or os.getpid()) if HOLDER.encode() not in pathlib.Path(f"/proc/{it}/cmdline").read_bytes()]
         return guard
 
     def test_both_are_asked_to_end(self):
@@ -359,6 +384,12 @@ class Holds(Case):
 
     def stopped_backup(self, holder, *words, **more):
         """A backup that is stopped while it holds the stand-in."""
+        process = self.started_and_stopped(*words, **more)
+        self.assertEqual(holder.state(), "T")
+        return process
+
+    def started_and_stopped(self, *words, **more):
+        """A backup that is stopped while it holds what has the database."""
         script = (
             "import os, signal, sys, importlib.machinery, importlib.util\n"
             f"loader = importlib.machinery.SourceFileLoader('backup', {TOOL!r})\n"
@@ -374,7 +405,6 @@ class Holds(Case):
         self.addCleanup(process.communicate)
         self.addCleanup(process.kill)
         self.assertTrue(wait_until(lambda: state_of(process.pid) == "T"))
-        self.assertEqual(holder.state(), "T")
         return process
 
     def test_it_is_killed(self):
@@ -410,6 +440,69 @@ class Holds(Case):
             self.assertGreaterEqual(int((self.room / printed.strip()).read_bytes()), number)
             holder.process.send_signal(signal.SIGCONT)
             holder.number()
+
+    @contextlib.contextmanager
+    def waited_for(self, *users, **more):
+        """The stand-in below processes that wait for it, and the numbers of all, the stand-in the last. Each begins the next as a user; 0 is this one."""
+        python = "/usr/bin/python3" if any(users) else sys.executable
+        before = [it for user in users for it in (python, "-c", WAITER, str(user))]
+        with Holder(self.db, *before, python=python, **more) as holder:
+            numbers = below(holder.process.pid)
+            try:
+                yield holder, numbers
+            finally:
+                for it in reversed(numbers[1:]):
+                    with contextlib.suppress(ProcessLookupError):
+                        os.kill(it, signal.SIGKILL)
+
+    def test_what_waits_for_it_goes_on_too(self):
+        """It stops itself while the stand-in is held. One that stayed stopped would not end what it began."""
+        with self.waited_for(0, 0) as (holder, numbers):
+            for _ in range(3):
+                self.backup()
+                holder.number()
+                self.assertEqual([it for it in numbers if state_of(it) == "T"], [])
+            holder.process.terminate()
+            holder.process.wait(SOON)
+
+    def test_what_waits_for_it_goes_on_after_a_kill(self):
+        """Of the backup, and of its second process."""
+        for act in (lambda process: process.kill(), lambda process: os.kill(self.guard_of(process.pid), signal.SIGKILL)):
+            with self.waited_for(0, 0) as (holder, numbers):
+                process = self.started_and_stopped()
+                self.assertTrue(wait_until(lambda: {state_of(it) for it in numbers} == {"T"}))
+                act(process)
+                process.send_signal(signal.SIGCONT)
+                self.assertTrue(wait_until(lambda: "T" not in {state_of(it) for it in numbers}))
+                process.communicate(timeout=SOON)
+                holder.number()
+
+    def test_what_waits_for_it_and_was_stopped_before_is_left_so(self):
+        with self.waited_for(0) as (holder, numbers):
+            os.kill(numbers[0], signal.SIGSTOP)
+            self.assertTrue(wait_until(lambda: state_of(numbers[0]) == "T"))
+            self.backup()
+            self.assertEqual(state_of(numbers[0]), "T")
+            holder.number()
+
+    @needs_root
+    @needs_file("/usr/bin/python3")
+    def test_what_waits_for_it_and_is_of_root(self):
+        """Its own user lets it go on if it is of his session, and else says who is left stopped. One that looks late does not stop itself."""
+        os.chmod(self.room, 0o777)
+        os.chmod(self.copies, 0o777)
+        for is_alone in (False, True):
+            with self.waited_for(NOBODY, start_new_session=is_alone) as (holder, numbers):
+                first, is_left = numbers[0], False
+                line = f"process {first}, which began what has {self.db}, stopped itself, and this user may not let it go on: kill -CONT {first} as root"
+                for _ in range(20 if is_alone else 3):
+                    status, said, _ = self.by_nobody()
+                    is_left = state_of(first) == "T"
+                    self.assertEqual((status, said), (0, told(line) if is_left else ""))
+                    holder.number()
+                    if is_left:
+                        break
+                self.assertEqual(is_left, is_alone)
 
     def test_two_backups_hold_it_one_after_the_other(self):
         """Also into folders of their own: else one would let it go on while the other copies."""
