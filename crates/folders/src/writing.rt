@@ -1,0 +1,160 @@
+//! What is made, renamed and removed in a folder.
+
+use crate::disk::Disk;
+use crate::fault::FolderFault;
+use crate::folder::{Folder, open_kind_by};
+use crate::kept::Kept;
+use std::fs::{self, File, FileTimes, OpenFile, OpenOptions};
+use std::io::{self, ErrorKind, Write};
+use std::os::unix::fs::symlink;
+use std::rt::Files;
+use std::time::SystemTime;
+
+/// Writes a file that is not there yet, and has it on the disk if that is asked.
+fn write_at<R: Disk>(rt: &R, path: &str, body: &[u8], is_synced: bool) -> io::Result<()> {
+    let mut file = File::create_new(rt, path)?;
+    file.write_all(body)?;
+    if is_synced {
+        file.sync_data()?;
+    }
+    Ok(())
+}
+
+/// Has an open file be modified at a moment.
+fn touch_file<R: Disk>(file: &R::File, moment: SystemTime) -> io::Result<()> {
+    file.set_times(FileTimes::new().set_modified(moment))
+}
+
+/// What a removal gave. That there was nothing is no failure.
+fn removed(done: io::Result<()>) -> io::Result<()> {
+    match done {
+        Err(error) if error.kind() == ErrorKind::NotFound => Ok(()),
+        done => done,
+    }
+}
+
+/// The regular file at a path, open to be written. It is made, if nothing is there.
+fn open_or_make<R: Disk>(rt: &R, path: &str) -> io::Result<Option<R::File>> {
+    match File::create_new(rt, path) {
+        Ok(file) => Ok(Some(file)),
+        Err(error) if error.kind() == ErrorKind::AlreadyExists => {
+            open_kind_by(rt, path, false, OpenOptions::new().write(true))
+        }
+        Err(error) => Err(error),
+    }
+}
+
+impl<R: Disk> Folder<R> {
+    /// Removes the file or the link of a name in this folder, if there is one. It is not open while it is removed, so a link is not followed.
+    ///
+    /// Refused as `Place` if it is kept, if a folder has the name, or if the disk fails, and for want of memory.
+    pub fn remove(&self, rt: &R, kept: &Kept, name: &str) -> Result<(), FolderFault> {
+        kept.spare(rt, self, name)?;
+        let place = self.place_of(rt.alloc(), name)?;
+        let done = removed(fs::remove_file(rt, place.as_str()));
+        self.given(rt.alloc(), name, done)
+    }
+
+    /// Removes a folder of a name in this one with all that is in it. No link in it is followed.
+    fn remove_folder(&self, rt: &R, kept: &Kept, name: &str) -> Result<(), FolderFault> {
+        kept.spare(rt, self, name)?;
+        let place = self.place_of(rt.alloc(), name)?;
+        let done = removed(fs::remove_dir_all(rt, place.as_str()));
+        self.given(rt.alloc(), name, done)
+    }
+
+    /// Removes what has a name in this folder, a folder with all that is in it.
+    ///
+    /// Refused as `Place` if it is kept, or something in it, or if the disk fails, and for want of memory.
+    pub fn remove_all(&self, rt: &R, kept: &Kept, name: &str) -> Result<(), FolderFault> {
+        match self.seen(rt, name)? {
+            Some(seen) if seen.is_dir() => self.remove_folder(rt, kept, name),
+            Some(_) => self.remove(rt, kept, name),
+            None => Ok(()),
+        }
+    }
+
+    /// Removes the folder of a name in this one, if it is empty. It says whether that is done.
+    pub fn remove_empty(&self, rt: &R, name: &str) -> Result<bool, FolderFault> {
+        let place = self.place_of(rt.alloc(), name)?;
+        Ok(fs::remove_dir(rt, place.as_str()).is_ok())
+    }
+
+    /// Writes a new file with a name in this folder, and has it on the disk if that is asked. A file or a link that has the name is removed
+    /// before.
+    ///
+    /// Refused as `Place` if that is kept, if a folder has the name, or if the disk fails, and for want of memory.
+    pub fn write_new(
+        &self,
+        rt: &R,
+        kept: &Kept,
+        name: &str,
+        body: &[u8],
+        is_synced: bool,
+    ) -> Result<(), FolderFault> {
+        self.remove(rt, kept, name)?;
+        let place = self.place_of(rt.alloc(), name)?;
+        let done = write_at(rt, place.as_str(), body, is_synced);
+        self.given(rt.alloc(), name, done)
+    }
+
+    /// Renames what has a name in this folder to a name in another one, in the place of the file or the link that has that.
+    ///
+    /// Refused as `Place` of the new name if what has it is kept, if it is a folder's, or if the disk fails, and for want of memory.
+    pub fn move_to(
+        &self,
+        rt: &R,
+        kept: &Kept,
+        name: &str,
+        to: &Folder<R>,
+        new_name: &str,
+    ) -> Result<(), FolderFault> {
+        kept.spare(rt, to, new_name)?;
+        let place = self.place_of(rt.alloc(), name)?;
+        let new_place = to.place_of(rt.alloc(), new_name)?;
+        let done = fs::rename(rt, place.as_str(), new_place.as_str());
+        to.given(rt.alloc(), new_name, done)
+    }
+
+    /// Gives the file of a name in this folder a further name in another one. It says whether that is done: it is not if something has the
+    /// name, or the file system has no further names.
+    pub fn name_too(
+        &self,
+        rt: &R,
+        name: &str,
+        to: &Folder<R>,
+        new_name: &str,
+    ) -> Result<bool, FolderFault> {
+        let place = self.place_of(rt.alloc(), name)?;
+        let new_place = to.place_of(rt.alloc(), new_name)?;
+        Ok(fs::hard_link(rt, place.as_str(), new_place.as_str()).is_ok())
+    }
+
+    /// Makes a link with a name in this folder, which leads to a name. A file or a link that has the name is removed before.
+    ///
+    /// Refused as `Place` if that is kept, if a folder has the name, or if the disk fails, and for want of memory.
+    pub fn link(&self, rt: &R, kept: &Kept, name: &str, target: &str) -> Result<(), FolderFault> {
+        self.remove(rt, kept, name)?;
+        let place = self.place_of(rt.alloc(), name)?;
+        let done = symlink(rt, target, place.as_str());
+        self.given(rt.alloc(), name, done)
+    }
+
+    /// Has the regular file of a name in this folder be modified at a moment, if there is one.
+    pub fn touch(&self, rt: &R, name: &str, moment: SystemTime) -> Result<(), FolderFault> {
+        match self.opened(rt, name)? {
+            Some(file) => self.given(rt.alloc(), name, touch_file::<R>(&file, moment)),
+            None => Ok(()),
+        }
+    }
+
+    /// The regular file of a name in this folder, open to be written. It is made, if nothing has the name. There is none if something else has
+    /// it.
+    ///
+    /// Refused as `Place` if it cannot be opened, and for want of memory.
+    pub fn opened_to_write(&self, rt: &R, name: &str) -> Result<Option<R::File>, FolderFault> {
+        let place = self.place_of(rt.alloc(), name)?;
+        let done = open_or_make(rt, place.as_str());
+        self.given(rt.alloc(), name, done)
+    }
+}
