@@ -6,5 +6,5 @@ mod names;
 
 pub use manifest::{Known, Manifest, Shown, Stamp, Vouched, Word};
 pub use names::{
-    OWN, folder_of, in_dists, inside, is_pool_path, is_state_of, new_name, own, state_name,
+    OWN, folder_of, has_parts, is_name, is_pool_path, is_state_of, new_name, state_name,
 };

@@ -342,6 +342,18 @@ impl Manifest {
         self.shown.get(codename)
     }
 
+    /// The codenames of all suites, with what each showed when the manifest was written.
+    pub fn states(&self) -> &BTreeMap<String, Shown> {
+        &self.shown
+    }
+
+    /// Knows nothing of a suite any more.
+    pub fn forget_states(&mut self, codename: &str) {
+        if self.shown.remove(codename).is_some() {
+            self.is_changed = true;
+        }
+    }
+
     /// Says what a suite shows.
     pub fn set_shown(
         &mut self,

@@ -14,21 +14,6 @@ pub const OWN: &str = ".boqitsel";
 /// How many hexadecimal digits of a Release's SHA-256 the name of its state has.
 const ID_DIGITS: usize = 32;
 
-/// The path of a file or a folder in a folder. The root of the file system is the empty path here.
-pub fn inside(alloc: Global, folder: &str, path: &str) -> Result<String, AllocError> {
-    format!(in alloc; "{folder}/{path}")
-}
-
-/// The path of a file or a folder in `dists`.
-pub fn in_dists(alloc: Global, root: &str, name: &str) -> Result<String, AllocError> {
-    format!(in alloc; "{root}/dists/{name}")
-}
-
-/// The path of a file of an export's own.
-pub fn own(alloc: Global, root: &str, name: &str) -> Result<String, AllocError> {
-    format!(in alloc; "{root}/{OWN}/{name}")
-}
-
 /// The folder that a file at a path lies in.
 pub fn folder_of(path: &str) -> &str {
     match path.rsplit_once('/') {
@@ -102,8 +87,13 @@ fn is_part(part: &str) -> bool
     part != "" && part != "." && part != ".." && is_plain
 }
 
+/// Whether a text names something in a folder.
+pub fn is_name(text: &str) -> bool {
+    is_part(text) && !text.contains('/')
+}
+
 /// Whether each part of a path names something in its folder.
-fn has_parts(path: &str) -> bool
+pub fn has_parts(path: &str) -> bool
     ensures { result ≡ list_all is_part_of_path (slice_split ends_part path.now) }
 {
     path.split('/').all(|part| is_part(part))

@@ -1,19 +1,25 @@
 //! What an export is asked for, and what its steps are made by.
 
+use crate::site::Site;
 use crate::states::Wanted;
+use folders::Disk;
 use suites::Shelves;
 
 /// What an export is asked for.
 #[derive(Clone, Copy, Debug)]
 pub struct Export<'a> {
-    /// The folder of the tree. It and those above it are made where they are not there.
+    /// The folder of the tree. It and those above it are made, if they are not there.
     pub folder: &'a str,
     /// The moment at which uploads wait, in seconds since 1970-01-01 00:00:00 UTC. It is of no matter to anything else.
     pub at: u64,
     /// Whether a suite shows a state only once an InRelease lies in its folder.
     pub signed: bool,
+    /// Whether a suite that shows a signed state may show one without a signature, if `signed` does not hold.
+    pub unsigned: bool,
     /// Whether a state has its texts, and those of the two states before, also by their digests.
     pub by_hash: bool,
+    /// The path of the archive's database file, empty if it has none. It and what SQLite makes beside it are never written or removed.
+    pub database: &'a str,
 }
 
 /// Who is told how far an export is.
@@ -41,10 +47,9 @@ impl Watcher for Nobody {
 }
 
 /// What the steps of an export are made by.
-#[derive(Clone, Copy)]
-pub struct Job<'j> {
-    /// The folder of the tree, without a slash behind it.
-    pub root: &'j str,
+#[derive(Drop)]
+pub struct Job<'j, R: Disk> {
+    pub site: &'j Site<R>,
     pub by_hash: bool,
     pub shelves: &'j Shelves,
     /// The suites in the order of the configuration.

@@ -3,16 +3,21 @@
 //! A client that asks for a text by its digest finds it in whatever state the link leads to: each state has, below the folder of each text,
 //! `by-hash/SHA256/DIGEST` for its own texts and those of the two states before it. These are further names of the same files.
 
-use crate::disk::{Disk, bytes_at, is_file_at, make_folder, name_too};
 use crate::fault::ExportFault;
+use crate::site::Site;
 use crate::states::Wanted;
-use exported::{folder_of, in_dists, inside};
+use exported::has_parts;
+use folders::{Disk, Folder, FolderFault, id_of};
 
-/// A text that a Release lists: its digest, and its path from the folder of the Release.
+/// The most bytes of a Release that is read.
+const MOST_OF_RELEASE: u64 = 1 << 26;
+
+/// A text that a Release lists: its digest, the folder that it lies in from that of the Release, and its name there.
 #[derive(Clone, Copy)]
 struct Listed<'l> {
     digest: &'l str,
-    path: &'l str,
+    folder: &'l str,
+    name: &'l str,
 }
 
 /// Whether a text is a digest in lower hexadecimal digits.
@@ -28,38 +33,79 @@ fn is_digest(text: &str) -> bool {
 fn listed_in(line: &str) -> Option<Listed<'_>> {
     let (digest, rest) = line.split_once(' ')?;
     let (_, path) = rest.trim_start().split_once(' ')?;
-    if !is_digest(digest) || path.contains("..") {
+    let (folder, name) = path.rsplit_once('/')?;
+    if !is_digest(digest) || !has_parts(path) {
         return None;
     }
-    Some(Listed { digest, path })
+    Some(Listed {
+        digest,
+        folder,
+        name,
+    })
 }
 
-/// Gives a text of a state its name in another state, where the text is there.
+/// Whether two names in folders are of one file.
+fn are_one<R: Disk>(
+    rt: &R,
+    from: &Folder<R>,
+    name: &str,
+    to: &Folder<R>,
+    new_name: &str,
+) -> Result<bool, FolderFault> {
+    match (from.seen(rt, name)?, to.seen(rt, new_name)?) {
+        (Some(one), Some(other)) => Ok(id_of(&one) == id_of(&other)),
+        _ => Ok(false),
+    }
+}
+
+/// Gives a text of a folder its name in the folder of digests. What has the name and is another file is replaced, if it has other contents.
 fn name_text<R: Disk>(
     rt: &R,
-    root: &str,
-    from: &str,
-    to: &str,
+    site: &Site<R>,
+    from: &Folder<R>,
+    to: &Folder<R>,
     text: Listed<'_>,
-) -> Result<(), ExportFault> {
-    let alloc = rt.alloc();
-    let whole = inside(alloc, from, text.path)?;
-    if !is_file_at(rt, whole.as_str())? {
+) -> Result<(), FolderFault> {
+    if from.name_too(rt, text.name, to, text.digest)?
+        || are_one(rt, from, text.name, to, text.digest)?
+    {
         return Ok(());
     }
-    let (beside, digest) = (folder_of(text.path), text.digest);
-    let folder = format!(in alloc; "{to}/{beside}/by-hash/SHA256")?;
-    make_folder(rt, folder.as_str())?;
-    let name = inside(alloc, folder.as_str(), digest)?;
-    name_too(rt, root, whole.as_str(), name.as_str())
+    let Some(body) = from.bytes(rt, text.name, u64::MAX)? else {
+        return Ok(());
+    };
+    if to.has_bytes(rt, text.digest, &body)? {
+        return Ok(());
+    }
+    site.put_too(rt, from, text.name, to, text.digest, &body)
+}
+
+/// Gives a text of a state its name in another state, if the text is there.
+fn name_listed_text<R: Disk>(
+    rt: &R,
+    site: &Site<R>,
+    from: &Folder<R>,
+    to: &Folder<R>,
+    text: Listed<'_>,
+) -> Result<(), ExportFault> {
+    let Some(from) = from.way(rt, text.folder)? else {
+        return Ok(());
+    };
+    if !from.is_file(rt, text.name)? {
+        return Ok(());
+    }
+    let folder = text.folder;
+    let digests = format!(in rt.alloc(); "{folder}/by-hash/SHA256")?;
+    let to = to.way_cleared(rt, &site.kept, digests.as_str())?;
+    Ok(name_text(rt, site, &from, &to, text)?)
 }
 
 /// Gives the texts that a Release lists their names in another state.
 fn name_listed<R: Disk>(
     rt: &R,
-    root: &str,
-    from: &str,
-    to: &str,
+    site: &Site<R>,
+    from: &Folder<R>,
+    to: &Folder<R>,
     release: &str,
 ) -> Result<(), ExportFault> {
     let mut is_below = false;
@@ -70,21 +116,25 @@ fn name_listed<R: Disk>(
         };
         if is_below {
             if let Some(text) = listed_in(words) {
-                name_text(rt, root, from, to, text)?;
+                name_listed_text(rt, site, from, to, text)?;
             }
         }
     }
     Ok(())
 }
 
-/// Gives the texts of a state, where it is there, their names in another one.
-fn name_texts<R: Disk>(rt: &R, root: &str, from: &str, to: &str) -> Result<(), ExportFault> {
-    let path = inside(rt.alloc(), from, "Release")?;
-    let Some(bytes) = bytes_at(rt, path.as_str())? else {
+/// Gives the texts of a state their names in another one.
+fn name_texts<R: Disk>(
+    rt: &R,
+    site: &Site<R>,
+    from: &Folder<R>,
+    to: &Folder<R>,
+) -> Result<(), ExportFault> {
+    let Some(bytes) = from.bytes(rt, "Release", MOST_OF_RELEASE)? else {
         return Ok(());
     };
     match std::str::from_utf8(&bytes) {
-        Ok(release) => name_listed(rt, root, from, to, release),
+        Ok(release) => name_listed(rt, site, from, to, release),
         Err(_) => Ok(()),
     }
 }
@@ -92,21 +142,25 @@ fn name_texts<R: Disk>(rt: &R, root: &str, from: &str, to: &str) -> Result<(), E
 /// Gives the texts of a state their names in another one, if there is such a state.
 fn name_texts_of<R: Disk>(
     rt: &R,
-    root: &str,
-    from: Option<&str>,
-    to: &str,
+    site: &Site<R>,
+    state: Option<&str>,
+    to: &Folder<R>,
 ) -> Result<(), ExportFault> {
-    match from {
-        Some(name) => name_texts(rt, root, in_dists(rt.alloc(), root, name)?.as_str(), to),
+    let Some(name) = state else {
+        return Ok(());
+    };
+    match site.dists.within(rt, name)? {
+        Some(from) => name_texts(rt, site, &from, to),
         None => Ok(()),
     }
 }
 
 /// Has the state that a suite is to show, which is made, have its texts and those of the two states before it by their digests.
-pub fn add_by_hash<R: Disk>(rt: &R, root: &str, suite: &Wanted) -> Result<(), ExportFault> {
-    let folder = in_dists(rt.alloc(), root, suite.state.as_str())?;
-    let to = folder.as_str();
-    name_texts(rt, root, to, to)?;
-    name_texts_of(rt, root, suite.link(), to)?;
-    name_texts_of(rt, root, suite.before(), to)
+pub fn add_by_hash<R: Disk>(rt: &R, site: &Site<R>, suite: &Wanted) -> Result<(), ExportFault> {
+    let Some(to) = site.dists.within(rt, suite.state.as_str())? else {
+        return Ok(());
+    };
+    name_texts(rt, site, &to, &to)?;
+    name_texts_of(rt, site, suite.link(), &to)?;
+    name_texts_of(rt, site, suite.before(), &to)
 }

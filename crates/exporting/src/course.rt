@@ -5,23 +5,33 @@ ghost use Rattle.keep.specs.Book.{latest};
 ghost use Rattle.queue.specs.Steps.{Reads};
 
 use crate::asked::{Export, Job, Watcher};
-use crate::disk::{Disk, at, bytes_at, make_folder};
 use crate::fault::ExportFault;
+use crate::leaving::leave_suites;
 use crate::looking::look;
-use crate::showing::{leave, make_others, make_steps, remove_cut, remove_old_states, save};
-use crate::states::{Standing, Wanted, has_file, wanted_suites};
+use crate::mending::mend_states;
+use crate::showing::{
+    MANIFEST, leave, make_others, make_steps, remove_cut, remove_old_states, save,
+};
+use crate::site::{Site, kept_of, opened_folders};
+use crate::states::{
+    Standing, Wanted, has_file, is_signed, refuse_named, refuse_signed, wanted_suites,
+};
 use crate::web::{write_index, write_uploads};
-use exported::{Manifest, OWN, inside, own};
+use exported::Manifest;
+use folders::{Disk, Folder, FolderFault};
 use keep::{Keeper, LATEST};
 use para::Text;
 use queue::{Archive, Fault};
 use std::alloc::{AllocError, Global};
 use std::collections::BTreeMap;
-use std::fs::{File, OpenOptions};
+use std::fs::File;
 use std::io;
 use suites::Shelves;
 use sums::Print;
 use tree::{Step, plan};
+
+/// The most bytes of a manifest that is read.
+const MOST_OF_MANIFEST: u64 = 1 << 30;
 
 /// The most files of the pool that one export has on the disk before an index names them. Where more are new, none of them is synced:
 /// the next export reads them back.
@@ -45,25 +55,16 @@ fn root_of<'a>(alloc: Global, folder: &'a str) -> Result<&'a str, ExportFault> {
 }
 
 /// Takes the lock of a tree, which is held while the file is open.
-fn locked(rt: &HostRuntime, root: &str) -> Result<File, ExportFault> {
-    let alloc = rt.alloc();
-    make_folder(rt, inside(alloc, root, OWN)?.as_str())?;
-    let path = own(alloc, root, "lock")?;
-    let opened = OpenOptions::new()
-        .write(true)
-        .create(true)
-        .open(rt, path.as_str());
-    let file = at(alloc, path.as_str(), opened)?;
-    match file.try_lock() {
-        Ok(()) => Ok(file),
-        Err(_) => Err(ExportFault::Place(path)),
+fn locked(rt: &HostRuntime, own: &Folder<HostRuntime>) -> Result<File, FolderFault> {
+    match own.opened_to_write(rt, "lock")? {
+        Some(file) if file.try_lock().is_ok() => Ok(file),
+        _ => Err(own.place_fault(rt.alloc(), "lock")),
     }
 }
 
 /// The manifest of a tree.
-fn manifest_of<R: Disk>(rt: &R, root: &str) -> Result<Manifest, ExportFault> {
-    let path = own(rt.alloc(), root, "files")?;
-    let bytes = bytes_at(rt, path.as_str())?;
+fn manifest_of<R: Disk>(rt: &R, own: &Folder<R>) -> Result<Manifest, ExportFault> {
+    let bytes = own.bytes(rt, MANIFEST, MOST_OF_MANIFEST)?;
     let text = match &bytes {
         Some(bytes) => Some(bytes.as_slice()),
         None => None,
@@ -82,7 +83,7 @@ fn positions(alloc: Global, suites: &[Wanted]) -> Result<Vec<usize>, AllocError>
     Ok(positions)
 }
 
-/// Whether something is shown now that was not when the manifest was written, or will be behind the export.
+/// Whether something is shown now that was not when the manifest was written, or will be after the export.
 fn shows_something(suites: &[Wanted]) -> bool {
     suites.iter().any(|suite| suite.is_changed || suite.standing == Standing::Shows)
 }
@@ -118,64 +119,110 @@ fn counts_of(steps: &[Step], shelves: &Shelves) -> Counts {
     counts
 }
 
-/// Makes the steps, and what comes behind them. It answers how many paths are left.
+/// What an export did.
+#[derive(Drop)]
+struct Done {
+    /// The suites, with what they show.
+    suites: Vec<Wanted>,
+    /// The suites that left the tree.
+    gone: Vec<String>,
+    counts: Counts,
+}
+
+/// Makes the steps, and what comes after them. It answers how many paths are left.
 fn make<R: Disk, K: Keeper, T: Watcher>(
     rt: &R,
     archive: &mut Archive<K>,
-    job: &Job<'_>,
+    job: &Job<'_, R>,
     steps: &[Step],
     manifest: &mut Manifest,
     watcher: &mut T,
 ) -> Result<usize, ExportFault>
     ensures reads { Reads K.Keeper archive.old.keeper archive.new.keeper }
 {
-    remove_cut(rt, job)?;
-    save(rt, job.root, manifest)?;
     make_steps(rt, archive, job, steps, manifest, watcher)?;
     make_others(rt, archive, job)?;
     let left = leave(rt.alloc(), job, manifest)?;
-    save(rt, job.root, manifest)?;
+    save(rt, job.site, manifest)?;
     remove_old_states(rt, job)?;
     Ok(left)
 }
 
-/// Exports what shelves show that are those of the archive, and says of its suites what they show, and how many files there are.
+/// Clears the tree of what an export that was stopped left, writes the manifest, and has the suites leave that are no more.
+fn prepare<R: Disk>(
+    rt: &R,
+    job: &Job<'_, R>,
+    manifest: &mut Manifest,
+) -> Result<Vec<String>, ExportFault> {
+    remove_cut(rt, job)?;
+    save(rt, job.site, manifest)?;
+    leave_suites(rt, job.site, job.suites, manifest)
+}
+
+/// The suites of the archive, with what they show, their states mended. Suites that are signed are refused, if that is asked.
+fn found_suites<R: Disk, K: Keeper>(
+    rt: &R,
+    archive: &mut Archive<K>,
+    shelves: &Shelves,
+    site: &Site<R>,
+    asked: &Export<'_>,
+    manifest: &Manifest,
+) -> Result<Vec<Wanted>, ExportFault>
+    ensures reads { Reads K.Keeper archive.old.keeper archive.new.keeper }
+{
+    let mut suites = wanted_suites(rt, archive, site, asked.signed, manifest)?;
+    if !asked.signed && !asked.unsigned {
+        refuse_signed(rt, site, &suites)?;
+    }
+    mend_states(rt, archive, site, shelves, suites.as_mut_slice())?;
+    Ok(suites)
+}
+
+/// Exports what shelves show that are those of the archive, but for the pages of the tree.
 fn make_all<R: Disk, K: Keeper, T: Watcher>(
     rt: &R,
     archive: &mut Archive<K>,
     shelves: &Shelves,
-    root: &str,
+    site: &Site<R>,
     asked: &Export<'_>,
     watcher: &mut T,
-) -> Result<(Vec<Wanted>, Counts), ExportFault>
+) -> Result<Done, ExportFault>
     ensures reads { Reads K.Keeper archive.old.keeper archive.new.keeper }
 {
-    let alloc = rt.alloc();
-    let mut manifest = manifest_of(rt, root)?;
-    let there = look(rt, root, shelves, &mut manifest)?;
-    let suites = wanted_suites(rt, archive, root, asked.signed, &manifest)?;
-    let steps = steps_of(alloc, shelves, &there, &suites, &manifest)?;
+    let mut manifest = manifest_of(rt, &site.own)?;
+    let there = look(rt, &site.root, shelves, &mut manifest)?;
+    let suites = found_suites(rt, archive, shelves, site, asked, &manifest)?;
+    let steps = steps_of(rt.alloc(), shelves, &there, &suites, &manifest)?;
     let mut counts = counts_of(&steps, shelves);
     let job = Job {
-        root,
+        site,
         by_hash: asked.by_hash,
         shelves,
         suites: &suites,
         is_synced: counts.new <= MOST_SYNCED,
     };
+    let gone = prepare(rt, &job, &mut manifest)?;
     counts.left = make(rt, archive, &job, &steps, &mut manifest, watcher)?;
-    Ok((suites, counts))
+    Ok(Done {
+        suites,
+        gone,
+        counts,
+    })
 }
 
 /// Whether the state of a suite has no signature, and that which it showed before had one.
-fn has_lost_signature<R: Disk>(rt: &R, root: &str, suite: &Wanted) -> Result<bool, ExportFault> {
+fn has_lost_signature<R: Disk>(
+    rt: &R,
+    site: &Site<R>,
+    suite: &Wanted,
+) -> Result<bool, FolderFault> {
     let Some(link) = suite.link() else {
         return Ok(false);
     };
-    if suite.standing != Standing::Shows || has_file(rt, root, suite.state.as_str(), "InRelease")? {
+    if suite.standing != Standing::Shows || has_file(rt, site, suite.state.as_str(), "InRelease")? {
         return Ok(false);
     }
-    Ok(has_file(rt, root, link, "InRelease")? || has_file(rt, root, link, "Release.gpg")?)
+    is_signed(rt, site, link)
 }
 
 /// What a call of the output gave, or that it failed.
@@ -197,19 +244,31 @@ fn print_suite<W: io::Write>(suite: &Wanted, is_unsigned: bool, out: &mut W) -> 
     if is_unsigned {
         writeln!(out, "unsigned {codename}")?;
     }
+    if suite.mended > 0 {
+        let count = suite.mended;
+        writeln!(out, "mended {codename} {count}")?;
+    }
     Ok(())
 }
 
 /// Prints what suites show.
 fn print_suites<R: Disk, W: io::Write>(
     rt: &R,
-    root: &str,
+    site: &Site<R>,
     suites: &[Wanted],
     out: &mut W,
 ) -> Result<(), ExportFault> {
     for suite in suites {
-        let is_unsigned = has_lost_signature(rt, root, suite)?;
+        let is_unsigned = has_lost_signature(rt, site, suite)?;
         said(print_suite(suite, is_unsigned, out))?;
+    }
+    Ok(())
+}
+
+/// Prints which suites left the tree.
+fn print_gone<W: io::Write>(gone: &[String], out: &mut W) -> io::Result<()> {
+    for codename in gone {
+        writeln!(out, "gone {codename}")?;
     }
     Ok(())
 }
@@ -225,12 +284,24 @@ fn print_counts<W: io::Write>(counts: Counts, out: &mut W) -> Result<(), ExportF
     said(writeln!(out, "pool {new} {same} {left} {gone}"))
 }
 
+/// Prints what an export did.
+fn print_done<R: Disk, W: io::Write>(
+    rt: &R,
+    site: &Site<R>,
+    done: &Done,
+    out: &mut W,
+) -> Result<(), ExportFault> {
+    print_suites(rt, site, &done.suites, out)?;
+    said(print_gone(&done.gone, out))?;
+    print_counts(done.counts, out)
+}
+
 /// Exports what shelves show that are those of the archive.
 fn export_shelves<R: Disk, K: Keeper, W: io::Write, T: Watcher>(
     rt: &R,
     archive: &mut Archive<K>,
     shelves: &Shelves,
-    root: &str,
+    site: &Site<R>,
     asked: &Export<'_>,
     out: &mut W,
     watcher: &mut T,
@@ -238,19 +309,17 @@ fn export_shelves<R: Disk, K: Keeper, W: io::Write, T: Watcher>(
     requires in_time { asked.now.at ≤ latest }
     ensures reads { Reads K.Keeper archive.old.keeper archive.new.keeper }
 {
-    make_folder(rt, inside(rt.alloc(), root, "dists")?.as_str())?;
-    let (suites, counts) = make_all(rt, archive, shelves, root, asked, watcher)?;
-    write_index(rt, archive, root, shelves, asked.signed)?;
-    write_uploads(rt, archive, root, asked.at)?;
-    print_suites(rt, root, &suites, out)?;
-    print_counts(counts, out)
+    let done = make_all(rt, archive, shelves, site, asked, watcher)?;
+    write_index(rt, archive, site, shelves, asked.signed)?;
+    write_uploads(rt, archive, site, asked.at)?;
+    print_done(rt, site, &done, out)
 }
 
 /// Exports what the archive shows.
 fn export_shown<R: Disk, K: Keeper, W: io::Write, T: Watcher>(
     rt: &R,
     archive: &mut Archive<K>,
-    root: &str,
+    site: &Site<R>,
     asked: &Export<'_>,
     out: &mut W,
     watcher: &mut T,
@@ -259,18 +328,37 @@ fn export_shown<R: Disk, K: Keeper, W: io::Write, T: Watcher>(
     ensures reads { Reads K.Keeper archive.old.keeper archive.new.keeper }
 {
     let shelves = archive.keeper.shelves(rt.alloc())?;
-    let done = export_shelves(rt, archive, &shelves, root, asked, out, watcher);
+    let done = export_shelves(rt, archive, &shelves, site, asked, out, watcher);
     archive.keeper.hold(shelves);
     done
 }
 
+/// The folders of the tree of an export, open. Nothing is written yet but folders that were not there.
+fn site_of<R: Disk>(
+    rt: &R,
+    root: Folder<R>,
+    own: Folder<R>,
+    asked: &Export<'_>,
+) -> Result<Site<R>, ExportFault> {
+    let dists = root.make(rt, "dists")?;
+    let kept = kept_of(rt, asked.database)?;
+    Ok(Site {
+        root,
+        own,
+        dists,
+        kept,
+    })
+}
+
 /// Exports an archive into a folder, and prints what its suites show: `shown CODENAME STATE`, `same CODENAME` or `waits CODENAME STATE` for
-/// each, in the order of the configuration, with `unsigned CODENAME` behind a state without a signature where the one before had one. Last
-/// comes `pool NEW SAME LEFT GONE`: how many files of the pool were written, how many were there, how many are left that are no more of it,
-/// and how many went. How far it is comes to `watcher` meanwhile.
+/// each, in the order of the configuration. After a state without a signature, if the one before had one, comes `unsigned CODENAME`, and
+/// `mended CODENAME COUNT` if so many texts of the state were damaged. Then comes `gone CODENAME` for each suite of the tree that the
+/// configuration no longer has. Last comes `pool NEW SAME LEFT GONE`: how many files of the pool were written, how many were there, how many
+/// are left that are no more of it, and how many went. How far it is comes to `watcher` meanwhile.
 ///
-/// The archive stays as it is. Refused as `Archive(Fault::Moment)` for a moment after 2099, as `Archive` where the keeper fails, as
-/// `Place` where the disk does or another export goes on in the folder, as `Unwritten` where the output fails, and for want of memory.
+/// The archive stays as it is. Refused as `Archive(Fault::Moment)` for a moment after 2099, as `Named` if no tree can have a component, as
+/// `Signed` if a suite of the tree is signed and nothing is said of that, as `Archive` if the keeper fails, as `Place` if the disk does or
+/// another export goes on in the folder, as `Unwritten` if the output fails, and for want of memory.
 pub fn export<K: Keeper, W: io::Write, T: Watcher>(
     rt: &HostRuntime,
     archive: &mut Archive<K>,
@@ -284,7 +372,10 @@ pub fn export<K: Keeper, W: io::Write, T: Watcher>(
     if asked.at > LATEST {
         return Err(ExportFault::Archive(Fault::Moment));
     }
+    refuse_named(rt.alloc(), archive.keeper.config())?;
     let root = root_of(rt.alloc(), asked.folder)?;
-    let _lock = locked(rt, root)?;
-    export_shown(rt, archive, root, asked, out, watcher)
+    let (root, own) = opened_folders(rt, root)?;
+    let _lock = locked(rt, &own)?;
+    let site = site_of(rt, root, own, asked)?;
+    export_shown(rt, archive, &site, asked, out, watcher)
 }

@@ -1,5 +1,6 @@
 //! Why an export ends before it is done.
 
+use folders::FolderFault;
 use keep::KeepFault;
 use queue::Fault;
 use std::alloc::{AllocError, AllocFailed};
@@ -9,9 +10,13 @@ use std::fmt;
 /// Why an export ends before it is done. What it has made till then stays, and the next one goes on from there.
 #[derive(Debug, Drop)]
 pub enum ExportFault {
-    /// Nothing can be written at this path: the disk is full or fails, there is no right to, a file stands where a folder is to be or a
-    /// folder where a file is to be, or another export holds the lock. It is the first path that failed.
+    /// Nothing can be written at this path: the disk is full or fails, there is no right to, a link or a file stands at the place of a folder or
+    /// a folder at that of a file, the file is the database's, or another export holds the lock. It is the first path that failed.
     Place(String),
+    /// The suite of this codename shows a signed state, and the export is told neither to wait for signatures nor to do without them.
+    Signed(String),
+    /// A component has this name, which is that of a file beside those of components.
+    Named(String),
     /// The archive refused a call.
     Archive(Fault),
     /// The output failed.
@@ -20,7 +25,7 @@ pub enum ExportFault {
     OutOfMemory,
 }
 
-/// Writes a path, with a question mark in the place of each control character.
+/// Writes a path or a name, with a question mark in the place of each control character.
 fn write_shown<W: fmt::Write>(f: &mut fmt::Formatter<W>, path: &str) -> fmt::Result {
     let mut is_first = true;
     for piece in path.split(char::is_control) {
@@ -39,6 +44,16 @@ impl fmt::Display for ExportFault {
             ExportFault::Place(path) => {
                 f.write_str("cannot write ")?;
                 write_shown(f, path.as_str())
+            }
+            ExportFault::Signed(codename) => {
+                f.write_str("suite ")?;
+                write_shown(f, codename.as_str())?;
+                f.write_str(" is signed in the tree: give --signed or --unsigned")
+            }
+            ExportFault::Named(component) => {
+                f.write_str("component ")?;
+                write_shown(f, component.as_str())?;
+                f.write_str(" is named as a file of the tree")
             }
             ExportFault::Archive(fault) => write!(f, "{fault}"),
             ExportFault::Unwritten => f.write_str("cannot write"),
@@ -73,5 +88,14 @@ impl From<Fault> for ExportFault {
 impl From<KeepFault> for ExportFault {
     fn from(fault: KeepFault) -> ExportFault {
         ExportFault::from(Fault::from(fault))
+    }
+}
+
+impl From<FolderFault> for ExportFault {
+    fn from(fault: FolderFault) -> ExportFault {
+        match fault {
+            FolderFault::Place(path) => ExportFault::Place(path),
+            FolderFault::OutOfMemory => ExportFault::OutOfMemory,
+        }
     }
 }

@@ -15,22 +15,25 @@
 //! removes what no index has named since the export before that showed something. `tree` has these steps, and says what a reader finds
 //! between them. Each file is written beside its place and renamed there. So an export may be stopped anywhere, and the next one goes on.
 //!
-//! What is not of the archive is left alone. At a path that the archive has, other contents are replaced.
+//! The texts of the states that are there are compared with the archive's, and mended. A suite that the configuration no longer has leaves the
+//! tree. What is not of the archive is left alone. At a path that the archive has, other contents are replaced, but for the database's files.
+//! No link in the tree is followed (`folders`).
 #![tactic(auto)]
 
 mod asked;
 mod by_hash;
 mod course;
-mod disk;
 mod fault;
 mod lacking;
+mod leaving;
 mod looking;
 mod making;
+mod mending;
 mod showing;
+mod site;
 mod states;
 mod web;
 
 pub use asked::{Export, Nobody, Watcher};
 pub use course::export;
-pub use disk::Disk;
 pub use fault::ExportFault;

@@ -7,17 +7,23 @@ ghost use Rattle.exporting.specs.Fetched.{IsFetched};
 
 use crate::asked::Job;
 use crate::by_hash::add_by_hash;
-use crate::disk::{
-    Disk, make_folder, remove_folder, rename, sync_folder, touch_behind, write_file,
-};
 use crate::fault::ExportFault;
+use crate::site::Site;
 use crate::states::Wanted;
-use exported::{folder_of, in_dists, inside, new_name};
+use exported::new_name;
+use folders::{Disk, Folder, FolderFault, Kept};
 use keep::Keeper;
 use pages::suite_page;
 use queue::Archive;
 use std::alloc::Global;
+use std::time::{Duration, SystemTime};
 use texts::path_in;
+
+/// The page of a state.
+pub const PAGE: &str = "index.html";
+
+/// The text of a state that lists the others.
+const RELEASE: &str = "Release";
 
 /// The bytes at a path of the archive, which has some there. An export has no others.
 pub fn body_at<K: Keeper>(
@@ -52,23 +58,44 @@ pub fn text_at<K: Keeper>(
 fn write_text<R: Disk, K: Keeper>(
     rt: &R,
     archive: &mut Archive<K>,
+    kept: &Kept,
     codename: &str,
-    folder: &str,
+    folder: &Folder<R>,
     path: &str,
 ) -> Result<(), ExportFault>
     ensures reads { Reads K.Keeper archive.old.keeper archive.new.keeper }
 {
     let body = text_at(rt.alloc(), archive, codename, path)?;
-    write_in(rt, folder, path, &body)
+    Ok(write_in(rt, kept, folder, path, &body)?)
 }
 
-/// Writes a file into a folder, with the folders on the way to it.
-fn write_in<R: Disk>(rt: &R, folder: &str, path: &str, body: &[u8]) -> Result<(), ExportFault> {
-    let whole = inside(rt.alloc(), folder, path)?;
-    let beside = folder_of(whole.as_str());
-    make_folder(rt, beside)?;
-    write_file(rt, whole.as_str(), body)?;
-    sync_folder(rt, beside)
+/// Writes a new file with a name in a folder, and has both on the disk.
+fn write_named<R: Disk>(
+    rt: &R,
+    kept: &Kept,
+    folder: &Folder<R>,
+    name: &str,
+    body: &[u8],
+) -> Result<(), FolderFault> {
+    folder.write_new(rt, kept, name, body, true)?;
+    folder.sync(rt.alloc())
+}
+
+/// Writes a file at a path in a folder, with the folders on the way to it.
+fn write_in<R: Disk>(
+    rt: &R,
+    kept: &Kept,
+    folder: &Folder<R>,
+    path: &str,
+    body: &[u8],
+) -> Result<(), FolderFault> {
+    match path.rsplit_once('/') {
+        Some((way, name)) => {
+            let beside = folder.way_made(rt, way)?;
+            write_named(rt, kept, &beside, name, body)
+        }
+        None => write_named(rt, kept, folder, path, body),
+    }
 }
 
 /// Writes all texts of a suite into a folder.
@@ -76,68 +103,135 @@ fn write_in<R: Disk>(rt: &R, folder: &str, path: &str, body: &[u8]) -> Result<()
 fn write_texts<R: Disk, K: Keeper>(
     rt: &R,
     archive: &mut Archive<K>,
+    kept: &Kept,
     suite: &Wanted,
-    folder: &str,
+    folder: &Folder<R>,
 ) -> Result<(), ExportFault>
     ensures reads { Reads K.Keeper archive.old.keeper archive.new.keeper }
 {
     for path in &suite.paths {
-        write_text(rt, archive, suite.codename.as_str(), folder, path.as_str())?;
+        write_text(
+            rt,
+            archive,
+            kept,
+            suite.codename.as_str(),
+            folder,
+            path.as_str(),
+        )?;
     }
     Ok(())
 }
 
-/// Fills a new folder with the texts of a suite and its page.
+/// Fills a new folder with the page of a suite and its texts.
 fn fill<R: Disk, K: Keeper>(
     rt: &R,
     archive: &mut Archive<K>,
-    job: &Job<'_>,
-    position: usize,
+    job: &Job<'_, R>,
     suite: &Wanted,
-    folder: &str,
+    folder: &Folder<R>,
 ) -> Result<(), ExportFault>
     ensures reads { Reads K.Keeper archive.old.keeper archive.new.keeper }
 {
-    let alloc = rt.alloc();
-    remove_folder(rt, folder)?;
-    let page = suite_page(alloc, archive.keeper.config(), job.shelves, position)?;
-    write_in(rt, folder, "index.html", page.as_bytes())?;
-    write_texts(rt, archive, suite, folder)
+    let kept = &job.site.kept;
+    let page = suite_page(
+        rt.alloc(),
+        archive.keeper.config(),
+        job.shelves,
+        suite.position,
+    )?;
+    write_in(rt, kept, folder, PAGE, page.as_bytes())?;
+    write_texts(rt, archive, kept, suite, folder)
+}
+
+/// Makes a folder anew and fills it with the page of a suite and its texts.
+fn make_filled<R: Disk, K: Keeper>(
+    rt: &R,
+    archive: &mut Archive<K>,
+    job: &Job<'_, R>,
+    suite: &Wanted,
+    name: &str,
+) -> Result<(), ExportFault>
+    ensures reads { Reads K.Keeper archive.old.keeper archive.new.keeper }
+{
+    job.site.dists.remove_all(rt, &job.site.kept, name)?;
+    let folder = job.site.dists.make(rt, name)?;
+    fill(rt, archive, job, suite, &folder)
 }
 
 /// Makes the folder of the state that a suite is to show, by one rename.
 fn make_folder_of<R: Disk, K: Keeper>(
     rt: &R,
     archive: &mut Archive<K>,
-    job: &Job<'_>,
-    position: usize,
+    job: &Job<'_, R>,
     suite: &Wanted,
 ) -> Result<(), ExportFault>
     ensures reads { Reads K.Keeper archive.old.keeper archive.new.keeper }
 {
-    let (alloc, codename) = (rt.alloc(), suite.codename.as_str());
-    let new = in_dists(alloc, job.root, new_name(alloc, codename)?.as_str())?;
-    let filled = fill(rt, archive, job, position, suite, new.as_str());
+    let new = new_name(rt.alloc(), suite.codename.as_str())?;
+    let filled = make_filled(rt, archive, job, suite, new.as_str());
     if filled.is_err() {
-        // What is cut takes room on a full disk. Where it stays, the next export removes it.
-        let _ = remove_folder(rt, new.as_str());
+        // What is cut takes room on a full disk. If it stays, the next export removes it.
+        let _ = job.site.dists.remove_all(rt, &job.site.kept, new.as_str());
     }
     filled?;
-    let folder = in_dists(alloc, job.root, suite.state.as_str())?;
-    remove_folder(rt, folder.as_str())?;
-    rename(rt, new.as_str(), folder.as_str())
+    Ok(move_state(rt, job.site, new.as_str(), suite.state.as_str())?)
 }
 
-/// Has the Release of a suite's state be modified behind that of the state which is shown.
-pub fn touch_release<R: Disk>(rt: &R, root: &str, suite: &Wanted) -> Result<(), ExportFault> {
-    let (alloc, state) = (rt.alloc(), suite.state.as_str());
-    let release = format!(in alloc; "{root}/dists/{state}/Release")?;
+/// Gives a folder of the suites the name of a state, in the place of what has it.
+fn move_state<R: Disk>(rt: &R, site: &Site<R>, new: &str, state: &str) -> Result<(), FolderFault> {
+    site.dists.remove_all(rt, &site.kept, state)?;
+    site.dists.move_to(rt, &site.kept, new, &site.dists, state)
+}
+
+/// The moment that a file is to be modified at, after one that was modified at another: now, or one second later than that. Web servers tell
+/// whole seconds apart.
+fn moment_after<R: Disk>(rt: &R, before: Option<SystemTime>) -> Option<SystemTime> {
+    let now = SystemTime::now(rt).ok();
+    let Some(before) = before else {
+        return now;
+    };
+    let Some(later) = before.checked_add(Duration::from_secs(1)) else {
+        return now;
+    };
+    match now {
+        Some(now) if now > later => Some(now),
+        _ => Some(later),
+    }
+}
+
+/// When the Release of a state was modified, if that is known.
+fn released_at<R: Disk>(
+    rt: &R,
+    site: &Site<R>,
+    state: &str,
+) -> Result<Option<SystemTime>, FolderFault> {
+    match site.dists.within(rt, state)? {
+        Some(folder) => folder.modified(rt, RELEASE),
+        None => Ok(None),
+    }
+}
+
+/// When the Release that a suite shows, which is another one than it is to show, was modified, if that is known.
+fn shown_at<R: Disk>(
+    rt: &R,
+    site: &Site<R>,
+    suite: &Wanted,
+) -> Result<Option<SystemTime>, FolderFault> {
     match suite.link() {
-        Some(link) if !suite.is_linked() => {
-            let shown = format!(in alloc; "{root}/dists/{link}/Release")?;
-            touch_behind(rt, release.as_str(), Some(shown.as_str()))
-        }
-        _ => touch_behind(rt, release.as_str(), None),
+        Some(link) if !suite.is_linked() => released_at(rt, site, link),
+        _ => Ok(None),
+    }
+}
+
+/// Has the Release of a suite's state be modified after that of the state which is shown.
+pub fn touch_release<R: Disk>(rt: &R, site: &Site<R>, suite: &Wanted) -> Result<(), FolderFault> {
+    let before = shown_at(rt, site, suite)?;
+    match (
+        site.dists.within(rt, suite.state.as_str())?,
+        moment_after(rt, before),
+    ) {
+        (Some(folder), Some(moment)) => folder.touch(rt, RELEASE, moment),
+        _ => Ok(()),
     }
 }
 
@@ -145,18 +239,17 @@ pub fn touch_release<R: Disk>(rt: &R, root: &str, suite: &Wanted) -> Result<(), 
 pub fn make_state<R: Disk, K: Keeper>(
     rt: &R,
     archive: &mut Archive<K>,
-    job: &Job<'_>,
-    position: usize,
+    job: &Job<'_, R>,
     suite: &Wanted,
 ) -> Result<(), ExportFault>
     ensures reads { Reads K.Keeper archive.old.keeper archive.new.keeper }
 {
     if !suite.is_made {
-        make_folder_of(rt, archive, job, position, suite)?;
-        touch_release(rt, job.root, suite)?;
+        make_folder_of(rt, archive, job, suite)?;
+        touch_release(rt, job.site, suite)?;
     }
     if job.by_hash {
-        add_by_hash(rt, job.root, suite)?;
+        add_by_hash(rt, job.site, suite)?;
     }
     Ok(())
 }

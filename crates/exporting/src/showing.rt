@@ -1,30 +1,39 @@
-//! The steps of an export, and what comes behind them.
+//! The steps of an export, and what comes after them.
 
 ghost use Rattle.std.specs.Prelude.{◌≡◌};
 ghost use Rattle.queue.specs.Steps.{Reads};
 
 use crate::asked::{Job, Watcher};
-use crate::disk::{
-    Disk, at, link_to, place, remove_file, remove_folder, seen_at, stamp_of, sync_folder,
-};
 use crate::fault::ExportFault;
-use crate::looking::here;
+use crate::looking::{here, stamp_of};
 use crate::making::{body_at, make_state, touch_release};
+use crate::site::Site;
 use crate::states::{Standing, Wanted};
-use exported::{Manifest, Word, folder_of, in_dists, inside, is_state_of, new_name, own};
+use exported::{Manifest, Word, folder_of, is_state_of, new_name};
+use folders::{Disk, Folder, FolderFault};
 use keep::Keeper;
 use queue::Archive;
 use std::alloc::{AllocError, Global};
-use std::fs;
 use suites::PoolFile;
 use tree::Step;
+
+/// The name of the manifest among the files of exports.
+pub const MANIFEST: &str = "files";
+
+/// The folder that a file of the pool lies in, and its name there.
+fn cut(path: &str) -> (&str, &str) {
+    match path.rsplit_once('/') {
+        Some((folder, name)) => (folder, name),
+        None => ("", path),
+    }
+}
 
 /// Writes a file of the pool. Where it is synced the manifest may vouch for it; else it stays one that is coming, and is read by the next
 /// export.
 fn place_file<R: Disk, K: Keeper>(
     rt: &R,
     archive: &mut Archive<K>,
-    job: &Job<'_>,
+    job: &Job<'_, R>,
     file: &PoolFile,
     manifest: &mut Manifest,
 ) -> Result<(), ExportFault>
@@ -35,33 +44,52 @@ fn place_file<R: Disk, K: Keeper>(
     write_placed(rt, job, file, &body, manifest)
 }
 
+/// Puts a file of the pool at its path. It answers what the manifest may vouch for, if it is synced.
+fn put_file<R: Disk>(
+    rt: &R,
+    job: &Job<'_, R>,
+    file: &PoolFile,
+    body: &[u8],
+) -> Result<Option<Word>, FolderFault> {
+    let (way, name) = cut(file.path.as_str());
+    let folder = job.site.root.way_made(rt, way)?;
+    job.site.put(rt, &folder, name, body, job.is_synced)?;
+    if !job.is_synced {
+        return Ok(None);
+    }
+    match folder.seen(rt, name)? {
+        Some(seen) => Ok(Some(here(file.print, stamp_of(&seen)))),
+        None => Ok(None),
+    }
+}
+
 fn write_placed<R: Disk>(
     rt: &R,
-    job: &Job<'_>,
+    job: &Job<'_, R>,
     file: &PoolFile,
     body: &[u8],
     manifest: &mut Manifest,
 ) -> Result<(), ExportFault> {
-    let (alloc, path) = (rt.alloc(), file.path.as_str());
-    let whole = inside(alloc, job.root, path)?;
-    place(rt, job.root, whole.as_str(), body, job.is_synced)?;
-    if job.is_synced {
-        if let Some(seen) = seen_at(rt, whole.as_str())? {
-            manifest.set(alloc, path, here(file.print, stamp_of(&seen)))?;
-        }
+    if let Some(word) = put_file(rt, job, file, body)? {
+        manifest.set(rt.alloc(), file.path.as_str(), word)?;
     }
     Ok(())
 }
 
+/// Removes the folder at a path in the tree, if it is empty and no link is on the way to it. It says whether that is done.
+fn remove_empty<R: Disk>(rt: &R, site: &Site<R>, path: &str) -> Result<bool, FolderFault> {
+    let (way, name) = cut(path);
+    match site.root.way(rt, way)? {
+        Some(above) => above.remove_empty(rt, name),
+        None => Ok(false),
+    }
+}
+
 /// Removes the folders above a path, but `pool`, as far as they are empty.
-fn remove_empty_folders<R: Disk>(rt: &R, root: &str, path: &str) -> Result<(), AllocError> {
+fn remove_empty_folders<R: Disk>(rt: &R, site: &Site<R>, path: &str) -> Result<(), FolderFault> {
     let mut folder = folder_of(path);
     for _ in 0..path.len() {
-        if !folder.contains('/') {
-            break;
-        }
-        let whole = inside(rt.alloc(), root, folder)?;
-        if fs::remove_dir(rt, whole.as_str()).is_err() {
+        if !folder.contains('/') || !remove_empty(rt, site, folder)? {
             break;
         }
         folder = folder_of(folder);
@@ -69,36 +97,49 @@ fn remove_empty_folders<R: Disk>(rt: &R, root: &str, path: &str) -> Result<(), A
     Ok(())
 }
 
+/// Removes the regular file at a path in the tree, if there is one and no link is on the way to it.
+fn remove_file<R: Disk>(rt: &R, site: &Site<R>, path: &str) -> Result<(), FolderFault> {
+    let (way, name) = cut(path);
+    let Some(folder) = site.root.way(rt, way)? else {
+        return Ok(());
+    };
+    if folder.is_file(rt, name)? {
+        folder.remove(rt, &site.kept, name)?;
+    }
+    Ok(())
+}
+
 /// Removes a file of the pool that was left.
 fn remove_left<R: Disk>(
     rt: &R,
-    job: &Job<'_>,
+    job: &Job<'_, R>,
     path: &str,
     manifest: &mut Manifest,
 ) -> Result<(), ExportFault> {
-    let whole = inside(rt.alloc(), job.root, path)?;
-    remove_file(rt, whole.as_str())?;
-    remove_empty_folders(rt, job.root, path)?;
+    remove_file(rt, job.site, path)?;
+    remove_empty_folders(rt, job.site, path)?;
     manifest.forget(path);
     Ok(())
 }
 
 /// Has a suite show its state, by the rename of one link.
-fn show_state<R: Disk>(rt: &R, root: &str, suite: &Wanted) -> Result<(), ExportFault> {
-    let alloc = rt.alloc();
-    let dists = inside(alloc, root, "dists")?;
-    sync_folder(rt, dists.as_str())?;
-    touch_release(rt, root, suite)?;
-    let path = in_dists(alloc, root, suite.codename.as_str())?;
-    link_to(rt, root, suite.state.as_str(), path.as_str())?;
-    sync_folder(rt, dists.as_str())
+fn show_state<R: Disk>(rt: &R, site: &Site<R>, suite: &Wanted) -> Result<(), FolderFault> {
+    site.dists.sync(rt.alloc())?;
+    touch_release(rt, site, suite)?;
+    site.put_link(
+        rt,
+        &site.dists,
+        suite.codename.as_str(),
+        suite.state.as_str(),
+    )?;
+    site.dists.sync(rt.alloc())
 }
 
 /// Makes the state of the suite at a position, and has the suite show it.
 fn show_suite<R: Disk, K: Keeper>(
     rt: &R,
     archive: &mut Archive<K>,
-    job: &Job<'_>,
+    job: &Job<'_, R>,
     position: usize,
 ) -> Result<(), ExportFault>
     ensures reads { Reads K.Keeper archive.old.keeper archive.new.keeper }
@@ -106,15 +147,15 @@ fn show_suite<R: Disk, K: Keeper>(
     let Some(suite) = job.suites.get(position) else {
         return Ok(());
     };
-    make_state(rt, archive, job, position, suite)?;
-    show_state(rt, job.root, suite)
+    make_state(rt, archive, job, suite)?;
+    Ok(show_state(rt, job.site, suite)?)
 }
 
 /// Makes a step.
 fn make_step<R: Disk, K: Keeper>(
     rt: &R,
     archive: &mut Archive<K>,
-    job: &Job<'_>,
+    job: &Job<'_, R>,
     step: &Step,
     manifest: &mut Manifest,
 ) -> Result<(), ExportFault>
@@ -132,7 +173,7 @@ fn make_step<R: Disk, K: Keeper>(
 pub fn make_steps<R: Disk, K: Keeper, T: Watcher>(
     rt: &R,
     archive: &mut Archive<K>,
-    job: &Job<'_>,
+    job: &Job<'_, R>,
     steps: &[Step],
     manifest: &mut Manifest,
     watcher: &mut T,
@@ -153,20 +194,24 @@ pub fn make_steps<R: Disk, K: Keeper, T: Watcher>(
 pub fn make_others<R: Disk, K: Keeper>(
     rt: &R,
     archive: &mut Archive<K>,
-    job: &Job<'_>,
+    job: &Job<'_, R>,
 ) -> Result<(), ExportFault>
     ensures reads { Reads K.Keeper archive.old.keeper archive.new.keeper }
 {
-    for (position, suite) in job.suites.iter().enumerate() {
+    for suite in job.suites {
         if suite.standing != Standing::Shows {
-            make_state(rt, archive, job, position, suite)?;
+            make_state(rt, archive, job, suite)?;
         }
     }
     Ok(())
 }
 
 /// The paths that the manifest knows and that are none of the pool.
-fn strangers(alloc: Global, job: &Job<'_>, manifest: &Manifest) -> Result<Vec<String>, AllocError> {
+fn strangers<R: Disk>(
+    alloc: Global,
+    job: &Job<'_, R>,
+    manifest: &Manifest,
+) -> Result<Vec<String>, AllocError> {
     let mut paths = Vec::new(alloc);
     for (path, _) in manifest.words() {
         if job.shelves.file(path.as_str()).is_none() {
@@ -176,33 +221,53 @@ fn strangers(alloc: Global, job: &Job<'_>, manifest: &Manifest) -> Result<Vec<St
     Ok(paths)
 }
 
+/// Has the manifest say what suites show.
+fn tell_shown(alloc: Global, suites: &[Wanted], manifest: &mut Manifest) -> Result<(), AllocError> {
+    for suite in suites {
+        if let Some(shown) = suite.shown() {
+            manifest.set_shown(alloc, suite.codename.as_str(), shown, suite.shown_before())?;
+        }
+    }
+    Ok(())
+}
+
 /// Has the manifest say what is left, and what is shown; it answers how many paths are left. What is no file of the pool is left only if
 /// each suite shows what it is to show: else an index may name it.
-pub fn leave(alloc: Global, job: &Job<'_>, manifest: &mut Manifest) -> Result<usize, AllocError> {
+pub fn leave<R: Disk>(
+    alloc: Global,
+    job: &Job<'_, R>,
+    manifest: &mut Manifest,
+) -> Result<usize, AllocError> {
     let paths = strangers(alloc, job, manifest)?;
     if job.suites.iter().all(|suite| suite.is_shown()) {
         for path in &paths {
             manifest.set(alloc, path.as_str(), Word::Left)?;
         }
     }
-    for suite in job.suites {
-        if let Some(shown) = suite.shown() {
-            manifest.set_shown(alloc, suite.codename.as_str(), shown, suite.shown_before())?;
-        }
-    }
+    tell_shown(alloc, job.suites, manifest)?;
     Ok(paths.len())
 }
 
-/// Writes the manifest, where it is other than the one on the disk.
-pub fn save<R: Disk>(rt: &R, root: &str, manifest: &mut Manifest) -> Result<(), ExportFault> {
+/// Writes the manifest, if it is other than the one on the disk.
+pub fn save<R: Disk>(rt: &R, site: &Site<R>, manifest: &mut Manifest) -> Result<(), ExportFault> {
     if !manifest.is_changed() {
         return Ok(());
     }
     let text = manifest.text(rt.alloc())?;
-    let path = own(rt.alloc(), root, "files")?;
-    place(rt, root, path.as_str(), text.as_bytes(), true)?;
-    sync_folder(rt, folder_of(path.as_str()))?;
+    site.put(rt, &site.own, MANIFEST, text.as_bytes(), true)?;
+    site.own.sync(rt.alloc())?;
     manifest.set_written();
+    Ok(())
+}
+
+/// Removes what an export that was stopped left half made. It takes room; if it stays, that is all.
+pub fn remove_cut<R: Disk>(rt: &R, job: &Job<'_, R>) -> Result<(), AllocError> {
+    let site = job.site;
+    let _ = site.remove_cut(rt);
+    for suite in job.suites {
+        let name = new_name(rt.alloc(), suite.codename.as_str())?;
+        let _ = site.dists.remove_all(rt, &site.kept, name.as_str());
+    }
     Ok(())
 }
 
@@ -216,37 +281,13 @@ fn is_old(suites: &[Wanted], name: &str) -> bool {
     false
 }
 
-/// The names of the states in `dists` that no suite needs any more.
-fn old_states<R: Disk>(rt: &R, dists: &str, suites: &[Wanted]) -> Result<Vec<String>, ExportFault> {
-    let mut old = Vec::new(rt.alloc());
-    let entries = at(rt.alloc(), dists, fs::read_dir(rt, dists))?;
-    for entry in entries {
-        if let Ok(entry) = entry {
-            if is_old(suites, entry.file_name()) {
-                old.push(String::from_str(rt.alloc(), entry.file_name())?)?;
-            }
-        }
-    }
-    Ok(old)
-}
-
-/// Removes what an export that was stopped left half made. It takes room; where it stays, that is all.
-pub fn remove_cut<R: Disk>(rt: &R, job: &Job<'_>) -> Result<(), AllocError> {
-    let alloc = rt.alloc();
-    let _ = remove_file(rt, own(alloc, job.root, "new")?.as_str());
-    for suite in job.suites {
-        let name = new_name(alloc, suite.codename.as_str())?;
-        let _ = remove_folder(rt, in_dists(alloc, job.root, name.as_str())?.as_str());
-    }
-    Ok(())
-}
-
 /// Removes the folders of states other than those to be shown, those shown, and those shown before.
-pub fn remove_old_states<R: Disk>(rt: &R, job: &Job<'_>) -> Result<(), ExportFault> {
-    let dists = inside(rt.alloc(), job.root, "dists")?;
-    for name in &old_states(rt, dists.as_str(), job.suites)? {
-        let folder = inside(rt.alloc(), dists.as_str(), name.as_str())?;
-        remove_folder(rt, folder.as_str())?;
+pub fn remove_old_states<R: Disk>(rt: &R, job: &Job<'_, R>) -> Result<(), ExportFault> {
+    let (dists, kept) = (&job.site.dists, &job.site.kept);
+    for name in &dists.names(rt)? {
+        if is_old(job.suites, name.as_str()) {
+            dists.remove_all(rt, kept, name.as_str())?;
+        }
     }
     Ok(())
 }

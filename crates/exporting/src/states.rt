@@ -4,10 +4,11 @@ ghost use Rattle.std.specs.Prelude.{◌≡◌, IfOk, string_bytes};
 ghost use Rattle.queue.specs.Steps.{Reads};
 ghost use Rattle.exporting.specs.Fetched.{IsStateOf};
 
-use crate::disk::{Disk, is_file_at, link_at};
 use crate::fault::ExportFault;
 use crate::making::text_at;
-use exported::{Manifest, in_dists, is_state_of, state_name};
+use crate::site::Site;
+use exported::{Manifest, Shown, is_state_of, state_name};
+use folders::{Disk, FolderFault};
 use keep::Keeper;
 use queue::Archive;
 use rules::{Config, Suite};
@@ -28,6 +29,8 @@ pub enum Standing {
 /// A suite, and the state that it is to show.
 #[derive(Drop)]
 pub struct Wanted {
+    /// The position of the suite in the configuration.
+    pub position: usize,
     pub codename: String,
     /// The paths of its texts from its folder, Release last.
     pub paths: Vec<String>,
@@ -41,6 +44,8 @@ pub struct Wanted {
     pub is_changed: bool,
     /// Whether the state's folder is there.
     pub is_made: bool,
+    /// How many of the state's texts were mended.
+    pub mended: usize,
     pub standing: Standing,
 }
 
@@ -71,7 +76,7 @@ impl Wanted {
         text_in(&self.before)
     }
 
-    /// The state that is shown behind the export.
+    /// The state that is shown after the export.
     pub fn shown(&self) -> Option<&str> {
         match self.standing {
             Standing::Shows => Some(self.state.as_str()),
@@ -79,7 +84,7 @@ impl Wanted {
         }
     }
 
-    /// The state that was shown before the one that is shown behind the export.
+    /// The state that was shown before the one that is shown after the export.
     pub fn shown_before(&self) -> Option<&str> {
         if self.standing == Standing::Shows && !self.is_linked() {
             if let Some(link) = &self.link {
@@ -97,7 +102,7 @@ impl Wanted {
         }
     }
 
-    /// Whether the suite shows its state behind the export.
+    /// Whether the suite shows its state after the export.
     pub fn is_shown(&self) -> bool {
         match self.standing {
             Standing::Shows => true,
@@ -105,7 +110,7 @@ impl Wanted {
         }
     }
 
-    /// Whether a folder of a state of the suite stays behind the export: it is the one that is to be shown, the one that is shown, or the
+    /// Whether a folder of a state of the suite stays after the export: it is the one that is to be shown, the one that is shown, or the
     /// one before that.
     pub fn keeps(&self, name: &str) -> bool {
         if name == self.state.as_str() || self.shown() == Some(name) {
@@ -131,8 +136,9 @@ fn text_paths(alloc: Global, suite: &Suite) -> Result<Vec<String>, AllocError> {
 }
 
 /// A suite of which no more is known than its configuration.
-fn unknown(alloc: Global, suite: &Suite) -> Result<Wanted, AllocError> {
+fn unknown(alloc: Global, position: usize, suite: &Suite) -> Result<Wanted, AllocError> {
     Ok(Wanted {
+        position,
         codename: String::from_str(alloc, suite.codename.as_str())?,
         paths: text_paths(alloc, suite)?,
         state: String::new(alloc),
@@ -140,6 +146,7 @@ fn unknown(alloc: Global, suite: &Suite) -> Result<Wanted, AllocError> {
         before: None,
         is_changed: false,
         is_made: false,
+        mended: 0,
         standing: Standing::Same,
     })
 }
@@ -147,8 +154,8 @@ fn unknown(alloc: Global, suite: &Suite) -> Result<Wanted, AllocError> {
 /// The suites of a configuration, of which no more is known.
 fn unknown_suites(alloc: Global, config: &Config) -> Result<Vec<Wanted>, AllocError> {
     let mut suites = Vec::new(alloc);
-    for suite in config.suites() {
-        suites.push(unknown(alloc, suite)?)?;
+    for (position, suite) in config.suites().iter().enumerate() {
+        suites.push(unknown(alloc, position, suite)?)?;
     }
     Ok(suites)
 }
@@ -166,19 +173,34 @@ fn wanted_state<K: Keeper>(
     Ok(state_name(alloc, codename, &release)?)
 }
 
-/// The state that the link of a suite leads to, where it leads to one.
-fn linked<R: Disk>(rt: &R, root: &str, codename: &str) -> Result<Option<String>, ExportFault> {
-    let path = in_dists(rt.alloc(), root, codename)?;
-    match link_at(rt, path.as_str())? {
+/// The state that the link of a suite leads to, if it leads to one.
+pub fn linked<R: Disk>(
+    rt: &R,
+    site: &Site<R>,
+    codename: &str,
+) -> Result<Option<String>, FolderFault> {
+    match site.dists.link_of(rt, codename)? {
         Some(name) if is_state_of(codename, name.as_str()) => Ok(Some(name)),
         _ => Ok(None),
     }
 }
 
-/// Whether a file is in the folder of a state.
-pub fn has_file<R: Disk>(rt: &R, root: &str, state: &str, name: &str) -> Result<bool, ExportFault> {
-    let path = format!(in rt.alloc(); "{root}/dists/{state}/{name}")?;
-    is_file_at(rt, path.as_str())
+/// Whether a regular file is in the folder of a state.
+pub fn has_file<R: Disk>(
+    rt: &R,
+    site: &Site<R>,
+    state: &str,
+    name: &str,
+) -> Result<bool, FolderFault> {
+    match site.dists.within(rt, state)? {
+        Some(folder) => folder.is_file(rt, name),
+        None => Ok(false),
+    }
+}
+
+/// Whether a state has a signature.
+pub fn is_signed<R: Disk>(rt: &R, site: &Site<R>, state: &str) -> Result<bool, FolderFault> {
+    Ok(has_file(rt, site, state, "InRelease")? || has_file(rt, site, state, "Release.gpg")?)
 }
 
 /// What an export does of a suite.
@@ -192,27 +214,50 @@ fn standing_of(is_shown: bool, may_be_shown: bool) -> Standing {
     }
 }
 
+/// A name, if it is that of a state of the suite. The manifest of a tree may say anything.
+fn state_of<'a>(codename: &str, name: Option<&'a str>) -> Option<&'a str> {
+    match name {
+        Some(name) if is_state_of(codename, name) => Some(name),
+        _ => None,
+    }
+}
+
+/// The state that a suite showed before the one that its link leads to, by what the manifest says of it.
+fn state_before<'a>(codename: &str, link: Option<&str>, known: &'a Shown) -> Option<&'a str> {
+    if link == Some(known.state.as_str()) {
+        state_of(codename, known.before())
+    } else {
+        state_of(codename, Some(known.state.as_str()))
+    }
+}
+
+/// Finds what a suite showed.
+fn find_before(alloc: Global, manifest: &Manifest, suite: &mut Wanted) -> Result<(), AllocError> {
+    let codename = suite.codename.as_str();
+    if let Some(known) = manifest.shown(codename) {
+        let link = text_in(&suite.link);
+        let is_changed = link != Some(known.state.as_str());
+        let before = copied(alloc, state_before(codename, link, known))?;
+        suite.is_changed = is_changed;
+        suite.before = before;
+    }
+    Ok(())
+}
+
 /// Finds what a suite shows, and says what an export does of it.
 fn find_shown<R: Disk>(
     rt: &R,
-    root: &str,
-    is_signed: bool,
+    site: &Site<R>,
+    is_waiting: bool,
     manifest: &Manifest,
     suite: &mut Wanted,
 ) -> Result<(), ExportFault> {
-    let link = linked(rt, root, suite.codename.as_str())?;
-    if let Some(known) = manifest.shown(suite.codename.as_str()) {
-        suite.is_changed = text_in(&link) != Some(known.state.as_str());
-        suite.before = if suite.is_changed {
-            copied(rt.alloc(), Some(known.state.as_str()))?
-        } else {
-            copied(rt.alloc(), known.before())?
-        };
-    }
-    suite.link = link;
+    suite.link = linked(rt, site, suite.codename.as_str())?;
+    find_before(rt.alloc(), manifest, suite)?;
     let state = suite.state.as_str();
-    suite.is_made = has_file(rt, root, state, "Release")?;
-    let may_be_shown = !is_signed || has_file(rt, root, state, "InRelease")?;
+    let is_made = site.dists.within(rt, state)?.is_some();
+    let may_be_shown = !is_waiting || has_file(rt, site, state, "InRelease")?;
+    suite.is_made = is_made;
     suite.standing = standing_of(suite.is_made && suite.is_linked(), may_be_shown);
     Ok(())
 }
@@ -232,12 +277,13 @@ fn find_states<K: Keeper>(
     Ok(())
 }
 
-/// The suites of an archive in the order of its configuration, with what they show and are to show.
+/// The suites of an archive in the order of its configuration, with what they show and are to show. A state waits for its InRelease if
+/// `is_waiting`.
 pub fn wanted_suites<R: Disk, K: Keeper>(
     rt: &R,
     archive: &mut Archive<K>,
-    root: &str,
-    is_signed: bool,
+    site: &Site<R>,
+    is_waiting: bool,
     manifest: &Manifest,
 ) -> Result<Vec<Wanted>, ExportFault>
     ensures reads { Reads K.Keeper archive.old.keeper archive.new.keeper }
@@ -245,7 +291,54 @@ pub fn wanted_suites<R: Disk, K: Keeper>(
     let mut suites = unknown_suites(rt.alloc(), archive.keeper.config())?;
     find_states(rt.alloc(), archive, suites.as_mut_slice())?;
     for suite in suites.as_mut_slice() {
-        find_shown(rt, root, is_signed, manifest, suite)?;
+        find_shown(rt, site, is_waiting, manifest, suite)?;
     }
     Ok(suites)
+}
+
+/// Refuses suites as `Signed` of the first that shows a signed state.
+pub fn refuse_signed<R: Disk>(
+    rt: &R,
+    site: &Site<R>,
+    suites: &[Wanted],
+) -> Result<(), ExportFault> {
+    for suite in suites {
+        if let Some(link) = suite.link() {
+            if is_signed(rt, site, link)? {
+                return Err(ExportFault::Signed(String::from_str(
+                    rt.alloc(),
+                    suite.codename.as_str(),
+                )?));
+            }
+        }
+    }
+    Ok(())
+}
+
+/// Whether a component has the name of a file that is in the folder of a state beside the components.
+fn is_taken(component: &str) -> bool {
+    matches!(
+        component,
+        "Release" | "Release.gpg" | "InRelease" | "index.html"
+    )
+}
+
+/// The first component that has the name of a file, if there is one.
+fn taken_component(config: &Config) -> Option<&str> {
+    for suite in config.suites() {
+        for component in suite.components.as_slice() {
+            if is_taken(component.as_str()) {
+                return Some(component.as_str());
+            }
+        }
+    }
+    None
+}
+
+/// Refuses a configuration as `Named` of its first component that has the name of a file.
+pub fn refuse_named(alloc: Global, config: &Config) -> Result<(), ExportFault> {
+    match taken_component(config) {
+        Some(component) => Err(ExportFault::Named(String::from_str(alloc, component)?)),
+        None => Ok(()),
+    }
 }

@@ -4,37 +4,34 @@ ghost use Rattle.std.specs.Prelude.{◌≡◌, ◌≤◌};
 ghost use Rattle.keep.specs.Book.{latest};
 ghost use Rattle.queue.specs.Steps.{Reads};
 
-use crate::disk::{Disk, bytes_at, place};
 use crate::fault::ExportFault;
 use crate::lacking::lacking_uploads;
-use exported::inside;
+use crate::site::Site;
+use folders::{Disk, FolderFault};
 use keep::Keeper;
 use pages::{index_page, uploads_page};
 use queue::Archive;
 use suites::Shelves;
 
-/// Puts a page at its path, where another text is there.
-fn write_page<R: Disk>(rt: &R, root: &str, name: &str, text: &str) -> Result<(), ExportFault> {
-    let path = inside(rt.alloc(), root, name)?;
-    if let Some(bytes) = bytes_at(rt, path.as_str())? {
-        if bytes.as_slice() == text.as_bytes() {
-            return Ok(());
-        }
+/// Puts a page at its name in the tree, if another text or another kind of file is there.
+fn write_page<R: Disk>(rt: &R, site: &Site<R>, name: &str, text: &str) -> Result<(), FolderFault> {
+    if site.root.has_bytes(rt, name, text.as_bytes())? {
+        return Ok(());
     }
-    place(rt, root, path.as_str(), text.as_bytes(), false)
+    site.put(rt, &site.root, name, text.as_bytes(), false)
 }
 
 /// Writes the page of the suites.
 pub fn write_index<R: Disk, K: Keeper>(
     rt: &R,
     archive: &Archive<K>,
-    root: &str,
+    site: &Site<R>,
     shelves: &Shelves,
     is_signed: bool,
 ) -> Result<(), ExportFault> {
     let (config, dates) = (archive.keeper.config(), archive.keeper.dates());
     let page = index_page(rt.alloc(), config, shelves, dates, is_signed)?;
-    write_page(rt, root, "index.html", page.as_str())
+    Ok(write_page(rt, site, "index.html", page.as_str())?)
 }
 
 /// Writes the page of the uploads: those that wait at a moment, in seconds since 1970-01-01 00:00:00 UTC, with what they lack, and all
@@ -42,7 +39,7 @@ pub fn write_index<R: Disk, K: Keeper>(
 pub fn write_uploads<R: Disk, K: Keeper>(
     rt: &R,
     archive: &mut Archive<K>,
-    root: &str,
+    site: &Site<R>,
     at: u64,
 ) -> Result<(), ExportFault>
     requires in_time { at ≤ latest }
@@ -53,5 +50,5 @@ pub fn write_uploads<R: Disk, K: Keeper>(
     let judged = archive.keeper.verdicts(alloc)?;
     let lacking = lacking_uploads(alloc, archive, &waiting, &judged, at)?;
     let page = uploads_page(alloc, &lacking, &judged)?;
-    write_page(rt, root, "uploads.html", page.as_str())
+    Ok(write_page(rt, site, "uploads.html", page.as_str())?)
 }

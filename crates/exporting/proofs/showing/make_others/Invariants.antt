@@ -2,7 +2,7 @@
 use Rattle.keep.specs.Keeping.{Reads}
 use Rattle.exporting.proofs.showing.make_others.Given as goal
 
-abbrev pub invariant-loop-position : goal.invariant-loop-position
-invariant-loop-position g l =
+abbrev pub invariant-loop-suite : goal.invariant-loop-suite
+invariant-loop-suite g l =
     let k = g.K.Keeper in
     record { reads : Reads k.is_clean k.is_open k.faults k.book k.may_leave l.fn.archive.keeper l.archive.keeper }

@@ -1,0 +1,8 @@
+-- So far the archive was read alone.
+use Rattle.keep.specs.Keeping.{Reads}
+use Rattle.exporting.proofs.mending.mend_texts.Given as goal
+
+abbrev pub invariant-loop-path : goal.invariant-loop-path
+invariant-loop-path g l =
+    let k = g.K.Keeper in
+    record { reads : Reads k.is_clean k.is_open k.faults k.book k.may_leave l.fn.archive.keeper l.archive.keeper }

@@ -1,0 +1,173 @@
+//! The texts of a state that is made, compared with the archive's.
+
+ghost use Rattle.std.specs.Prelude.{◌≡◌};
+ghost use Rattle.queue.specs.Steps.{Reads};
+
+use crate::fault::ExportFault;
+use crate::making::{PAGE, text_at};
+use crate::site::Site;
+use crate::states::Wanted;
+use folders::{Disk, Folder, FolderFault};
+use keep::Keeper;
+use pages::suite_page;
+use queue::Archive;
+use suites::Shelves;
+
+/// Whether the file at a path in a folder has these bytes, and no link is on the way to it.
+fn has_at<R: Disk>(
+    rt: &R,
+    folder: &Folder<R>,
+    path: &str,
+    body: &[u8],
+) -> Result<bool, FolderFault> {
+    let Some((way, name)) = path.rsplit_once('/') else {
+        return folder.has_bytes(rt, path, body);
+    };
+    match folder.way(rt, way)? {
+        Some(beside) => beside.has_bytes(rt, name, body),
+        None => Ok(false),
+    }
+}
+
+/// Puts a file at a name in a folder of a state, in the place of whatever has the name.
+fn put_over<R: Disk>(
+    rt: &R,
+    site: &Site<R>,
+    folder: &Folder<R>,
+    name: &str,
+    body: &[u8],
+) -> Result<(), FolderFault> {
+    match folder.seen(rt, name)? {
+        Some(seen) if seen.is_dir() => folder.remove_all(rt, &site.kept, name)?,
+        _ => {}
+    }
+    site.put(rt, folder, name, body, true)?;
+    folder.sync(rt.alloc())
+}
+
+/// Puts a file at a path in the folder of a state. What is on the way and no folder goes.
+fn put_at<R: Disk>(
+    rt: &R,
+    site: &Site<R>,
+    state: &Folder<R>,
+    path: &str,
+    body: &[u8],
+) -> Result<(), FolderFault> {
+    let Some((way, name)) = path.rsplit_once('/') else {
+        return put_over(rt, site, state, path, body);
+    };
+    let folder = state.way_cleared(rt, &site.kept, way)?;
+    put_over(rt, site, &folder, name, body)
+}
+
+/// Has a file of a state be there as it is to be. It answers how many it mended: one or none.
+fn mend_file<R: Disk>(
+    rt: &R,
+    site: &Site<R>,
+    state: &Folder<R>,
+    path: &str,
+    body: &[u8],
+) -> Result<usize, FolderFault> {
+    if has_at(rt, state, path, body)? {
+        return Ok(0);
+    }
+    put_at(rt, site, state, path, body)?;
+    Ok(1)
+}
+
+/// Has a text of a state be there as the archive has it. It answers how many it mended.
+fn mend_text<R: Disk, K: Keeper>(
+    rt: &R,
+    archive: &mut Archive<K>,
+    site: &Site<R>,
+    codename: &str,
+    state: &Folder<R>,
+    path: &str,
+) -> Result<usize, ExportFault>
+    ensures reads { Reads K.Keeper archive.old.keeper archive.new.keeper }
+{
+    let body = text_at(rt.alloc(), archive, codename, path)?;
+    Ok(mend_file(rt, site, state, path, &body)?)
+}
+
+/// Has the texts of a state be there as the archive has them. It answers how many it mended.
+#[tactic(auto, using(keep::proofs::ReadLemmas::reads_none, keep::proofs::ReadLemmas::reads_more))]
+fn mend_texts<R: Disk, K: Keeper>(
+    rt: &R,
+    archive: &mut Archive<K>,
+    site: &Site<R>,
+    suite: &Wanted,
+    state: &Folder<R>,
+) -> Result<usize, ExportFault>
+    ensures reads { Reads K.Keeper archive.old.keeper archive.new.keeper }
+{
+    let mut count = 0usize;
+    for path in &suite.paths {
+        let mended = mend_text(
+            rt,
+            archive,
+            site,
+            suite.codename.as_str(),
+            state,
+            path.as_str(),
+        )?;
+        count = count.saturating_add(mended);
+    }
+    Ok(count)
+}
+
+/// Has the page of a state be a file. What a file has that is there is not looked at.
+fn mend_page<R: Disk, K: Keeper>(
+    rt: &R,
+    archive: &Archive<K>,
+    site: &Site<R>,
+    shelves: &Shelves,
+    suite: &Wanted,
+    state: &Folder<R>,
+) -> Result<usize, ExportFault> {
+    if state.is_file(rt, PAGE)? {
+        return Ok(0);
+    }
+    let page = suite_page(rt.alloc(), archive.keeper.config(), shelves, suite.position)?;
+    Ok(mend_file(rt, site, state, PAGE, page.as_bytes())?)
+}
+
+/// Has the page and the texts of a suite's state be there as they are to be, if the state is made. It answers how many were mended.
+fn mend_state<R: Disk, K: Keeper>(
+    rt: &R,
+    archive: &mut Archive<K>,
+    site: &Site<R>,
+    shelves: &Shelves,
+    suite: &Wanted,
+) -> Result<usize, ExportFault>
+    ensures reads { Reads K.Keeper archive.old.keeper archive.new.keeper }
+{
+    let state = if suite.is_made {
+        site.dists.within(rt, suite.state.as_str())?
+    } else {
+        None
+    };
+    let Some(state) = state else {
+        return Ok(0);
+    };
+    let pages = mend_page(rt, archive, site, shelves, suite, &state)?;
+    let texts = mend_texts(rt, archive, site, suite, &state)?;
+    Ok(texts.saturating_add(pages))
+}
+
+/// Has each state that is made be as it is to be, and each suite know how many of its texts were mended.
+#[tactic(auto, using(keep::proofs::ReadLemmas::reads_none, keep::proofs::ReadLemmas::reads_more))]
+pub fn mend_states<R: Disk, K: Keeper>(
+    rt: &R,
+    archive: &mut Archive<K>,
+    site: &Site<R>,
+    shelves: &Shelves,
+    suites: &mut [Wanted],
+) -> Result<(), ExportFault>
+    ensures reads { Reads K.Keeper archive.old.keeper archive.new.keeper }
+{
+    for suite in suites {
+        suite.mended = mend_state(rt, archive, site, shelves, suite)?;
+    }
+    Ok(())
+}

@@ -1,0 +1,110 @@
+//! The folders that an export works in, and how a file gets its place.
+
+use crate::fault::ExportFault;
+use exported::OWN;
+use folders::{Disk, Folder, FolderFault, Kept};
+
+/// The name that a file has in the folder of exports until it has its place.
+const NEW: &str = "new";
+
+/// The name that a link has there.
+const LINK: &str = "link";
+
+/// The folders of a tree, open, and what an export never touches.
+#[derive(Drop)]
+pub struct Site<R: Disk> {
+    /// The folder of the tree.
+    pub root: Folder<R>,
+    /// The folder of what exports keep for themselves.
+    pub own: Folder<R>,
+    /// The folder of the suites.
+    pub dists: Folder<R>,
+    /// The database.
+    pub kept: Kept,
+}
+
+/// The folder of a tree, open, and the folder of what exports keep for themselves.
+pub fn opened_folders<R: Disk>(rt: &R, path: &str) -> Result<(Folder<R>, Folder<R>), FolderFault> {
+    let root = Folder::open(rt, path)?;
+    let own = root.make(rt, OWN)?;
+    Ok((root, own))
+}
+
+/// What an export of the archive of a database never touches.
+pub fn kept_of<R: Disk>(rt: &R, database: &str) -> Result<Kept, ExportFault> {
+    let mut kept = Kept::new(rt.alloc());
+    if !database.is_empty() {
+        kept.keep_database(rt, database)?;
+    }
+    Ok(kept)
+}
+
+impl<R: Disk> Site<R> {
+    /// Writes a file among those of exports, and renames it to a name in a folder.
+    fn write_and_move(
+        &self,
+        rt: &R,
+        folder: &Folder<R>,
+        name: &str,
+        body: &[u8],
+        is_synced: bool,
+    ) -> Result<(), FolderFault> {
+        self.own.write_new(rt, &self.kept, NEW, body, is_synced)?;
+        self.own.move_to(rt, &self.kept, NEW, folder, name)
+    }
+
+    /// Puts a file at a name in a folder: it is written beside, and renamed there. Where that fails, what was written beside is removed.
+    ///
+    /// Refused as `Place` if what has the name is the database's or a folder, or if the disk fails, and for want of memory.
+    pub fn put(
+        &self,
+        rt: &R,
+        folder: &Folder<R>,
+        name: &str,
+        body: &[u8],
+        is_synced: bool,
+    ) -> Result<(), FolderFault> {
+        self.kept.spare(rt, folder, name)?;
+        let done = self.write_and_move(rt, folder, name, body, is_synced);
+        if done.is_err() {
+            // It takes room on a full disk. If it stays, the next file is written in its place.
+            let _ = self.own.remove(rt, &self.kept, NEW);
+        }
+        done
+    }
+
+    /// Puts a link to a name at a name in a folder, by one rename.
+    pub fn put_link(
+        &self,
+        rt: &R,
+        folder: &Folder<R>,
+        name: &str,
+        target: &str,
+    ) -> Result<(), FolderFault> {
+        self.own.link(rt, &self.kept, LINK, target)?;
+        self.own.move_to(rt, &self.kept, LINK, folder, name)
+    }
+
+    /// Gives the contents of a file of a folder a further name in another one, by one more name of the file, or a copy if the disk has no such
+    /// names. It is there whole or not at all, in the place of what has the name.
+    pub fn put_too(
+        &self,
+        rt: &R,
+        from: &Folder<R>,
+        name: &str,
+        to: &Folder<R>,
+        new_name: &str,
+        body: &[u8],
+    ) -> Result<(), FolderFault> {
+        self.own.remove(rt, &self.kept, NEW)?;
+        if !from.name_too(rt, name, &self.own, NEW)? {
+            return self.put(rt, to, new_name, body, true);
+        }
+        self.own.move_to(rt, &self.kept, NEW, to, new_name)
+    }
+
+    /// Removes what an export that was stopped left half written.
+    pub fn remove_cut(&self, rt: &R) -> Result<(), FolderFault> {
+        self.own.remove(rt, &self.kept, NEW)
+    }
+}
