@@ -86,11 +86,15 @@ pub record IsTimed (rows : List Row) (db : Bor (List ℕ)) (at : ℕ) : Type 0 w
 abbrev pub Asks : Text → List Row → Request (Bor (List ℕ)) (Vec (Bor (List ℕ)) Global) (Option (Vec (Bor (List ℕ)) Global)) → Type 0
 Asks name rows asked = (db : Bor (List ℕ)) (at : ℕ) → IsTimed rows db at → IsRequested (Some (name, rows)) db at asked
 
--- a serving that lacks the folder which `--signed` or `--by-hash` is about
-abbrev pub lacks_export : Serving → Bool
-lacks_export serving = not (is_some serving.export) && (serving.signed || serving.by_hash)
+-- a line that has both `--signed` and `--unsigned`
+abbrev pub has_both : Bool → Bool → Bool
+has_both signed unsigned = signed && unsigned
 
--- the command and each value are those that were found, and flags of an export come with its folder
+-- a serving that lacks the folder which `--signed`, `--unsigned` or `--by-hash` is about
+abbrev pub lacks_export : Serving → Bool
+lacks_export serving = not (is_some serving.export) && ((serving.signed || serving.unsigned) || serving.by_hash)
+
+-- the command and each value are those that were found, flags of an export come with its folder, and none says the contrary of another
 abbrev pub IsLine : Option (Text × List Row) → CommandLine → Type 0
 IsLine found (Try paths) = IsNamed found (codes "try") (λ rows. HasPaths rows paths)
 IsLine found (Compare left right) = IsNamed found (codes "compare") (λ rows.
@@ -115,10 +119,12 @@ IsLine found (Why db at name json) = IsNamed found (codes "why") (λ rows.
 IsLine found (Configuration db) = IsNamed found (codes "configuration") (λ rows. IsWord (codes "db") rows db)
 IsLine found (Export db exporting) = IsNamed found (codes "export") (λ rows.
     IsWord (codes "db") rows db × IsOptionalMoment rows exporting.at × IsWord (codes "DIR") rows exporting.dir
-    × (exporting.signed ≡ is_true (codes "signed") rows) × (exporting.by_hash ≡ is_true (codes "by-hash") rows))
+    × (exporting.signed ≡ is_true (codes "signed") rows) × (exporting.unsigned ≡ is_true (codes "unsigned") rows)
+    × (exporting.by_hash ≡ is_true (codes "by-hash") rows) × (has_both exporting.signed exporting.unsigned ≡ false))
 IsLine found (Serve db serving) = IsNamed found (codes "serve") (λ rows.
     IsWord (codes "db") rows db × IsMoment rows serving.at × IsOptionalWord (codes "moments") rows serving.moments
     × (serving.log ≡ is_true (codes "log") rows) × IsOptionalWord (codes "export") rows serving.export
-    × (serving.signed ≡ is_true (codes "signed") rows) × (serving.by_hash ≡ is_true (codes "by-hash") rows)
-    × (lacks_export serving ≡ false) × IsWord (codes "ADDRESS") rows serving.address
+    × (serving.signed ≡ is_true (codes "signed") rows) × (serving.unsigned ≡ is_true (codes "unsigned") rows)
+    × (serving.by_hash ≡ is_true (codes "by-hash") rows) × (lacks_export serving ≡ false)
+    × (has_both serving.signed serving.unsigned ≡ false) × IsWord (codes "ADDRESS") rows serving.address
     × IsNumber (codes "COUNT") rows 1 most_connections serving.count)

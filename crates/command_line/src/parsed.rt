@@ -23,6 +23,8 @@ pub struct Exporting<'a> {
     pub dir: &'a str,
     /// Whether a suite is shown only once its new state is signed.
     pub signed: bool,
+    /// Whether a suite that is shown signed is shown unsigned from now on.
+    pub unsigned: bool,
     /// Whether each index text also stands under its SHA-256.
     pub by_hash: bool,
 }
@@ -40,6 +42,8 @@ pub struct Serving<'a> {
     pub export: Option<&'a str>,
     /// Whether that shows a suite only once its new state is signed.
     pub signed: bool,
+    /// Whether a suite that it shows signed is shown unsigned from now on.
+    pub unsigned: bool,
     /// Whether each index text also stands there under its SHA-256.
     pub by_hash: bool,
     pub address: &'a str,

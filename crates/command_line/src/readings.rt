@@ -2,12 +2,12 @@
 
 ghost use Rattle.std.specs.Prelude.{◌≡◌, codes, IfOk, Some};
 ghost use Rattle.clap.specs.Words.{Text, found_of, rows_of};
-ghost use Rattle.command_line.specs.CommandLines.{Asks, IsLine, IsTimed, is_true, lacks_export as lacks_export_of};
+ghost use Rattle.command_line.specs.CommandLines.{Asks, IsLine, IsTimed, has_both as has_both_of, is_true, lacks_export as lacks_export_of};
 
 use crate::parsed::{CommandLine, Exporting, LineFault, Manner, Serving};
 use crate::values::{
-    is_set, lacking, moment, number, optional, optional_moment, paths, required, sources,
-    without_export,
+    export_with_both, is_set, lacking, moment, number, optional, optional_moment, paths, required,
+    serve_with_both, sources, without_export,
 };
 use clap::ArgMatches;
 use lists::{LineRequest, Request};
@@ -245,22 +245,32 @@ fn read_configuration<'a>(
 fn read_export<'a>(alloc: Global, found: &ArgMatches<'a>) -> Result<CommandLine<'a>, LineFault>
     ensures { IfOk result (IsLine (Some (codes "export", rows_of (found_of found.now)))) }
 {
-    Ok(CommandLine::Export {
-        db: required(alloc, found, "db")?,
-        exporting: Exporting {
-            at: optional_moment(alloc, found)?,
-            dir: required(alloc, found, "DIR")?,
-            signed: is_set(found, "signed"),
-            by_hash: is_set(found, "by-hash"),
-        },
-    })
+    let db = required(alloc, found, "db")?;
+    let exporting = Exporting {
+        at: optional_moment(alloc, found)?,
+        dir: required(alloc, found, "DIR")?,
+        signed: is_set(found, "signed"),
+        unsigned: is_set(found, "unsigned"),
+        by_hash: is_set(found, "by-hash"),
+    };
+    if has_both(exporting.signed, exporting.unsigned) {
+        return Err(export_with_both(alloc));
+    }
+    Ok(CommandLine::Export { db, exporting })
 }
 
-/// Whether a serving lacks the folder that its `--signed` or `--by-hash` is about.
+/// Whether a line has both `--signed` and `--unsigned`.
+fn has_both(signed: bool, unsigned: bool) -> bool
+    ensures { result ≡ has_both_of signed unsigned }
+{
+    signed && unsigned
+}
+
+/// Whether a serving lacks the folder that its `--signed`, `--unsigned` or `--by-hash` is about.
 fn lacks_export(serving: &Serving<'_>) -> bool
     ensures { result ≡ lacks_export_of serving.now }
 {
-    serving.export.is_none() && (serving.signed || serving.by_hash)
+    serving.export.is_none() && (serving.signed || serving.unsigned || serving.by_hash)
 }
 
 fn read_serve<'a>(alloc: Global, found: &ArgMatches<'a>) -> Result<CommandLine<'a>, LineFault>
@@ -273,12 +283,16 @@ fn read_serve<'a>(alloc: Global, found: &ArgMatches<'a>) -> Result<CommandLine<'
         log: is_set(found, "log"),
         export: optional(found, "export"),
         signed: is_set(found, "signed"),
+        unsigned: is_set(found, "unsigned"),
         by_hash: is_set(found, "by-hash"),
         address: required(alloc, found, "ADDRESS")?,
         count: number(alloc, found, "COUNT", 1, MOST_CONNECTIONS)?,
     };
     if lacks_export(&serving) {
         return Err(without_export(alloc));
+    }
+    if has_both(serving.signed, serving.unsigned) {
+        return Err(serve_with_both(alloc));
     }
     Ok(CommandLine::Serve { db, serving })
 }

@@ -10,7 +10,7 @@ use clap::ArgMatches;
 use clap::error::ErrorKind;
 use keep::LATEST;
 use std::alloc::{AllocError, Global};
-use usage::{archive_command, serve_command};
+use usage::{archive_command, export_command, serve_command};
 
 /// The refusal of a line that lacks a word which its command needs.
 pub fn lacking(alloc: Global) -> LineFault {
@@ -30,8 +30,33 @@ fn refusal(alloc: Global) -> Result<LineFault, AllocError> {
 const WITHOUT_EXPORT: &str =
     "the following required arguments were not provided:\n  --export <DIR>";
 
-/// The refusal of a line of `serve` whose `--signed` or `--by-hash` has no `--export`.
+/// What clap says where `--signed` and `--unsigned` exclude each other.
+const BOTH: &str = "the argument '--signed' cannot be used with '--unsigned'";
+
+/// The refusal of a line of `serve` that has an option of an export, and no `--export`.
 pub fn without_export(alloc: Global) -> LineFault {
+    match serve_refusal(alloc, ErrorKind::MissingRequiredArgument, WITHOUT_EXPORT) {
+        Ok(fault) => fault,
+        Err(_) => LineFault::OutOfMemory,
+    }
+}
+
+/// The refusal of a line of `serve` that has both `--signed` and `--unsigned`.
+pub fn serve_with_both(alloc: Global) -> LineFault {
+    match serve_refusal(alloc, ErrorKind::ArgumentConflict, BOTH) {
+        Ok(fault) => fault,
+        Err(_) => LineFault::OutOfMemory,
+    }
+}
+
+fn serve_refusal(alloc: Global, kind: ErrorKind, why: &str) -> Result<LineFault, AllocError> {
+    let mut command = serve_command(alloc)?.bin_name("archive serve")?;
+    let error = command.error(kind, why)?;
+    Ok(LineFault::Refused(error))
+}
+
+/// The refusal of a line of `export` that has both `--signed` and `--unsigned`.
+pub fn export_with_both(alloc: Global) -> LineFault {
     match export_refusal(alloc) {
         Ok(fault) => fault,
         Err(_) => LineFault::OutOfMemory,
@@ -39,8 +64,8 @@ pub fn without_export(alloc: Global) -> LineFault {
 }
 
 fn export_refusal(alloc: Global) -> Result<LineFault, AllocError> {
-    let mut command = serve_command(alloc)?.bin_name("archive serve")?;
-    let error = command.error(ErrorKind::MissingRequiredArgument, WITHOUT_EXPORT)?;
+    let mut command = export_command(alloc)?.bin_name("archive export")?;
+    let error = command.error(ErrorKind::ArgumentConflict, BOTH)?;
     Ok(LineFault::Refused(error))
 }
 

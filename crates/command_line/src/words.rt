@@ -36,8 +36,8 @@ use usage::archive_command;
 /// verdicts --db FILE [--json]
 /// why --db FILE [--at N] [--json] [NAME]
 /// configuration --db FILE
-/// export --db FILE [--at N] [--signed] [--by-hash] DIR
-/// serve --db FILE --at N [--moments MOMENTS] [--log] [--export DIR] [--signed] [--by-hash] ADDRESS COUNT
+/// export --db FILE [--at N] [--signed | --unsigned] [--by-hash] DIR
+/// serve --db FILE --at N [--moments MOMENTS] [--log] [--export DIR] [--signed | --unsigned] [--by-hash] ADDRESS COUNT
 /// ```
 ///
 /// where `PATH..` is one path or more, `[SOURCE..]` any number of sources, N is 0 to 4102444799 and COUNT 1 to 1000000. It is

@@ -122,10 +122,14 @@ why_app =
     with_rule (with_rule (with_rule (db_app (codes "why")) optional_at_rule) (flag_rule (codes "json")))
     (optional_word_rule (codes "NAME"))
 
+-- the options of `export` alone
+abbrev pub export_options : App
+export_options =
+    with_rule (with_rule (with_rule (with_rule (db_app (codes "export")) optional_at_rule) (flag_rule (codes "signed"))) (flag_rule (codes "unsigned")))
+    (flag_rule (codes "by-hash"))
+
 abbrev pub export_app : App
-export_app =
-    with_rule (with_rule (with_rule (with_rule (db_app (codes "export")) optional_at_rule) (flag_rule (codes "signed"))) (flag_rule (codes "by-hash")))
-    (word_rule (codes "DIR"))
+export_app = with_rule export_options (word_rule (codes "DIR"))
 
 -- the options of `serve` alone
 abbrev pub serve_options : App
@@ -133,9 +137,13 @@ serve_options =
     with_rule (with_rule (with_rule (with_rule (timed_app (codes "serve")) (option_rule (codes "moments"))) (flag_rule (codes "log"))) (option_rule (codes "export")))
     (flag_rule (codes "signed"))
 
--- the same with `--by-hash`
+-- the same with `--unsigned`
+abbrev pub serve_unsigned : App
+serve_unsigned = with_rule serve_options (flag_rule (codes "unsigned"))
+
+-- the same with `--by-hash` too
 abbrev pub serve_by_hash : App
-serve_by_hash = with_rule serve_options (flag_rule (codes "by-hash"))
+serve_by_hash = with_rule serve_unsigned (flag_rule (codes "by-hash"))
 
 abbrev pub serve_app : App
 serve_app = with_rule (with_rule serve_by_hash (word_rule (codes "ADDRESS"))) count_rule

@@ -197,6 +197,18 @@ pub fn signed<'a>(alloc: Global) -> Arg<'a>
     )
 }
 
+/// `--unsigned`.
+pub fn unsigned<'a>(alloc: Global) -> Arg<'a>
+    ensures rule { rule_of result ≡ flag_rule (codes "unsigned") }
+    ensures local { result.global ≡ false }
+{
+    flag(
+        alloc,
+        "unsigned",
+        "A suite is shown at once without a signature, also if the folder shows it signed",
+    )
+}
+
 /// `--by-hash`.
 pub fn by_hash<'a>(alloc: Global) -> Arg<'a>
     ensures rule { rule_of result ≡ flag_rule (codes "by-hash") }

@@ -2,11 +2,11 @@
 
 ghost use Rattle.std.specs.Prelude.{◌≡◌, IfOk, codes, false};
 ghost use Rattle.clap.specs.Words.{App, Rule, new_app, rule_of, with_rule, with_subcommand};
-ghost use Rattle.usage.specs.Shape.{archive_app, new_archive, IsCommand, try_app, compare_app, check_app, init_app, put_app, run_app, db_app, timed_app, copy_app, promote_app, remove_app, batch_app, configure_app, migrate_app, show_app, list_app, waiting_app, verdicts_app, why_app, export_app, serve_app, serve_by_hash, serve_options, word_rule, with_changes, with_others, with_questions};
+ghost use Rattle.usage.specs.Shape.{archive_app, new_archive, IsCommand, try_app, compare_app, check_app, init_app, put_app, run_app, db_app, timed_app, copy_app, promote_app, remove_app, batch_app, configure_app, migrate_app, show_app, list_app, waiting_app, verdicts_app, why_app, export_app, export_options, serve_app, serve_by_hash, serve_options, serve_unsigned, word_rule, with_changes, with_others, with_questions};
 
 use crate::arguments::{
     at, by_hash, count, db, export, from, json, log, many, moments, optional_at, optional_word,
-    paths, signed, strict, word,
+    paths, signed, strict, unsigned, word,
 };
 use crate::version::VERSION;
 use clap::{Arg, Command};
@@ -328,8 +328,9 @@ fn configuration_command<'a>(alloc: Global) -> Result<Command<'a>, AllocError>
     )
 }
 
-fn export_command<'a>(alloc: Global) -> Result<Command<'a>, AllocError>
-    ensures { IfOk result (IsCommand export_app) }
+/// The command that exports, with its options alone.
+fn export_with_options<'a>(alloc: Global) -> Result<Command<'a>, AllocError>
+    ensures { IfOk result (IsCommand export_options) }
 {
     let command = db_command(
         alloc,
@@ -344,7 +345,15 @@ fn export_command<'a>(alloc: Global) -> Result<Command<'a>, AllocError>
         ),
     );
     let command = with_arg(command, signed(alloc));
-    let command = with_arg(command, by_hash(alloc));
+    let command = with_arg(command, unsigned(alloc));
+    with_arg(command, by_hash(alloc))
+}
+
+/// The command that exports.
+pub fn export_command<'a>(alloc: Global) -> Result<Command<'a>, AllocError>
+    ensures { IfOk result (IsCommand export_app) }
+{
+    let command = export_with_options(alloc);
     with_arg(
         command,
         word(
@@ -370,11 +379,19 @@ fn serve_with_options<'a>(alloc: Global) -> Result<Command<'a>, AllocError>
     with_arg(command, signed(alloc))
 }
 
-/// The same with `--by-hash`.
+/// The same with `--unsigned`.
+fn serve_with_unsigned<'a>(alloc: Global) -> Result<Command<'a>, AllocError>
+    ensures { IfOk result (IsCommand serve_unsigned) }
+{
+    let command = serve_with_options(alloc);
+    with_arg(command, unsigned(alloc))
+}
+
+/// The same with `--by-hash` too.
 fn serve_with_by_hash<'a>(alloc: Global) -> Result<Command<'a>, AllocError>
     ensures { IfOk result (IsCommand serve_by_hash) }
 {
-    let command = serve_with_options(alloc);
+    let command = serve_with_unsigned(alloc);
     with_arg(command, by_hash(alloc))
 }
 

@@ -6,5 +6,5 @@ mod commands;
 mod version;
 
 pub use arguments::MOST_CONNECTIONS;
-pub use commands::{archive_command, serve_command};
+pub use commands::{archive_command, export_command, serve_command};
 pub use version::VERSION;
