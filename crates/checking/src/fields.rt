@@ -128,12 +128,45 @@ fn edits(alloc: Global, name: &str, other: &str) -> Result<usize, AllocError> {
     levenshtein(alloc, name.as_str(), other.as_str())
 }
 
+/// Whether a letter is in a name, ASCII case ignored.
+fn is_in(letter: u8, name: &str) -> bool {
+    for other in name.as_bytes() {
+        if other.eq_ignore_ascii_case(&letter) {
+            return true;
+        }
+    }
+    false
+}
+
+/// How many letters of one name are not in the other, ASCII case ignored. So many edits at least lead from one to the other.
+fn missing(known: &str, name: &str) -> usize {
+    let mut count = 0usize;
+    for letter in known.as_bytes() {
+        if !is_in(*letter, name) {
+            count = count.saturating_add(1);
+        }
+    }
+    count
+}
+
+/// Whether a name may be fewer edits than these away from the other. This is asked first: most names are far from all others, and to
+/// count their edits takes far longer. The names of fields are ASCII, so their bytes are their characters.
+fn may_be_near(known: &str, name: &str, edits: usize) -> bool {
+    if known.len().abs_diff(name.len()) >= edits {
+        return false;
+    }
+    missing(known, name) < edits
+}
+
 /// The name of a field of a configuration that a name likely means: the nearest one, if it is at most three edits away, ASCII case ignored.
 /// An edit adds, takes away or changes one character. Of several that are as near it is the first in the order of the names in docs.
 pub fn likely_name(alloc: Global, name: &str) -> Result<Option<&'static str>, AllocError> {
     let mut likely = None;
     let mut fewest = MOST_EDITS + 1;
     for known in NAMES {
+        if !may_be_near(known, name, fewest) {
+            continue;
+        }
         let count = edits(alloc, name, known)?;
         if count < fewest {
             fewest = count;

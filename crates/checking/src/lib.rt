@@ -7,4 +7,4 @@ mod lines;
 
 pub use fields::{likely_name, unknown_fields};
 pub use laws::unknown_fields_change_nothing;
-pub use lines::check_lines;
+pub use lines::{can_be_exported, check_lines};

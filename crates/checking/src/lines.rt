@@ -8,6 +8,9 @@ use std::alloc::{AllocError, Global};
 /// How many seconds a day has.
 const DAY: u64 = 86_400;
 
+/// The files that an export writes into the folder of a suite. A component has a folder there, which can't be of such a name.
+const FILES_OF_TREE: [&str; 4] = ["Release", "Release.gpg", "InRelease", "index.html"];
+
 /// Appends a space and the text of each of these.
 fn push_texts(line: &mut String, texts: &[Text]) -> Result<(), AllocError> {
     for text in texts {
@@ -97,6 +100,59 @@ fn push_suite(alloc: Global, lines: &mut Vec<String>, suite: &Suite) -> Result<(
     Ok(())
 }
 
+/// Whether a component has the name of a file of the tree that an export makes.
+fn is_named_as_file(component: &str) -> bool {
+    for file in FILES_OF_TREE {
+        if component == file {
+            return true;
+        }
+    }
+    false
+}
+
+/// Whether a suite has such a component.
+fn has_unwritable(suite: &Suite) -> bool {
+    for component in suite.components.as_slice() {
+        if is_named_as_file(component.as_str()) {
+            return true;
+        }
+    }
+    false
+}
+
+/// Whether each component of a configuration is one that an export can write: none has the name of a file of the tree.
+pub fn can_be_exported(config: &Config) -> bool {
+    for suite in config.suites() {
+        if has_unwritable(suite) {
+            return false;
+        }
+    }
+    true
+}
+
+/// `component NAME of CODENAME is named as a file of the tree: no export has it`.
+fn unwritable_line(alloc: Global, name: &str, codename: &str) -> Result<String, AllocError> {
+    format!(in alloc;
+        "component {name} of {codename} is named as a file of the tree: no export has it"
+    )
+}
+
+/// Adds a line for each component of a suite that no export can write.
+fn push_unwritable(
+    alloc: Global,
+    lines: &mut Vec<String>,
+    suite: &Suite,
+) -> Result<(), AllocError> {
+    let codename = suite.codename.as_str();
+    for component in suite.components.as_slice() {
+        let name = component.as_str();
+        if is_named_as_file(name) {
+            lines.push(unwritable_line(alloc, name, codename)?)?;
+        }
+    }
+    Ok(())
+}
+
 /// The codename of the suite at a position, and the empty text where there is none.
 fn codename_at(config: &Config, position: usize) -> &str {
     match config.suites().get(position) {
@@ -125,7 +181,8 @@ fn passed_line(alloc: Global, name: &str, codename: &str) -> Result<String, Allo
 /// ```
 ///
 /// with a line for each rule on uploads, ` uploads * by anybody` where there is no such field, ` uploads nothing` where that has no line,
-/// and `for N days` where a Release is valid for so long. Then `files count for good`, or `for N days`; and for each field that is passed
+/// and `for N days` where a Release is valid for so long. Then `files count for good`, or `for N days`; for each component that has the name
+/// of a file of the tree, `component NAME of CODENAME is named as a file of the tree: no export has it`; and for each field that is passed
 /// over, given with the position of its suite, `passed over NAME in CODENAME`, and `, did you mean KNOWN` where a known name is near.
 pub fn check_lines(
     alloc: Global,
@@ -137,6 +194,9 @@ pub fn check_lines(
         push_suite(alloc, &mut lines, suite)?;
     }
     lines.push(days_line(alloc, "files count", config.keep_days())?)?;
+    for suite in config.suites() {
+        push_unwritable(alloc, &mut lines, suite)?;
+    }
     for (position, name) in passed_over {
         let codename = codename_at(config, *position);
         lines.push(passed_line(alloc, name.as_str(), codename)?)?;

@@ -233,13 +233,14 @@ fn print_refused<'a, W: Write>(
 
 /// Prints the lines that a command answers, and says whether it was done.
 fn print_lines<'a, W: Write>(
+    alloc: Global,
     done: &Result<Report, Fault>,
     request: &ListRequest<'_>,
     out: &mut W,
 ) -> Result<bool, Stop<'a>> {
     match done {
         Ok(report) => {
-            print_report(report, out)?;
+            print_report(alloc, report, out)?;
             Ok(true)
         }
         Err(fault) => print_refused(*fault, request, out),
@@ -248,12 +249,13 @@ fn print_lines<'a, W: Write>(
 
 /// Prints the lines that a run answers, and says whether it was done: where it is strict, also whether no upload was refused.
 fn print_run<'a, W: Write>(
+    alloc: Global,
     done: &Result<Report, Fault>,
     request: &ListRequest<'_>,
     is_strict: bool,
     out: &mut W,
 ) -> Result<bool, Stop<'a>> {
-    let is_done = print_lines(done, request, out)?;
+    let is_done = print_lines(alloc, done, request, out)?;
     match done {
         Ok(report) if is_strict => Ok(is_done && !has_refused(report)),
         _ => Ok(is_done),
@@ -262,13 +264,14 @@ fn print_run<'a, W: Write>(
 
 /// Prints `COUNT SOURCE` for each source of a promotion, and says whether it was done.
 fn print_promotion<'a, W: Write>(
+    alloc: Global,
     done: &Result<Promotion, Fault>,
     request: &ListRequest<'_>,
     out: &mut W,
 ) -> Result<bool, Stop<'a>> {
     match done {
         Ok(promotion) => {
-            print_report(&promotion.report, out)?;
+            print_report(alloc, &promotion.report, out)?;
             Ok(true)
         }
         Err(fault) => print_refused(*fault, request, out),
@@ -307,6 +310,7 @@ fn print_count<'a, W: Write>(
 
 /// Prints what the command of a line answered, and says whether it was done.
 fn print_outcome<'a, W: Write>(
+    alloc: Global,
     outcome: &Outcome,
     request: &ListRequest<'_>,
     is_strict: bool,
@@ -314,12 +318,12 @@ fn print_outcome<'a, W: Write>(
 ) -> Result<bool, Stop<'a>> {
     match outcome {
         Outcome::Deliver(done) => print_arrived(*done, name_of(request), out),
-        Outcome::Run(done) => print_run(done, request, is_strict, out),
-        Outcome::Waiting(done) | Outcome::Verdicts(done) => print_lines(done, request, out),
+        Outcome::Run(done) => print_run(alloc, done, request, is_strict, out),
+        Outcome::Waiting(done) | Outcome::Verdicts(done) => print_lines(alloc, done, request, out),
         Outcome::Copy(done) | Outcome::Remove(done) | Outcome::Clean(done) => {
             print_count(done, request, out)
         }
-        Outcome::Promote(done) => print_promotion(done, request, out),
+        Outcome::Promote(done) => print_promotion(alloc, done, request, out),
         // No line asks for a file.
         Outcome::Fetch(_) => Ok(true),
     }
@@ -327,6 +331,7 @@ fn print_outcome<'a, W: Write>(
 
 /// Prints what each command answered, up to one that ends the program, and says whether all were done.
 fn print_outcomes<'a, W: Write>(
+    alloc: Global,
     outcomes: &[Outcome],
     requests: &[ListRequest<'_>],
     is_strict: bool,
@@ -334,7 +339,7 @@ fn print_outcomes<'a, W: Write>(
 ) -> Result<bool, Stop<'a>> {
     let mut all = true;
     for (outcome, request) in outcomes.iter().zip(requests) {
-        if !print_outcome(outcome, request, is_strict, out)? {
+        if !print_outcome(alloc, outcome, request, is_strict, out)? {
             all = false;
         }
     }
@@ -352,7 +357,7 @@ fn make_group<'a, K: Keeper, W: Write, E: Write>(
 ) -> Result<bool, Stop<'a>> {
     let outcomes = archive.drive(alloc, &group.commands)?;
     progress.give_way();
-    let printed = print_outcomes(&outcomes, &group.requests, group.is_strict, out);
+    let printed = print_outcomes(alloc, &outcomes, &group.requests, group.is_strict, out);
     let count = group.requests.len() as u64;
     group.clear();
     out.flush()?;

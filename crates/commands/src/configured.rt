@@ -2,9 +2,9 @@
 
 use crate::database::{InFile, close, create_archive, migrate_archive, open_archive};
 use crate::fault::Stop;
-use crate::files::body_of;
+use crate::files::conf_body_of;
 use crate::print;
-use checking::{check_lines, unknown_fields};
+use checking::{can_be_exported, check_lines, unknown_fields};
 use keep::{Keeper, LATEST};
 use queue::Fault;
 use rules::Config;
@@ -14,7 +14,7 @@ use std::rt::Files;
 
 /// The configuration of a file.
 fn config_of<'a, R: Files + AllocGlobal>(rt: &R, conf: &'a str) -> Result<Config, Stop<'a>> {
-    let text = body_of(rt, conf)?;
+    let text = conf_body_of(rt, conf)?;
     Ok(Config::read(rt.alloc(), &text)?)
 }
 
@@ -32,22 +32,23 @@ pub fn init<'a, K: Keeper + Drop, F: InFile<K>>(
     Ok(())
 }
 
-/// Prints what the configuration of a text says, and which of its fields are passed over. It says whether none is.
+/// Prints what the configuration of a text says, which of its components no export can write, and which of its fields are passed over. It
+/// says whether there are none of both.
 fn check_text<'a, W: Write>(alloc: Global, text: &[u8], out: &mut W) -> Result<bool, Stop<'a>> {
     let config = Config::read(alloc, text)?;
     let passed_over = unknown_fields(alloc, text)?;
     let lines = check_lines(alloc, &config, &passed_over)?;
-    print::print_lines(&lines, out)?;
-    Ok(passed_over.is_empty())
+    print::print_lines(alloc, &lines, out)?;
+    Ok(passed_over.is_empty() && can_be_exported(&config))
 }
 
-/// Prints what the configuration of a file says, and which of its fields are passed over. It says whether none is.
+/// The same of the configuration of a file.
 pub fn check<'a, R: Files + AllocGlobal, W: Write>(
     rt: &R,
     conf: &'a str,
     out: &mut W,
 ) -> Result<bool, Stop<'a>> {
-    let text = body_of(rt, conf)?;
+    let text = conf_body_of(rt, conf)?;
     check_text(rt.alloc(), &text, out)
 }
 

@@ -42,6 +42,12 @@ pub enum Stop<'a> {
     /// A path below the folder of an export can't be written.
     #[error("archive: cannot write {0}")]
     Unplaced(OwnedShown),
+    /// A folder of an export shows this suite signed, and the export was not told what to do about that.
+    #[error("archive: suite {0} is signed in the tree: give --signed or --unsigned")]
+    Signed(OwnedShown),
+    /// A component has the name of a file that an export writes beside its folder.
+    #[error("archive: component {0} is named as a file of the tree")]
+    Named(OwnedShown),
     /// The address can't be used, or a connection can't be accepted.
     #[error("archive: cannot listen")]
     CannotListen,
@@ -118,6 +124,7 @@ impl Stop<'_> {
     pub fn status(&self) -> u8 {
         match self {
             Stop::Unreadable(_) | Stop::NotFound => 1,
+            Stop::Signed(_) | Stop::Named(_) => 1,
             Stop::NoArchive(KeepFault::NoArchive | KeepFault::Configuration)
             | Stop::Older(KeepFault::NoArchive, _)
             | Stop::Later(KeepFault::NoArchive, _) => 1,

@@ -3,11 +3,14 @@
 //! A file of the system that says it has no byte is delivered as one without a byte. What is no regular file, as a pipe, has no length
 //! beforehand. It is read whole, up to one byte more than a delivery may have, so that a longer one is refused as too large (Q2). So is
 //! each file of `try`.
+//!
+//! A configuration is no pipe, socket or device of a name of its own: a command would wait for whoever writes into it, perhaps without end.
+//! What the caller has open already, as standard input, is read.
 
 use crate::fault::Stop;
 use crate::shown::Shown;
 use queue::Fault;
-use std::fs::File;
+use std::fs::{self, File, Metadata};
 use std::io::{self, Read};
 use std::rt::Files;
 
@@ -52,4 +55,44 @@ pub fn read_of<'a>(read: io::Result<Vec<u8>>, path: &'a str) -> Result<Vec<u8>, 
 /// The bytes of a file that was given.
 pub fn body_of<'a, R: Files + AllocGlobal>(rt: &R, path: &'a str) -> Result<Vec<u8>, Stop<'a>> {
     read_of(read_file(rt, path), path)
+}
+
+/// Whether what was looked at is neither a file nor a folder nor a link: a pipe, a socket or a device.
+fn is_special(seen: &Metadata) -> bool {
+    if seen.is_file() || seen.is_dir() {
+        return false;
+    }
+    !seen.is_symlink()
+}
+
+/// Whether a link leads to a pipe, a socket or a device. One below /dev/ or /proc/ is taken for the name of what the caller has open, as
+/// /dev/stdin, and as the path that a shell gives for `<(..)`.
+fn leads_to_special<R: Files>(rt: &R, link: &str) -> bool {
+    if link.starts_with("/dev/") || link.starts_with("/proc/") {
+        return false;
+    }
+    match fs::metadata(rt, link) {
+        Ok(found) => is_special(&found),
+        Err(_) => false,
+    }
+}
+
+/// Whether a read of a path may wait without end: it names a pipe, a socket or a device, or a link to one.
+fn may_wait<R: Files>(rt: &R, path: &str) -> bool {
+    match fs::symlink_metadata(rt, path) {
+        Ok(named) if named.is_symlink() => leads_to_special(rt, path),
+        Ok(named) => is_special(&named),
+        Err(_) => false,
+    }
+}
+
+/// The bytes of a configuration that was given.
+pub fn conf_body_of<'a, R: Files + AllocGlobal>(
+    rt: &R,
+    conf: &'a str,
+) -> Result<Vec<u8>, Stop<'a>> {
+    if may_wait(rt, conf) {
+        return Err(Stop::Unreadable(Shown(conf)));
+    }
+    body_of(rt, conf)
 }

@@ -22,9 +22,12 @@ use listing::{shown_json, shown_lines, verdict_json, waiting_json};
 use queue::{Archive, Arrived, Fault, Promotion, Report};
 use rules::Config;
 use std::alloc::{AllocError, Global};
-use std::io::{self, Write};
+use std::io::{self, BufWriter, Write};
 use std::rt::Files;
 use suites::Shelves;
+
+/// How many bytes of lines are put together before they are written.
+const MOST_TOGETHER: usize = 65_536;
 
 /// Prints a line, as it is shown.
 pub fn print_line<W: Write>(line: &str, out: &mut W) -> io::Result<()> {
@@ -32,17 +35,27 @@ pub fn print_line<W: Write>(line: &str, out: &mut W) -> io::Result<()> {
     writeln!(out, "{line}")
 }
 
-/// Prints lines, as they are shown.
-pub fn print_lines<W: Write>(lines: &[String], out: &mut W) -> io::Result<()> {
+/// Prints lines one by one, as they are shown.
+fn print_each<W: Write>(lines: &[String], out: &mut W) -> io::Result<()> {
     for line in lines {
         print_line(line, out)?;
     }
     Ok(())
 }
 
+/// Prints lines, as they are shown. They are put together if there is memory for that, since two calls of the system for each line cost
+/// more than the rest of it.
+pub fn print_lines<W: Write>(alloc: Global, lines: &[String], out: &mut W) -> io::Result<()> {
+    if let Ok(mut together) = BufWriter::with_capacity(alloc, MOST_TOGETHER, &mut *out) {
+        print_each(lines, &mut together)?;
+        return together.flush();
+    }
+    print_each(lines, out)
+}
+
 /// Prints the lines of a report, as they are shown.
-pub fn print_report<W: Write>(report: &Report, out: &mut W) -> io::Result<()> {
-    print_lines(&report.lines, out)
+pub fn print_report<W: Write>(alloc: Global, report: &Report, out: &mut W) -> io::Result<()> {
+    print_lines(alloc, &report.lines, out)
 }
 
 /// Whether the report of a run says of an upload that it is refused.
@@ -160,7 +173,7 @@ pub fn run<'a, K: Keeper, W: Write>(
     out: &mut W,
 ) -> Result<bool, Stop<'a>> {
     let report = archive.run(alloc, at)?;
-    print_report(&report, out)?;
+    print_report(alloc, &report, out)?;
     Ok(!strict || !has_refused(&report))
 }
 
@@ -223,7 +236,7 @@ pub fn promote<'a, K: Keeper, W: Write>(
 ) -> Result<bool, Stop<'a>> {
     let sources = owned_sources(alloc, sources)?;
     let promotion = archive.promote(alloc, from, to, &sources, at)?;
-    print_report(&promotion.report, out)?;
+    print_report(alloc, &promotion.report, out)?;
     Ok(all_are_copied(&promotion))
 }
 
@@ -297,9 +310,9 @@ pub fn waiting<'a, K: Keeper, W: Write>(
     ensures reads { Reads K.Keeper archive.old.keeper archive.new.keeper }
 {
     if json {
-        print_lines(&waiting_objects(alloc, archive, at)?, out)?;
+        print_lines(alloc, &waiting_objects(alloc, archive, at)?, out)?;
     } else {
-        print_report(&archive.waiting(alloc, at)?, out)?;
+        print_report(alloc, &archive.waiting(alloc, at)?, out)?;
     }
     Ok(())
 }
@@ -322,9 +335,9 @@ pub fn verdicts<'a, K: Keeper, W: Write>(
     ensures reads { Reads K.Keeper archive.old.keeper archive.new.keeper }
 {
     if json {
-        print_lines(&verdict_objects(alloc, archive)?, out)?;
+        print_lines(alloc, &verdict_objects(alloc, archive)?, out)?;
     } else {
-        print_report(&archive.verdicts(alloc)?, out)?;
+        print_report(alloc, &archive.verdicts(alloc)?, out)?;
     }
     Ok(())
 }
@@ -371,7 +384,8 @@ pub fn list<'a, K: Keeper, W: Write>(
     ensures reads { Reads K.Keeper archive.old.keeper archive.new.keeper }
 {
     let (place, shelves) = shelves_of(alloc, archive, suite)?;
-    print_lines(&shown_texts(alloc, &shelves, place, json)?, out)?;
+    let texts = shown_texts(alloc, &shelves, place, json)?;
+    print_lines(alloc, &texts, out)?;
     Ok(())
 }
 

@@ -114,7 +114,7 @@ fn print_waiting<'a, W: Write>(
     if json {
         print_line(waiting_json(alloc, upload, lacks)?.as_str(), out)?;
     } else {
-        print_lines(&waiting_lines(alloc, upload, lacks)?, out)?;
+        print_lines(alloc, &waiting_lines(alloc, upload, lacks)?, out)?;
     }
     Ok(())
 }
@@ -186,7 +186,7 @@ fn print_answer<'a, W: Write>(
     if json {
         print_line(answer_json(alloc, judgement, answer)?.as_str(), out)?;
     } else {
-        print_lines(&answer_lines(alloc, judgement, answer)?, out)?;
+        print_lines(alloc, &answer_lines(alloc, judgement, answer)?, out)?;
     }
     Ok(())
 }
