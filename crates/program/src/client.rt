@@ -27,9 +27,43 @@ const MOST_LINE: usize = 1_024;
 /// The most bytes that are handed to the system at once. It waits until it has taken all of them, or until the time is over.
 const MOST_PIECE: usize = 65_536;
 
-/// The first line that a client sends, for the log.
+/// What a client has sent of the empty lines that may come before its first line.
+#[derive(Clone, Copy)]
+enum Before {
+    /// None, or one that ended in LF alone.
+    Line,
+    /// A CR, whose LF is to come.
+    Return,
+    /// One that ended in CR LF.
+    WholeLine,
+    /// The same, and the CR of another.
+    SecondReturn,
+}
+
+impl Before {
+    /// What there is after one byte more, if that goes on with empty lines. These are what httparse passes over before the head of a
+    /// request, and the desk reads: each ends in CR LF, or in LF alone. CR LF CR LF is none of them, since it ends a head.
+    fn after(self, byte: u8) -> Option<Before> {
+        match (self, byte) {
+            (Before::Line, b'\r') => Some(Before::Return),
+            (Before::WholeLine, b'\r') => Some(Before::SecondReturn),
+            (Before::Return, b'\n') => Some(Before::WholeLine),
+            (Before::Line | Before::WholeLine, b'\n') => Some(Before::Line),
+            _ => None,
+        }
+    }
+
+    /// Whether the line may begin here: each empty line has its end.
+    fn is_ended(self) -> bool {
+        matches!(self, Before::Line | Before::WholeLine)
+    }
+}
+
+/// The first line that a client sends, for the log, and to know a POST by. Empty lines before it are passed over, as they are where the
+/// request is read. Of a request that httparse refuses, or that is cut short, the log has the words of this line all the same.
 #[derive(Drop)]
 pub struct FirstLine {
+    before: Before,
     text: Vec<u8>,
     is_whole: bool,
 }
@@ -38,17 +72,36 @@ impl FirstLine {
     /// A line of which nothing has come.
     pub fn new(alloc: Global) -> FirstLine {
         FirstLine {
+            before: Before::Line,
             text: Vec::new(alloc),
             is_whole: false,
         }
     }
 
-    /// Takes a byte, where the line goes on. What there is no memory for is left out.
-    fn take(&mut self, byte: u8) {
+    /// Takes a byte of the line, where that goes on. What there is no memory for is left out.
+    fn take_more(&mut self, byte: u8) {
         if byte == b'\n' || byte == b'\r' || self.text.len() >= MOST_LINE {
             self.is_whole = true;
         } else if self.text.push(byte).is_err() {
             self.is_whole = true;
+        }
+    }
+
+    /// Takes a byte where no byte of the line has come.
+    fn begin(&mut self, byte: u8) {
+        match self.before.after(byte) {
+            Some(before) => self.before = before,
+            None if self.before.is_ended() => self.take_more(byte),
+            None => self.is_whole = true,
+        }
+    }
+
+    /// Takes a byte.
+    fn take(&mut self, byte: u8) {
+        if self.text.is_empty() {
+            self.begin(byte);
+        } else {
+            self.take_more(byte);
         }
     }
 

@@ -37,6 +37,8 @@ pub fn stop_of<'a>(fault: ExportFault) -> Stop<'a> {
         ExportFault::Archive(fault) => Stop::Refused(fault),
         ExportFault::Unwritten => Stop::Unwritten,
         ExportFault::OutOfMemory => Stop::Refused(Fault::OutOfMemory),
+        ExportFault::Signed(codename) => Stop::Signed(OwnedShown(codename)),
+        ExportFault::Named(component) => Stop::Named(OwnedShown(component)),
     }
 }
 
@@ -61,7 +63,9 @@ pub fn export_file<'a, K: Keeper + Drop, F: InFile<K>, W: Write>(
         folder: asked.dir,
         at: asked.at.unwrap_or(0),
         signed: asked.signed,
+        unsigned: asked.unsigned,
         by_hash: asked.by_hash,
+        database: db,
     };
     let mut err = rt.stderr();
     let mut steps = Steps {

@@ -141,6 +141,12 @@ impl<'l, E: Write> Log<'l, E> {
         self.write(alloc, line_of(alloc, ended));
     }
 
+    /// Writes that the export at a moment failed, and why, as the program tells it, in the same way.
+    pub fn write_failure(&mut self, alloc: Global, moment: u64, told: &str) {
+        let why = told.strip_prefix("archive: ").unwrap_or(told);
+        self.write(alloc, format!(in alloc; "{moment} export failed: {why}\n"));
+    }
+
     /// Writes a text as a line, in the same way.
     pub fn write_text(&mut self, alloc: Global, text: &str) {
         self.write(alloc, format!(in alloc; "{text}\n"));

@@ -1,4 +1,4 @@
-//! What is noted of connections: a line of the log for each, if that is wanted, and whether one had a POST.
+//! What is noted of connections: a line of the log for each, if that is wanted, whether one had a POST, and which export after one failed.
 
 use crate::log::{Ended, Log};
 use std::alloc::Global;
@@ -39,9 +39,12 @@ impl<'l, E: Write> Notes<'l, E> {
         self.log.write_line(alloc, ended);
     }
 
-    /// Writes another line, that of something that failed.
-    pub fn write_text(&mut self, alloc: Global, text: &str) {
-        self.log.write_text(alloc, text);
+    /// Writes why the export at a moment failed, as the program tells it, and a line of the log about that, if it is wanted.
+    pub fn write_failure(&mut self, alloc: Global, moment: u64, told: &str) {
+        self.log.write_text(alloc, told);
+        if self.is_logged {
+            self.log.write_failure(alloc, moment, told);
+        }
     }
 
     /// Whether a connection had a POST since this was asked last.

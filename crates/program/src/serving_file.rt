@@ -49,13 +49,15 @@ fn serve_listener<'a, K: Keeper, E: Write>(
     }
 }
 
-/// A folder that is exported to, whether a suite is shown there only once its new state is signed, and whether each index text also stands
-/// there under its digest.
+/// A folder that is exported to, whether a suite is shown there only once its new state is signed, whether one that is shown there signed
+/// is shown unsigned from now on, whether each index text also stands there under its digest, and the database file of the archive.
 #[derive(Clone, Copy)]
 struct Tree<'t> {
     folder: &'t str,
     is_signed: bool,
+    is_unsigned: bool,
     is_by_hash: bool,
+    database: &'t str,
 }
 
 /// Exports into a folder, as of a moment. An export that fails has a line among the notes, and ends nothing.
@@ -72,12 +74,14 @@ fn export_to<K: Keeper, E: Write>(
         folder: tree.folder,
         at,
         signed: tree.is_signed,
+        unsigned: tree.is_unsigned,
         by_hash: tree.is_by_hash,
+        database: tree.database,
     };
     if let Err(fault) = exporting::export(rt, archive, &asked, &mut io::sink(), &mut Nobody) {
         let stop = crate::export::stop_of(fault);
         if let Ok(line) = format!(in rt.alloc(); "{stop}") {
-            notes.write_text(rt.alloc(), &line);
+            notes.write_failure(rt.alloc(), at, &line);
         }
     }
 }
@@ -168,13 +172,15 @@ fn notes_on<'l, E: Write>(rt: &HostRuntime, is_logged: bool, err: &'l mut E) -> 
     Notes::new(log, is_logged)
 }
 
-/// The folder that a serving exports to, if it does.
-fn tree_of<'t>(serving: &Serving<'t>) -> Option<Tree<'t>> {
+/// The folder that a serving of this database file exports to, if it does.
+fn tree_of<'t>(db: &'t str, serving: &Serving<'t>) -> Option<Tree<'t>> {
     match serving.export {
         Some(folder) => Some(Tree {
             folder,
             is_signed: serving.signed,
+            is_unsigned: serving.unsigned,
             is_by_hash: serving.by_hash,
+            database: db,
         }),
         None => None,
     }
@@ -215,7 +221,7 @@ pub fn serve_file<'a, K: Keeper + Drop, F: InFile<K>, E: Write>(
     keep_room(rt.alloc());
     let listener = TcpListener::bind(rt, serving.address);
     let mut moments = Moments::new(serving.at, serving.moments);
-    let tree = tree_of(&serving);
+    let tree = tree_of(db, &serving);
     let mut notes = notes_on(rt, serving.log, err);
     let count = serving.count;
     serve_all::<K, F, E>(rt, db, &listener, count, &mut moments, tree, &mut notes)
