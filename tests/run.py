@@ -70,6 +70,8 @@ BEHIND = [
     "tests.test_why",
     "tests.test_progress",
     "tests.test_export",
+    "tests.test_export_hostile",
+    "tests.test_export_planted",
     "tests.test_export_apt",
     "tests.test_web_pages",
     "tests.test_packaging",

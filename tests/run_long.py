@@ -10,6 +10,7 @@ LINES = [
     "tests.test_waits",
     "tests.test_writes",
     "tests.test_hostile 10000",
+    "tests.test_export_planted 600",
 ]
 
 

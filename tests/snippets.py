@@ -41,7 +41,6 @@ PIECES = {
     "waits as JSON": '"lacks":[',
     "signed tree": "archive export --db box.db --signed www |",
     "tree of another user": "chown -R archive: box.db* www",
-    "suite that is gone": "rm -r www/dists/.lab.*",
     "export.conf": "--export www --signed",
     "sign-tree": "for state in www/dists/",
     "sign-tree.conf": "ExecStart=/srv/box/sign-tree\n",

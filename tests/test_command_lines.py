@@ -68,8 +68,8 @@ OPTIONS = {
     "waiting": ["--json"],
     "verdicts": ["--json"],
     "why": ["--at <N>", "--json"],
-    "export": ["--at <N>", "--signed", "--by-hash"],
-    "serve": ["--moments <MOMENTS>", "--log", "--export <DIR>", "--signed", "--by-hash"],
+    "export": ["--at <N>", "--signed", "--unsigned", "--by-hash"],
+    "serve": ["--moments <MOMENTS>", "--log", "--export <DIR>", "--signed", "--unsigned", "--by-hash"],
 }
 
 
@@ -242,6 +242,17 @@ class Help(Words):
                 status, printed, told = self.ran(command, "--nothing")
                 self.assertEqual((status, printed), (2, ""))
                 self.assertRegex(told, rf"(?m)^Usage: archive {self.pattern(command)}$")
+
+    def test_signed_and_unsigned_exclude_each_other(self):
+        for words in (
+            ["export", "--db", "a.db", "--signed", "--unsigned", "www"],
+            ["serve", "--db", "a.db", "--at", "0", "--export", "www", "--unsigned", "--signed", "127.0.0.1:8080", "1"],
+        ):
+            with self.subTest(words[0]):
+                status, printed, told = self.ran(*words)
+                self.assertEqual((status, printed), (2, ""))
+                self.assertIn("error: the argument '--signed' cannot be used with '--unsigned'\n", told)
+                self.assertRegex(told, rf"(?m)^Usage: archive {self.pattern(words[0])}$")
 
     def pattern(self, command):
         """A pattern of a command's usage: it may say of options that may be left out that they are there."""

@@ -7,6 +7,7 @@ import hashlib
 import os
 import re
 import shutil
+import socket
 import sqlite3
 import subprocess
 import tempfile
@@ -255,6 +256,57 @@ class Kills(Configurations):
                 process.kill()
             done.append(self.left(db))
         print(f"`configure` was killed at {KILLS} times of {whole * 1000:.0f} ms; behind {sum(done)} it had been done.")
+
+
+class Paths(Lines):
+    """What the path of a configuration may lead to."""
+
+    def lines_on(self, conf):
+        """A line of each command that reads a configuration."""
+        db = self.made()
+        new = f"{os.path.dirname(db)}/other.db"
+        yield "check", conf
+        yield "init", "--db", new, "--at", "0", conf
+        yield "configure", "--db", db, "--at", "0", conf
+        yield "migrate", "--from", db, "--db", new, "--at", "0", conf
+
+    def ran(self, *words, **more):
+        ran = subprocess.run([PROGRAM, *words], capture_output=True, check=False, timeout=10, **more)
+        return ran.returncode, ran.stdout.decode(), ran.stderr.decode()
+
+    def test_what_a_read_may_wait_for_is_refused_at_once(self):
+        with tempfile.TemporaryDirectory() as folder, socket.socket(socket.AF_UNIX) as listener:
+            pipe, link, server = f"{folder}/pipe", f"{folder}/link", f"{folder}/socket"
+            os.mkfifo(pipe)
+            os.symlink("pipe", link)
+            listener.bind(server)
+            for conf in (pipe, link, server, "/dev/zero"):
+                for words in self.lines_on(conf):
+                    with self.subTest(words[0], conf=conf):
+                        self.assertEqual(self.ran(*words), (1, "", f"archive: cannot read {conf}\n"))
+
+    def test_what_the_caller_has_open_is_read(self):
+        db = self.made()
+        told = self.ran("check", self.conf_at(db))
+        self.assertEqual((told[0], told[2]), (0, ""))
+        self.assertEqual(self.ran("check", "/dev/stdin", input=BOX.encode()), told)
+        reader, writer = os.pipe()
+        os.write(writer, BOX.encode())
+        os.close(writer)
+        self.assertEqual(self.ran("check", f"/dev/fd/{reader}", pass_fds=[reader]), told)
+        os.close(reader)
+        link = f"{os.path.dirname(db)}/link.conf"
+        os.symlink("box.conf", link)
+        self.assertEqual(self.ran("check", link), told)
+
+    @needs("bash")
+    def test_what_a_shell_hands_over_is_read(self):
+        ran = subprocess.run(["bash", "-c", f"{PROGRAM} check <(printf '%s' \"$1\")", "bash", BOX], capture_output=True, check=False, timeout=10)
+        self.assertEqual((ran.returncode, ran.stderr), (0, b""))
+        self.assertTrue(ran.stdout.startswith(b"suite box\n"), ran.stdout)
+
+    def conf_at(self, db):
+        return f"{os.path.dirname(db)}/box.conf"
 
 
 if __name__ == "__main__":

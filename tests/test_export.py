@@ -22,6 +22,9 @@ SECONDS = float(os.environ.get("EXPORT_SECONDS", "20"))
 TWO = "".join(f"Codename: {name}\nArchitectures: amd64 source\nComponents: main\n\n" for name in ("box", "lab"))[:-1]
 TEXTS = ["Release", "main/binary-amd64/Packages", "main/source/Sources"]
 
+# The exit status of an export that can't write at a path.
+UNWRITTEN = 3
+
 
 def sha256(body):
     return hashlib.sha256(body).hexdigest()
@@ -135,7 +138,7 @@ class Exports(Lines):
                 self.assertEqual(self.file(path), self.show(path))
 
     def refused(self, path, *flags):
-        self.assertEqual(self.export(*flags, status=3), [f"archive: cannot write {path}"])
+        self.assertEqual(self.export(*flags, status=UNWRITTEN), [f"archive: cannot write {path}"])
 
 
 class Trees(Exports):
@@ -413,7 +416,10 @@ class Signed(Exports):
         self.export()
         self.sign("box")
         self.upload("hello", "1.0-2")
-        self.assertEqual(self.export(), [f"shown box {self.state('box')}", "unsigned box", "same lab", "pool 1 0 1 0"])
+        shown = os.readlink(f"{self.tree}/dists/box")
+        self.assertEqual(self.export(status=1), ["archive: suite box is signed in the tree: give --signed or --unsigned"])
+        self.assertEqual(os.readlink(f"{self.tree}/dists/box"), shown)
+        self.assertEqual(self.export("--unsigned"), [f"shown box {self.state('box')}", "unsigned box", "same lab", "pool 1 0 1 0"])
         self.assertEqual(self.export(), ["same box", "same lab", "pool 0 1 1 0"])
 
 
@@ -470,7 +476,7 @@ class InTheWay(Exports):
         self.stand()
         self.upload("other", "1.0-1")
         write(f"{self.tree}/pool/main/o", b"own")
-        self.refused(f"{self.tree}/pool/main/o/other")
+        self.refused(f"{self.tree}/pool/main/o")
         self.assertEqual(self.file("pool/main/o"), b"own")
         self.check_shown()
         os.unlink(f"{self.tree}/pool/main/o")
@@ -500,7 +506,7 @@ class InTheWay(Exports):
     def test_a_file_in_place_of_the_tree(self):
         self.archive()
         write(self.tree, b"own")
-        self.refused(f"{self.tree}/.boqitsel")
+        self.refused(self.tree)
         self.assertEqual(read(self.tree), b"own")
 
     def test_a_file_in_place_of_dists(self):
@@ -513,7 +519,7 @@ class InTheWay(Exports):
         self.archive()
         self.upload("hello", "1.0-1")
         write(f"{self.tree}/pool", b"own")
-        self.refused(f"{self.tree}/pool/main/h/hello")
+        self.refused(f"{self.tree}/pool")
         self.assertEqual(self.file("pool"), b"own")
 
     def test_a_lock_that_is_held(self):
@@ -538,7 +544,7 @@ class InTheWay(Exports):
         under = ["setpriv", "--reuid", "65534", "--regid", "65534", "--clear-groups"] if os.geteuid() == 0 else []
         line = [*under, PROGRAM, "export", "--db", self.db, self.tree]
         ran = subprocess.run(line, capture_output=True, text=True, check=False, timeout=120)
-        self.assertEqual((ran.returncode, ran.stdout + ran.stderr), (3, f"archive: cannot write {self.tree}/.boqitsel\n"))
+        self.assertEqual((ran.returncode, ran.stdout + ran.stderr), (UNWRITTEN, f"archive: cannot write {self.tree}/.boqitsel\n"))
 
     def test_a_full_disk(self):
         self.archive()

@@ -6,7 +6,7 @@ import subprocess
 import tempfile
 
 from tests.program import DATA, MOMENT, NAMES, PROGRAM, Lines, Serving, get, put, replied
-from tests.wants import main
+from tests.wants import main, needs
 
 CHANGES, DEB, CONTROL = NAMES
 
@@ -269,6 +269,39 @@ Component: main
             "passed over Component in lab, did you mean Components",
         ])
 
+    def test_components_that_no_export_has(self):
+        text = """Codename: box
+Architectures: amd64
+Components: main Release.gpg index.html
+Colour: red
+
+Codename: lab
+Architectures: amd64
+Components: release InRelease Release
+"""
+        status, printed, told = self.checked(text)
+        self.assertEqual((status, told), (1, ""))
+        self.assertEqual(printed.splitlines()[-6:], [
+            "files count for good",
+            "component Release.gpg of box is named as a file of the tree: no export has it",
+            "component index.html of box is named as a file of the tree: no export has it",
+            "component InRelease of lab is named as a file of the tree: no export has it",
+            "component Release of lab is named as a file of the tree: no export has it",
+            "passed over Colour in box",
+        ])
+        self.assertEqual(self.checked(text.replace("Colour: red\n", ""))[0], 1)
+
+    @needs("strace")
+    def test_many_lines_are_written_together(self):
+        names = [f"X{number}" for number in range(20_000)]
+        text = "Codename: box\nArchitectures: amd64\nComponents: main\n" + "".join(f"{name}: y\n" for name in names)
+        path, calls = self.file("many.conf", text.encode()), f"{self.folder}/calls"
+        ran = subprocess.run(["strace", "-f", "-qq", "-e", "trace=write,writev", "-o", calls, PROGRAM, "check", path], capture_output=True, check=False, timeout=600)
+        self.assertEqual((ran.returncode, ran.stderr), (1, b""))
+        self.assertEqual(ran.stdout.decode().splitlines()[7:], [f"passed over {name} in box" for name in names])
+        with open(calls, encoding="utf-8", errors="replace") as it:
+            self.assertLess(len(it.readlines()), 50)
+
     def test_faults_are_those_of_init(self):
         for text in ("", "Codename: box\n", "Codename: box\nArchitectures: all\nComponents: main\n", "Codename: box\nUploader: x\n"):
             with self.subTest(text):
@@ -319,6 +352,39 @@ class Exported(Archive):
             status, printed, told = serving.ended()
         self.assertEqual((status, printed), (0, ""))
         self.assertRegex(told, rf"\Aarchive: cannot write {self.folder}/www.*\n\Z")
+
+    def test_an_export_that_fails_has_a_line_of_the_log(self):
+        self.file("www", b"")
+        with Serving(self.db, 1, "--log", "--export", f"{self.folder}/www", at=MOMENT) as serving:
+            serving.answer(b"POST /queue/run HTTP/1.1\r\n\r\n")
+            status, printed, told = serving.ended()
+        self.assertEqual((status, printed), (0, ""))
+        line, failed, logged = told.splitlines()
+        self.assertTrue(line.startswith(f"{MOMENT} POST /queue/run 200 "), told)
+        self.assertRegex(failed, rf"\Aarchive: cannot write {self.folder}/www")
+        self.assertEqual(logged, f"{MOMENT} export failed: {failed.removeprefix('archive: ')}")
+
+    def test_a_post_after_empty_lines_is_exported(self):
+        for number, before in enumerate((b"\r\n", b"\n", b"\n\n\n", b"\r\n\n\r\n\n", b"\n\r\n\n")):
+            folder = f"{self.folder}/www{number}"
+            with self.subTest(before), Serving(self.db, 2, "--log", "--export", folder, at=MOMENT) as serving:
+                serving.answer(before + get("verdicts"))
+                self.assertFalse(os.path.exists(folder))
+                self.assertTrue(serving.answer(before + b"POST /queue/run HTTP/1.1\r\n\r\n").startswith(b"HTTP/1.1 200 OK\r\n"))
+                status, printed, told = serving.ended()
+                self.assertEqual((status, printed), (0, ""))
+                self.assertEqual([it.split()[1:4] for it in told.splitlines()], [["GET", "/verdicts", "200"], ["POST", "/queue/run", "200"]])
+                self.assertTrue(os.path.exists(f"{folder}/dists/box/Release"))
+
+    def test_what_is_no_request_after_empty_lines_is_not_exported(self):
+        folder = f"{self.folder}/www"
+        with Serving(self.db, 4, "--log", "--export", folder, at=MOMENT) as serving:
+            for before in (b"\r", b"\r\n\r", b"\r\n\r\n", b"\n\r\n\r\n"):
+                self.assertTrue(serving.answer(before + b"POST /queue/run HTTP/1.1\r\n\r\n").startswith(b"HTTP/1.1 400 "))
+            status, printed, told = serving.ended()
+        self.assertEqual((status, printed), (0, ""))
+        self.assertEqual([it.split()[1:4] for it in told.splitlines()], [["-", "-", "400"]] * 4)
+        self.assertFalse(os.path.exists(folder))
 
 
 if __name__ == "__main__":

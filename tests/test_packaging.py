@@ -237,7 +237,7 @@ class Manuals(Room):
             options = {it.split()[0] for it in OPTIONS.get(command, [])}
             with self.subTest(command):
                 [line] = re.findall(rf"^ +archive {command} .*$", synopsis, re.M)
-                self.assertEqual(set(re.findall(r"\[(--[a-z-]+)", line)), options)
+                self.assertEqual(set(re.findall(r"(?:\[|\| )(--[a-z-]+)", line)), options)
                 self.assertEqual(set(re.findall(r"--[a-z-]+", line)), options | set(re.findall(r"--[a-z-]+", usage)))
                 [words] = re.findall(rf"^ *{command}\)(.*);;$", offered, re.M)
                 self.assertEqual(set(re.findall(r"--[a-z-]+", words)), set(re.findall(r"--[a-z-]+", line)))

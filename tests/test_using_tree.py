@@ -342,26 +342,24 @@ class Nginx(Case):
 
 
 class ByHand(Case):
-    """What is done to a tree by hand."""
+    """What another configuration, and another user, do to a tree."""
 
     def test_a_suite_that_is_gone_is_taken_away(self):
         lab = "\nCodename: lab\nArchitectures: amd64 source\nComponents: main\n"
         self.room.write("work/more.conf", snippet("configuration") + lab)
         self.shell('archive configure --db box.db --at "$(date +%s)" more.conf')
+        dists = pathlib.Path(self.room.work, "www/dists")
         for words in ("", "--by-hash"):
             self.assertIn("shown lab ", self.export(words))
             self.shell("archive promote --db box.db --at \"$(date +%s)\" box lab")
             self.export(words)
             self.shell("archive remove --db box.db --at \"$(date +%s)\" lab hello")
             self.shell('archive configure --db box.db --at "$(date +%s)" box.conf')
-            before = self.export(words)
-            # As the page says, no export takes it away.
-            dists = pathlib.Path(self.room.work, "www/dists")
-            self.assertNotIn("lab", before)
+            # As the page says, the next export takes it away.
             self.assertTrue((dists / "lab/Release").exists())
-            self.shell(snippet("suite that is gone"))
+            self.assertRegex(self.export(words), r"\A(shown box .*|same box)\ngone lab\npool .*\n\Z")
             self.assertEqual([it.name for it in dists.iterdir() if "lab" in it.name], [])
-            self.assertEqual(self.export(words), before)
+            self.assertNotIn("lab", self.export(words))
             self.assertEqual(faults(f"{self.room.work}/www", suites(f"{self.room.work}/www")), [])
             # If it comes again, it is shown again.
             self.shell('archive configure --db box.db --at "$(date +%s)" more.conf')
@@ -377,9 +375,11 @@ class ByHand(Case):
             raise missing("right of another user to run the program")
         self.shell(f"chown -R 65534:65534 .; {user} archive export --db box.db --signed www; {sign}")
         self.assertIn("shown box ", self.shell(f"{user} archive export --db box.db --signed www"))
-        # What a root does who forgets both.
+        # What a root does who forgets the user. Whoever forgets the signature, too, is refused.
         self.upload(uploads.Package("another"))
-        self.assertIn("unsigned box\n", self.export())
+        told = "archive: suite box is signed in the tree: give --signed or --unsigned\n"
+        self.assertEqual(self.room.run("archive export --db box.db www"), (1, "", told))
+        self.assertIn("unsigned box\n", self.export("--unsigned"))
         self.upload(uploads.Package("avahi"))
         self.shell("chown 65534:65534 box.db*")
         status, _, told = self.room.run(f"{user} archive export --db box.db --signed www")
