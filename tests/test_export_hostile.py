@@ -610,15 +610,14 @@ class Gone(Hostile):
     def test_what_is_not_of_an_export_stays(self):
         """The link of a suite leads to a state of that suite, or is not the export's own."""
         self.drop()
-        for kind in ("link", "link to nothing", "link to a folder", "link to a fifo", "fifo", "folder", "junk", "nothing"):
+        for kind in ("link", "link to nothing", "link to a folder", "link to a fifo", "fifo", "folder", "junk"):
             with self.subTest(kind=kind):
                 self.begin()
                 place = f"{self.tree}/dists/lab"
                 plant(kind, place, self.outside.folder)
-                number = number_of(place) if kind != "nothing" else None
+                number = number_of(place)
                 self.check_exports(r"(shown box .*|same box)\npool 0 1 0 0\n")
-                if number:
-                    self.assertEqual(number_of(place), number)
+                self.assertEqual(number_of(place), number)
         for leads in (self.states["box"], f"../dists/{self.states['lab']}", f".lab.{'A' * 32}", "own"):
             with self.subTest(leads=leads):
                 self.begin()
@@ -626,6 +625,13 @@ class Gone(Hostile):
                 os.symlink(leads, f"{self.tree}/dists/lab")
                 self.check_exports(r"(shown box .*|same box)\npool 0 1 0 0\n")
                 self.assertEqual(os.readlink(f"{self.tree}/dists/lab"), leads)
+
+    def test_a_link_that_is_gone_already(self):
+        """The suite is gone all the same, with the folders of its states."""
+        self.drop()
+        remove(f"{self.tree}/dists/lab")
+        self.check_exports(r"(shown box .*|same box)\ngone lab\npool 0 1 0 0\n")
+        self.assertNotIn(self.states["lab"], self.names())
 
     def test_suites_go_by_their_names(self):
         """The folders of all their states go, and no other: a suite that stays may have a codename that begins alike."""
