@@ -265,10 +265,9 @@ class States(Hostile):
         self.check_fresh()
 
     def test_the_page_of_a_suite(self):
-        """It is no text of the state."""
-        page = self.place("index.html")
-        self.check_replaced(page, self.mended(1).replace("mended box 1\n", ""))
-        self.check_stays(page, r"dists/[^/]+/index\.html", ["folder"])
+        """It is made anew if it is missing or another kind of file. What a file has that is there is not looked at."""
+        kinds = [kind for kind in (*REPLACED, "folder") if kind != "junk"]
+        self.check_replaced(self.place("index.html"), self.mended(1), kinds)
 
     def test_the_folder_itself(self):
         """It is made anew, or refused, and nothing outside is touched."""
