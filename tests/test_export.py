@@ -271,7 +271,7 @@ class Trees(Exports):
         self.export()
         state = self.state("box")
         os.unlink(f"{self.tree}/dists/box/Release")
-        self.assertEqual(self.export()[0], f"shown box {state}")
+        self.assertEqual(self.export()[:2], ["same box", "mended box 1"])
         self.check_tree()
         shutil.rmtree(f"{self.tree}/dists/{state}")
         self.assertEqual(self.export()[0], f"shown box {state}")
@@ -554,7 +554,7 @@ class InTheWay(Exports):
             self.export()
             self.shown = os.readlink(f"{self.tree}/dists/box")
             self.upload("large", "1.0-1", b"b" * 2_000_000)
-            self.refused(f"{self.tree}/{pool_path('large', '1.0-1')}")
+            self.refused(f"{self.tree}/.boqitsel/new")
             self.check_shown()
             self.line(0, "remove", self.db, *self.at(), "box", "large")
             self.assertEqual(self.export()[-1], "pool 0 1 1 0")
@@ -564,7 +564,7 @@ class InTheWay(Exports):
         self.archive()
         self.tree = f"{self.room}/a\x1b[2Jb"
         write(self.tree, b"own")
-        self.refused(f"{self.room}/a?[2Jb/.boqitsel")
+        self.refused(f"{self.room}/a?[2Jb")
 
     def test_a_moment_after_2099(self):
         self.archive()
