@@ -66,6 +66,7 @@ BEHIND = [
     "tests.test_using_proxy",
     "tests.test_using_tree",
     "tests.test_using_words",
+    "tests.test_using_days",
     "tests.test_listing",
     "tests.test_why",
     "tests.test_progress",
