@@ -17,7 +17,7 @@ DOCS = "/usr/share/doc/boqitsel"
 
 # The sections of the pages that each manual has, in order.
 COMMANDS = [
-    "What a configuration says", "What a suite shows, and lines for scripts", "Why an upload was refused, or waits", "Lists of commands",
+    "A session", "What a configuration says", "What a suite shows, and lines for scripts", "Why an upload was refused, or waits", "Lists of commands",
     "What an upload is", "Uploading", "Installing from it", "A tree for any web server", "Copying a whole suite", "Testing and stable",
     "Taking a package out", "How long files count", "Moments",
 ]
@@ -195,7 +195,7 @@ def archive():
 def see(*names):
     """What is read beside a manual."""
     text = ", ".join(map(escaped, names))
-    return titled("See also", f"{text}; the pages USING.md, OPERATING.md and FAULTS.md in {escaped(DOCS)}, and the examples there.\n")
+    return titled("See also", f"{text}; the pages USING.md, OPERATING.md, FAULTS.md and WORDS.md in {escaped(DOCS)}, and the examples there.\n")
 
 
 def configuration():

@@ -25,8 +25,9 @@ ROOT = pathlib.Path(__file__).resolve().parent.parent
 
 PIECES = {
     "configuration": "Codename: box\n",
-    "first commands": "with_sidecars ../hello",
+    "session": "$ with_sidecars ../hello",
     "commands": "archive try PATH..",
+    "way of an upload": "the last listed file comes",
     "upload": "amd64.changes --run\n",
     "upload with a login": "upload https:",
     "package file alone": "vendor-latest.deb",
@@ -36,7 +37,6 @@ PIECES = {
     "lists": "/queue http:",
     "check": "passed over Uploader in box",
     "json": '{"missing":1,',
-    "refused": " distribution UNRELEASED\n",
     "waits": " lacks hello_1.0-1_amd64.deb",
     "waits as JSON": '"lacks":[',
     "signed tree": "archive export --db box.db --signed www |",
@@ -48,6 +48,7 @@ PIECES = {
     "tree by rsync": "rsync -a",
     "tree by rclone": "rclone sync",
     "trusted": "deb [trusted=yes]",
+    "sources": "Types: deb deb-src\n",
     "promote": '--at "$(date +%s)" box lab',
     "promote by HTTP": "/promote/box/lab",
     "three suites": "Codename: testing\n",
@@ -321,14 +322,15 @@ class Room:
         return written
 
     def apt(self, sources):
-        """Makes an apt of its own, with a sources.list of this text, which apt-get uses from then on."""
+        """Makes an apt of its own, with a list or a .sources file of this text, which apt-get uses from then on."""
         base = tempfile.mkdtemp(dir=self.folder)
         for name in ("apt.conf.d", "preferences.d", "trusted.gpg.d", "sources.list.d"):
             os.makedirs(f"{base}/etc/apt/{name}")
         for name in ("lib/apt/lists/partial", "cache/apt/archives/partial", "log/apt"):
             os.makedirs(f"{base}/var/{name}")
         pathlib.Path(base, "status").touch()
-        pathlib.Path(base, "etc/apt/sources.list.d/box.list").write_text(sources, encoding="utf-8")
+        name = "box.sources" if sources.startswith("Types:") else "box.list"
+        pathlib.Path(base, "etc/apt/sources.list.d", name).write_text(sources, encoding="utf-8")
         text = APT.format(base=base, certificate=f"{self.folder}/certificate.pem")
         pathlib.Path(base, "apt.conf").write_text(text, encoding="utf-8")
         self.variables["APT_CONFIG"] = f"{base}/apt.conf"

@@ -127,6 +127,19 @@ class Pages(unittest.TestCase):
         found = self.other(pages.check_crates, path, page.replace("sums    vers", "sums", 1))
         self.assertEqual(found, {f"{path}: the crate vers is not drawn"})
 
+    def test_a_table_that_is_drawn_otherwise_is_refused(self):
+        path = "docs/ARCHITECTURE.md"
+        page = self.repository.pages[path]
+        for there, here, name, what in (
+            ("      +-- files       path, body ", "      +-- files       path, print ", "files", "columns"),
+            ("    dates       suite, moment ", "    dates       moment, suite ", "dates", "columns"),
+            ("      +-- wants       upload", "    wants       upload", "wants", "references"),
+        ):
+            self.assertEqual(page.count(there), 1, there)
+            found = self.other(pages.check_tables, path, page.replace(there, here))
+            self.assertEqual(found, {f"{path}: the table {name} is not drawn with its {what}"})
+        self.assertEqual(len(list(pages.tables_of(self.repository.texts["crates/tables/src/schema.rt"])[0])), 11)
+
     def test_a_limit_that_is_elsewhere_is_refused(self):
         path = "docs/ARCHITECTURE.md"
         page, row = self.repository.pages[path], self.row(path, "| 256 entries")

@@ -45,6 +45,16 @@ class Using(snippets.Case):
         places = [text.index(textwrap.indent(snippet(it), "    ")) for it in names]
         self.assertEqual(places, sorted(places))
 
+    def test_the_way_of_an_upload_goes_by_commands_and_requests(self):
+        text, commands = snippet("way of an upload"), snippet("commands")
+        source = (snippets.ROOT / "crates/desk/src/routes.rt").read_text(encoding="utf-8")
+        named = set(re.findall(r"archive ([a-z]+)", text))
+        self.assertEqual(named, {"put", "waiting", "why", "run", "verdicts", "list", "show", "remove"})
+        self.assertEqual(named - set(re.findall(r"^archive ([a-z]+)", commands, re.M)), set())
+        for method, path in re.findall(r"(GET|PUT|POST) /([a-z]+(?:/[a-z]+)?)", text):
+            with self.subTest(path):
+                self.assertIn(f'"/{path}', source, method)
+
     @needs("systemd-analyze")
     def test_the_units_are_right(self):
         # The programs need not be installed here.

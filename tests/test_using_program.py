@@ -3,6 +3,7 @@ the test's own, and what the pages say of copies, of the file and of answers is 
 sqlite3 or dpkg-deb is not there, the test says that it was skipped."""
 import contextlib
 import glob
+import gzip
 import os
 import pathlib
 import re
@@ -25,6 +26,8 @@ from uploads import uploads
 HELLO = uploads.Package("hello", source=True)
 CHANGES = "hello_1.0-1_amd64.changes"
 PACKAGES = "dists/box/main/binary-amd64/Packages"
+# 2016-07-02 05:20:50 UTC.
+MOMENT = 1_467_436_850
 # The seconds of 90 days.
 DAYS = 90 * 86_400
 
@@ -32,6 +35,22 @@ DAYS = 90 * 86_400
 def hello(version):
     """The package hello of this version, with its source."""
     return uploads.Package("hello", version=version, source=True)
+
+
+def unpacked(folder, version, distribution):
+    """Writes to a folder what `dpkg-buildpackage -b` would of the session's package. Nothing in its .deb is compressed, so that each machine
+    makes the same bytes."""
+    control = f"Package: hello\nVersion: {version}\nArchitecture: amd64\nMaintainer: Ann <ann@example.org>\nDescription: greets\n"
+    members = {"control.tar": gzip.decompress(uploads.tar_of({"./control": control.encode()})), "data.tar": gzip.decompress(uploads.tar_of({}))}
+    deb, stem = uploads.ar_of({"debian-binary": b"2.0\n", **members}), f"{folder}/hello_{version}_amd64"
+    pathlib.Path(f"{stem}.deb").write_bytes(deb)
+    text = uploads.changes_of("hello", version, {f"hello_{version}_amd64.deb": deb}).decode()
+    pathlib.Path(f"{stem}.changes").write_text(snippets.changed(text, {"Distribution: box": f"Distribution: {distribution}"}), encoding="ascii")
+
+
+def session(text):
+    """The command lines of a session, each with what it prints."""
+    return [(command, printed) for command, _, printed in (it.partition("\n") for it in re.split(r"^\$ ", text, flags=re.M)[1:])]
 
 
 @needs_file(PROGRAM)
@@ -88,14 +107,13 @@ class Case(snippets.Case):
 
 class Commands(Case):
     @needs("dpkg-deb")
-    def test_an_archive_in_five_minutes(self):
+    def test_a_session(self):
+        """Each command of the page's session prints what stands below it, byte for byte. Each has a moment of its own."""
         self.room.write("work/box.conf", snippet("configuration"))
-        built(self.room.folder, HELLO)
-        printed = self.shell(snippet("first commands"))
-        lines = [f"new {name}" for name in self.names()] + [f"0 {CHANGES}", f"accepted {CHANGES}", "Package: hello"]
-        self.assertEqual(printed.splitlines()[:len(lines)], lines)
-        self.assertEqual(self.names()[-1], CHANGES)
-        self.assertIn("\nFilename: pool/main/h/hello/hello_1.0-1_amd64.deb\n", printed)
+        unpacked(self.room.folder, "1.0-1", "unstable")
+        unpacked(self.room.folder, "1.0-2", "UNRELEASED")
+        for number, (command, printed) in enumerate(session(snippet("session"))):
+            self.assertEqual(self.room.run(command.replace("$(date +%s)", str(MOMENT + number))), (0, printed, ""), command)
 
     @needs("make", "dpkg-deb")
     def test_the_programs_are_installed(self):
@@ -429,11 +447,15 @@ class Serving(Case):
     def test_installing_from_it(self):
         self.ready()
         self.shell('archive put --db box.db --at "$(date +%s)" $(cat files); archive run --db box.db --at "$(date +%s)"')
-        self.room.apt(snippet("trusted", self.at(self.serve())))
-        self.shell("apt-get update && apt-get download hello && apt-get source --download-only hello")
-        for name in ("hello_1.0-1_amd64.deb", "hello_1.0-1.dsc", "hello_1.0.orig.tar.gz"):
-            body = pathlib.Path(self.room.work, name).read_bytes()
-            self.assertEqual(body, pathlib.Path(self.room.folder, name).read_bytes())
+        port = self.serve()
+        for form in ("trusted", "sources"):
+            text = snippet("trusted", self.at(port)) if form == "trusted" else snippet("sources", self.at(port))
+            self.room.apt(text)
+            self.shell("apt-get update && apt-get download hello && apt-get source --download-only hello")
+            for name in ("hello_1.0-1_amd64.deb", "hello_1.0-1.dsc", "hello_1.0.orig.tar.gz"):
+                path = pathlib.Path(self.room.work, name)
+                self.assertEqual(path.read_bytes(), pathlib.Path(self.room.folder, name).read_bytes())
+                path.unlink()
 
     @needs("dpkg-deb", "curl")
     def test_a_package_is_taken_out_by_curl(self):
@@ -482,8 +504,12 @@ class Serving(Case):
         address = self.at(self.serve())
         self.room.apt(snippet("trusted", address))
         self.assertIn(" is expired ", self.fails("apt-get update")[1])
-        self.room.apt(snippet("trusted", {**address, "trusted=yes": "trusted=yes check-valid-until=no"}))
-        self.assertEqual(self.room.run("apt-get update")[0], 0)
+        for text in (
+            snippet("trusted", {**address, "trusted=yes": "trusted=yes check-valid-until=no"}),
+            snippet("sources", {**address, "Trusted: yes": "Trusted: yes\nCheck-Valid-Until: no"}),
+        ):
+            self.room.apt(text)
+            self.assertEqual(self.room.run("apt-get update")[0], 0)
         self.room.end(self.process)
         self.ready()
         self.shell('archive put --db box.db --at "$(date +%s)" $(cat files); archive run --db box.db --at "$(date +%s)"')

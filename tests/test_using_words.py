@@ -46,10 +46,6 @@ class Words(snippets.Case):
         self.shell(f"archive init --db box.db --at 1 box.conf && archive put --db box.db --at 1 {' '.join(NAMES)}", self.room.work)
         self.shell("archive run --db box.db --at 1", self.room.work)
 
-    def test_why_an_upload_was_refused(self):
-        self.why({"Distribution: box": "Distribution: UNRELEASED"}, NAMES[0])
-        self.assertEqual(self.shell(f"archive why --db box.db {NAMES[0]}", self.room.work), snippet("refused"))
-
     def test_why_an_upload_waits(self):
         self.why({"abc": "ab"}, NAMES[1])
         for words in (NAMES[0], "", "--at 1"):
@@ -61,8 +57,9 @@ class Words(snippets.Case):
             it["sha256"] = digest
         self.assertEqual(json.loads(self.shell("archive why --db box.db --json", self.room.work)), wanted)
 
-    @needs("gpg")
+    @needs("gpg", "apt-get")
     def test_a_tree_that_gpg_signs(self):
+        """gpg and apt take its signature, the latter by a .sources file with the key in place of trust, and not without the key."""
         self.archive()
         self.room.run("gpg --batch --quiet --passphrase '' --quick-generate-key archive@example.org")
         self.addCleanup(self.room.run, "gpgconf --kill all")
@@ -72,6 +69,12 @@ class Words(snippets.Case):
         for words in ("InRelease", "Release.gpg www/dists/box/Release"):
             status, _, told = self.room.run(f"gpg --batch --verify www/dists/box/{words}", self.room.work)
             self.assertEqual(status, 0, told)
+        self.shell("gpg --export archive@example.org > key.gpg", self.room.work)
+        for key, wanted in (("key.gpg", 0), ("none.gpg", 100)):
+            here = {"http://archive.example.org:8080/": f"file:{self.room.work}/www/", "Trusted: yes": f"Signed-By: {self.room.work}/{key}"}
+            self.room.apt(snippet("sources", here))
+            status, printed, told = self.room.run("apt-get -o APT::Update::Error-Mode=any update", self.room.work)
+            self.assertEqual((status, "signed" in told), (wanted, wanted != 0), printed + told)
 
 
 if __name__ == "__main__":
