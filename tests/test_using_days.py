@@ -120,7 +120,6 @@ esac
 
 
 class States(Days):
-    @needs("diff")
     def test_a_whole_state_goes_and_comes_back(self):
         self.made_with_three()
         self.come(package("hello"), package("world"))
