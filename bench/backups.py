@@ -118,7 +118,7 @@ def size_of(way):
 
 def rows(line, count):
     way = made(line, count)
-    with measure.Server([line.archive, "serve", "--db", way.db, "--at", "0", "127.0.0.1:{port}", "1000000000"]) as server:
+    with measure.Server([line.archive, "serve", "--db", way.db, "--at", "0", "127.0.0.1:{port}", "1000000"]) as server:
         ways.check(server.ask("GET", "nothing")[0], 404)  # it is open then
         yield [size_of(way), *figures(line, way, server)]
         for path in files_in(os.path.dirname(way.db), range(count, count + line.log)):
