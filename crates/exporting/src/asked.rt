@@ -1,9 +1,8 @@
 //! What an export is asked for, and what its steps are made by.
 
-use crate::site::Site;
-use crate::states::Wanted;
 use folders::Disk;
 use suites::Shelves;
+use tree_files::{Site, Wanted};
 
 /// What an export is asked for.
 #[derive(Clone, Copy, Debug)]

@@ -6,45 +6,27 @@ ghost use Rattle.queue.specs.Steps.{Reads};
 
 use crate::asked::{Export, Job, Watcher};
 use crate::fault::ExportFault;
-use crate::leaving::leave_suites;
-use crate::looking::look;
 use crate::mending::mend_states;
-use crate::showing::{
-    MANIFEST, leave, make_others, make_steps, remove_cut, remove_old_states, save,
-};
-use crate::site::{Site, kept_of, opened_folders};
-use crate::states::{
-    Standing, Wanted, has_file, is_signed, refuse_named, refuse_signed, wanted_suites,
-};
+use crate::showing::{make_others, make_steps};
+use crate::states::{refuse_named, refuse_signed, wanted_suites};
 use crate::web::{write_index, write_uploads};
 use exported::Manifest;
 use folders::{Disk, Folder, FolderFault};
 use keep::{Keeper, LATEST};
-use para::Text;
 use queue::{Archive, Fault};
-use std::alloc::{AllocError, Global};
-use std::collections::BTreeMap;
+use std::alloc::Global;
 use std::fs::File;
 use std::io;
 use suites::Shelves;
-use sums::Print;
-use tree::{Step, plan};
-
-/// The most bytes of a manifest that is read.
-const MOST_OF_MANIFEST: u64 = 1 << 30;
+use tree::Step;
+use tree_files::{
+    Counts, Site, Standing, Wanted, counts_of, has_lost_signature, kept_of, leave, leave_suites,
+    look, manifest_of, opened_folders, remove_cut, remove_old_states, save, steps_of,
+};
 
 /// The most files of the pool that one export has on the disk before an index names them. Where more are new, none of them is synced:
 /// the next export reads them back.
 const MOST_SYNCED: usize = 256;
-
-/// How many files of the pool were written, how many were there, how many that are no more of the pool are left, and how many went.
-#[derive(Clone, Copy, Default)]
-struct Counts {
-    new: usize,
-    same: usize,
-    left: usize,
-    gone: usize,
-}
 
 /// The folder of a tree without the slashes behind it. An empty path leads to no folder.
 fn root_of<'a>(alloc: Global, folder: &'a str) -> Result<&'a str, ExportFault> {
@@ -60,63 +42,6 @@ fn locked(rt: &HostRuntime, own: &Folder<HostRuntime>) -> Result<File, FolderFau
         Some(file) if file.try_lock().is_ok() => Ok(file),
         _ => Err(own.place_fault(rt.alloc(), "lock")),
     }
-}
-
-/// The manifest of a tree.
-fn manifest_of<R: Disk>(rt: &R, own: &Folder<R>) -> Result<Manifest, ExportFault> {
-    let bytes = own.bytes(rt, MANIFEST, MOST_OF_MANIFEST)?;
-    let text = match &bytes {
-        Some(bytes) => Some(bytes.as_slice()),
-        None => None,
-    };
-    Ok(Manifest::read(rt.alloc(), text)?)
-}
-
-/// The positions of the suites that are to show another state.
-fn positions(alloc: Global, suites: &[Wanted]) -> Result<Vec<usize>, AllocError> {
-    let mut positions = Vec::new(alloc);
-    for (position, suite) in suites.iter().enumerate() {
-        if suite.standing == Standing::Shows {
-            positions.push(position)?;
-        }
-    }
-    Ok(positions)
-}
-
-/// Whether something is shown now that was not when the manifest was written, or will be after the export.
-fn shows_something(suites: &[Wanted]) -> bool {
-    suites.iter().any(|suite| suite.is_changed || suite.standing == Standing::Shows)
-}
-
-/// The steps of an export. What was left goes only if something is shown that was not when it was left.
-fn steps_of(
-    alloc: Global,
-    shelves: &Shelves,
-    there: &BTreeMap<String, Print>,
-    suites: &[Wanted],
-    manifest: &Manifest,
-) -> Result<Vec<Step>, AllocError> {
-    let left: Vec<Text> = if shows_something(suites) {
-        manifest.left(alloc)?
-    } else {
-        Vec::new(alloc)
-    };
-    let positions = positions(alloc, suites)?;
-    plan(alloc, shelves, there, &positions, &left)
-}
-
-/// How many files of the pool steps write and remove.
-fn counts_of(steps: &[Step], shelves: &Shelves) -> Counts {
-    let mut counts = Counts::default();
-    for step in steps {
-        match step {
-            Step::Place(_) => counts.new = counts.new.saturating_add(1),
-            Step::Show(_) => {}
-            Step::Remove(_) => counts.gone = counts.gone.saturating_add(1),
-        }
-    }
-    counts.same = shelves.files().len().saturating_sub(counts.new);
-    counts
 }
 
 /// What an export did.
@@ -142,9 +67,9 @@ fn make<R: Disk, K: Keeper, T: Watcher>(
 {
     make_steps(rt, archive, job, steps, manifest, watcher)?;
     make_others(rt, archive, job)?;
-    let left = leave(rt.alloc(), job, manifest)?;
+    let left = leave(rt.alloc(), job.shelves, job.suites, manifest)?;
     save(rt, job.site, manifest)?;
-    remove_old_states(rt, job)?;
+    remove_old_states(rt, job.site, job.suites)?;
     Ok(left)
 }
 
@@ -154,9 +79,9 @@ fn prepare<R: Disk>(
     job: &Job<'_, R>,
     manifest: &mut Manifest,
 ) -> Result<Vec<String>, ExportFault> {
-    remove_cut(rt, job)?;
+    remove_cut(rt, job.site, job.suites)?;
     save(rt, job.site, manifest)?;
-    leave_suites(rt, job.site, job.suites, manifest)
+    Ok(leave_suites(rt, job.site, job.suites, manifest)?)
 }
 
 /// The suites of the archive, with what they show, their states mended. Suites that are signed are refused, if that is asked.
@@ -208,21 +133,6 @@ fn make_all<R: Disk, K: Keeper, T: Watcher>(
         gone,
         counts,
     })
-}
-
-/// Whether the state of a suite has no signature, and that which it showed before had one.
-fn has_lost_signature<R: Disk>(
-    rt: &R,
-    site: &Site<R>,
-    suite: &Wanted,
-) -> Result<bool, FolderFault> {
-    let Some(link) = suite.link() else {
-        return Ok(false);
-    };
-    if suite.standing != Standing::Shows || has_file(rt, site, suite.state.as_str(), "InRelease")? {
-        return Ok(false);
-    }
-    is_signed(rt, site, link)
 }
 
 /// What a call of the output gave, or that it failed.

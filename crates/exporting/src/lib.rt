@@ -17,20 +17,16 @@
 //!
 //! The texts of the states that are there are compared with the archive's, and mended. A suite that the configuration no longer has leaves the
 //! tree. What is not of the archive is left alone. At a path that the archive has, other contents are replaced, but for the database's files.
-//! No link in the tree is followed (`folders`).
+//! No link in the tree is followed (`folders`). What needs no archive is in `tree_files`.
 #![tactic(auto)]
 
 mod asked;
-mod by_hash;
 mod course;
 mod fault;
 mod lacking;
-mod leaving;
-mod looking;
 mod making;
 mod mending;
 mod showing;
-mod site;
 mod states;
 mod web;
 

@@ -6,24 +6,15 @@ ghost use Rattle.texts.specs.Indices.{path_in};
 ghost use Rattle.exporting.specs.Fetched.{IsFetched};
 
 use crate::asked::Job;
-use crate::by_hash::add_by_hash;
 use crate::fault::ExportFault;
-use crate::site::Site;
-use crate::states::Wanted;
 use exported::new_name;
-use folders::{Disk, Folder, FolderFault, Kept};
+use folders::{Disk, Folder, Kept};
 use keep::Keeper;
 use pages::suite_page;
 use queue::Archive;
 use std::alloc::Global;
-use std::time::{Duration, SystemTime};
 use texts::path_in;
-
-/// The page of a state.
-pub const PAGE: &str = "index.html";
-
-/// The text of a state that lists the others.
-const RELEASE: &str = "Release";
+use tree_files::{PAGE, Wanted, add_by_hash, move_state, touch_release, write_in};
 
 /// The bytes at a path of the archive, which has some there. An export has no others.
 pub fn body_at<K: Keeper>(
@@ -67,35 +58,6 @@ fn write_text<R: Disk, K: Keeper>(
 {
     let body = text_at(rt.alloc(), archive, codename, path)?;
     Ok(write_in(rt, kept, folder, path, &body)?)
-}
-
-/// Writes a new file with a name in a folder, and has both on the disk.
-fn write_named<R: Disk>(
-    rt: &R,
-    kept: &Kept,
-    folder: &Folder<R>,
-    name: &str,
-    body: &[u8],
-) -> Result<(), FolderFault> {
-    folder.write_new(rt, kept, name, body, true)?;
-    folder.sync(rt.alloc())
-}
-
-/// Writes a file at a path in a folder, with the folders on the way to it.
-fn write_in<R: Disk>(
-    rt: &R,
-    kept: &Kept,
-    folder: &Folder<R>,
-    path: &str,
-    body: &[u8],
-) -> Result<(), FolderFault> {
-    match path.rsplit_once('/') {
-        Some((way, name)) => {
-            let beside = folder.way_made(rt, way)?;
-            write_named(rt, kept, &beside, name, body)
-        }
-        None => write_named(rt, kept, folder, path, body),
-    }
 }
 
 /// Writes all texts of a suite into a folder.
@@ -175,64 +137,6 @@ fn make_folder_of<R: Disk, K: Keeper>(
     }
     filled?;
     Ok(move_state(rt, job.site, new.as_str(), suite.state.as_str())?)
-}
-
-/// Gives a folder of the suites the name of a state, in the place of what has it.
-fn move_state<R: Disk>(rt: &R, site: &Site<R>, new: &str, state: &str) -> Result<(), FolderFault> {
-    site.dists.remove_all(rt, &site.kept, state)?;
-    site.dists.move_to(rt, &site.kept, new, &site.dists, state)
-}
-
-/// The moment that a file is to be modified at, after one that was modified at another: now, or one second later than that. Web servers tell
-/// whole seconds apart.
-fn moment_after<R: Disk>(rt: &R, before: Option<SystemTime>) -> Option<SystemTime> {
-    let now = SystemTime::now(rt).ok();
-    let Some(before) = before else {
-        return now;
-    };
-    let Some(later) = before.checked_add(Duration::from_secs(1)) else {
-        return now;
-    };
-    match now {
-        Some(now) if now > later => Some(now),
-        _ => Some(later),
-    }
-}
-
-/// When the Release of a state was modified, if that is known.
-fn released_at<R: Disk>(
-    rt: &R,
-    site: &Site<R>,
-    state: &str,
-) -> Result<Option<SystemTime>, FolderFault> {
-    match site.dists.within(rt, state)? {
-        Some(folder) => folder.modified(rt, RELEASE),
-        None => Ok(None),
-    }
-}
-
-/// When the Release that a suite shows, which is another one than it is to show, was modified, if that is known.
-fn shown_at<R: Disk>(
-    rt: &R,
-    site: &Site<R>,
-    suite: &Wanted,
-) -> Result<Option<SystemTime>, FolderFault> {
-    match suite.link() {
-        Some(link) if !suite.is_linked() => released_at(rt, site, link),
-        _ => Ok(None),
-    }
-}
-
-/// Has the Release of a suite's state be modified after that of the state which is shown.
-pub fn touch_release<R: Disk>(rt: &R, site: &Site<R>, suite: &Wanted) -> Result<(), FolderFault> {
-    let before = shown_at(rt, site, suite)?;
-    match (
-        site.dists.within(rt, suite.state.as_str())?,
-        moment_after(rt, before),
-    ) {
-        (Some(folder), Some(moment)) => folder.touch(rt, RELEASE, moment),
-        _ => Ok(()),
-    }
 }
 
 /// Has the state be there that a suite is to show.

@@ -6,20 +6,12 @@ ghost use Rattle.queue.specs.Steps.{Reads};
 
 use crate::fault::ExportFault;
 use crate::lacking::lacking_uploads;
-use crate::site::Site;
-use folders::{Disk, FolderFault};
+use folders::Disk;
 use keep::Keeper;
 use pages::{index_page, uploads_page};
 use queue::Archive;
 use suites::Shelves;
-
-/// Puts a page at its name in the tree, if another text or another kind of file is there.
-fn write_page<R: Disk>(rt: &R, site: &Site<R>, name: &str, text: &str) -> Result<(), FolderFault> {
-    if site.root.has_bytes(rt, name, text.as_bytes())? {
-        return Ok(());
-    }
-    site.put(rt, &site.root, name, text.as_bytes(), false)
-}
+use tree_files::{Site, write_page};
 
 /// Writes the page of the suites.
 pub fn write_index<R: Disk, K: Keeper>(

@@ -1,6 +1,5 @@
 //! Suites that the configuration no longer has, as they leave the tree.
 
-use crate::fault::ExportFault;
 use crate::site::Site;
 use crate::states::{Wanted, linked};
 use exported::{Manifest, is_name, is_state_of, new_name};
@@ -63,7 +62,7 @@ pub fn leave_suites<R: Disk>(
     site: &Site<R>,
     suites: &[Wanted],
     manifest: &mut Manifest,
-) -> Result<Vec<String>, ExportFault> {
+) -> Result<Vec<String>, FolderFault> {
     let mut gone = Vec::new(rt.alloc());
     for codename in unknown_names(rt.alloc(), suites, manifest)? {
         if is_name(codename.as_str()) && has_left(rt, site, codename.as_str())? {

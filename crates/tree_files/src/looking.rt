@@ -3,7 +3,6 @@
 //! The word of the manifest counts if the disk still has a regular file of that size, modified at that moment. Any other file is read,
 //! and known by its print.
 
-use crate::fault::ExportFault;
 use exported::{Manifest, Stamp, Vouched, Word};
 use folders::{Disk, Folder, FolderFault};
 use std::collections::BTreeMap;
@@ -67,12 +66,12 @@ pub fn here(print: Print, stamp: Stamp) -> Word {
     })
 }
 
-/// Whether the word on a path vouches that the file that is seen there has the contents.
+/// Whether the word on a path vouches that the file that is seen there, which has their size, has the contents.
 fn is_vouched(word: Option<Word>, print: Print, seen: &Metadata) -> bool {
-    seen.len() == print.size && word == Some(here(print, stamp_of(seen)))
+    word == Some(here(print, stamp_of(seen)))
 }
 
-/// The regular file of a name in a folder, if there is one: whose contents the word vouches for, or else as it is read.
+/// The regular file of a name in a folder, if there is one of the size of the print: whose contents the word vouches for, or else as it is read.
 fn found_in<R: Disk>(
     rt: &R,
     folder: &Folder<R>,
@@ -83,7 +82,7 @@ fn found_in<R: Disk>(
     let Some(seen) = folder.seen(rt, name)? else {
         return Ok(None);
     };
-    if !seen.is_file() {
+    if !seen.is_file() || seen.len() != print.size {
         return Ok(None);
     }
     let stamp = stamp_of(&seen);
@@ -124,7 +123,7 @@ impl<R: Disk> Near<R> {
     }
 
     /// Goes to the folder at a path, above which there is another one.
-    fn go_above(&mut self, rt: &R, root: &Folder<R>, path: &str) -> Result<(), ExportFault> {
+    fn go_above(&mut self, rt: &R, root: &Folder<R>, path: &str) -> Result<(), FolderFault> {
         if self.above_path.as_str() != path {
             self.above = root.way(rt, path)?;
             self.above_path = String::from_str(rt.alloc(), path)?;
@@ -141,7 +140,7 @@ impl<R: Disk> Near<R> {
     }
 
     /// Goes to the folder at a path.
-    fn go(&mut self, rt: &R, root: &Folder<R>, path: &str) -> Result<(), ExportFault> {
+    fn go(&mut self, rt: &R, root: &Folder<R>, path: &str) -> Result<(), FolderFault> {
         if self.path.as_str() == path {
             return Ok(());
         }
@@ -175,7 +174,7 @@ fn look_at<R: Disk>(
     path: &str,
     print: Print,
     manifest: &mut Manifest,
-) -> Result<Option<Print>, ExportFault> {
+) -> Result<Option<Print>, FolderFault> {
     let (folder, name) = cut(path);
     near.go(rt, root, folder)?;
     let known = manifest.word(path);
@@ -200,7 +199,7 @@ pub fn look<R: Disk>(
     root: &Folder<R>,
     shelves: &Shelves,
     manifest: &mut Manifest,
-) -> Result<BTreeMap<String, Print>, ExportFault> {
+) -> Result<BTreeMap<String, Print>, FolderFault> {
     let mut there = BTreeMap::new(rt.alloc());
     let mut near = Near::new(rt);
     for (path, file) in shelves.files() {

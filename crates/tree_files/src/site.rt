@@ -1,6 +1,5 @@
 //! The folders that an export works in, and how a file gets its place.
 
-use crate::fault::ExportFault;
 use exported::OWN;
 use folders::{Disk, Folder, FolderFault, Kept};
 
@@ -31,7 +30,7 @@ pub fn opened_folders<R: Disk>(rt: &R, path: &str) -> Result<(Folder<R>, Folder<
 }
 
 /// What an export of the archive of a database never touches.
-pub fn kept_of<R: Disk>(rt: &R, database: &str) -> Result<Kept, ExportFault> {
+pub fn kept_of<R: Disk>(rt: &R, database: &str) -> Result<Kept, FolderFault> {
     let mut kept = Kept::new(rt.alloc());
     if !database.is_empty() {
         kept.keep_database(rt, database)?;

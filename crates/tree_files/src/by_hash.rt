@@ -3,7 +3,6 @@
 //! A client that asks for a text by its digest finds it in whatever state the link leads to: each state has, below the folder of each text,
 //! `by-hash/SHA256/DIGEST` for its own texts and those of the two states before it. These are further names of the same files.
 
-use crate::fault::ExportFault;
 use crate::site::Site;
 use crate::states::Wanted;
 use exported::has_parts;
@@ -11,6 +10,9 @@ use folders::{Disk, Folder, FolderFault, id_of};
 
 /// The most bytes of a Release that is read.
 const MOST_OF_RELEASE: u64 = 1 << 26;
+
+/// The most bytes of a text that is given a name by its contents.
+const MOST_OF_TEXT: u64 = 1 << 28;
 
 /// A text that a Release lists: its digest, the folder that it lies in from that of the Release, and its name there.
 #[derive(Clone, Copy)]
@@ -71,7 +73,7 @@ fn name_text<R: Disk>(
     {
         return Ok(());
     }
-    let Some(body) = from.bytes(rt, text.name, u64::MAX)? else {
+    let Some(body) = from.bytes(rt, text.name, MOST_OF_TEXT)? else {
         return Ok(());
     };
     if to.has_bytes(rt, text.digest, &body)? {
@@ -87,7 +89,7 @@ fn name_listed_text<R: Disk>(
     from: &Folder<R>,
     to: &Folder<R>,
     text: Listed<'_>,
-) -> Result<(), ExportFault> {
+) -> Result<(), FolderFault> {
     let Some(from) = from.way(rt, text.folder)? else {
         return Ok(());
     };
@@ -97,7 +99,7 @@ fn name_listed_text<R: Disk>(
     let folder = text.folder;
     let digests = format!(in rt.alloc(); "{folder}/by-hash/SHA256")?;
     let to = to.way_cleared(rt, &site.kept, digests.as_str())?;
-    Ok(name_text(rt, site, &from, &to, text)?)
+    name_text(rt, site, &from, &to, text)
 }
 
 /// Gives the texts that a Release lists their names in another state.
@@ -107,7 +109,7 @@ fn name_listed<R: Disk>(
     from: &Folder<R>,
     to: &Folder<R>,
     release: &str,
-) -> Result<(), ExportFault> {
+) -> Result<(), FolderFault> {
     let mut is_below = false;
     for line in release.split('\n') {
         let Some(words) = line.strip_prefix(' ') else {
@@ -129,7 +131,7 @@ fn name_texts<R: Disk>(
     site: &Site<R>,
     from: &Folder<R>,
     to: &Folder<R>,
-) -> Result<(), ExportFault> {
+) -> Result<(), FolderFault> {
     let Some(bytes) = from.bytes(rt, "Release", MOST_OF_RELEASE)? else {
         return Ok(());
     };
@@ -145,7 +147,7 @@ fn name_texts_of<R: Disk>(
     site: &Site<R>,
     state: Option<&str>,
     to: &Folder<R>,
-) -> Result<(), ExportFault> {
+) -> Result<(), FolderFault> {
     let Some(name) = state else {
         return Ok(());
     };
@@ -156,7 +158,7 @@ fn name_texts_of<R: Disk>(
 }
 
 /// Has the state that a suite is to show, which is made, have its texts and those of the two states before it by their digests.
-pub fn add_by_hash<R: Disk>(rt: &R, site: &Site<R>, suite: &Wanted) -> Result<(), ExportFault> {
+pub fn add_by_hash<R: Disk>(rt: &R, site: &Site<R>, suite: &Wanted) -> Result<(), FolderFault> {
     let Some(to) = site.dists.within(rt, suite.state.as_str())? else {
         return Ok(());
     };

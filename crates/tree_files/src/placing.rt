@@ -1,0 +1,218 @@
+//! Files, links and folders, as they come to their places in a tree and leave them.
+
+use crate::looking::{here, stamp_of};
+use crate::site::Site;
+use crate::states::Wanted;
+use crate::writing::touch_release;
+use exported::{Manifest, Word, folder_of, is_state_of, new_name};
+use folders::{Disk, FolderFault};
+use std::alloc::{AllocError, Global};
+use suites::{PoolFile, Shelves};
+
+/// The folder that a file of the pool lies in, and its name there.
+fn cut(path: &str) -> (&str, &str) {
+    match path.rsplit_once('/') {
+        Some((folder, name)) => (folder, name),
+        None => ("", path),
+    }
+}
+
+/// Puts a file of the pool at its path. It answers what the manifest may vouch for, if it is synced.
+fn put_file<R: Disk>(
+    rt: &R,
+    site: &Site<R>,
+    file: &PoolFile,
+    body: &[u8],
+    is_synced: bool,
+) -> Result<Option<Word>, FolderFault> {
+    let (way, name) = cut(file.path.as_str());
+    let folder = site.root.way_made(rt, way)?;
+    site.put(rt, &folder, name, body, is_synced)?;
+    if !is_synced {
+        return Ok(None);
+    }
+    match folder.seen(rt, name)? {
+        Some(seen) => Ok(Some(here(file.print, stamp_of(&seen)))),
+        None => Ok(None),
+    }
+}
+
+/// Puts a file of the pool at its path. If it is synced the manifest vouches for it then.
+pub fn place<R: Disk>(
+    rt: &R,
+    site: &Site<R>,
+    file: &PoolFile,
+    body: &[u8],
+    is_synced: bool,
+    manifest: &mut Manifest,
+) -> Result<(), FolderFault> {
+    if let Some(word) = put_file(rt, site, file, body, is_synced)? {
+        manifest.set(rt.alloc(), file.path.as_str(), word)?;
+    }
+    Ok(())
+}
+
+/// Removes the folder at a path in the tree, if it is empty and no link is on the way to it. It says whether that is done.
+fn remove_empty<R: Disk>(rt: &R, site: &Site<R>, path: &str) -> Result<bool, FolderFault> {
+    let (way, name) = cut(path);
+    match site.root.way(rt, way)? {
+        Some(above) => above.remove_empty(rt, name),
+        None => Ok(false),
+    }
+}
+
+/// Removes the folders above a path, but `pool`, as far as they are empty.
+fn remove_empty_folders<R: Disk>(rt: &R, site: &Site<R>, path: &str) -> Result<(), FolderFault> {
+    let mut folder = folder_of(path);
+    for _ in 0..path.len() {
+        if !folder.contains('/') || !remove_empty(rt, site, folder)? {
+            break;
+        }
+        folder = folder_of(folder);
+    }
+    Ok(())
+}
+
+/// Removes the regular file at a path in the tree, if there is one and no link is on the way to it.
+fn remove_file<R: Disk>(rt: &R, site: &Site<R>, path: &str) -> Result<(), FolderFault> {
+    let (way, name) = cut(path);
+    let Some(folder) = site.root.way(rt, way)? else {
+        return Ok(());
+    };
+    if folder.is_file(rt, name)? {
+        folder.remove(rt, &site.kept, name)?;
+    }
+    Ok(())
+}
+
+/// Removes a file of the pool that was left.
+pub fn remove_left<R: Disk>(
+    rt: &R,
+    site: &Site<R>,
+    path: &str,
+    manifest: &mut Manifest,
+) -> Result<(), FolderFault> {
+    remove_file(rt, site, path)?;
+    remove_empty_folders(rt, site, path)?;
+    manifest.forget(path);
+    Ok(())
+}
+
+/// Has a suite show its state, by the rename of one link.
+pub fn show_state<R: Disk>(rt: &R, site: &Site<R>, suite: &Wanted) -> Result<(), FolderFault> {
+    site.dists.sync(rt.alloc())?;
+    touch_release(rt, site, suite)?;
+    site.put_link(
+        rt,
+        &site.dists,
+        suite.codename.as_str(),
+        suite.state.as_str(),
+    )?;
+    site.dists.sync(rt.alloc())
+}
+
+/// The paths that the manifest knows and that are none of the pool.
+fn strangers(
+    alloc: Global,
+    shelves: &Shelves,
+    manifest: &Manifest,
+) -> Result<Vec<String>, AllocError> {
+    let mut paths = Vec::new(alloc);
+    for (path, _) in manifest.words() {
+        if shelves.file(path.as_str()).is_none() {
+            paths.push(String::from_str(alloc, path.as_str())?)?;
+        }
+    }
+    Ok(paths)
+}
+
+/// Has the manifest say what suites show.
+fn tell_shown(alloc: Global, suites: &[Wanted], manifest: &mut Manifest) -> Result<(), AllocError> {
+    for suite in suites {
+        if let Some(shown) = suite.shown() {
+            manifest.set_shown(alloc, suite.codename.as_str(), shown, suite.shown_before())?;
+        }
+    }
+    Ok(())
+}
+
+/// Has the manifest say what is left, and what is shown; it answers how many paths are left. What is no file of the pool is left only if
+/// each suite shows what it is to show: else an index may name it.
+pub fn leave(
+    alloc: Global,
+    shelves: &Shelves,
+    suites: &[Wanted],
+    manifest: &mut Manifest,
+) -> Result<usize, AllocError> {
+    let paths = strangers(alloc, shelves, manifest)?;
+    if suites.iter().all(|suite| suite.is_shown()) {
+        for path in &paths {
+            manifest.set(alloc, path.as_str(), Word::Left)?;
+        }
+    }
+    tell_shown(alloc, suites, manifest)?;
+    Ok(paths.len())
+}
+
+/// The name of the manifest among the files of exports.
+const MANIFEST: &str = "files";
+
+/// Writes the manifest, if it is other than the one on the disk.
+pub fn save<R: Disk>(rt: &R, site: &Site<R>, manifest: &mut Manifest) -> Result<(), FolderFault> {
+    if !manifest.is_changed() {
+        return Ok(());
+    }
+    let text = manifest.text(rt.alloc())?;
+    site.put(rt, &site.own, MANIFEST, text.as_bytes(), true)?;
+    site.own.sync(rt.alloc())?;
+    manifest.set_written();
+    Ok(())
+}
+
+/// Removes what an export that was stopped left half made. It takes room; if it stays, that is all.
+pub fn remove_cut<R: Disk>(rt: &R, site: &Site<R>, suites: &[Wanted]) -> Result<(), AllocError> {
+    let _ = site.remove_cut(rt);
+    for suite in suites {
+        let name = new_name(rt.alloc(), suite.codename.as_str())?;
+        let _ = site.dists.remove_all(rt, &site.kept, name.as_str());
+    }
+    Ok(())
+}
+
+/// Whether a folder in `dists` is that of a state that no suite needs any more.
+fn is_old(suites: &[Wanted], name: &str) -> bool {
+    for suite in suites {
+        if is_state_of(suite.codename.as_str(), name) {
+            return !suite.keeps(name);
+        }
+    }
+    false
+}
+
+/// Removes the folders of states other than those to be shown, those shown, and those shown before.
+pub fn remove_old_states<R: Disk>(
+    rt: &R,
+    site: &Site<R>,
+    suites: &[Wanted],
+) -> Result<(), FolderFault> {
+    let (dists, kept) = (&site.dists, &site.kept);
+    for name in &dists.names(rt)? {
+        if is_old(suites, name.as_str()) {
+            dists.remove_all(rt, kept, name.as_str())?;
+        }
+    }
+    Ok(())
+}
+
+/// Puts a page at its name in the tree, if another text or another kind of file is there.
+pub fn write_page<R: Disk>(
+    rt: &R,
+    site: &Site<R>,
+    name: &str,
+    text: &str,
+) -> Result<(), FolderFault> {
+    if site.root.has_bytes(rt, name, text.as_bytes())? {
+        return Ok(());
+    }
+    site.put(rt, &site.root, name, text.as_bytes(), false)
+}
