@@ -41,14 +41,14 @@ pub record Book : Type 0 where
 
 -- ---- arrivals
 
--- of the same name and body
+-- two arrivals have the same name and body
 unfoldable pub is_same_pair : Arrival → Arrival → Bool
 is_same_pair a b = bytes_eq a.name b.name && bytes_eq a.body b.body
 
 unfoldable pub has_arrival : List Arrival → Arrival → Bool
 has_arrival arrivals a = list_any (is_same_pair a) arrivals
 
--- of this name, with a body of this print
+-- the arrival has this name, and a body of this print
 abbrev pub is_arrival_of : List ℕ → Print → Arrival → Bool
 is_arrival_of name print a = bytes_eq a.name name && same_print (print_of a.body) print
 
@@ -77,11 +77,11 @@ with_delivery book a = record book { arrivals = with_arrival book.arrivals a }
 
 -- ---- what counts at a moment
 
--- the seconds for which an arrival counts; none where it does so for good
+-- the seconds for which an arrival counts, or none if it counts for good
 abbrev pub span : ConfigValue → Option ℕ
 span config = option_map (λ days. days * 86400) config.keep_days
 
--- What was delivered at a moment counts at another: that is before the delivery's own and the span behind it.
+-- What was delivered at a moment counts at each moment that is less than the delivery's plus the span.
 unfoldable pub counts_since : Option ℕ → (moment delivered : ℕ) → Bool
 counts_since None moment delivered = true
 counts_since (Some seconds) moment delivered = nat_lt moment (delivered + seconds)
@@ -90,11 +90,11 @@ counts_since (Some seconds) moment delivered = nat_lt moment (delivered + second
 abbrev pub counts : Option ℕ → ℕ → Arrival → Bool
 counts span moment a = counts_since span moment a.moment
 
--- those that count at a moment
+-- the arrivals that count at a moment
 unfoldable pub current : Option ℕ → ℕ → List Arrival → List Arrival
 current span moment arrivals = filter (counts span moment) arrivals
 
--- those that do so no more
+-- the arrivals that do not count at a moment
 unfoldable pub ended : Option ℕ → ℕ → List Arrival → List Arrival
 ended span moment arrivals = filter (λ a. not (counts span moment a)) arrivals
 
@@ -123,7 +123,7 @@ candidate_of a =
 abbrev pub candidates : List Arrival → List Candidate
 candidates arrivals = filter_map candidate_of arrivals
 
--- a body of the listed print has arrived under the listed name
+-- the arrival is of the listed name, with a body of the listed print
 unfoldable pub is_body_of : Entry → Arrival → Bool
 is_body_of entry a = is_arrival_of entry.name entry.print a
 
@@ -152,7 +152,7 @@ judging_order a b =
     (ordering_then (text_order a.1.md5 b.1.md5)
     (nat_cmp a.1.size b.1.size))))
 
--- the same of the .changes that arrived
+-- the order of judging of two .changes that arrived
 abbrev pub candidate_order : Candidate → Candidate → Ordering
 candidate_order c d = judging_order (c.name, print_of c.body) (d.name, print_of d.body)
 
@@ -169,7 +169,7 @@ in_order (c ∷ cs) = put_in_order c (in_order cs)
 unfoldable pub unjudged : Book → List Candidate
 unjudged book = in_order (filter (λ c. not (is_judged book.judged c)) (candidates book.arrivals))
 
--- those of which each listed file has arrived
+-- the uploads without a verdict of which each listed file has arrived
 unfoldable pub due : Book → List Candidate
 due book = filter (is_complete book.arrivals) (unjudged book)
 
@@ -196,7 +196,7 @@ waiting_list book = map (λ c. record { name = c.name; missing = length (missing
 abbrev pub text_at : Book → List ℕ → Option (List ℕ)
 text_at book path = index_text book.config book.shown book.dates path
 
--- the text is the one that is there
+-- the text is the one that is kept
 unfoldable pub is_kept : Option (List ℕ) → List ℕ → Bool
 is_kept None text = false
 is_kept (Some kept) text = bytes_eq kept text
@@ -213,13 +213,13 @@ unfoldable pub dates_after : ℕ → List ℕ → Plan → List ℕ
 dates_after moment dates plan =
     map (λ d. if touches d.0 plan then moment else d.1) (enumerate_from 0 dates)
 
--- the body of the file at a path: the old one where its print fits, else one that arrived
+-- the body of the file at a path: the old one if its print fits, else one that arrived
 unfoldable pub stored_body : Book → List ℕ → Print → Option (List ℕ)
 stored_body book path print =
     option_or (option_and_then (λ body. if same_print (print_of body) print then Some body else None) (book.files path))
     (option_map (λ a. a.body) (find (λ a. same_print (print_of a.body) print) book.arrivals))
 
--- the pool's bodies where the suites show this
+-- the pool's bodies if the suites show this
 abbrev pub files_showing : Book → ShelvesValue → List ℕ → Option (List ℕ)
 files_showing book shown path = option_and_then (stored_body book path) (get (pool shown) path)
 

@@ -19,7 +19,7 @@ reconfigured config shown dates book = record book { config = config; shown = sh
 abbrev pub keeps_shown : ConfigValue → Book → Bool
 keeps_shown config book = all_stay book.config.suites config.suites book.shown
 
--- what they show under it
+-- what the suites show under another configuration
 abbrev pub shown_under : ConfigValue → Book → ShelvesValue
 shown_under config book = moved book.config.suites config.suites book.shown
 
@@ -27,12 +27,12 @@ shown_under config book = moved book.config.suites config.suites book.shown
 unfoldable pub date_of : Book → List ℕ → Option ℕ
 date_of book codename = option_and_then (λ n. slice_get book.dates n) (suite_named book.config.suites codename)
 
--- the Release of the suite at a position, of a date, where this is shown
+-- the Release of the suite at a position, with a date, if the suites show this
 abbrev pub release_with : ShelvesValue → ℕ × Suite → ℕ → List ℕ
 release_with shown s date = release_text s.1 date (indices_of s.1 shown s.0)
 
--- The date of the suite at a position: as it was where the Release of that date is the text that is there; else, and where the
--- suite is new, the moment.
+-- The date of the suite at a position: the old date if the Release of that date is the text that is kept. Otherwise, and if
+-- the suite is new, it is the moment.
 unfoldable pub date_under : Book → ShelvesValue → ℕ → ℕ × Suite → ℕ
 date_under book shown moment s = option_map_or
     (λ date. if is_kept (text_at book (suite_path s.1 (codes "Release"))) (release_with shown s date) then date else moment)
@@ -46,8 +46,8 @@ unfoldable pub configured : ConfigValue → ℕ → Book → Book
 configured config moment book =
     reconfigured config (shown_under config book) (dates_under config (shown_under config book) moment book) book
 
--- The same suites in the same order, but for how long a Release is valid; and for how long arrivals count is free. A migration asks
--- for this.
+-- A migration asks that two configurations have the same suites in the same order. They may differ in how long a Release is valid,
+-- and in how long arrivals count.
 abbrev pub without_days : Suite → Suite
 without_days s = record s { valid_days = None }
 

@@ -27,7 +27,7 @@ pub record HasBodies (bodies : List (List ℕ)) (book : Book) : Type 0 where
   pub arrivals : (a : Arrival) → Contains book.arrivals a → Contains bodies a.body
   pub files : (path body : List ℕ) → book.files path ≡ Some body → Contains bodies body
 
--- A delivery that may be kept: a file name, a body of at most 4194304 bytes, and a record where the name is that of a .changes.
+-- A delivery that may be kept: a file name, a body of at most 4194304 bytes, and a record if the name is that of a .changes.
 pub record IsDeliverable (name body : List ℕ) : Type 0 where
   pub file_name : is_file_name name ≡ true
   pub small : length body ≤ 4194304
@@ -51,8 +51,9 @@ pub record AreRenewed (old new : Book) (texts : List IndexText) : Type 0 where
   pub named : All (λ t. (text_at new t.path ≡ Some t.text) × (text_at old t.path ≢ Some t.text)) texts
   pub rest : (path : List ℕ) → Contains (map (λ t. t.path) texts) path ⊎ (text_at old path ≡ text_at new path)
 
--- Each plan is made for what those before it leave, the judged uploads are the first of those that are due at the moment of
--- the change, the texts are those that differ after it, and all that is shown is told by its records where it was before.
+-- Each plan is made for what those before it leave. The judged uploads are the first of those that are due at the moment of
+-- the change. The texts are those that differ after it. If the records of all that the suites show before the change say
+-- what is shown (`AreTold`), they also do after it.
 pub record IsSound (book : Book) (change : Change) : Type 0 where
   pub plans : AreSteps book.shown change.steps
   pub judged : map sign_on (judgements change.steps) ≡ map sign_of (take (length (judgements change.steps)) (due (at_moment change.moment book)))
@@ -77,7 +78,8 @@ pub record Lasts {K : Type 0} (is_clean is_open : K → Type 0) (faults : K → 
   pub stays : is_clean new → is_open old → is_open new ⊎ MoreFaults (faults old) (faults new)
   pub config : (book new).config ≡ (book old).config
 
--- The same of a call behind which the configuration may be another.
+-- What a call leaves of a keeper if the configuration may be another after it: all that `Lasts` says but for the
+-- configuration.
 pub record Endures {K : Type 0} (is_clean is_open : K → Type 0) (faults : K → ℕ) (old new : K) : Type 0 where
   pub clean : is_clean new → is_clean old
   pub counts : faults old ≤ faults new
@@ -90,31 +92,31 @@ pub record Reads {K : Type 0} (is_clean is_open : K → Type 0) (faults : K → 
   pub same : is_clean new → is_open new → book new ≡ book old
   pub crash : is_clean new → (left : Option Book) → may_leave new left → may_leave old left
 
--- What calls leave of a keeper that make nothing arrive and change nothing: one that is open has the same book, and a crash
--- leaves what it would have left before, or that book.
+-- What a call leaves of a keeper if it makes nothing arrive and changes nothing: a keeper that is open has the same book,
+-- and a crash leaves what it would have left before, or that book.
 pub record Stays {K : Type 0} (is_clean is_open : K → Type 0) (faults : K → ℕ) (book : K → Book) (may_leave : K → Option Book → Type 0) (old new : K) : Type 0 where
   pub lasts : Lasts is_clean is_open faults book old new
   pub same : is_clean new → is_open new → book new ≡ book old
   pub crash : is_clean new → (left : Option Book) → may_leave new left → may_leave old left ⊎ (is_open old × (left ≡ Some (book old)))
 
--- What a crash may leave behind a call that writes: what it would have left before, or all that the call does.
+-- What a crash may leave after a call that writes: what it would have left before, or all that the call does.
 abbrev pub Leaves : {K : Type 0} → (is_clean is_open : K → Type 0) → (may_leave : K → Option Book → Type 0) → K → K → (Option Book → Type 0) → Type 0
 Leaves is_clean is_open may_leave old new Whole = is_clean new → (left : Option Book) → may_leave new left → may_leave old left ⊎ (is_open old × Whole left)
 
--- Where of these bodies, which are those of the book and perhaps others, no two have one print.
+-- P holds if no two of some bodies have one print. These are the bodies of the book and perhaps others.
 abbrev pub Apart : Book → Type 0 → Type 0
 Apart book P = (bodies : List (List ℕ)) → NoCollision bodies → HasBodies bodies book → P
 
--- the same, where this body is among them
+-- P holds if no two of some bodies have one print. These are the bodies of the book, this body and perhaps others.
 abbrev pub ApartWith : Book → List ℕ → Type 0 → Type 0
 ApartWith book body P = (bodies : List (List ℕ)) → NoCollision bodies → HasBodies bodies book → Contains bodies body → P
 
--- whatever body is coming
+-- P holds of whatever body is coming
 abbrev pub OverComing : Option (List ℕ) → (List ℕ → Type 0) → Type 0
 OverComing coming P = (body : List ℕ) → coming ≡ Some body → P body
 
 module _ (book : Book) (name : List ℕ) (moment : ℕ) where
-  -- the answer tells whether a delivery of this body is new: whether no arrival of its name and body counts at the moment
+  -- the answer says whether a delivery of this body is new: whether no arrival of its name and body counts at the moment
   abbrev pub TellsNew : Bool → List ℕ → Type 0
   TellsNew new body = ApartWith book body (new ≡ not (has_delivery book (delivery name body moment)))
 
@@ -126,8 +128,8 @@ module _ (book : Book) (name : List ℕ) (moment : ℕ) where
   abbrev pub IsLeftDelivered : Option Book → List ℕ → Type 0
   IsLeftDelivered left body = ApartWith book body (left ≡ Some (with_delivery book (delivery name body moment)))
 
--- Want of memory may always be answered, a fault of the disk or of size only by a keeper that can fail, and that the
--- tables are not what is needed by no call of a keeper.
+-- A keeper may always answer want of memory. Only a keeper that can fail may answer a fault of the disk or of size. No
+-- call of a keeper answers the other two faults.
 abbrev pub MayAnswer : Bool → KeepFault → Type 0
 MayAnswer may_fail OutOfMemory = ⊤
 MayAnswer may_fail Disk = IsTrue may_fail

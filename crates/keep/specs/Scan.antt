@@ -22,7 +22,7 @@ use Rattle.keep.specs.declared.candidate.Candidate as scan
 abbrev pub counted : Counting → List Arrival → List Arrival
 counted counting arrivals = current counting.span counting.moment arrivals
 
--- the arrival with the greater of its moment and this one, where it is of this name and print
+-- the arrival with the greater of its moment and this one, if it is of this name and print
 abbrev pub marked : List ℕ → Print → ℕ → Arrival → Arrival
 marked name print moment a = if is_arrival_of name print a then at_latest moment a else a
 
@@ -42,7 +42,7 @@ unjudged_in arrivals judged = in_order (filter (λ c. not (is_judged judged c)) 
 abbrev pub waiting_of : List Arrival → book.Candidate → Waiting
 waiting_of arrivals c = record { name = c.name; missing = length (missing arrivals c) }
 
--- of this path
+-- the file is at this path
 abbrev pub is_at : List ℕ → PoolBody → Bool
 is_at path f = bytes_eq f.path path
 
@@ -50,7 +50,7 @@ is_at path f = bytes_eq f.path path
 unfoldable pub body_at : List PoolBody → List ℕ → Option (List ℕ)
 body_at files path = option_and_then (λ f. f.body) (find (is_at path) files)
 
--- the body of a file of the pool: the old one where its print fits, else one that arrived
+-- the body of a file of the pool: the old one if its print fits, else one that arrived
 unfoldable pub stored_among : List Arrival → List PoolBody → List ℕ → Print → Option (List ℕ)
 stored_among arrivals old path print =
     option_or (option_and_then (λ body. if same_print (print_of body) print then Some body else None) (body_at old path))

@@ -76,8 +76,8 @@ pub struct Arrival {
     pub moment: u64,
 }
 
-/// What counts at a moment: for how many seconds what arrives counts, or nothing where it does so for good, and the moment,
-/// in seconds since 1970-01-01 00:00:00 UTC.
+/// What counts at a moment: for how many seconds an arrival counts, or nothing if it counts for good, and the moment, in
+/// seconds since 1970-01-01 00:00:00 UTC.
 #[derive(Clone, Copy)]
 pub struct Counting {
     pub span: Option<u64>,
@@ -96,7 +96,7 @@ impl Counting {
         Counting { span, moment }
     }
 
-    /// Whether what was delivered at a moment counts. At a moment before its own it does.
+    /// Whether what was delivered at a moment counts. It also counts at moments before its delivery.
     #[tactic(auto, unfolding(crate::specs::Book::counts_since))]
     pub fn counts_since(&self, delivered: u64) -> bool
         ensures { result ≡ counts_since self.now.span self.now.moment delivered }
@@ -110,7 +110,7 @@ impl Counting {
         }
     }
 
-    /// Whether the arrival counts. At a moment before its own it does.
+    /// Whether the arrival counts. It also counts at moments before its delivery.
     pub fn counts(&self, arrival: &Arrival) -> bool
         ensures { result ≡ counts self.now.span self.now.moment arrival.now }
     {
@@ -128,7 +128,7 @@ fn is_of(arrival: &Arrival, name: &str, print: Print) -> bool
     arrival.body.print() == print
 }
 
-/// Whether a body of this print has arrived under this name, also where it counts no more.
+/// Whether a body of this print has arrived under this name, also if it no longer counts.
 pub fn has_arrival(arrivals: &[Arrival], name: &str, print: Print) -> bool
     ensures { result ≡ list_any (is_arrival_of name.now print) arrivals.now }
 {
@@ -140,7 +140,7 @@ pub fn has_arrival(arrivals: &[Arrival], name: &str, print: Print) -> bool
     false
 }
 
-/// The first arrival of this name with a body of this print, also where it counts no more.
+/// The first arrival of this name with a body of this print, also if it no longer counts.
 pub fn arrival_of<'a>(arrivals: &'a [Arrival], name: &str, print: Print) -> Option<&'a Arrival>
     ensures { option_copied result ≡ find (is_arrival_of name.now print) arrivals.now }
 {
@@ -180,7 +180,7 @@ pub fn has_current(arrivals: &[Arrival], counting: Counting, name: &str, print: 
     current_arrival(arrivals, counting, name, print).is_some()
 }
 
-/// Gives the arrival this moment, where it is of this name and print and its own moment is less.
+/// Gives the arrival this moment, if it is of this name and print and its own moment is less.
 fn mark(arrival: &mut Arrival, name: &str, print: Print, moment: u64)
     ensures { arrival.new ≡ marked name.now print moment arrival.old }
 {
@@ -191,7 +191,7 @@ fn mark(arrival: &mut Arrival, name: &str, print: Print, moment: u64)
     }
 }
 
-/// Gives the arrivals of this name and print this moment, where theirs is less.
+/// Gives the arrivals of this name and print this moment, if theirs is less.
 pub fn mark_all(arrivals: &mut [Arrival], name: &str, print: Print, moment: u64)
     ensures { arrivals.new ≡ map (marked name.now print moment) arrivals.old }
 {

@@ -1,4 +1,5 @@
-//! What has arrived, without its bytes: what a reader is told who asks what an upload lacks. The bytes of one are read by themselves.
+//! What has arrived, without its bytes. A reader who asks what an upload lacks gets this. The bytes of one body are read by a call of
+//! their own.
 
 ghost use Rattle.std.specs.Prelude.{◌≡◌, find, map, IfOk};
 ghost use Rattle.std.specs.Option.{option_map};

@@ -22,8 +22,8 @@ pub struct Judgement {
     pub verdict: Verdict,
 }
 
-/// One step of a change: a plan, made for what the steps before it leave, and the judgement that it comes of, where it is
-/// that of an upload.
+/// One step of a change: a plan, made for what the steps before it leave, and the judgement from which it comes, if it is
+/// the plan of an upload.
 #[derive(Drop)]
 pub struct Step {
     pub judgement: Option<Judgement>,
@@ -50,7 +50,7 @@ impl IndexText {
         IndexText::with_print(path, text, print)
     }
 
-    /// The same, where the text's print is known.
+    /// The text at a path without a leading slash, if the text's print is known already.
     pub fn with_print(path: String, text: Vec<u8>, print: Print) -> IndexText
         requires { print ≡ print_of text.items }
         ensures { (result.path ≡ string_bytes path) × (result.text ≡ text.items) }
@@ -64,7 +64,7 @@ impl IndexText {
 }
 
 /// A change, made whole or not at all: its steps in order. The moment, in seconds since 1970-01-01 00:00:00 UTC, becomes
-/// the date of each suite whose shown items change. The texts are those of the indices that are then other than before.
+/// the date of each suite whose shown items change. The texts are those of the indices that the change makes differ.
 #[derive(Drop)]
 pub struct Change {
     pub moment: u64,

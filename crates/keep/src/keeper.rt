@@ -47,7 +47,7 @@ pub trait Keeper {
     /// What is kept, however it is kept. Of a keeper that is shut it says something of the configuration alone.
     ghost book: { Self → Book };
 
-    /// The bytes so far of the body that is coming, where one was begun. It is no arrival and no part of the book.
+    /// The bytes so far of the body that is coming, if one was begun. It is no arrival and no part of the book.
     ghost coming: { Self → Option (List ℕ) };
 
     /// Whether the keeper can answer a fault of a disk or of size at all.
@@ -82,10 +82,10 @@ pub trait Keeper {
         ensures refused { OnErr result (coming self.new ≡ None) }
         ensures cause { IfErr result (MayAnswer may_fail) };
 
-    /// Takes the body that was begun as one that has arrived under a file name, and says whether that is new: whether no
-    /// arrival of this name and body counts at the moment. None is coming then, also after a refusal. Bodies are told apart
-    /// by their prints, so that this is said of bodies among which no two have one print. A crash leaves what it would have
-    /// left before, or the book with the delivery.
+    /// Takes the body that was begun as one that has arrived under a file name, and answers whether that is new: whether no
+    /// arrival of this name and body counts at the moment. No body is coming afterwards, also after a refusal. Bodies are
+    /// distinguished by their prints, so the contract speaks of bodies of which no two have one print. A crash leaves what
+    /// it would have left before, or the book with the delivery.
     fn finish(&mut self, alloc: Global, name: &str, moment: u64) -> Result<bool, KeepFault>
         requires in_time { moment ≤ latest }
         requires whole { is_clean self.now → is_open self.now → IsWholeFor (coming self.now) name.now }
@@ -99,7 +99,7 @@ pub trait Keeper {
         ensures crash { Leaves is_clean is_open may_leave self.old self.new (λ left.
             OverComing (coming self.old) (IsLeftDelivered (book self.old) name.now moment left)) };
 
-    /// Forgets the body that is coming. Where none was begun nothing changes.
+    /// Forgets the body that is coming. If none was begun nothing changes.
     fn abandon(&mut self) -> Result<(), KeepFault>
         ensures stays { Stays is_clean is_open faults book may_leave self.old self.new }
         ensures served { is_clean self.new → OnOk result (is_open self.old → is_open self.new) }
@@ -107,9 +107,9 @@ pub trait Keeper {
         ensures nothing { coming self.old ≡ None → self.new ≡ self.old }
         ensures cause { IfErr result (MayAnswer may_fail) };
 
-    /// Takes an arrival, a file name and a body, and says whether it is new, as `finish` does: a body is begun, its pieces
-    /// follow, and it is finished. Bodies are told apart by their prints, so that this is said of bodies among which no two
-    /// have one print. A crash leaves what it would have left before, the book, or the book with the delivery.
+    /// Takes an arrival, a file name and a body, and answers whether it is new, as `finish` does: a body is begun, its
+    /// pieces follow, and it is finished. Bodies are distinguished by their prints, so the contract speaks of bodies of
+    /// which no two have one print. A crash leaves what it would have left before, the book, or the book with the delivery.
     fn arrive(
         &mut self,
         alloc: Global,
@@ -137,13 +137,13 @@ pub trait Keeper {
         self.finish(alloc, name, moment)
     }
 
-    /// The uploads without a verdict of whose entries all have arrived, in the order of the bytes of their names, then of
-    /// their SHA-256, SHA-1, MD5 and sizes. Of the arrivals, those are looked at that count at the moment.
+    /// The uploads without a verdict whose entries have all arrived, in the order of the bytes of their names, then of
+    /// their SHA-256, SHA-1, MD5 and sizes. Only arrivals that count at the moment are looked at.
     fn complete_uploads(&mut self, alloc: Global, moment: u64) -> Result<Vec<Upload>, KeepFault>
         requires { moment ≤ latest }
         ensures reads { Reads is_clean is_open faults book may_leave self.old self.new }
         ensures served { is_clean self.new → OnOk result (is_open self.new) }
-        // By their names and prints, of whatever bodies.
+        // The names and prints of the uploads, whatever the bodies.
         ensures signs { is_clean self.new → IfOk result (λ uploads.
             map (λ u. (u.name, u.print)) uploads.items ≡ map sign_of (due (at_moment moment (book self.old)))) }
         ensures uploads { is_clean self.new → IfOk result (λ uploads. Apart (book self.old)
@@ -157,8 +157,8 @@ pub trait Keeper {
         ensures shelves { is_clean self.new → IfOk result (λ shelves. shelves ≡ (book self.old).shown) }
         ensures cause { IfErr result (MayAnswer may_fail) };
 
-    /// Makes the whole change, or none of it. What the book is then is said of changes for which it has each body. A crash
-    /// leaves what it would have left before, or the book with the whole change.
+    /// Makes the whole change, or none of it. The contract says what the book is afterwards if the book has each body that
+    /// the change needs. A crash leaves what it would have left before, or the book with the whole change.
     fn apply(&mut self, alloc: Global, change: &Change) -> Result<(), KeepFault>
         requires in_time { change.now.moment ≤ latest }
         requires sound { is_clean self.now → is_open self.now → IsSound (book self.now) change.now }
@@ -166,7 +166,7 @@ pub trait Keeper {
         ensures served { is_clean self.new → OnOk result (is_open self.new) }
         ensures ok { is_clean self.new → OnOk result (Apart (book self.old) (HasEachBody (book self.old) change.now
             → book self.new ≡ amended (book self.old) change.now)) }
-        // What the suites show then, whatever the bodies.
+        // What the suites show afterwards, whatever the bodies.
         ensures shown { is_clean self.new → OnOk result ((book self.new).shown ≡ shown_past (book self.old).shown change.now.steps) }
         ensures err { is_clean self.new → is_open self.new → OnErr result (book self.new ≡ book self.old) }
         ensures cause { IfErr result (MayAnswer may_fail) }
@@ -204,7 +204,7 @@ pub trait Keeper {
         ensures served { is_clean self.new → OnOk result (is_open self.new) }
         ensures ok { is_clean self.new → OnOk result (book self.new ≡ reconfigured next.config next.shelves next.dates.items (book self.old)) }
         ensures err { is_clean self.new → is_open self.new → OnErr result (book self.new ≡ book self.old) }
-        // The configuration, also where the keeper is not clean, or is shut.
+        // The configuration, also if the keeper is not clean, or is shut.
         ensures given { OnOk result ((book self.new).config ≡ next.config) }
         ensures stays { OnErr result ((book self.new).config ≡ (book self.old).config) }
         ensures cause { IfErr result (MayAnswer may_fail) }
@@ -245,7 +245,7 @@ pub trait Keeper {
     }
 
     /// The uploads without a verdict, in the order of `complete_uploads`, each with the number of its entries that have
-    /// not arrived. Of the arrivals, those are looked at that count at the moment.
+    /// not arrived. Only arrivals that count at the moment are looked at.
     fn waiting(&mut self, alloc: Global, moment: u64) -> Result<Vec<Waiting>, KeepFault>
         requires { moment ≤ latest }
         ensures reads { Reads is_clean is_open faults book may_leave self.old self.new }
@@ -254,7 +254,8 @@ pub trait Keeper {
             (waiting.items ≡ waiting_list (at_moment moment (book self.old)))) }
         ensures cause { IfErr result (MayAnswer may_fail) };
 
-    /// What has arrived and was not taken away, without its bytes, in the order of first deliveries. Also what counts no more.
+    /// What has arrived and was not taken away, without its bytes, in the order of first deliveries. This includes what no
+    /// longer counts.
     fn arrivals(&mut self, alloc: Global) -> Result<Vec<ArrivedFile>, KeepFault>
         ensures reads { Reads is_clean is_open faults book may_leave self.old self.new }
         ensures served { is_clean self.new → OnOk result (is_open self.new) }

@@ -34,7 +34,7 @@ pub struct PlainKeeper {
     files: Vec<PoolBody>,
     /// For each suite the moment at which what it shows last changed.
     dates: Vec<u64>,
-    /// The bytes so far of the body that is coming, where one was begun.
+    /// The bytes so far of the body that is coming, if one was begun.
     coming: Option<Vec<u8>>,
     ghost in_range: { ∥ All (λ date. date ≤ latest) dates.items ∥₁ },
 }

@@ -17,7 +17,7 @@ use sums::Print;
 #[derive(Drop)]
 pub struct PoolBody {
     pub path: Text,
-    /// Nothing where no body of the file's print has arrived.
+    /// Nothing if no body of the file's print has arrived.
     pub body: Option<Body>,
 }
 
@@ -62,7 +62,7 @@ fn arrival_with(arrivals: &[Arrival], print: Print) -> Option<&Arrival>
     None
 }
 
-/// The body of a file of the pool: the one that stands at the path already, where its print fits, or else one that
+/// The body of a file of the pool: the one that stands at the path already, if its print fits, or else one that
 /// arrived.
 #[tactic(auto, unfolding(crate::specs::Scan::stored_among, crate::specs::Scan::body_at))]
 fn stored_body(
@@ -87,7 +87,7 @@ fn stored_body(
     }
 }
 
-/// Adds a file with its body, where no other stands at its path.
+/// Adds a file with its body, if no other stands at its path.
 fn add_file(
     alloc: Global,
     bodies: &mut Vec<PoolBody>,

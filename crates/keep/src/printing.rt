@@ -7,7 +7,7 @@ ghost use Rattle.sums.specs.Prints.{print};
 
 use sums::{Print, print_of};
 
-/// The print of a text, where there is one.
+/// The print of a text, if there is one.
 pub fn print_of_text(text: &Option<Vec<u8>>) -> Option<Print>
     ensures { result ≡ option_map print (option_map (λ v. v.items) text.now) }
 {

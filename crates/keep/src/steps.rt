@@ -21,7 +21,7 @@ fn copied_judgement(one: &Judgement) -> Result<Judgement, AllocError>
     })
 }
 
-/// The judgements again.
+/// A copy of the judgements.
 pub fn copied_judgements(alloc: Global, judged: &[Judgement]) -> Result<Vec<Judgement>, AllocError>
     ensures { IfOk result (λ copies. copies.items ≡ judged.now) }
 {
@@ -45,7 +45,7 @@ fn judgements_of(alloc: Global, steps: &[Step]) -> Result<Vec<Judgement>, AllocE
     Ok(more)
 }
 
-/// The judgements of a change, and room for them behind those so far, which stay.
+/// The judgements of a change, and room for them after those so far, which stay.
 pub fn room_for_judgements(
     alloc: Global,
     judged: &mut Vec<Judgement>,

@@ -84,7 +84,7 @@ fn is_judged(judged: &[Judgement], changes: &Arrival) -> bool
     false
 }
 
-/// The record that a text is, or nothing where it is none.
+/// The record that a text is, or nothing if the text is not one.
 fn changes_in(alloc: Global, text: &[u8]) -> Result<Option<Changes>, AllocError>
     ensures { IfOk result (λ changes. changes ≡ result_ok (record_in text.now)) }
 {
@@ -102,7 +102,7 @@ fn is_changes(arrival: &Arrival) -> bool
     is_changes_name(arrival.name.as_str())
 }
 
-/// The .changes that an arrival is, or nothing where it is none.
+/// The .changes that an arrival is, or nothing if the arrival is not one.
 #[tactic(auto, unfolding(crate::specs::Book::candidate_of))]
 fn read_candidate(alloc: Global, arrival: &Arrival) -> Result<Option<Candidate<'_>>, AllocError>
     ensures { IfOk result (λ found. option_map candidate_view found ≡ candidate_of arrival.now) }
@@ -129,7 +129,7 @@ pub fn judging_order(name: &str, print: &Print, other_name: &str, other_print: &
         .then(print.size.cmp(&other_print.size))
 }
 
-/// The same of two .changes that arrived.
+/// The order of judging of two .changes that arrived.
 fn candidate_order(a: &Candidate<'_>, b: &Candidate<'_>) -> Ordering
     ensures { result ≡ candidate_order (candidate_view a.now) (candidate_view b.now) }
 {
@@ -142,7 +142,7 @@ fn candidate_order(a: &Candidate<'_>, b: &Candidate<'_>) -> Ordering
     )
 }
 
-/// Where another .changes stands among these, which are in order: before those that tie with it.
+/// The place of another .changes among these, which are in order: before those that tie with it.
 fn place(found: &[Candidate<'_>], other: &Candidate<'_>) -> usize
     ensures within { result ≤ length found.now }
     ensures placed { put_in_order (candidate_view other.now) (map candidate_view found.now)
@@ -156,8 +156,8 @@ fn place(found: &[Candidate<'_>], other: &Candidate<'_>) -> usize
     found.len()
 }
 
-/// Adds the .changes that an arrival is, where it counts and is one without a verdict, in its place among those of the
-/// arrivals behind it.
+/// Adds the .changes that an arrival is, if it counts and has no verdict. It gets its place among those of the arrivals
+/// after it.
 fn add_unjudged<'a>(
     alloc: Global,
     found: &mut Vec<Candidate<'a>>,
@@ -255,7 +255,7 @@ fn upload_of(
     Ok(Upload::new(name, print, candidate.changes, texts))
 }
 
-/// The uploads without a verdict of whose entries all have arrived, in the order of judging, among the arrivals that count.
+/// The uploads without a verdict whose entries have all arrived, in the order of judging, among the arrivals that count.
 pub fn complete_uploads(
     alloc: Global,
     arrivals: &[Arrival],

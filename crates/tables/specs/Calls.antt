@@ -14,7 +14,7 @@ module _ {S : Type 0} (store : Ghosts S) (old new : Held S) where
   abbrev pub OnCleanDisk : (State → State → Type 0) → Type 0
   OnCleanDisk P = HasCleanDisk (state store new) → P (state store old) (state store new)
 
-  -- and over these rows, whatever they are
+  -- P holds over the rows, whatever they are, on a disk that returns what was written to it
   abbrev pub OverRows : (Tables → State → State → Type 0) → Type 0
   OverRows P = HasCleanDisk (state store new) → (t : Tables) → Holds (state store old).now t → P t (state store old) (state store new)
 
@@ -30,17 +30,17 @@ module _ {S : Type 0} (store : Ghosts S) (old new : Held S) where
   abbrev pub NeverCommits : Type 0
   NeverCommits = Survives (state store old) (state store new) (λ _. ⊥)
 
-  -- the same, where the tables are those of an archive
+  -- a crash meanwhile leaves what it could leave before, if the tables are those of an archive
   abbrev pub CommitsNoRows : Type 0
   CommitsNoRows = Survives (state store old) (state store new) (λ _. (t : Tables) → ¬ Holds (state store old).now t)
 
-  -- the same, where the tables' schema is that of an archive
+  -- a crash meanwhile leaves what it could leave before, if the tables' schema is that of an archive
   abbrev pub CommitsNothingOfOurs : Type 0
   CommitsNothingOfOurs = Survives (state store old) (state store new) (λ _. IsForeign (state store old).now)
 
 -- ---- inside a transaction
 
--- it is of one and the same connection
+-- the two transactions are of the same connection
 abbrev pub IsSame : {S : Type 0} → Transaction S → Transaction S → Type 0
 IsSame old new = new.conn.ghost_name ≡ old.conn.ghost_name
 
@@ -53,7 +53,7 @@ module _ {S : Type 0} (store : Ghosts S) (old new : Transaction S) where
   abbrev pub Writes : {T E : Type 0} → Result T E → (Tables → Tables) → Type 0
   Writes result change = HasCleanDisk (state store new.conn.now) → IsTrue (state store old.conn.now).in_transaction → OnOk result (Changes (state store old.conn.now) (state store new.conn.now) change)
 
-  -- and answers this of the rows before
+  -- a success changes the rows so, and nothing else, and answers this of the rows before
   abbrev pub WritesAnd : {T E : Type 0} → Result T E → (Tables → Tables) → (T → Tables → Type 0) → Type 0
   WritesAnd result change Answers = HasCleanDisk (state store new.conn.now) → IsTrue (state store old.conn.now).in_transaction
       → IfOk result (λ x. Changes (state store old.conn.now) (state store new.conn.now) change × ((t : Tables) → Holds (state store old.conn.now).now t → Answers x t))

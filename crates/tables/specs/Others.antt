@@ -1,4 +1,4 @@
--- A database that holds the tables of an archive first, and others behind them.
+-- A database that holds the tables of an archive first, and others after them.
 use Rattle.std.specs.Prelude.{◌≡◌, nat_lt, nat_eq, bytes_eq, ℕ, Bool, true, false, not, ◌&&◌, ◌||◌, List, [], ◌∷◌, ◌++◌, codes, drop, get_or, length}
 use Rattle.std.specs.List.{list_any, list_all}
 use Rattle.sqlite_value.specs.Keys.{plain}
@@ -12,15 +12,15 @@ use Rattle.tables.specs.Schema.{archive_schema}
 
 -- ---- the two indexes of bodies, which are no part of the layout
 
--- finds the arrivals of a body
+-- the index that finds the arrivals of a body
 abbrev pub arrivals_by_body : Index
 arrivals_by_body = record { name = codes "arrivals_by_body"; tree = 0; table = 5; columns = 3 ∷ []; order = plain; is_unique = false }
 
--- finds the files of a body
+-- the index that finds the files of a body
 abbrev pub files_by_body : Index
 files_by_body = record { name = codes "files_by_body"; tree = 0; table = 17; columns = 2 ∷ []; order = plain; is_unique = false }
 
--- these columns are this one alone
+-- the columns are this one column
 abbrev pub is_by : List ℕ → ℕ → Bool
 is_by columns column = nat_eq (length columns) 1 && nat_eq (get_or columns 0 0) column
 
@@ -32,7 +32,7 @@ is_like i known = bytes_eq i.name known.name && (nat_eq i.table known.table && (
 unfoldable pub is_known : Index → Bool
 is_known i = is_like i arrivals_by_body || is_like i files_by_body
 
--- ---- what stands behind the tables of an archive
+-- ---- what follows the tables of an archive
 
 pub record Others : Type 0 where
   pub tables : List Table
@@ -54,15 +54,15 @@ last_tree = 22
 abbrev pub is_elsewhere : Reference → Bool
 is_elsewhere ref = not (is_ours ref.parent)
 
--- a table behind those of an archive, none of whose references is to one of these
+-- a table that comes after those of an archive and refers to none of them
 unfoldable pub is_apart : Table → Bool
 is_apart t = nat_lt last_tree t.tree && list_all is_elsewhere t.references
 
--- an index of such a table, or one of the two of bodies
+-- an index of such a table, or one of the two indexes of bodies
 unfoldable pub is_apart_from : Index → Bool
 is_apart_from i = nat_lt last_tree i.table || is_known i
 
--- Other tables refer to none of an archive, and other indexes stand on none, the two of bodies aside.
+-- Other tables refer to none of an archive's tables, and other indexes, except the two of bodies, are on none of them.
 pub record AreApart (o : Others) : Type 0 where
   pub tables : list_all is_apart o.tables ≡ true
   pub indexes : list_all is_apart_from o.indexes ≡ true
@@ -71,7 +71,7 @@ pub record AreApart (o : Others) : Type 0 where
 abbrev pub with_indexes : Schema
 with_indexes = with_others (record { tables = []; indexes = record arrivals_by_body { tree = 23 } ∷ record files_by_body { tree = 24 } ∷ []; views = [] })
 
--- what a schema has behind so many tables and indexes
+-- what a schema has after as many tables and indexes as an archive has
 abbrev pub others_in : Schema → Others
 others_in s = record { tables = drop (length archive_schema.tables) s.tables; indexes = drop (length archive_schema.indexes) s.indexes; views = s.views }
 

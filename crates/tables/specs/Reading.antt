@@ -5,7 +5,7 @@ use Rattle.sqlite.specs.Listing.{understood}
 use Rattle.sqlite.specs.Given.{IsPlain}
 use Rattle.sqlite.specs.State.{State, Shown, IsUnchanged}
 
--- the text is a statement that gives no rows of a write and does not read the time
+-- the text is a statement that does not read the time, and that gives no rows if it is a write
 abbrev pub IsPlainIn : State → List ℕ → Type 0
 IsPlainIn s sql = IsPlain (understood s.now.schema sql)
 

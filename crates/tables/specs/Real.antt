@@ -1,4 +1,4 @@
--- Rows that code can hold: each text is one, and each digest has its length.
+-- Rows that code can hold: each text is UTF-8, and each digest has its length.
 use Rattle.std.specs.Prelude.{◌≡◌, length, All, IfSome, IsUtf8}
 use Rattle.sums.specs.declared.print.Print.{Print}
 use Rattle.tables.specs.Rows.{Tables, rows_of}

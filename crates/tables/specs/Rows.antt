@@ -98,7 +98,7 @@ Rises = IsAscending (λ a b. a.0 < b.0)
 abbrev pub first_number : ℕ
 first_number = 9223372036854775809
 
--- the number that the next row gets: one above the last, or the first
+-- the number that the next row gets: the last number and one, or the first number if there is no row
 abbrev pub next_from : {X : Type 0} → ℕ → Numbered X → ℕ
 next_from = fold (λ _ r. r.0 + 1)
 
@@ -148,8 +148,8 @@ full_upload r =
 -- the trees hold exactly these rows; the trees between are those of indexes
 pub record HoldsRows (trees : Trees) (t : Tables) : Type 0 where
   pub meta : HasRows meta_cells t.meta (trees 0)
-  -- The last columns of a body and of an upload may be NULL, so a row may end before them: no statement tells such a row from
-  -- one that holds NULL there. The other tables' last columns are never NULL in an archive.
+  -- The last columns of a body and of an upload may be NULL, so a row may end before them: no statement can distinguish such
+  -- a row from one that holds NULL there. The other tables' last columns are never NULL in an archive.
   pub bodies : HasRows body_cells t.bodies (map full_body (trees 1))
   pub pieces : HasRows piece_cells t.pieces (trees 3)
   pub arrivals : HasRows arrival_cells t.arrivals (trees 5)
@@ -241,7 +241,7 @@ text_of row = record { path = bytes (column row 1); body = bytes (column row 2) 
 abbrev pub date_of : Row → Date
 date_of row = record { suite = bytes (column row 1); moment = nat_of (column row 2) }
 
--- what the trees of an archive hold, and nothing of use where they are none
+-- what the trees of an archive hold; if they are not those of an archive, nothing of use
 abbrev pub tables_of : Trees → Tables
 tables_of trees = record {
   meta = map (row_of meta_of) (trees 0);
@@ -283,7 +283,7 @@ module _ (old new : State) where
   abbrev pub Fails : Type 0
   Fails = Stands ⊎ IsRolledBack old new
 
--- ---- a row more in each table
+-- ---- one more row in each table
 
 abbrev pub with_meta : Meta → Tables → Tables
 with_meta x t = record t { meta = added t.meta x }

@@ -26,16 +26,16 @@ with_away name print t = record t { wants = changed (λ x. is_want name print x.
 abbrev pub without_wants : ℕ → Tables → Tables
 without_wants upload t = record t { wants = without (λ x. is_wanted_by upload x.1) t.wants }
 
--- the number stands behind this one, or is any where there is none
+-- the number is greater than this one, or there is no such one
 abbrev pub is_behind : Option ℕ → ℕ → Bool
 is_behind None id = true
 is_behind (Some after) id = nat_lt after id
 
--- the upload has entries, and its number stands behind this one
+-- the upload has entries, and its number is greater than this one
 abbrev pub wants_behind : Option ℕ → List Want → ℕ → Bool
 wants_behind after wants upload = is_behind after upload && list_any (is_wanted_by upload) wants
 
--- The first upload behind a number that has entries: it is one, and none stands before it.
+-- The first upload after a number that has entries: it has some, and no upload before it has.
 pub record IsNextWanting (after : Option ℕ) (wants : List Want) (found : Option ℕ) : Type 0 where
   pub one : IfSome found (λ id. IsTrue (wants_behind after wants id))
   pub first : (id : ℕ) → IsTrue (wants_behind after wants id) → MatchOption found ⊥ (λ n. n ≤ id)

@@ -40,7 +40,7 @@ pub(crate) fn flag_at(row: &Row, at: usize) -> Result<bool, Error>
     Ok(whole_at(row, at)? != 0)
 }
 
-/// These bytes as an array, if they are as many.
+/// These bytes as an array of N, if they are N bytes.
 fn array<const N: usize>(bytes: &[u8]) -> Option<[u8; N]>
     ensures { IfSome result (λ all. all ≡ bytes.now) }
 {

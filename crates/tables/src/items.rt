@@ -40,7 +40,7 @@ impl FromRow for ItemRow {
     }
 }
 
-/// Adds an item, and answers its number. It is refused where the suite already shows one under its kind, package and
+/// Adds an item, and answers its number. It is refused if the suite already shows one under its kind, package and
 /// architecture.
 pub fn insert_item<S: Alter>(tx: &mut Transaction<'_, S>, item: &ItemRow) -> Result<u64, Error>
     ensures same_reference { IsSame tx.old tx.new }

@@ -11,7 +11,7 @@ pub fn held_tables()
     ensures { (db : Database) (t : Tables) → Holds db t → tables_in db ≡ t }
 {}
 
-/// The number of the layout is 3. An archive that has another number in `meta` is none of this layout.
+/// The number of the layout is 3. An archive that has another number in `meta` is not of this layout.
 pub fn the_layout_is_the_third()
     ensures { VERSION ≡ 3 }
 {}

@@ -2,12 +2,12 @@
 //!
 //! A row is described here by SQL alone. What it means for an archive is said above, in tables_meaning.
 //!
-//! Rows come in the order of their rowids, and every SELECT of several rows says so. Of a table with a text for its key no statement shows
-//! that order.
+//! Rows come in the order of their rowids, and every SELECT of several rows says so. No statement shows the order of the rows of a table
+//! that has a text as its key.
 //!
-//! No row goes with another by itself: what refers to a row is deleted first. So each statement changes the one table that it names, and
-//! that is the whole of its contract. A statement that was forgotten is refused by the reference. `ON DELETE CASCADE` would do more than
-//! the statement says, and only if foreign keys are switched on.
+//! No row goes with another by itself: what refers to a row is deleted first. So each statement changes only the table that it names,
+//! and its contract is about that table alone. If a statement was forgotten, the reference refuses. `ON DELETE CASCADE` would do more
+//! than the statement says, and only if foreign keys are switched on.
 //!
 //! A statement means the same whatever tables and views come after the archive's, since a name is found among the archive's tables first.
 //!
@@ -15,8 +15,9 @@
 //! handed in. A column of bytes of another length than a digest's is refused as one of another type.
 //!
 //! A run, a copy, a promotion and a removal read all rows of `items` if what the suites show is not at hand, and for each the rows of its
-//! files by their key: that is all that is shown, so no index could spare a row. `dates` has a row a suite, `meta` one row. No other
-//! statement of a delivery, a run, a look-up, a copy, a promotion or a removal reads a table to its end, but those of a sweep.
+//! files by their key: that is all that is shown, so no index could spare a row. `dates` has one row for each suite, `meta` has one row.
+//! Apart from the statements of a sweep, no other statement of a delivery, a run, a look-up, a copy, a promotion or a removal reads a
+//! table to its end.
 #![tactic(auto)]
 
 pub mod arrivals;

@@ -1,7 +1,8 @@
 //! The one row of `meta`: the layout of the tables, and the text of the configuration.
 //!
-//! The number of the layout is 3: bodies in pieces and each stored once, arrivals with moments, uploads with a number of their own. It
-//! names the columns and keys of the tables and what their rows mean, and is in the code once (`VERSION`): a law says it once more.
+//! The number of the layout is 3: bodies in pieces and each stored once, arrivals with moments, uploads with a number of their own.
+//! The number stands for the columns and keys of the tables and for what their rows mean. The code has it once (`VERSION`), and a law
+//! says it again.
 
 ghost use Rattle.std.specs.Prelude.{◌≡◌, false};
 ghost use Rattle.tables.specs.Rows.{with_meta};
@@ -11,8 +12,8 @@ ghost use Rattle.tables.specs.Calls.{CommitsNothing, FailsInside, IsSame, Writes
 use crate::number::whole;
 use sqlite::{Alter, Connection, Error, Transaction, params};
 
-/// The layout that these tables have: the number that `meta` keeps. It names the columns and keys of the eleven tables and what their rows
-/// mean; who changes any of these raises it. An index that is no key is no part of it.
+/// The layout that these tables have: the number that `meta` keeps. It stands for the columns and keys of the eleven tables and for what
+/// their rows mean; who changes any of these raises it. An index that is not a key is not part of it.
 pub const VERSION: u64 = 3;
 
 const INSERT_META: &str = "INSERT INTO meta (version, configuration) VALUES (?1, ?2)";
@@ -37,8 +38,8 @@ pub fn insert_meta<S: Alter>(
 
 const SELECT_VERSION: &str = "SELECT version FROM meta";
 
-/// The layout that the database says it has: the number in the one row of `meta`. There is none where no such row can be read. It
-/// serves a message alone, and no clause says which it is.
+/// The layout that the database says it has: the number in the one row of `meta`, or nothing if no such row can be read. It
+/// serves a message alone, and no clause says which number it is.
 pub fn layout_of<S: Alter>(conn: &mut Connection<S>) -> Option<u64>
     ensures idle { conn.old.in_transaction ≡ false → conn.new.in_transaction ≡ false }
 {

@@ -25,7 +25,7 @@ impl Model for Number {
     ghost invariant = { λ w. w.n ≡ pos (unsigned_abs w.n) };
 }
 
-/// The number, refused as too big where a table cannot hold it.
+/// The number, refused as too big if a table cannot hold it.
 pub(crate) fn whole(n: u64) -> Result<Number, Error>
     ensures { IfOk result (λ w. w ≡ n) }
 {
@@ -57,7 +57,7 @@ impl Model for Id {
     ghost invariant = { λ w. w.n ≡ id_int (id_nat w.n) };
 }
 
-/// The number as that of a row. Each is one.
+/// The number as that of a row. Each number is the number of a row.
 pub(crate) fn as_id(n: u64) -> Id
     ensures { result ≡ n }
 {

@@ -1,7 +1,7 @@
-//! Whether a database serves still.
+//! Whether a database still serves.
 //!
-//! Each read of the keeper first asks the database for nothing of its own (`SELECT 1`). That is answered by each database that serves,
-//! whatever it holds: the other reads say something of an archive's tables alone.
+//! Each read of the keeper first asks the database for nothing of its own (`SELECT 1`). Each database that serves answers this,
+//! whatever it holds. The contracts of the other reads speak only of the tables of an archive.
 
 ghost use Rattle.std.specs.Prelude.{◌≡◌, false, OnOk, OnErr};
 ghost use Rattle.sqlite.specs.State.{IsUnchanged};
@@ -14,7 +14,7 @@ use std::alloc::Global;
 
 const SELECT_ONE: &str = "SELECT 1";
 
-/// Asks the database for nothing of its own, whatever it holds: one that a fault has shut refuses.
+/// Asks the database for nothing of its own, whatever it holds. A database that a fault has shut refuses.
 pub fn probe<S: Alter>(alloc: Global, conn: &mut Connection<S>) -> Result<(), Error>
     ensures idle { conn.old.in_transaction ≡ false → conn.new.in_transaction ≡ false }
     ensures ok { OnCleanDisk S.Store conn.old conn.new (λ old new. OnOk result (IsUnchanged old new)) }

@@ -16,7 +16,8 @@ use sqlite::types::ValueRef;
 use sqlite::{Alter, Connection, Error, Row, Transaction};
 use std::alloc::Global;
 
-/// A typed row that a row of an answer spells. The rowid is in the first column, and what `of_row` reads is behind it.
+/// A typed row that a row of an answer spells. The rowid is in the first column, and what `of_row` reads is in the
+/// columns after it.
 pub(crate) trait FromRow: Sized + Drop {
     ghost of_row: { List SqlValue → Self };
 

@@ -1,7 +1,7 @@
 //! The rows of the tables, as code above sees them.
 //!
-//! A row of `bodies` or `uploads` may be stored without its last columns that are NULL, as ALTER TABLE leaves them. No statement tells such
-//! a row from a whole one, so what tables hold is said of rows as they are read.
+//! A row of `bodies` or `uploads` may be stored without its last columns that are NULL, as ALTER TABLE leaves them. No statement can
+//! distinguish such a row from a whole one, so the contracts speak of rows as they are read.
 
 use para::{Listed, Text};
 use sums::Print;

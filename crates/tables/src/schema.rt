@@ -1,15 +1,15 @@
 //! The tables, and how they and the two indexes of bodies are made.
 //!
-//! `bodies` has the print for a second key, `arrivals` name and body. By the first a body is found that is there, and by both no body is
-//! stored twice and no pair arrives twice. An arrival names its print by its body alone.
+//! `bodies` has the print for a second key, `arrivals` name and body. A body that is there is found by the first. By both, no body is
+//! stored twice and no pair arrives twice. An arrival has the print of its body through the body alone.
 //!
 //! When the print of a body is written, or a body goes, SQL looks for rows that refer to it. By the indexes `arrivals_by_body` and
-//! `files_by_body` it finds them, and looks through no other row. They are no part of the layout. They are the archive's by name, table and
-//! column, and may be missing: an archive that was made without them opens, and so does one that lost them, and is slower there. One of
-//! these names with another column, or a unique one, is somebody else's index on the archive's table.
+//! `files_by_body` it finds them, and looks through no other row. These indexes are not part of the layout. An index is one of them if it
+//! has that name, table and column. They may be missing: an archive that was made without them, or lost them, opens and is slower. An index
+//! of one of these names with another column, or a unique one, is somebody else's index on the archive's table.
 //!
-//! What is put on a table of the archive does not leave it alone: a unique index may refuse a row, a reference that a row goes, a trigger
-//! may do anything, and an index that takes any rows costs each write.
+//! Other things on a table of the archive do not leave it alone: a unique index may refuse a row, a reference may refuse that a row goes,
+//! a trigger may do anything, and an index that takes any rows costs time at each write.
 //!
 //! A view is passed over, also one of the archive's tables: a table is looked for before a view, and a view changes nothing.
 
@@ -94,7 +94,7 @@ pub fn create_tables<S: Alter>(tx: &mut Transaction<'_, S>) -> Result<(), Error>
 }
 
 /// Makes the two indexes by which the arrivals and the files of a body are found, in a database that has the tables of an archive and
-/// nothing else. They are no part of the layout: an archive without them is one, and only slower.
+/// nothing else. They are not part of the layout: an archive without them is only slower.
 pub fn create_indexes<S: Alter>(tx: &mut Transaction<'_, S>) -> Result<(), Error>
     ensures same_reference { IsSame tx.old tx.new }
     ensures ok { Inside S.Store tx.old tx.new (λ old new. OnOk result (CreatesIndexes old new)) }

@@ -1,7 +1,7 @@
 //! The entries of the uploads, and whether their bodies have arrived.
 //!
 //! `wants` has a second key, of name, print and upload. Its primary key implies it already: it is there as the index by which an arrival
-//! finds who waits for it. A row is looked up by a print's four columns together.
+//! finds which uploads wait for it. A row is looked up by a print's four columns together.
 //!
 //! SQLite finds rows whose place is NULL, or is not, by reading `uploads` to its end. So the uploads without a verdict are found through
 //! `wants`, by its key, one after the other: each of them has entries here, since a .changes lists a file at least, and no judged one has.
@@ -129,7 +129,7 @@ pub fn wants_of<S: Alter>(
     select(alloc, conn, SELECT_WANTS_OF, params![upload])
 }
 
-/// The number of the first upload behind this one that has entries, or of the first at all.
+/// The number of the first upload after this one that has entries, or of the first of all.
 pub fn next_wanting<S: Alter>(
     alloc: Global,
     conn: &mut Connection<S>,

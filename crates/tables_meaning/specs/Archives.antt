@@ -14,8 +14,8 @@ use Rattle.tables.specs.Rows.{Holds, IsArchive, tables_in}
 use Rattle.tables_meaning.specs.Finished.{AreUnderWay, finished}
 use Rattle.tables_meaning.specs.Kept.{IsBook, book_in}
 
--- The database is that of an archive of this configuration, with these judged uploads, this shown, and these dates. A body that
--- is not whole is no part of it, but its pieces are as those of a whole one.
+-- The database is that of an archive of this configuration, with these judged uploads, these items shown, and these dates. A
+-- body that is not whole is not part of it, but its pieces are numbered and cut as those of a whole one.
 pub record KeepsArchive (db : Database) (config : ConfigValue) (judged : List Judgement) (shown : ShelvesValue) (dates : List ℕ) : Type 0 where
   pub held : Holds db (tables_in db)
   pub kept : IsBook (finished (tables_in db)) config judged shown dates
@@ -29,12 +29,13 @@ book_in_database db config judged shown dates = book_in config judged shown date
 abbrev pub KeepsBook : Database → ConfigValue → Book → Type 0
 KeepsBook db config b = ∥ ((judged : List Judgement) × (shown : ShelvesValue) × (dates : List ℕ) × KeepsArchive db config judged shown dates × (b ≡ book_in_database db config judged shown dates)) ∥₁
 
--- The database keeps this book, once the bodies that are not whole are away. Their pieces are as those of whole ones.
+-- The database keeps this book, once the bodies that are not whole are removed. Their pieces are numbered and cut as
+-- those of whole ones.
 abbrev pub KeepsFinished : Database → ConfigValue → Book → Type 0
 KeepsFinished db config b = ∥ ((judged : List Judgement) × (shown : ShelvesValue) × (dates : List ℕ) × IsArchive db
     × IsBook (finished (tables_in db)) config judged shown dates × AreUnderWay (tables_in db) × (b ≡ book_in config judged shown dates (finished (tables_in db)))) ∥₁
 
--- What trees keep that a crash leaves: an archive with this book, or none, of whatever configuration.
+-- What the trees keep that a crash leaves: an archive with this book, or no archive, of whatever configuration.
 abbrev pub KeepsLeft : Trees → Option Book → Type 0
 KeepsLeft trees (Some b) = (db : Database) × (db.trees ≡ trees) × KeepsBook db b.config b
 KeepsLeft trees None = (db : Database) → db.trees ≡ trees → (b : Book) → KeepsBook db b.config b → ⊥
@@ -46,15 +47,15 @@ pub record Turns (before after : Database) (config : ConfigValue) (judged : List
   pub kept : KeepsArchive after config judged_after shown_after dates_after
   pub book : book_in_database after config judged_after shown_after dates_after ≡ step (book_in_database before config judged shown dates)
 
--- What a change makes of what one database keeps: another keeps the changed archive, and its book is the amended one where the
--- book had each body.
+-- What a change makes of what one database keeps: another keeps the changed archive. Its book is the amended one if the book
+-- had each body.
 pub record Amends (before after : Database) (config : ConfigValue) (judged : List Judgement) (shown : ShelvesValue) (dates : List ℕ) (change : Change) : Type 0 where
   pub kept : KeepsArchive after config (judged ++ judgements change.steps) (shown_past shown change.steps) (dates_past change.moment dates change.steps)
   pub book : HasEachBody (book_in_database before config judged shown dates) change
       → book_in_database after config (judged ++ judgements change.steps) (shown_past shown change.steps) (dates_past change.moment dates change.steps)
       ≡ amended (book_in_database before config judged shown dates) change
 
--- What a read of a keeper leaves of its connection, where its database is that of an archive.
+-- What a read of a keeper leaves of its connection, if its database is that of an archive.
 pub record IsRead (old new : State) : Type 0 where
   pub clean : HasCleanDisk new → HasCleanDisk old
   pub counts : old.faults ≤ new.faults

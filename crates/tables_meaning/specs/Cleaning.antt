@@ -1,4 +1,4 @@
--- What counts at a moment, told by the rows, and what a cleaning makes of them.
+-- What counts at a moment, as the rows say it, and what a cleaning makes of them.
 use Rattle.std.specs.Prelude.{ℕ, ◌+◌, nat_eq, nat_lt, Bool, true, false, ◌&&◌, not, if◌then◌else◌, List, filter, fold, find, Option, Some, None}
 use Rattle.std.specs.List.{list_any}
 use Rattle.std.specs.Option.{option_map_or}
@@ -44,14 +44,14 @@ with_gone x t = option_map_or (λ print. without_request x.1.name print (with_aw
 abbrev pub ended_rows : Option ℕ → ℕ → Tables → Numbered ArrivalRow
 ended_rows span moment t = filter (λ x. not (counts_row span moment x.1)) t.arrivals
 
--- those go one after another, and then the bodies that nothing uses
+-- the arrivals that do not count go one after another, and then the bodies that nothing uses
 unfoldable pub with_cleaned : Option ℕ → ℕ → Tables → Tables
 with_cleaned span moment t = swept (fold (λ now x. with_gone x now) t (ended_rows span moment t))
 
--- ---- the same at once
+-- ---- a cleaning, all at once
 
--- The rows without the arrivals that do not count, and without the uploads without a verdict whose .changes does not and what
--- these want. A want is here where its arrival counts.
+-- The rows without the arrivals that do not count, without the uploads without a verdict whose .changes does not count, and
+-- without what these want. A want is here if its arrival counts.
 unfoldable pub with_current : Option ℕ → ℕ → Tables → Tables
 with_current span moment t = record t {
   arrivals = without (λ x. not (counts_row span moment x.1)) t.arrivals;
@@ -60,6 +60,6 @@ with_current span moment t = record t {
       (without (λ w. list_any (λ x. nat_eq x.0 w.1.upload && has_ended span moment t x.1) t.uploads) t.wants);
 }
 
--- The rows after a cleaning: these, without the bodies that nothing uses.
+-- The rows after a cleaning: those of `with_current`, without the bodies that nothing uses.
 unfoldable pub cleaned : Option ℕ → ℕ → Tables → Tables
 cleaned span moment t = swept (with_current span moment t)

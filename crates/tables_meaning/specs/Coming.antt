@@ -1,4 +1,4 @@
--- A body that is coming: its rows behind those of the whole ones, and what becomes of them.
+-- A body that is coming: its rows after those of the whole ones, and what becomes of them.
 use Rattle.std.specs.Prelude.{◌≡◌, ◌<◌, ◌+◌, ℕ, if◌then◌else◌, List, [], ◌∷◌, find, Option, Some, None, is_some, option_map, unwrap_or}
 use Rattle.std.specs.Option.{option_map_or}
 use Rattle.sums.specs.declared.entries.Entry.{Entry}
@@ -19,12 +19,12 @@ use Rattle.tables_meaning.specs.Taking.{listed_in}
 abbrev pub with_begun : List ℕ → Tables → Tables
 with_begun bytes t = with_pieces (pieces_for (next_in t.bodies) bytes) (with_body (record { print = None }) t)
 
--- Behind the whole ones: no row while it has no byte.
+-- The rows of the body that is coming, after those of the whole ones. It has no row while it has no byte.
 unfoldable pub with_coming : List ℕ → Tables → Tables
 with_coming [] t = t
 with_coming (b ∷ bytes) t = with_begun (b ∷ bytes) t
 
--- its number: none while it has no byte
+-- the number of the body that is coming, or none while it has no byte
 unfoldable pub coming_number : List ℕ → Tables → Option ℕ
 coming_number [] t = None
 coming_number (b ∷ bytes) t = Some (next_in t.bodies)
@@ -33,19 +33,19 @@ coming_number (b ∷ bytes) t = Some (next_in t.bodies)
 pub record HasComing (t : Tables) (bytes : List ℕ) : Type 0 where
   pub rows : t ≡ with_coming bytes (finished t)
 
--- Such a body is coming, under this number and in so many pieces.
+-- A body of these bytes is coming, under this number and in this number of pieces.
 pub record Comes (t : Tables) (body : Option ℕ) (pieces : ℕ) (bytes : List ℕ) : Type 0 where
   pub coming : HasComing t bytes
   pub number : body ≡ coming_number bytes (finished t)
   pub count : pieces ≡ piece_count bytes
 
--- the bytes of the body of this number, none where there is no number
+-- the bytes of the body of this number, or no bytes if there is no number
 abbrev pub bytes_so_far : Tables → Option ℕ → List ℕ
 bytes_so_far t body = option_map_or (bytes_of t) body []
 
 -- ---- what becomes of it
 
--- its next piece, under this number; with the first one comes its row
+-- the next piece of the body that is coming, under this number; with the first piece comes the row of the body
 unfoldable pub with_next_piece : Option ℕ → ℕ → List ℕ → Tables → Tables
 with_next_piece (Some id) number bytes t = with_piece (record { body = id; number = number; bytes = bytes }) t
 with_next_piece None number bytes t = with_piece (record { body = next_in t.bodies; number = number; bytes = bytes }) (with_body (record { print = None }) t)
@@ -55,20 +55,20 @@ unfoldable pub with_new_print : Option ℕ → Print → Tables → Tables
 with_new_print (Some id) print t = with_print id print t
 with_new_print None print t = with_body (record { print = Some print }) t
 
--- the body of this number is whole: it gets its print, or it goes where one of that print is there
+-- the body of this number is whole: it gets its print, or it goes if a body of that print is there already
 unfoldable pub with_whole : ℕ → Print → Tables → Tables
 with_whole id print t = if is_some (body_with print t.bodies) then without_whole id t else with_print id print t
 
--- the same of one that may have no row: without any it has no byte
+-- a body that came is whole, as in `with_whole`; one that has no row is stored as a body of no bytes
 unfoldable pub with_ended : Option ℕ → Print → Tables → Tables
 with_ended (Some id) print t = with_whole id print t
 with_ended None print t = with_bytes print [] t
 
--- the number of the body of this print then
+-- the number that the body of this print has after `with_ended`
 unfoldable pub ended_number : Option ℕ → Print → Tables → ℕ
 ended_number body print t = unwrap_or (body_with print t.bodies) (unwrap_or body (next_in t.bodies))
 
--- the file has arrived, of which a body is stored, and what it lists is wanted
+-- the file has arrived, whose body is stored, and what it lists is wanted
 unfoldable pub with_received : List ℕ → ℕ → Print → ℕ → Option (List Entry) → Tables → Tables
 with_received name body print moment listed t =
     let marked = with_here name print (with_arrived name body moment t) in
@@ -85,7 +85,7 @@ with_finished name body print moment t =
 abbrev pub bytes_at : Tables → ℕ → ℕ → Option (List ℕ)
 bytes_at t body number = option_map (λ (p : Piece). p.bytes) (find (is_piece body number) (rows_of t.pieces))
 
--- the pieces of two bodies are the same, so many of them, and none comes behind these
+-- the two bodies have the same pieces at the places from 1 to this number, and at the place after them
 abbrev pub HasSamePieces : Tables → ℕ → ℕ → ℕ → Type 0
 HasSamePieces t body other count = (n : ℕ) → n < count + 1 → bytes_at t body (n + 1) ≡ bytes_at t other (n + 1)
 

@@ -16,12 +16,12 @@ use Rattle.tables_meaning.specs.Archives.{KeepsArchive, book_in_database}
 use Rattle.tables_meaning.specs.Founding.{with_dates, with_texts}
 use Rattle.tables_meaning.specs.Kept.{date_row}
 
--- the texts and the dates of an archive that shows this, behind those that are there
+-- the texts and the dates of an archive that shows this, after those that are there
 abbrev pub with_indices : ConfigValue → ShelvesValue → List ℕ → Tables → Tables
 with_indices config shown dates t = with_dates (map date_row (zip config.suites dates)) (with_texts (all_texts config shown dates) t)
 
--- Another configuration, and in the place of all texts and dates those under it; no other row is touched: what suites show goes by
--- their codenames.
+-- Another configuration, and in the place of all texts and dates those under it. No other row changes, since the items have the
+-- codenames of their suites.
 unfoldable pub with_configured : ConfigValue → ShelvesValue → List ℕ → Tables → Tables
 with_configured config shown dates t = with_indices config shown dates (without_dates (without_texts (with_configuration config.text t)))
 
@@ -31,7 +31,7 @@ pub record Reconfigures (before after : Database) (config other : ConfigValue) (
   pub kept : KeepsArchive after other judged shown_under dates_under
   pub book : book_in_database after other judged shown_under dates_under ≡ reconfigured other shown_under dates_under (book_in_database before config judged shown dates)
 
--- the rows of texts and of dates that there are then
+-- the rows of texts and of dates under a configuration
 abbrev pub new_texts : ConfigValue → ShelvesValue → List ℕ → Numbered TextRow
 new_texts config shown dates = fold (λ now (x : PathText). added now (record { path = x.0; body = x.1 })) [] (all_texts config shown dates)
 

@@ -12,11 +12,11 @@ use Rattle.tables_meaning.specs.Kept.{bytes_of, pieces_for, pieces_of}
 abbrev pub is_unfinished : ℕ × BodyRow → Bool
 is_unfinished x = not (is_some x.1.print)
 
--- the piece is one of such a body
+-- the piece is one of a body that has no print
 abbrev pub is_of_unfinished : Tables → Piece → Bool
 is_of_unfinished t p = list_any (λ x. is_of x.0 p && is_unfinished x) t.bodies
 
--- the tables without these
+-- the tables without the bodies that have no print, and without their pieces
 unfoldable pub finished : Tables → Tables
 finished t = record t { bodies = without is_unfinished t.bodies; pieces = without (λ p. is_of_unfinished t p.1) t.pieces }
 
@@ -24,11 +24,11 @@ finished t = record t { bodies = without is_unfinished t.bodies; pieces = withou
 abbrev pub without_whole : ℕ → Tables → Tables
 without_whole id t = without_body id (without_pieces id t)
 
--- those of these numbers are
+-- the bodies of these numbers and their pieces are gone
 abbrev pub without_all : List ℕ → Tables → Tables
 without_all ids t = fold (λ now id. without_whole id now) t ids
 
--- The pieces of each body that is not whole are as those of a whole one: numbered from 1, of as many bytes as a piece may have,
--- the last what is left.
+-- The pieces of each body that is not whole are as those of a whole one: numbered from 1, each of as many bytes as a piece may
+-- have, and the last of the bytes that are left.
 pub record AreUnderWay (t : Tables) : Type 0 where
   pub pieces : All (λ x. x.1.print ≡ None → pieces_of t x.0 ≡ pieces_for x.0 (bytes_of t x.0)) t.bodies

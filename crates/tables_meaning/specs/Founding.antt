@@ -21,11 +21,11 @@ use Rattle.tables.specs.declared.meta.TheConstants.{VERSION}
 abbrev pub with_path_text : PathText → Tables → Tables
 with_path_text x t = with_text (record { path = x.0; body = x.1 }) t
 
--- texts more, each with its path, in this order
+-- these texts are added, each with its path, in this order
 unfoldable pub with_texts : List PathText → Tables → Tables
 with_texts texts t = fold (λ now x. with_path_text x now) t texts
 
--- dates more, in this order
+-- these dates are added, in this order
 unfoldable pub with_dates : List Date → Tables → Tables
 with_dates dates t = fold (λ now d. with_date d now) t dates
 
@@ -56,11 +56,11 @@ from_root s e = (suite_path s e.0, e.1)
 abbrev pub placed_texts : ShelvesValue → ℕ → Suite → List Place → List PathText
 placed_texts shelves position s places = map (λ p. from_root s (place_entry shelves position p)) places
 
--- all of them, Release aside
+-- all indices of the suite at a position, except Release
 abbrev pub listed_at : ShelvesValue → ℕ → Suite → List PathText
 listed_at shelves position s = placed_texts shelves position s (places_in s.components s.architectures)
 
--- the texts of the suite at a position, none where there is no suite
+-- the texts of the suite at a position, or no texts if there is no suite
 abbrev pub suite_texts_at : ConfigValue → ShelvesValue → ℕ → ℕ → List PathText
 suite_texts_at config shelves position moment = option_map_or (λ s. suite_texts shelves position s moment) (slice_get config.suites position) []
 
@@ -68,7 +68,7 @@ suite_texts_at config shelves position moment = option_map_or (λ s. suite_texts
 
 module _ (old new : State) where
   -- The transaction goes on: whatever rows the tables held, they hold the changed ones now, and what was committed stays.
-  -- It may be that nothing was run.
+  -- It may be that no statement ran.
   pub record Continues (change : Tables → Tables) : Type 0 where
     pub held : (t : Tables) → Holds old.now t → Holds new.now (change t)
     pub kept : KeepsCommit old new

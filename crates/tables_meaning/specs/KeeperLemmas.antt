@@ -21,7 +21,7 @@ use Rattle.tables_meaning.specs.OneBook.{one_archive, one_book}
 entries_set : IsSet (List (ShelfKey × Item))
 entries_set = hlevel props
 
--- What the suites show is a set: a finite map is told by its entries.
+-- What the suites show is a set: two finite maps with the same entries are equal.
 pub shelves_set : IsSet ShelvesValue
 shelves_set = collapsible→set (λ x y p. same_entries_map x y (ap entries p)) (λ x y p q. ap (same_entries_map x y) (entries_set (entries x) (entries y) (ap entries p) (ap entries q)))
 
@@ -31,7 +31,7 @@ book_set = hlevel (props, shelves_set)
 pub left_set : IsSet (Option Book)
 left_set = hlevel (props, shelves_set)
 
--- two archives in one list of rows are one
+-- two archives in one list of rows are the same archive
 pub same_book : {config : ConfigValue} {judged judged' : List Judgement} {shown shown' : ShelvesValue} {dates dates' : List ℕ} (t : Tables)
     → IsBook t config judged shown dates → IsBook t config judged' shown' dates' → book_in config judged' shown' dates' t ≡ book_in config judged shown dates t
 same_book {config} t one two =

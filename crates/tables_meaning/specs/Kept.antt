@@ -1,4 +1,4 @@
--- How the tables of an archive keep it: what their rows are, told from what is kept.
+-- How the tables of an archive keep it: which rows follow from what is kept.
 use Rattle.std.specs.Prelude.{◌≡◌, ◌≢◌, ◌≤◌, ◌<◌, ℕ, ◌+◌, ◌*◌, ◌/◌, Bool, true, false, not, ◌&&◌, nat_eq, List, [], ◌∷◌, ◌++◌, map, filter, find, take, drop, length, All, Option, Some, None, option_map, slice_get, IsTrue, Ok, IsPermutation}
 use Rattle.std.specs.List.{AllPairs, list_any, flat_map, enumerate_from, zip, range_with_len}
 use Rattle.std.specs.Option.{option_and_then, option_map_or}
@@ -70,7 +70,7 @@ piece_size = 65536
 abbrev pub piece_count : List ℕ → ℕ
 piece_count bytes = (length bytes + 65535) / 65536
 
--- the piece of these bytes at a place, from 0: as long as a piece may be, the last what is left
+-- the piece of these bytes at a place, from 0: as long as a piece may be, and the last of what is left
 abbrev pub piece_at : List ℕ → ℕ → List ℕ
 piece_at bytes n = take piece_size (drop (piece_size * n) bytes)
 
@@ -105,7 +105,7 @@ pub record AreStored (t : Tables) : Type 0 where
   pub apart : AllPairs (λ x y. x.1.print ≢ y.1.print) t.bodies
   pub owned : All (λ p. IsTrue (has_body t p.body)) (rows_of t.pieces)
 
--- The same, and each is used.
+-- Each body is stored whole, as `AreStored` says, and each is used.
 pub record AreBodies (t : Tables) : Type 0 where
   pub whole : All (λ x. x.1.print ≡ Some (print_of (bytes_of t x.0))) t.bodies
   pub pieces : All (λ x. pieces_of t x.0 ≡ pieces_for x.0 (bytes_of t x.0)) t.bodies
@@ -177,7 +177,7 @@ abbrev pub AreSigned : List Judgement → Type 0
 AreSigned judged = All (λ j. IsSigned j.name j.print) judged
 
 -- Those without a verdict are the .changes that arrived and are not judged, in some order, each with the entries that it
--- lists; the others are the judged ones, at places from 1 on. Name and print tell uploads apart.
+-- lists. The others are the judged ones, at places from 1 on. No two uploads have the same name and print.
 pub record AreUploads (t : Tables) (judged : List Judgement) : Type 0 where
   pub waiting : IsPermutation (map (request_in t) (filter (λ x. not (has_place x.1)) t.uploads))
       (map (request_of (arrivals_in t)) (filter (λ c. not (is_judged judged c)) (candidates (arrivals_in t))))
@@ -235,8 +235,8 @@ shown_in t x = (x.1, refs_in t x.0)
 abbrev pub shown_row : List Suite → ShelfKey → ℕ → shelf.Item → ItemRow × List Ref
 shown_row suites key id item = (item_row suites (key, item), refs_for id item)
 
--- Each shelf of a suite of the configuration has its row, with the rows of its files; there are no other rows, and none
--- of them twice.
+-- Each shelf of a suite of the configuration has its row, with the rows of its files. There are no other rows, and no
+-- row is there twice.
 pub record AreItems (t : Tables) (suites : List Suite) (shown : ShelvesValue) : Type 0 where
   pub are : (key : ShelfKey) → key.suite < length suites → option_map (shown_in t) (find (is_on suites key) t.items)
       ≡ option_and_then (λ x. option_map (shown_row suites key x.0) (get shown key)) (find (is_on suites key) t.items)
@@ -246,7 +246,7 @@ pub record AreItems (t : Tables) (suites : List Suite) (shown : ShelvesValue) : 
   pub apart : AllPairs (λ x y. is_item x.suite x.kind x.«package» x.architecture y ≡ false) (rows_of t.items)
   pub owned : All (λ r. IsTrue (list_any (λ x. nat_eq x.0 r.item) t.items)) (rows_of t.refs)
 
--- A row that may be that of an item: its version is one (Debian Policy 5.6.12), and its paragraph is text.
+-- A row that may be that of an item: its version is valid (Debian Policy 5.6.12), and its paragraph is text.
 pub record IsReadable (x : ItemRow) : Type 0 where
   pub version : IsVersion x.version
   pub paragraph : IsUtf8 x.paragraph
@@ -272,10 +272,10 @@ pub record AreFiles (t : Tables) (shown : ShelvesValue) : Type 0 where
 abbrev pub date_row : Suite × ℕ → Date
 date_row d = record { suite = d.0.codename; moment = d.1 }
 
--- The rows are those of an archive of this configuration, with these judged uploads in order, this shown, and these dates. The
--- rows of texts, dates, pieces, references, waiting uploads and wants may stand in any order.
--- The configuration is what its text spells, each item stands on its own shelf and is as its records tell it, and the judged
--- uploads may have been delivered.
+-- The rows are those of an archive of this configuration, with these judged uploads in order, these items shown, and these
+-- dates. The rows of texts, dates, pieces, references, waiting uploads and wants may be in any order. The configuration is
+-- what its text spells. Each item stands on its own shelf and is as its records say. The judged uploads may have been
+-- delivered.
 pub record IsBook (t : Tables) (config : ConfigValue) (judged : List Judgement) (shown : ShelvesValue) (dates : List ℕ) : Type 0 where
   pub meta : rows_of t.meta ≡ record { version = VERSION; configuration = config.text } ∷ []
   pub read : config_in config.text ≡ Ok config

@@ -47,7 +47,7 @@ with_bytes print bytes t =
 abbrev pub number_with : Print → Tables → ℕ
 number_with print t = unwrap_or (body_with print t.bodies) 0
 
--- the arrival of a body under a name, with the greater moment where it is there already
+-- the arrival of a body under a name, with the greater moment if it is there already
 unfoldable pub with_arrived : List ℕ → ℕ → ℕ → Tables → Tables
 with_arrived name body moment t =
     option_map_or (λ x. if nat_lt x.1.moment moment then with_moment x.0 moment t else t)
@@ -93,7 +93,7 @@ with_refs refs t = fold (λ now r. with_ref r now) t refs
 unfoldable pub with_shown : List Suite → ShelfKey × shelf.Item → Tables → Tables
 with_shown suites e t = with_refs (refs_for (next_in t.items) e.1) (with_item (item_row suites e) t)
 
--- a file stands in the pool, where a body of its print is there
+-- a file stands in the pool, if a body of its print is there
 unfoldable pub with_pooled : PoolFile → Tables → Tables
 with_pooled f t = option_map_or (λ body. with_file (record { path = f.path; body = body }) t) (body_with f.print t.bodies) t
 
@@ -103,7 +103,7 @@ with_plan suites plan t =
     let items = fold (λ now e. with_shown suites e now) (fold (λ now e. without_shown suites e now) t plan.dropped) plan.put in
     fold (λ now f. with_pooled f now) (fold (λ now f. without_file f.path now) items plan.files_removed) plan.files_added
 
--- a step is made; so many uploads are judged before it
+-- a step is made, before which this number of uploads are judged
 unfoldable pub with_step : List Suite → ℕ → Step → Tables → Tables
 with_step suites judged step t = with_plan suites step.plan (option_map_or (λ j. with_judged (judged + 1) j t) step.judgement t)
 
@@ -131,7 +131,7 @@ with_written config judged change t =
 abbrev pub takes_file : Step → Bool
 takes_file s = not (is_nil s.plan.files_removed)
 
--- The whole change: where it takes a file away, the bodies that nothing uses then go.
+-- The whole change is made. If it takes a file away, the bodies that nothing uses go after it.
 unfoldable pub with_change : ConfigValue → ℕ → Change → Tables → Tables
 with_change config judged change t =
     if list_any takes_file change.steps then swept (with_written config judged change t) else with_written config judged change t

@@ -38,7 +38,7 @@ first_same x y xs ys e = cc
 pub rest_same : {X : Type 0} (x y : X) (xs ys : List X) → x ∷ xs ≡ y ∷ ys → xs ≡ ys
 rest_same x y xs ys e = cc
 
--- a list is told by what it has at each place
+-- two lists with the same elements at all places are equal
 pub same_places : {X : Type 0} (xs ys : List X) → ((n : ℕ) → slice_get xs n ≡ slice_get ys n) → xs ≡ ys
 same_places [] [] h = refl
 same_places [] (y ∷ ys) h = let e : None ≡ Some y = h 0 in cc
@@ -48,7 +48,7 @@ same_places (x ∷ xs) (y ∷ ys) h =
     let more : xs ≡ ys = same_places xs ys (λ n. h (suc n)) in
     λ i. one i ∷ more i
 
--- what is made of two values tells them apart
+-- two options are equal if a function that keeps their values apart makes them equal
 pub same_option : {X Y : Type 0} (f : X → Y) (o p : Option X) → ((x y : X) → o ≡ Some x → p ≡ Some y → f x ≡ f y → x ≡ y) → option_map f o ≡ option_map f p → o ≡ p
 same_option f None None one e = refl
 same_option f None (Some y) one e = cc
@@ -110,7 +110,7 @@ same_item suites key id x y own other e =
       files = files i;
     }
 
--- where one search finds nothing, neither does the other
+-- if one search finds nothing, the other finds nothing
 nothing : {X Y : Type 0} (o : Option X) (p : Option Y) → o ≡ None → option_map (λ _. true) o ≡ option_map (λ _. true) p → p ≡ None
 nothing o None e h = refl
 nothing o (Some y) e h = let both : None ≡ Some true = sym (ap (option_map (λ _. true)) e) ∙ h in cc
@@ -145,13 +145,13 @@ same_shown t suites shown others h k home others_home = same_map key_order_total
 
 -- ---- dates
 
--- a row of a suite whose codename none of these has is none of their dates
+-- a row of a suite whose codename none of these suites has is not a row of their dates
 pub no_date : (codename : List ℕ) (suites : List Suite) (dates : List ℕ) (r : Date) → All (λ u. codename ≢ u.codename) suites → Contains (map date_row (zip suites dates)) r → r.suite ≡ codename → ⊥
 no_date codename suites dates r others at same =
     let from = from_map date_row r (zip suites dates) at in
     all_at (λ (u : Suite). codename ≢ u.codename) suites from.0.0 others (from_zip from.0 suites dates from.1) (sym same ∙ sym (ap (λ (x : Date). x.suite) from.2))
 
--- dates are told by their rows, in whatever order these stand
+-- dates are equal if they have the same rows, in whatever order
 dates_by_rows : (suites : List Suite) (dates others : List ℕ) → AllPairs (λ s u. s.codename ≢ u.codename) suites → length dates ≡ length suites → length others ≡ length suites
     → ((r : Date) → Contains (map date_row (zip suites dates)) r → Contains (map date_row (zip suites others)) r) → dates ≡ others
 dates_by_rows [] [] [] apart m n h = refl
@@ -184,7 +184,7 @@ pub one_text : (t : Tables) (config other : ConfigValue) (judged judged_too : Li
     → IsBook t config judged shown dates → IsBook t other judged_too shown_too dates_too → config.text ≡ other.text
 one_text t config other judged judged_too shown shown_too dates dates_too h k = ap (λ (m : Meta). m.configuration) (first_same _ _ _ _ (sym h.meta ∙ k.meta))
 
--- Tables keep one archive of a configuration, where each item stands on its own shelf.
+-- Tables keep one archive of a configuration, if each item stands on its own shelf.
 pub one_archive : (t : Tables) (config : ConfigValue) (judged judged_too : List Judgement) (shown shown_too : ShelvesValue) (dates dates_too : List ℕ)
     → IsBook t config judged shown dates → IsBook t config judged_too shown_too dates_too → All IsAtHome (entries shown) → All IsAtHome (entries shown_too)
     → (judged ≡ judged_too) × (shown ≡ shown_too) × (dates ≡ dates_too)
@@ -198,7 +198,7 @@ one_archive t config judged judged_too shown shown_too dates dates_too h k home 
 pub one_configuration : (config other : ConfigValue) → config_in config.text ≡ Ok config → config_in other.text ≡ Ok other → config.text ≡ other.text → config ≡ other
 one_configuration config other h k e = let both : Ok config ≡ Ok other = sym h ∙ ap config_in e ∙ k in cc
 
--- Tables keep one book, where the configurations are those of their texts and each item stands on its own shelf.
+-- Tables keep one book, if the configurations are those of their texts and each item stands on its own shelf.
 pub one_book : (t : Tables) (config config_too : ConfigValue) (judged judged_too : List Judgement) (shown shown_too : ShelvesValue) (dates dates_too : List ℕ)
     → IsBook t config judged shown dates → IsBook t config_too judged_too shown_too dates_too → config_in config.text ≡ Ok config → config_in config_too.text ≡ Ok config_too
     → All IsAtHome (entries shown) → All IsAtHome (entries shown_too)

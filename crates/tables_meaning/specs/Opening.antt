@@ -1,4 +1,4 @@
--- What a schema is told by, where it is that of an archive or is not.
+-- How a schema shows whether it is that of an archive.
 use Rattle.std.specs.Prelude.{◌≡◌, [], All}
 use Rattle.sqlite_schema.specs.declared.schema.Stamps.{Stamps}
 use Rattle.sqlite_schema.specs.declared.schema.Table.{Table}

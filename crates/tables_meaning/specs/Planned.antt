@@ -26,7 +26,7 @@ pub record MayPlan (t : Tables) (suites : List Suite) (shown after : ShelvesValu
   pub codenames : AllPairs (λ s r. s.codename ≢ r.codename) suites
   pub arrived : All (λ f. IsTrue (is_some (body_with f.print t.bodies))) plan.files_added
 
--- only the rows of items, of their files and of the pool are others
+-- only the rows of items, of their files and of the pool differ
 pub record KeepsOthers (old new : Tables) : Type 0 where
   pub meta : new.meta ≡ old.meta
   pub bodies : new.bodies ≡ old.bodies
@@ -55,7 +55,8 @@ pub record MayStep (t : Tables) (suites : List Suite) (shown : ShelvesValue) (st
   pub codenames : AllPairs (λ s r. s.codename ≢ r.codename) suites
   pub arrived : All (λ s. All (λ f. IsTrue (is_some (body_with f.print t.bodies))) s.plan.files_added) steps
 
--- the rows are those of what is shown after steps, and only those of uploads and of what they want may be others besides
+-- the rows are those of what is shown after steps, and besides them only those of uploads and of what they want may
+-- differ
 pub record IsStepped (old new : Tables) (suites : List Suite) (shown : ShelvesValue) : Type 0 where
   pub items : AreItems new suites shown
   pub files : AreFiles new shown
@@ -67,7 +68,7 @@ pub record IsStepped (old new : Tables) (suites : List Suite) (shown : ShelvesVa
   pub texts : new.texts ≡ old.texts
   pub dates : new.dates ≡ old.dates
 
--- The tables keep what a change leaves, and the book is the amended one where there was each body.
+-- The tables keep what a change leaves, and the book is the amended one if each body was there.
 pub record KeepsChange (t new : Tables) (config : ConfigValue) (judged : List Judgement) (shown : ShelvesValue) (dates : List ℕ) (change : Change) : Type 0 where
   pub kept : IsBook new config (judged ++ judgements change.steps) (shown_past shown change.steps) (dates_past change.moment dates change.steps)
   pub book : HasEachBody (book_in config judged shown dates t) change

@@ -30,11 +30,11 @@ row_order x y = judging_order (sign_in x.1) (sign_in y.1)
 unfoldable pub wanting : Tables → Numbered UploadRow
 wanting t = filter (λ x. list_any (is_wanted_by x.0) (rows_of t.wants)) t.uploads
 
--- the same, in the order of judging
+-- the uploads that want something, in the order of judging
 unfoldable pub wanting_rows : Tables → Numbered UploadRow
 wanting_rows t = sorted_by row_order (wanting t)
 
--- the first of them behind a number, or of all
+-- the first upload after a number that wants something, or the first of all
 unfoldable pub next_wanting_in : Tables → Option ℕ → Option (ℕ × UploadRow)
 next_wanting_in t after = find (λ x. wants_behind after (rows_of t.wants) x.0) t.uploads
 
@@ -61,11 +61,11 @@ text_in t e = if has_text e.name then unwrap_or (bytes_with t e.print) [] else [
 abbrev pub upload_with : Tables → UploadRow → ChangesValue → UploadValue
 upload_with t u c = record { name = u.name; print = u.print; changes = c; texts = map (text_in t) c.entries }
 
--- the upload as it is judged, where its body is there and is a record
+-- the upload as it is judged, if its body is there and is a record
 unfoldable pub upload_in : Tables → UploadRow → Option UploadValue
 upload_in t u = option_and_then (λ body. option_map (upload_with t u) (result_ok (changes_in body))) (bytes_with t u.print)
 
--- the same, where each of its entries has arrived
+-- the upload as it is judged, if its body is there and is a record and each of its entries has arrived
 abbrev pub due_in : Tables → ℕ × UploadRow → Option UploadValue
 due_in t x = if nat_eq (missing_in t x.0) 0 then upload_in t x.1 else None
 

@@ -38,7 +38,8 @@ item_with kind x refs = record {
   files = map file_in refs;
 }
 
--- what a row with these files shows: its item on its shelf; one of no suite or of no kind shows nothing
+-- what a row with these files shows: its item on its shelf; a row of no suite of the configuration, or of no kind,
+-- shows nothing
 unfoldable pub entry_with : List Suite → ItemRow → List Ref → Option (ShelfKey × shelf.Item)
 entry_with suites x refs = option_and_then (λ suite. option_map (λ kind. standing suite (item_with kind x refs)) (kind_numbered x.kind)) (suite_named suites x.suite)
 
@@ -77,7 +78,7 @@ pub record PutsRow (suites : List Suite) (x : ItemRow) (refs : List Ref) (old ne
   pub is : entry_with suites x refs ≡ Some entry
   pub put : IsPut old new entry
 
--- An item may come to its shelf: this is empty, and each of the item's files may join the pool.
+-- An item may come to its shelf: the shelf is empty, and each of the item's files may join the pool.
 pub record MayBePut (old : ShelvesValue) (e : ShelfKey × shelf.Item) : Type 0 where
   pub free : get old e.0 ≡ None
   pub fits : list_any (may_not_join (pool old) e.1.files) e.1.files ≡ false
@@ -89,6 +90,6 @@ pub record MayStand (suites : List Suite) (x : ItemRow) (refs : List Ref) (old :
   pub is : entry_with suites x refs ≡ Some entry
   pub may : MayBePut old entry
 
--- The shelves so far show all but what is left: with the rows that are left they show what all rows show.
+-- The shelves so far, with what the rows that are left show, are what all rows show.
 abbrev pub AreLeft : List Suite → Tables → ShelvesValue → Numbered ItemRow → Type 0
 AreLeft suites t so_far left = (key : ShelfKey) → option_or (get so_far key) (keyed.find key_order key (filter_map (entry_in suites t) left)) ≡ get (shown_in suites t) key

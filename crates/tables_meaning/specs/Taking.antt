@@ -13,6 +13,6 @@ use Rattle.tables_meaning.specs.Kept.{bytes_of}
 abbrev pub HasNoOther : Print → List ℕ → Tables → Type 0
 HasNoOther print bytes t = (found : ℕ) → body_with print t.bodies ≡ Some found → bytes_of t found ≡ bytes
 
--- what a file of this name lists: the entries of the record where it is a .changes
+-- what a file of this name lists: the entries of the record if the file is a .changes
 abbrev pub listed_in : List ℕ → List ℕ → Option (List Entry)
 listed_in name bytes = if is_changes_name name then option_map (λ c. c.entries) (result_ok (changes_in bytes)) else None

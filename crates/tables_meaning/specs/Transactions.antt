@@ -12,7 +12,7 @@ module _ (old new : State) where
     pub is_open : IsTrue new.is_open
     pub held : (t : Tables) → Holds old.now t → Holds new.committed (change t)
 
-  -- What was committed stays, where the connection is open still.
+  -- What was committed stays, if the connection is still open.
   pub record IsUndone : Type 0 where
     pub was_open : IsTrue new.is_open → IsTrue old.is_open
     pub committed : IsTrue new.is_open → new.committed ≡ old.committed

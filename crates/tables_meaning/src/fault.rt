@@ -1,4 +1,4 @@
-//! What a fault of the database is to an archive.
+//! Which fault of a keeper an error of the database is.
 
 ghost use Rattle.std.specs.Prelude.{◌≡◌, true};
 ghost use Rattle.keep.specs.Keeping.{MayAnswer};
@@ -7,7 +7,8 @@ ghost use Rattle.tables_meaning.specs.Faults.{fault_for};
 use keep::KeepFault;
 use sqlite::{Error, ErrorCode};
 
-/// The fault that an error of the database is: want of memory, a size that the database cannot hold, or else a failure of the disk.
+/// The fault that an error of the database is: want of memory, a size that the database cannot hold, or in all other cases a
+/// failure of the disk.
 pub fn fault_of(error: Error) -> KeepFault
     ensures may { MayAnswer true result }
     ensures which { result ≡ fault_for error }

@@ -1,5 +1,5 @@
 //! What the rows of an archive's tables say: definitions, which the crates that write and read the rows cite, lemmas, and laws.
-//! What a fault of the database is to an archive.
+//! Also which fault of a keeper an error of the database is.
 #![tactic(auto)]
 
 mod fault;

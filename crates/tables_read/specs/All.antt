@@ -28,7 +28,7 @@ tables_with all = record {
 abbrev pub is_body_there : Tables → ℕ → Bool
 is_body_there t id = list_any (λ x. nat_eq x.0 id) t.bodies
 
--- what an upload is known by
+-- the name and the print, by which an upload is known
 abbrev pub name_and_print : UploadRow → List ℕ × Print
 name_and_print u = (u.name, u.print)
 

@@ -94,7 +94,7 @@ module _ (db : Database) (is : IsArchiveSchema db.schema) (sound : IsDatabase db
 
 -- ---- rows that would have one key
 
--- what is there is stored as no NULL
+-- a value that is there is not stored as NULL
 not_null : {X : Type 0} (put : X → Value) → ((x : X) → is_null (put x) ≡ false) → (o : Option X) → o ≢ None → is_null (or_null put o) ≡ false
 not_null put some None is = absurd (is refl)
 not_null put some (Some x) is = some x

@@ -1,4 +1,4 @@
--- Each layout is one: a stored row of the right types is that of a value exactly where the columns show it.
+-- Each layout is sound: a stored row of the right types is that of a value exactly if the columns show this value.
 use Rattle.std.proofs.Common.{◌≡◌, ◌≢◌, ◌≤◌, ◌+◌, ℕ, true, List, [], ◌∷◌, drop, length, length-drop, refl, sym, ap, ap₂, subst, arith, add-one, Option, Some, None}
 use Rattle.std.proofs.lemmas.Bool.{and_parts}
 use Rattle.std.specs.List.{AllByRecursion}

@@ -15,7 +15,7 @@ use Rattle.tables.specs.Schema.{archive_schema}
 use Rattle.tables_read.specs.Reading.{Spells, AsksForRows}
 
 -- the tree of a table, its definition, the columns that are asked for, a stored row with NULL in each column that it lacks,
--- the row of a value, and what the columns behind the rowid show of it
+-- the row of a value, and what the columns after the rowid show of it
 pub record Layout (X : Type 0) : Type 0 where
   pub tree : ℕ
   pub table : Table
@@ -32,7 +32,8 @@ show l r = eval_all l.columns ([] ∷ r ∷ [])
 abbrev pub HasTypes : {X : Type 0} → Layout X → Row → Type 0
 HasTypes l r = are_typed l.table.key 0 l.table.columns (drop 1 r) ≡ true
 
--- The schema has a table in the tree. A stored row of the right types is that of a value exactly where the columns show it.
+-- The schema has a table in the tree. A stored row of the right types is that of a value exactly if the columns show this
+-- value.
 pub record IsLayout {X : Type 0} (l : Layout X) : Type 0 where
   pub placed : (at : ℕ) × (t : Table) × (slice_get archive_schema.tables at ≡ Some t) × (t.tree ≡ l.tree)
   pub number : (r : Row) → column (show l r) 0 ≡ rowid r

@@ -26,7 +26,7 @@ meta_layout = record { tree = 0; table = schema.meta; columns = col 1 0 ∷ col 
 abbrev pub body_seen : BodyRow → Row
 body_seen b = or_null (λ p. whole p.size) b.print ∷ or_null (λ p. Blob p.md5) b.print ∷ or_null (λ p. Blob p.sha1) b.print ∷ or_null (λ p. Blob p.sha256) b.print ∷ []
 
--- what is stored of the parts of a print, each where it is there
+-- what is stored of the parts of a print, each if it is there
 abbrev pub seen_in : Option ℕ × (Option (List ℕ) × (Option (List ℕ) × (Option (List ℕ) × ⊤))) → Row
 seen_in p = or_null whole p.0 ∷ or_null Blob p.1.0 ∷ or_null Blob p.1.1.0 ∷ or_null Blob p.1.1.1.0 ∷ []
 

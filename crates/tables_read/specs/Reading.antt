@@ -22,8 +22,8 @@ abbrev pub Agree : Row → ℕ → Row → Type 0
 Agree row at [] = ⊤
 Agree row at (v ∷ vs) = (column row at ≡ v) × Agree row (at + 1) vs
 
--- Over the tables of an archive, and where the disk is clean, what is read `Is` that which is asked for and nothing changes;
--- an error has a cause, and no call commits.
+-- If the disk is clean and the tables are those of an archive, `Is` holds of what is read, and nothing changes. An error has
+-- a cause, and no call commits.
 pub record Tells {X : Type 0} (old new : State) (result : Result X Error) (Is : X → Type 0) : Type 0 where
   pub idle : old.in_transaction ≡ false → new.in_transaction ≡ false
   pub is : HasCleanDisk new → IsArchiveSchema old.now.schema → IfOk result Is
@@ -46,6 +46,6 @@ pub record Means (query : Query) (tree : ℕ) (sql : List ℕ) : Type 0 where
 abbrev pub AsksForRows : ℕ → List Term → List ℕ → Type 0
 AsksForRows tree columns = Means (rows_query tree [] columns) tree
 
--- a row of an answer is that of this number, with these values behind it
+-- a row of an answer is that of this number, followed by these values
 abbrev pub Spells : {X : Type 0} → (X → Row) → Row → ℕ × X → Type 0
 Spells seen row x = (column row 0 ≡ id_cell x.0) × Agree row 1 (seen x.1)

@@ -30,7 +30,7 @@ use Rattle.tables.specs.Rows.{HasRows, Numbered, rows_of, stored, id_cell, id_in
 
 -- ---- lists
 
--- what is so of each two elements of a list in one order is so of each and the later ones
+-- a relation between each two elements of a list in one order holds between each element and the later ones
 ascending_on : {X : Type 0} (S R : X → X → Type 0) (xs : List X) → ((x y : X) → Has xs x → Has xs y → S x y → R x y) → IsAscending S xs → IsAscending R xs
 ascending_on S R [] h up = tt
 ascending_on S R (x ∷ xs) h up = (
@@ -38,7 +38,7 @@ ascending_on S R (x ∷ xs) h up = (
   ascending_on S R xs (λ a b p q s. h a b (inr p) (inr q) s) up.1,
 )
 
--- a search of what a function makes of a list
+-- searching what a function makes of a list is searching the list
 any_map : {X Y : Type 0} (p : Y → Bool) (f : X → Y) (xs : List X) → list_any p (map f xs) ≡ list_any (λ x. p (f x)) xs
 any_map p f [] = refl
 any_map p f (x ∷ xs) = ap (λ b. p (f x) || b) (any_map p f xs)
@@ -54,11 +54,11 @@ equals_itself (Real x) some = rw (tied_itself value_cmp_total (Real x)) refl
 equals_itself (Text t) some = rw (tied_itself value_cmp_total (Text t)) refl
 equals_itself (Blob b) some = rw (tied_itself value_cmp_total (Blob b)) refl
 
--- the rows have the same at the places, and no NULL
+-- the rows have equal values at the places, and no NULL
 abbrev pub AreSame : List ℕ → Row → Row → Type 0
 AreSame places a b = AllByRecursion (λ p. (column a p ≡ column b p) × (is_null (column b p) ≡ false)) places
 
--- such rows agree
+-- rows with equal values at the places agree there
 agree_if_same : (places : List ℕ) (a b : Row) → AreSame places a b → agree plain places a places b ≡ true
 unfolding first_key
 agree_if_same [] a b same = refl
@@ -91,7 +91,7 @@ module _ {X : Type 0} (cells : X → Row) where
   has_stored (y ∷ ys) x (inl is) = inl (ap (stored cells) is)
   has_stored (y ∷ ys) x (inr more) = inr (has_stored ys x more)
 
-  -- no two rows have the same at the places of a key
+  -- no two rows have equal values at the places of a key
   two_apart : (places : List ℕ) (xs : Numbered X) → HasNoClash places (map (stored cells) xs) → (x y : ℕ × X) → Has xs x → Has xs y → x.0 < y.0 → AreSame places (stored cells x) (stored cells y) → ⊥
   two_apart places xs none x y here there below same =
       let tree = map (stored cells) xs in
@@ -106,7 +106,7 @@ module _ {X : Type 0} (cells : X → Row) where
       pairs_from_ascending R xs
       (ascending_on (λ a b. a.0 < b.0) R xs (λ x y here there below. each x y (two_apart places xs (subst (HasNoClash places) has.are none) x y here there below)) has.rise)
 
-  -- the same without their rowids
+  -- the rows of a table, two by two, without their rowids
   pub rows_apart : (places : List ℕ) (tree : List Row) (xs : Numbered X) → HasRows cells xs tree → HasNoClash places tree
       → (R : X → X → Type 0) → ((x y : ℕ × X) → (AreSame places (stored cells x) (stored cells y) → ⊥) → R x.1 y.1) → AllPairs R (rows_of xs)
   rows_apart places tree xs has none R each =
@@ -151,7 +151,7 @@ owned {X} cells parent_cells tree parents xs ys place id has have names held =
 -- ---- rows as they are read
 
 module _ (read : Row → Row) where
-  -- a key that the rows have as they are stored they have as they are read
+  -- a key that the rows have as they are stored is one that they have as they are read
   pub no_clash_read : (places : List ℕ) → ((a b : Row) → agree plain places (read a) places (read b) ≡ agree plain places a places b) → ((a : Row) → rowid (read a) ≡ rowid a)
       → (tree : List Row) → HasNoClash places tree → HasNoClash places (map read tree)
   no_clash_read places same ids tree none =
@@ -159,7 +159,7 @@ module _ (read : Row → Row) where
       (all_weaker (λ row. clashes plain places tree row ≡ false) (λ row. clashes plain places (map read tree) (read row) ≡ false)
       (λ row no. any_map _ read tree ∙ (λ i. list_any (λ other. same other row i && differ (ids other i) (ids row i)) tree) ∙ no) tree none)
 
-  -- the parents of a reference are found as they are read
+  -- the parents of a reference are also found if the rows are as they are read
   pub parents_read : ((a : Row) → rowid (read a) ≡ rowid a) → (place : ℕ) (parents tree : List Row) → HasParents place parents tree → HasParents place (map read parents) tree
   unfolding first_key
   parents_read ids place parents tree held =

@@ -18,7 +18,7 @@ use Rattle.sqlite_store.proofs.ListingLemmas.{all_ordered}
 use Rattle.sqlite_wal.proofs.StateLemmas.{clean_of}
 use Rattle.tables_read.specs.InOrder.{IsInOrder}
 
--- of a file: its pages are a sound file
+-- the store of a file is in order: its pages are a sound file
 module _ {D : Type 0} {g : Ghosts D} (it : FileStore D g) where
   pub file_in_order : IsTrue (view it).is_open → IsInOrder (view it)
   file_in_order is_open = record {
@@ -26,7 +26,7 @@ module _ {D : Type 0} {g : Ghosts D} (it : FileStore D g) where
     ordered = rw (clean_of (state it) is_open) (∥∥₁_elim (it.stored is_open) (IsOrdered-prop _ _) (λ stored. all_ordered stored.ours.file.db _));
   }
 
--- in memory: each tree is in order by itself
+-- the store in memory is in order: each tree is in order by itself
 trees_in_order : (trees : List Tree) → IsOrdered (shape_of trees) (rows_of trees)
 trees_in_order [] t = refl
 trees_in_order (x ∷ trees) zero = ∥∥₁_elim x.ordered (IsShaped-prop x.shape x.rows.items) (λ h. h)

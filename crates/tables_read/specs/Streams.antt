@@ -12,20 +12,20 @@ use Rattle.tables.specs.Rows.{Numbered}
 use Rattle.tables_read.specs.Layout.{AreRead, IsShort, Layout}
 use Rattle.tables_read.specs.Reading.{Spells}
 
--- What a row spells stands behind the rows before it.
+-- The rows after are the rows before and then what a row spells.
 pub record Adds {X : Type 0} (l : Layout X) (row : Row) (before after : Numbered X) : Type 0 where
   pub one : ℕ × X
   pub is : after ≡ before ++ one ∷ []
   pub small : one.0 < 2 ^ 64
   pub spells : Spells l.seen row one
 
--- The query has given one more row, which `Is` this.
+-- The query has given one more row, of which `Is` holds.
 pub record HasOneMore {S : Type 0} (g : Ghosts S) (sql : List ℕ) (new : Held S) (given : List Row) (Is : Row → Type 0) : Type 0 where
   pub row : Row
   pub has : HasGiven g sql [] new (given ++ row ∷ [])
   pub is : Is row
 
--- What comes behind these rows: the next one, which is read, or is none of an archive, or is none at all; or an error, of the
+-- What follows these rows: the next row, which is read, or is not of an archive; or no further row; or an error, of the
 -- query, for want of memory, or at a row that lacks a column.
 abbrev pub Took : {S X : Type 0} → Ghosts S → Layout X → (X → Type 0) → Held S → Held S → Numbered X → List ℕ → List Row → Result (Option Bool) Error → Type 0
 Took g l real old new after sql given (Ok (Some true)) = HasOneMore g sql new given (λ row. AreRead l (given ++ row ∷ []) after)

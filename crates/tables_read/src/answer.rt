@@ -31,7 +31,7 @@ pub fn numbered<T: Stored>(row: &Row) -> Result<Option<(u64, T)>, Error>
     }
 }
 
-/// Adds a row with its rowid behind those before it. Says no where they are not of an archive.
+/// Adds a row with its rowid after those before it. Answers false if the row is not of an archive.
 fn take_row<T: Stored>(row: &Row, all: &mut Vec<(u64, T)>) -> Result<bool, Error>
     ensures yes { IfOk result (λ taken. IsTrue taken → Adds T.layout row.now all.old.items all.new.items) }
     ensures no { IfOk result (λ taken. taken ≡ false
@@ -47,7 +47,7 @@ fn take_row<T: Stored>(row: &Row, all: &mut Vec<(u64, T)>) -> Result<bool, Error
     }
 }
 
-/// Adds the next row of an answer behind those before it, as `take_row` does. There is none past the last.
+/// Adds the next row of an answer after those before it, as `take_row` does. There is no next row after the last.
 fn take_next<S: Alter, T: Stored>(
     rows: &mut Rows<'_, S>,
     all: &mut Vec<(u64, T)>,
@@ -85,6 +85,6 @@ pub(crate) fn answer<S: Alter, T: Stored>(
             return Ok(None);
         }
     }
-    // No memory holds so many.
+    // No memory holds as many rows as this loop counts.
     Err(Error::SqliteFailure(ErrorCode::OutOfMemory))
 }

@@ -1,4 +1,4 @@
-//! Values of a row of an answer, where they are of the type that is asked for.
+//! Values of a row of an answer, if they are of the type that is asked for.
 
 ghost use Rattle.std.specs.Prelude.{◌≡◌, ◌≢◌, ◌⊎◌, ◌≤◌, ◌<◌, ◌+◌, ℕ, pos, List, [], ◌∷◌, length, None, IfErr, IfOk, IfSome, IsUtf8, ⊤};
 ghost use Rattle.sqlite.specs.declared.error.Error.TheVariants.{SqliteFailure};
@@ -28,7 +28,7 @@ pub(crate) trait Cell: Sized + Drop {
         ensures cause { IfErr result (λ e. (e ≡ SqliteFailure OutOfMemory) ⊎ (length row.now ≤ at)) };
 }
 
-/// What a column reads as, if it reads. An error is one of memory, or of a column that is not there.
+/// What a column reads as, if it can be read. An error is one of memory, or of a column that is not there.
 fn readable<T: FromSql + Drop>(row: &Row, at: usize) -> Result<Option<T>, Error>
     ensures some { IfOk result (λ o. IfSome o (T.FromSql.reads_as (column row.now at))) }
     ensures none { IfOk result (λ o. o ≡ None → ¬ T.FromSql.is_readable (column row.now at)) }
@@ -52,7 +52,7 @@ impl Cell for u64 {
     }
 }
 
-/// The number of a row, which any integer is.
+/// The number of a row. Any integer is one.
 #[derive(Drop)]
 pub(crate) struct Id {
     pub(crate) number: u64,
@@ -131,7 +131,7 @@ impl Cell for Listed<u8> {
     }
 }
 
-/// These bytes as an array, if they are as many.
+/// These bytes as an array of N, if they are N bytes.
 fn array<const N: usize>(bytes: &[u8]) -> Option<[u8; N]>
     ensures some { IfSome result (λ all. all ≡ bytes.now) }
     ensures none { result ≡ None → length bytes.now ≢ N }
@@ -157,7 +157,7 @@ impl<const N: usize> Cell for [u8; N] {
     }
 }
 
-/// An array that may be absent is stored as NULL then.
+/// An array that may be absent. If it is, NULL is stored.
 impl<const N: usize> Cell for Option<[u8; N]> {
     ghost cell = { or_null Blob };
 
@@ -175,11 +175,11 @@ impl<const N: usize> Cell for Option<[u8; N]> {
     }
 }
 
-/// The values of columns one after another: a pair of the first and the others, and at last `()`.
+/// The values of columns one after another, as nested pairs of the first value and the others. The last is `()`.
 pub(crate) trait Cells: Sized + Drop {
     ghost cells: { Self → List SqlValue };
 
-    // how many columns they are
+    // the number of columns
     ghost width: { ℕ };
 
     // the values that code can hold

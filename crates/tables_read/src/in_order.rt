@@ -1,8 +1,8 @@
 //! Stores that keep what was committed in order.
 //!
 //! An opening asks of each table for the rows by rowid, once. That a table is also stored in this order is a law of the store (`InOrder`):
-//! the trees that it has committed are sound, and the rows of a sound table rise. It is proved of the two stores that the library has, of
-//! files and in memory. So a keeper is opened over a store with this law, and nothing is read to learn the order.
+//! the trees that it has committed are sound, and the rows of a sound table rise. It is proved of the two stores that the library has, the
+//! one of files and the one in memory. So a keeper is opened over a store with this law, and nothing is read to learn the order.
 
 ghost use Rattle.std.specs.Prelude.{IsTrue};
 ghost use Rattle.tables_read.specs.InOrder.{IsInOrder};

@@ -29,7 +29,7 @@ trait Read: Sized + Drop {
     // these are the rows of the tables
     ghost are: { Database → Self → Type 0 };
 
-    // no rows that code can hold are
+    // no rows that code can hold are those of the tables
     ghost are_not: { Database → Type 0 };
 
     fn read<S: InOrder>(alloc: Global, conn: &mut Connection<S>) -> Result<Option<Self>, Error>
@@ -80,7 +80,7 @@ type Shown = (
     (Numbered<TextRow>, Numbered<Date>),
 );
 
-/// The rows of the pairs in which they are read.
+/// The rows of all tables, from the pairs in which they are read.
 fn all_of(rows: (Arrived, (Judged, Shown))) -> AllRows
     ensures { tables_with result ≡ tables_in rows }
 {
@@ -99,7 +99,7 @@ fn all_of(rows: (Arrived, (Judged, Shown))) -> AllRows
     }
 }
 
-/// All rows of the tables, where they are rows of an archive: typed, and with no size, moment or place below zero.
+/// All rows of the tables, if they are rows of an archive: typed, and with no size, moment or place below zero.
 pub fn read_all<S: InOrder>(
     alloc: Global,
     conn: &mut Connection<S>,
@@ -108,7 +108,7 @@ pub fn read_all<S: InOrder>(
     requires archive { IsArchiveSchema (state S.Store conn.old).now.schema }
     ensures idle { conn.old.in_transaction ≡ false → conn.new.in_transaction ≡ false }
     ensures some { OnCleanDisk S.Store conn.old conn.new (λ old new. IfOk result (λ o. IfSome o (λ all. Holds old.now (tables_with all)))) }
-    // A text or a digest that code cannot hold is none of an archive.
+    // A text or a digest that code cannot hold is not one of an archive.
     ensures none { OnCleanDisk S.Store conn.old conn.new (λ old new. IfOk result (λ o. o ≡ None → (t : Tables) → AreReal t → Holds old.now t → ⊥)) }
     ensures unchanged { OnCleanDisk S.Store conn.old conn.new (λ old new. OnOk result (IsUnchanged old new)) }
     ensures err { OnCleanDisk S.Store conn.old conn.new (λ old new. OnErr result (Fails old new)) }

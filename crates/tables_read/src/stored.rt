@@ -29,7 +29,7 @@ pub trait Stored: Sized + Drop {
     fn rows_text() -> &'static str
         ensures { AsksForRows layout.tree layout.columns result.now };
 
-    /// The row whose columns stand behind the rowid, if they are of its types.
+    /// The row whose columns follow the rowid, if they are of its types.
     fn from_row(row: &Row) -> Result<Option<Self>, Error>
         ensures some { IfOk result (λ o. IfSome o (λ x. Agree row.now 1 (layout.seen x))) }
         ensures none { IfOk result (λ o. o ≡ None → (x : Self) → is_real x → ¬ Agree row.now 1 (layout.seen x)) }
@@ -49,7 +49,7 @@ type MaybePrinted = (
 
 const META: &str = "SELECT rowid, version, configuration FROM meta ORDER BY rowid";
 
-/// The row of these values.
+/// The row of `meta` with these values.
 fn meta(cells: (u64, (Listed<u8>, ()))) -> Meta
     ensures { result ≡ record { version = cells.0; configuration = cells.1.0 } }
 {
@@ -82,7 +82,7 @@ impl Stored for Meta {
 
 const BODIES: &str = "SELECT rowid, size, md5, sha1, sha256 FROM bodies ORDER BY rowid";
 
-/// The row of these values, which are all there or all absent, if it is one.
+/// The body with these values, which are all there or all absent. Nothing if some are there and others absent.
 fn body(cells: MaybePrinted) -> Option<BodyRow>
     ensures some { IfSome result (λ b. seen_in cells ≡ body_seen b) }
     ensures none { result ≡ None → (b : BodyRow) → seen_in cells ≢ body_seen b }
@@ -122,7 +122,7 @@ impl Stored for BodyRow {
 
 const PIECES: &str = "SELECT rowid, body, number, bytes FROM pieces ORDER BY rowid";
 
-/// The row of these values.
+/// The piece with these values.
 fn piece(cells: (Id, (u64, (Listed<u8>, ())))) -> Piece
     ensures { result ≡ record { body = cells.0.number; number = cells.1.0; bytes = cells.1.1.0 } }
 {
@@ -157,7 +157,7 @@ impl Stored for Piece {
 
 const ARRIVALS: &str = "SELECT rowid, name, body, moment FROM arrivals ORDER BY rowid";
 
-/// The row of these values.
+/// The arrival with these values.
 fn arrival(cells: (Text, (Id, (u64, ())))) -> ArrivalRow
     ensures { result ≡ record { name = cells.0; body = cells.1.0.number; moment = cells.1.1.0 } }
 {
@@ -193,7 +193,7 @@ impl Stored for ArrivalRow {
 const UPLOADS: &str =
     "SELECT rowid, name, size, md5, sha1, sha256, place, verdict FROM uploads ORDER BY rowid";
 
-/// The row of these values.
+/// The upload with these values.
 fn upload(cells: (Text, Printed<(Option<u64>, (Option<u64>, ()))>)) -> UploadRow
     ensures { result ≡ record { name = cells.0; place = cells.1.1.1.1.1.0; verdict = cells.1.1.1.1.1.1.0; print = record { size = cells.1.0; md5 = cells.1.1.0; sha1 = cells.1.1.1.0; sha256 = cells.1.1.1.1.0 } } }
 {
@@ -240,7 +240,7 @@ impl Stored for UploadRow {
 const WANTS: &str =
     "SELECT rowid, upload, name, size, md5, sha1, sha256, here FROM wants ORDER BY rowid";
 
-/// The row of these values.
+/// The entry of an upload with these values.
 fn want(cells: (Id, (Text, Printed<(bool, ())>))) -> Want
     ensures { result ≡ record { upload = cells.0.number; name = cells.1.0; here = cells.1.1.1.1.1.1.0; print = record { size = cells.1.1.0; md5 = cells.1.1.1.0; sha1 = cells.1.1.1.1.0; sha256 = cells.1.1.1.1.1.0 } } }
 {
@@ -290,7 +290,7 @@ const ITEMS: &str =
 /// The columns of an item from its version on.
 type Shown = (Text, (Text, (Text, (Listed<u8>, ()))));
 
-/// The row of these values.
+/// The item with these values.
 fn item(cells: (Text, (u64, (Text, (Text, Shown))))) -> ItemRow
     ensures { result ≡ record { suite = cells.0; kind = cells.1.0; «package» = cells.1.1.0; architecture = cells.1.1.1.0; version = cells.1.1.1.1.0; component = cells.1.1.1.1.1.0; source = cells.1.1.1.1.1.1.0; paragraph = cells.1.1.1.1.1.1.1.0 } }
 {
@@ -336,7 +336,7 @@ impl Stored for ItemRow {
 const REFS: &str =
     "SELECT rowid, item, number, path, size, md5, sha1, sha256 FROM refs ORDER BY rowid";
 
-/// The row of these values.
+/// The file of an item with these values.
 fn refers(cells: (Id, (u64, (Text, Printed<()>)))) -> Ref
     ensures { result ≡ record { item = cells.0.number; number = cells.1.0; path = cells.1.1.0; print = record { size = cells.1.1.1.0; md5 = cells.1.1.1.1.0; sha1 = cells.1.1.1.1.1.0; sha256 = cells.1.1.1.1.1.1.0 } } }
 {
@@ -382,7 +382,7 @@ impl Stored for Ref {
 
 const FILES: &str = "SELECT rowid, path, body FROM files ORDER BY rowid";
 
-/// The row of these values.
+/// The file of the pool with these values.
 fn file(cells: (Text, (Id, ()))) -> File
     ensures { result ≡ record { path = cells.0; body = cells.1.0.number } }
 {
@@ -415,7 +415,7 @@ impl Stored for File {
 
 const TEXTS: &str = "SELECT rowid, path, body FROM texts ORDER BY rowid";
 
-/// The row of these values.
+/// The index text with these values.
 fn text(cells: (Text, (Listed<u8>, ()))) -> TextRow
     ensures { result ≡ record { path = cells.0; body = cells.1.0 } }
 {
@@ -445,7 +445,7 @@ impl Stored for TextRow {
 
 const DATES: &str = "SELECT rowid, suite, moment FROM dates ORDER BY rowid";
 
-/// The row of these values.
+/// The date with these values.
 fn date(cells: (Text, (u64, ()))) -> Date
     ensures { result ≡ record { suite = cells.0; moment = cells.1.0 } }
 {

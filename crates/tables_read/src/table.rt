@@ -25,7 +25,7 @@ fn rows<S: Alter, T: Stored>(
     answer(alloc, conn, T::rows_text())
 }
 
-/// An open connection has a sound database, outside a transaction that which was committed. For the prover alone: the law is the
+/// An open connection has a sound database. Outside a transaction it is the committed one. For the prover alone: the law is the
 /// contract.
 fn settled<S: Alter>(conn: &Connection<S>)
     ensures live { IsLive (state S.Store conn.now) }
