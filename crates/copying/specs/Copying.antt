@@ -30,8 +30,9 @@ pub record AreRising (t : Tables) : Type 0 where
   pub uploads : Rises t.uploads
   pub items : Rises t.items
 
--- The rows of the one in the tables of the other: bodies, uploads and items under the numbers that they have, since other rows refer
--- to these, and all others numbered from 1; each arrival is as of the moment. The other's configuration, texts and dates stay.
+-- The rows of one archive in the tables of another: bodies, uploads and items under the numbers that they have, since other rows
+-- refer to these, and all others numbered from 1. Each arrival gets the moment. The configuration, the texts and the dates of the
+-- other archive stay.
 abbrev pub copied : Tables → ℕ → Tables → Tables
 copied t moment into = record into {
   bodies = t.bodies;
@@ -44,8 +45,8 @@ copied t moment into = record into {
   files = anew (rows_of t.files);
 }
 
--- The transaction goes on: whatever rows the tables held, with none where rows are copied to, they hold the copied ones now, and what
--- was committed stays.
+-- The transaction goes on. If the tables that get the copies had no row, they hold the copied rows now, and the others are as they
+-- were. What was committed stays.
 pub record Copies (old new : State) (t : Tables) (moment : ℕ) : Type 0 where
   pub held : (into : Tables) → IsBare into → Holds old.now into → Holds new.now (copied t moment into)
   pub kept : KeepsCommit old new

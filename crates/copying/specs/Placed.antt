@@ -13,11 +13,11 @@ use Rattle.tables.specs.declared.rows.Ref.{Ref}
 use Rattle.tables.specs.declared.rows.File.{File}
 use Rattle.copying.specs.Copying.{arrived_at}
 
--- the rows with this one at its place among rising numbers, and in place of one of its number
+-- the rows with this one at its place among rising numbers; it replaces a row of its number
 abbrev pub put_at : {X : Type 0} → ℕ × X → Numbered X → Numbered X
 put_at x rows = insert_by (λ y. id_int y.0) rows x
 
--- ---- a row more, with its number
+-- ---- one more row, with its number
 
 abbrev pub with_body_at : ℕ × BodyRow → Tables → Tables
 with_body_at x t = record t { bodies = put_at x t.bodies }
@@ -28,7 +28,7 @@ with_upload_at x t = record t { uploads = put_at x t.uploads }
 abbrev pub with_item_at : ℕ × ItemRow → Tables → Tables
 with_item_at x t = record t { items = put_at x t.items }
 
--- ---- a row more, under the next number in place of its own
+-- ---- one more row, under the next number in place of its own
 
 abbrev pub with_piece_of : ℕ × Piece → Tables → Tables
 with_piece_of x = with_piece x.1

@@ -30,7 +30,7 @@ impl<'a> ToSql<'a> for Number {
     }
 }
 
-/// The number, refused as too big where a table cannot hold it.
+/// The number, refused as too big if a table cannot hold it.
 pub(crate) fn whole(n: u64) -> Result<Number, Error>
     ensures { IfOk result (λ w. w ≡ n) }
 {
@@ -62,7 +62,7 @@ impl<'a> ToSql<'a> for Id {
     }
 }
 
-/// The number as that of a row. Each is one.
+/// The number as that of a row. Each number is the number of a row.
 pub(crate) fn as_id(n: u64) -> Id
     ensures { result ≡ n }
 {

@@ -16,7 +16,7 @@ ghost use Rattle.tables_meaning.specs.Kept.{IsBook, book_in};
 ghost use Rattle.migrating.specs.Migrating.{moved_book, moved_rows};
 
 /// The rows that a migration makes of those of an archive are those of an archive of the other configuration, with the same judged uploads, the
-/// same shown and the same dates; its book is the old one under that configuration, with each arrival as of the moment.
+/// same shown items and the same dates. Its book is the old one under that configuration, with the moment at each arrival.
 pub fn a_moved_archive_is_kept()
     ensures { (t : Tables) (config other : ConfigValue) (judged : List Judgement) (shown : ShelvesValue) (dates : List ℕ) (moment : ℕ) → IsBook t config judged shown dates → AreAlike config other
         → config_in other.text ≡ Ok other → moment ≤ latest
@@ -24,7 +24,7 @@ pub fn a_moved_archive_is_kept()
         × (book_in other judged shown dates (moved_rows other shown dates moment t) ≡ moved_book other moment (book_in config judged shown dates t)) }
 {}
 
-/// Under a configuration that differs in days alone there are as many suites, and all that is shown stays where it is.
+/// A configuration that differs in days alone has the same number of suites, and all that is shown stays on its shelf.
 pub fn an_alike_configuration_keeps_what_is_shown()
     ensures length { (config other : ConfigValue) → AreAlike config other → length config.suites ≡ length other.suites }
     ensures stays { (config other : ConfigValue) (shown : ShelvesValue) → config_in config.text ≡ Ok config → AreTold config.suites shown → AreAlike config other
@@ -33,7 +33,7 @@ pub fn an_alike_configuration_keeps_what_is_shown()
         → moved config.suites other.suites shown ≡ shown }
 {}
 
-/// Rows can be copied into the tables of a new archive: those to which they go have none.
+/// Rows can be copied into the tables of a new archive: the tables that get the copies have no row.
 pub fn a_new_archive_takes_copies()
     ensures { (config : ConfigValue) (moment : ℕ) → IsBare (founded config moment) }
 {}

@@ -1,4 +1,4 @@
--- Which errors are none of the query itself.
+-- Which errors are not errors of the query itself.
 use Rattle.std.specs.Prelude.{Bool, true, false}
 use Rattle.sqlite.specs.declared.error.ErrorCode.{ErrorCode}
 use Rattle.sqlite.specs.declared.error.ErrorCode.TheVariants.{OutOfMemory, SystemIoFailure, DatabaseCorrupt, DiskFull, Closed, TooBig, OperationInterrupted}
@@ -16,7 +16,7 @@ is_fault_code TooBig = true
 is_fault_code OperationInterrupted = true
 is_fault_code _ = false
 
--- so is the error
+-- the error is one of memory, of the disk, of a size, or of a limit on steps
 abbrev pub is_fault : Error → Bool
 is_fault (SqliteFailure code) = is_fault_code code
 is_fault _ = false

@@ -49,7 +49,7 @@ pub record AreShown (asked : Asked) (db : Database) (t : Tables) : Type 0 where
   pub texts : IsShown text_cells asked.texts db t.texts
   pub dates : IsShown date_cells asked.dates db t.dates
 
--- One of the queries of a layout is refused, or shows rows that are no rows of its table.
+-- One of the queries of a layout is refused, or shows rows that cannot be rows of its table.
 abbrev pub ShowsNone : Asked → Database → Type 0
 ShowsNone asked db =
     IsNotShown meta_layout (λ _. ⊤) asked.meta db

@@ -1,4 +1,4 @@
--- The rows that queries show of all tables, in pairs: those of one table, and those of the tables behind it.
+-- The rows that queries show of all tables, in pairs: those of one table, and those of the tables after it.
 use Rattle.tables.specs.Rows.{Tables}
 use Rattle.tables.specs.declared.rows.ArrivalRow.{ArrivalRow}
 use Rattle.tables.specs.declared.rows.BodyRow.{BodyRow}

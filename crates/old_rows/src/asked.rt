@@ -1,7 +1,8 @@
 //! The texts that ask a database of an older layout for rows of today's tables.
 //!
-//! A text that asks for another version, a table that is not there, or rows of other types make the database none of that layout. Tables,
-//! columns and indexes that no query names are passed over. So a later layout, once it is an older one, costs eleven texts.
+//! A database is not of a layout if the text that asks for the version finds another one, or if a text asks for a table that is not there
+//! or gets rows of other types. Tables, columns and indexes that no query names are passed over. So a later layout, once it is an older
+//! one, costs eleven texts.
 
 ghost use Rattle.std.specs.Prelude.{◌≡◌};
 ghost use Rattle.old_rows.specs.Layouts.{AreSelects, first_layout, second_layout};

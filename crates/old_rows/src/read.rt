@@ -21,12 +21,12 @@ use tables::rows::{
 };
 use tables_read::AllRows;
 
-/// Rows that queries show, one query for each table: a pair of the first and the others.
+/// Rows that queries show, one query for each table, as nested pairs of the first table's rows and the others.
 trait ReadShown: Sized + Drop {
     // the queries show these rows
     ghost are: { Texts → Database → Self → Type 0 };
 
-    // one of them is refused, or shows rows that are no rows of its table
+    // one of the queries is refused, or shows rows that cannot be rows of its table
     ghost are_not: { Texts → Database → Type 0 };
 
     fn read<S: Alter>(
@@ -94,7 +94,7 @@ type Arrived = (
     ),
 );
 
-/// The rows of the pairs in which queries show them.
+/// The rows of all tables, from the pairs in which queries show them.
 fn all_of(rows: Arrived) -> AllRows
     ensures { tables_with result ≡ tables_shown rows }
 {
@@ -116,7 +116,7 @@ fn all_of(rows: Arrived) -> AllRows
     }
 }
 
-/// What the queries of a layout show, where each is understood and all rows are of today's tables.
+/// What the queries of a layout show, if each is understood and all rows are of today's tables.
 pub fn old_rows<S: Alter>(
     alloc: Global,
     from: &mut Connection<S>,

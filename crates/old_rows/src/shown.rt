@@ -27,7 +27,8 @@ fn all_numbered<T: Stored>(alloc: Global, rows: &[Row]) -> Result<Option<Vec<(u6
     Ok(Some(all))
 }
 
-/// Whether an error is one of memory, of the disk, of a size, or of a limit on steps, and none of the query itself.
+/// Whether an error is one of memory, of the disk, of a size, or of a limit on steps. Other errors are of the query
+/// itself.
 fn is_fault_of_store(error: &Error) -> bool
     ensures { result ≡ is_fault error.now }
 {

@@ -1,4 +1,4 @@
-//! Which text of a layout asks for the rows of which table.
+//! For each table, the text of a layout that asks for its rows.
 
 ghost use Rattle.std.specs.Prelude.{◌≡◌, ℕ, List};
 ghost use Rattle.old_rows.specs.Layouts.{Asked as Texts, AreSelects};

@@ -24,14 +24,14 @@ pub record AreUsed (arrivals : Numbered ArrivalRow) (files : Numbered File) (num
 abbrev pub bytes_in : List Piece → List ℕ
 bytes_in ps = flat_map (λ p. p.bytes) ps
 
--- The piece is the next one of a body of `whole` bytes, behind the first `size` of them: as long as a piece may be, the last
--- what is left.
+-- The piece is the next one of a body of `whole` bytes, after the first `size` of them: as long as a piece may be, and the
+-- last of what is left.
 pub record IsNext (size whole : ℕ) (p : Piece) : Type 0 where
   pub some : size < whole
   pub number : p.number ≡ size / piece_size + 1
   pub long : length p.bytes ≡ min (whole - size) piece_size
 
--- These are the pieces of a body of their bytes, and this is the print of these bytes.
+-- These are the pieces of a body, cut from their bytes, and this is the print of these bytes.
 pub record ArePieces (id : ℕ) (print : Print) (ps : List Piece) : Type 0 where
   pub printed : print ≡ print_of (bytes_in ps)
   pub pieces : ps ≡ pieces_for id (bytes_in ps)
@@ -42,16 +42,16 @@ pub record IsBodyFit (t : Tables) (x : ℕ × BodyRow) : Type 0 where
   pub pieces : pieces_of t x.0 ≡ pieces_for x.0 (bytes_of t x.0)
   pub used : IsTrue (is_used t x.0)
 
--- The piece may be the next one of a body, behind so many full ones.
+-- The piece may be the next one of a body, after `count` full ones.
 pub record IsBehind (count : ℕ) (p : Piece) : Type 0 where
   pub number : p.number ≡ count + 1
   pub some : 0 < length p.bytes
   pub small : length p.bytes ≤ piece_size
 
--- these are the pieces of a body of their bytes
+-- these are the pieces of a body, cut from their bytes
 abbrev pub AreInPieces : ℕ → List Piece → Type 0
 AreInPieces id ps = ps ≡ pieces_for id (bytes_in ps)
 
--- where the body of this row is not whole, its pieces are as those of a whole one
+-- if the body of this row is not whole, its pieces are as those of a whole one
 abbrev pub IsInPieces : Tables → ℕ × BodyRow → Type 0
 IsInPieces t x = x.1.print ≡ None → pieces_of t x.0 ≡ pieces_for x.0 (bytes_of t x.0)

@@ -7,12 +7,12 @@ use Rattle.suites.specs.declared.item.Item.{Item}
 use Rattle.suites.specs.declared.item.PoolFile.{PoolFile}
 use Rattle.suites.specs.declared.key.ShelfKey.{ShelfKey}
 
--- the package, the source, the architecture and the version of a .dsc
+-- the item has the package, the source, the architecture and the version of a .dsc
 unfoldable pub has_source_columns : Item → DscValue → Bool
 has_source_columns item d =
     bytes_eq item.«package» d.source && bytes_eq item.source d.source && bytes_eq item.architecture (codes "source") && bytes_eq item.version d.version
 
--- and those of a sidecar
+-- the item has the package, the source, the architecture and the version of a sidecar
 unfoldable pub has_binary_columns : Item → SidecarValue → Bool
 has_binary_columns item s =
     bytes_eq item.«package» s.name && bytes_eq item.source s.source && bytes_eq item.architecture s.architecture && bytes_eq item.version s.version
@@ -22,7 +22,7 @@ abbrev pub has_one_at : List ℕ → List PoolFile → Bool
 has_one_at path (f ∷ []) = bytes_eq f.path path
 has_one_at path _ = false
 
--- The item is as its paragraph tells it, on a shelf of a suite that keeps it.
+-- The item is as its paragraph says, on a shelf of a suite that keeps it.
 pub record StandsTold (suites : List Suite) (e : ShelfKey × Item) : Type 0 where
   pub told : IsTold e.1
   pub kept : is_kept_by suites e ≡ true

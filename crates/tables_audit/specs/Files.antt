@@ -14,7 +14,7 @@ use Rattle.tables_meaning.specs.Kept.{print_in}
 abbrev pub HasPrint : PoolWith Print → Numbered BodyRow → ℕ × File → Type 0
 HasPrint pool bodies f = print_in bodies f.1.body ≡ get pool f.1.path
 
--- some file stands at the path
+-- some file is at the path
 abbrev pub is_path : Numbered File → List ℕ → Bool
 is_path files path = list_any (is_file_at path) (rows_of files)
 

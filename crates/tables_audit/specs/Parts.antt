@@ -19,8 +19,8 @@ pub record BodiesFit (t : Tables) : Type 0 where
 abbrev pub ArrivalsFit : Tables → Type 0
 ArrivalsFit t = All (λ a. IsDeliverable a.name a.body × (a.moment ≤ latest)) (arrivals_in t)
 
--- Those without a verdict are the .changes that arrived and are not judged, with the entries that each lists; the others are
--- these judged ones, at places from 1 on.
+-- The uploads without a verdict are the .changes that arrived and are not judged, with the entries that each lists. The
+-- others are these judged ones, at places from 1 on.
 pub record UploadsFit (t : Tables) (judged : List Judgement) : Type 0 where
   pub waiting : IsPermutation (map (request_in t) (filter (λ x. not (has_place x.1)) t.uploads))
       (map (request_of (arrivals_in t)) (filter (λ c. not (is_judged judged c)) (candidates (arrivals_in t))))

@@ -18,6 +18,6 @@ placed_with u (Some place) = (place, u) ∷ []
 abbrev pub first_at : List (ℕ × UploadRow) → ℕ → Option UploadRow
 first_at placed place = option_map (λ x. x.1) (find (λ x. nat_eq x.0 place) placed)
 
--- of each place, the first of these is the first of all
+-- at each place, the first of these is the first of all uploads
 abbrev pub ArePlaced : Numbered UploadRow → List (ℕ × UploadRow) → Type 0
 ArePlaced uploads placed = (place : ℕ) → first_at placed place ≡ find (is_placed place) (rows_of uploads)

@@ -17,7 +17,7 @@ SignValue = List ℕ × Print
 abbrev pub sign_of : Sign → SignValue
 sign_of s = (s.name.now, s.print)
 
--- those of a judgement, of what arrived, and of a listed file
+-- the name and the print of a judgement, of what arrived, and of a listed file
 abbrev pub judgement_sign : Judgement → SignValue
 judgement_sign j = (j.name, j.print)
 
@@ -27,10 +27,10 @@ arrived_sign a = (a.arrival.now.name, a.print)
 abbrev pub entry_sign : Entry → SignValue
 entry_sign e = (e.name, e.print)
 
--- they stand in the order of judging
+-- the names and the prints stand in the order of judging
 abbrev pub AreInOrder : List Sign → Type 0
 AreInOrder = IsSortedByKey sign_of judging_order
 
--- one of these is this
+-- the name and the print are among these
 abbrev pub has_sign : List SignValue → SignValue → Bool
 has_sign signs s = list_any (λ r. bytes_eq r.0 s.0 && same_print r.1 s.1) signs

@@ -30,12 +30,12 @@ use Rattle.tables_audit.specs.declared.uploads.awaited.Awaited.{Awaited}
 
 -- ---- judged uploads
 
--- an upload without a place has no verdict, and none has the place 0
+-- an upload without a place has no verdict, and no upload has the place 0
 pub record IsPlacedWell (u : UploadRow) : Type 0 where
   pub unjudged : u.place ≡ None → u.verdict ≡ None
   pub from_one : u.place ≢ Some 0
 
--- the judgement that a row tells
+-- the judgement that a row is, if the row has the number of a verdict
 unfoldable pub judgement_in : UploadRow → Option Judgement
 judgement_in u = option_map (λ v. record { name = u.name; print = u.print; verdict = v }) (option_and_then verdict_numbered u.verdict)
 
@@ -65,7 +65,7 @@ printed a = (a.arrival.now, a.print)
 unfoldable pub print_among : Numbered BodyRow → ℕ → Option Print
 print_among bodies id = option_and_then (λ x. x.1.print) (find (λ x. nat_eq x.0 id) bodies)
 
--- an arrival, with the print of its body where that has one
+-- an arrival, with the print of its body
 abbrev pub with_print : Arrived → ArrivalRow × Option Print
 with_print a = (a.arrival.now, Some a.print)
 
@@ -136,7 +136,7 @@ entry_order d e = text_order d.name e.name
 abbrev pub AreAsked : Numbered UploadRow → Numbered Want → List Arrived → List Awaited → Type 0
 AreAsked uploads wants arrived awaited = IsPermutation (map (request_row wants) (filter (λ x. not (has_place x.1)) uploads)) (map (request_among (map printed arrived)) (map awaited_view awaited))
 
--- name and print tell uploads apart
+-- no two uploads have the same name and print
 abbrev pub AreApart : Numbered UploadRow → Type 0
 AreApart uploads = AllPairs (λ u v. sign_in u ≢ sign_in v) (rows_of uploads)
 

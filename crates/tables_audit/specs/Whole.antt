@@ -10,7 +10,7 @@ use Rattle.tables.specs.Rows.{Tables, rows_of}
 use Rattle.tables_meaning.specs.Kept.{AreFiles, AreItems, AreSigned, IsBook, date_row}
 use Rattle.tables_audit.specs.Parts.{UploadsFit}
 
--- the items, the files and the texts are those of what is shown, which is as its records tell it
+-- the items, the files and the texts are those of what is shown, which is as its records say
 pub record ShownFits (t : Tables) (config : ConfigValue) (shown : ShelvesValue) (dates : List ℕ) : Type 0 where
   pub sound : AreSound shown
   pub told : AreTold config.suites shown
@@ -31,6 +31,6 @@ pub record RestFits (t : Tables) (config : ConfigValue) (judged : List Judgement
 abbrev pub KeepsSome : Tables → ConfigValue → List Judgement → List ℕ → Type 0
 KeepsSome t config judged dates = ∥ ((shown : ShelvesValue) × IsBook t config judged shown dates) ∥₁
 
--- the rows are those of no archive
+-- the rows are not those of an archive
 abbrev pub KeepsNone : Tables → Type 0
 KeepsNone t = (config : ConfigValue) (judged : List Judgement) (shown : ShelvesValue) (dates : List ℕ) → IsBook t config judged shown dates → ⊥

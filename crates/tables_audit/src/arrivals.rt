@@ -38,7 +38,7 @@ fn is_small(pieces: &Pieces<'_>, id: u64) -> bool
     size_of(pieces, id) as u64 <= MOST_SIZE
 }
 
-/// Whether a body is the record of an upload, where the name is that of a .changes.
+/// Whether a body is the record of an upload, if the name is that of a .changes.
 fn is_record_if_named(
     alloc: Global,
     pieces: &Pieces<'_>,
@@ -48,7 +48,7 @@ fn is_record_if_named(
     ensures { IfOk result (λ is. IsTrue is
         ↔ (is_changes_name name.now ≡ true → (c : ChangesValue) × changes_in (bytes_of (tables_with pieces.now.all.now) id) ≡ Ok c)) }
 {
-    // The bytes of no other body are wanted in one.
+    // Only the bytes of a .changes are needed in one list.
     if !is_changes_name(name) {
         return Ok(true);
     }

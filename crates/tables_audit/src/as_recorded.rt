@@ -1,6 +1,6 @@
-//! Whether all that suites show is as its records tell it.
+//! Whether all that suites show is as its records say.
 //!
-//! Items have to be as their records tell them: that is part of what the rows of an archive are. So a change has to keep it (`told` of
+//! Items have to be as their records say: that is part of what the rows of an archive are. So a change has to keep it (`told` of
 //! `IsSound`), and an opening reads each paragraph as a .dsc or a sidecar again.
 
 mod binary;
@@ -17,7 +17,7 @@ use rules::{Config, Suite};
 use std::alloc::{AllocError, Global};
 use suites::{Item, Kind, ShelfKey, Shelves};
 
-/// Whether an item is as its paragraph tells it.
+/// Whether an item is as its paragraph says.
 fn is_told(alloc: Global, item: &Item) -> Result<bool, AllocError>
     ensures { IfOk result (λ told. IsTrue told ↔ IsTold item.now) }
 {
@@ -38,7 +38,7 @@ fn is_kept(suites: &[Suite], key: &ShelfKey, item: &Item) -> bool
     suite.keeps(item.component.as_str(), item.architecture.as_str())
 }
 
-/// Whether an item is as its paragraph tells it, on a shelf of a suite that keeps it.
+/// Whether an item is as its paragraph says, on a shelf of a suite that keeps it.
 fn stands_told(
     alloc: Global,
     suites: &[Suite],
@@ -53,10 +53,10 @@ fn stands_told(
     is_told(alloc, item)
 }
 
-/// Whether each item that the suites of a configuration show is as its paragraph tells it: a source has the columns of the
-/// .dsc (Debian Policy 5.4) that its paragraph is, and for its files this and all that it lists; a package has the columns of
-/// its sidecar (5.3), and for its file the package file; and whether the suite where it stands keeps its component and its
-/// architecture.
+/// Whether each item that the suites of a configuration show is as its paragraph says, and the suite in which it stands keeps
+/// its component and its architecture. A source has the columns of the .dsc (Debian Policy 5.4) that its paragraph is, and as
+/// its files the .dsc and all that it lists. A package has the columns of its sidecar (5.3), and as its file the package
+/// file.
 pub fn are_told(alloc: Global, config: &Config, shelves: &Shelves) -> Result<bool, AllocError>
     ensures { IfOk result (λ told. IsTrue told ↔ AreTold config.now.suites shelves.now) }
 {

@@ -1,6 +1,6 @@
 //! The bodies of an archive and their pieces.
 //!
-//! A body has to be an arrival's, or that of a file of the pool.
+//! A body has to be that of an arrival, or that of a file of the pool.
 
 ghost use Rattle.std.specs.Prelude.{◌≡◌, ◌↔◌, ◌≤◌, ℕ, All, filter, length, map, min, nat_eq, IsTrue, IfOk};
 ghost use Rattle.std.specs.List.{list_any};
@@ -39,7 +39,7 @@ pub fn size_of(pieces: &Pieces<'_>, id: u64) -> usize
     count_of_bytes(pieces.about(id), id)
 }
 
-/// The bytes of these pieces, one after another, where they are so many.
+/// The bytes of these pieces, one after another. `size` is their number.
 fn joined(alloc: Global, pieces: &[&Piece], size: usize) -> Result<Vec<u8>, AllocError>
     ensures { IfOk result (λ bytes. bytes.items ≡ bytes_in (map (λ p. p.now) pieces.now)) }
 {
@@ -59,7 +59,7 @@ pub fn bytes_of(alloc: Global, pieces: &Pieces<'_>, id: u64) -> Result<Vec<u8>, 
     joined(alloc, &found, size_of(pieces, id))
 }
 
-/// Whether the piece is the next one of a body of `whole` bytes, behind the first `size` of them.
+/// Whether the piece is the next one of a body of `whole` bytes, after the first `size` of them.
 fn is_next(piece: &Piece, size: u64, whole: u64) -> bool
     requires { size ≤ whole }
     ensures { IsTrue result ↔ IsNext size whole piece.now }

@@ -36,8 +36,8 @@ fn date_of(rows: &[(u64, Date)], suite: &Suite) -> Option<u64>
     None
 }
 
-/// The dates that rows have, if these are those of the suites in whatever order, each at a moment that may be. Each suite's
-/// row is looked up, and there is no other.
+/// The dates that rows have, if these are those of the suites in whatever order, each at a moment that may be. The row of
+/// each suite is looked up, and there have to be no other rows.
 fn dates_of(
     alloc: Global,
     rows: &[(u64, Date)],

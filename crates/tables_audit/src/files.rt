@@ -15,7 +15,7 @@ use sums::Print;
 use tables::rows::{BodyRow, File};
 use tables_read::AllRows;
 
-/// The print of the body of a number, where there is one and it is whole.
+/// The print of the body of a number, if there is one and it is whole.
 fn print_of(bodies: &[(u64, BodyRow)], id: u64) -> Option<Print>
     ensures { result ≡ print_in bodies.now id }
 {

@@ -1,4 +1,4 @@
-//! What the suites show, where the rows of items and of their files tell it.
+//! What the suites show, if the rows of items and of their files say it.
 
 ghost use Rattle.std.specs.Prelude.{◌≡◌, filter, true, false, None, IfOk, IfSome, IsTrue};
 ghost use Rattle.suites.specs.Shelves.{AreSound, ShelvesValue};
@@ -69,7 +69,7 @@ fn ref_order(a: &Ref, b: &Ref) -> Ordering
     a.number.cmp(&b.number)
 }
 
-/// The rows of an item's files in the order of their numbers, whatever that in which they stand.
+/// The rows of an item's files in the order of their numbers, whatever the order in which they come.
 pub fn refs_in_order(mut refs: Vec<Ref>) -> Result<Vec<Ref>, AllocError>
     ensures { IfOk result (λ sorted. sorted.items ≡ sorted_by ref_order refs.items) }
 {
@@ -100,7 +100,7 @@ fn are_numbered(refs: &[Ref]) -> bool
     true
 }
 
-/// Puts on its shelf what a row with these files shows. Says no where it may not stand there.
+/// Puts on its shelf what a row with these files shows. Answers false if it may not stand there.
 fn put_files(
     alloc: Global,
     shelves: &mut Shelves,
@@ -120,8 +120,8 @@ fn put_files(
     }
 }
 
-/// Puts on its shelf what the row of this number shows. Says no where its files are not numbered from 1 on, or where
-/// it may not stand there.
+/// Puts on its shelf what the row of this number shows. Answers false if its files are not numbered from 1 on, or if it
+/// may not stand there.
 fn put(
     alloc: Global,
     shelves: &mut Shelves,
@@ -141,7 +141,7 @@ fn put(
     put_files(alloc, shelves, suites, row, refs)
 }
 
-/// What rows show, where each may stand beside those before it.
+/// What rows show, if each may stand beside those before it.
 fn shelves_of(
     alloc: Global,
     suites: &[Suite],
@@ -160,7 +160,7 @@ fn shelves_of(
     Ok(Some(shelves))
 }
 
-/// What the suites of a configuration show, where the rows of items and of their files tell it.
+/// What the suites of a configuration show, if the rows of items and of their files say it.
 pub fn shelves_in(
     alloc: Global,
     all: &AllRows,

@@ -89,7 +89,7 @@ pub fn are_in_order<T: Keyed>(rows: &[T]) -> bool
     do_rise(rows)
 }
 
-/// How many rows stand before those of a number, where the rows stand in order.
+/// How many rows stand before those of a number. The rows stand in order.
 fn count_below<T: Keyed>(rows: &[T], id: u64) -> usize
     requires { IsNonDecreasingBy T.key_of rows.now }
     ensures bound { result ≤ length rows.now }
@@ -98,7 +98,7 @@ fn count_below<T: Keyed>(rows: &[T], id: u64) -> usize
     rows.partition_point(|row| row.key() < id)
 }
 
-/// How many rows stand before those of the numbers above one, where the rows stand in order.
+/// How many rows stand before those of all greater numbers. The rows stand in order.
 fn count_up_to<T: Keyed>(rows: &[T], id: u64) -> usize
     requires { IsNonDecreasingBy T.key_of rows.now }
     ensures bound { result ≤ length rows.now }
@@ -107,7 +107,7 @@ fn count_up_to<T: Keyed>(rows: &[T], id: u64) -> usize
     rows.partition_point(|row| row.key() <= id)
 }
 
-/// The rows of a number, where the rows stand in order.
+/// The rows of a number. All rows stand in order.
 pub fn part_of<T: Keyed>(rows: &[T], id: u64) -> &[T]
     requires { IsNonDecreasingBy T.key_of rows.now }
     ensures { with_key T.key_of id result.now ≡ with_key T.key_of id rows.now }
@@ -134,7 +134,7 @@ impl<'a, T: Keyed> Rows<'a, T> {
         Rows { all, is_in_order }
     }
 
-    /// Rows among which all those of a number are: no others, where the rows stand in order.
+    /// Rows among which all those of a number are. If the rows stand in order there are no others among them.
     pub fn about(&self, id: u64) -> &[T]
         ensures { with_key T.key_of id result.now ≡ with_key T.key_of id self.now.all.now }
     {

@@ -1,15 +1,15 @@
-//! Says whether a database has the tables of an archive, and whether all rows of these are those of one, one module for each part of
-//! it; and puts rows of items on the shelves of suites.
+//! Answers whether a database has the tables of an archive, and whether all rows of these are those of an archive, with one module
+//! for each part of it. It also puts rows of items on the shelves of suites.
 //!
-//! What keys keep is not tested here, since the library checks each key of a file that it opens. The rest is: types beyond STRICT (no
-//! size, moment or place below zero), and all that the rows mean.
+//! What keys keep is not tested here, since the library checks each key of a file that it opens. The rest is tested: types beyond
+//! STRICT (no size, moment or place below zero), and all that the rows mean.
 //!
 //! Rows may stand in any order. Those of `texts` and `dates` are found by their path and their suite: each that has to be there is looked up,
-//! and there are as many. Pieces of a body and files of an item are put in the order of their numbers, here and in each read; uploads without a
-//! verdict in the order of judging, and what each wants in that of the names.
+//! and their number has to be the same. Pieces of a body and files of an item are put in the order of their numbers, here and in each read;
+//! uploads without a verdict in the order of judging, and what each wants in the order of the names.
 //!
-//! All rows are in memory while they are tested, bodies with their bytes among them: each once, since rows are typed as the query gives
-//! them, and one body more, beside what the library holds.
+//! All rows are in memory while they are tested, with the bytes of the bodies. Each is there once, since rows are typed as the query
+//! gives them. Besides these there is one more body, and what the library holds.
 #![tactic(auto)]
 
 mod arrivals;

@@ -12,7 +12,7 @@ use tables::meta::VERSION;
 use tables::rows::Meta;
 use tables_read::AllRows;
 
-/// The configuration that a text is, if it is one.
+/// The configuration that a text is, if the text is a valid one.
 fn config_of(alloc: Global, text: &[u8]) -> Result<Option<Config>, AllocError>
     ensures some { IfOk result (λ o. IfSome o (λ config. config_of_text text.now ≡ Ok config)) }
     ensures none { IfOk result (λ o. o ≡ None
@@ -25,7 +25,8 @@ fn config_of(alloc: Global, text: &[u8]) -> Result<Option<Config>, AllocError>
     }
 }
 
-/// The configuration that a row has, if it is of the version and its text is one.
+/// The configuration that a row has, if the row has the version of today's layout and its text is a valid
+/// configuration.
 fn config_in_row(alloc: Global, row: &Meta) -> Result<Option<Config>, AllocError>
     ensures some { IfOk result (λ o. IfSome o (λ config. (row.now ≡ record { version = VERSION; configuration = config.text })
         × (config_of_text config.text ≡ Ok config))) }
@@ -39,7 +40,8 @@ fn config_in_row(alloc: Global, row: &Meta) -> Result<Option<Config>, AllocError
     config_of(alloc, row.configuration.as_slice())
 }
 
-/// The configuration of an archive with these rows: the one row of `meta` is of the version, and has its text.
+/// The configuration of an archive with these rows: the one row of `meta` has the version of today's layout, and this
+/// text.
 pub fn config_in(alloc: Global, all: &AllRows) -> Result<Option<Config>, AllocError>
     ensures some { IfOk result (λ o. IfSome o (λ config.
         (rows_of (tables_with all.now).meta ≡ record { version = VERSION; configuration = config.text } ∷ [])

@@ -1,4 +1,4 @@
-//! The pieces of the bodies, and where those of one body stand.
+//! The pieces of the bodies, and which of the rows are those of one body.
 //!
 //! The rows of pieces stand in any order. Those of a body are put in the order of their numbers.
 
@@ -23,7 +23,7 @@ fn are_by_body(pieces: &[(u64, Piece)]) -> bool
     keyed::are_in_order(pieces)
 }
 
-/// The pieces of a body, where the pieces stand by body.
+/// The pieces of a body. All pieces stand by body.
 fn part_of(pieces: &[(u64, Piece)], id: u64) -> &[(u64, Piece)]
     requires { AreByBody pieces.now }
     ensures { filter (is_of id) (rows_of result.now) ≡ filter (is_of id) (rows_of pieces.now) }
@@ -80,7 +80,7 @@ impl<'a> Pieces<'a> {
         Pieces { all, is_by_body }
     }
 
-    /// Pieces among which all those of a body are: no others, where the pieces stand by body.
+    /// Pieces among which all those of a body are. If the pieces stand by body there are no others among them.
     pub fn about(&self, id: u64) -> &[(u64, Piece)]
         ensures { filter (is_of id) (rows_of result.now) ≡ filter (is_of id) (rows_of self.now.all.now.pieces.items) }
     {

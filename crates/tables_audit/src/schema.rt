@@ -20,7 +20,7 @@ use sqlite_value::value::{Bytes, Value};
 use std::alloc::Global;
 use tables::schema::create_tables;
 
-/// A part of a schema, which can be told from others of its kind.
+/// A part of a schema, which can be compared with others of its kind.
 trait Same {
     ghost is_plain: { Self → Type 0 };
 
@@ -277,7 +277,7 @@ fn refer_elsewhere(archive: &[Table], references: &[Reference]) -> bool
 /// The last tree of an archive.
 const LAST_TREE: u32 = 22;
 
-/// Whether the table stands behind those of an archive, and refers to none of them.
+/// Whether the table comes after those of an archive, and refers to none of them.
 #[tactic(auto, unfolding(tables::specs::Others::is_apart))]
 fn is_apart(archive: &[Table], table: &Table) -> bool
     requires { archive.now ≡ archive_schema.tables }
@@ -288,7 +288,7 @@ fn is_apart(archive: &[Table], table: &Table) -> bool
     behind && elsewhere
 }
 
-/// Whether the tables behind those of an archive refer to none of these.
+/// Whether the tables after those of an archive refer to none of these.
 fn are_tables_apart(archive: &[Table], tables: &[Table]) -> bool
     requires { archive.now ≡ archive_schema.tables }
     ensures { result ≡ list_all is_apart_of tables.now }
@@ -296,14 +296,14 @@ fn are_tables_apart(archive: &[Table], tables: &[Table]) -> bool
     tables.iter().all(|table| is_apart(archive, table))
 }
 
-/// Whether these columns are this one alone.
+/// Whether these columns are only this one.
 fn is_by(columns: &[usize], column: usize) -> bool
     ensures { result ≡ is_by_of columns.now column }
 {
     columns.len() == 1 && columns[0] == column
 }
 
-/// Whether the index has this name, this table and this column alone, and takes any rows.
+/// Whether the index has this name, this table and only this column, and takes any rows.
 fn is_like(index: &Index, name: &str, table: u32, column: usize) -> bool
     ensures { result ≡ (bytes_eq index.now.name name.now && (nat_eq index.now.table table && (is_by_of index.now.columns column && not index.now.is_unique))) }
 {
@@ -314,7 +314,7 @@ fn is_like(index: &Index, name: &str, table: u32, column: usize) -> bool
     named && placed && by && takes_any
 }
 
-/// Whether the index is that by which the arrivals or the files of a body are found.
+/// Whether the index is one of the two by which the arrivals and the files of a body are found.
 #[tactic(auto, unfolding(tables::specs::Others::is_known))]
 fn is_known(index: &Index) -> bool
     ensures { result ≡ is_known_of index.now }
@@ -324,7 +324,7 @@ fn is_known(index: &Index) -> bool
     of_arrivals || of_files
 }
 
-/// Whether the index stands on no table of an archive, or is one of the two of bodies.
+/// Whether the index is on no table of an archive, or is one of the two of bodies.
 #[tactic(auto, unfolding(tables::specs::Others::is_apart_from))]
 fn is_apart_from(index: &Index) -> bool
     ensures { result ≡ is_apart_from_of index.now }
@@ -334,14 +334,14 @@ fn is_apart_from(index: &Index) -> bool
     behind || known
 }
 
-/// Whether the indexes stand on no table of an archive, the two of bodies aside.
+/// Whether the indexes, except the two of bodies, are on no table of an archive.
 fn are_indexes_apart(indexes: &[Index]) -> bool
     ensures { result ≡ list_all is_apart_from_of indexes.now }
 {
     indexes.iter().all(is_apart_from)
 }
 
-/// The parts behind so many.
+/// The parts after the first `count`.
 fn behind<T>(all: &[T], count: usize) -> &[T]
     requires { count ≤ length all.now }
     ensures { result.now ≡ drop count all.now }
@@ -381,8 +381,8 @@ fn with_tables(alloc: Global) -> Result<Connection<MemStore>, Error>
     Ok(conn)
 }
 
-/// Whether the database has the tables of an archive, with others behind them at most. Nothing of the database fails here: it takes
-/// memory alone.
+/// Whether the database has the tables of an archive, and after them at most others that leave them alone. The database is not
+/// read, so an error here comes from want of memory alone.
 pub fn is_archive_schema<S: Alter>(alloc: Global, conn: &Connection<S>) -> Result<bool, Error>
     ensures ok { IfOk result (λ answer. IsTrue answer ↔ IsArchiveSchema (state S.Store conn.now).now.schema) }
     ensures err { IfErr result (λ e. e ≡ SqliteFailure OutOfMemory) }

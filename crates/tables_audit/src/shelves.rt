@@ -17,7 +17,7 @@ use suites::{Item, Kind, PoolFile, Shelves};
 use tables::rows::{ItemRow, Ref};
 use vers::{Version, VersionFault};
 
-/// What a version that may not be read is answered.
+/// The error for a version that may not be read.
 fn error_of(fault: VersionFault) -> Error
     ensures { (result ≡ Error.SqliteFailure ErrorCode.OutOfMemory) ⊎ (¬ (fault ≡ VersionFault.OutOfMemory)) }
 {
@@ -27,7 +27,7 @@ fn error_of(fault: VersionFault) -> Error
     Error::SqliteFailure(ErrorCode::DatabaseCorrupt)
 }
 
-/// The version that a text is. One that is none, which cannot be in an archive, is refused.
+/// The version that a text is. A text that is not a version cannot be in an archive, and is refused.
 fn version_in(alloc: Global, text: &str) -> Result<Version, Error>
     ensures ok { IfOk result (λ version. (version ≡ text.now) × IsVersion text.now) }
     ensures refused { IfErr result (λ e. (e ≡ Error.SqliteFailure ErrorCode.OutOfMemory) ⊎ (¬ IsVersion text.now)) }
@@ -38,7 +38,8 @@ fn version_in(alloc: Global, text: &str) -> Result<Version, Error>
     }
 }
 
-/// The text that bytes are, which it takes without a copy. Bytes that are none, which cannot be in an archive, are refused.
+/// The text that bytes are, which it takes without a copy. Bytes that are not text cannot be in an archive, and are
+/// refused.
 fn text_in(bytes: Listed<u8>) -> Result<Text, Error>
     ensures ok { IfOk result (λ text. (text ≡ bytes) × IsUtf8 bytes) }
     ensures refused { OnErr result (¬ IsUtf8 bytes) }
@@ -95,7 +96,7 @@ fn differ(one: &PoolFile, other: &PoolFile) -> bool
     one.print != other.print
 }
 
-/// Whether a file stands at the path of one of the others, with another print.
+/// Whether one of the others is at the path of a file, with another print.
 fn differs(file: &PoolFile, others: &[PoolFile]) -> bool
     ensures { result ≡ list_any (clash file.now) others.now }
 {
@@ -118,7 +119,7 @@ fn is_taken(shelves: &Shelves, file: &PoolFile) -> bool
     }
 }
 
-/// Whether a file of an item has another print than what stands at its path in the pool, or among the item's files.
+/// Whether a file of an item has another print than a file at its path in the pool, or among the item's files.
 #[tactic(auto, unfolding(tables_meaning::specs::Shown::may_not_join))]
 fn may_not_join(shelves: &Shelves, files: &[PoolFile], file: &PoolFile) -> bool
     ensures { result ≡ may_not_join_pool (pool shelves.now) files.now file.now }
@@ -141,8 +142,8 @@ fn some_may_not_join(shelves: &Shelves, files: &[PoolFile]) -> bool
     false
 }
 
-/// Puts an item on its shelf in a suite. A shelf that is taken, and a file with another print than what stands at its path,
-/// which cannot be in an archive, are refused.
+/// Puts an item on its shelf in a suite. It is refused if the shelf is taken, or if a file has another print than the one
+/// at its path. Neither can be in an archive.
 fn put_item(alloc: Global, shelves: &mut Shelves, suite: usize, item: Item) -> Result<(), Error>
     ensures ok { OnOk result (IsPut shelves.old shelves.new (standing suite item)) }
     ensures refused { IfErr result (λ e. (e ≡ Error.SqliteFailure ErrorCode.OutOfMemory) ⊎ (¬ MayBePut shelves.old (standing suite item))) }

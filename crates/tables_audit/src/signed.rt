@@ -11,7 +11,7 @@ use keep::Judgement;
 use records::MOST_CHANGES;
 use sums::{Print, is_changes_name, is_file_name};
 
-/// So many bytes have their length. For the prover alone: the law is the contract.
+/// An array of N bytes has the length N. For the prover alone: the law is the contract.
 fn has_length<const N: usize>(bytes: &[u8; N])
     ensures { length bytes.now ≡ N }
 {
@@ -27,7 +27,7 @@ fn has_lengths(print: &Print)
     has_length(&print.sha256);
 }
 
-/// Whether an upload has the name of a .changes that may be delivered, and a print that one may have.
+/// Whether an upload has the name of a .changes that may be delivered, and a print that a .changes may have.
 fn is_signed(judgement: &Judgement) -> bool
     ensures { IsTrue result ↔ IsSigned judgement.now.name judgement.now.print }
 {

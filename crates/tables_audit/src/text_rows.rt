@@ -128,7 +128,7 @@ fn is_in_rows(rows: &[(u64, TextRow)], path: &str, body: &[u8]) -> bool
     false
 }
 
-/// The same, where the row at a place is looked at first.
+/// Whether some row has this text at this path. The row at a place is looked at first.
 fn is_in_rows_from(rows: &[(u64, TextRow)], place: usize, path: &str, body: &[u8]) -> bool
     ensures { IsTrue result ↔ Contains (texts_in rows.now) (path.now, body.now) }
 {

@@ -1,8 +1,8 @@
 //! The pieces of the bodies that are not whole.
 //!
 //! A body without a print is one whose delivery was cut short. An opening takes it away with its pieces, but only once the rest has passed
-//! as an archive. If an arrival or a file of the pool names it, or its pieces are not those of a body, numbered from 1 and of 65,536 bytes
-//! but the last, the database is no archive.
+//! as an archive. If an arrival or a file of the pool names it, the database is not an archive. Nor is it one if the body's pieces are not
+//! numbered from 1, each but the last of 65,536 bytes.
 
 ghost use Rattle.std.specs.Prelude.{◌≡◌, ◌↔◌, ◌<◌, ℕ, All, map, IfOk, IsTrue};
 ghost use Rattle.tables_read.specs.All.{tables_with};
@@ -15,7 +15,7 @@ use std::alloc::{AllocError, Global};
 use tables::rows::{BodyRow, Piece};
 use tables_read::AllRows;
 
-/// Whether the piece may be the next one of a body, behind so many full ones.
+/// Whether the piece may be the next one of a body, after `count` full ones.
 fn is_behind(piece: &Piece, count: u64) -> bool
     requires { count < 18_446_744_073_709_551_615 }
     ensures { IsTrue result ↔ IsBehind count piece.now }

@@ -35,7 +35,7 @@ fn are_asked(
     ensures { AreApart all.now.uploads.items → IfOk result (λ fit. MatchBool fit (AreAsked all.now.uploads.items all.now.wants.items arrived.now awaited.entry.items)
         (AreAsked all.now.uploads.items all.now.wants.items arrived.now awaited.entry.items → ⊥)) }
 {
-    // Where none waits, nothing is looked up among what arrived.
+    // If none waits, nothing is looked up among what arrived.
     if awaited.is_empty() {
         return Ok(have_places(&all.uploads));
     }
@@ -64,7 +64,7 @@ fn are_besides(alloc: Global, all: &AllRows, judged: &[Judgement]) -> Result<boo
     Ok(are_owned(&all.wants, &uploads))
 }
 
-/// The judged uploads in their order, where the rows of uploads and of what they want are those of an archive.
+/// The judged uploads in their order, if the rows of uploads and of what they want are those of an archive.
 pub fn judgements_in(alloc: Global, all: &AllRows) -> Result<Option<Vec<Judgement>>, AllocError>
     ensures some { AreConstrained (tables_with all.now) → BodiesFit (tables_with all.now)
         → IfOk result (λ o. IfSome o (λ judged. UploadsFit (tables_with all.now) judged.items)) }

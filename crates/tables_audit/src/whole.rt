@@ -36,7 +36,7 @@ pub struct Held {
     ghost in_range: { All (λ date. date ≤ latest) dates.items },
 }
 
-/// What the suites show, where the rows are the items, the files and the texts of an archive of this configuration, with these
+/// What the suites show, if the rows are the items, the files and the texts of an archive of this configuration, with these
 /// dates.
 fn shelves_shown(
     alloc: Global,
@@ -74,7 +74,7 @@ fn have_arrived(alloc: Global, all: &AllRows) -> Result<bool, AllocError>
     are_arrivals_deliverable(alloc, all)
 }
 
-/// What a keeper holds of an archive of this configuration with these rows, where they are those of one.
+/// What a keeper holds of an archive of this configuration with these rows, if they are those of one.
 fn held_of(alloc: Global, all: &AllRows, config: Config) -> Result<Option<Held>, AllocError>
     ensures some { AreConstrained (tables_with all.now) → BodiesFit (tables_with all.now) → IfOk result (λ o. IfSome o (λ held. (held.config ≡ config) × RestFits (tables_with all.now) config held.judged.items held.shelves held.dates.items)) }
     ensures none { AreConstrained (tables_with all.now) → BodiesFit (tables_with all.now) → IfOk result (λ o. o ≡ None → AreReadable (tables_with all.now) → (judged : List JudgementValue) (shown : ShelvesValue) (dates : List ℕ) → RestFits (tables_with all.now) config judged shown dates → ⊥) }
@@ -101,7 +101,7 @@ fn held_of(alloc: Global, all: &AllRows, config: Config) -> Result<Option<Held>,
     }))
 }
 
-/// What a keeper holds of an archive with these rows, where they are those of one.
+/// What a keeper holds of an archive with these rows, if they are those of one.
 pub fn archive_in(alloc: Global, all: &AllRows) -> Result<Option<Held>, AllocError>
     ensures some { AreConstrained (tables_with all.now) → IfOk result (λ o. IfSome o (λ held. IsBook (tables_with all.now) held.config held.judged.items held.shelves held.dates.items)) }
     ensures none { AreConstrained (tables_with all.now) → IfOk result (λ o. o ≡ None → AreReadable (tables_with all.now) → KeepsNone (tables_with all.now)) }

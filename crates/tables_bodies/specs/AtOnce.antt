@@ -8,11 +8,11 @@ use Rattle.tables_meaning.specs.Making.{number_with, with_bytes, with_delivered}
 use Rattle.tables_meaning.specs.Taking.{listed_in}
 use Rattle.tables_bodies.specs.Counting.{arrival_counts}
 
--- these bytes fit one piece: there is one, and there are at most 65,536
+-- these bytes fit one piece: there is at least one byte, and there are at most 65,536
 abbrev pub FitsOnePiece : List ℕ → Type 0
 FitsOnePiece bytes = (0 < length bytes) × (length bytes ≤ 65536)
 
--- a whole body more, and its one piece
+-- one more whole body, and its one piece
 abbrev pub with_one_piece : Print → List ℕ → Tables → Tables
 with_one_piece print bytes t = with_piece (record { body = next_in t.bodies; number = 1; bytes = bytes }) (with_body (record { print = Some print }) t)
 
@@ -29,7 +29,7 @@ pub record IsOnePiece (t : Tables) (body : ℕ) (bytes : List ℕ) : Type 0 wher
 abbrev pub HasNoOtherPiece : Print → List ℕ → Tables → Type 0
 HasNoOtherPiece print bytes t = (found : ℕ) → body_with print t.bodies ≡ Some found → IsOnePiece t found bytes
 
--- whether its arrival is new at the moment, where what arrives counts for so many seconds, or for good
+-- whether its arrival is new at the moment, with the seconds for which arrivals count, or none if they count for good
 abbrev pub is_new_at_once : List ℕ → List ℕ → Print → Option ℕ → ℕ → Tables → Bool
 is_new_at_once name bytes print span moment t =
     let stored = with_bytes print bytes t in

@@ -12,6 +12,6 @@ module _ {S : Type 0} (store : Ghosts S) (old new : Held S) where
   abbrev pub AnswersOf : {T E : Type 0} → Result T E → (T → Tables → Type 0) → Type 0
   AnswersOf result Answers = HasCleanDisk (state store new) → IfOk result (λ x. (t : Tables) → Holds (state store old).now t → Answers x t)
 
-  -- a crash meanwhile leaves what it could leave before, or the changed rows, and these only where this was so of the rows before
+  -- a crash meanwhile leaves what it could leave before, or the changed rows, and these only if `Was` holds of the rows before
   abbrev pub CommitsWhere : (Tables → Tables) → (Tables → Type 0) → Type 0
   CommitsWhere change Was = Survives (state store old) (state store new) (λ trees. MayCommit (state store old) change trees × ((t : Tables) → Holds (state store old).now t → Was t))

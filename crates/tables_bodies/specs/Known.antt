@@ -1,4 +1,4 @@
--- A body that came where one of its print is there.
+-- A body that came, if a body of its print is there.
 use Rattle.std.specs.Prelude.{ℕ, Option, Some, None}
 use Rattle.tables.specs.Rows.{Tables}
 use Rattle.tables_meaning.specs.Finished.{without_whole}

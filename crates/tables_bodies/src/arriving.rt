@@ -17,7 +17,7 @@ use tables::bodies::body_with_print_inside;
 use tables::uploads::{insert_upload, upload_of};
 use tables::wants::{insert_want, mark_here};
 
-/// A file that arrives: its name, its print, for how many seconds what arrives counts, none where it does so for good, and the
+/// A file that arrives: its name, its print, for how many seconds an arrival counts, or nothing if it counts for good, and the
 /// moment.
 #[derive(Clone, Copy)]
 pub(crate) struct Arriving<'a> {
@@ -27,8 +27,9 @@ pub(crate) struct Arriving<'a> {
     pub moment: u64,
 }
 
-/// A body has arrived under a name. Answers whether it is new: whether it was not there, or did not count at the moment, where what
-/// arrives counts for so many seconds, or for good. One that is there gets the moment where its own is less.
+/// Stores that a body has arrived under a name. Answers whether that is new: whether it was not there, or did not count at the
+/// moment. `span` says for how many seconds an arrival counts, or nothing if it counts for good. An arrival that is there gets the
+/// moment if its own is less.
 fn store_arrival<S: Alter>(
     alloc: Global,
     tx: &mut Transaction<'_, S>,
@@ -151,7 +152,8 @@ fn store_file<S: Alter>(
     Ok(new)
 }
 
-/// The same, and stores what the file lists. Answers whether the arrival is new.
+/// Stores that a file has arrived, whose body has this number, that it is here for those that want it, and what the
+/// file lists. Answers whether the arrival is new at the moment.
 pub(crate) fn receive<S: Alter>(
     alloc: Global,
     tx: &mut Transaction<'_, S>,

@@ -24,7 +24,7 @@ use sums::Print;
 use tables::bodies::{body_with_print_inside, insert_body};
 use tables::pieces::insert_piece;
 
-/// A file whose body is one piece: its name, its bytes, their print, for how many seconds what arrives counts, none where it does so
+/// A file whose body is one piece: its name, its bytes, their print, for how many seconds an arrival counts, or nothing if it counts
 /// for good, and the moment.
 #[derive(Clone, Copy)]
 pub struct OnePiece<'a> {
@@ -51,7 +51,7 @@ fn add_body<S: Alter>(
     Ok(id)
 }
 
-/// Stores a body of one piece, unless it is there, and answers its number. Where another one of its print is there it is refused.
+/// Stores a body of one piece, unless it is there, and answers its number. It is refused if another body of its print is there.
 fn store_body<S: Alter>(
     alloc: Global,
     tx: &mut Transaction<'_, S>,
@@ -74,8 +74,8 @@ fn store_body<S: Alter>(
     }
 }
 
-/// Takes the file as one that has arrived, inside a transaction. One whose print is that of another body is refused. Answers
-/// whether the arrival is new.
+/// Takes the file as one that has arrived, inside a transaction. A file whose print is that of another body is refused.
+/// Answers whether the arrival is new.
 fn take_inside<S: Alter>(
     alloc: Global,
     tx: &mut Transaction<'_, S>,

@@ -1,7 +1,7 @@
 //! Takes away what does not count at a moment: arrivals, what came of them, and then the bodies that nothing uses.
 //!
-//! A cleaning that takes nothing is a transaction as any other. To read first what ended would spare that a commit, and cost each other
-//! cleaning the reading.
+//! A cleaning that takes nothing away is a transaction like any other. It could be spared its commit by reading first what has ended,
+//! but then each other cleaning would read twice.
 
 ghost use Rattle.std.specs.Prelude.{if◌then◌else◌, ◌≡◌, false, filter, fold, length, not, OnOk};
 ghost use Rattle.sqlite.specs.State.{Survives};
@@ -27,7 +27,8 @@ use tables::rows::{ArrivalRow, UploadRow};
 use tables::uploads::{delete_upload, upload_of};
 use tables::wants::{delete_wants, mark_away};
 
-/// Whether an arrival counts at a moment, where what arrives counts for so many seconds, or for good.
+/// Whether an arrival counts at a moment. `span` says for how many seconds arrivals count, or nothing if they count for
+/// good.
 #[tactic(auto, unfolding(tables_meaning::specs::Cleaning::counts_row))]
 pub fn counts(span: Option<u64>, moment: u64, arrival: &ArrivalRow) -> bool
     ensures { result ≡ counts_row span moment arrival.now }
@@ -41,7 +42,7 @@ pub fn counts(span: Option<u64>, moment: u64, arrival: &ArrivalRow) -> bool
     }
 }
 
-/// Keeps of the arrivals those that do not count.
+/// Keeps only the arrivals that do not count.
 fn retain_ended(arrivals: &mut Vec<(u64, ArrivalRow)>, span: Option<u64>, moment: u64)
     ensures { arrivals.new.items ≡ filter (λ x. not (counts_row span moment x.1)) arrivals.old.items }
 {
@@ -66,7 +67,7 @@ fn ended_arrivals<S: Alter>(
     Ok(arrivals)
 }
 
-/// The print of a body, where it has one.
+/// The print of a body, if it has one.
 fn print_of_body<S: Alter>(
     alloc: Global,
     tx: &mut Transaction<'_, S>,
@@ -131,7 +132,8 @@ fn remove_request<S: Alter>(
     }
 }
 
-/// No body of this name and print is there any more: those that want it wait for it again, and an upload that it was goes.
+/// Notes that no body of this name and print is there any more: the uploads that want it wait for it again, and an upload
+/// whose .changes it was is removed.
 fn forget_name<S: Alter>(
     alloc: Global,
     tx: &mut Transaction<'_, S>,
@@ -163,7 +165,7 @@ fn remove_arrival<S: Alter>(
     forget_name(alloc, tx, arrival.1.name.as_str(), print)
 }
 
-/// Takes an arrival away with what came of it. One whose body has no print, which cannot be in an archive, stays.
+/// Takes an arrival away with what came of it. An arrival whose body has no print cannot be in an archive, and stays.
 fn take_away<S: Alter>(
     alloc: Global,
     tx: &mut Transaction<'_, S>,
@@ -205,7 +207,7 @@ fn count_of(arrivals: &[(u64, ArrivalRow)]) -> u64
     arrivals.len() as u64
 }
 
-/// Takes away what does not count at the moment, inside a transaction. Answers how many arrivals that were.
+/// Takes away what does not count at the moment, inside a transaction. Answers how many arrivals there were of it.
 fn clean_inside<S: Alter>(
     alloc: Global,
     tx: &mut Transaction<'_, S>,
@@ -223,9 +225,9 @@ fn clean_inside<S: Alter>(
     Ok(count_of(&ended))
 }
 
-/// Takes away what does not count at the moment, where what arrives counts for so many seconds, or for good: the arrivals, the
-/// uploads without a verdict that were such, and the bodies that nothing uses then. That is done whole or not at all, also over
-/// a crash. Answers how many arrivals that were.
+/// Takes away what does not count at the moment: the arrivals, the uploads without a verdict whose .changes they were, and the
+/// bodies that nothing uses after that. `span` says for how many seconds arrivals count, or nothing if they count for good. All
+/// of it is done or nothing, also over a crash. Answers how many arrivals were taken away.
 pub fn clean<S: Alter>(
     alloc: Global,
     conn: &mut Connection<S>,

@@ -1,11 +1,11 @@
 //! A body that comes, piece by piece.
 //!
 //! A body that comes in pieces is stored before it is known whether it is there. Its row is written with its first piece, and no row
-//! before. Each piece is a commit, and the end one more.
+//! before that. Each piece is a commit, and the end is one more.
 //!
-//! If a piece or the end is refused, the rows stay that came before. No book has them, and nothing names them: they go when the next body
-//! begins, by their number, or at the next opening. To take them away at once would be another transaction in a call that has one. After a
-//! reader that ended or failed they are taken away at once (`abandon`); if that fails they stay likewise, and the reader's fault is
+//! If a piece or the end is refused, the rows that came before stay. No book has them, and nothing names them: they go when the next body
+//! begins, by their number, or at the next opening. To take them away at once would be another transaction in a call that has one already.
+//! After a reader that ended or failed they are taken away at once (`abandon`). If that fails they stay too, and the reader's fault is
 //! reported.
 
 ghost use Rattle.std.specs.Prelude.{◌≡◌, None, false, unwrap_or, OnOk};
@@ -24,7 +24,7 @@ use tables::bodies::insert_begun;
 use tables::pieces::insert_piece;
 
 /// A body that was begun: its number once a piece is there, how many pieces it has, their print so far, and whether it is still
-/// coming. One that is not goes at the next begin.
+/// coming. A body that is no longer coming is removed when the next one begins.
 #[derive(Drop)]
 pub struct Begun {
     pub body: Option<u64>,

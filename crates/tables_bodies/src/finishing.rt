@@ -1,4 +1,4 @@
-//! A file of which the whole body came: it arrives under its name.
+//! A file whose whole body came: it arrives under its name.
 
 ghost use Rattle.std.specs.Prelude.{◌≡◌, ◌<◌, false, option_map, OnOk};
 ghost use Rattle.tables_bodies.specs.Counting.{is_new_at_end};
@@ -16,8 +16,8 @@ use sqlite::{Alter, Connection, Error, Transaction};
 use std::alloc::Global;
 use sums::{Entry, Print};
 
-/// A file of which the whole body came: its name, the number of its body, none where it has no byte, and of how many pieces that
-/// is, its print, for how many seconds what arrives counts, none where it does so for good, and the moment.
+/// A file whose whole body came: its name, the number of its body, or nothing if it has no byte, the number of its pieces, its
+/// print, for how many seconds an arrival counts, or nothing if it counts for good, and the moment.
 #[derive(Clone, Copy)]
 pub struct Finished<'a> {
     pub name: &'a str,
@@ -51,8 +51,8 @@ fn end_body<S: Alter>(
     receive(alloc, tx, &file, body, listed)
 }
 
-/// Takes the body that came as one that has arrived, inside a transaction. One whose print is that of another body is refused.
-/// Answers whether the arrival is new.
+/// Takes the body that came as one that has arrived, inside a transaction. A body whose print is that of another body is
+/// refused. Answers whether the arrival is new.
 fn finish_inside<S: Alter>(
     alloc: Global,
     tx: &mut Transaction<'_, S>,

@@ -1,5 +1,5 @@
-//! Transactions of a body: it comes in pieces, and once it is whole it arrives under a name; one that is not whole goes, as does one
-//! that nothing uses any more; whether a change may leave such bodies. What bodies are read from their pieces.
+//! Transactions of a body: it comes in pieces, and once it is whole it arrives under a name. A body that is not whole is removed, as
+//! is one that nothing uses any more. Also whether a change may leave such bodies, and the bytes of bodies, read from their pieces.
 #![tactic(auto)]
 
 mod arriving;

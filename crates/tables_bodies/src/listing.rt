@@ -1,8 +1,8 @@
 //! What a file lists whose body came.
 //!
 //! A delivery reads its .changes once more after the check of the delivery: from its bytes if they come at once, else back from its pieces.
-//! It has passed that check. So besides memory only a disk which returns other bytes can have it refused here, and that is reported as a
-//! failure of the disk.
+//! It has passed that check. So it can only be refused here for want of memory, or by a disk that returns other bytes, which is reported as
+//! a failure of the disk.
 
 ghost use Rattle.std.specs.Prelude.{◌≡◌, Ok, IsTrue, IfOk, OnOk, OnErr, option_map};
 ghost use Rattle.sqlite.specs.State.{HasCleanDisk, IsUnchanged, KeepsCommit};
@@ -31,7 +31,7 @@ fn changes_of(alloc: Global, body: &[u8]) -> Result<Changes, Error>
     }
 }
 
-/// The record that a file of these bytes is, where its name is that of a .changes.
+/// The record that a file of these bytes is, if its name is that of a .changes.
 pub(crate) fn record_of(alloc: Global, name: &str, bytes: &[u8]) -> Result<Option<Changes>, Error>
     ensures { IfOk result (λ found. option_map (λ c. c.entries) found ≡ listed_in name.now bytes.now) }
 {
@@ -42,7 +42,7 @@ pub(crate) fn record_of(alloc: Global, name: &str, bytes: &[u8]) -> Result<Optio
     Ok(Some(changes))
 }
 
-/// The bytes of the body of this number, none where there is no number.
+/// The bytes of the body of this number, or no bytes if there is no number.
 fn bytes_inside<S: Alter>(
     alloc: Global,
     tx: &mut Transaction<'_, S>,
@@ -61,7 +61,7 @@ fn bytes_inside<S: Alter>(
     }
 }
 
-/// The record that a file is, where its name is that of a .changes: its body is read back from its pieces.
+/// The record that a file is, if its name is that of a .changes. Its body is read back from its pieces.
 pub(crate) fn record_inside<S: Alter>(
     alloc: Global,
     tx: &mut Transaction<'_, S>,

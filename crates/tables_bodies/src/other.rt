@@ -1,7 +1,7 @@
 //! Two bodies of one print: the one that came and the one that is stored are compared piece by piece.
 //!
-//! A body whose print is that of a stored body of other bytes is refused as a failure of the disk. So what is kept needs no premise on
-//! prints.
+//! A body whose print is that of a stored body of other bytes is refused as a failure of the disk. So no premise about prints is
+//! needed for what is kept.
 
 ghost use Rattle.std.specs.Prelude.{◌≡◌, ◌<◌, true, false, None, Some, option_map, OnOk};
 ghost use Rattle.sqlite.specs.State.{IsUnchanged};
@@ -47,7 +47,7 @@ fn has_same_piece<S: Alter>(
     Ok(are_same(&one, &there))
 }
 
-/// Whether two bodies have the same pieces, so many of them, and neither has one behind these.
+/// Whether two bodies have the same first `count` pieces, and neither has another piece after these.
 fn have_same_pieces<S: Alter>(
     alloc: Global,
     tx: &mut Transaction<'_, S>,
@@ -91,7 +91,7 @@ fn has_no_piece<S: Alter>(
     Ok(first.is_none())
 }
 
-/// Whether the body that was found has the pieces of the one that came, of which there are so many.
+/// Whether the body that was found has the pieces of the one that came, which has `count` pieces.
 fn is_same<S: Alter>(
     alloc: Global,
     tx: &mut Transaction<'_, S>,
@@ -112,7 +112,7 @@ fn is_same<S: Alter>(
     }
 }
 
-/// Refuses a body that came, of so many pieces, where another one of its print is stored.
+/// Refuses a body that came, of `count` pieces, if another body of its print is stored.
 pub(crate) fn refuse_other<S: Alter>(
     alloc: Global,
     tx: &mut Transaction<'_, S>,
@@ -169,7 +169,7 @@ fn is_one_piece<S: Alter>(
     Ok(is_piece_of(&first, bytes))
 }
 
-/// Refuses these bytes where the body of their print that is stored, under this number, is another one.
+/// Refuses these bytes if the body of their print that is stored, under this number, is another one.
 pub(crate) fn refuse_other_bytes<S: Alter>(
     alloc: Global,
     tx: &mut Transaction<'_, S>,

@@ -1,8 +1,8 @@
 //! Takes bodies away that are not whole, with their pieces.
 //!
-//! That a body goes is a commit, which needs some room. So over a full disk each delivery after the file that did not fit may be refused
-//! until there is room (Q4, 507), also a small one and one of what is there; and so may an opening (K2), also for a command that only
-//! reads. An archive that is open answers reads as before.
+//! Removing a body is a commit, which needs some room. So on a full disk each delivery after the file that did not fit may be refused
+//! until there is room (Q4, 507), also a small one and one of what is there already. An opening may be refused too (K2), also for a
+//! command that only reads. An archive that is open answers reads as before.
 
 ghost use Rattle.std.specs.Prelude.{◌≡◌, ◌≢◌, [], false, IsTrue, OnOk};
 ghost use Rattle.sqlite.specs.State.{Survives};
@@ -28,7 +28,8 @@ pub(crate) fn remove_body<S: Alter>(tx: &mut Transaction<'_, S>, id: u64) -> Res
     delete_body(tx, id)
 }
 
-/// Removes the bodies of these numbers and their pieces. It succeeds only on a connection that is open, where there is any.
+/// Removes the bodies of these numbers and their pieces. If there is any number, it succeeds only on a connection that is
+/// open.
 pub(crate) fn remove_bodies<S: Alter>(tx: &mut Transaction<'_, S>, ids: &[u64]) -> Result<(), Error>
     ensures same_reference { IsSame tx.old tx.new }
     ensures ok { Inside S.Store tx.old tx.new (λ old new. OnOk result (Makes old new (without_all ids.now))) }

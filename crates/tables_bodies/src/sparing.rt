@@ -1,8 +1,8 @@
 //! Whether a change may leave bodies that nothing uses.
 //!
-//! Only the body of a file that leaves the pool can become one that nothing uses, and mostly its arrival is still there. So a change looks
-//! first, for each of these files, for an arrival of its body under its name (`needs_sweep`). If each has one and no body is coming, none
-//! is swept.
+//! Only the body of a file that leaves the pool can become one that nothing uses, and mostly its arrival is still there. So a change first
+//! looks, for each of these files, for an arrival of its body under its name (`needs_sweep`). If each has one and no body is coming,
+//! nothing is swept.
 
 ghost use Rattle.std.specs.Prelude.{◌≡◌, false, IsTrue, IfOk};
 ghost use Rattle.std.specs.List.{list_any};
@@ -60,7 +60,7 @@ fn has_arrived_under<S: Alter>(
     Ok(found.is_some())
 }
 
-/// Whether the body of the file at a path has arrived under the file's name, where there is such a file.
+/// Whether the body of the file at a path has arrived under the file's name. True if there is no such file.
 fn has_arrived<S: Alter>(alloc: Global, conn: &mut Connection<S>, path: &str) -> Result<bool, Error>
     ensures idle { conn.old.in_transaction ≡ false → conn.new.in_transaction ≡ false }
     ensures ok { Reads S.Store conn.old conn.new result (λ t arrived. arrived ≡ has_arrived t path.now) }
@@ -73,7 +73,7 @@ fn has_arrived<S: Alter>(alloc: Global, conn: &mut Connection<S>, path: &str) ->
     has_arrived_under(alloc, conn, path, file.body)
 }
 
-/// Whether the body of each of these files has arrived under the file's name, where there is such a file.
+/// Whether the body of each of these files has arrived under the file's name. Files that are not there are passed over.
 fn have_arrived<S: Alter>(
     alloc: Global,
     conn: &mut Connection<S>,
@@ -93,7 +93,8 @@ fn have_arrived<S: Alter>(
     Ok(true)
 }
 
-/// The same of each file that these steps take away.
+/// Whether the body of each file that these steps take away has arrived under the file's name. Files that are not there
+/// are passed over.
 fn have_all_arrived<S: Alter>(
     alloc: Global,
     conn: &mut Connection<S>,
@@ -113,7 +114,8 @@ fn have_all_arrived<S: Alter>(
     Ok(true)
 }
 
-/// The same, asked of a database that serves.
+/// Whether the body of each file that these steps take away has arrived under the file's name. The database is asked
+/// first whether it serves.
 fn look<S: Alter>(alloc: Global, conn: &mut Connection<S>, steps: &[Step]) -> Result<bool, Error>
     requires idle { conn.old.in_transaction ≡ false }
     requires archive { HasCleanDisk (state S.Store conn.old) → IsTrue (state S.Store conn.old).is_open → ∥ IsArchive (state S.Store conn.old).committed ∥₁ }
@@ -128,9 +130,9 @@ fn look<S: Alter>(alloc: Global, conn: &mut Connection<S>, steps: &[Step]) -> Re
     have_all_arrived(alloc, conn, steps)
 }
 
-/// Whether bodies that nothing uses may be there behind these steps: not where they take no file away, nor where no body is coming,
-/// as `whole` says, and the body of each file that they take away has arrived under the file's name. Only where the arrivals
-/// decide are they looked up.
+/// Whether bodies that nothing uses may be there after these steps. They are not if the steps take no file away. Nor are they if no
+/// body is coming, as `whole` says, and the body of each file that the steps take away has arrived under the file's name. The
+/// arrivals are looked up only if they decide.
 pub fn needs_sweep<S: Alter>(
     alloc: Global,
     conn: &mut Connection<S>,

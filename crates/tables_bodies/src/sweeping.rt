@@ -1,7 +1,7 @@
 //! Takes bodies away that nothing uses.
 //!
-//! A change that takes files out of the pool may leave bodies that nothing uses. They go with it, for which the numbers of all bodies,
-//! arrivals and files are read.
+//! A change that takes files out of the pool may leave bodies that nothing uses. They are removed with it. For this the numbers of all
+//! bodies, arrivals and files are read.
 
 ghost use Rattle.std.specs.Prelude.{◌≡◌, ◌++◌, filter, nat_eq, not, IfOk, OnOk};
 ghost use Rattle.std.specs.List.{list_any};
@@ -19,7 +19,7 @@ use tables::arrivals::arrived_bodies_inside;
 use tables::bodies::body_numbers_inside;
 use tables::files::filed_bodies_inside;
 
-/// These numbers, and the others behind them.
+/// These numbers, and the others after them.
 fn with_others(mut numbers: Vec<u64>, others: &[u64]) -> Result<Vec<u64>, AllocError>
     ensures { IfOk result (λ all. all.items ≡ numbers.items ++ others.now) }
 {

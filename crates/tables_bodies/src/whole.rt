@@ -14,7 +14,7 @@ use std::alloc::Global;
 use sums::Print;
 use tables::bodies::{body_with_print_inside, insert_body, set_print};
 
-/// Gives the body that came its print, or takes it away where one of that print is there. Answers the number of the body of this
+/// Gives the body that came its print, or takes it away if a body of that print is there. Answers the number of the body of this
 /// print.
 pub(crate) fn store_whole<S: Alter>(
     alloc: Global,
@@ -34,7 +34,8 @@ pub(crate) fn store_whole<S: Alter>(
     }
 }
 
-/// The same where a body of this print is there, under this number: the one that came goes, where it has a row.
+/// Takes the body that came away, if it has a row, since a body of its print is there, under this number. Answers this
+/// number.
 fn remove_known<S: Alter>(
     tx: &mut Transaction<'_, S>,
     body: Option<u64>,
@@ -54,7 +55,7 @@ fn remove_known<S: Alter>(
     }
 }
 
-/// The same where no body of this print is there.
+/// Gives the body that came its print, since no body of this print is there. Answers its number.
 fn print_body<S: Alter>(
     tx: &mut Transaction<'_, S>,
     body: Option<u64>,

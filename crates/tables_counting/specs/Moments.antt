@@ -11,11 +11,11 @@ use Rattle.tables_bodies.specs.Counting.{arrival_counts}
 unfoldable pub found_current : Option ℕ → ℕ → Tables → List ℕ → Print → Bool
 found_current span moment t name print = option_map_or (λ body. arrival_counts span moment name body t) (body_with print t.bodies) false
 
--- What has arrived under this name with this print counts still. Where there is no span it does so for good.
+-- What has arrived under this name with this print still counts. If there is no span it counts for good.
 abbrev pub still_counts : Option ℕ → ℕ → Tables → List ℕ → Print → Bool
 still_counts None moment t name print = true
 still_counts (Some seconds) moment t name print = found_current (Some seconds) moment t name print
 
--- the entry has arrived and counts still
+-- the entry has arrived and still counts
 abbrev pub is_had : Option ℕ → ℕ → Tables → Want → Bool
 is_had span moment t w = w.here && still_counts span moment t w.name w.print

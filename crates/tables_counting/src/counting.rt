@@ -1,4 +1,4 @@
-//! Whether what has arrived counts still.
+//! Whether what has arrived still counts.
 
 ghost use Rattle.std.specs.Prelude.{if◌then◌else◌, ◌≡◌, ◌≤◌, false, Some, IfOk};
 ghost use Rattle.keep.specs.Book.{span};
@@ -16,7 +16,7 @@ use tables::bodies::body_with_print;
 use tables::rows::Want;
 use tables_bodies::counts;
 
-/// For how many seconds what arrives counts in an archive of this configuration, or nothing where it does so for good.
+/// For how many seconds an arrival counts in an archive of this configuration, or nothing if it counts for good.
 pub fn span_of(config: &Config) -> Option<u64>
     ensures { result ≡ span config.now }
 {
@@ -67,8 +67,8 @@ fn is_current<S: Alter>(
     counts_under(alloc, conn, name, body, seconds, moment)
 }
 
-/// Whether what has arrived under this name with this print counts still at the moment. Where it does so for good nothing is
-/// looked up.
+/// Whether what has arrived under this name with this print still counts at the moment. If arrivals count for good nothing
+/// is looked up.
 pub fn counts_still<S: Alter>(
     alloc: Global,
     conn: &mut Connection<S>,
@@ -88,7 +88,7 @@ pub fn counts_still<S: Alter>(
     }
 }
 
-/// Whether an entry has arrived and counts still at the moment.
+/// Whether an entry has arrived and still counts at the moment.
 fn is_had<S: Alter>(
     alloc: Global,
     conn: &mut Connection<S>,
@@ -107,7 +107,7 @@ fn is_had<S: Alter>(
     counts_still(alloc, conn, want.name.as_str(), &want.print, span, moment)
 }
 
-/// How many of one entry are missing: 1 where it has not arrived or counts no more.
+/// How many of one entry are missing: 1 if it has not arrived or no longer counts, else 0.
 pub fn missing_of_one<S: Alter>(
     alloc: Global,
     conn: &mut Connection<S>,

@@ -1,4 +1,4 @@
-//! Whether what has arrived counts still at a moment, and whether an entry that an upload wants is there.
+//! Whether what has arrived still counts at a moment, and whether an entry that an upload wants is there.
 #![tactic(auto)]
 
 mod counting;

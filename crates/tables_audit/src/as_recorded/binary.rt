@@ -1,4 +1,4 @@
-//! Whether an item is the package that its sidecar tells.
+//! Whether an item is the package that its sidecar describes.
 
 ghost use Rattle.std.specs.Prelude.{◌≡◌, ◌↔◌, Ok, IfOk, IsTrue};
 ghost use Rattle.records.specs.Records.{sidecar_in};
@@ -46,7 +46,7 @@ fn is_binary_of(alloc: Global, item: &Item, sidecar: &Sidecar) -> Result<bool, A
     Ok(is_one_at(item.files.as_slice(), path.as_str()))
 }
 
-/// Whether an item is the package that its paragraph tells.
+/// Whether an item is the package that its paragraph describes.
 pub fn is_binary(alloc: Global, item: &Item) -> Result<bool, AllocError>
     ensures { IfOk result (λ is. IsTrue is ↔ (s : SidecarValue) × IsBinaryOf item.now s) }
 {

@@ -1,4 +1,4 @@
-//! Where the files of an item stand.
+//! The paths in the pool of the files of an item.
 
 ghost use Rattle.std.specs.Prelude.{◌≡◌, IfOk, string_bytes};
 ghost use Rattle.suites.specs.Told.{path_in};

@@ -1,4 +1,4 @@
-//! Whether an item is the source that its .dsc tells.
+//! Whether an item is the source that its .dsc describes.
 
 ghost use Rattle.std.specs.Prelude.{◌≡◌, ◌↔◌, ◌∷◌, map, Ok, IfOk, IsTrue};
 ghost use Rattle.records.specs.Records.{dsc_in};
@@ -27,7 +27,7 @@ fn has_columns(item: &Item, dsc: &Dsc) -> bool
     same_package && same_source && is_source && same_version
 }
 
-/// The .dsc itself, where it stands in the pool.
+/// The .dsc itself, as a file at its path in the pool.
 fn dsc_of(alloc: Global, item: &Item, dsc: &Dsc) -> Result<PoolFile, AllocError>
     ensures { IfOk result (λ file. file ≡ record { path = path_in item.now (dsc_file dsc.now); print = print_in item.now.paragraph }) }
 {
@@ -39,7 +39,7 @@ fn dsc_of(alloc: Global, item: &Item, dsc: &Dsc) -> Result<PoolFile, AllocError>
     })
 }
 
-/// A file that a .dsc lists, where it stands in the pool.
+/// A file that a .dsc lists, at its path in the pool.
 fn listed(alloc: Global, item: &Item, entry: &Entry) -> Result<PoolFile, AllocError>
     ensures { IfOk result (λ file. file ≡ listed_file item.now entry.now) }
 {
@@ -50,7 +50,7 @@ fn listed(alloc: Global, item: &Item, entry: &Entry) -> Result<PoolFile, AllocEr
     })
 }
 
-/// The files that an item has by its .dsc: this, and all that it lists.
+/// The files that an item has by its .dsc: the .dsc itself, and all that it lists.
 fn files_of(alloc: Global, item: &Item, dsc: &Dsc) -> Result<Vec<PoolFile>, AllocError>
     ensures { IfOk result (λ files. files.items ≡ record { path = path_in item.now (dsc_file dsc.now); print = print_in item.now.paragraph } ∷ map (listed_file item.now) dsc.now.entries) }
 {
@@ -96,7 +96,7 @@ fn is_source_of(alloc: Global, item: &Item, dsc: &Dsc) -> Result<bool, AllocErro
     Ok(are_same(item.files.as_slice(), &files))
 }
 
-/// Whether an item is the source that its paragraph tells.
+/// Whether an item is the source that its paragraph describes.
 pub fn is_source(alloc: Global, item: &Item) -> Result<bool, AllocError>
     ensures { IfOk result (λ is. IsTrue is ↔ (d : DscValue) × IsSourceOf item.now d) }
 {

@@ -38,7 +38,7 @@ fn print_by_number(bodies: &Rows<'_, (u64, BodyRow)>, id: u64) -> Option<Print>
     print_of_body(bodies.about(id), id)
 }
 
-/// The arrivals with the prints of their bodies, where each has one.
+/// The arrivals with the prints of their bodies, if each has one.
 pub fn arrived_among<'a>(
     alloc: Global,
     arrivals: &'a [(u64, ArrivalRow)],

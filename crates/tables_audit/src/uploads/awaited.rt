@@ -24,7 +24,7 @@ pub struct Awaited<'a> {
     pub changes: Changes,
 }
 
-/// The record that a text is, or nothing where it is none.
+/// The record that a text is, or nothing if the text is not one.
 fn changes_in(alloc: Global, text: &[u8]) -> Result<Option<Changes>, AllocError>
     ensures { IfOk result (λ changes. changes ≡ result_ok (record_in text.now)) }
 {
@@ -43,7 +43,7 @@ fn is_judged(judged: &Verdicts<'_>, arrived: &Arrived<'_>) -> bool
     judged.has(&sign)
 }
 
-/// The record that waits for a verdict, where what arrived is one.
+/// The record that waits for a verdict, if what arrived is one.
 #[tactic(auto, unfolding(crate::specs::Uploads::changes_awaited, tables_meaning::specs::Kept::bytes_of))]
 fn awaited_changes(
     alloc: Global,

@@ -14,7 +14,7 @@ use rules::Verdict;
 use std::alloc::{AllocError, Global};
 use tables::rows::UploadRow;
 
-/// Whether an upload without a place has no verdict, and one with a place has not the place 0.
+/// Whether an upload without a place has no verdict, and one with a place does not have the place 0.
 fn is_placed_well(upload: &UploadRow) -> bool
     ensures { MatchBool result (IsPlacedWell upload.now) (IsPlacedWell upload.now → ⊥) }
 {
@@ -24,7 +24,7 @@ fn is_placed_well(upload: &UploadRow) -> bool
     }
 }
 
-/// Whether each upload without a place has no verdict, and none has the place 0.
+/// Whether each upload without a place has no verdict, and no upload has the place 0.
 pub fn are_placed(uploads: &[(u64, UploadRow)]) -> bool
     ensures { MatchBool result (All IsPlacedWell (rows_of uploads.now)) (All IsPlacedWell (rows_of uploads.now) → ⊥) }
 {
@@ -46,7 +46,7 @@ fn later(last: u64, place: Option<u64>) -> u64
     }
 }
 
-/// The last place that an upload has, 0 where none has one.
+/// The last place that an upload has, or 0 if no upload has a place.
 pub fn last_place(uploads: &[(u64, UploadRow)]) -> u64
     ensures { result ≡ last_of uploads.now }
 {
@@ -57,7 +57,7 @@ pub fn last_place(uploads: &[(u64, UploadRow)]) -> u64
     last
 }
 
-/// The judgement that a row tells, where it has the number of a verdict.
+/// The judgement that a row is, if the row has the number of a verdict.
 #[tactic(auto, unfolding(crate::specs::Uploads::judgement_in))]
 fn judgement_of(upload: &UploadRow) -> Result<Option<Judgement>, AllocError>
     ensures { IfOk result (λ judgement. judgement ≡ judgement_in upload.now) }
@@ -75,7 +75,7 @@ fn judgement_of(upload: &UploadRow) -> Result<Option<Judgement>, AllocError>
     }))
 }
 
-/// The judgement at a place, where there is one.
+/// The judgement at a place, if there is one.
 fn judgement_at(placed: &Rows<'_, Placed<'_>>, place: u64) -> Result<Option<Judgement>, AllocError>
     ensures { IfOk result (λ judgement. judgement ≡ option_and_then judgement_in (first_at (map placed_view placed.now.all.now) place)) }
 {
@@ -85,7 +85,7 @@ fn judgement_at(placed: &Rows<'_, Placed<'_>>, place: u64) -> Result<Option<Judg
     }
 }
 
-/// The judgements at the places from 1 to a last one, where each of them has one.
+/// The judgements at the places from 1 to a last one, if each of them has one.
 pub fn judged_until(
     alloc: Global,
     uploads: &[(u64, UploadRow)],

@@ -1,4 +1,4 @@
-//! What is judged and what arrived, where one of many is looked up by its name and print.
+//! What is judged and what arrived, in which one of many is looked up by its name and print.
 
 ghost use Rattle.std.specs.Prelude.{◌≡◌, IfOk, map};
 ghost use Rattle.tables_audit.specs.Signs.{AreInOrder, SignValue, arrived_sign, has_sign, judgement_sign, sign_of};

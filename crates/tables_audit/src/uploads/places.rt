@@ -35,7 +35,7 @@ fn add<'a>(placed: &mut Vec<Placed<'a>>, upload: &'a UploadRow) -> Result<(), Al
     }
 }
 
-/// The uploads that have a place, with it, in the order of the uploads.
+/// The uploads that have a place, each with its place, in the order of the uploads.
 fn listed<'a>(alloc: Global, uploads: &'a [(u64, UploadRow)]) -> Result<Vec<Placed<'a>>, AllocError>
     ensures { IfOk result (λ placed. ArePlaced uploads.now (map placed_view placed.items)) }
 {
@@ -46,7 +46,7 @@ fn listed<'a>(alloc: Global, uploads: &'a [(u64, UploadRow)]) -> Result<Vec<Plac
     Ok(placed)
 }
 
-/// The same in the order of their places.
+/// The uploads that have a place, each with its place, in the order of their places.
 pub fn by_place<'a>(
     alloc: Global,
     uploads: &'a [(u64, UploadRow)],

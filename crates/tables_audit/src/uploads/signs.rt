@@ -54,7 +54,7 @@ pub fn compare(a: &Sign<'_>, b: &Sign<'_>) -> Ordering
     judging_order(a.name, &a.print, b.name, &b.print)
 }
 
-/// Whether one of these signs, which stand in order, is this.
+/// Whether a name and a print are among these, which stand in order.
 pub fn is_among(signs: &[Sign<'_>], sign: &Sign<'_>) -> bool
     requires { AreInOrder signs.now }
     ensures { result ≡ has_sign (map sign_of signs.now) (sign_of sign.now) }

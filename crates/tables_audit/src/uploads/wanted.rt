@@ -150,7 +150,7 @@ pub fn have_places(uploads: &[(u64, UploadRow)]) -> bool
     true
 }
 
-/// The rows without a place, as they stand.
+/// The rows without a place, in their order.
 fn unplaced<'a>(
     alloc: Global,
     uploads: &'a [(u64, UploadRow)],
