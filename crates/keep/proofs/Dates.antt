@@ -10,7 +10,7 @@ use Rattle.keep.specs.declared.change.Step.{Step}
 abbrev pub dated : ℕ → List Step → ℕ → List ℕ → List ℕ
 dated moment steps from dates = map (λ d. if some_touches d.0 steps then moment else d.1) (enumerate_from from dates)
 
--- no step, no other date
+-- without a step no date changes
 untouched : (moment from : ℕ) (dates : List ℕ) → dated moment [] from dates ≡ dates
 untouched moment from [] = refl
 untouched moment from (d ∷ ds) = ap (λ xs. d ∷ xs) (untouched moment (from + 1) ds)
@@ -34,7 +34,7 @@ unfolding dates_after
 dates_past-dated moment [] dates = sym (untouched moment 0 dates)
 dates_past-dated moment (step ∷ steps) dates = dates_past-dated moment steps (dates_after moment dates step.plan) ∙ stepped moment 0 step steps dates
 
--- the date of the suite at a position, and those behind it
+-- the date of the suite at a position, and those after it
 pub dated_more : (moment : ℕ) (steps : List Step) (dates : List ℕ) (i : ℕ) → i < length dates
     → dated moment steps i (drop i dates) ≡ (if some_touches i steps then moment else get_or dates i 0) ∷ dated moment steps (i + 1) (drop (i + 1) dates)
 dated_more moment steps dates i h = at_drop_more (dated moment steps i) dates i 0 h
@@ -45,7 +45,7 @@ chosen_first {b} x y e = ap (λ b. if b then x else y) (sym e)
 pub chosen_second : {b : Bool} (x y : ℕ) → b ≡ false → y ≡ (if b then x else y)
 chosen_second {b} x y e = ap (λ b. if b then x else y) (sym e)
 
--- one more date, where those so far and those to come are the whole
+-- one more date, if those so far and those to come are all
 pub dated_step : (moment : ℕ) (steps : List Step) (dates : List ℕ) (i : ℕ) (xs : List ℕ) {whole : List ℕ} {date : ℕ} → i < length dates
     → date ≡ (if some_touches i steps then moment else get_or dates i 0)
     → xs ++ dated moment steps i (drop i dates) ≡ whole

@@ -33,14 +33,14 @@ tied-append q (e ∷ es) fs =
       | false ↦ tied-append q es fs
     ]
 
--- what one file more is found as
+-- what a search finds with one more file
 tied-push : (q : List ℕ) (es : List (List ℕ × Print)) (path : List ℕ) (print : Print)
     → option_or (find_tied text_order q es) (cond (bytes_eq path q) (Some print) None) ≡ find_tied text_order q (es ++ (path, print) ∷ [])
 tied-push q es path print =
     ap (λ b. option_or (find_tied text_order q es) (cond b (Some print) None)) (sym (tie q path))
     ∙ sym (tied-append q es ((path, print) ∷ []))
 
--- a file is put where none stands at its path
+-- a file is added if there is none at its path
 pub has_put : (arrivals : List Arrival) (old bodies : List PoolBody) (done : List (List ℕ × Print)) (path : List ℕ) (print : Print)
     → PoolHas arrivals old bodies done → is_some (find (is_at path) bodies) ≡ false
     → PoolHas arrivals old (bodies ++ stored arrivals old path print ∷ []) (done ++ (path, print) ∷ [])
@@ -57,7 +57,7 @@ has_put arrivals old bodies done path print has free q =
     ] refl
     ∙ ap (option_map (stored arrivals old q)) (tied-push q done path print)
 
--- a file is passed over where one stands at its path
+-- a file is passed over if there is one at its path
 pub has_passed : (arrivals : List Arrival) (old bodies : List PoolBody) (done : List (List ℕ × Print)) (path : List ℕ) (print : Print)
     → PoolHas arrivals old bodies done → is_some (find (is_at path) bodies) ≡ true
     → PoolHas arrivals old bodies (done ++ (path, print) ∷ [])

@@ -19,7 +19,7 @@ zip_push [] (b ∷ ys) x y same = absurd (omega (arith, same))
 zip_push (a ∷ xs) [] x y same = absurd (omega (arith, same))
 zip_push (a ∷ xs) (b ∷ ys) x y same = ap (λ zs. (a, b) ∷ zs) (zip_push xs ys x y (let tail : length xs ≡ length ys = omega (arith, same) in tail))
 
--- a text more, of the next entry
+-- one more text, of the next entry
 pub texts_more : (P : Entry × List ℕ → Type 0) (entries : List Entry) (texts : List (List ℕ)) (i : ℕ) (e : Entry) (text : List ℕ) {now : List (List ℕ)}
     → length texts ≡ i → i < length entries → e ≡ get_or entries i e → now ≡ texts ++ text ∷ []
     → All P (zip (take i entries) texts) → P (e, text) → All P (zip (take (i + 1) entries) now)

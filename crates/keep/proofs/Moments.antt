@@ -13,7 +13,7 @@ pub current_more : (span : Option ℕ) (moment : ℕ) (a : Arrival) (arrivals : 
 unfolding current
 current_more span moment a arrivals e = ap (λ b. cond b (a ∷ filter (counts span moment) arrivals) (filter (counts span moment) arrivals)) e
 
--- one that does not is passed over
+-- an arrival that does not count is passed over
 pub current_passed : (span : Option ℕ) (moment : ℕ) (a : Arrival) (arrivals : List Arrival) → counts span moment a ≡ false
     → current span moment (a ∷ arrivals) ≡ current span moment arrivals
 unfolding current
@@ -25,7 +25,7 @@ unfolding current counts_since
 current-none moment [] = refl
 current-none moment (a ∷ arrivals) = ap (λ xs. a ∷ xs) (current-none moment arrivals)
 
--- what counts of what counts at the same moment
+-- all that counts at a moment counts at the same moment
 pub current-current : (span : Option ℕ) (moment : ℕ) (arrivals : List Arrival) → current span moment (current span moment arrivals) ≡ current span moment arrivals
 unfolding current
 current-current span moment [] = refl

@@ -20,11 +20,11 @@ module _ {K : Type 0} {is_clean is_open : K → Type 0} {faults : K → ℕ} {bo
     config = two.config ∙ one.config;
   }
 
-  -- none
+  -- no read
   pub reads_none : {may_leave : K → Option Book → Type 0} (a : K) → Reads is_clean is_open faults book may_leave a a
   reads_none a = record { lasts = lasts_itself a; same = λ c o. refl; crash = λ c left l. l }
 
-  -- some, and others behind them
+  -- some reads, and others after them
   pub reads_more : {may_leave : K → Option Book → Type 0} {a b c : K} → Reads is_clean is_open faults book may_leave a b → Reads is_clean is_open faults book may_leave b c → Reads is_clean is_open faults book may_leave a c
   reads_more r s = record {
     lasts = lasts_more r.lasts s.lasts;

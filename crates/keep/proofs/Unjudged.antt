@@ -11,7 +11,7 @@ use Rattle.keep.specs.Scan.{has_judgement, unjudged_in}
 use Rattle.keep.specs.declared.arrival.Arrival.{Arrival}
 use Rattle.keep.specs.declared.change.Judgement.{Judgement}
 
--- the list with a candidate more, where there is one
+-- the list with one more candidate, if there is one
 abbrev pub with_candidate : Option Candidate → List Candidate → List Candidate
 with_candidate None cs = cs
 with_candidate (Some c) cs = put_in_order c cs

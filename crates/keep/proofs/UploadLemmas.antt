@@ -31,7 +31,7 @@ found_print entry (a ∷ arrivals) there =
       | false ↦ λ e there. found_print entry arrivals there
     ] refl there
 
--- its text
+-- the text of a file that has arrived
 text_of : (arrivals : List Arrival) (entry : Entry) → is_there arrivals entry ≡ true
     → IsTextOf (entry, if has_text entry.name then body_for arrivals entry else [])
 unfolding is_there body_for

@@ -1,4 +1,4 @@
--- What has arrived, told by its rows.
+-- What has arrived, as its rows say.
 use Rattle.std.specs.Prelude.{ℕ, List, find, Option}
 use Rattle.std.specs.List.{filter_map}
 use Rattle.std.specs.Option.{option_and_then, option_map}
@@ -18,7 +18,7 @@ file_with a print = record { name = a.name; print = print; moment = a.moment }
 abbrev pub file_in : Tables → ArrivalRow → Option ArrivedFile
 file_in t a = option_map (file_with a) (print_at t a.body)
 
--- all of them, in the order of their rows
+-- all arrivals without their bytes, in the order of their rows
 unfoldable pub files_in : Tables → List ArrivedFile
 files_in t = filter_map (λ x. file_in t x.1) t.arrivals
 

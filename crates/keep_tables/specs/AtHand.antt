@@ -13,7 +13,7 @@ use Rattle.tables.specs.Rows.{tables_in}
 use Rattle.tables_meaning.specs.Shown.{shown_in}
 use Rattle.keep_tables.specs.declared.text_prints.TextPrint.{TextPrint}
 
--- Where shelves are at hand, they are what the rows show.
+-- If shelves are at hand, they are what the rows show.
 abbrev pub AreAtHand : ConfigValue → Database → Option ShelvesValue → Type 0
 AreAtHand config db spare = IfSome spare (λ shelves. shelves ≡ shown_in config.suites (tables_in db))
 
@@ -21,7 +21,7 @@ AreAtHand config db spare = IfSome spare (λ shelves. shelves ≡ shown_in confi
 abbrev pub AreKnown : ConfigValue → ShelvesValue → List ℕ → List TextPrint → Type 0
 AreKnown config shown dates prints = (p : TextPrint) → Contains prints p → option_map print_of (index_text config shown dates p.path) ≡ Some p.print
 
--- of this path
+-- the print is that of the text at this path
 abbrev pub is_print_of : List ℕ → TextPrint → Bool
 is_print_of path p = bytes_eq p.path path
 
@@ -34,7 +34,7 @@ is_of_another (Some print) text = not (same_print print text.print)
 abbrev pub is_renewed : List IndexText → List ℕ → Bool
 is_renewed texts path = list_any (λ t. bytes_eq t.path path) texts
 
--- At most the print at this path is noted, where there is one.
+-- At most the print at this path is noted, if there is one.
 abbrev pub NotesAtMost : List TextPrint → List ℕ → Option Print → List TextPrint → Type 0
 NotesAtMost old path print new = (p : TextPrint) → Contains new p → Contains old p ⊎ ((p.path ≡ path) × (print ≡ Some p.print))
 

@@ -16,7 +16,7 @@ module _ {S T : Type 0} (store : Ghosts S) (connection : Held S) (result : Resul
   abbrev pub GivesBack : Type 0
   GivesBack = IfErr result (λ e. HasCleanDisk (state store e.0) → IsUndone (state store connection) (state store e.0))
 
-  -- beside a fault a crash leaves what it could leave before, or trees that are this of what there was
+  -- if a call answers a fault, a crash leaves what it could leave before, or trees of which P holds
   abbrev pub FaultLeaves : (State → Trees → Type 0) → Type 0
   FaultLeaves P = IfErr result (λ e. Survives (state store connection) (state store e.0) (P (state store connection)))
 
@@ -24,7 +24,7 @@ module _ {S T : Type 0} (store : Ghosts S) (connection : Held S) (result : Resul
   abbrev pub Refuses : KeepFault → Type 0
   Refuses fault = IsErrAnd result (λ e. (e.1 ≡ fault) × (e.0 ≡ connection))
 
-  -- an opening answers that there is no archive only in a transaction, or where the database keeps none
+  -- an opening answers that there is no archive only in a transaction, or if the database keeps none
   abbrev pub RefusesNoArchive : Type 0
   RefusesNoArchive = IfErr result (λ e. e.1 ≡ NoArchive → HasCleanDisk (state store e.0) → (connection.in_transaction ≡ true) ⊎ IsNoArchive (state store connection).now)
 
@@ -36,10 +36,10 @@ module _ {S T : Type 0} (store : Ghosts S) (connection : Held S) (result : Resul
   abbrev pub RefusesBusy : Type 0
   RefusesBusy = connection.in_transaction ≡ true → Refuses NoArchive
 
-  -- nothing is made within a transaction, or where the database has some object, and the connection is given back as it was
+  -- nothing is made within a transaction, or if the database has some object, and the connection is given back as it was
   abbrev pub RefusesTaken : Type 0
   RefusesTaken = (connection.in_transaction ≡ true) ⊎ ((state store connection).now.schema ≢ no_schema) → Refuses NoArchive
 
-  -- and only there it is refused so
+  -- the fault is `NoArchive` only within a transaction, or if the database has some object
   abbrev pub RefusesOnlyTaken : Type 0
   RefusesOnlyTaken = IfErr result (λ e. e.1 ≡ NoArchive → (connection.in_transaction ≡ true) ⊎ ((state store connection).now.schema ≢ no_schema))

@@ -21,7 +21,7 @@ use Rattle.tables_meaning.specs.Making.{takes_file}
 use Rattle.tables_bodies.specs.declared.at_once.OnePiece.{OnePiece}
 use Rattle.tables_bodies.specs.declared.finishing.Finished.{Finished}
 
--- on a disk that returns what was written to it, of what is committed before and after
+-- P holds of what is committed before and after, on a disk that returns what was written to it
 abbrev pub OnCommitted : {S : Type 0} → Ghosts S → Held S → Held S → (Database → Database → Type 0) → Type 0
 OnCommitted store old new P = HasCleanDisk (state store new) → P (state store old).committed (state store new).committed
 
@@ -40,30 +40,34 @@ abbrev pub arrival_at_once : OnePiece → Arrival
 arrival_at_once file = record { name = file.name.now; body = file.bytes.now; moment = file.moment }
 
 module _ (before : Database) where
-  -- of the delivery of this body, whatever archive the database keeps and whatever bytes of the body have come, if they may be delivered
+  -- P holds of the delivery of this body, whatever archive the database keeps and whatever bytes of the body have come, if they may be
+  -- delivered
   abbrev pub OverFinished : Finished → (Arrival → ConfigValue → List Judgement → ShelvesValue → List ℕ → Type 0) → Type 0
   OverFinished finished P =
       OverWhole before finished.body finished.pieces finished.print finished.name.now (λ config judged shown dates body. P (arrival_of finished body) config judged shown dates)
 
-  -- of the delivery of this file, whatever archive the database keeps, if nothing is coming and the file may be delivered
+  -- P holds of the delivery of this file, whatever archive the database keeps, if nothing is coming and the file may be
+  -- delivered
   abbrev pub OverFile : OnePiece → (Arrival → ConfigValue → List Judgement → ShelvesValue → List ℕ → Type 0) → Type 0
   OverFile file P = OverOnePiece before file.name.now file.bytes.now (P (arrival_at_once file))
 
--- a success makes such a delivery, and nothing else, and nothing is coming then
+-- a success makes such a delivery, and nothing else, and nothing is coming afterwards
 abbrev pub Arrives : {T E : Type 0} → Result T E → Database → Database → Arrival → ConfigValue → List Judgement → ShelvesValue → List ℕ → Type 0
 Arrives result before after delivery config judged shown dates = OnOk result (Delivers before after config judged shown dates delivery × NothingComes after)
 
--- a success says whether such a delivery is new at its moment, if what arrives counts for so many seconds, or for good
+-- a success says whether such a delivery is new at its moment; `seconds` is for how long arrivals count, or nothing if
+-- they count for good
 abbrev pub SaysNew : {E : Type 0} → Result Bool E → Option ℕ → Database → Arrival → ConfigValue → List Judgement → ShelvesValue → List ℕ → Type 0
 SaysNew result seconds before delivery config judged shown dates = seconds ≡ span config → IfOk result (λ new. new ≡ not (has_delivery before config judged shown dates delivery))
 
 -- ---- a change
 
--- a success makes the change of whatever archive of this configuration and of so many judgements it is sound for
+-- a success makes the change of whatever archive of this configuration and this number of judgements, if the change is
+-- sound for it
 abbrev pub MakesChange : {T E : Type 0} → Result T E → ConfigValue → ℕ → Change → Database → Database → Type 0
 MakesChange result config judged change before after = OverSound before config judged change (λ prior shown dates. OnOk result (Amends before after config prior shown dates change))
 
--- the other database has the change, whatever archive it was that the change is sound for
+-- the other database has the change, whatever archive it was, if the change is sound for it
 abbrev pub HasChange : ConfigValue → ℕ → Change → Database → Database → Type 0
 HasChange config judged change before after = OverSound before config judged change (λ prior shown dates. Amends before after config prior shown dates change)
 
@@ -71,7 +75,7 @@ HasChange config judged change before after = OverSound before config judged cha
 abbrev pub EndsComing : {T E : Type 0} → Result T E → ConfigValue → ℕ → Change → Database → Database → Type 0
 EndsComing result config judged change before after = list_any takes_file change.steps ≡ true → OverSound before config judged change (λ prior shown dates. OnOk result (NothingComes after))
 
--- after one that takes none away what is coming stays so
+-- after a success that takes no file away, what is coming stays
 abbrev pub SparesComing : {T E : Type 0} → Result T E → ConfigValue → Change → Database → Database → Type 0
 SparesComing result config change before after = list_any takes_file change.steps ≡ false
     → (prior : List Judgement) (shown : ShelvesValue) (dates : List ℕ) → KeepsArchive before config prior shown dates → OnOk result (StaysComing before after)
@@ -83,13 +87,14 @@ abbrev pub Configures : {T E : Type 0} → Result T E → ConfigValue → Shelve
 Configures result config shelves dates before after =
     OverMoved before shelves config (λ prior judged shown was. OnOk result (Reconfigures before after prior config judged shown was shelves dates))
 
--- the other database has the configuration and these dates, whatever archive it was that stays whole so
+-- the other database has the configuration and these dates, whatever archive it was, if it stays whole under them
 abbrev pub HasConfiguration : ConfigValue → ShelvesValue → List ℕ → Database → Database → Type 0
 HasConfiguration config shelves dates before after = OverMoved before shelves config (λ prior judged shown was. Reconfigures before after prior config judged shown was shelves dates)
 
 -- ---- a moment
 
--- whatever archive the database keeps where what arrives counts for so many seconds, or for good
+-- P holds of whatever archive the database keeps; `seconds` is for how long arrivals count, or nothing if they count
+-- for good
 abbrev pub OverSpan : Database → Option ℕ → (ConfigValue → List Judgement → ShelvesValue → List ℕ → Type 0) → Type 0
 OverSpan db seconds P = WithBook db (λ config judged shown dates. seconds ≡ span config → P config judged shown dates)
 

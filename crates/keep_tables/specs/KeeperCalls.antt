@@ -21,11 +21,11 @@ module _ {S : Type 0} {store : Ghosts S} (keeper : TableKeeper S store) where
   KeepsItsBook config = HasCleanDisk (connection_of keeper) → IsTrue (connection_of keeper).is_open → KeepsBook (connection_of keeper).committed config (table_book keeper)
 
 module _ {S F : Type 0} (store : Ghosts S) (connection : Held S) (result : Result (TableKeeper S store) F) where
-  -- with a keeper a crash leaves what it could leave before, or trees that are this of what there was
+  -- if a call gives a keeper, a crash leaves what it could leave before, or trees of which P holds
   abbrev pub KeeperLeaves : (State → Trees → Type 0) → Type 0
   KeeperLeaves P = IfOk result (λ keeper. Survives (state store connection) (connection_of keeper) (P (state store connection)))
 
-  -- a keeper is given of the archive that was committed, without the bodies that are not whole, and has its book
+  -- the keeper is that of the archive that was committed, without the bodies that are not whole, and has its book
   abbrev pub OpensFinished : Type 0
   OpensFinished = IfOk result (λ keeper. HasCleanDisk (connection_of keeper) → IsFinished (state store connection) (connection_of keeper)
       × KeepsFinished (state store connection).committed (config_in_use keeper) (table_book keeper))

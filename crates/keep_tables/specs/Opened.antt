@@ -1,4 +1,4 @@
--- What an opening finds: the archive of a database, or none.
+-- What an opening finds: the archive of a database, or no archive.
 use Rattle.std.specs.Prelude.{◌≡◌, ◌≢◌, ℕ, List, [], filter, Option, Result, IfOk, IfSome, IsTrue}
 use Rattle.sqlite.specs.Effect.{Database}
 use Rattle.sqlite.specs.State.{State, IsUnchanged}
@@ -12,11 +12,11 @@ use Rattle.keep_tables.specs.Finishing.{unfinished_ids}
 use Rattle.keep_tables.specs.declared.opening.Found.{Found}
 
 -- The database keeps an archive of this configuration, with these judged uploads and these dates, once the bodies that are not
--- whole are away. Their pieces are as those of whole ones.
+-- whole are removed. Their pieces are as those of whole ones.
 abbrev pub IsArchiveOf : Database → ConfigValue → List Judgement → List ℕ → Type 0
 IsArchiveOf db config judged dates = IsArchive db × KeepsSome (finished (tables_in db)) config judged dates × AreUnderWay (tables_in db)
 
--- if an archive is found it is this
+-- if an archive is found, P holds of it
 abbrev pub IfFound : {T E : Type 0} → Result (Option T) E → (T → Type 0) → Type 0
 IfFound result P = IfOk result (λ o. IfSome o P)
 
@@ -28,8 +28,8 @@ FindsArchive old new found = IsUnchanged old new × IsArchiveOf old.now found.he
 abbrev pub ShowsFound : Tables → Found → Type 0
 ShowsFound t found = found.held.shelves ≡ shown_in found.held.config.suites t
 
--- The database keeps no archive, whatever it shows: where the pieces of the bodies that are not whole are as those of whole ones,
--- the rows without these bodies are those of none.
+-- The database keeps no archive, whatever it shows: if the pieces of the bodies that are not whole are as those of whole ones,
+-- the rows without these bodies are not those of an archive.
 abbrev pub IsNoArchive : Database → Type 0
 IsNoArchive db = IsArchive db → AreUnderWay (tables_in db) → KeepsNone (finished (tables_in db))
 
@@ -44,7 +44,8 @@ pub record IsFound (s : State) (config : ConfigValue) (judged : List Judgement) 
   pub archive : IsArchiveOf s.now config judged dates
   pub are : ids ≡ unfinished_ids (tables_in s.now).bodies
 
--- The rows that were committed are so still, but for the bodies that are not whole; without any it is the same database.
+-- The rows that were committed are still so, except the bodies that are not whole. If all bodies are whole it is the
+-- same database.
 pub record IsFinished (old new : State) : Type 0 where
   pub is_open : IsTrue new.is_open
   pub held : (t : Tables) → Holds old.committed t → Holds new.committed (finished t)

@@ -1,4 +1,4 @@
-//! What has arrived, told by its rows: without its bytes, and the bytes of one.
+//! What has arrived, as its rows say: without its bytes, and the bytes of one.
 
 ghost use Rattle.std.specs.Prelude.{◌≡◌, false, Some};
 ghost use Rattle.std.specs.Option.{option_map};
@@ -16,7 +16,8 @@ use tables::bodies::{body_numbered, body_with_print};
 use tables::rows::ArrivalRow;
 use tables_bodies::read_body;
 
-/// The print of the body of a number. One that is not there or not whole, which cannot be of an arrival, is refused.
+/// The print of the body of a number. A body that is not there or not whole cannot be that of an arrival, and is
+/// refused.
 fn print_numbered<S: Alter>(
     alloc: Global,
     conn: &mut Connection<S>,

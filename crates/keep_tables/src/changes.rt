@@ -18,7 +18,7 @@ use suites::{Item, ShelfKey};
 use tables_bodies::needs_sweep;
 use tables_changes::amend;
 
-/// Whether an item stands in one of so many suites.
+/// Whether an item stands in one of the first `suites` suites.
 #[tactic(auto, unfolding(tables_meaning::specs::Changing::is_within))]
 fn is_inside(entry: &(ShelfKey, Item), suites: usize) -> bool
     ensures { result ≡ is_within suites entry.now }
@@ -26,7 +26,7 @@ fn is_inside(entry: &(ShelfKey, Item), suites: usize) -> bool
     entry.0.suite < suites
 }
 
-/// Whether each of these items stands in one of so many suites.
+/// Whether each of these items stands in one of the first `suites` suites.
 fn are_inside(entries: &[(ShelfKey, Item)], suites: usize) -> bool
     ensures { result ≡ list_all (is_within suites) entries.now }
 {
@@ -38,7 +38,7 @@ fn are_inside(entries: &[(ShelfKey, Item)], suites: usize) -> bool
     true
 }
 
-/// Whether each item that a step puts stands in one of so many suites.
+/// Whether each item that a step puts stands in one of the first `suites` suites.
 #[tactic(auto, unfolding(tables_meaning::specs::Changing::puts_within))]
 fn puts_inside(step: &Step, suites: usize) -> bool
     ensures { result ≡ puts_within suites step.now }
@@ -46,7 +46,7 @@ fn puts_inside(step: &Step, suites: usize) -> bool
     are_inside(step.plan.put.as_slice(), suites)
 }
 
-/// Whether each item that these steps put stands in one of so many suites.
+/// Whether each item that these steps put stands in one of the first `suites` suites.
 fn stands_inside(steps: &[Step], suites: usize) -> bool
     ensures { result ≡ list_all (puts_within suites) steps.now }
 {
@@ -58,9 +58,9 @@ fn stands_inside(steps: &[Step], suites: usize) -> bool
     true
 }
 
-/// Makes a change after so many judgements, whole or not at all, also over a crash. `whole` says that no body is coming: then
-/// bodies that nothing uses are looked for only where there may be some. It is refused where it would put an item into no suite
-/// of the configuration, or a file into the pool that has no body.
+/// Makes a change after `judged` judgements, whole or not at all, also over a crash. `whole` says that no body is coming: then
+/// bodies that nothing uses are looked for only if there may be some. The change is refused if it would put an item into no
+/// suite of the configuration, or a file into the pool that has no body.
 pub(crate) fn make_change<S: Alter>(
     alloc: Global,
     conn: &mut Connection<S>,
@@ -76,7 +76,7 @@ pub(crate) fn make_change<S: Alter>(
     ensures idle { conn.new.in_transaction ≡ false }
     ensures open { StaysOpen S.Store conn.old conn.new result }
     ensures done { OnCommitted S.Store conn.old conn.new (MakesChange result config.now judged change.now) }
-    // Where it takes a file away nothing is coming any more, and else what is coming stays so.
+    // If it takes a file away nothing is coming afterwards, else what is coming stays.
     ensures ends { OnCommitted S.Store conn.old conn.new (EndsComing result config.now judged change.now) }
     ensures beside { OnCommitted S.Store conn.old conn.new (SparesComing result config.now change.now) }
     ensures undone { Undoes S.Store conn.old conn.new result }

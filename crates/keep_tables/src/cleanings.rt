@@ -10,8 +10,8 @@ use sqlite::{Alter, Connection, Error};
 use std::alloc::Global;
 use tables_bodies::clean;
 
-/// Takes each arrival away that does not count at the moment, where what arrives counts for so many seconds, or for good, and
-/// the rows of a body that is coming. Answers how many arrivals that were.
+/// Takes away each arrival that does not count at the moment, and the rows of a body that is coming. `seconds` is for how
+/// long arrivals count, or nothing if they count for good. Answers how many arrivals were taken away.
 pub(crate) fn clean_up<S: Alter>(
     alloc: Global,
     conn: &mut Connection<S>,

@@ -34,7 +34,7 @@ pub(crate) fn begun() -> Begun
     }
 }
 
-/// The number of the body that was begun, where it has one.
+/// The number of the body that was begun, if it has one.
 pub(crate) fn number_of(begun: &Option<Begun>) -> Option<u64>
     ensures { result ≡ option_and_then (λ b. b.body) begun.now }
 {
@@ -54,7 +54,7 @@ pub(crate) fn is_coming(begun: &Option<Begun>) -> bool
     }
 }
 
-/// No body is coming then. What was begun keeps its number, by which its rows go.
+/// Ends the coming of a body. What was begun keeps its number, by which its rows are removed later.
 pub(crate) fn stop(begun: &mut Option<Begun>)
     ensures { begun.new ≡ option_map (λ (b : Begun). record b { is_coming = false }) begun.old }
 {
@@ -63,7 +63,7 @@ pub(crate) fn stop(begun: &mut Option<Begun>)
     }
 }
 
-/// Nothing is begun where the rows of what came went.
+/// Forgets what was begun, if its rows went.
 pub(crate) fn forget_if(begun: &mut Option<Begun>, went: bool)
     ensures { begun.new ≡ (if went then None else begun.old) }
 {
@@ -82,7 +82,7 @@ pub(crate) fn is_one_piece(begun: &Option<Begun>, body: &[u8]) -> bool
     number_of(begun).is_none()
 }
 
-/// Takes the rows of a body away that came so far.
+/// Takes away the rows of a body that came so far.
 pub(crate) fn forget_body<S: Alter>(conn: &mut Connection<S>, id: u64) -> Result<(), Error>
     requires idle { conn.old.in_transaction ≡ false }
     ensures idle { conn.new.in_transaction ≡ false }
@@ -96,7 +96,8 @@ pub(crate) fn forget_body<S: Alter>(conn: &mut Connection<S>, id: u64) -> Result
     remove_all(conn, &[id])
 }
 
-/// Makes room for a body: the rows of the one before it go, which has this number, or the database is asked whether it serves.
+/// Makes room for a body: removes the rows of the one before it, which has this number. Without a number the database is asked
+/// whether it serves.
 pub(crate) fn clear<S: Alter>(
     alloc: Global,
     conn: &mut Connection<S>,
@@ -115,7 +116,7 @@ pub(crate) fn clear<S: Alter>(
     }
 }
 
-/// Stores the next piece of the body that is coming, under the number behind so many. Answers the number of the body.
+/// Stores the next piece of the body that is coming, after `count` pieces. Answers the number of the body.
 pub(crate) fn take_piece<S: Alter>(
     conn: &mut Connection<S>,
     body: Option<u64>,
@@ -141,7 +142,7 @@ pub(crate) fn take_piece<S: Alter>(
     store_piece(conn, body, number, bytes)
 }
 
-/// Takes the body that came as one that has arrived, and says whether that is new at the moment.
+/// Takes the body that came as one that has arrived, and answers whether that is new at the moment.
 pub(crate) fn finish_delivery<S: Alter>(
     alloc: Global,
     conn: &mut Connection<S>,
@@ -164,7 +165,7 @@ pub(crate) fn finish_delivery<S: Alter>(
     finish_body(alloc, conn, finished)
 }
 
-/// Takes a file whose body is one piece as one that has arrived, where no other body is coming, and says whether that is new at the
+/// Takes a file whose body is one piece as one that has arrived, if no other body is coming, and answers whether that is new at the
 /// moment.
 pub(crate) fn deliver_at_once<S: Alter>(
     alloc: Global,

@@ -26,7 +26,7 @@ pub(crate) fn take_configuration<S: Alter>(
     ensures idle { conn.new.in_transaction ≡ false }
     ensures open { StaysOpen S.Store conn.old conn.new result }
     ensures done { OnCommitted S.Store conn.old conn.new (Configures result config.now shelves.now dates.now) }
-    // What is coming stays so.
+    // What is coming stays.
     ensures beside { OnCommitted S.Store conn.old conn.new (λ old new. WithBook old (λ prior judged shown was. OnOk result (StaysComing old new))) }
     ensures undone { Undoes S.Store conn.old conn.new result }
     ensures crash { CommitsOnly S.Store conn.old conn.new (λ old db. HasConfiguration config.now shelves.now dates.now old.committed db) }

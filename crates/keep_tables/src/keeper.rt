@@ -43,8 +43,9 @@ use tables_changes::{create, is_without_tables};
 use tables_counting::span_of;
 use tables_meaning::fault_of;
 
-/// A keeper over the tables of a database, which its connection is to. The configuration, the judgements and the dates are
-/// held beside the tables, and between calls what the suites show and the prints of index texts; all else is read from them.
+/// A keeper over the tables of the database of its connection. The configuration, the judgements and the dates are held
+/// beside the tables, and between calls what the suites show and the prints of index texts. All else is read from the
+/// tables.
 #[derive(Drop)]
 pub struct TableKeeper<S: Alter + Drop> {
     conn: Connection<S>,
@@ -54,7 +55,7 @@ pub struct TableKeeper<S: Alter + Drop> {
     dates: Vec<u64>,
     /// The body that was begun last, until it has arrived or its rows are gone.
     begun: Option<Begun>,
-    /// What the suites show, where a call left it here. The next that asks for it takes it out.
+    /// What the suites show, if a call left it here. The next call that asks for it takes it out.
     spare: Option<Shelves>,
     /// The prints of index texts that are known.
     prints: Vec<TextPrint>,
@@ -74,9 +75,9 @@ impl<S: Alter + Drop> TableKeeper<S> {
     ghost use Rattle.keep.specs.Plain.{fresh_book};
     ghost use Rattle.tables_meaning.specs.Founding.{MayFound, founded};
 
-    /// A new archive of the configuration, in a database that has no table, no index and no view, made at the moment, in
-    /// seconds since 1970-01-01 00:00:00 UTC. A fault gives the connection back, and then what was committed is as before. It is
-    /// `KeepFault::NoArchive` exactly where the database has an object already or a transaction is begun. A crash leaves what was
+    /// A new archive of the configuration, in a database that has no table, no index and no view, made at the moment, in seconds
+    /// since 1970-01-01 00:00:00 UTC. A fault gives the connection back, and then what was committed is as before. The fault is
+    /// `KeepFault::NoArchive` exactly if the database has an object already or a transaction has begun. A crash leaves what was
     /// there before or the whole archive.
     #[tactic(auto, unfolding(tables_meaning::specs::Kept::book_in))]
     pub fn create(
@@ -183,7 +184,7 @@ impl<S: Alter + Drop> Keeper for TableKeeper<S> {
 
     ghost may_fail = { true };
 
-    /// A crash leaves trees that an opening may find, with a book in them or none.
+    /// A crash leaves trees that an opening may find, with a book in them or without one.
     ghost may_leave = { λ k left. (trees : Trees) × (state S.Store k.conn).may_leave trees × KeepsLeft trees left };
 
     #[tactic(auto, unfolding(tables_meaning::specs::Kept::book_in))]
@@ -290,7 +291,7 @@ impl<S: Alter + Drop> Keeper for TableKeeper<S> {
         }
     }
 
-    /// A body of one piece arrives in one transaction, where no row of another is left.
+    /// A body of one piece arrives in one transaction, if no row of another body is left.
     #[tactic(auto, unfolding(tables_meaning::specs::Kept::book_in))]
     fn arrive(
         &mut self,

@@ -24,8 +24,8 @@ pub fn first_rows()
     ensures book { (config : ConfigValue) (moment : ℕ) → book_in config [] empty (first_dates config moment) (founded config moment) ≡ fresh_book config moment }
 {}
 
-/// What is said of a keeper over tables is said of its connection: it is clean and open where that is, counts its failures, has the
-/// book of its tables, which its database keeps, and leaves what an opening may find.
+/// What is true of a keeper over tables follows from its connection: it is clean and open if the connection is, counts its
+/// failures, has the book of its tables, which its database keeps, and leaves what an opening may find.
 pub fn a_keeper_is_its_tables<S: Alter + Drop>()
     ensures clean { (k : TableKeeper S S.Store) → HasCleanDisk (connection_of k) → ⟦<TableKeeper<S> as Keeper>⟧.is_clean k }
     ensures open { (k : TableKeeper S S.Store) → IsTrue (connection_of k).is_open → ⟦<TableKeeper<S> as Keeper>⟧.is_open k }

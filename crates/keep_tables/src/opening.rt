@@ -41,8 +41,8 @@ struct Found {
     unfinished: Vec<u64>,
 }
 
-/// The archive with these rows, once the bodies that are not whole are away, where they are those of one: the pieces of these
-/// bodies have to be as those of whole ones.
+/// The archive with these rows, once the bodies that are not whole are removed, if the rows are those of one. The pieces of
+/// these bodies have to be as those of whole ones.
 fn found_in(alloc: Global, all: AllRows) -> Result<Option<Found>, AllocError>
     ensures some { AreConstrained (tables_with all) → IfFound result (λ found. KeepsSome (finished (tables_with all)) found.held.config found.held.judged.items found.held.dates.items
         × AreUnderWay (tables_with all) × (found.unfinished.items ≡ unfinished_ids (tables_with all).bodies)) }
@@ -64,7 +64,7 @@ fn found_in(alloc: Global, all: AllRows) -> Result<Option<Found>, AllocError>
     Ok(Some(Found { held, unfinished }))
 }
 
-/// The same of the rows of a database that has the tables of an archive.
+/// The archive of a database that has the tables of an archive, if its rows are those of one, as `found_in` finds it.
 fn archive_of<S: InOrder>(alloc: Global, conn: &mut Connection<S>) -> Result<Option<Found>, Error>
     requires idle { conn.old.in_transaction ≡ false }
     requires archive { IsArchiveSchema (state S.Store conn.old).now.schema }
@@ -84,7 +84,7 @@ fn archive_of<S: InOrder>(alloc: Global, conn: &mut Connection<S>) -> Result<Opt
     Ok(found_in(alloc, all)?)
 }
 
-/// The same of a database.
+/// The archive of a database, if it keeps one, as `found_in` finds it.
 fn find_archive<S: InOrder>(alloc: Global, conn: &mut Connection<S>) -> Result<Option<Found>, Error>
     requires idle { conn.old.in_transaction ≡ false }
     ensures idle { conn.old.in_transaction ≡ false → conn.new.in_transaction ≡ false }
@@ -123,7 +123,7 @@ fn keeper_over<S: Alter + Drop>(
     TableKeeper::over(alloc, connection, config, judged, dates, Some(shelves))
 }
 
-/// The keeper of an archive that was found, once the bodies that are not whole are away.
+/// The keeper of an archive that was found. The bodies that are not whole are removed first.
 fn keeper_of<S: Alter + Drop>(
     alloc: Global,
     mut connection: Connection<S>,
@@ -151,10 +151,10 @@ fn keeper_of<S: Alter + Drop>(
 
 impl<S: InOrder + Drop> TableKeeper<S> {
     /// The keeper over the tables of a database that keeps an archive, without the bodies that are not whole: an opening
-    /// takes these away, with their pieces. A fault gives the connection back, and what was committed is as before. The
-    /// fault is `KeepFault::NoArchive` only where a transaction is begun or the database keeps no archive; another comes only
-    /// where memory is wanting, the store fails meanwhile, the connection was shut or may take only so many steps, or some
-    /// body is not whole. A crash leaves what was there, or that without these bodies.
+    /// takes these away, with their pieces. A fault gives the connection back, and what was committed is as before. The fault
+    /// is `KeepFault::NoArchive` only if a transaction has begun or the database keeps no archive. Another fault comes only
+    /// if memory is wanting, the store fails meanwhile, the connection was shut or has a limit on steps, or some body is not
+    /// whole. A crash leaves what was there, or that without these bodies.
     pub fn open(
         alloc: Global,
         mut connection: Connection<S>,

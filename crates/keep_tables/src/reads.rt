@@ -27,7 +27,8 @@ use tables::probe::probe;
 use tables::texts::select_text;
 use tables_bodies::file_body;
 
-/// The uploads that are due at the moment, in the order of judging, where what arrives counts for so many seconds, or for good.
+/// The uploads that are due at the moment, in the order of judging. `seconds` is for how long arrivals count, or nothing if
+/// they count for good.
 pub fn read_due<S: Alter>(
     alloc: Global,
     conn: &mut Connection<S>,
@@ -40,7 +41,7 @@ pub fn read_due<S: Alter>(
     ensures open { IsOpenOverArchive S.Store conn.old conn.new result }
     ensures uploads { OnCleanDisk S.Store conn.old conn.new (λ old new. OverSpan old.committed seconds (λ config judged shown dates.
         IfOk result (λ uploads. uploads.items ≡ map (upload_of (at_moment moment (book_in_database old.committed config judged shown dates)).arrivals) (due (at_moment moment (book_in_database old.committed config judged shown dates)))))) }
-    // By their names and prints.
+    // The names and prints of the uploads.
     ensures signs { OnCleanDisk S.Store conn.old conn.new (λ old new. OverSpan old.committed seconds (λ config judged shown dates.
         IfOk result (λ uploads. map (λ u. (u.name, u.print)) uploads.items ≡ map sign_of (due (at_moment moment (book_in_database old.committed config judged shown dates)))))) }
 {
@@ -50,7 +51,7 @@ pub fn read_due<S: Alter>(
     due_uploads(alloc, conn, seconds, moment)
 }
 
-/// The uploads without a verdict at the moment, each with how many of its entries have not arrived or count no more.
+/// The uploads without a verdict at the moment, each with how many of its entries have not arrived or no longer count.
 pub fn read_waiting<S: Alter>(
     alloc: Global,
     conn: &mut Connection<S>,
@@ -165,7 +166,7 @@ fn read_shown<S: Alter>(
     read_shelves(alloc, conn, config)
 }
 
-/// Nothing of its own is read: whether the database serves.
+/// Asks the database for nothing of its own, and so whether it serves.
 pub fn read_nothing<S: Alter>(alloc: Global, conn: &mut Connection<S>) -> Result<(), Error>
     requires idle { conn.old.in_transaction ≡ false }
     ensures idle { conn.new.in_transaction ≡ false }
@@ -175,7 +176,7 @@ pub fn read_nothing<S: Alter>(alloc: Global, conn: &mut Connection<S>) -> Result
     probe(alloc, conn)
 }
 
-/// What the suites show: the shelves that are at hand, where the database serves still, or else what its rows show.
+/// What the suites show: the shelves that are at hand, if the database still serves, or else what its rows show.
 pub fn show<S: Alter>(
     alloc: Global,
     conn: &mut Connection<S>,
@@ -198,7 +199,7 @@ pub fn show<S: Alter>(
     }
 }
 
-/// The print of the text of the index at a path: the one that is known, where the database serves still, or else that of the
+/// The print of the text of the index at a path: the one that is known, if the database still serves, or else that of the
 /// text that is read.
 pub fn read_print<S: Alter>(
     alloc: Global,
@@ -225,8 +226,8 @@ pub fn read_print<S: Alter>(
     }
 }
 
-/// Whether the text of the index at the path of a text is this one. Where the print that is known there is that of another,
-/// the database is asked alone whether it serves still; else the text is read.
+/// Whether the text of the index at the path of a text is this one. If the print that is known there is that of another
+/// text, the database is only asked whether it still serves. Otherwise the text is read.
 pub fn read_kept<S: Alter>(
     alloc: Global,
     conn: &mut Connection<S>,

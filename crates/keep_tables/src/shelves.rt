@@ -1,8 +1,8 @@
 //! What the suites show, read from the rows of items and of their files.
 //!
-//! An opening and each change (`hold`) leave with the keeper what the suites show, and the next call that asks for that takes it out. If
-//! there is none, as after a refusal, it is read from the tables: shelves are made of rows by plans, and rows that no archive has are
-//! refused. The rows of an item's files stand in any order, so they are put in that of their numbers first.
+//! An opening and each change (`hold`) leave with the keeper what the suites show, and the next call that asks for it takes it out. If
+//! the keeper does not have it, as after a refusal, it is read from the tables: shelves are made of rows by plans, and rows that no
+//! archive has are refused. The rows of an item's files stand in any order, so they are put in the order of their numbers first.
 
 ghost use Rattle.std.specs.Prelude.{◌≡◌, false, IfOk, OnOk};
 ghost use Rattle.sqlite.specs.State.{IsUnchanged};

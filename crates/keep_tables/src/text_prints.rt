@@ -33,7 +33,7 @@ fn known_at<'a>(prints: &'a [TextPrint], path: &str) -> Option<&'a TextPrint>
     None
 }
 
-/// The print of the text at a path, where it is known.
+/// The print of the text at a path, if it is known.
 pub(crate) fn known_print(prints: &[TextPrint], path: &str) -> Option<Print>
     ensures { result ≡ option_map (λ p. p.print) (find (is_print_of path.now) prints.now) }
 {
@@ -53,7 +53,7 @@ pub(crate) fn is_of_another(known: Option<Print>, text: &IndexText) -> bool
     }
 }
 
-/// Notes the print of the text at a path, where there is one that is not known yet, and memory for it.
+/// Notes the print of the text at a path, if there is one that is not known yet, and memory for it.
 pub(crate) fn note_print(
     alloc: Global,
     prints: &mut Vec<TextPrint>,

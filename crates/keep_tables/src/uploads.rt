@@ -1,5 +1,5 @@
-//! The uploads that are not judged, found one by one and put in the order of judging: what they wait for, and those that are due, of
-//! which each entry has arrived.
+//! The uploads that are not judged, found one by one and put in the order of judging: what they wait for, and which of them are due,
+//! as each of their entries has arrived.
 
 ghost use Rattle.std.specs.Prelude.{◌≡◌, false, IfOk, length, filter, map, not, OnOk, zip, All, Ok, Some};
 ghost use Rattle.std.specs.List.{filter_map};
@@ -30,8 +30,8 @@ use tables::wants::{next_wanting, wants_of};
 use tables_bodies::read_body;
 use tables_counting::{counts_still, missing_of_one};
 
-/// The first upload behind a number that wants something, with its number. One that is not there, which cannot be in an
-/// archive, is refused.
+/// The first upload after a number that wants something, with its number. An upload that is not there cannot be in an
+/// archive, and is refused.
 fn next_upload<S: Alter>(
     alloc: Global,
     conn: &mut Connection<S>,
@@ -70,7 +70,7 @@ pub(crate) fn wanting_uploads<S: Alter>(
         uploads.push((id, upload))?;
         after = Some(id);
     }
-    // No table has so many rows.
+    // No table has as many rows as this loop counts.
     Err(Error::SqliteFailure(ErrorCode::TooBig))
 }
 
@@ -81,7 +81,7 @@ fn row_order(a: &UploadRow, b: &UploadRow) -> Ordering
     judging_order(a.name.as_str(), &a.print, b.name.as_str(), &b.print)
 }
 
-/// The uploads in the order of judging, those that tie as they stand.
+/// The uploads in the order of judging. Those that tie stay in their order.
 fn in_judging_order(mut uploads: Vec<(u64, UploadRow)>) -> Result<Vec<(u64, UploadRow)>, AllocError>
     ensures { IfOk result (λ sorted. sorted.items ≡ sorted_by row_order uploads.items) }
 {
@@ -89,7 +89,7 @@ fn in_judging_order(mut uploads: Vec<(u64, UploadRow)>) -> Result<Vec<(u64, Uplo
     Ok(uploads)
 }
 
-/// The upload with its number, where it counts still at the moment.
+/// The upload with its number, if it still counts at the moment.
 fn row_if_still<S: Alter>(
     alloc: Global,
     conn: &mut Connection<S>,
@@ -118,7 +118,7 @@ fn row_if_still<S: Alter>(
     }
 }
 
-/// The uploads that want something and count still at the moment with their numbers, in the order of these.
+/// The uploads that want something and still count at the moment with their numbers, in the order of these.
 fn wanting_still<S: Alter>(
     alloc: Global,
     conn: &mut Connection<S>,
@@ -139,7 +139,7 @@ fn wanting_still<S: Alter>(
     Ok(rows)
 }
 
-/// The uploads that want something and count still at the moment with their numbers, in the order of judging: those that are
+/// The uploads that want something and still count at the moment with their numbers, in the order of judging: those that are
 /// not judged.
 pub(crate) fn wanting_in_order<S: Alter>(
     alloc: Global,
@@ -157,7 +157,7 @@ pub(crate) fn wanting_in_order<S: Alter>(
     Ok(sorted)
 }
 
-/// How many of the entries have not arrived, or count no more at the moment.
+/// How many of the entries have not arrived, or no longer count at the moment.
 fn missing_among<S: Alter>(
     alloc: Global,
     conn: &mut Connection<S>,
@@ -178,7 +178,7 @@ fn missing_among<S: Alter>(
     Ok(count)
 }
 
-/// How many entries of an upload have not arrived, or count no more at the moment.
+/// How many entries of an upload have not arrived, or no longer count at the moment.
 pub(crate) fn missing_of<S: Alter>(
     alloc: Global,
     conn: &mut Connection<S>,
@@ -196,8 +196,8 @@ pub(crate) fn missing_of<S: Alter>(
     Ok(missing)
 }
 
-/// The uploads that are not judged and count still at the moment, in the order of judging, each with the number of its entries
-/// that have not arrived or count no more.
+/// The uploads that are not judged and still count at the moment, in the order of judging, each with the number of its entries
+/// that have not arrived or no longer count.
 pub fn waiting_uploads<S: Alter>(
     alloc: Global,
     conn: &mut Connection<S>,
@@ -221,7 +221,7 @@ pub fn waiting_uploads<S: Alter>(
     Ok(waiting)
 }
 
-/// The body with a print. One that is not there or has another print, which cannot be in an archive, is refused.
+/// The body with a print. A body that is not there or has another print cannot be in an archive, and is refused.
 fn body_of<S: Alter>(
     alloc: Global,
     conn: &mut Connection<S>,
@@ -281,7 +281,7 @@ fn texts_of<S: Alter>(
     Ok(texts)
 }
 
-/// The record that a body is. One that is none, which cannot be in an archive, is refused.
+/// The record that a body is. A body that is no record cannot be in an archive, and is refused.
 fn read_changes(alloc: Global, body: &[u8]) -> Result<Changes, Error>
     ensures { IfOk result (λ changes. changes_in body.now ≡ Ok changes) }
 {
@@ -309,7 +309,7 @@ fn read_upload<S: Alter>(
     Ok(Upload::new(upload.name, upload.print, changes, texts))
 }
 
-/// An upload as it is judged, where each of its entries has arrived and counts still at the moment.
+/// An upload as it is judged, if each of its entries has arrived and still counts at the moment.
 fn due_upload<S: Alter>(
     alloc: Global,
     conn: &mut Connection<S>,
@@ -331,8 +331,8 @@ fn due_upload<S: Alter>(
     Ok(Some(read))
 }
 
-/// The uploads that are not judged and count still at the moment, of which each entry has arrived and does so too, in the order
-/// of judging.
+/// The uploads that are not judged and still count at the moment, of which each entry has arrived and still counts too, in the
+/// order of judging.
 pub fn due_uploads<S: Alter>(
     alloc: Global,
     conn: &mut Connection<S>,

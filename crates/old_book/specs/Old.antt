@@ -26,15 +26,15 @@ pub record HasText (meta : Numbered Meta) (text : List ℕ) : Type 0 where
   pub is : rows_of meta ≡ record { version = VERSION; configuration = old } ∷ []
   pub text_is : without_days old ≡ Some text
 
--- Rows that are shown are those of an old archive: of its configuration the two fields are passed over; the wants are exactly the
--- entries of all uploads, judged ones too; and without those of judged ones they are rows of an archive of today.
+-- Rows that are shown are those of an old archive. The two fields of its configuration are passed over. The wants are exactly the
+-- entries of all uploads, also of judged ones. Without the wants of judged uploads the rows are those of an archive of today.
 pub record IsOldArchive (t : Tables) (config : ConfigValue) (judged : List Judgement) (shown : ShelvesValue) (dates : List ℕ) : Type 0 where
   pub text : HasText t.meta config.text
   pub rising : AreRising t
   pub listed : UploadsFit (unjudged t) []
   pub kept : IsBook (with_meta_row config.text (settled t)) config judged shown dates
 
--- rows that keep no old archive
+-- the rows keep no old archive
 abbrev pub KeepsNoOld : Tables → Type 0
 KeepsNoOld t = (config : ConfigValue) (judged : List Judgement) (shown : ShelvesValue) (dates : List ℕ) → IsOldArchive t config judged shown dates → ⊥
 
@@ -42,10 +42,12 @@ KeepsNoOld t = (config : ConfigValue) (judged : List Judgement) (shown : Shelves
 abbrev pub IsOldBook : Database → Tables → ConfigValue → List Judgement → ShelvesValue → List ℕ → Type 0
 IsOldBook db t config judged shown dates = (asked : Asked) × Contains older_layouts asked × AreShown asked db t × IsOldArchive t config judged shown dates
 
--- some query of the layout is refused, or shows no rows of its table, or all show rows that keep no old archive
+-- some query of the layout is refused, or shows rows that cannot be rows of its table, or all show rows that keep no
+-- old archive
 abbrev pub KeepsNoneAs : Asked → Database → Type 0
 KeepsNoneAs asked db = ShowsNone asked db ⊎ ((t : Tables) × AreShown asked db t × (AreReadable t → KeepsNoOld t))
 
--- For each older layout: some query is refused, or shows no rows of its table, or all show rows that keep no old archive.
+-- For each older layout some query is refused, or shows rows that cannot be rows of its table, or all show rows that keep
+-- no old archive.
 abbrev pub IsNoOldArchive : Database → Type 0
 IsNoOldArchive db = All (λ asked. KeepsNoneAs asked db) older_layouts

@@ -13,7 +13,7 @@ as_unjudged u = record u { place = None; verdict = None }
 abbrev pub unjudged_uploads : Numbered UploadRow → Numbered UploadRow
 unjudged_uploads uploads = map (λ x. (x.0, as_unjudged x.1)) uploads
 
--- as if none had been judged: each upload waits, and wants what it lists
+-- the rows as if no upload had been judged: each waits, and wants what it lists
 abbrev pub unjudged : Tables → Tables
 unjudged t = record t { uploads = unjudged_uploads t.uploads }
 
@@ -25,7 +25,7 @@ has_judged uploads id = list_any (λ x. nat_eq x.0 id && has_place x.1) uploads
 abbrev pub judged_ids : Numbered UploadRow → List ℕ
 judged_ids uploads = map (λ x. x.0) (filter (λ x. has_place x.1) uploads)
 
--- an upload that is judged wants nothing more
+-- the rows without what judged uploads want
 abbrev pub settled : Tables → Tables
 settled t = record t { wants = without (λ w. has_judged t.uploads w.1.upload) t.wants }
 

@@ -13,11 +13,11 @@ use Rattle.rules.specs.Configuration.{config_limit}
 unfoldable pub is_days_field : FieldValue → Bool
 is_days_field f = str_eq_ignore_ascii_case f.name (codes "KeepDays") || str_eq_ignore_ascii_case f.name (codes "ValidDays")
 
--- the fields that are neither
+-- the fields that are neither KeepDays nor ValidDays
 abbrev pub other_fields : Fields → Fields
 other_fields p = filter (λ f. not (is_days_field f)) p
 
--- a paragraph without these fields, and an empty line behind it
+-- a paragraph without these fields, and an empty line after it
 abbrev pub other_text : Fields → List ℕ
 other_text p = paragraph_text (other_fields p) ++ 10 ∷ []
 

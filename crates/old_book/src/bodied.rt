@@ -1,6 +1,7 @@
 //! Whether what arrived, and each file of the pool, has a body.
 //!
-//! An older layout takes an arrival or a file of a body that is not whole, and its query passes such a body over.
+//! In an older layout an arrival or a file may name a body that is not whole, and the query of the layout passes such a
+//! body over.
 
 ghost use Rattle.std.specs.Prelude.{◌≡◌, ◌&&◌, IfOk, map, nat_eq};
 ghost use Rattle.std.specs.List.{list_all, list_any};

@@ -26,7 +26,7 @@ use tables_audit::archive_in;
 use tables_meaning::fault_of;
 use tables_read::AllRows;
 
-/// The book of the old archive with these rows, of which the keys of today's tables hold, where they are those of one.
+/// The book of the old archive with these rows, if they are those of one. The keys of today's tables hold of the rows.
 fn book_of(alloc: Global, mut all: AllRows) -> Result<Option<OldBook>, AllocError>
     requires rising { AreRising (tables_with all) }
     requires keys { AreConstrained (tables_with all) }
@@ -46,7 +46,7 @@ fn book_of(alloc: Global, mut all: AllRows) -> Result<Option<OldBook>, AllocErro
     }
 }
 
-/// The book of the old archive with these rows, where they are those of one.
+/// The book of the old archive with these rows, if they are those of one.
 fn old_book_in(alloc: Global, all: AllRows) -> Result<Option<OldBook>, Error>
     ensures some { IfOk result (λ o. IfSome o (IsBookOf (tables_with all))) }
     ensures none { IfOk result (λ o. o ≡ None → AreReadable (tables_with all) → KeepsNoOld (tables_with all)) }
@@ -61,7 +61,7 @@ fn old_book_in(alloc: Global, all: AllRows) -> Result<Option<OldBook>, Error>
     Ok(book_of(alloc, all)?)
 }
 
-/// The book of a database of this layout, where it keeps an archive.
+/// The book of a database of this layout, if it keeps an archive.
 fn book_as<S: Alter>(
     alloc: Global,
     from: &mut Connection<S>,
@@ -82,7 +82,7 @@ fn book_as<S: Alter>(
     }
 }
 
-/// The book of a database of an older layout, where it keeps an archive.
+/// The book of a database of an older layout, if it keeps an archive.
 fn book_in<S: Alter>(alloc: Global, from: &mut Connection<S>) -> Result<Option<OldBook>, Error>
     requires idle { from.old.in_transaction ≡ false }
     ensures idle { from.new.in_transaction ≡ false }
@@ -105,8 +105,8 @@ impl OldBook {
     ghost use Rattle.old_book.specs.Old.{IsOldBook};
     ghost use Rattle.old_book.specs.Settling.{settled, with_meta_row};
 
-    /// The book of an archive of an older layout, from its database. The fault is `KeepFault::NoArchive` only where a transaction is begun or
-    /// the queries of no older layout show rows that keep one. The database is as before.
+    /// The book of an archive of an older layout, from its database. The fault is `KeepFault::NoArchive` only if a transaction has begun, or
+    /// if the queries of no older layout show rows that keep an archive. The database is as before.
     pub fn read<S: Alter>(alloc: Global, from: &mut Connection<S>) -> Result<OldBook, KeepFault>
         ensures read { IfOk result (λ old. HasCleanDisk (state S.Store from.new) → (t : Tables) × IsOldBook (state S.Store from.old).now t old.held.config old.held.judged.items old.held.shelves old.held.dates.items
             × (tables_with old.rows ≡ with_meta_row old.held.config.text (settled t))) }

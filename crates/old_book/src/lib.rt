@@ -1,7 +1,7 @@
 //! The book of an archive of an older layout: what queries show of it, as the rows of an archive of today's layout.
 //!
-//! No schema is compared, and nothing is delivered or judged again: the rows that were shown are audited as those of an opening are, under
-//! the keys of the present tables, which a database in memory tries on them, and are written as they are.
+//! No schema is compared, and nothing is delivered or judged again. The rows that were shown are audited as an opening audits its rows,
+//! with the keys of today's tables: these are tested by writing the rows into a database in memory. The rows are then written as they are.
 #![tactic(auto)]
 
 mod bodied;

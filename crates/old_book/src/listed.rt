@@ -11,8 +11,8 @@ use std::mem::replace;
 use tables_audit::judgements_in;
 use tables_read::AllRows;
 
-/// Whether the uploads are the .changes that arrived, and the wants exactly their entries: a judged upload has its wants still, and
-/// each tells whether it is here. The rows are the same afterwards.
+/// Whether the uploads are the .changes that arrived, and the wants exactly their entries. A judged upload still has its wants, and
+/// each want says whether it is here. The rows are the same afterwards.
 pub fn are_listed(alloc: Global, all: &mut AllRows) -> Result<bool, AllocError>
     ensures same { OnOk result (all.new ≡ all.old) }
     ensures fit { AreConstrained (tables_with all.old) → BodiesFit (tables_with all.old)

@@ -14,7 +14,7 @@ use tables::meta::VERSION;
 use tables::rows::Meta;
 use tables_read::AllRows;
 
-/// The text of the configuration that a row has, without the fields KeepDays and ValidDays, where the row is of this layout.
+/// The text of the configuration that a row has, without the fields KeepDays and ValidDays, if the row is of this layout.
 fn text_in_row(alloc: Global, row: &Meta) -> Result<Option<Vec<u8>>, AllocError>
     ensures some { IfOk result (λ o. IfSome o (λ text. HasTextIn row.now text.items)) }
     ensures none { IfOk result (λ o. o ≡ None → (text : List ℕ) → HasTextIn row.now text → ⊥) }
@@ -25,7 +25,7 @@ fn text_in_row(alloc: Global, row: &Meta) -> Result<Option<Vec<u8>>, AllocError>
     without_days(alloc, row.configuration.as_slice())
 }
 
-/// The text of the configuration without the fields KeepDays and ValidDays, where the rows of `meta` are one row of this layout.
+/// The text of the configuration without the fields KeepDays and ValidDays, if the rows of `meta` are one row of this layout.
 pub fn text_among(alloc: Global, meta: &[(u64, Meta)]) -> Result<Option<Vec<u8>>, AllocError>
     ensures some { IfOk result (λ o. IfSome o (λ text. HasText meta.now text.items)) }
     ensures none { IfOk result (λ o. o ≡ None → (text : List ℕ) → HasText meta.now text → ⊥) }

@@ -1,7 +1,7 @@
 //! The uploads as if none had been judged, and the wants without those of judged ones.
 //!
-//! Wants are read in the order of their rows, which is that of the entries as they were written. Those of judged uploads, which an older
-//! layout keeps, are tested too, and then go.
+//! Wants are read in the order of their rows, which is that of the entries as they were written. The wants of judged uploads, which an
+//! older layout keeps, are tested too, and then removed.
 
 ghost use Rattle.std.specs.Prelude.{◌≡◌, nat_eq, IfOk, OnOk};
 ghost use Rattle.std.specs.List.{list_any};

@@ -27,7 +27,7 @@ fn filled(alloc: Global, all: &AllRows) -> Result<Connection<MemStore>, Error>
     Ok(conn)
 }
 
-/// Writes the rows into a database in memory, whose tables take none that break a key.
+/// Writes the rows into a database in memory, whose tables take no row that breaks a key.
 pub fn are_taken(alloc: Global, all: &AllRows) -> Result<(), Error>
     requires rising { AreRising (tables_with all.now) }
     ensures { OnOk result (AreConstrained (tables_with all.now)) }

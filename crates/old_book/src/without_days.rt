@@ -22,7 +22,7 @@ fn is_days_field(field: &Field<'_>) -> bool
     keep || valid
 }
 
-/// Appends a field, unless it is one of these two.
+/// Appends a field, unless it is KeepDays or ValidDays.
 fn write_unless_days(field: &Field<'_>, out: &mut Vec<u8>) -> Result<(), ParaFault>
     ensures ok { OnOk result (out.new.items ≡ out.old.items ++ paragraph_text (other_fields (field_values (field.now ∷ [])))) }
     ensures err { IfErr result (λ fault. fault ≡ OutOfMemory) }
@@ -33,7 +33,7 @@ fn write_unless_days(field: &Field<'_>, out: &mut Vec<u8>) -> Result<(), ParaFau
     write_field(field.name, field.first, &field.more, out)
 }
 
-/// Appends the fields that are neither of these two.
+/// Appends the fields that are neither KeepDays nor ValidDays.
 fn write_others(fields: &[Field<'_>], out: &mut Vec<u8>) -> Result<(), ParaFault>
     ensures ok { OnOk result (out.new.items ≡ out.old.items ++ paragraph_text (other_fields (field_values fields.now))) }
     ensures err { IfErr result (λ fault. fault ≡ OutOfMemory) }
@@ -44,7 +44,7 @@ fn write_others(fields: &[Field<'_>], out: &mut Vec<u8>) -> Result<(), ParaFault
     Ok(())
 }
 
-/// Appends a paragraph without these two fields, and an empty line behind it.
+/// Appends a paragraph without these two fields, and an empty line after it.
 fn write_paragraph(paragraph: &Paragraph<'_>, out: &mut Vec<u8>) -> Result<(), ParaFault>
     ensures ok { OnOk result (out.new.items ≡ out.old.items ++ other_text paragraph.now) }
     ensures err { IfErr result (λ fault. fault ≡ OutOfMemory) }
@@ -76,8 +76,8 @@ fn printed_without_days(alloc: Global, text: &[u8]) -> Result<Vec<u8>, ParaFault
     Ok(out)
 }
 
-/// The text of a configuration without the fields KeepDays and ValidDays: its paragraphs, printed. There is none where the text is no
-/// paragraphs, or is too long.
+/// The text of a configuration without the fields KeepDays and ValidDays: its paragraphs, printed. Nothing if the text cannot be read
+/// as paragraphs, or is too long.
 pub fn without_days(alloc: Global, text: &[u8]) -> Result<Option<Vec<u8>>, AllocError>
     ensures { IfOk result (λ o. option_map (λ printed. printed.items) o ≡ without_days text.now) }
 {

@@ -22,7 +22,7 @@ module _ {X : Type 0} (cells : X → Row) (into : Table) (given : Row) (x : X) (
     rise = rises_added xs x was.rise;
   }
 
-  -- the connection tells the number that the row got
+  -- the connection has the number that the row got
   pub adds_id : new.last_rowid ≡ id_int (next_in xs)
   adds_id =
       put.last ∙ ap (λ row. id_in (rowid (with_rowid Chosen (old.now.trees into.tree) row))) cast

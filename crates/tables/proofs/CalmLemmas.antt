@@ -14,7 +14,7 @@ use Rattle.sqlite.specs.Table.{Table}
 use Rattle.tables.specs.Schema.{archive_schema}
 use Rattle.tables.specs.Others.{Others, with_others, is_ours, is_apart, is_elsewhere, AreApart, last_tree}
 
--- what is not among the first is looked for behind them
+-- a search that finds nothing among the first elements goes on after them
 find_behind : {X : Type 0} (p : X → Bool) (xs ys : List X) → list_any p xs ≡ false → find p (xs ++ ys) ≡ find p ys
 find_behind p [] ys none = refl
 find_behind p (x ∷ xs) ys none = elim (cases_Bool (p x)) [
@@ -22,7 +22,7 @@ find_behind p (x ∷ xs) ys none = elim (cases_Bool (p x)) [
   | inr miss ↦ rw miss (find_behind p xs ys (rw miss at none))
 ]
 
--- what is found passes what all pass
+-- what a search finds passes a test that all elements pass
 found_passes : {X : Type 0} (test p : X → Bool) (xs : List X) (x : X) → list_all test xs ≡ true → find p xs ≡ Some x → test x ≡ true
 found_passes test p [] x all found = absurd cc
 found_passes test p (y ∷ xs) x all found = elim (cases_Bool (p y)) [

@@ -44,7 +44,7 @@ module _ (old new : State) where
   not_run sql e alone plain (inl h) = absurd (is_statement sql e alone plain h.0)
   not_run sql e alone plain (inr h) = store_failed e h
 
--- of what comes after other calls
+-- the causes of a failure after other calls
 module _ (a b c : State) {P : Trees → Type 0} (first : Survives a b P) (clean : HasCleanDisk b) where
   shut_before : (up : Bool) → a.is_open ≡ up → b.is_open ≡ false → MayFail a b
   shut_before false is shut = inr (inl is)

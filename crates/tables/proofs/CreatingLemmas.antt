@@ -17,7 +17,7 @@ use Rattle.tables.proofs.CauseLemmas.{caused_later}
 use Rattle.tables.proofs.RefusalLemmas.{IsAccepted, fails_inside}
 use Rattle.tables.proofs.TransactionLemmas.{keeps_then}
 
--- so many tables are made
+-- the first tables are made, up to this number
 pub record IsBuilding (count : ℕ) (old new : State) : Type 0 where
   pub made : old.now.schema ≡ no_schema → IsEmpty (schema_up_to count) new.now
   pub kept : KeepsCommit old new
@@ -53,7 +53,7 @@ one_more at begun old new count within was h =
       mode = h.1.mode;
     }
 
--- the next is not made
+-- if the next table is not made, there is a cause
 pub one_fails : (at : ℕ) (begun old new : State) (e : Error) → at < 11 → IsBuilding at begun old → begun.now.schema ≡ no_schema → Survives begun old (λ _. ⊥) → HasCleanDisk old → old.faults ≤ new.faults
     → ExecutesInside 0 (text_at at) [] old new (Err e) → IsCaused begun new e
 one_fails at begun old new e within was none before clean up h =

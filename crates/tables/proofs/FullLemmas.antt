@@ -107,11 +107,11 @@ module _ {X : Type 0} (s : Storing X) where
     rise = ascending-map (λ a b. a.0 < b.0) value_in of h.rise;
   }
 
-  -- the same rows that are named otherwise
+  -- a tree of raw rows has the rows of these values, if NULL is put in each column that a row lacks
   pub full_rows_as : (of : Numbered Raw) (rows : Numbered X) (tree : List Row) → map value_in of ≡ rows → HasRows raw_cells of tree → HasRows s.cells rows (map s.full tree)
   full_rows_as of rows tree same h = subst (λ l. HasRows s.cells l (map s.full tree)) same (full_rows of tree h)
 
-  -- ---- a row more
+  -- ---- one more row
 
   next_same : (top : ℕ) (of : Numbered Raw) → next_from top (map value_in of) ≡ next_from top of
   next_same top [] = refl

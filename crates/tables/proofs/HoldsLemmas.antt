@@ -1,4 +1,4 @@
--- Where a statement changes one table, the others hold what they held.
+-- If a statement changes one table, the others hold what they held.
 use Rattle.std.proofs.Common.{◌≡◌, ◌≢◌, ℕ, List, map, ap, ◌∙◌, arith}
 use Rattle.std.specs.List.{AllByRecursion}
 use Rattle.sqlite.specs.Order.{Row}

@@ -1,4 +1,4 @@
--- The two indexes of bodies, made behind the tables of an archive.
+-- The two indexes of bodies, made after the tables of an archive.
 use Rattle.std.proofs.Common.{◌≡◌, ℕ, List, [], ◌∷◌, ◌++◌, slice_get, None, Some, Ok, refl, sym, ap, subst, ◌∙◌}
 use Rattle.sqlite_tied.specs.Compute.{everything}
 use Rattle.sqlite_catalog.specs.Change.{indexed, KeepsRows}
@@ -29,7 +29,7 @@ record MakesIndex (schema : Schema) (at : ℕ) (sql : List ℕ) (table : Table) 
   pub there : slice_get schema.tables at ≡ Some table
   pub defined : index_defined_by table sql ≡ Ok index
 
--- the schema has the index then, and each table the rows that it had
+-- afterwards the schema has the index, and each table has the rows that it had
 record Indexes (schema : Schema) (table : Table) (index : Index) (old new : Database) : Type 0 where
   pub schema_is : new.schema ≡ indexed schema table index
   pub rows : KeepsRows schema.tables old.trees new.trees

@@ -34,7 +34,7 @@ went (inr on) = on
 pub same_value : {B E : Type 0} {a b : B} → ◌≡◌ {A = Result B E} (Ok a) (Ok b) → a ≡ b
 same_value e = cc
 
--- the row is put into the table, the other tables keep theirs, and the connection tells the row's number
+-- the row is put into the table, the other tables keep theirs, and the connection has the row's number
 pub record PutsRow (into : Table) (row : Row) (old new : State) : Type 0 where
   pub schema_is : IsArchiveSchema new.now.schema
   pub rows : new.now.trees into.tree ≡ put_row (with_rowid Chosen (old.now.trees into.tree) (cast_row into row)) (old.now.trees into.tree)

@@ -79,7 +79,7 @@ behind_test n id = at_ints false Gt (id_int id) (id_int n) ∙ same_lt
     same_lt : int_lt (id_int n) (id_int id) ≡ nat_lt n id
     same_lt = grind (arith, ints, nat_tests)
 
--- a number that passes, where all that pass have a property
+-- a number that passes has a property, if all that pass have it
 passing : (after : Option ℕ) (P : ℕ → Type 0) (xs : Numbered Want) → AllByRecursion (λ x. P x.1.upload) (filter (λ x. is_behind after x.1.upload) xs)
     → (id : ℕ) → is_behind after id ≡ true → list_any (is_wanted_by id) (rows_of xs) ≡ true → P id
 passing after P [] all id behind h = absurd (true≢false (sym h))
@@ -96,7 +96,7 @@ passing after P (x ∷ xs) all id behind h = elim (or_cases (nat_eq x.1.upload i
     later true all = all.1
     later false all = all
 
--- each that passes is that of an entry
+-- each number that passes is that of an entry
 own : (after : Option ℕ) (q : ℕ → Bool) (xs : Numbered Want) → ((id : ℕ) → list_any (is_wanted_by id) (rows_of xs) ≡ true → q id ≡ true)
     → AllByRecursion (λ x. is_behind after x.1.upload && q x.1.upload ≡ true) (filter (λ x. is_behind after x.1.upload) xs)
 own after q [] f = tt
@@ -128,7 +128,7 @@ module _ (after : Option ℕ) (where_ : List Term) (params : Row) (tests : (x : 
   no_less : (x y : ℕ × Want) → lt (out x) (out y) ≡ false → y.1.upload ≤ x.1.upload
   no_less x y h = let k : is_lt (int_cmp (id_int x.1.upload) (id_int y.1.upload)) ≡ false = ap is_lt (sym (then-Equal _ ∙ value_cmp-Int _ _)) ∙ h in grind (arith, ints, k)
 
-  -- an output that stands first is that of the least number
+  -- an output that comes first is that of the least number
   first_out : (o : Output) (rest : List Output) → IsPermutation (map out some) (o ∷ rest) → IsSorted (output_cmp (next_query where_)) (o ∷ rest) → IsNextWanting after (rows_of xs) (Some (id_of (column o.1 0)))
   first_out o rest same sorted =
       let each = all_map IsOut out some (all_weaker (λ x. wants_behind after (rows_of xs) x.1.upload ≡ true) (λ x. IsOut (out x)) (λ x h. (x, refl, h)) some (own after (λ id. list_any (is_wanted_by id) (rows_of xs)) xs (λ id h. h))) in

@@ -42,14 +42,14 @@ module _ (old new : State) where
   pub unchanged_if_plain : (sql : List ℕ) (params : Row) (rows : List Row) → IsPlainIn old sql → Shown sql params old new rows → IsUnchanged old new
   unchanged_if_plain sql params rows plain h = unchanged old.now.schema sql params old new rows refl plain h
 
--- a text that is plain under the archive's schema is not so only in another database
+-- a text that is plain under each schema of an archive and is not plain here shows that the database is foreign
 pub foreign : (sql : List ℕ) → ((o : Others) → IsPlain (understood (with_others o) sql)) → (s : State) → ¬ IsPlainIn s sql → IsForeign s.now
 foreign sql plain s not_plain same = not_plain (subst (λ schema. IsPlain (understood schema sql)) (sym same.is) (plain (others_in s.now.schema)))
 
 pub plain_in : (sql : List ℕ) → ((o : Others) → IsPlain (understood (with_others o) sql)) → (s : State) → IsArchiveSchema s.now.schema → IsPlainIn s sql
 plain_in sql plain s same = subst (λ schema. IsPlain (understood schema sql)) (sym same.is) (plain (others_in s.now.schema))
 
--- where nothing is done, a crash leaves nothing new
+-- if nothing is done, a crash leaves nothing new
 pub survives_none : (s : State) → Survives s s (λ _. ⊥)
 survives_none s = record {
   clean = omega arith;

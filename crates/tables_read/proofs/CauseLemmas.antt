@@ -32,7 +32,7 @@ use Rattle.tables.proofs.SelectLemmas.{rows_query}
 use Rattle.tables_read.specs.Layout.{IsLayout, IsShort, Layout}
 use Rattle.tables_read.specs.Reading.{AsksForRows, Means}
 
--- no sum of it is too large
+-- no sum of the query is too large
 abbrev pub IsSure : Query → Type 0
 IsSure query = (db : Trees) → QueryOverflows query db [] → ⊥
 

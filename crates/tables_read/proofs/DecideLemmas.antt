@@ -43,7 +43,7 @@ module _ {X : Type 0} (l : Layout X) (laid : IsLayout l) where
       let shape : IsTableShaped w at.1 = all_has (IsTableShaped w) archive_schema.tables at.1 (own_tables (IsTableShaped w) o shaped.tables) (has_got archive_schema.tables at.0 at.1 at.2) in
       (subst (λ t. IsRising (v.committed t)) at.3 (subst (λ s. IsShaped s (v.committed at.1.tree)) shape.0 (order.ordered at.1.tree)).0)
 
-  -- outside a transaction, where a connection shows what was committed
+  -- the rows of the table rise outside a transaction, when a connection shows what was committed
   pub rows_rise : (s : State) (v : View) → IsInOrder v → s.committed.trees ≡ v.committed → s.now ≡ s.committed → IsLive s → IsTrue s.is_open → IsArchiveSchema s.now.schema → IsRising (s.now.trees l.tree)
   rows_rise s v order same settled live up is =
       let trees : s.now.trees ≡ v.committed = ap (λ (d : Database). d.trees) settled ∙ same in
@@ -52,11 +52,11 @@ module _ {X : Type 0} (l : Layout X) (laid : IsLayout l) where
       subst (λ (db : Trees). IsRising (db l.tree)) (sym trees) (committed_rises o v order (subst (IsSound (with_others o)) trees sound))
 
 module _ {X V : Type 0} (l : Layout X) (laid : IsLayout l) (real : X → Type 0) (items : V → Numbered X) (a b : State) where
-  -- what the query for the rows tells
+  -- what the query for the rows says
   abbrev Answers : Option V → Type 0
   Answers o = MatchOption o (HasAnswer l a b (IsNotRead l real)) (λ all. HasAnswer l a b (λ raw. AreRead l raw (items all)))
 
-  -- what is told of the table
+  -- what is known of the table
   abbrev Finds : Option V → Type 0
   Finds o = MatchOption o (IsNoTable l real a.now) (λ all. IsTable l a.now (items all))
 

@@ -18,7 +18,7 @@ module _ {X : Type 0} (l : Layout X) where
   ids_push P [] x h k = (k, tt)
   ids_push P (y ∷ all) x h k = (h.0, ids_push P all x h.1 k)
 
-  -- one row more
+  -- one more row
   pub read_more : (rows : List Row) (row : Row) (all : Numbered X) (x : ℕ × X) {now : Numbered X} → x.0 < 2 ^ 64 → Spells l.seen row x → now ≡ all ++ x ∷ [] → AreRead l rows all
       → AreRead l (rows ++ row ∷ []) now
   read_more rows row all x {now} small spells pushed so_far =
@@ -27,7 +27,7 @@ module _ {X : Type 0} (l : Layout X) where
         small = ids_push (λ n. n < 2 ^ 64) all x so_far.small small;
       })
 
-  -- a row that is none
+  -- an answer with a row that is not of an archive is not read
   pub not_read_among : (real : X → Type 0) (front : List Row) (row : Row) (tail : List Row) → ((x : ℕ × X) → real x.1 → ¬ Spells l.seen row x) → IsNotRead l real (front ++ row ∷ tail)
   not_read_among real [] row tail none [] all zip = zip
   not_read_among real [] row tail none (x ∷ xs) all zip = none x all.0 zip.0

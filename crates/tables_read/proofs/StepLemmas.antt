@@ -28,7 +28,7 @@ module _ (a b : State) where
   pub failed : {X Y : Type 0} {P : X → Type 0} {Q : Y → Type 0} (e f : Error) → f ≡ e → Tells a b (Err e) P → Tells a b (Err f) Q
   failed e f same h = record { idle = h.idle; is = λ _ _. tt; unchanged = λ _ _. tt; err = h.err; cause = λ clean is. subst (IsCaused a b) (sym same) (h.cause clean is); survives = h.survives }
 
-  -- what was read says something else
+  -- a success answers something else, if that follows from what was read
   pub told : {X Y : Type 0} {P : X → Type 0} {Q : Y → Type 0} (x : X) (y : Y) → Tells a b (Ok x) P → (HasCleanDisk b → IsArchiveSchema a.now.schema → IsUnchanged a b → P x → Q y) → Tells a b (Ok y) Q
   told x y h f = record { idle = h.idle; is = λ clean is. f clean is (h.unchanged clean is) (h.is clean is); unchanged = h.unchanged; err = λ _ _. tt; cause = λ _ _. tt; survives = h.survives }
 

@@ -78,7 +78,7 @@ module _ {S X : Type 0} (g : Ghosts S) (l : Layout X) (real : X → Type 0) (old
           go clean sql given has (inl memory) = inl (at ∙ memory)
           go clean sql given has (inr short) = inr (record { row = row; has = gives clean sql given has; is = short })
 
-      -- its next row is read, or is none of an archive
+      -- its next row is read, or is not of an archive
       pub stepped : (b : Bool) → (b ≡ true → Adds l row before after) → (b ≡ false → (x : ℕ × X) → real x.1 → ¬ Spells l.seen row x) → Steps g l real old new before after (Ok (Some b))
       stepped true added other = record {
         idle = idle;
@@ -149,7 +149,7 @@ module _ {S X : Type 0} (g : Ghosts S) (l : Layout X) (sql : List ℕ) (asks : A
       begins_shown sql [] (state g first) (state g now) given (begins_earlier sql (state g first) (state g now) given same (given_begin g sql [] now given has)) same
       (λ c db it source. subst (λ (k : Command). EndsIn k db (timed [] c.formats it.now)) (sym (ap command_of (sym it.is ∙ ap (λ s. understood s sql) schema.is) ∙ asks.is (others_in (state g first).now.schema))) tt)
 
-  -- so is one more
+  -- they still are with one more
   one_more : (now : Held S) (given : List Row) (row : Row) → IsArchiveSchema (state g first).now.schema → IsUnchanged (state g first) (state g now) → HasGiven g sql [] now (given ++ row ∷ [])
       → (tail : List Row) × Shown sql [] (state g first) (state g now) (given ++ row ∷ tail)
   one_more now given row schema same has =
@@ -189,7 +189,7 @@ module _ {S X : Type 0} (g : Ghosts S) (l : Layout X) (sql : List ℕ) (asks : A
             unchanged_then (state g first) (state g now) (state g new) (one.unchanged (early clean) schema)
             (subst (λ (s : Result (Option Bool) Error). OnOk s (IsUnchanged (state g now) (state g new))) is (two.same clean))
 
-    -- one row more is read
+    -- one more row is read
     pub then_read : r ≡ Ok (Some true) → Tells (state g first) (state g new) (Ok after) (IsRead g l sql new)
     then_read is = then_took (Some true) after is (λ schema was same given took. record { given = given ++ took.row ∷ []; has = took.has; read = took.is })
 
@@ -234,7 +234,7 @@ module _ {S X : Type 0} (g : Ghosts S) (l : Layout X) (sql : List ℕ) (asks : A
     pub left : (r : Result (Option V) Error) (now : Held S) {last : State} → Tells (state g first) (state g now) r (Says (state g now)) → last ≡ state g now → Tells (state g first) last r (Says last)
     left r now told same = subst (λ (s : State). Tells (state g first) s r (Says s)) (sym same) told
 
-    -- there are too many
+    -- there are too many rows
     pub unread : (now : Held S) (all : Numbered X) → Tells (state g first) (state g now) (Ok all) (IsRead g l sql now) → Tells (state g first) (state g now) (Err (SqliteFailure OutOfMemory)) (Says (state g now))
     unread now all one = record {
       idle = one.idle;
@@ -251,7 +251,7 @@ module _ {S X : Type 0} (g : Ghosts S) (l : Layout X) (sql : List ℕ) (asks : A
       pub then_failed : (s : Result (Option V) Error) (e : Error) → r ≡ Err e → IsErrAnd s (λ f. f ≡ e) → Tells (state g first) (state g new) s (Says (state g new))
       then_failed s e is at = step_failed real now new before after one r two s e is at
 
-      -- a row is none of an archive
+      -- a row is not of an archive
       pub then_other : r ≡ Ok (Some false) → Tells (state g first) (state g new) (Ok None) (Says (state g new))
       then_other is =
           then_took real now new before after one r two (Some false) None is

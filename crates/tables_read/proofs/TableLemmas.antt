@@ -1,4 +1,4 @@
--- The rows of a table, as the query for them tells them.
+-- The rows of a table, as the query for them shows them.
 use Rattle.std.proofs.Common.{◌≡◌, ◌<◌, ◌^◌, ℕ, pos, true, List, [], ◌∷◌, map, refl, sym, ap, ap₂, ◌∙◌, subst, arith, Less}
 use Rattle.std.proofs.lemmas.Int.{ints}
 use Rattle.std.specs.List.{AllByRecursion, AllZip}
@@ -123,7 +123,7 @@ module _ {X : Type 0} (l : Layout X) (laid : IsLayout l) where
         let are = shown_if (ids xs) (ascending-map (λ m n. m < n) (λ x. x.0) xs has.rise) (ids_in (old.now.trees l.tree) xs zip) in
         subst (λ rs. AllZip (Spells l.seen) rs xs) (sym are) zip
 
-    -- Where the rows of the table rise, those that the answer spells are those of the table.
+    -- If the rows of the table rise, those that the answer spells are those of the table.
     pub is_table : Keeps Datatype archive_schema old.now.trees → IsRising (old.now.trees l.tree) → (xs : Numbered X) → AreRead l rows xs → HasRows l.cells xs (map l.full (old.now.trees l.tree))
     is_table typed up xs read =
         let tree = old.now.trees l.tree in

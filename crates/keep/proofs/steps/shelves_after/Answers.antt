@@ -5,7 +5,7 @@ use Rattle.keep.specs.Keeping.{AreSteps}
 use Rattle.keep.specs.declared.change.Step.{Step}
 use Rattle.keep.proofs.steps.shelves_after.Goals as goal
 
--- the step at a place, before those behind it
+-- the steps from a place on are the step there and those after it
 next : (steps : List Step) (i : ℕ) (step : Step) → i < length steps → step ≡ get_or steps i step → drop i steps ≡ step ∷ drop (i + 1) steps
 next steps i step within is = drop_more steps i step within ∙ ap (λ x. x ∷ drop (i + 1) steps) (sym is)
 
