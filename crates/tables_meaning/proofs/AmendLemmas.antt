@@ -58,7 +58,7 @@ module _ (a b : State) where
   pub makes_as : (f g : Tables → Tables) → ((t : Tables) → Holds a.now t → f t ≡ g t) → Makes a b f → Makes a b g
   makes_as f g same h = record { held = λ t was. subst (Holds b.now) (same t was) (h.held t was); kept = h.kept; mode = h.mode; stays = h.stays }
 
-  -- a query makes nothing of the rows
+  -- a query changes nothing in the rows
   pub makes_by_read : Shows a b b.now a.committed true → ((t : Tables) → Holds a.now t → IsUnchanged a b) → Makes a b (λ t. t)
   makes_by_read shown same = record {
     held = λ t was. subst (λ db. Holds db t) (sym (same t was).0.now_is) was;
@@ -67,7 +67,7 @@ module _ (a b : State) where
     stays = λ _. shown.is_open;
   }
 
-  -- where the connection was open, all is as the transaction shows it
+  -- if the connection was open, all is as the transaction shows it
   pub changes_if_made : (f : Tables → Tables) → IsTrue a.is_open → Makes a b f → Changes a b f
   changes_if_made f up h = record {
     held = h.held;
@@ -97,7 +97,7 @@ makes_none a inside = record { held = λ t was. was; kept = keeps_none a; mode =
 -- ---- loops
 
 module _ {X : Type 0} (f : Tables → X → Tables) (xs : List X) where
-  -- the fold over so many of the list
+  -- the fold over the first elements of the list, of this number
   abbrev pub so_far : ℕ → Tables → Tables
   so_far i t = fold f t (take i xs)
 
@@ -115,13 +115,13 @@ all_of P xs i past = subst (All P) (take_all i xs past)
 
 -- ---- what was read
 
--- where the upload of a judgement was looked for
+-- the rows with a judgement, by what the search for its upload found
 pub judged_as : (place : ℕ) (j : Judgement) (t : Tables) (o : Option (ℕ × UploadRow)) → find (λ x. is_upload j.name j.print x.1) t.uploads ≡ o
     → option_map_or (λ x. without_wants x.0 (with_verdict x.0 place (number_of j.verdict) t)) o t ≡ with_judged place j t
 unfolding with_judged
 judged_as place j t o is = ap (λ o. option_map_or (λ x. without_wants x.0 (with_verdict x.0 place (number_of j.verdict) t)) o t) (sym is)
 
--- where what stands on a shelf was looked for
+-- the rows without what stands on a shelf, by what the search for it found
 pub taken_down : (suites : List Suite) (e : ShelfKey × shelf.Item) (t : Tables) (o : Option (ℕ × ItemRow)) → find (is_on suites e.0) t.items ≡ o
     → option_map_or (λ x. without_item x.0 (without_refs x.0 t)) o t ≡ without_shown suites e t
 unfolding without_shown
@@ -244,7 +244,7 @@ pub written_as : (config : ConfigValue) (n : ℕ) (change : Change) (t : Tables)
 unfolding with_written
 written_as config n change t = refl
 
--- where it takes a file away the bodies that nothing uses go, and else that is all
+-- if it takes a file away the bodies that nothing uses go, and else that is all
 pub swept_as : (config : ConfigValue) (n : ℕ) (change : Change) (t : Tables) → list_any takes_file change.steps ≡ true
     → swept (with_written config n change t) ≡ with_change config n change t
 unfolding with_change
@@ -255,7 +255,7 @@ pub unswept_as : (config : ConfigValue) (n : ℕ) (change : Change) (t : Tables)
 unfolding with_change
 unswept_as config n change t none = ap (λ b. if b then swept (with_written config n change t) else with_written config n change t) (sym none)
 
--- a statement that was only read makes nothing
+-- a statement that only reads changes nothing
 pub makes_unchanged : (a b : State) → IsTrue a.in_transaction → IsUnchanged a b → Makes a b (λ t. t)
 makes_unchanged a b inside h = record {
   held = λ t was. subst (λ db. Holds db t) (sym h.0.now_is) was;

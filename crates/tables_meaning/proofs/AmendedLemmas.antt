@@ -63,7 +63,7 @@ found_in p (y ∷ ys) x h = by_case (p y) h (found_in p ys x)
     by_case true e more = let same : y ≡ x = cc in subst (λ z. Contains (y ∷ ys) z) same (here y ys)
     by_case false e more = there y x ys (more e)
 
--- ---- bodies told apart by their prints
+-- ---- bodies are distinguished by their prints
 
 module _ (t : Tables) (bodies : AreStored t) where
   -- the body of a number has the print of its bytes
@@ -106,11 +106,11 @@ module _ (t : Tables) (bodies : AreStored t) where
         let there_is : IsTrue (has_body t row.0.body) = all_at (λ (b : ArrivalRow). IsTrue (has_body t b.body)) (rows_of t.arrivals) row.0 arrivals.bodies row.1 in
         ap Some (sym bytes ∙ same_bytes row.0.body id there_is known print)
 
-    -- the old one where its print fits
+    -- the old body if its print fits
     abbrev if_fits : Option (List ℕ) → Option (List ℕ)
     if_fits = option_and_then (λ bytes. if same_print (print_of bytes) (print_of body) then Some bytes else None)
 
-    -- the old file where its print fits, or one that arrived: where there is either, it has these bytes
+    -- the old file if its print fits, or one that arrived: if there is either, it has these bytes
     old_or_arrived : (o : Option File) → ((f : File) → o ≡ Some f → IsTrue (has_body t f.body)) → (a : Option Arrival) → find fits (arrivals_in t) ≡ a
         → is_some (option_or (if_fits (option_map (λ (f : File). bytes_of t f.body) o)) (option_map (λ (b : Arrival). b.body) a)) ≡ true
         → option_or (if_fits (option_map (λ (f : File). bytes_of t f.body) o)) (option_map (λ (b : Arrival). b.body) a) ≡ Some body
@@ -162,7 +162,7 @@ module _ (t new : Tables) (keeps : KeepsBodies t new) where
   unfolding has_body
   body_kept id h = subst (λ (bs : Numbered BodyRow). IsTrue (list_any (λ (x : ℕ × BodyRow). nat_eq x.0 id) bs)) keeps.bodies h
 
-  -- THE FILES of the pool after a change are those of the book after it, where the book has each body.
+  -- THE FILES of the pool after a change are those of the book after it, if the book has each body.
   pub files_amended : (book : Book) (shown after : ShelvesValue) → AreStored t → AreArrivals t → AreFiles t shown → AreFiles new after → book.files ≡ files_in t → book.arrivals ≡ arrivals_in t
       → ((path : List ℕ) (print : Print) → get (pool after) path ≡ Some print → IsTrue (is_some (stored_body book path print)))
       → (path : List ℕ) → files_in new path ≡ files_showing book after path
@@ -182,7 +182,7 @@ module _ (t new : Tables) (keeps : KeepsBodies t new) where
           (has path (print_of (bytes_of t f.body)) print))
           ∙ sym (ap (option_and_then (stored_body book path)) print)
 
--- THE BOOK that the tables keep after a change is the amended one, where it had each body.
+-- THE BOOK that the tables keep after a change is the amended one, if it had each body.
 pub amended_book : (t new : Tables) (config : ConfigValue) (judged : List Judgement) (shown : ShelvesValue) (dates : List ℕ) (change : Change)
     → IsBook t config judged shown dates → KeepsBodies t new → AreFiles new (shown_past shown change.steps) → HasEachBody (book_in config judged shown dates t) change
     → book_in config (judged ++ judgements change.steps) (shown_past shown change.steps) (dates_past change.moment dates change.steps) new ≡ amended (book_in config judged shown dates t) change
@@ -255,7 +255,7 @@ module _ (moment : ℕ) (steps : List Step) where
       dates_only (enumerate_from 0 suites) (with_new_texts texts t)
       ∙ ap (λ (u : Tables). record u { dates = (with_new_dates suites moment steps (with_new_texts texts t)).dates }) (texts_only texts t)
 
--- what the rows are does not rest on those of texts and dates
+-- what the other rows are does not rest on those of texts and dates
 module _ (t : Tables) (texts : Numbered TextRow) (dates : Numbered Date) where
   uploads_stay : (judged : List Judgement) → AreUploads t judged → AreUploads (with_others t texts dates) judged
   unfolding wants_in arrivals_in bytes_of
@@ -327,8 +327,8 @@ pub record AreStepped (t now : Tables) (config : ConfigValue) (judged : List Jud
   pub told : AreTold config.suites shown
   pub signed : AreSigned judged
 
--- What the tables keep once a change is written, but for bodies that nothing uses any more, and that the book is then the amended
--- one where it had each body.
+-- What the tables keep once a change is written, except for bodies that nothing uses any more. The book is then the amended one,
+-- if it had each body.
 pub record IsWritten (t new : Tables) (config : ConfigValue) (judged : List Judgement) (shown : ShelvesValue) (dates : List ℕ) (change : Change) : Type 0 where
   pub unswept : IsUnswept new config (judged ++ judgements change.steps) (shown_past shown change.steps) (dates_past change.moment dates change.steps)
   pub keeps : KeepsBodies t new

@@ -58,7 +58,7 @@ pairs_mapped R f (y ∷ ys) h i j d lt within =
 contains_mapped : {X Y : Type 0} (f : Y → X) (ys : List Y) (y : Y) → Contains ys y → Contains (map f ys) (f y)
 contains_mapped f ys y h = (h.0, omega (arith, h.1, length-map ys f), get_or-map f ys h.0 y (f y) h.1 ∙ ap f h.2)
 
--- ---- the row of an arrival, told by name and body
+-- ---- the row of an arrival, by name and body
 
 -- A body of these bytes is there under this number.
 pub record HasBytes (t : Tables) (bytes : List ℕ) (id : ℕ) : Type 0 where
@@ -88,7 +88,7 @@ turned true false = refl
 turned false true = refl
 turned false false = refl
 
--- a row counts exactly where its arrival does
+-- a row counts exactly if its arrival does
 pub counts_as : (t : Tables) (seconds : Option ℕ) (at : ℕ) (a : ArrivalRow) → counts_row seconds at a ≡ counts seconds at (arrival_in t a)
 unfolding counts_since counts_row
 counts_as t None at a = refl
@@ -96,8 +96,8 @@ counts_as t (Some s) at a = refl
 
 -- ---- an arrival
 
--- What is left once a body has arrived under a name: the arrivals are those of the book, each body that was used is used
--- still and this one too, and no other table is changed.
+-- What is left once a body has arrived under a name: the arrivals are those of the book, each body that was used is
+-- still used and this one too, and no other table is changed.
 pub record Arrives (t : Tables) (name bytes : List ℕ) (moment id : ℕ) (after : Tables) : Type 0 where
   pub arrivals : AreArrivals after
   pub arrived : arrivals_in after ≡ with_arrival (arrivals_in t) (record { name = name; body = bytes; moment = moment })
@@ -125,7 +125,7 @@ module _ (t : Tables) (up : Rises t.arrivals) (h : AreArrivals t) (name bytes : 
       ∙ sym (list_any-map (λ a. is_same_pair it (arrival_in t a)) (λ x. x.1) t.arrivals)
       ∙ sym (list_any-map (is_same_pair it) (arrival_in t) (rows_of t.arrivals))
 
-  -- the same among those that count at a moment
+  -- whether the arrival is known among those that count at a moment
   pub is_known_at : (seconds : Option ℕ) (at : ℕ) → list_any (λ x. is_it x && counts_row seconds at x.1) t.arrivals ≡ has_arrival (current seconds at (arrivals_in t)) it
   unfolding has_arrival arrivals_in current
   is_known_at seconds at =
@@ -135,7 +135,7 @@ module _ (t : Tables) (up : Rises t.arrivals) (h : AreArrivals t) (name bytes : 
       ∙ sym (list_any-map (λ b. counts seconds at b && is_same_pair it b) (arrival_in t) (rows_of t.arrivals))
       ∙ sym (list_any-filter (is_same_pair it) (counts seconds at) (map (arrival_in t) (rows_of t.arrivals)))
 
-  -- the row with the greater moment, where it is the one that arrives
+  -- the row with the greater moment, if it is the one that arrives
   abbrev settled : ℕ × ArrivalRow → ℕ × ArrivalRow
   settled x = (x.0, record x.1 { moment = if is_it x && nat_lt x.1.moment moment then moment else x.1.moment })
 
@@ -148,7 +148,7 @@ module _ (t : Tables) (up : Rises t.arrivals) (h : AreArrivals t) (name bytes : 
   abbrev new : Tables
   new = record t { arrivals = added t.arrivals new_row }
 
-  -- two rows that are the arrival are one
+  -- two rows that are the arrival are the same row
   one_row : (x y : ℕ × ArrivalRow) → Contains t.arrivals x → Contains t.arrivals y → is_it x ≡ true → is_it y ≡ true → x ≡ y
   one_row x y cx cy p q =
       apart_same (λ (a b : ℕ × ArrivalRow). is_arrival a.1.name a.1.body b.1 ≡ false) t.arrivals (pairs_unmapped (λ a b. is_arrival a.name a.body b ≡ false) (λ x. x.1) t.arrivals h.apart) x y cx cy
@@ -160,7 +160,7 @@ module _ (t : Tables) (up : Rises t.arrivals) (h : AreArrivals t) (name bytes : 
           let second = (Decides-and (bytes_eq b.name name) (nat_eq b.body id) (bytes_eq-Decides b.name name) (Decides-eqb b.body id)).0 q in
           (Decides-and (bytes_eq b.name a.name) (nat_eq b.body a.body) (bytes_eq-Decides b.name a.name) (Decides-eqb b.body a.body)).1 (second.0 ∙ sym first.0, second.1 ∙ sym first.1)
 
-  -- the row of a number is the arrival exactly where it has the number of the one that was found
+  -- the row of a number is the arrival exactly if it has the number of the one that was found
   by_rowid : (x y : ℕ × ArrivalRow) → Contains t.arrivals x → Contains t.arrivals y → is_it x ≡ true → nat_eq y.0 x.0 ≡ is_it y
   by_rowid x y cx cy p =
       same_from_decides {P = y ≡ x} (nat_eq y.0 x.0) (is_it y)
@@ -366,7 +366,7 @@ pub record Delivers (t new : Tables) (name bytes : List ℕ) (moment : ℕ) : Ty
       → list_any (λ x. is_arrival name (number_with (print_of bytes) (with_bytes (print_of bytes) bytes t)) x.1 && counts_row seconds at x.1) t.arrivals
       ≡ has_arrival (current seconds at (arrivals_in t)) (record { name = name; body = bytes; moment = moment })
 
--- the arrivals are the same while their bodies are
+-- the arrivals stay if their bodies do
 arrivals_stay : (t now : Tables) (bytes : List ℕ) (id : ℕ) → AreArrivals t → Stores t now bytes id → arrivals_in now ≡ arrivals_in t
 unfolding arrivals_in
 arrivals_stay t now bytes id h st =
@@ -454,7 +454,7 @@ delivered_bodies t up b a name bytes moment in_range deliverable same listed =
 
 -- ---- what is there
 
--- a listed file is there exactly where the book has it
+-- a listed file is there exactly if the book has it
 pub here_is_there : (t : Tables) → AreBodies t → AreArrivals t → (e : Entry) → is_here t e ≡ is_there (arrivals_in t) e
 unfolding is_here is_there is_body_of arrivals_in
 here_is_there t b h e =

@@ -70,7 +70,7 @@ found p (y ∷ ys) x e =
 pub none_found : {X : Type 0} (p : X → Bool) (xs : List X) → find p xs ≡ None → (x : X) → Contains xs x → p x ≡ false
 none_found p xs none x h = false_from_ne_true (p x) (λ passes. false≢true (ap is_some (sym none) ∙ is_some_of_find p xs ∙ any_with p xs x h passes))
 
--- of elements that are apart, two that are not apart are one
+-- of elements that are apart, two that are not apart are the same
 pub apart_same : {X : Type 0} (R : X → X → Type 0) (xs : List X) → AllPairs R xs → (x y : X) → Contains xs x → Contains xs y → ¬ (R x y) → ¬ (R y x) → x ≡ y
 apart_same R xs apart x y hx hy one other =
     elim (cases_order hx.0 hy.0) [
@@ -223,7 +223,7 @@ pub no_body_found : (p : Print) (bodies : Numbered BodyRow) → body_with p bodi
 no_body_found p bodies e x h is =
     false≢true (sym (none_found (λ x. has_print p x.1) bodies (none_of_map (λ x. x.0) (find (λ x. has_print p x.1) bodies) e) x h) ∙ is_of_print p x.1.print is)
 
--- bodies of one print are one
+-- bodies of one print have the same number
 pub same_number : (t : Tables) → AreStored t → (a b : ℕ) (p : Print) → HasBody t.bodies a p → HasBody t.bodies b p → a ≡ b
 same_number t h a b p x y =
     let one : x.body ≡ y.body =
@@ -250,7 +250,7 @@ print_is t h id p x =
     ∙ x.print
     )
 
--- a number is that of the body of a print exactly where its bytes have this print
+-- a number is that of the body of a print exactly if its bytes have this print
 pub by_number : (t : Tables) → AreStored t → (p : Print) (found : ℕ) → body_with p t.bodies ≡ Some found → (id : ℕ) → has_body t id ≡ true
     → nat_eq id found ≡ same_print (print_of (bytes_of t id)) p
 by_number t h p found e id is =
@@ -296,7 +296,7 @@ its_arrival t a c = arrived_used t a.body (any_with (λ b. nat_eq b.body a.body)
 pub its_file : (t : Tables) (f : File) → Contains (rows_of t.files) f → is_used t f.body ≡ true
 its_file t f c = filed_used t f.body (any_with (λ g. nat_eq g.body f.body) (rows_of t.files) f c (eq-eqb f.body f.body refl))
 
--- what is used stays so where the arrivals and the files that have it do
+-- what is used is still used if the arrivals and the files that have it stay
 pub used_on : (t after : Tables) (id : ℕ) → (arrival_has t id ≡ true → arrival_has after id ≡ true) → (file_has t id ≡ true → file_has after id ≡ true)
     → is_used t id ≡ true → is_used after id ≡ true
 used_on t after id arrivals files used = elim (or_cases (arrival_has t id) (file_has t id) (sym (used_by t id) ∙ used)) [
@@ -304,7 +304,7 @@ used_on t after id arrivals files used = elim (or_cases (arrival_has t id) (file
   | inr e ↦ filed_used after id (files e)
 ]
 
--- ---- a body more
+-- ---- one more body
 
 -- The bytes are stored under this number, and what was there is there as before.
 pub record Stores (t now : Tables) (bytes : List ℕ) (id : ℕ) : Type 0 where
@@ -425,7 +425,7 @@ module _ (t : Tables) (up : Rises t.bodies) (h : AreStored t) (bytes : List ℕ)
 pub number_for : List ℕ → Tables → ℕ
 number_for bytes t = elim (body_with (print_of bytes) t.bodies) as (λ o. ℕ) [ None ↦ next_in t.bodies | Some id ↦ id ]
 
--- bytes that are stored already, where a body of their print has them, or are stored now
+-- bytes are stored already, if a body of their print has them, or are stored now
 pub stores : (t : Tables) → Rises t.bodies → AreStored t → (bytes : List ℕ) → ((found : ℕ) → body_with (print_of bytes) t.bodies ≡ Some found → bytes_of t found ≡ bytes)
     → (id : ℕ) × Stores t (with_bytes (print_of bytes) bytes t) bytes id
 unfolding with_bytes

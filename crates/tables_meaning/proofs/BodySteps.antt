@@ -32,7 +32,7 @@ survives_both a b c one two = survives_then a b c (λ _. ⊥) (λ _. ⊥) (λ _.
 
 -- ---- pieces
 
--- so many pieces of a body, the first ones
+-- the first pieces of a body, of this number
 abbrev pub pieces_up_to : ℕ → ℕ → List ℕ → List Piece
 pieces_up_to count id bytes = map (λ n. record { body = id; number = n + 1; bytes = piece_at bytes n }) (range_with_len 0 count)
 
@@ -62,7 +62,7 @@ rounded_up n = omega arith
 
 -- ---- bodies
 
--- the rows with one body more and its pieces
+-- the rows with one more body and its pieces
 abbrev pub with_new_body : Print → List ℕ → Tables → Tables
 with_new_body print bytes t = with_pieces (pieces_for (next_in t.bodies) bytes) (with_body (record { print = Some print }) t)
 

@@ -48,13 +48,13 @@ pub done_book : {config : ConfigValue} {judged judged_after : List Judgement} {s
 done_book {config} {judged_after = judged_after} {dates_after = dates_after} old new turn =
     ap (λ s. book_in_database new config judged_after s dates_after) (shown_here new turn.kept) ∙ turn.book
 
--- the book after a change, where it had each body
+-- the book after a change, if it had each body
 pub amends_turns : {config : ConfigValue} {judged : List Judgement} {shown : ShelvesValue} {dates : List ℕ} {change : Change} (old new : Database)
     → Amends old new config judged shown dates change → HasEachBody (book_in_database old config judged shown dates) change
     → Turns old new config judged shown dates (judged ++ judgements change.steps) (shown_past shown change.steps) (dates_past change.moment dates change.steps) (λ b. amended b change)
 amends_turns old new amends has = record { kept = amends.kept; book = amends.book has }
 
--- what a crash leaves of it
+-- what a crash leaves of a step
 pub turn_left : {config : ConfigValue} {judged judged_after : List Judgement} {shown shown_after : ShelvesValue} {dates dates_after : List ℕ} {step : Book → Book} (old new : Database) (trees : Trees) → trees ≡ new.trees → (left : Option Book)
     → KeepsLeft trees left → Turns old new config judged shown dates judged_after shown_after dates_after step → left ≡ Some (step (book_in_database old config judged shown dates))
 turn_left old new trees same left here turn = left_is trees new same ∣ turn.kept ∣₁ left here ∙ ap Some turn.book

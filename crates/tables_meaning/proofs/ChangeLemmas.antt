@@ -1,4 +1,4 @@
--- The archive after a change: what is written of it, and then without the bodies that nothing uses any more.
+-- The archive after a change: what is written of it, and then the rows without the bodies that nothing uses any more.
 use Rattle.std.proofs.Common.{◌≡◌, ℕ, ◌<◌, ◌≤◌, Bool, true, false, if◌then◌else◌, nat_eq, List, ◌++◌, filter, length, refl, sym, subst, ◌∙◌, All, is_some, IsTrue, Ok}
 use Rattle.std.specs.List.{list_any}
 use Rattle.std.proofs.lemmas.List.Elements.{All-from_recursion, All-weaker, recursion_from_All}

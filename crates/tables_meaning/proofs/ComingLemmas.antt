@@ -1,4 +1,5 @@
--- A body that comes in pieces: it is no part of the finished rows, and once it is whole it is one that was stored at once.
+-- A body that comes in pieces is not part of the finished rows. Once it is whole it is the same as one that was stored at
+-- once.
 use Rattle.std.proofs.Common.{◌≡◌, ℕ, zero, suc, ◌+◌, ◌*◌, ◌%◌, ◌<◌, ◌≤◌, nat_eq, Bool, true, false, not, ◌&&◌, cond, List, [], ◌∷◌, ◌++◌, map, filter, fold, take, drop, length, All, Option, Some, None, is_some, unwrap_or, IsTrue, refl, sym, ap, ap₂, subst, ◌∙◌, arith, true≢false}
 use Rattle.std.specs.List.{AllByRecursion, flat_map, list_any, range_with_len}
 use Rattle.std.proofs.lemmas.Bool.{eq-eqb}
@@ -38,7 +39,7 @@ pub record AreWhole (u : Tables) : Type 0 where
 pub whole_rows : (u : Tables) → Rises u.bodies → AreBodies u → AreWhole u
 whole_rows u up h = record { rise = up; whole = bodies_whole u h; owned = h.owned }
 
--- ---- rows with a body more
+-- ---- rows with one more body
 
 bodies_stay : (ps : List Piece) (t : Tables) → (with_pieces ps t).bodies ≡ t.bodies
 bodies_stay [] t = refl
@@ -70,7 +71,7 @@ pieces_below u h =
     all_weaker (λ p. IsTrue (has_body u p.1.body)) (λ p. p.1.body < next_in u.bodies) (λ p there. owner_below u h.rise p.1.body there) u.pieces
     (all_of_rows (λ p. IsTrue (has_body u p.body)) u.pieces h.owned)
 
--- ---- what goes of them again
+-- ---- what is removed of them again
 
 last_goes : {X : Type 0} (gone : ℕ × X → Bool) (xs : Numbered X) (x : ℕ × X) → AllByRecursion (λ y. gone y ≡ false) xs → gone x ≡ true → without gone (xs ++ x ∷ []) ≡ xs
 last_goes gone [] x stay last = rw last refl
@@ -147,7 +148,7 @@ unfolding with_coming
 coming_finished [] u h same = same
 coming_finished (b ∷ bytes) u h same = begun_finished u (b ∷ bytes) h
 
--- and taken out by its number it leaves them
+-- if it is taken out by its number, the finished rows are left
 pub coming_removed : (bytes : List ℕ) (u : Tables) (id : ℕ) → AreWhole u → coming_number bytes u ≡ Some id → without_whole id (with_coming bytes u) ≡ u
 unfolding with_coming coming_number
 coming_removed [] u id h is = cc
@@ -155,7 +156,7 @@ coming_removed (b ∷ bytes) u id h is =
     let same : next_in u.bodies ≡ id = cc in
     subst (λ n. without_whole n (with_begun (b ∷ bytes) u) ≡ u) same (begun_removed u (b ∷ bytes) h)
 
--- ---- a piece more
+-- ---- one more piece
 
 front_kept : (m n : ℕ) (xs ys : List ℕ) → m + n ≤ length xs → take n (drop m (xs ++ ys)) ≡ take n (drop m xs)
 front_kept zero zero xs ys h = refl
@@ -186,7 +187,7 @@ module _ (id : ℕ) where
       ∙ sym (map-range_with_len_more (piece_in bytes) 0 n n (omega arith))
       ∙ sym (ap (λ k. map (piece_in bytes) (range_with_len 0 k)) next)
 
-  -- whole pieces, and one behind them
+  -- whole pieces, and one after them
   pub pieces_and_one : (bytes piece : List ℕ) → length bytes % 65536 ≡ 0 → 0 < length piece → length piece ≤ 65536
       → pieces_for id (bytes ++ piece) ≡ pieces_for id bytes ++ record { body = id; number = piece_count bytes + 1; bytes = piece } ∷ []
   unfolding pieces_for
@@ -236,7 +237,7 @@ unfolding coming_number
 number_more u [] piece some = number_begun piece u some
 number_more u (b ∷ bytes) piece some = refl
 
--- the rows of bodies do not tell the next number while there is no byte
+-- the rows of bodies do not change the next number while there is no byte
 pub number_first : (u : Tables) (bytes : List ℕ) → unwrap_or (coming_number bytes u) (next_in (with_coming bytes u).bodies) ≡ unwrap_or (coming_number bytes u) (next_in u.bodies)
 unfolding coming_number with_coming
 number_first u [] = refl
@@ -260,7 +261,7 @@ begun_bytes : (u : Tables) (bytes : List ℕ) → AreWhole u → bytes_of (with_
 unfolding bytes_of
 begun_bytes u bytes h = ap (flat_map (λ (p : Piece). p.bytes)) (begun_pieces u bytes h) ∙ pieces_joined (next_in u.bodies) bytes
 
--- its pieces, where it has a number
+-- the pieces of the body that comes, if it has a number
 pub coming_pieces : (bytes : List ℕ) (u : Tables) (id : ℕ) → AreWhole u → coming_number bytes u ≡ Some id → pieces_of (with_coming bytes u) id ≡ pieces_for id bytes
 unfolding with_coming coming_number
 coming_pieces [] u id h is = cc
@@ -287,7 +288,7 @@ begun_under_way u bytes h =
     let its : P (n, begun_body) = λ none. begun_pieces u bytes h ∙ ap (pieces_for n) (sym (begun_bytes u bytes h)) in
     record { pieces = subst (All P) (sym (bodies_stay (pieces_for n bytes) (with_body begun_body u))) (All-push P u.bodies (n, begun_body) others its) }
 
--- and they are as those of a whole one
+-- the pieces of the body that comes are as those of a whole one
 pub coming_under_way : (bytes : List ℕ) (u : Tables) → AreWhole u → AreUnderWay (with_coming bytes u)
 unfolding with_coming
 coming_under_way [] u h = whole_under_way u h.whole
@@ -381,7 +382,7 @@ coming_passes f passes (b ∷ bytes) u h same =
     ∙ sym (λ i. beside (f u) (added (bodies_left f passes u i) begun_body) (pieces (bodies_left f passes u i) (pieces_left f passes u i)))
     ∙ sym (coming_beside all (f u) some)
 
--- what comes is the same behind a change
+-- what comes is the same after a change
 pub change_beside : (f : Tables → Tables) → Passes f → (t : Tables) (bytes : List ℕ) → AreWhole (finished t) → finished (finished t) ≡ finished t → HasComing t bytes → HasComing (f t) bytes
 change_beside f passes t bytes h same coming = record {
   rows = ap f coming.rows ∙ coming_passes f passes bytes (finished t) h same ∙ ap (with_coming bytes) (sym (finished_passes f passes t));
@@ -392,7 +393,7 @@ pub none_coming : (t : Tables) → finished t ≡ t → HasComing t []
 unfolding with_coming
 none_coming t same = record { rows = sym same }
 
--- its number is told by the bodies alone
+-- the number of what comes depends on the bodies alone
 pub number_by_bodies : (bytes : List ℕ) (t u : Tables) → t.bodies ≡ u.bodies → coming_number bytes t ≡ coming_number bytes u
 unfolding coming_number
 number_by_bodies [] t u same = refl

@@ -1,4 +1,4 @@
--- A whole transaction: a begin, one call inside that makes a change, and a commit or, where that call failed, a drop.
+-- A whole transaction: a begin, one call inside that makes a change, and a commit or, if that call failed, a drop.
 use Rattle.std.proofs.Common.{◌≡◌, inl, inr, true, false, IsTrue, [], Result, Ok, Err, IfErr, OnErr, OnOk, refl, sym, ap, subst, ◌∙◌, arith}
 use Rattle.sqlite.specs.declared.error.Error.{Error}
 use Rattle.sqlite.specs.Steps.{FailsToCommit}
@@ -78,14 +78,14 @@ module _ {S : Type 0} (g : Ghosts S) (old begun mid last new : Held S) (is : beg
     }
     as_undone (Err e) it (inr late) = absurd (let both = sym it.shown.mode ∙ late.1 in cc)
 
-    -- where the commit is done
+    -- if the commit is done
     pub done_by_commit : (r : Result (Unit {0}) Error) → (HasCleanDisk (state g last) → OnOk r (IsCommitted (state g mid) (state g last))) → HasCleanDisk (state g new)
         → OnOk r (IsDone (state g old) (state g new) change)
     done_by_commit r ok clean =
         let late = at_last clean in
         subst (λ (end : Held S). OnOk r (IsDone (state g old) (state g end) change)) same (as_done r (made late) (ok late))
 
-    -- where the commit failed
+    -- if the commit failed
     pub undone_by_commit : (r : Result (Unit {0}) Error) → (HasCleanDisk (state g last) → IfErr r (FailsToCommit (state g mid) (state g last))) → HasCleanDisk (state g new)
         → OnErr r (IsUndone (state g old) (state g new))
     undone_by_commit r err clean =

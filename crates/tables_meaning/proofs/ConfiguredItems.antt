@@ -36,7 +36,7 @@ name_at : (suites : List Suite) (n : ℕ) (s : Suite) → slice_get suites n ≡
 name_at suites n s e = ap (λ o. option_map_or (λ (x : Suite). x.codename) o []) e
 
 module _ (old new : List Suite) where
-  -- where a place goes
+  -- the place to which a place goes
   placed : (m k : ℕ) → place_in old new m ≡ Some k → (m < length old) × (k < length new) × (codename_at new k ≡ codename_at old m)
   placed m k e = by_case (slice_get old m) refl e
     where
@@ -67,7 +67,7 @@ module _ (t : Tables) (old new : List Suite) (apart : AllPairs (λ s r. s.codena
   abbrev at_place : ShelfKey → ℕ → ShelfKey
   at_place key m = record key { suite = m }
 
-  -- the old suite of a codename goes where that is
+  -- the old suite of a codename goes to the place of that codename
   back_there : (n m : ℕ) → n < length new → suite_named old (codename_at new n) ≡ Some m → place_in old new m ≡ Some n
   back_there n m lt e =
       let at = named_suite old (codename_at new n) m e in
@@ -94,7 +94,7 @@ module _ (t : Tables) (old new : List Suite) (apart : AllPairs (λ s r. s.codena
           let both : None ≡ Some from.0.1 = sym was ∙ sym (ap (get shown) shelf_is) ∙ shown_entry shown from.0 from.1 in
           absurd cc
 
-  -- one of a suite that is new shows nothing
+  -- a shelf of a suite that is new shows nothing
   no_shelf : (key : ShelfKey) → suite_named old (codename_at new key.suite) ≡ None → get now key ≡ None
   no_shelf key e = by_case (get now key) refl
     where
@@ -118,7 +118,7 @@ module _ (t : Tables) (old new : List Suite) (apart : AllPairs (λ s r. s.codena
       let both : None ≡ Some w.0.suite = sym none ∙ ap (suite_named old) (sym here.at_suite ∙ there.at_suite) ∙ suite_back old apart w.0.suite w.1 in
       absurd cc)
 
-  -- so none stands on a shelf of a suite that is new
+  -- no row stands on a shelf of a suite that is new
   none_on : (key : ShelfKey) → suite_named old (codename_at new key.suite) ≡ None → find (is_on new key) t.items ≡ None
   none_on key none = search t.items (λ x at. at)
     where

@@ -117,7 +117,7 @@ module _ (t : Tables) (config other : ConfigValue) (judged : List Judgement) (sh
   pub configured_archive : IsBook (with_configured other now dates t) other judged now dates
   configured_archive = subst (λ (u : Tables). IsBook u other judged now dates) (sym (configured_are other now dates t)) turned_kept
 
-  -- and its book
+  -- THE BOOK of the archive under another configuration
   pub configured_book : book_in other judged now dates (with_configured other now dates t) ≡ reconfigured other now dates (book_in config judged shown was t)
   unfolding book_in arrivals_in files_in bytes_of
   configured_book = ap (book_in other judged now dates) (configured_are other now dates t)
@@ -127,7 +127,7 @@ pub configured_finished : (other : ConfigValue) (shown : ShelvesValue) (dates : 
 unfolding finished
 configured_finished other shown dates t = ap finished (configured_are other shown dates t) ∙ sym (configured_are other shown dates (finished t))
 
--- and their pieces stay
+-- the pieces of bodies that are not whole stay
 configured_under_way : (other : ConfigValue) (shown : ShelvesValue) (dates : List ℕ) (t : Tables) → AreUnderWay t → AreUnderWay (with_configured other shown dates t)
 configured_under_way other shown dates t =
     let same = configured_are other shown dates t in

@@ -28,7 +28,7 @@ module _ (moment : ℕ) (steps : List Step) where
   abbrev set_moment : Date → Date
   set_moment r = record r { moment = moment }
 
-  -- what the date of a suite that a step touches makes of a row, and what those of several make of it in turn
+  -- what the date of a suite that a step touches makes of a row, and what those of several suites make of it in turn
   abbrev dated_row : ℕ × Suite → Date → Date
   dated_row s r = if some_touches s.0 steps then (if has_suite s.1.codename r then set_moment r else r) else r
 
@@ -87,7 +87,7 @@ module _ (moment : ℕ) (steps : List Step) where
       by_case true false e = cc
       by_case false c e = refl
 
-  -- the rows of the suites behind one stay where its date is set
+  -- the rows of the suites after one stay if its date is set
   later_rows : (s : ℕ × Suite) (ss : List (ℕ × Suite)) (rest : List Suite) (dates : List ℕ) → ((u : Suite) → Contains rest u → u.codename ≢ s.1.codename)
       → map (all_dated (s ∷ ss)) (map date_row (zip rest dates)) ≡ map (all_dated ss) (map date_row (zip rest dates))
   later_rows s ss [] dates h = refl

@@ -20,7 +20,7 @@ use Rattle.tables_meaning.proofs.Inside.{changes_then}
 -- ---- reads before a change
 
 module _ (old mid new : State) where
-  -- a change after a read, where the read shows that it is the one that is meant
+  -- a change after a read, if the read shows that it is the one that is meant
   pub read_then : (f g : Tables → Tables) → GoesOn old mid → ((t : Tables) → Holds old.now t → IsUnchanged old mid × (f t ≡ g t)) → Changes mid new f → Changes old new g
   read_then f g on reads q = record {
     held = λ t was.
@@ -35,7 +35,7 @@ module _ (old mid new : State) where
     };
   }
 
--- a read alone, where it shows that nothing is to be changed
+-- a read alone, if it shows that nothing is to be changed
 pub read_alone : (old new : State) (g : Tables → Tables) → GoesOn old new → ((t : Tables) → Holds old.now t → IsUnchanged old new × (t ≡ g t)) → Changes old new g
 read_alone old new g on reads = record {
   held = λ t was.
@@ -44,7 +44,7 @@ read_alone old new g on reads = record {
   shown = on;
 }
 
--- the same change by another name
+-- a change by another function that does the same to the rows
 pub changes_as : (old new : State) (f g : Tables → Tables) → ((t : Tables) → Holds old.now t → f t ≡ g t) → Changes old new f → Changes old new g
 changes_as old new f g same p = record { held = λ t was. subst (Holds new.now) (same t was) (p.held t was); shown = p.shown }
 
@@ -110,7 +110,7 @@ wants_more a b c upload entries i e within is p q =
 
 -- ---- the whole delivery
 
--- a body is stored, by one change of the rows, and has this number then
+-- a body is stored by one change of the rows, and has this number afterwards
 module _ (name : List ℕ) (print : Print) (moment id : ℕ) (store : Tables → Tables) (number : Tables → ℕ) (a b c d : State) (stored : Changes a b store)
     (is : (t : Tables) → Holds a.now t → id ≡ number t) where
   pub file_stored : Changes b c (with_arrived name id moment) → Changes c d (with_here name print) → Changes a d (λ t. with_here name print (with_arrived name (number t) moment (store t)))

@@ -26,7 +26,7 @@ use Rattle.tables_meaning.proofs.LikeLemmas.{items_like}
 use Rattle.tables_meaning.proofs.RowLists.{found_holds}
 use Rattle.tables_meaning.proofs.UploadLemmas.{delivered_uploads}
 
--- what is told of a file that is found, where it is told alike of each
+-- what two functions make of a file that is found, if they make the same of each file
 alike_of_found : {Y : Type 0} (f g : File → Y) (files : List File) (path : List ℕ) → All (λ x. f x ≡ g x) files → option_map f (find (is_file_at path) files) ≡ option_map g (find (is_file_at path) files)
 alike_of_found {Y} f g files path all = go (find (is_file_at path) files) refl
   where

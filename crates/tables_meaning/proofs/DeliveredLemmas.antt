@@ -29,7 +29,7 @@ use Rattle.tables_meaning.proofs.DeliveredArchive as archive
 pub numbered : (db : Database) (t : Tables) → Holds db t → AreNumbered t
 numbered db t h = record { bodies = h.rows.bodies.rise; arrivals = h.rows.arrivals.rise; uploads = h.rows.uploads.rise; items = h.rows.items.rise }
 
--- a body that is stored leaves the arrivals
+-- a body that is stored does not change the arrivals
 arrivals_beside : (t : Tables) (bytes : List ℕ) → (with_bytes (print_of bytes) bytes t).arrivals ≡ t.arrivals
 unfolding with_bytes
 arrivals_beside t bytes = by (is_some (body_with (print_of bytes) t.bodies))
@@ -44,7 +44,7 @@ arrivals_beside t bytes = by (is_some (body_with (print_of bytes) t.bodies))
     by true = refl
     by false = ap (λ (x : Tables). x.arrivals) (only_pieces pieces one)
 
--- After a delivery the tables keep the book with one more arrival, and the rows tell whether it was there and counted.
+-- After a delivery the tables keep the book with one more arrival, and the rows say whether it was there and counted.
 pub record KeepsDelivery (t new : Tables) (config : ConfigValue) (judged : List Judgement) (shown : ShelvesValue) (dates : List ℕ) (name bytes : List ℕ) (moment : ℕ) : Type 0 where
   pub kept : IsBook new config judged shown dates
   pub book : book_in config judged shown dates new ≡ with_delivery (book_in config judged shown dates t) (record { name = name; body = bytes; moment = moment })

@@ -1,4 +1,5 @@
--- What a delivery leaves of the rows: it touches bodies, their pieces, arrivals, uploads and wants alone, and rowids rise.
+-- What a delivery leaves of the rows: it touches bodies, their pieces, arrivals, uploads and wants alone, and rowids still
+-- rise.
 use Rattle.std.proofs.Common.{◌≡◌, ℕ, true, false, if◌then◌else◌, nat_eq, nat_lt, List, [], ◌∷◌, find, Option, Some, None, is_some, refl, ◌∙◌}
 use Rattle.std.specs.List.{list_any}
 use Rattle.std.specs.Option.{option_map_or}
@@ -19,7 +20,7 @@ use Rattle.tables_meaning.specs.Kept.{AreNumbered, pieces_for}
 use Rattle.tables_meaning.specs.Making.{is_here, number_with, with_arrived, with_bytes, with_delivered, with_pieces, with_requested, with_wants}
 use Rattle.tables_meaning.proofs.StepLemmas.{rises_changed}
 
--- only bodies, pieces, arrivals, uploads and wants may differ, and rowids rise still
+-- only bodies, pieces, arrivals, uploads and wants may differ, and rowids still rise
 pub record LeavesShown (old new : Tables) : Type 0 where
   pub meta : new.meta ≡ old.meta
   pub items : new.items ≡ old.items

@@ -68,7 +68,7 @@ module _ (t : Tables) where
   abbrev IsWhole : ℕ × BodyRow → Type 0
   IsWhole x = x.1.print ≡ Some (print_of (bytes_of t x.0))
 
-  -- where no row has the print of this body, none has its number
+  -- if no row has the print of this body, none has its number
   none_numbered : (id : ℕ) (bodies : Numbered BodyRow) → AllByRecursion IsWhole bodies → AllByRecursion (λ y. y.1.print ≢ Some (print_of (bytes_of t id))) bodies
       → list_any (λ x. nat_eq x.0 id) bodies ≡ false
   none_numbered id [] whole others = refl
@@ -247,7 +247,7 @@ filter_map_chosen p f (x ∷ xs) = elim (p x) as (λ b. cons_option (if b then S
   | false ↦ filter_map_chosen p f xs
 ]
 
--- the uploads that are due are the same, in the same order
+-- the uploads that are due are the same in both, in the same order
 pub due_are : (t : Tables) (b : Book) → b.arrivals ≡ arrivals_in t → Rises t.uploads → AreUploads t b.judged → AreStored t → AreArrivals t
     → filter_map (due_in t) (wanting_rows t) ≡ map (upload_of b.arrivals) (due b)
 unfolding due unjudged

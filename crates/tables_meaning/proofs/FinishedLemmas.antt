@@ -134,7 +134,7 @@ pub none_past : (n : ℕ) (xs : Numbered BodyRow) → AllByRecursion (λ y. n < 
 none_past n [] h = refl
 none_past n (x ∷ xs) h = rw (other_below n x.0 h.0, none_past n xs h.1) refl
 
--- the number of a body tells whether it is whole
+-- the number of a body says whether it is whole
 pub tells : (xs : Numbered BodyRow) → Rises xs → AllByRecursion (λ y. has_unfinished xs y.0 ≡ is_unfinished y) xs
 tells [] up = tt
 tells (x ∷ xs) up = (
@@ -165,7 +165,7 @@ left_whole t up id there = go (has_unfinished t.bodies id) refl
     go true e = absurd (false≢true (sym (not_left t.bodies id up e) ∙ there))
     go false e = refl
 
--- its print is the same
+-- the print of a body that is left is the one that it had
 pub print_finished : (t : Tables) → Rises t.bodies → (id : ℕ) → has_body (finished t) id ≡ true → print_at (finished t) id ≡ print_at t id
 unfolding finished
 print_finished t up id there =
@@ -178,7 +178,7 @@ print_finished t up id there =
     other y is un true same = absurd (false≢true (sym (left_whole t up id there) ∙ sym (ap (has_unfinished t.bodies) (eqb-true y.0 id same)) ∙ is ∙ un))
     other y is un false same = refl
 
--- the pieces of such a body are left
+-- the pieces of a body that is whole are left
 pieces_left : (t : Tables) (id : ℕ) → has_unfinished t.bodies id ≡ false → (xs : Numbered Piece)
     → filter (is_of id) (rows_of (without (λ p. is_of_unfinished t p.1) xs)) ≡ filter (is_of id) (rows_of xs)
 pieces_left t id none [] = refl

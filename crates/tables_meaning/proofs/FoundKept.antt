@@ -172,7 +172,7 @@ first_kept config moment read early = record {
 pub founded_is_kept : (config : ConfigValue) (moment : ℕ) → config_in config.text ≡ Ok config → moment ≤ latest → IsBook (founded config moment) config [] empty (first_dates config moment)
 founded_is_kept config moment read early = subst (λ t. IsBook t config [] empty (first_dates config moment)) (sym (founded_are config moment)) (first_kept config moment read early)
 
--- and so is its book
+-- the book of a new archive is one in which nothing is yet
 pub founded_book : (config : ConfigValue) (moment : ℕ) → book_in config [] empty (first_dates config moment) (founded config moment) ≡ fresh_book config moment
 unfolding book_in fresh_book arrivals_in files_in
 founded_book config moment = ap (λ t. book_in config [] empty (first_dates config moment) t) (founded_are config moment)

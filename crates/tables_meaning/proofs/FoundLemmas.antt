@@ -48,11 +48,11 @@ continues_then a b c f g h e p q = record {
   mode = q.mode;
 }
 
--- the same by another name
+-- statements whose effect another function describes
 pub continues_as : (a b : State) (f g : Tables → Tables) → ((t : Tables) → f t ≡ g t) → Continues a b f → Continues a b g
 continues_as a b f g e p = record { held = λ t was. subst (Holds b.now) (e t) (p.held t was); kept = p.kept; stays = p.stays; mode = p.mode }
 
--- a statement, and what goes on from there
+-- a statement, and what follows it
 pub changes_on : (a b c : State) (f g h : Tables → Tables) → ((t : Tables) → g (f t) ≡ h t) → Changes a b f → Continues b c g → Changes a c h
 changes_on a b c f g h e p q =
     let up : IsTrue c.is_open = q.stays p.shown.is_open in

@@ -93,7 +93,7 @@ on_same suites key x y fails at = false_from_ne_true (is_on suites key y) (λ to
       at_architecture = second.at_architecture ∙ sym first.at_architecture;
     })))
 
--- the other way round: a row that is not on a shelf is for the shelf of no row there
+-- a row that is not on a shelf is for the shelf of no row there
 apart_from : (suites : List Suite) (key : ShelfKey) (x y : ℕ × ItemRow) → is_on suites key x ≡ true → is_on suites key y ≡ false → same_shelf x.1 y.1 ≡ false
 apart_from suites key x y at fails = false_from_ne_true (same_shelf x.1 y.1) (λ holds.
     let first = item_parts (codename_at suites key.suite) (kind_number key.kind) key.«package» key.architecture x.1 at in
@@ -105,7 +105,7 @@ apart_from suites key x y at fails = false_from_ne_true (same_shelf x.1 y.1) (λ
       at_architecture = second.at_architecture ∙ first.at_architecture;
     })))
 
--- an element of a list that has one
+-- an element of a list that is not empty
 some_element : {X : Type 0} (xs : List X) (n : ℕ) → n < length xs → X
 some_element [] n lt = absurd (omega arith)
 some_element (x ∷ xs) n lt = x
@@ -142,7 +142,7 @@ module _ (suites : List Suite) (differ : AllPairs (λ s r. s.codename ≢ r.code
       same_key : k.suite ≡ l.suite → k.kind ≡ l.kind → k.«package» ≡ l.«package» → k.architecture ≡ l.architecture → k ≡ l
       same_key s t n a = λ i. record { suite = s i; kind = t i; «package» = n i; architecture = a i }
 
-  -- a row of one shelf is on fails other
+  -- a row on one shelf is not on another
   not_on : (k l : ShelfKey) (x : ℕ × ItemRow) → k.suite < length suites → l.suite < length suites → eq_by_cmp key_order k l ≡ false → is_on suites l x ≡ true → is_on suites k x ≡ false
   not_on k l x p q apart at = false_from_ne_true (is_on suites k x) (λ too.
       let same : l ≡ k = on_one l k x q p at too in
@@ -195,7 +195,7 @@ refs_kept refs k id apart = filter-filter (is_ref_of k) (λ r. not (is_ref_of id
     both_ways (nat_eq k id) apart (eq-eqb k id (sym (eqb-true r.item k at) ∙ same))))) refs
 
 module _ (suites : List Suite) (differ : AllPairs (λ s r. s.codename ≢ r.codename) suites) (items : Numbered ItemRow) (refs : List Ref) (shown : ShelvesValue) (was : Shelved suites items refs shown) where
-  -- nothing stands there
+  -- nothing stands on the shelf
   pub drop_none : (key : ShelfKey) → key.suite < length suites → find (is_on suites key) items ≡ None → Shelved suites items refs (remove shown key)
   drop_none key lt none = record {
     stands = λ k p. stands_at refs suites k _ _ _ _ refl (same k) (was.stands k p);

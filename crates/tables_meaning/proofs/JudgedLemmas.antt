@@ -292,7 +292,7 @@ one_waits uploads wants verdicts requests rise are s asked =
 
 -- ---- what is asked for
 
--- a judgement more takes what has its sign from what is asked for
+-- one more judgement takes what has its sign from what is asked for
 pub requests_judged : (arrivals : List Arrival) (judged : List Judgement) (j : Judgement)
     → requests arrivals (judged ++ j ∷ []) ≡ filter (λ r. not (is_sign (sign_on j) r.0)) (requests arrivals judged)
 unfolding is_judged
@@ -343,7 +343,7 @@ judged_others place j t =
       | Some x ↦ record { meta = refl; bodies = refl; pieces = refl; arrivals = refl; items = refl; refs = refl; files = refl; texts = refl; dates = refl }
     ]
 
--- what has arrived is told by the arrivals and the pieces
+-- what has arrived depends on the arrivals and the pieces
 pub same_arrivals : (old new : Tables) → new.arrivals ≡ old.arrivals → new.pieces ≡ old.pieces → arrivals_in new ≡ arrivals_in old
 unfolding arrivals_in bytes_of
 same_arrivals old new arrivals pieces =

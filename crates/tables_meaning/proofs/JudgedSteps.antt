@@ -104,7 +104,7 @@ pub all_in_order : (P : Candidate → Type 0) (cs : List Candidate) → AllByRec
 all_in_order P [] all = tt
 all_in_order P (c ∷ cs) all = all_put P c (in_order cs) all.0 (all_in_order P cs all.1)
 
--- candidates of several signs, in any order
+-- candidates with different signs, in any order
 abbrev Differ : Candidate → Candidate → Type 0
 Differ c d = sign_of c ≢ sign_of d
 
@@ -164,7 +164,7 @@ module _ {X Y : Type 0} (f : X → Option Y) (w : Y → Bool) (q : X → Bool) w
       go true more = stays (f x) all more
       go false more = more (goes (f x) all)
 
-  -- and so of what differs two by two
+  -- a relation that holds two by two of all that is made holds two by two of what is made of some
   pub ascending_chosen : (R : Y → Y → Type 0) (xs : List X) → IsAscending R (made xs) → IsAscending R (made (filter q xs))
   ascending_chosen R [] up = tt
   ascending_chosen R (x ∷ xs) up = go (q x) (ascending_chosen R xs)
@@ -215,7 +215,7 @@ module _ (arrivals : List Arrival) (judged : List Judgement) where
       (all_taken P n (filter p (in_order those)) (all-filter P p (in_order those) (all_in_order P those
       (all_chosen candidate_of (λ c. not (is_judged judged c)) some P arrivals all_asked))))
 
--- the uploads that wait have several signs
+-- the uploads that wait have different signs
 waiting_differ : (t : Tables) (judged : List Judgement) → AreUploads t judged → IsAscending Differ (waiting (arrivals_in t) judged)
 waiting_differ t judged are =
     let rows = rows_from_uploads t judged are in

@@ -20,15 +20,15 @@ module _ {config : ConfigValue} {judged : List Judgement} {dates : List ℕ} (a 
   pub was_archive : HasCleanDisk b → IsTrue a.is_open → ∥ IsArchive a.committed ∥₁
   was_archive clean up = ∥∥₁_map (kept (read.clean clean) up) (λ h. h.held)
 
-  -- where the connection is open after the read, an archive was kept before it
+  -- if the connection is open after the read, an archive was kept before it
   pub was_kept : HasCleanDisk b → IsTrue b.is_open → Keeps config judged dates a.committed
   was_kept clean up = kept (read.clean clean) (read.was_open clean up)
 
-  -- and what was committed is still so
+  -- what was committed is still committed
   pub still_committed : HasCleanDisk b → IsTrue b.is_open → b.committed ≡ a.committed
   still_committed clean up = read.committed clean (was_archive clean) up
 
-  -- whatever was so of it
+  -- a property of what was committed still holds
   pub still : (P : Database → Type 0) → (HasCleanDisk a → IsTrue a.is_open → P a.committed) → HasCleanDisk b → IsTrue b.is_open → P b.committed
   still P was clean up = subst P (sym (still_committed clean up)) (was (read.clean clean) (read.was_open clean up))
 

@@ -1,4 +1,4 @@
--- Pieces and files of items in the order of their numbers, and what uploads want in that of the names.
+-- Pieces and files of items in the order of their numbers, and what uploads want in the order of the names.
 use Rattle.std.proofs.Common.{◌≡◌, ◌⊎◌, inl, inr, ℕ, zero, suc, ◌+◌, ◌<◌, ◌≤◌, Bool, true, false, cond, not, ◌&&◌, ◌==◌, nat_eq, nat_lt, List, [], ◌∷◌, map, filter, find, slice_get, All, Contains, refl, sym, ap, ap₂, ◌∙◌, arith}
 use Rattle.std.specs.Cmp.{IsTotalOrder}
 use Rattle.std.specs.List.{AllByRecursion, enumerate_from, range_with_len}
@@ -79,7 +79,7 @@ pieces_in_order id bytes =
     (ascending-map (λ (p q : Piece). piece_order p q ≡ Less) _ (range_with_len 0 (piece_count bytes))
     (ascending_weaker (λ a b. a < b) (λ a b. nat_cmp (a + 1) (b + 1) ≡ Less) (λ a b lt. is_less (a + 1) (b + 1) (omega (arith, lt))) (range_with_len 0 (piece_count bytes)) (counting_up 0 (piece_count bytes))))
 
--- and so are the files of an item
+-- the files of an item are in their order
 pub refs_in_order : (id : ℕ) (item : shelf.Item) → sorted_by ref_order (refs_for id item) ≡ refs_for id item
 unfolding refs_for
 refs_in_order id item =

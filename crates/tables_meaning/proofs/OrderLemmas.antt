@@ -46,7 +46,7 @@ in_order-sorted_by (c ∷ cs) = put_in_order-put_by c (in_order cs) ∙ ap (put_
 order_of_signs : (c d : Candidate) → candidate_order c d ≡ judging_order (sign_of c) (sign_of d)
 order_of_signs c d = refl
 
--- no two of those that wait tie
+-- no two uploads that wait tie
 pub signs_apart : (uploads : Numbered UploadRow) → AllPairs (λ u v. sign_in u ≢ sign_in v) (rows_of uploads)
     → IsAscending (λ x y. is_eq (judging_order (sign_in x.1) (sign_in y.1)) ≡ false) (filter (λ x. not (has_place x.1)) uploads)
 signs_apart uploads apart =
@@ -60,7 +60,7 @@ signs_apart uploads apart =
     untied Equal h = absurd (h refl)
     untied Greater h = refl
 
--- the uploads that are not judged are the same, in the same order, and want the same
+-- the uploads that are not judged are the same in both, in the same order, and want the same
 pub unjudged_requests : (t : Tables) (b : Book) → b.arrivals ≡ arrivals_in t → Rises t.uploads → AreUploads t b.judged
     → map (request_in t) (wanting_rows t) ≡ map (request_of b.arrivals) (unjudged b)
 unfolding unjudged wanting_rows

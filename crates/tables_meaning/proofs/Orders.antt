@@ -50,7 +50,7 @@ module _ {X : Type 0} where
   pub passing_permuted : (p : X → Bool) (xs ys : List X) → length (filter p xs) ≤ 1 → IsPermutation xs ys → filter p ys ≡ filter p xs
   passing_permuted p xs ys few same = one_order (filter p xs) (filter p ys) few (IsPermutation-filter p xs ys same)
 
-  -- and is found
+  -- if at most one element passes, the same is found in each order
   pub found_permuted : (p : X → Bool) (xs ys : List X) → IsAscending (λ a b. p a ≡ true → p b ≡ false) ys → IsPermutation xs ys → find p xs ≡ find p ys
   found_permuted p xs ys apart same =
       sym (slice_get-filter p xs)
@@ -76,7 +76,7 @@ pairs_permuted {X = X} R turned xs ys same =
     (λ x y xs. (λ z all. (all.1.0, (all.0, all.1.1)), λ up. ((turned x y up.0.0, up.1.0), (up.0.1, up.1.1))))
     (λ xs ys zs f g. (λ z all. g.0 z (f.0 z all), λ up. g.1 (f.1 up))) xs ys same).1
 
--- ---- the same elements
+-- ---- lists with the same elements
 
 -- what is a permutation after each of two equations
 pub permuted_by : {X : Type 0} {us vs xs ys : List X} → us ≡ vs → IsPermutation vs xs → xs ≡ ys → IsPermutation us ys

@@ -1,4 +1,4 @@
--- What a change writes is no body and no piece, and it looks for bodies by their prints alone: it goes past a body that is not whole.
+-- A change writes no body and no piece, and it looks for bodies by their prints alone: it passes over a body that is not whole.
 use Rattle.std.proofs.Common.{◌≡◌, ℕ, ◌+◌, Bool, true, false, if◌then◌else◌, List, [], ◌∷◌, find, fold, Option, Some, None, refl, sym, ap, ◌∙◌}
 use Rattle.std.specs.List.{enumerate_from, list_any}
 use Rattle.std.specs.Option.{option_map_or}
@@ -36,11 +36,11 @@ use Rattle.tables_meaning.specs.Kept.{is_on, item_row, refs_for}
 use Rattle.tables_meaning.specs.Making.{judged_by, with_judged, with_new_dates, with_new_texts, with_plan, with_pooled, with_refs, with_shown, with_step, with_steps, with_written, without_shown}
 use Rattle.tables_meaning.proofs.FinishedLemmas.{body_finished}
 
--- the rows with these bodies and pieces for theirs
+-- the rows with these bodies and pieces instead of theirs
 abbrev pub beside : Tables → Numbered BodyRow → Numbered Piece → Tables
 beside t bodies pieces = record t { bodies = bodies; pieces = pieces }
 
--- It makes the same of any bodies and pieces, where each print is that of the same number, and leaves them.
+-- The function makes the same of any bodies and pieces, if each print is that of the same number, and leaves them.
 abbrev pub Passes : (Tables → Tables) → Type 0
 Passes f = (t : Tables) (bodies : Numbered BodyRow) (pieces : Numbered Piece) → ((p : Print) → body_with p bodies ≡ body_with p t.bodies) → f (beside t bodies pieces) ≡ beside (f t) bodies pieces
 

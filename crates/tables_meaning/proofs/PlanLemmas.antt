@@ -263,7 +263,7 @@ all_printed t h = recursion_from_All (λ (x : ℕ × BodyRow). x.1.print ≢ Non
 
 -- ---- the whole plan
 
--- only the rows of items, of their files and of the pool are others
+-- only the rows of items, of their files and of the pool differ
 pub record OnlyShown (t u : Tables) : Type 0 where
   pub is : u ≡ record t { items = u.items; refs = u.refs; files = u.files }
 
@@ -315,7 +315,7 @@ module _ (suites : List Suite) (t : Tables) (plan : Plan) where
         ∙ ap (λ refs. record t { items = after_added.items; refs = refs; files = after_added.files }) (sym (ap (λ (u : Tables). u.refs) files_changed));
   }
 
--- a plan leaves the other rows, also where it can not be made
+-- a plan leaves the other rows, also if it cannot be made
 pub plan_changes : (suites : List Suite) (t : Tables) (plan : Plan) → OnlyShown t (with_plan suites plan t)
 plan_changes suites t plan = subst (OnlyShown t) (sym (plan_is suites t plan)) (only_shown suites t plan)
 

@@ -70,7 +70,7 @@ same_term x y p = ap top (sym (runs x [] [])) ∙ ap (λ ps. top (run ps [])) p 
 pieces_set : IsSet (List Piece)
 pieces_set = hlevel props
 
--- Expressions are a set: an expression is told by its pieces.
+-- Expressions are a set: two expressions with the same pieces are equal.
 pub terms_set : IsSet Term
 terms_set = collapsible→set (λ x y p. same_term x y (ap spelled p)) (λ x y p q. ap (same_term x y) (pieces_set (spelled x) (spelled y) (ap spelled p) (ap spelled q)))
 

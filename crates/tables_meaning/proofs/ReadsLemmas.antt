@@ -28,7 +28,7 @@ module _ (old new : State) where
   pub rests_if_unchanged : IsUnchanged old new → Rests old new
   rests_if_unchanged h = record { stands = stands old new h; unchanged = λ _. h }
 
-  -- the tables hold the same rows
+  -- the tables hold the rows that they held
   pub held_after : IsUnchanged old new → (t : Tables) → Holds old.now t → Holds new.now t
   held_after same t was = subst (λ db. Holds db t) (sym same.0.now_is) was
 
@@ -38,7 +38,7 @@ module _ (old new : State) where
   pub survives_foreign : Survives old new (λ _. IsForeign old.now) → Survives old new (λ _. HoldsNone old)
   survives_foreign h = survives_weaker old new _ _ (λ _ db other t is. other is.schema) h
 
--- where nothing was read
+-- if nothing was read
 pub rests_itself : (s : State) → Rests s s
 rests_itself s = record {
   stands = record { was_open = λ up. up; now_is = refl; committed_is = refl; mode = refl };
@@ -94,18 +94,18 @@ made_more f done x left {now} {y} {rest} {whole} pushed is next so_far =
 pub count_more : {Y : Type 0} (done : List Y) (y : Y) {now : List Y} {n : ℕ} → now ≡ done ++ y ∷ [] → length done ≡ n → length now ≡ n + 1
 count_more done y {now} {n} pushed count = ap length pushed ∙ length_push done y ∙ ap (λ k. k + 1) count
 
--- the same by places
+-- a list that is made item by item, with one more, by places
 pub mapped_more : {X Y : Type 0} (f : X → Y) (xs : List X) (i : ℕ) (x : X) (done : List Y) {now : List Y} {y : Y}
     → i < length xs → x ≡ get_or xs i x → now ≡ done ++ y ∷ [] → y ≡ f x → done ≡ map f (take i xs) → now ≡ map f (take (i + 1) xs)
 mapped_more f xs i x done {now} {y} within at pushed is so_far =
     pushed ∙ ap (λ ys. ys ++ y ∷ []) so_far ∙ ap (λ z. map f (take i xs) ++ z ∷ []) (is ∙ ap f at) ∙ sym (map_more f xs i x within)
 
--- and all
+-- a list that is made item by item, once all items are done
 pub made_all : {X Y : Type 0} (f : X → Y) (done : List Y) (rest : List X) {whole : List Y} → length rest ≡ 0 → done ++ map f rest ≡ whole → done ≡ whole
 made_all f done [] none so_far = sym (append-nil done) ∙ so_far
 made_all f done (x ∷ rest) none so_far = absurd (omega (arith, none))
 
--- the same, where some items give nothing
+-- a list that is made item by item, with one more, if some items give nothing
 pub found_more : {X Y : Type 0} (h : X → Option Y) (done : List Y) (x : X) (left : List X) {now : List Y} {y : Y} {rest : List X} {whole : List Y}
     → now ≡ done ++ y ∷ [] → Some y ≡ h x → rest ≡ x ∷ left → done ++ filter_map h rest ≡ whole → now ++ filter_map h left ≡ whole
 found_more h done x left {now} {y} {rest} {whole} pushed is next so_far =

@@ -1,4 +1,4 @@
--- Where no step of a change takes a file of the pool away, each stays, and its body is used still.
+-- If no step of a change takes a file of the pool away, each file stays, and its body is still used.
 use Rattle.std.proofs.Common.{◌≡◌, ℕ, ◌+◌, Bool, true, false, not, if◌then◌else◌, nat_eq, List, [], ◌∷◌, find, fold, Option, Some, None, refl, sym, ap, subst, ◌∙◌, true≢false}
 use Rattle.std.specs.List.{enumerate_from, list_any}
 use Rattle.std.specs.Option.{option_map_or}
@@ -30,7 +30,7 @@ use Rattle.tables_meaning.specs.Making.{judged_by, takes_file, with_judged, with
 use Rattle.tables_meaning.proofs.BodyLemmas.{file_has, rows_added}
 use Rattle.tables_meaning.proofs.JudgedLemmas.{judged_others}
 
--- a body that a file has is one that a file has still
+-- a body that a file has is still one that a file has
 abbrev pub Remains : (Tables → Tables) → Type 0
 Remains f = (t : Tables) (id : ℕ) → file_has t id ≡ true → file_has (f t) id ≡ true
 

@@ -71,7 +71,7 @@ uploads_from_rows t judged h =
       apart = pairs_in_rows (λ u v. sign_in u ≢ sign_in v) t.uploads two.apart;
     }
 
--- ---- one arrival more
+-- ---- one more arrival
 
 same_candidates : (a : Arrival) (arrivals : List Arrival) → candidates (map (λ b. if is_same_pair a b then at_latest a.moment b else b) arrivals) ≡ candidates arrivals
 unfolding candidate_of
@@ -80,7 +80,7 @@ same_candidates a (b ∷ arrivals) =
     ap₂ cons_option (elim (is_same_pair a b) as (λ t. candidate_of (cond t (at_latest a.moment b) b) ≡ candidate_of b) [ true ↦ refl | false ↦ refl ])
     (same_candidates a arrivals)
 
--- a pair that is new may be a candidate more
+-- a pair that is new may be one more candidate
 pub candidates_with : (arrivals : List Arrival) (a : Arrival) → candidates (with_arrival arrivals a) ≡ candidates arrivals ++ cond (has_arrival arrivals a) [] (cons_option (candidate_of a) [])
 unfolding with_arrival
 candidates_with arrivals a =
@@ -158,13 +158,13 @@ module _ (a : Arrival) (c : Candidate) (is : candidate_of a ≡ Some c) where
   pub sign_made : (b : Arrival) (d : Candidate) → candidate_of b ≡ Some d → sign_of d ≡ sign_at b
   sign_made b d e = let made = made_of b d e in ap₂ (λ n body. (n, print_of body)) made.0 made.1
 
-  -- the same pair is the same candidate
+  -- an arrival with this name and body is this candidate
   same_made : (b : Arrival) → a.name ≡ b.name → a.body ≡ b.body → candidate_of b ≡ Some c
   unfolding candidate_of
   same_made b names bodies =
       ap₂ (λ n body. if is_changes_name n then option_map (λ (v : ChangesValue). record { name = n; body = body; changes = v }) (result_ok (changes_in body)) else None) (sym names) (sym bodies) ∙ is
 
-  -- its sign is that of a candidate where the pair arrived
+  -- the sign is that of a candidate exactly if the pair arrived
   pub sign_arrived : (arrivals : List Arrival) → IsAlone arrivals a → list_any (λ d. is_sign (sign_at a) (sign_of d)) (candidates arrivals) ≡ has_arrival arrivals a
   unfolding has_arrival
   sign_arrived [] alone = refl
@@ -194,7 +194,7 @@ module _ (a : Arrival) (c : Candidate) (is : candidate_of a ≡ Some c) where
   unfolding is_judged
   judged_alike judged d e = ap (λ s. list_any (λ j. is_sign s (sign_on j)) judged) e
 
-  -- where it is not judged, its sign is asked for where the pair arrived
+  -- if the candidate is not judged, its sign is asked for exactly if the pair arrived
   pub sign_asked : (arrivals : List Arrival) (judged : List Judgement) → IsAlone arrivals a → is_judged judged c ≡ false
       → list_any (λ r. is_sign (sign_at a) r.0) (requests arrivals judged) ≡ has_arrival arrivals a
   sign_asked arrivals judged alone waits =
@@ -207,7 +207,7 @@ module _ (a : Arrival) (c : Candidate) (is : candidate_of a ≡ Some c) where
       same d true e = rw (judged_alike judged d ((is_sign-Decides (sign_at a) (sign_of d)).0 e ∙ sym (sign_made a c is)) ∙ waits)
       same d false e = and_right (not (is_judged judged d)) false refl
 
--- what waits then: what waited, marked, and the upload if it is a new one that is not judged
+-- what waits after an arrival: what waited, marked, and the upload if it is a new one that is not judged
 pub requests_with : (arrivals : List Arrival) (a : Arrival) (judged : List Judgement)
     → requests (with_arrival arrivals a) judged
     ≡ map (marked_request (sign_at a)) (requests arrivals judged) ++ map (request_of (with_arrival arrivals a)) (filter (λ c. not (is_judged judged c)) (cond (has_arrival arrivals a) [] (cons_option (candidate_of a) [])))

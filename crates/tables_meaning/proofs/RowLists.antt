@@ -54,7 +54,7 @@ module _ {X : Type 0} (p : X → Bool) where
       )
       go false t f more = (λ yes. absurd (both_ways (p y) t yes), more f)
 
-  -- some row passes where one is found
+  -- some row passes if one is found
   pub any_found : (xs : List X) (x : X) → find p xs ≡ Some x → list_any p xs ≡ true
   any_found [] x e = cc
   any_found (y ∷ ys) x e = go (p y) e (any_found ys x)
@@ -83,7 +83,7 @@ module _ {X : Type 0} (p : X → Bool) where
         go false true t u more = absurd (both_ways (gone x) t (h.0 u))
         go false false t u more = ap (λ d. cond d (Some x) (find p (delete_where gone xs))) u ∙ more
 
-    -- no row that passes goes: some row passes still
+    -- no row that passes goes: some row still passes
     pub any_kept : (xs : List X) → ((x : X) → gone x ≡ true → p x ≡ false) → list_any p xs ≡ true → list_any p (delete_where gone xs) ≡ true
     any_kept [] h some = some
     any_kept (x ∷ xs) h some = go (gone x) (p x) refl refl some (any_kept xs h)

@@ -32,7 +32,7 @@ module _ (id : ℕ) (bytes : List ℕ) where
   abbrev piece_in : ℕ → Piece
   piece_in n = record { body = id; number = n + 1; bytes = piece_at bytes n }
 
-  -- behind the last of them there is none
+  -- after the last of them there is none
   none_behind : (count k : ℕ) → count ≤ k → find (at_number (k + 1)) (map piece_in (range_with_len 0 count)) ≡ None
   none_behind zero k h = refl
   none_behind (suc count) k h =
@@ -82,7 +82,7 @@ same_front one other (suc count) same =
     ∙ sym (map-range_with_len_more (piece_in 0 other) 0 count count (omega arith))
     ∙ sym (ap (λ c. map (piece_in 0 other) (range_with_len 0 c)) next)
 
--- bodies of as many pieces, which are the same, are one
+-- bodies with the same number of pieces are equal if their pieces are
 same_joined : (one other : List ℕ) → piece_count one ≡ piece_count other → ((k : ℕ) → k < piece_count one → piece_at one k ≡ piece_at other k) → one ≡ other
 unfolding pieces_for
 same_joined one other counts same =
@@ -110,7 +110,7 @@ same_bytes t id found bytes others has had same =
     not_both : {X : Type 0} {x : X} → None ≡ Some x → ⊥
     not_both e = cc
 
--- one without a first piece has no byte
+-- a body without a first piece has no byte
 pub no_bytes : (t : Tables) (found : ℕ) (others : List ℕ) → pieces_of t found ≡ pieces_for found others → bytes_at t found 1 ≡ None → others ≡ []
 no_bytes t found others had none = elim (cases_lt 0 (length others)) [
   | inl some ↦ absurd (not_both (sym none ∙ at_place t found others had 0 (omega (arith, some))))
@@ -124,7 +124,7 @@ no_bytes t found others had none = elim (cases_lt 0 (length others)) [
     is_nil [] h = refl
     is_nil (x ∷ xs) h = absurd (omega (arith, h))
 
--- where no piece was found
+-- if no piece was found, no piece is there
 pub none_there : (t : Tables) (body : ℕ) (found : Option Piece) → found ≡ find (is_piece body 1) (rows_of t.pieces) → is_none found ≡ true → bytes_at t body 1 ≡ None
 none_there t body None is none = sym (ap (option_map (λ (p : Piece). p.bytes)) is)
 none_there t body (Some p) is none = cc

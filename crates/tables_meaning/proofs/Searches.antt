@@ -95,12 +95,12 @@ spread false true true b = refl
 spread false true false b = refl
 spread false false a b = refl
 
--- one that passes a second test or one that does not
+-- some element passes exactly if one passes that also passes a second test, or one that does not
 pub any_parts : {X : Type 0} (q p : X → Bool) (xs : List X) → list_any p xs ≡ list_any (λ x. q x && p x) xs || list_any (λ x. not (q x) && p x) xs
 any_parts q p [] = refl
 any_parts q p (x ∷ xs) = ap (λ b. p x || b) (any_parts q p xs) ∙ spread (q x) (p x) (list_any (λ y. q y && p y) xs) (list_any (λ y. not (q y) && p y) xs)
 
--- if only one element passes, what some passing element meets that one meets
+-- if only one element passes, and some element passes and meets a test, that one meets it
 pub any_is : {X : Type 0} (q p : X → Bool) (one : X) (xs : List X) → AllByRecursion (λ x. p x ≡ true → x ≡ one) xs → list_any (λ x. q x && p x) xs ≡ true → q one ≡ true
 any_is q p one [] all h = absurd (true≢false (sym h))
 any_is q p one (x ∷ xs) all h = elim (or_cases (q x && p x) (list_any (λ y. q y && p y) xs) h) [
@@ -118,7 +118,7 @@ found_any {X} p q (x ∷ xs) one e t = go (q x) e (λ f. found_any p q xs one f 
     go true f more = or_left (p x) (list_any p xs) (subst (λ y. p y ≡ true) (let k : one ≡ x = cc in k) t)
     go false f more = or_right (p x) (list_any p xs) (more f)
 
--- one that passes is found
+-- an element that passes is found
 pub some_found : {X : Type 0} (p : X → Bool) (xs : List X) → list_any p xs ≡ true → (x : X) × (find p xs ≡ Some x)
 some_found p [] h = absurd (true≢false (sym h))
 some_found {X} p (x ∷ xs) h = go (p x) h (some_found p xs)

@@ -97,7 +97,7 @@ number_back n kind e = first (nat_eq n 0) refl e
 
 -- ---- suites by their codenames
 
--- an element of a list that has one
+-- an element of a list that is not empty
 some_element : {X : Type 0} (xs : List X) (n : ℕ) → n < length xs → X
 some_element [] n lt = absurd (omega arith)
 some_element (x ∷ xs) n lt = x
@@ -276,7 +276,7 @@ module _ (suites : List Suite) (t : Tables) where
       ∙ ap (λ xs. keyed.find key_order key (filter_map (entry_in suites t) xs)) all
       ∙ sym (get-from_entries key_order_total (filter_map (entry_in suites t) t.items) key)
 
-  -- one row less
+  -- one row fewer
   pub one_less : (so_far now : ShelvesValue) (x : ℕ × ItemRow) (rest left : Numbered ItemRow) → PutsRow suites x.1 (refs_in t x.0) so_far now → left ≡ x ∷ rest → AreLeft suites t so_far left → AreLeft suites t now rest
   one_less so_far now x rest left puts next h key =
       ap (λ (m : ShelvesValue). option_or (get m key) later) puts.put.made

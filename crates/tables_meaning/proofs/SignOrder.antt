@@ -33,6 +33,6 @@ judging_order-IsAntisymmetric a b e =
     (text_order-IsAntisymmetric a.1.md5 b.1.md5 (first_tied _ _ four))
     (nat_cmp-IsAntisymmetric a.1.size b.1.size (second_tied _ _ four))
 
--- so is that of uploads
+-- the order of uploads is total
 pub row_order_total : IsTotalOrder row_order
 row_order_total = on_total (λ (x : ℕ × UploadRow). sign_in x.1) judging_order_total

@@ -1,4 +1,5 @@
--- A stable sort leaves what puts one after another in its place, before those that tie with it.
+-- A stable sort leaves the list that is made by putting one element after another in its place, before those that tie
+-- with it.
 use Rattle.std.proofs.Common.{◌≡◌, ℕ, suc, ◌<◌, ◌≤◌, Bool, true, false, cond, not, ◌&&◌, if◌then◌else◌, List, [], ◌∷◌, filter, length, get_or, refl, sym, ap, ap₂, ◌∙◌, arith, true≢false}
 use Rattle.std.specs.declared.cmp.Ordering.{Ordering}
 use Rattle.std.specs.declared.cmp.Ordering.TheVariants.{Less, Equal, Greater}
@@ -52,7 +53,7 @@ module _ {X : Type 0} (lt : X → X → Bool) (weak : IsStrictWeakOrder lt) wher
           let clash : x ∷ filter (ties lt x) xs ≡ [] = sym own ∙ same ∙ others in
           absurd (cc)
 
-  -- They are one list.
+  -- Two lists that rise and tie alike are equal.
   pub one_list : (xs ys : List X) → Rise xs → Rise ys → ((z : X) → filter (ties lt z) xs ≡ filter (ties lt z) ys) → xs ≡ ys
   one_list [] [] up up' same = refl
   one_list [] (y ∷ ys) up up' same =
@@ -142,7 +143,7 @@ module _ {X : Type 0} (order : X → X → Ordering) (total : IsTotalOrder order
   rise_sorted [] = tt
   rise_sorted (x ∷ xs) = rise_put x (sorted_by order xs) (rise_sorted xs)
 
-  -- what ties with one that is above another does not tie with that
+  -- an element that ties with one does not tie with another that is below that one
   parted : (z x y : X) → ties below z x ≡ true → is_gt (order x y) ≡ true → ties below z y ≡ false
   parted z x y tie above =
       let same : order z x ≡ Equal = even (order z x) (order x z) (total.antisymm z x) tie in

@@ -25,7 +25,7 @@ use Rattle.tables_meaning.proofs.PlanLemmas.{planned_rows}
 
 -- ---- a judgement
 
--- only the rows of uploads and of what they want are others
+-- only the rows of uploads and of what they want differ
 abbrev uploads_from : Tables → Tables → Tables
 uploads_from t u = record t { uploads = u.uploads; wants = u.wants }
 

@@ -1,4 +1,4 @@
--- A body that is not whole is used by nothing: once the unused ones are away so is it.
+-- Nothing uses a body that is not whole: it goes with the unused bodies.
 use Rattle.std.proofs.Common.{◌≡◌, ℕ, Bool, true, false, not, ◌&&◌, ◌||◌, nat_eq, All, Contains, IsTrue, refl, sym, ap, ap₂, subst, ◌∙◌, inl, inr}
 use Rattle.std.specs.List.{AllByRecursion, list_any}
 use Rattle.std.proofs.lemmas.Bool.{and_right, both_ways, eqb-true, false_from_ne_true, or_cases}
@@ -62,7 +62,7 @@ module _ (u : Tables) (up : Rises u.bodies) (whole : UseWhole u) where
   abbrev goes : Piece → Bool
   goes p = list_any (λ x. gone x && is_of x.0 p) u.bodies
 
-  -- of the bodies that are whole
+  -- the piece is one of a body that goes and is whole
   abbrev goes_too : Piece → Bool
   goes_too p = list_any (λ x. gone x && is_of x.0 p) (without is_unfinished u.bodies)
 

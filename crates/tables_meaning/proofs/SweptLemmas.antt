@@ -57,7 +57,7 @@ module _ (u : Tables) where
   unfolding swept is_used
   used_swept id = refl
 
-  -- the number of a used body is that of none that goes
+  -- the number of a used body is not that of a body that goes
   kept_number : (id : ℕ) → is_used u id ≡ true → (x : ℕ × BodyRow) → gone x ≡ true → nat_eq x.0 id ≡ false
   kept_number id used x away =
       false_from_ne_true (nat_eq x.0 id) (λ same. both_ways (is_used u x.0) (unset (is_used u x.0) away) (ap (is_used u) (eqb-true x.0 id same) ∙ used))
@@ -211,7 +211,7 @@ module _ (u : Tables) where
 
 -- ---- the archive
 
--- The rows are those of an archive, but that some bodies may be unused.
+-- The rows are those of an archive, except that some bodies may be unused.
 pub record IsUnswept (t : Tables) (config : ConfigValue) (judged : List Judgement) (shown : ShelvesValue) (dates : List ℕ) : Type 0 where
   pub meta : rows_of t.meta ≡ record { version = VERSION; configuration = config.text } ∷ []
   pub read : config_in config.text ≡ Ok config
@@ -229,7 +229,7 @@ pub record IsUnswept (t : Tables) (config : ConfigValue) (judged : List Judgemen
   pub in_range : All (λ d. d ≤ latest) dates
 
 module _ (t : Tables) (config : ConfigValue) (judged : List Judgement) (shown : ShelvesValue) (dates : List ℕ) where
-  -- where each body is used the rows are those of an archive
+  -- if each body is used the rows are those of an archive
   pub kept_if_used : IsUnswept t config judged shown dates → All (λ x. IsTrue (is_used t x.0)) t.bodies → IsBook t config judged shown dates
   kept_if_used h used = record {
     meta = h.meta;
@@ -248,7 +248,7 @@ module _ (t : Tables) (config : ConfigValue) (judged : List Judgement) (shown : 
     in_range = h.in_range;
   }
 
-  -- and else they are once the unused ones are away
+  -- without the unused bodies the rows are those of an archive
   pub kept_if_swept : IsUnswept t config judged shown dates → IsBook (swept t) config judged shown dates
   unfolding swept
   kept_if_swept h = record {

@@ -65,7 +65,7 @@ module _ {S : Type 0} (g : Ghosts S) (old begun mid last new : Held S) (is : beg
       ))
       (survives_commit g old begun mid last new is same change (λ early inside. (did early inside).0) commit within)
 
--- a database that is the same keeps the same archive
+-- an equal database keeps the same archive
 pub same_archive : (before after : Database) → after ≡ before → {config : ConfigValue} {judged : List Judgement} {shown : ShelvesValue} {dates : List ℕ}
     → KeepsArchive before config judged shown dates → Turns before after config judged shown dates judged shown dates (λ b. b)
 same_archive before after same {config} {judged} {shown} {dates} keeps = record {
@@ -97,7 +97,7 @@ module _ (old : State) (settled : IsTrue old.is_open → old.now ≡ old.committ
   twice : finished left ≡ left
   twice = finished_twice was
 
-  -- a database with rows whose finished ones are the same keeps the same archive
+  -- the database keeps the same archive and the same book
   abbrev Same : Database → Type 0
   Same db = Turns old.committed db config judged shown dates judged shown dates (λ b. b)
 

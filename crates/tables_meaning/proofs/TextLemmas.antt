@@ -40,7 +40,7 @@ HasPathsApart config = (shown : ShelvesValue) (dates : List ℕ) → AllPairs Pa
 abbrev pub paths_of : List PathText → List (List ℕ)
 paths_of = map (λ e. e.0)
 
--- texts that become what another list has at their paths, where that list has the same paths in the same order
+-- texts that become what another list has at their paths, if that list has the same paths in the same order
 same_by_paths : (f : PathText → PathText) (old new : List PathText) → paths_of old ≡ paths_of new → AllPairs PathsDiffer new
     → ((e : PathText) → Contains old e → ((f e).0 ≡ e.0) × (text_at e.0 new ≡ Some (f e).1)) → map f old ≡ new
 same_by_paths f [] [] p apart h = refl
@@ -149,7 +149,7 @@ dates_apart moment steps (s ∷ ss) t = dates_apart moment steps ss (if some_tou
 
 -- ---- the texts after a change
 
--- what is written at a path is what is there afterwards, where each text that is written is that, or the old one is
+-- what is written at a path is what is there afterwards, if each text that is written is that, or the old one is
 is_rewritten : (texts : List IndexText) (path body : List ℕ) (o : Option (List ℕ)) → ((x : IndexText) → Contains texts x → x.path ≡ path → o ≡ Some x.text)
     → Contains (map (λ (x : IndexText). x.path) texts) path ⊎ (o ≡ Some body) → o ≡ Some (rewritten texts path body)
 is_rewritten [] path body o named known = elim known [

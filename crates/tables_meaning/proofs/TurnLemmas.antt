@@ -52,7 +52,7 @@ each_within suites steps h =
     (λ s each. All-weaker (λ e. nat_lt e.0.suite suites ≡ true) (λ e. e.0.suite < suites) (λ e below. is_below e.0.suite suites below) s.plan.put (AllPass-from_list_all (λ e. nat_lt e.0.suite suites) s.plan.put each))
     steps (AllPass-from_list_all (λ s. list_all (λ e. nat_lt e.0.suite suites) s.plan.put) steps h)
 
--- where the test of these steps, and of so many suites, passed
+-- if the test of these steps passed, they put items into these suites alone
 pub all_within : (suites now : List Suite) (steps made : List Step) (test : Bool) → test ≡ list_all (puts_within (length now)) made → now ≡ suites → made ≡ steps → test ≡ true
     → All (λ s. All (λ e. e.0.suite < length suites) s.plan.put) steps
 all_within suites now steps made test tests same are passed =
@@ -60,13 +60,13 @@ all_within suites now steps made test tests same are passed =
 
 -- ---- the archive after a change
 
--- what a change makes of a database, whatever archive of this configuration it was, with so many judgements
+-- what a change makes of a database, whatever archive of this configuration it was, with this number of judgements
 abbrev pub AmendsBy : Database → Database → ConfigValue → ℕ → Change → Type 0
 AmendsBy before after config judged change = (prior : List Judgement) (shown : ShelvesValue) (dates : List ℕ)
     → KeepsArchive before config prior shown dates → length prior ≡ judged → IsSound (book_in_database before config prior shown dates) change
     → Amends before after config prior shown dates change
 
--- what has come stays so beside a change
+-- what has come stays if a change is made
 abbrev pub KeepsComing : Database → Database → Type 0
 KeepsComing before after = (body : Option ℕ) (count : ℕ) (bytes : List ℕ) → Comes (tables_in before) body count bytes → Comes (tables_in after) body count bytes
 
@@ -74,7 +74,7 @@ bodies_arrived : (t : Tables) (steps : List Step) → HasAllBodies t steps → H
 bodies_arrived t steps h =
     subst (λ (look : Print → Option ℕ). All (λ (s : Step). All (λ f. IsTrue (is_some (look f.print))) s.plan.files_added) steps) (λ i p. sym (body_finished p t) i) h
 
--- where a change takes no file away, what comes stays so beside it
+-- if a change takes no file away, what comes stays
 module _ (config : ConfigValue) (judged : ℕ) (change : Change) (none : list_any takes_file change.steps ≡ false) where
   comes_beside : (before after : Database) → ((t : Tables) → Holds before t → Holds after (with_change config judged change t)) → {prior : List Judgement} {shown : ShelvesValue} {dates : List ℕ}
       → KeepsArchive before config prior shown dates → KeepsComing before after
@@ -138,7 +138,7 @@ module _ (config : ConfigValue) (judged : ℕ) (change : Change) (t : Tables) (u
       by true = finished_under_way (swept made) (ap finished swept_is ∙ swept_whole ∙ sym swept_is)
       by false = like_under_way t made (bodies_left (with_written config judged change) (passes_written config judged change) t) (pieces_left (with_written config judged change) (passes_written config judged change) t) coming
 
-  -- where a file goes all rows are finished
+  -- if a file goes all rows are finished
   change_ends : list_any takes_file change.steps ≡ true → with_change config judged change t ≡ with_change config judged change (finished t)
   change_ends takes = sym (swept_as config judged change t takes) ∙ swept_is ∙ swept_as config judged change (finished t) takes
 
@@ -184,7 +184,7 @@ module _ (config : ConfigValue) (judged : ℕ) (change : Change) (small : change
     ends : list_any takes_file change.steps ≡ true → HasComing (tables_in after) []
     ends takes = none_coming (tables_in after) (same ∙ sym (rows ∙ change_ends config judged change rows_before archive.held.rows.bodies.rise written takes))
 
-  -- where the connection has no transaction, what it shows is what is committed
+  -- if the connection has no transaction, what it shows is what is committed
   module _ (old new : State) (settled : IsTrue old.is_open → old.now ≡ old.committed) where
     now_held : IsTrue old.is_open → (t : Tables) → Holds old.committed t → Holds old.now t
     now_held up t was = subst (λ db. Holds db t) (sym (settled up)) was
@@ -194,7 +194,7 @@ module _ (config : ConfigValue) (judged : ℕ) (change : Change) (small : change
     done_amends (Ok x) done arrived = amends old.committed new.committed (λ t was. arrived t (now_held done.was_open t was)) (λ t was. done.held t (now_held done.was_open t was))
     done_amends (Err e) done arrived = tt
 
-    -- where a file goes nothing is coming any more
+    -- if a file goes nothing is coming any more
     pub done_ends : list_any takes_file change.steps ≡ true → {X E : Type 0} (r : Result X E) → OnOk r (IsDone old new (with_change config judged change))
         → OnOk r ((t : Tables) → Holds old.now t → HasAllBodies t change.steps)
         → OnOk r ((prior : List Judgement) (shown : ShelvesValue) (dates : List ℕ) → KeepsArchive old.committed config prior shown dates → length prior ≡ judged

@@ -1,4 +1,4 @@
--- The pieces of bodies that are not whole, where rows are finished or bodies and pieces are others' too.
+-- The pieces of bodies that are not whole, in finished rows and in rows with the same bodies and pieces.
 use Rattle.std.proofs.Common.{◌≡◌, ℕ, false, not, All, Option, None, is_some, sym, ap, subst, subst₂, ◌∙◌, true≢false}
 use Rattle.std.specs.List.{AllByRecursion, flat_map}
 use Rattle.std.proofs.lemmas.List.Elements.{All-from_recursion}
@@ -14,7 +14,7 @@ use Rattle.tables_meaning.proofs.FinishedLemmas.{whole_left}
 has_print : (o : Option Print) → not (is_some o) ≡ false → o ≡ None → ⊥
 has_print o some none = true≢false (sym (ap (λ p. not (is_some p)) none) ∙ some)
 
--- no body that is not whole is there
+-- `AreUnderWay` holds if each body is whole
 pub whole_under_way : (t : Tables) → AllByRecursion (λ x. is_unfinished x ≡ false) t.bodies → AreUnderWay t
 whole_under_way t whole =
     let P : ℕ × BodyRow → Type 0 = λ x. x.1.print ≡ None → pieces_of t x.0 ≡ pieces_for x.0 (bytes_of t x.0) in
@@ -22,12 +22,12 @@ whole_under_way t whole =
       pieces = All-from_recursion P t.bodies (all_weaker (λ x. is_unfinished x ≡ false) P (λ x some none. absurd (has_print x.1.print some none)) t.bodies whole);
     }
 
--- nor in finished rows
+-- `AreUnderWay` holds of finished rows
 pub finished_under_way : (t : Tables) → finished t ≡ t → AreUnderWay t
 unfolding finished
 finished_under_way t same = whole_under_way t (subst (λ (u : Tables). AllByRecursion (λ x. is_unfinished x ≡ false) u.bodies) same (whole_left t.bodies))
 
--- the bodies and the pieces alone tell it
+-- `AreUnderWay` depends on the bodies and the pieces alone
 pub like_under_way : (t u : Tables) → u.bodies ≡ t.bodies → u.pieces ≡ t.pieces → AreUnderWay t → AreUnderWay u
 unfolding bytes_of
 like_under_way t u bodies pieces h =

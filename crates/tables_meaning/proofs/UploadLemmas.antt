@@ -99,7 +99,7 @@ marked_wants name bytes moment t =
     marked_rows name (print_of bytes) (with_arrived name (number_with (print_of bytes) stored) moment stored).wants
     ∙ ap (λ ws. map (marked_want name (print_of bytes)) (rows_of ws)) (arrived_wants name (number_with (print_of bytes) stored) moment stored ∙ bytes_wants (print_of bytes) bytes t)
 
--- an entry with whether it is there
+-- an entry, and whether it is there
 abbrev pub entry_here : Tables → Entry → List ℕ × Print × Bool
 entry_here t e = (e.name, e.print, is_here t e)
 
@@ -123,7 +123,7 @@ wants_rows id (e ∷ entries) t =
 
 -- ---- bodies of one print
 
--- where a stored body of the print of these bytes is these bytes, so is each one that has the print
+-- if a stored body of the print of these bytes is these bytes, each body that has the print is these bytes
 same_bytes : (t : Tables) (bytes : List ℕ) → AreBodies t → ((found : ℕ) → body_with (print_of bytes) t.bodies ≡ Some found → bytes_of t found ≡ bytes)
     → (id : ℕ) → has_body t id ≡ true → print_of (bytes_of t id) ≡ print_of bytes → bytes_of t id ≡ bytes
 same_bytes t bytes bodies stored id is same = go (body_with (print_of bytes) t.bodies) refl
@@ -135,7 +135,7 @@ same_bytes t bytes bodies stored id is same = go (body_with (print_of bytes) t.b
     go None e = absurd (both_ways _ (of_no_print t (are_stored t bodies) (print_of bytes) e id is) alike)
     go (Some found) e = ap (bytes_of t) (eqb-true id found (by_number t (are_stored t bodies) (print_of bytes) found e id is ∙ alike)) ∙ stored found e
 
--- so is each that arrived
+-- each body that arrived with the print is these bytes
 pub alone_if_stored : (t : Tables) (name bytes : List ℕ) (moment : ℕ) → AreBodies t → AreArrivals t → ((found : ℕ) → body_with (print_of bytes) t.bodies ≡ Some found → bytes_of t found ≡ bytes)
     → IsAlone (arrivals_in t) (record { name = name; body = bytes; moment = moment })
 unfolding arrivals_in
@@ -196,7 +196,7 @@ module _ (t : Tables) (judged : List Judgement) (name bytes : List ℕ) (moment 
     asked_then : requests (arrivals_in new) judged ≡ asked ++ map (request_of (with_arrival (arrivals_in t) arrival)) more
     asked_then = ap (λ l. requests l judged) arrivals_are ∙ requests_with (arrivals_in t) arrival judged
 
-    -- no upload more
+    -- there is no new upload
     same_uploads : new ≡ marked → more ≡ [] → AreUploads new judged
     same_uploads is none = uploads_from_rows new judged (record {
       uploads = t.uploads;
@@ -215,7 +215,7 @@ module _ (t : Tables) (judged : List Judgement) (name bytes : List ℕ) (moment 
           ap (λ us. list_any (is_upload name print) (rows_of us)) (marked_uploads name bytes moment t)
           ∙ list_any-map (is_upload name print) (λ x. x.1) t.uploads
 
-      -- an upload more
+      -- there is one more upload
       one_more : list_any (λ x. is_sign (name, print) (sign_in x.1)) t.uploads ≡ false → more ≡ c ∷ [] → AreUploads new judged
       one_more absent one =
           let s : Sign = (name, print) in

@@ -21,7 +21,7 @@ use Rattle.tables_meaning.proofs.OrderLemmas.{unjudged_requests}
 pub missing_wants : List (List ℕ × Print × Bool) → ℕ
 missing_wants wants = length (filter (λ w. not w.2) wants)
 
--- their order does not tell
+-- the number does not depend on their order
 as_many : (wants : List (List ℕ × Print × Bool)) → missing_wants (sorted_by want_order wants) ≡ missing_wants wants
 unfolding missing_wants
 as_many wants =

@@ -58,7 +58,7 @@ wants_of wants id = map entry_in (filter (is_wanted_by id) wants)
 abbrev pub request : List Want → ℕ × UploadRow → Request
 request wants x = (sign_in x.1, sorted_by want_order (wants_of wants x.0))
 
--- not judged
+-- the upload is not judged
 abbrev pub is_waiting : ℕ × UploadRow → Bool
 is_waiting x = not (has_place x.1)
 
@@ -226,7 +226,7 @@ with_marked uploads wants verdicts requests name print are =
       apart = are.apart;
     }
 
--- ---- an upload more
+-- ---- one more upload
 
 abbrev pub new_want : ℕ → List ℕ × Print × Bool → Want
 new_want id e = record { upload = id; name = e.0; print = e.1; here = e.2 }
@@ -259,7 +259,7 @@ no_row_named s (x ∷ uploads) h =
     let parts = or_parts (is_sign s (sign_in x.1)) (list_any (λ y. is_sign s (sign_in y.1)) uploads) h in
     (λ e. both_ways (is_sign s (sign_in x.1)) parts.0 ((is_sign-Decides s (sign_in x.1)).1 e), no_row_named s uploads parts.1)
 
--- An upload of which no row is there gets one, with its wants behind the others.
+-- An upload of which no row is there gets one, with its wants after the others.
 pub with_one_more : (uploads : Numbered UploadRow) (wants : List Want) (verdicts : List Judgement) (requests : List Request) (s : Sign) (es : List (List ℕ × Print × Bool))
     → Rises uploads → AreRows uploads wants verdicts requests → list_any (λ x. is_sign s (sign_in x.1)) uploads ≡ false
     → AreRows (added uploads (new_upload s)) (wants ++ map (new_want (next_in uploads)) es) verdicts (requests ++ (s, sorted_by want_order es) ∷ [])

@@ -33,7 +33,7 @@ use Rattle.tables_meaning.proofs.WantLemmas.{waits_as}
 -- ---- one by one
 
 module _ {X : Type 0} where
-  -- one that is found behind a row has a greater number
+  -- a row that is found after another has a greater number
   found_above : (id : ℕ) (k : ℕ) (xs : Numbered X) (y : ℕ × X) → AllByRecursion (λ z. k < z.0) xs → find (λ x. nat_eq x.0 id) xs ≡ Some y → k < id
   found_above id k [] y all e = absurd cc
   found_above id k (x ∷ xs) y all e = go (nat_eq x.0 id) refl e (found_above id k xs y all.1)
@@ -42,7 +42,7 @@ module _ {X : Type 0} where
       go true h f more = let same : x.0 ≡ id = grind (arith, nat_tests, h) in omega (arith, same, all.0)
       go false h f more = more f
 
-  -- where no number that passes is less than this one, the row of this number is the first that passes
+  -- if no number that passes is less than this one, the row of this number is the first that passes
   first_is : (p : ℕ → Bool) (id : ℕ) → p id ≡ true → ((n : ℕ) → p n ≡ true → id ≤ n) → (xs : Numbered X) → Rises xs → (y : ℕ × X)
       → find (λ x. nat_eq x.0 id) xs ≡ Some y → find (λ x. p x.0) xs ≡ Some y
   first_is p id passes least [] up y e = absurd cc
@@ -71,7 +71,7 @@ module _ {X : Type 0} where
       go true h f more = subst (λ z. p z.0 ≡ true) (let same : x ≡ y = cc in same) h
       go false h f more = more f
 
-  -- those that pass are the first of them, and those that pass behind it
+  -- those that pass are the first of them, and those that pass after it
   first_then : (p : ℕ → Bool) (q : ℕ → ℕ → Bool) → ((k n : ℕ) → p k ≡ true → q k n ≡ (p n && nat_lt k n)) → (xs : Numbered X) → Rises xs → (y : ℕ × X)
       → find (λ x. p x.0) xs ≡ Some y → filter (λ x. p x.0) xs ≡ y ∷ filter (λ x. q y.0 x.0) xs
   first_then p q behind [] up y e = absurd cc
@@ -118,7 +118,7 @@ pub no_next : (t : Tables) (after : Option ℕ) → IsNextWanting after (rows_of
 unfolding next_wanting_in
 no_next t after next = none_is (wants_behind after (rows_of t.wants)) next.first t.uploads
 
--- those that are left
+-- the uploads that are left
 abbrev pub wanting_behind : Tables → Option ℕ → Numbered UploadRow
 wanting_behind t after = filter (λ x. wants_behind after (rows_of t.wants) x.0) t.uploads
 
@@ -192,7 +192,7 @@ from_filter P q (x ∷ xs) all = go (q x) refl all (from_filter P q xs)
     go true e all more = (λ _. all.0, more all.1)
     go false e all more = (λ t. absurd (true≢false (sym t ∙ e)), more all)
 
--- one that is not judged wants something
+-- an upload that is not judged wants something
 unjudged_want : (t : Tables) (judged : List Judgement) → AreUploads t judged
     → AllByRecursion (λ x. not (has_place x.1) ≡ true → list_any (is_wanted_by x.0) (rows_of t.wants) ≡ true) t.uploads
 unjudged_want t judged are =
