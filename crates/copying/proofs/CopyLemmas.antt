@@ -69,7 +69,7 @@ adds_behind {X} {Y} f (x ∷ rows) front =
     ∙ ap (λ n. (front ++ one ∷ []) ++ enumerate_from n (map f (rows_of rows))) (next_last first_number front one)
     ∙ append_assoc front (one ∷ []) (enumerate_from (next_in front + 1) (map f (rows_of rows)))
 
--- into a table that has none
+-- rows that are added to a table without rows
 adds_anew : {X Y : Type 0} (f : X → Y) (rows : Numbered X) (now : Numbered Y) → now ≡ [] → adds f rows now ≡ anew (map f (rows_of rows))
 adds_anew f rows now none = ap (adds f rows) none ∙ adds_behind f rows []
 

@@ -23,6 +23,6 @@ module _ {X : Type 0} (cells : X → Row) (into : Table) (given : Row) (x : ℕ 
     rise = rises_put x xs was.rise;
   }
 
--- the same of rows that may be stored without their last columns
+-- what a row that is put under its own number makes of rows that may be stored without their last columns
 pub placed_of : {X : Type 0} (s : Storing X) (rows : Numbered X) (of : Numbered (Raw s)) (x : ℕ × X) → rows ≡ map (value_in s) of → map (value_in s) (put_at (x.0, raw s x.1) of) ≡ put_at x rows
 placed_of s rows of x same = put_mapped (λ k. k.value) (x.0, raw s x.1) of ∙ sym (ap (put_at x) same)

@@ -20,7 +20,7 @@ rises_put x rows up =
     ascending_weaker _ _ (λ a b h. omega (arith, ints, h)) (put_at x rows)
     (IsKeyedBy-insert_by (λ y. id_int y.0) rows x (ascending_weaker _ _ (λ a b h. omega (arith, ints, lt→ltb, h)) rows up))
 
--- what keeps the numbers keeps the places
+-- a function that keeps the numbers keeps the places
 pub put_mapped : {X Y : Type 0} (f : X → Y) (x : ℕ × X) (rows : Numbered X) → map (λ y. (y.0, f y.1)) (put_at x rows) ≡ put_at (x.0, f x.1) (map (λ y. (y.0, f y.1)) rows)
 put_mapped f x [] = refl
 put_mapped {X} {Y} f x (y ∷ rows) =

@@ -20,7 +20,7 @@ use Rattle.copying.specs.declared.uploads.TheConstants.{COPY_UPLOAD}
 use Rattle.copying.proofs.Meaning.{copy_upload_terms, copy_upload_is, copy_upload_plain}
 use Rattle.copying.proofs.PlaceLemmas.{places_row, placed_of}
 
--- the values of a row, its number aside
+-- the values of a row without its number
 abbrev pub upload_params : UploadRow → Row
 upload_params u = Text u.name ∷ (print_cells u.print ++ or_null whole u.place ∷ or_null whole u.verdict ∷ [])
 

@@ -16,7 +16,7 @@ module _ (a b : State) where
   pub writes_if_changed : (f : Tables → Tables) → Changes a b f → Writes a b f
   writes_if_changed f h = record { held = h.held; kept = keeps_if_changed a b f h; stays = λ _. h.shown.is_open; mode = h.shown.mode }
 
-  -- the same by another name
+  -- a change by another function that does the same to the rows
   pub writes_as : (f g : Tables → Tables) → ((t : Tables) → f t ≡ g t) → Writes a b f → Writes a b g
   writes_as f g same h = record { held = λ t was. subst (Holds b.now) (same t) (h.held t was); kept = h.kept; stays = h.stays; mode = h.mode }
 

@@ -29,7 +29,7 @@ use Rattle.keep_tables.specs.Arrived.{bytes_under, file_in, file_with, files_in,
 
 -- ---- lists
 
--- where each gives one, those are all
+-- if the function gives something for each element, those are all
 all_given : {X Y : Type 0} (f : X → Option Y) (g : X → Y) (xs : List X) → AllByRecursion (λ x. f x ≡ Some (g x)) xs → filter_map f xs ≡ map g xs
 all_given f g [] h = refl
 all_given f g (x ∷ xs) h = ap (λ o. cons_option o (filter_map f xs)) h.0 ∙ ap (λ ys. g x ∷ ys) (all_given f g xs h.1)
@@ -45,7 +45,7 @@ same_found p q f g h (x ∷ xs) all =
       | false ↦ same_found p q f g h xs all.1
     ]
 
--- where none passes none is found
+-- if no element passes, nothing is found
 none_found : {X A : Type 0} (q : A → Bool) (f : X → A) (xs : List X) → AllByRecursion (λ x. q (f x) ≡ false) xs → find q (map f xs) ≡ None
 none_found q f [] all = refl
 none_found q f (x ∷ xs) all = ap (λ b. cond b (Some (f x)) (find q (map f xs))) all.0 ∙ none_found q f xs all.1

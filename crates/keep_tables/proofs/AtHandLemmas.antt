@@ -29,26 +29,26 @@ use Rattle.keep_tables.specs.declared.text_prints.TextPrint.{TextPrint}
 
 -- ---- shelves
 
--- none are at hand
+-- no shelves are at hand
 pub none_at_hand : (config : ConfigValue) (db : Database) (spare : Option ShelvesValue) → spare ≡ None → AreAtHand config db spare
 none_at_hand config db spare is = subst (AreAtHand config db) (sym is) tt
 
--- those that were taken out
+-- the shelves that were taken out
 pub taken_at_hand : (config : ConfigValue) (db : Database) (spare taken : Option ShelvesValue) → taken ≡ spare → AreAtHand config db spare → AreAtHand config db taken
 taken_at_hand config db spare taken is are = subst (AreAtHand config db) (sym is) are
 
--- what is at hand stays so where another database keeps an archive that shows the same
+-- what is at hand stays so if another database keeps an archive that shows the same
 pub still_at_hand : {config : ConfigValue} {judged : List Judgement} {dates : List ℕ} (old new : Database) (spare : Option ShelvesValue)
     → KeepsArchive new config judged (shown_in config.suites (tables_in old)) dates → AreAtHand config old spare → AreAtHand config new spare
 still_at_hand old new spare kept are = subst (λ (s : ShelvesValue). IfSome spare (λ shelves. shelves ≡ s)) (sym (shown_here new kept)) are
 
 -- ---- prints
 
--- of no text
+-- no print is known
 pub none_known : (config : ConfigValue) (shown : ShelvesValue) (dates : List ℕ) (prints : List TextPrint) → prints ≡ [] → AreKnown config shown dates prints
 none_known config shown dates prints is p at = no_member p (subst (λ (xs : List TextPrint). Contains xs p) is at)
 
--- what is known stays so likewise
+-- what is known stays so if another database keeps an archive that shows the same
 pub still_known : {config : ConfigValue} {judged : List Judgement} {other : List ℕ} (old new : Database) (dates : List ℕ) (prints : List TextPrint)
     → KeepsArchive new config judged (shown_in config.suites (tables_in old)) other
     → AreKnown config (shown_in config.suites (tables_in old)) dates prints → AreKnown config (shown_in config.suites (tables_in new)) dates prints
@@ -66,7 +66,7 @@ known_is config shown dates (p ∷ ps) path known = at_path (bytes_eq p.path pat
     at_path true is rest = ap (λ q. option_map print_of (index_text config shown dates q)) (sym ((bytes_eq-Decides p.path path).0 is)) ∙ known p (here p ps)
     at_path false is rest = rest
 
--- one that is pushed, or not
+-- a print that is pushed, or not
 pub pushed_at_most : {X E : Type 0} (old new : List TextPrint) (path : List ℕ) (print : Option Print) (own : Print) (copy : List ℕ) → print ≡ Some own → copy ≡ path
     → (r : Result X E) → new ≡ (if is_ok r then old ++ record { path = copy; print = own } ∷ [] else old) → NotesAtMost old path print new
 pushed_at_most old new path print own copy is same (Ok x) made p at =

@@ -49,13 +49,13 @@ at_once_tells begun body is =
     let small = and_parts (nat_le (length body) 65536) free some.1 in
     (none_if (option_and_then (λ (b : Begun). b.body) begun) small.1, leb-true 1 (length body) some.0, leb-true (length body) 65536 small.0)
 
--- where what is under way has no row, no body is coming
+-- if what is under way has no row, no body is coming
 pub none_under : (t : Tables) (begun : Option Begun) → option_and_then (λ (b : Begun). b.body) begun ≡ None → IsUnderWay t begun → HasComing t []
 none_under t None is coming = coming
 none_under t (Some b) is begun =
     subst (HasComing t) (no_number begun.0 (finished t) (sym begun.1.comes.number ∙ is)) begun.1.comes.coming
 
--- and then the rows are the finished ones
+-- if no body is coming, the rows are the finished ones
 rows_finished : (t : Tables) → HasComing t [] → finished t ≡ t
 unfolding with_coming
 rows_finished t coming = sym coming.rows
@@ -76,7 +76,7 @@ only_piece t id bytes others has one =
     not_both : {X : Type 0} {x : X} → None ≡ Some x → ⊥
     not_both e = cc
 
--- `old` is the connection, to whose database no body is coming; where a body of this print is stored it is one piece, of these bytes.
+-- `old` is the connection, to whose database no body is coming. If a body of this print is stored it is one piece, of these bytes.
 module _ (old : State) (settled : IsTrue old.is_open → old.now ≡ old.committed) (up : IsTrue old.is_open)
     (config : ConfigValue) (judged : List Judgement) (shown : ShelvesValue) (dates : List ℕ) (keeps : KeepsArchive old.committed config judged shown dates)
     (coming : HasComing (tables_in old.committed) []) (bytes : List ℕ) (print : Print) (printed : print ≡ print_of bytes)

@@ -26,7 +26,7 @@ use Rattle.tables_meaning.proofs.TurnLemmas.{KeepsComing}
 
 -- ---- the rows
 
--- another configuration goes past a body that is not whole
+-- another configuration passes over a body that is not whole
 passes_configured : (other : ConfigValue) (given : ShelvesValue) (dates : List ℕ) → Passes (with_configured other given dates)
 passes_configured other given dates t bodies pieces same =
     configured_are other given dates (beside t bodies pieces) ∙ sym (ap (λ u. beside u bodies pieces) (configured_are other given dates t))
@@ -39,7 +39,7 @@ module _ (before after : Database) (config other : ConfigValue) (judged : List J
   rows : tables_in after ≡ with_configured other given dates (tables_in before)
   rows = held_tables after (with_configured other given dates (tables_in before)) there
 
-  -- what the database keeps then, where that is what the suites show under it
+  -- what the database keeps afterwards, if it shows what the suites show under the configuration
   pub turns_by : given ≡ moved config.suites other.suites shown → config_in other.text ≡ Ok other → all_stay config.suites other.suites shown ≡ true → length dates ≡ length other.suites → All (λ d. d ≤ latest) dates
       → Reconfigures before after config other judged shown was given dates
   turns_by is read stay dated in_range =
@@ -47,7 +47,7 @@ module _ (before after : Database) (config other : ConfigValue) (judged : List J
       (reconfigures before after config other judged shown was dates archive read stay dated in_range (is_archive after _ there)
       (subst (λ s. tables_in after ≡ with_configured other s dates (tables_in before)) is rows))
 
-  -- what has come stays so
+  -- what has come stays
   pub comes_still : KeepsComing before after
   comes_still body count bytes comes =
       let f = with_configured other given dates in
@@ -67,6 +67,6 @@ module _ {config other : ConfigValue} {judged : List Judgement} {shown given : S
   pub configured_here : book_in_database new other judged (shown_in other.suites (tables_in new)) dates ≡ reconfigured other given dates (book_in_database old config judged shown was)
   configured_here = ap (λ s. book_in_database new other judged s dates) (shown_here new turn.kept) ∙ turn.book
 
-  -- what a crash leaves of it
+  -- what a crash leaves of the archive under another configuration
   pub configured_left : (trees : Trees) → trees ≡ new.trees → (left : Option Book) → KeepsLeft trees left → left ≡ Some (reconfigured other given dates (book_in_database old config judged shown was))
   configured_left trees same left here = left_is trees new same ∣ turn.kept ∣₁ left here ∙ ap Some turn.book

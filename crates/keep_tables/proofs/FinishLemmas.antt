@@ -71,7 +71,7 @@ swapped : (u : Bool) (a b : ℕ) → (not (not u) && nat_eq a b) ≡ (nat_eq b a
 swapped true a b = turned a b ∙ sym (and_true (nat_eq b a))
 swapped false a b = sym (and_right (nat_eq b a) false refl)
 
--- one that is there is left where it is not one of these
+-- a body that is there is left if it is whole
 stays : (bodies : Numbered BodyRow) (id : ℕ) → is_there bodies id ≡ true → has_unfinished bodies id ≡ false → is_there (without is_unfinished bodies) id ≡ true
 stays bodies id there none =
     let q = λ (x : ℕ × BodyRow). not (is_unfinished x) in

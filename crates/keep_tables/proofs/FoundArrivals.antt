@@ -1,4 +1,4 @@
--- An arrival that is looked for: of rows whose pairs are apart, the one that is found is the only one.
+-- An arrival that is looked for: if the pairs of the rows are apart, the one that is found is the only one.
 use Rattle.std.proofs.Common.{◌≡◌, ℕ, Bool, true, false, ◌&&◌, ◌||◌, cond, nat_eq, if◌then◌else◌, is_some, IsTrue, List, [], ◌∷◌, find, AllPairs, Option, Some, None, refl, sym, ap, subst, ◌∙◌}
 use Rattle.std.specs.Prelude.{bytes_eq}
 use Rattle.std.specs.List.{list_any}
@@ -33,7 +33,7 @@ use Rattle.tables_counting.specs.Moments.{found_current}
 abbrev arrivals_of : Tables → Numbered ArrivalRow
 arrivals_of t = t.arrivals
 
--- two arrivals of one pair are alike
+-- two arrivals of one pair have the same name and body
 alike : (name : List ℕ) (id : ℕ) (a b : ArrivalRow) → is_arrival name id a ≡ true → is_arrival name id b ≡ true → is_arrival a.name a.body b ≡ true
 alike name id a b p q =
     let first = (Decides-and (bytes_eq a.name name) (nat_eq a.body id) (bytes_eq-Decides a.name name) (Decides-eqb a.body id)).0 p in

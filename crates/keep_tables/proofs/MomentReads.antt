@@ -1,4 +1,4 @@
--- What the reads find at a moment is what the book has then.
+-- What the reads find at a moment is what the book has at it.
 use Rattle.std.proofs.Common.{◌≡◌, ℕ, ◌<◌, Bool, true, false, not, ◌&&◌, cond, nat_eq, if◌then◌else◌, List, [], ◌∷◌, map, filter, length, Option, Some, None, option_map, unwrap_or, refl, sym, ap, ap₂, subst, ◌∙◌}
 use Rattle.std.specs.List.{AllByRecursion, cons_option, filter_map, list_any}
 use Rattle.std.specs.Option.{option_and_then, option_map_or}
@@ -50,7 +50,7 @@ use Rattle.keep_tables.proofs.FoundArrivals.{current_if_found}
 
 -- ---- lists
 
--- those that are made where they pass are those that pass
+-- the elements that a test makes something of are those that pass
 chosen : {X : Type 0} (p : X → Bool) (xs : List X) → filter_map (λ x. if p x then Some x else None) xs ≡ filter p xs
 chosen p [] = refl
 chosen p (x ∷ xs) = elim (p x) as (λ b. cons_option (if b then Some x else None) (filter_map (λ y. if p y then Some y else None) xs) ≡ cond b (x ∷ filter p xs) (filter p xs)) [
@@ -69,12 +69,12 @@ all_put P order x (y ∷ ys) is all = elim (is_gt (order x y)) as (λ b. AllByRe
   | false ↦ (is, all)
 ]
 
--- what holds of each holds of each once they are in order
+-- what holds of each element holds of each once they are in order
 all_sorted : {X : Type 0} (P : X → Type 0) (order : X → X → Ordering) (xs : List X) → AllByRecursion P xs → AllByRecursion P (sorted_by order xs)
 all_sorted P order [] all = tt
 all_sorted P order (x ∷ xs) all = all_put P order x (sorted_by order xs) all.0 (all_sorted P order xs all.1)
 
--- of those that are not judged the ones that count are the ones that have not ended
+-- the uploads that are not judged and count are those that are not judged and have not ended
 left_waits : (j c : Bool) → (not j && c) ≡ (not (not j && not c) && not j)
 left_waits true c = refl
 left_waits false true = refl
@@ -85,7 +85,7 @@ left_waits false false = refl
 abbrev waits_for : List ℕ → ℕ → Waiting
 waits_for name missing = record { name = name; missing = missing }
 
--- by the bodies that are found
+-- the upload as it is read, by the bodies that are found
 abbrev read_by : (Print → Option (List ℕ)) → UploadRow → Option UploadValue
 read_by bytes u = option_and_then (λ body. option_map (λ (c : ChangesValue). record {
   name = u.name;
@@ -94,11 +94,11 @@ read_by bytes u = option_and_then (λ body. option_map (λ (c : ChangesValue). r
   texts = map (λ (e : Entry). if has_text e.name then unwrap_or (bytes e.print) [] else []) c.entries;
 }) (result_ok (changes_in body))) (bytes u.print)
 
--- where it is complete
+-- the upload, if it is complete
 abbrev due_if : ℕ → Option UploadValue → Option UploadValue
 due_if missing upload = if nat_eq missing 0 then upload else None
 
--- ---- where what arrives counts for good
+-- ---- if what arrives counts for good
 
 for_good : (moment : ℕ) (arrivals : List Arrival) → current None moment arrivals ≡ arrivals
 unfolding current counts_since
@@ -112,7 +112,7 @@ missing_for_good : (moment : ℕ) (t : Tables) (id : ℕ) → missing_at None mo
 unfolding missing_at missing_in
 missing_for_good moment t id = ap length (filter_same (λ (w : Want). not (is_had None moment t w)) (λ w. not w.here) (λ w. ap not (and_true w.here)) (filter (is_wanted_by id) (rows_of t.wants)))
 
--- ---- where it does so for some seconds
+-- ---- if what arrives counts for some seconds
 
 module _ (t : Tables) (judged : List Judgement) (up : AreNumbered t) (stored : AreStored (finished t)) (arrived : AreArrivals (finished t)) (uploads : AreUploads (finished t) judged)
     (seconds moment : ℕ) where
@@ -177,7 +177,7 @@ module _ (t : Tables) (judged : List Judgement) (up : AreNumbered t) (stored : A
       ∙ filter_twice lives unjudged whole.uploads
       ∙ sym wanting_left)
 
-  -- none of them has ended
+  -- no upload that is left has ended
   none_gone : AllByRecursion (λ x. has_gone x.0 ≡ false) (wanting_rows left)
   unfolding wanting_rows
   none_gone =
@@ -194,7 +194,7 @@ module _ (t : Tables) (judged : List Judgement) (up : AreNumbered t) (stored : A
   abbrev stays : Want → Bool
   stays w = not (has_gone w.upload)
 
-  -- a want is here where it counts
+  -- a want is here if it counts
   abbrev turn : Want → Want
   turn w = cond (not (cur w.name w.print)) (record w { here = false }) w
 

@@ -1,4 +1,4 @@
--- The archive of a database, and what is left of it once the bodies that are not whole are away.
+-- The archive of a database, and what is left of it once the bodies that are not whole are removed.
 use Rattle.std.proofs.Common.{◌≡◌, ◌≢◌, ℕ, filter, not, cond, List, [], ◌∷◌, Option, None, Some, IfSome, is_some, map, refl, sym, ap, subst, ◌∙◌}
 use Rattle.std.proofs.Math.Logic.{∥∥₁_map}
 use Rattle.std.specs.List.{AllByRecursion}
@@ -93,7 +93,7 @@ found_shown t whole is config judged shown dates kept =
     sym (shown_is whole config.suites shown kept.items kept.sound.at_home (config_codenames config kept.read))
     ∙ ap (shown_in config.suites) is ∙ shown_finished config.suites t
 
--- ---- once the bodies that are not whole are away
+-- ---- once the bodies that are not whole are removed
 
 rising : (db : Database) (t : Tables) → Holds db t → Rises t.bodies
 rising db t held = held.rows.bodies.rise
@@ -117,15 +117,15 @@ module _ (s : State) (config : ConfigValue) (judged : List Judgement) (dates ids
   rows_finished_are : (new : Database) → ((t : Tables) → Holds s.now t → Holds new (without_all ids t)) → finished (tables_in new) ≡ finished (tables_in s.now)
   rows_finished_are new now = ap finished (rows_are new now) ∙ finished_twice (tables_in s.now)
 
-  -- no body of theirs is unfinished
+  -- each body of the database is whole
   rows_under_way : (new : Database) → ((t : Tables) → Holds s.now t → Holds new (without_all ids t)) → AreUnderWay (tables_in new)
   rows_under_way new now = finished_under_way (tables_in new) (rows_finished_are new now ∙ sym (rows_are new now))
 
-  -- and show what was shown
+  -- the database shows what was shown
   pub shown_still : (new : Database) → ((t : Tables) → Holds s.now t → Holds new (without_all ids t)) → shown_in config.suites (tables_in new) ≡ shown_in config.suites (tables_in s.now)
   shown_still new now = ap (shown_in config.suites) (rows_are new now) ∙ shown_finished config.suites (tables_in s.now)
 
-  -- it keeps the archive
+  -- the database keeps the archive
   pub keeps_finished : (new : Database) → ((t : Tables) → Holds s.now t → Holds new (without_all ids t)) → ∥ KeepsArchive new config judged (shown_in config.suites (tables_in new)) dates ∥₁
   keeps_finished new now =
       let t = tables_in s.now in
@@ -133,11 +133,11 @@ module _ (s : State) (config : ConfigValue) (judged : List Judgement) (dates ids
       archive_shown new config judged dates (is_archive new (finished t) held) (subst (λ u. KeepsSome u config judged dates) (sym (rows_finished_are new now)) found.archive.1)
       (rows_under_way new now)
 
-  -- each of its bodies is whole
+  -- no body is coming
   pub whole_finished : (new : Database) → ((t : Tables) → Holds s.now t → Holds new (without_all ids t)) → HasComing (tables_in new) []
   whole_finished new now = none_coming (tables_in new) (rows_finished_are new now ∙ sym (rows_are new now))
 
-  -- and its book is that of the finished rows
+  -- the book of the database is that of the finished rows
   pub finished_book : (new : Database) → ((t : Tables) → Holds s.now t → Holds new (without_all ids t))
       → KeepsFinished s.committed config (book_in_database new config judged (shown_in config.suites (tables_in new)) dates)
   finished_book new now =
@@ -150,7 +150,7 @@ module _ (s : State) (config : ConfigValue) (judged : List Judgement) (dates ids
       let shows : shown_in config.suites (tables_in new) ≡ some.0 = shown_here new (record { held = is_archive new (finished t) held; kept = kept; coming = rows_under_way new now }) in
       (judged, some.0, dates, found.archive.0, some.1, found.archive.2, λ i. book_in config judged (shows i) dates (is i))))
 
-  -- numbers of none
+  -- there are no numbers if each body is whole
   none_if_whole : (t : Tables) → Holds s.committed t → filter is_unfinished t.bodies ≡ [] → ids ≡ []
   none_if_whole t held none =
       found.are ∙ ap (λ u. unfinished_ids u.bodies) (held_tables s.now t (subst (λ db. Holds db t) (sym found.rests) held)) ∙ ap (map (λ x. x.0)) none
@@ -177,7 +177,7 @@ module _ (s : State) (config : ConfigValue) (judged : List Judgement) (dates ids
   pub may_finish : (trees : Trees) → MayCommit s (without_all ids) trees → MayCommit s finished trees
   may_finish trees h = (h.0, h.1, h.2, λ t held. finished_now h.0 t held (h.3 t held))
 
-  -- without any numbers it has the book itself
+  -- without any numbers the database has the book itself
   pub same_book_finished : ids ≡ [] → KeepsFinished s.committed config (book_in_database s.committed config judged (shown_in config.suites (tables_in s.committed)) dates)
   same_book_finished none = finished_book s.committed (λ t held. subst (λ l. Holds s.committed (without_all l t)) (sym none) (subst (λ db. Holds db t) found.rests held))
 

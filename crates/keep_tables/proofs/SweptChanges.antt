@@ -1,4 +1,4 @@
--- What a change turns an archive into that is swept only where it needs to be.
+-- What a change makes of an archive that is swept only if it needs to be.
 use Rattle.std.proofs.Common.{◌≡◌, ◌<◌, ◌≤◌, ℕ, Bool, true, false, List, [], length, All, Result, Ok, Err, OnOk, IsTrue, ap, subst, ◌∙◌, arith}
 use Rattle.std.specs.Prelude.{⊤}
 use Rattle.std.specs.List.{list_any}
@@ -23,7 +23,7 @@ use Rattle.tables_meaning.proofs.TurnLemmas.{AmendsBy, KeepsComing, done_amends,
 use Rattle.tables_bodies.specs.Swept.{needs_sweep, with_made}
 use Rattle.tables_bodies.proofs.SparedLemmas.{made_as_needed}
 
--- what is undone behind a read leaves what was there before
+-- what is undone after a read leaves what was there before
 pub undone_twice : (a b c : State) → IsUndone a b → IsUndone b c → IsUndone a c
 undone_twice a b c one two = record { was_open = λ up. one.was_open (two.was_open up); committed = λ up. two.committed up ∙ one.committed (two.was_open up) }
 
@@ -34,7 +34,7 @@ survives_beside {P} a b h = survives_weaker a b (λ _. ⊥) P (λ clean trees no
 one : Result ⊤ ⊤
 one = Ok tt
 
--- `mid` is the connection behind the look that says whether a sweep is needed.
+-- `mid` is the connection after the look that says whether a sweep is needed.
 module _ (config : ConfigValue) (judged : ℕ) (change : Change) (whole sweeps : Bool) (old mid : State)
     (left : Survives old mid (λ _. ⊥)) (same : HasCleanDisk mid → IsUndone old mid) (settled : IsTrue mid.is_open → mid.now ≡ mid.committed)
     (nothing : whole ≡ true → HasCleanDisk old → IsTrue old.is_open → ∥ HasComing (tables_in old.committed) [] ∥₁)

@@ -33,7 +33,7 @@ pub record HasCome (t : Tables) (begun : Option Begun) : Type 0 where
   pub bytes : List ℕ
   pub comes : Comes t (number_in begun) count bytes
 
--- of none nothing came
+-- if nothing was begun, no bytes have come
 none_comes : (t : Tables) → HasComing t [] → Comes t None 0 []
 unfolding coming_number
 none_comes t coming = record { coming = coming; number = refl; count = refl }
@@ -42,7 +42,7 @@ pub came : (t : Tables) (begun : Option Begun) → IsUnderWay t begun → HasCom
 came t None coming = record { count = 0; bytes = []; comes = none_comes t coming }
 came t (Some b) is = record { count = b.pieces; bytes = is.0; comes = is.1.comes }
 
--- what is stopped is under way still, and none is coming
+-- what is stopped is still under way, and nothing is coming
 pub stopped : (t : Tables) (old new : Option Begun) → new ≡ option_map (λ (b : Begun). record b { is_coming = false }) old → IsUnderWay t old → IsUnderWay t new
 stopped t None new is coming = subst (IsUnderWay t) (sym is) coming
 stopped t (Some b) new is begun =
@@ -52,7 +52,7 @@ pub none_coming_of : (t : Tables) (old new : Option Begun) → new ≡ option_ma
 none_coming_of t None new is = ap (coming_in t) is
 none_coming_of t (Some b) new is = ap (coming_in t) is
 
--- nothing is coming where none is said to be
+-- nothing is coming if `is_coming` says so
 pub not_coming : (t : Tables) (begun : Option Begun) → option_map_or (λ b. b.is_coming) begun false ≡ false → coming_in t begun ≡ None
 not_coming t None is = refl
 not_coming t (Some b) is = ap (λ c. if c then Some (bytes_so_far t b.body) else None) is
@@ -78,7 +78,7 @@ its_bytes db keeps body count bytes comes =
     let whole = whole_rows (finished t) (finished_rises t keeps.held.rows.bodies.rise) keeps.kept.bodies in
     (λ i. bytes_so_far (comes.coming.rows i) (comes.number i)) ∙ coming_bytes bytes (finished t) whole
 
--- of a body that is coming, those are the bytes
+-- the bytes of a body that is coming are those that came
 pub coming_is : (db : Database) {config : ConfigValue} {judged : List Judgement} {shown : ShelvesValue} {dates : List ℕ} → KeepsArchive db config judged shown dates
     → (b : Begun) (bytes body : List ℕ) → IsBegun (tables_in db) b bytes → coming_in (tables_in db) (Some b) ≡ Some body → (IsTrue b.is_coming) × (bytes ≡ body)
 coming_is db keeps b bytes body begun is = by b.is_coming refl
@@ -92,7 +92,7 @@ coming_is db keeps b bytes body begun is = by b.is_coming refl
         (e, sym its ∙ (let one : bytes_so_far (tables_in db) b.body ≡ body = cc in one))
     by false e = absurd (none-some body (sym (ap (λ c. if c then Some (bytes_so_far (tables_in db) b.body) else None) e) ∙ is))
 
--- ---- a piece more
+-- ---- one more piece
 
 -- What is under way takes this piece: its bytes so far are whole pieces.
 pub record TakesNext (t : Tables) (b : Begun) (piece : List ℕ) : Type 0 where
@@ -121,7 +121,7 @@ takes db keeps was b is under piece asked =
       small = asked.small;
     }
 
--- what is coming then has the piece behind it
+-- what is coming afterwards ends with the piece
 pub piece_coming : (before after : Database) {config : ConfigValue} {judged : List Judgement} {shown : ShelvesValue} {dates : List ℕ} → KeepsArchive after config judged shown dates
     → (was : Option Begun) (b : Begun) → was ≡ Some b → (bytes piece : List ℕ) → coming_in (tables_in before) (Some b) ≡ Some bytes → (id count : ℕ) → Comes (tables_in after) (Some id) count (bytes ++ piece)
     → Some (bytes_so_far (tables_in after) (Some id)) ≡ option_map (λ body. body ++ piece) (coming_in (tables_in before) was)
@@ -155,7 +155,7 @@ ends db keeps was b is under name body told asked =
       short = small;
     }
 
--- what was not finished is under way still, with any printer, and none is coming
+-- what was not finished is still under way, with any printer, and nothing is coming
 pub not_finished : (t : Tables) (b : Begun) (printer : Printer) → IsUnderWay t (Some b) → IsUnderWay t (Some (record b { printer = printer; is_coming = false }))
 not_finished t b printer begun = (begun.0, record { comes = begun.1.comes; printer = λ no. absurd (true≢false (sym no)) })
 
@@ -174,7 +174,7 @@ unfolding came
 beside_under before after None keeps coming = (keeps None 0 [] (came (tables_in before) None coming).comes).coming
 beside_under before after (Some b) keeps begun = (begun.0, record { comes = keeps b.body b.pieces begun.0 begun.1.comes; printer = begun.1.printer })
 
--- what is under way after a change: nothing where its rows went, and else what was
+-- what is under way after a change: nothing if its rows went, and otherwise what was
 pub changed_under : (before after : Database) (old new : Option Begun) (went : Bool) → new ≡ (if went then None else old)
     → (went ≡ true → HasComing (tables_in after) [])
     → (went ≡ false → (body : Option ℕ) (count : ℕ) (bytes : List ℕ) → Comes (tables_in before) body count bytes → Comes (tables_in after) body count bytes)

@@ -1,4 +1,4 @@
--- Suites that differ in days alone: all that is shown stays, and where it is.
+-- Suites that differ in days alone: all that is shown stays, and on its shelf.
 use Rattle.std.proofs.Common.{◌≡◌, ◌≢◌, ℕ, ◌+◌, Bool, true, false, not, ◌&&◌, cond, nat_lt, Ok, List, [], ◌∷◌, map, filter_map, Option, Some, None, option_map, length, slice_get, bytes_eq, refl, sym, ap, ◌∙◌}
 use Rattle.std.specs.Prelude.{AllPairs}
 use Rattle.std.specs.List.{AllByRecursion, cons_option, position_or_len}
@@ -80,7 +80,7 @@ entries_back shown =
 
 -- ---- alike configurations
 
--- They have as many suites.
+-- The two configurations have the same number of suites.
 pub alike_length : (config other : ConfigValue) → AreAlike config other → length config.suites ≡ length other.suites
 alike_length config other alike = sym (length-map config.suites without_days) ∙ ap length alike ∙ length-map other.suites without_days
 
@@ -93,14 +93,14 @@ module _ (config other : ConfigValue) (shown : ShelvesValue) (read : config_in c
   kept_alike e kept =
       sym (kept_timeless other.suites e) ∙ sym (ap (λ (suites : List Suite). is_kept_by suites e) alike) ∙ kept_timeless config.suites e ∙ kept
 
-  -- an entry that its suite keeps moves nowhere
+  -- an entry that its suite keeps does not move
   entry_alike : (e : ShelfKey × Item) → is_kept_by config.suites e ≡ true → moved_entry config.suites other.suites e ≡ Some e
   entry_alike e kept =
       ap (option_map (λ n. (record e.0 { suite = n }, e.1)))
       ((λ i. option_and_then (λ (s : Suite). same_places s.codename i) (slice_get config.suites e.0.suite))
       ∙ kept_place config.suites (config_codenames config read) e kept)
 
-  -- All that is shown is kept,
+  -- All that is shown is kept.
   pub alike_stays : all_stay config.suites other.suites shown ≡ true
   unfolding all_stay stays_kept
   alike_stays =
@@ -110,7 +110,7 @@ module _ (config other : ConfigValue) (shown : ShelvesValue) (read : config_in c
       (All-weaker (λ e. is_kept_by config.suites e ≡ true) (λ e. stays e ≡ true)
       (λ e kept. ap (λ o. option_map_or (is_kept_by other.suites) o false) (entry_alike e kept) ∙ kept_alike e kept) (entries shown) told.kept))
 
-  -- and where it was.
+  -- All that is shown stays on its shelf.
   pub alike_moved : moved config.suites other.suites shown ≡ shown
   unfolding moved
   alike_moved =

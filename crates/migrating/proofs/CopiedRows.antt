@@ -1,4 +1,4 @@
--- The rows of an archive, copied with each arrival as of a moment: those of an archive still.
+-- The rows of an archive, copied with each arrival as of a moment, are still those of an archive.
 use Rattle.std.proofs.Common.{◌≡◌, ◌≢◌, ◌≤◌, ◌<◌, ℕ, ◌+◌, false, not, ◌&&◌, ◌||◌, nat_eq, List, [], ◌∷◌, ◌++◌, map, filter, find, length, Some, option_map, IsTrue, refl, sym, ap, subst, ◌∙◌}
 use Rattle.std.specs.Prelude.{All, AllPairs}
 use Rattle.std.specs.List.{cons_option, enumerate_from, flat_map, list_any}
@@ -47,7 +47,7 @@ rows_anew n (x ∷ xs) = ap (λ ys. x ∷ ys) (rows_anew (n + 1) xs)
 abbrev pub as_of : ℕ → book.Arrival → book.Arrival
 as_of moment a = record a { moment = moment }
 
--- No record and no print is another then.
+-- The candidates do not depend on the moment.
 candidates_then : (moment : ℕ) (arrivals : List book.Arrival) → candidates (map (as_of moment) arrivals) ≡ candidates arrivals
 unfolding candidate_of
 candidates_then moment [] = refl
@@ -61,7 +61,7 @@ there_then moment (a ∷ arrivals) entry = ap (λ b. is_body_of entry a || b) (t
 -- ---- the copied rows
 
 module _ (t : Tables) (moment : ℕ) (text : List ℕ) where
-  -- beside a configuration of this text, and the texts and dates that were there
+  -- the copied rows, with a configuration of this text, and the texts and dates that were there
   abbrev pub copy : Tables
   copy = record t {
     meta = meta_for text;

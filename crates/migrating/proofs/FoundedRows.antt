@@ -1,4 +1,4 @@
--- The rows of a new archive: those of three tables.
+-- The rows of a new archive: only three tables have some.
 use Rattle.std.proofs.Common.{◌≡◌, ℕ, List, [], ◌∷◌, map, fold, ap, ◌∙◌}
 use Rattle.std.specs.FinMap.{empty}
 use Rattle.rules.specs.Values.{ConfigValue}
@@ -30,7 +30,7 @@ founded_are config moment =
 pub founded_meta : (config : ConfigValue) (moment : ℕ) → (founded config moment).meta ≡ meta_for config.text
 founded_meta config moment = ap (λ (t : Tables). t.meta) (founded_are config moment)
 
--- The tables to which rows are copied have none in it.
+-- The tables that get copied rows have no row in a new archive.
 pub founded_bare : (config : ConfigValue) (moment : ℕ) → IsBare (founded config moment)
 founded_bare config moment =
     let are = founded_are config moment in

@@ -36,7 +36,7 @@ module _ (t : Tables) (config other : ConfigValue) (judged : List Judgement) (sh
   dated : length dates ≡ length other.suites
   dated = kept.dated ∙ alike_length config other alike
 
-  -- the old configuration, texts and dates are away, whatever they were
+  -- the old configuration, texts and dates are removed, whatever they were
   rows_are : moved_rows other shown dates moment t ≡ with_configured other shown dates now
   unfolding moved_rows
   rows_are =

@@ -38,7 +38,7 @@ both_have t ids rising bodies arrivals files a f is same order came filed one ot
     let second = other ∙ ap (list_all (λ x. list_any (λ n. nat_eq n x.1.body) rising)) filed ∙ with_bodies t rising known (λ (r : File). r.body) t.files in
     λ i. first i && second i
 
--- in an archive they have
+-- in an archive each arrival and each file has a body
 pub book_has_bodies : (t : Tables) (text : List ℕ) (config : ConfigValue) (judged : List Judgement) (shown : ShelvesValue) (dates : List ℕ)
     → IsBook (with_meta_row text (settled t)) config judged shown dates → have_bodies t ≡ true
 unfolding have_bodies has_body

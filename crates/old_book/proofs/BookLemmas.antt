@@ -24,7 +24,7 @@ none_placed : (uploads : Numbered UploadRow) (place : ℕ) → find (is_placed p
 none_placed [] place = refl
 none_placed (x ∷ uploads) place = none_placed uploads place
 
--- then there are no judgements
+-- if no upload was judged there are no judgements
 no_judgements : (t : Tables) (judged : List Judgement) → UploadsFit (unjudged t) judged → judged ≡ []
 no_judgements t [] fit = refl
 no_judgements t (j ∷ js) fit = absurd (let both : None ≡ Some (judged_row 1 j) = sym (none_placed t.uploads 1) ∙ fit.places 0 in cc)
@@ -50,7 +50,7 @@ listed_in t uploads items o is some none keys bodies =
     listed t items o (subst (λ u. IfSome o (λ x. UploadsFit u (items x))) same (some here whole))
     (subst (λ u. o ≡ None → (judged : List Judgement) → UploadsFit u judged → ⊥) same (none here whole))
 
--- ---- as those of an archive of today
+-- ---- the rows as those of an archive of today
 
 pub rows_renewed : (t : Tables) (text : List ℕ) (meta : Numbered Meta) (wants : Numbered Want) → meta ≡ (first_number, record { version = VERSION; configuration = text }) ∷ []
     → wants ≡ without (λ w. has_judged t.uploads w.1.upload) t.wants → record t { meta = meta; wants = wants } ≡ with_meta_row text (settled t)
@@ -88,7 +88,7 @@ module _ (t : Tables) (text : List ℕ) (has : HasText t.meta text) (rows : Tabl
         is ∙ ap (λ x. with_meta_row x (settled t)) same,
       )
 
-  -- and without one there is no old one
+  -- if these rows are no archive there is no old one
   pub no_old_archive : AreReadable t → (AreReadable rows → KeepsNone rows) → KeepsNoOld t
   no_old_archive readable none config judged shown dates old =
       let same : config.text ≡ text = one_text t.meta config.text text old.text has in

@@ -17,7 +17,7 @@ use Rattle.tables_read.specs.All.{AreConstrained, is_body_there, name_and_print}
 use Rattle.copying.specs.Copying.{anew, arrived_at, copied}
 use Rattle.old_book.specs.Settling.{as_unjudged, settled, unjudged, unjudged_uploads, with_meta_row}
 
--- ---- rows numbered anew are the same rows
+-- ---- rows that are numbered anew keep their values
 
 rows_from : {X : Type 0} (n : ℕ) (xs : List X) → rows_of (enumerate_from n xs) ≡ xs
 rows_from n [] = refl
@@ -54,7 +54,7 @@ rows_unjudged : (uploads : Numbered UploadRow) → map as_unjudged (rows_of uplo
 rows_unjudged [] = refl
 rows_unjudged (x ∷ xs) = ap (λ ys. as_unjudged x.1 ∷ ys) (rows_unjudged xs)
 
--- the numbers are the same
+-- the numbers of the uploads stay
 owners_unjudged : (uploads : Numbered UploadRow) (id : ℕ) → list_any (λ x. nat_eq x.0 id) uploads ≡ list_any (λ x. nat_eq x.0 id) (unjudged_uploads uploads)
 owners_unjudged uploads id = sym (list_any-map (λ x. (x.0, as_unjudged x.1)) (λ x. nat_eq x.0 id) uploads)
 

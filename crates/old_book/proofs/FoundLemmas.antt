@@ -49,6 +49,6 @@ pub no_book : (first second : Asked) (db : Database) → first ≡ first_layout 
 no_book first second db one two h k =
     All-from_recursion (λ asked. KeepsNoneAs asked db) older_layouts (subst (λ asked. KeepsNoneAs asked db) one h, (subst (λ asked. KeepsNoneAs asked db) two k, tt))
 
--- a fault of the database is another
+-- a fault of the database is not `NoArchive`
 pub other_fault : (fault : KeepFault) → MayAnswer true fault → fault ≡ NoArchive → ⊥
 other_fault fault may is = subst (MayAnswer true) is may

@@ -15,7 +15,7 @@ none : (a r : Bool) → r ≡ ((a && false) || r)
 none true r = refl
 none false r = refl
 
--- a number more
+-- one more number
 one_more : (x : ℕ × UploadRow) (rest : Numbered UploadRow) (id : ℕ) (b r : Bool) → list_any (λ n. nat_eq n id) (map (λ x. x.0) rest) ≡ r
     → list_any (λ n. nat_eq n id) (map (λ x. x.0) (cond b (x ∷ rest) rest)) ≡ ((nat_eq x.0 id && b) || r)
 one_more x rest id true r same = ap₂ ◌||◌ (sym (and-true (nat_eq x.0 id))) same

@@ -35,7 +35,7 @@ no_names (n ∷ ns) h = absurd (omega (arith, h))
 both_ways : (e f : Error) → e ≡ f → is_fault f ≡ true → is_fault e ≡ false → ⊥
 both_ways e f same yes_ no_ = let it : true ≡ false = sym yes_ ∙ ap is_fault (sym same) ∙ no_ in absurd cc
 
--- what is refused for no fault is refused with no limit on steps
+-- an error that is not a fault is not due to a limit on steps
 unlimited : (limit : Option ℕ) (command : Command) (db : Database) (e : Error) → is_fault e ≡ false → RefusesToRead limit command db [] e → RefusesToRead None command db [] e
 unlimited limit (Select q names) db e own (inl types) = inl types
 unlimited limit (Select q names) db e own (inr (inl overflows)) = inr (inl overflows)
@@ -67,7 +67,7 @@ module _ (sql : List ℕ) (text : IsSelectText sql) (old new : State) where
   not_run e own (inl h) = (inl (not_understood e h.0), h.1)
   not_run e own (inr h) = absurd (both_ways e _ h.1 (store_fault h.0) own)
 
-  -- an error that is no fault refuses the query, and changes nothing
+  -- an error that is not a fault refuses the query, and changes nothing
   refused : (e : Error) → is_fault e ≡ false → FailsToQuery sql [] old new e → IsRefused sql old.now × IsUnchanged old new
   unfolding FailsToQuery
   refused e own (inl h) = not_run e own h
@@ -89,7 +89,7 @@ module _ (sql : List ℕ) (text : IsSelectText sql) (old new : State) where
     commits_none : Survives old new (λ _. ⊥)
     commits_none = survives_weaker old new _ _ (λ _ db commits. never sql text [] old db commits) survives
 
-    -- the query fails for a fault
+    -- the query fails with a fault
     pub faulted : {Y : Type 0} {Is : Y → Type 0} (e : Error) → (HasCleanDisk new → FailsToQuery sql [] old new e) → Says old new (Err e) Is
     faulted e h = record { idle = idle; is = λ _. tt; unchanged = λ _. tt; err = λ clean. fails_to_query old new sql [] e (h clean); survives = commits_none }
 
@@ -98,11 +98,11 @@ module _ (sql : List ℕ) (text : IsSelectText sql) (old new : State) where
       abbrev IsSaid : Option V → Type 0
       IsSaid o = MatchOption o (IsNotShown l real sql old.now) (λ all. IsShown l.seen sql old.now (items all))
 
-      -- it is refused
+      -- the query is refused
       pub said_none : (e : Error) → is_fault e ≡ false → (HasCleanDisk new → FailsToQuery sql [] old new e) → Says old new (Ok None) IsSaid
       said_none e own h = record { idle = idle; is = λ clean. inl (refused e own (h clean)).0; unchanged = λ clean. (refused e own (h clean)).1; err = λ _. tt; survives = commits_none }
 
-      -- it shows rows, and this is what they are read as
+      -- the query shows rows, and this is what they are read as
       pub said : (rows : List Row) (r : Result (Option V) Error) → (HasCleanDisk new → Shown sql [] old new rows)
           → IfOk r (λ o. IfSome o (λ all. AllZip (Spells l.seen) rows (items all))) → IfOk r (λ o. o ≡ None → IsNotRead l real rows) → Says old new r IsSaid
       said rows (Ok (Some v)) shown some none = record {

@@ -1,4 +1,4 @@
--- What is among rows, looked for row by row.
+-- Whether something is among rows, which are gone over one by one.
 use Rattle.std.proofs.Common.{◌≡◌, ◌↔◌, ◌⊎◌, ◌<◌, ℕ, ◌+◌, inl, inr, List, ◌∷◌, drop, length, get_or, sym, ap, subst, ◌∙◌}
 use Rattle.std.specs.Prelude.{All, Contains}
 use Rattle.std.proofs.lemmas.List.{drop_more}
@@ -10,7 +10,7 @@ module _ {X Y : Type 0} (f : X → Y) (g : List X → List Y) (one : (x : X) (xs
   from_place : g (drop i xs) ≡ f x ∷ g (drop (i + 1) xs)
   from_place = ap g (drop_more xs i x within ∙ ap (λ y. y ∷ drop (i + 1) xs) (sym is)) ∙ one x (drop (i + 1) xs)
 
-  -- something is among those from a place on where it is the one there, or among the later ones
+  -- something is among those from a place on if it is the one there, or among the later ones
   pub among_next : (e : Y) → Contains (g (drop i xs)) e ↔ ((f x ≡ e) ⊎ Contains (g (drop (i + 1) xs)) e)
   among_next e = (
     λ at. which (f x) e (g (drop (i + 1) xs)) (subst (λ es. Contains es e) from_place at),
@@ -21,7 +21,7 @@ module _ {X Y : Type 0} (f : X → Y) (g : List X → List Y) (one : (x : X) (xs
         ]),
   )
 
-  -- all from a place on are so where the one there is, and the later ones
+  -- all from a place on are so if the one there is so, and the later ones
   pub all_next : (C : Y → Type 0) → All C (g (drop i xs)) ↔ (C (f x) × All C (g (drop (i + 1) xs)))
   all_next C = (
     λ all. let parts = recursion_from_All C (f x ∷ g (drop (i + 1) xs)) (subst (All C) from_place all) in (parts.0, All-from_recursion C (g (drop (i + 1) xs)) parts.1),

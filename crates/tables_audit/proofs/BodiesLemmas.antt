@@ -23,14 +23,14 @@ use Rattle.tables_audit.specs.Parts.{BodiesFit}
 
 -- ---- rows that pass a test
 
--- those of one row more
+-- the rows that pass a test, with one more row
 row_more : {X Y : Type 0} (p : Y → Bool) (f : X → Y) (xs : List X) (i : ℕ) (x : X) → i < length xs → x ≡ get_or xs i x
     → filter p (map f (take (i + 1) xs)) ≡ filter p (map f (take i xs)) ++ cond (p (f x)) (f x ∷ []) []
 row_more p f xs i x within is =
     ap (filter p) (map_more f xs i x within ∙ ap (λ y. map f (take i xs) ++ f y ∷ []) (sym is))
     ∙ filter-append p (map f (take i xs)) (f x ∷ [])
 
--- a place in a list of numbered things behind the first so many of them, and what stands there
+-- a place in a list of numbered things that comes after the first n of them, and what is there
 pub is_before : {X : Type 0} (f : ℕ → X) (k n : ℕ) (front rest : List X) (x : X) → length front ≡ n → front ++ x ∷ rest ≡ map f (range_with_len 0 k) → n < k
 is_before f k n front rest x front_long whole =
     let long : length front + suc (length rest) ≡ k = sym (length-append front (x ∷ rest)) ∙ ap length whole ∙ length-map-range_with_len f 0 k in
@@ -43,7 +43,7 @@ next_is f k n front rest x front_long whole =
 
 -- ---- the pieces of a body
 
--- those among these rows
+-- the pieces of a body among these rows
 abbrev pub among : ℕ → Numbered Piece → List Piece
 among id rows = filter (is_of id) (rows_of rows)
 
@@ -65,7 +65,7 @@ module _ (pieces : List (Bor Piece)) (i : ℕ) (x : Bor Piece) (within : i < len
   pub piece_more : views (take (i + 1) pieces) ≡ views (take i pieces) ++ x.now ∷ []
   piece_more = map_more (λ p. p.now) pieces i x within ∙ ap (λ (y : Bor Piece). views (take i pieces) ++ y.now ∷ []) (sym is)
 
-  -- those before it, then it and those behind it
+  -- the pieces before this one, then this one and those after it
   pub around : views pieces ≡ views (take i pieces) ++ x.now ∷ views (drop (i + 1) pieces)
   around =
       ap views (sym (take-append-drop i pieces))
@@ -77,7 +77,7 @@ module _ (pieces : List (Bor Piece)) (i : ℕ) (x : Bor Piece) (within : i < len
       subst (λ (p : Piece). p.body ≡ id) (get_or-map (λ p. p.now) pieces i x x.now within ∙ ap (λ (y : Bor Piece). y.now) (sym is))
       (own i x.now (omega (arith, within, length-map pieces (λ (p : Bor Piece). p.now))))
 
--- the pieces of a body are its own
+-- the pieces of a body have its number
 own_rows : (id : ℕ) (ps : List Piece) → AllByRecursion (λ p. p.body ≡ id) (filter (is_of id) ps)
 own_rows id [] = tt
 own_rows id (p ∷ ps) = go (nat_eq p.body id) refl (own_rows id ps)
@@ -93,7 +93,7 @@ their_body id ps =
     All-permutation (λ (p : Piece). p.body ≡ id) rows (pieces_among ps id) (IsPermutation-sym (pieces_among ps id) rows (IsPermutation-sort_by piece_order piece_order_total rows))
     (All-from_recursion (λ (p : Piece). p.body ≡ id) rows (own_rows id ps))
 
--- their order does not tell how many bytes they have
+-- the number of their bytes does not depend on their order
 pub as_long : (ps : List Piece) → length (bytes_in ps) ≡ length (bytes_in (sorted_by piece_order ps))
 as_long ps =
     length_permutation (bytes_in (sorted_by piece_order ps)) (bytes_in ps)
@@ -112,7 +112,7 @@ same_piece p id number a b = ap (λ n. piece n p.number) a ∙ ap (piece id) b
 pub bytes_more : (ps : List Piece) (p : Piece) → bytes_in (ps ++ p ∷ []) ≡ bytes_in ps ++ p.bytes
 bytes_more ps p = flat_map-append (λ (p : Piece). p.bytes) ps (p ∷ []) ∙ ap (λ l. bytes_in ps ++ l) (append-nil p.bytes)
 
--- These are the first pieces of a body of `whole` bytes, with the first `size` of them. A piece behind which others come is full.
+-- These are the first pieces of a body of `whole` bytes, with the first `size` of them. A piece that others follow is full.
 pub record AreFirst (id whole size : ℕ) (ps : List Piece) : Type 0 where
   pub long : size ≡ length (bytes_in ps)
   pub within : size ≤ whole
@@ -123,7 +123,7 @@ pub none_yet : (id whole : ℕ) → AreFirst id whole 0 []
 unfolding pieces_for
 none_yet id whole = record { long = refl; within = omega arith; full = λ _. refl; pieces = refl }
 
--- and the next one
+-- the first pieces of a body, with the next one
 pub and_next : (id whole size : ℕ) (ps : List Piece) (p : Piece) → p.body ≡ id → IsNext size whole p → AreFirst id whole size ps → AreFirst id whole (size + length p.bytes) (ps ++ p ∷ [])
 and_next id whole size ps p of next h =
     let bytes = bytes_in ps in
@@ -142,7 +142,7 @@ and_next id whole size ps p of next h =
           ∙ ap (pieces_for id) (sym both);
     }
 
--- a piece behind them is the next one, in a body of these bytes
+-- a piece that follows them in a body of these bytes is the next one
 pub behind_them : (id size : ℕ) (bytes : List ℕ) (ps rest : List Piece) (p : Piece) → ps ++ p ∷ rest ≡ pieces_for id bytes → AreFirst id (length bytes) size ps → IsNext size (length bytes) p
 unfolding pieces_for
 behind_them id size bytes ps rest p are h =

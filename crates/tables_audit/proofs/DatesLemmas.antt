@@ -15,12 +15,12 @@ use Rattle.rules.specs.declared.suite.Suite.{Suite}
 use Rattle.tables.specs.Rows.{Numbered, rows_of}
 use Rattle.tables.specs.declared.rows.Date.{Date}
 
--- rows that are the dates of suites are as many as these
+-- there are as many rows that are the dates of suites as there are suites
 pub as_many : (rows : Numbered Date) (suites : List Suite) (dates : List ℕ) → IsPermutation (rows_of rows) (map date_row (zip suites dates)) → length dates ≡ length suites → length rows ≡ length suites
 as_many rows suites dates same long =
     omega (arith, length_permutation _ _ same, length-map rows (λ (x : ℕ × Date). x.1), length-map (zip suites dates) date_row, length-zip suites dates, long)
 
--- and each suite has one
+-- the date of each suite is among the rows
 pub date_at : (suites : List Suite) (dates : List ℕ) (i : ℕ) (s : Suite) → length dates ≡ length suites → i < length suites → s ≡ get_or suites i s
     → Contains (map date_row (zip suites dates)) (date_row (s, get_or dates i 0))
 date_at [] dates i s long within is = absurd (omega arith)
@@ -65,7 +65,7 @@ rows_apart (s ∷ ss) (d ∷ ds) apart = (
   rows_apart ss ds (pairs_tail (λ (s u : Suite). s.codename ≢ u.codename) s ss apart),
 )
 
--- as many rows, among which the date of each suite is, are these dates
+-- rows are these dates if they are as many and the date of each suite is among them
 pub dates_are : (rows : Numbered Date) (suites : List Suite) (dates : List ℕ) → AllPairs (λ s u. s.codename ≢ u.codename) suites → length rows ≡ length suites → length dates ≡ length suites
     → All (Contains (rows_of rows)) (map date_row (zip suites dates)) → IsPermutation (rows_of rows) (map date_row (zip suites dates))
 dates_are rows suites dates apart many long all =

@@ -93,7 +93,7 @@ module _ (t : Tables) (shown : ShelvesValue) (keys : AreConstrained t) where
   at_path files path None found some = absurd (some (sym (files.are path) ∙ ap there_at found))
   at_path files path (Some f) found some = any_true (is_file_at path) (rows_of t.files) f (found_inside (is_file_at path) (rows_of t.files) f found) (found_passes (is_file_at path) (rows_of t.files) f found)
 
-  -- The rows are those of the pool's files exactly where each has the pool's print and each path its row.
+  -- The rows are those of the pool's files exactly if each has the pool's print and each path has its row.
   pub files_fit : AreThose (pool shown) t.bodies t.files ↔ AreFiles t shown
   unfolding has_body
   files_fit = (
@@ -149,7 +149,7 @@ all_of : {X : Type 0} (p : X → Bool) (xs : List X) → ((x : X) → Contains x
 all_of p [] h = refl
 all_of p (x ∷ xs) h = and_from (p x) (list_all p xs) (h x (here x xs)) (all_of p xs (λ y at. h y (there x y xs at)))
 
--- each entry's path is one of these exactly where each path of the map is
+-- each entry's path is one of these exactly if each path of the map is
 pub each_there : (paths : Paths) (shared : Shared)
     → (list_all (is_there paths) shared.entries ≡ true) ↔ ((path : List ℕ) → is_some (get_by_text shared path) ≡ true → is_some (get_by_text paths path) ≡ true)
 each_there paths shared = (
@@ -171,7 +171,7 @@ pool_there shared shelves counts path =
 
 module _ (shelves : ShelvesValue) (bodies : Numbered BodyRow) (files : Numbered File) (shared : Shared) (paths : Paths) (counts : Counts shared shelves)
     (are : (path : List ℕ) → is_some (get_by_text paths path) ≡ is_path files path) where
-  -- The rows are those of the pool where each has its print and each path of the pool is among them.
+  -- The rows are those of the pool if each has its print and each path of the pool is among them.
   pub those_from : All (HasPrint (pool shelves) bodies) files → ((path : List ℕ) → is_some (get_by_text shared path) ≡ true → is_some (get_by_text paths path) ≡ true)
       → AreThose (pool shelves) bodies files
   those_from prints each = record {
@@ -188,7 +188,7 @@ module _ (shelves : ShelvesValue) (bodies : Numbered BodyRow) (files : Numbered 
 
 -- ---- the paths so far
 
--- one path more
+-- one more path
 one_path : (files : Numbered File) (f : ℕ × File) (old new : Paths) → ((path : List ℕ) → is_some (get_by_text old path) ≡ is_path files path)
     → ((path : List ℕ) → get_by_text new path ≡ cond (bytes_eq f.1.path path) (Some f.1.body) (get_by_text old path))
     → (path : List ℕ) → is_some (get_by_text new path) ≡ is_path (files ++ f ∷ []) path
@@ -209,13 +209,13 @@ one_path files f old new was put path =
     go true t = rw t (sym (right_true (is_path files path)))
     go false t = was path ∙ rw t (right_false (is_path files path))
 
--- one path more of these
+-- one more path of these
 pub path_more : (files : Numbered File) (n : ℕ) (d : ℕ × File) (old new : Paths) → n < length files → ((path : List ℕ) → is_some (get_by_text old path) ≡ is_path (take n files) path)
     → ((path : List ℕ) → get_by_text new path ≡ cond (bytes_eq (get_or files n d).1.path path) (Some (get_or files n d).1.body) (get_by_text old path))
     → (path : List ℕ) → is_some (get_by_text new path) ≡ is_path (take (n + 1) files) path
 path_more files n d old new lt was put path = one_path (take n files) (get_or files n d) old new was put path ∙ ap (λ xs. is_path xs path) (sym (take_more files n d lt))
 
--- one file more that has its print
+-- one more file that has its print
 pub prints_more : (there : PoolWith Print) (bodies : Numbered BodyRow) (files : Numbered File) (n : ℕ) (d : ℕ × File) → n < length files → All (HasPrint there bodies) (take n files)
     → HasPrint there bodies (get_or files n d) → All (HasPrint there bodies) (take (n + 1) files)
 prints_more there bodies files n d lt so_far has =

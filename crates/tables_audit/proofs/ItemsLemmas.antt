@@ -1,4 +1,4 @@
--- Rows that show what shelves do are those of an archive's items, and of an archive's items no row is refused.
+-- Rows that show what shelves do are those of an archive's items, and no row of an archive's items is refused.
 use Rattle.std.proofs.Common.{◌≡◌, ◌≢◌, ℕ, ◌+◌, ◌<◌, ◌≤◌, Bool, true, false, not, ◌&&◌, ◌||◌, cond, List, [], ◌∷◌, ◌++◌, map, filter, find, length, take, drop, get_or, refl, sym, ap, ap₂, subst, ◌∙◌, arith, inl, inr, AllPairs, Option, Some, None, option_map, nat_eq, bytes_eq}
 use Rattle.std.specs.Prelude.{Contains, IsTrue}
 use Rattle.std.specs.List.{All, AllByRecursion, cons_option, enumerate_from, filter_map, list_any}
@@ -94,7 +94,7 @@ misnumbered refs n d lt other so_far =
     ∙ sym (ap (are_numbered_from (n + 1)) (drop_more refs n d lt))
     ∙ so_far
 
--- it has its number
+-- the first of the files that are left has its number
 pub numbered_more : (refs : List Ref) (n : ℕ) (d : Ref) → n < length refs → (get_or refs n d).number ≡ n + 1 → are_numbered_from (n + 1) (drop n refs) ≡ are_numbered_from 1 refs
     → are_numbered_from (n + 1 + 1) (drop (n + 1) refs) ≡ are_numbered_from 1 refs
 unfolding are_numbered_from
@@ -141,7 +141,7 @@ none_shown suites refs shelves none = record {
   each = All-nil (IsShown suites refs);
 }
 
--- one row more
+-- one more row
 pub one_shown : (suites : List Suite) (refs : Numbered Ref) (items : Numbered ItemRow) (x : ℕ × ItemRow) (old new : ShelvesValue) → AreShown suites refs items old → Joins suites refs x old new
     → AreShown suites refs (items ++ x ∷ []) new
 one_shown suites refs items x old new shown joins = record {
@@ -165,7 +165,7 @@ one_shown suites refs items x old new shown joins = record {
         (sym (sym (shown.stands key) ∙ ap (get old) (same_keys key_order-IsAntisymmetric key joins.puts.entry.0 tied) ∙ joins.puts.put.free))
     go key false apart = shown.stands key ∙ or_none (keyed.find key_order key (filter_map (entry_at suites refs) items))
 
--- one row more of these
+-- one more row of these
 pub shown_more : (suites : List Suite) (refs : Numbered Ref) (items : Numbered ItemRow) (n : ℕ) (d : ℕ × ItemRow) (old new : ShelvesValue) → n < length items → AreShown suites refs (take n items) old
     → Joins suites refs (get_or items n d) old new → AreShown suites refs (take (n + 1) items) new
 shown_more suites refs items n d old new lt shown joins =
@@ -281,7 +281,7 @@ before_apart R (y ∷ before) x behind apart = (
   before_apart R before x behind (pairs_tail R y.1 (rows_of (before ++ x ∷ behind)) apart),
 )
 
--- a search of which no row before one passes
+-- a search finds nothing if no row passes
 found_none : {X : Type 0} (p : X → Bool) (xs : List X) → AllByRecursion (λ y. p y ≡ false) xs → find p xs ≡ None
 found_none p [] h = refl
 found_none p (x ∷ xs) h = rw h.0 (found_none p xs h.1)
@@ -427,7 +427,7 @@ module _ (suites : List Suite) (differ : AllPairs (λ s r. s.codename ≢ r.code
       };
     })
 
-  -- Of the rows of an archive's items none is refused.
+  -- No row of an archive's items is refused.
   pub none_stopped : ⊥
   none_stopped =
       ∥∥₁_elim (all_at (λ x. ∥ ((key : ShelfKey) × (key.suite < length suites) × IsTrue (is_on suites key x)) ∥₁) t.items stopped.row fit.rows

@@ -1,4 +1,4 @@
--- Where the rows of a number stand, and what is found among them.
+-- Which of the rows are those of a number, and what is found among them.
 use Rattle.std.proofs.Common.{◌≡◌, ℕ, zero, suc, ◌+◌, ◌<◌, ◌≤◌, Bool, true, false, cond, nat_eq, nat_le, ◌&&◌, ◌||◌, List, [], ◌∷◌, ◌++◌, map, filter, find, take, drop, length, get_or, slice_get, All, refl, sym, ap, ◌∙◌, arith}
 use Rattle.std.specs.Prelude.{◌↔◌}
 use Rattle.std.specs.List.{AllWithin, list_any}
@@ -52,7 +52,7 @@ module _ {X : Type 0} (p : X → Bool) where
   in_two : (xs : List X) (n : ℕ) → filter p xs ≡ filter p (take n xs) ++ filter p (drop n xs)
   in_two xs n = ap (filter p) (sym (take-append-drop n xs)) ∙ filter-append p (take n xs) (drop n xs)
 
-  -- those that pass, from a place on before which none does
+  -- the rows that pass are found from a place on, if no row before it passes
   pub passing_from : (xs : List X) (n : ℕ) → AllWithin (λ x. p x ≡ false) xs 0 n → filter p (drop n xs) ≡ filter p xs
   passing_from xs n none =
       let long = length-take n xs in
@@ -61,7 +61,7 @@ module _ {X : Type 0} (p : X → Bool) where
       ∙ ap (λ l. l ++ filter p (drop n xs))
       (none_pass (take n xs) (λ k d within. ap p (get_or-take n xs k d (omega arith)) ∙ none k d (omega arith) (omega arith))))
 
-  -- those that pass, up to a place from which on none does
+  -- the rows that pass are found up to a place, if no row from it on passes
   pub passing_up_to : (xs : List X) (n : ℕ) → AllWithin (λ x. p x ≡ false) xs n (length xs) → filter p (take n xs) ≡ filter p xs
   passing_up_to xs n none =
       let long = length-drop n xs in
@@ -72,13 +72,13 @@ module _ {X : Type 0} (p : X → Bool) where
       ∙ append-nil (filter p (take n xs)))
 
 module _ {X : Type 0} (key : X → ℕ) (id : ℕ) (rows : List X) (n : ℕ) where
-  -- the rows of a number stand from the first row on whose number is not below it
+  -- the rows of a number start at the first row whose number is not below it
   pub part_from : IsPartitionPoint (λ x. key x < id) (λ x. id ≤ key x) rows n → with_key key id (drop n rows) ≡ with_key key id rows
   part_from parted =
       passing_from (λ x. nat_eq (key x) id) rows n
       (λ k d from within. let below = parted.0 k d from within in ne_eqb (key (get_or rows k d)) id (λ e. omega arith))
 
-  -- and end before the first row of a number above it
+  -- the rows of a number end before the first row of a number above it
   pub part_up_to : IsPartitionPoint (λ x. key x ≤ id) (λ x. id < key x) rows n → with_key key id (take n rows) ≡ with_key key id rows
   part_up_to parted =
       passing_up_to (λ x. nat_eq (key x) id) rows n
@@ -86,18 +86,18 @@ module _ {X : Type 0} (key : X → ℕ) (id : ℕ) (rows : List X) (n : ℕ) whe
 
 -- ---- what is found among those that pass a test
 
--- the first
+-- the first element that passes
 pub find_same : {X : Type 0} (p : X → Bool) (xs ys : List X) → filter p xs ≡ filter p ys → find p xs ≡ find p ys
 find_same p xs ys e = sym (slice_get-filter p xs) ∙ ap (λ l. slice_get l 0) e ∙ slice_get-filter p ys
 
--- those of rows without their rowids
+-- the rows that pass, without their rowids
 pub rows_same : {X : Type 0} (p : X → Bool) (xs ys : Numbered X) → filter (λ (x : ℕ × X). p x.1) xs ≡ filter (λ (x : ℕ × X). p x.1) ys → filter p (rows_of xs) ≡ filter p (rows_of ys)
 rows_same {X} p xs ys e =
     filter-map p (λ (x : ℕ × X). x.1) xs
     ∙ ap (map (λ (x : ℕ × X). x.1)) e
     ∙ sym (filter-map p (λ (x : ℕ × X). x.1) ys)
 
--- whether one passes another test, too
+-- whether an element that passes also passes another test
 pub any_same : {X : Type 0} (p q : X → Bool) (xs ys : List X) → filter p xs ≡ filter p ys → list_any (λ x. p x && q x) xs ≡ list_any (λ x. p x && q x) ys
 any_same {X} p q xs ys e = any_passing xs ∙ ap (list_any q) e ∙ sym (any_passing ys)
   where

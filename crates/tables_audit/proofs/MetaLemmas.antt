@@ -21,7 +21,7 @@ pub text_of_read : (text : List ℕ) (config : ConfigValue) → config_in text �
 unfolding config_in
 text_of_read text config e = of_read text (paragraphs_in text config_limit) config e
 
--- so the row of a configuration is that of its text
+-- the row of a configuration has its text
 pub row_of_read : (row : Meta) (text : List ℕ) (config : ConfigValue) → row.version ≡ 3 → text ≡ row.configuration → config_in text ≡ Ok config
     → (row ≡ record { version = VERSION; configuration = config.text }) × (config_in config.text ≡ Ok config)
 row_of_read row text config three e read =

@@ -19,7 +19,7 @@ use Rattle.tables_audit.specs.declared.uploads.places.Placed.{Placed}
 use Rattle.tables_audit.proofs.KeyedLemmas.{find_same}
 use Rattle.tables_audit.proofs.UploadsLists.{rows_more}
 
--- ---- one upload more
+-- ---- one more upload
 
 -- at first there are none
 pub none_placed : (uploads : Numbered UploadRow) (placed : List Placed) → placed ≡ [] → ArePlaced (take 0 uploads) (map placed_view placed)
@@ -64,13 +64,13 @@ placed_more uploads i x placed within is pushed so_far place =
     ∙ ap₂ option_or (so_far place) (one_placed x.1 place)
     ∙ sym (ap (find (is_placed place)) (rows_more uploads i x within is) ∙ find-append (is_placed place) (rows_of (take i uploads)) (x.1 ∷ []))
 
--- ---- the same in order
+-- ---- the uploads in the order of their places
 
 nothing : {X : Type 0} (xs : List X) → length xs ≡ 0 → xs ≡ []
 nothing [] e = refl
 nothing (x ∷ xs) e = absurd (omega arith)
 
--- those at a place tell the first one
+-- the first at a place depends on those at the place alone
 pub first_same : (place : ℕ) (xs ys : List Placed) → filter (λ (p : Placed). nat_eq p.place place) xs ≡ filter (λ (p : Placed). nat_eq p.place place) ys
     → first_at (map placed_view xs) place ≡ first_at (map placed_view ys) place
 first_same place xs ys e =
@@ -96,7 +96,7 @@ module _ (old new : List Placed) (same : IsPermutation old new) (stable : IsStab
   pub sorted_placed : (uploads : Numbered UploadRow) → ArePlaced uploads (map placed_view old) → ArePlaced uploads (map placed_view new)
   sorted_placed uploads are place = first_same place new old (stays place) ∙ are place
 
--- what is judged at a place is told by the upload there
+-- what is judged at a place depends on the upload there alone
 pub judged_by : (uploads : Numbered UploadRow) (placed rows : List Placed) → rows ≡ placed → ArePlaced uploads (map placed_view placed) → (place : ℕ)
     → option_and_then judgement_in (first_at (map placed_view rows) place) ≡ judged_at uploads place
 unfolding judged_at

@@ -1,4 +1,4 @@
--- Names that are written by parts, lists that are the same, and items that are told.
+-- Names that are written by parts, lists that are equal, and items that are as their records say.
 use Rattle.std.proofs.Common.{◌≡◌, ℕ, zero, suc, ◌+◌, ◌<◌, Bool, true, false, List, [], ◌∷◌, ◌++◌, map, length, take, slice_index_or, Ok, IsTrue, sym, subst, ap, ap₂, ◌∙◌, append_assoc, arith, true≢false}
 use Rattle.std.specs.Prelude.{codes, ◌↔◌}
 use Rattle.std.specs.Bool.{Decides}
@@ -28,7 +28,7 @@ pub path_written : (item : Item) (name directory : List ℕ) → directory ≡ d
 unfolding pool_path
 path_written item name directory e = rw e (simp append_assoc)
 
--- one more that is the same
+-- one more element that is equal
 next_same : {X : Type 0} (xs ys : List X) (n : ℕ) (d : X) → n < length xs → n < length ys → slice_index_or xs n d ≡ slice_index_or ys n d → take n xs ≡ take n ys → take (suc n) xs ≡ take (suc n) ys
 unfolding tail
 next_same [] ys n d some there is before = absurd (omega arith)

@@ -1,4 +1,4 @@
--- Names with prints: their order, and what is found where they stand in it.
+-- Names with prints: their order, and what is found if they stand in it.
 use Rattle.std.proofs.Common.{◌≡◌, ℕ, zero, suc, ◌+◌, ◌<◌, ◌≤◌, Bool, true, false, ◌&&◌, ◌||◌, List, [], ◌∷◌, ◌++◌, map, take, length, get_or, Result, Ok, Err, bytes_eq, refl, sym, ap, ap₂, ◌∙◌, arith, true≢false}
 use Rattle.std.specs.Prelude.{is_ok, nat_lt}
 use Rattle.std.specs.declared.cmp.Ordering.{Ordering}
@@ -66,7 +66,7 @@ module _ (s : SignValue) where
       ap (λ b. b || has_sign (map sign_of signs) s) (not_it (sign_of x) (h 0 x (omega arith)))
       ∙ not_found signs (λ j d lt. h (suc j) d (omega (arith, lt)))
 
-  -- a binary search finds it exactly if it is among these
+  -- a binary search finds a name and a print exactly if they are among these
   pub found_among : (signs : List Sign) (r : Result ℕ ℕ) → AreInOrder signs → IsSearchInRange r (length signs) → IsBinarySearchResult (λ (x : Sign). judging_order (sign_of x) s) signs r
       → is_ok r ≡ has_sign (map sign_of signs) s
   found_among signs (Ok i) up bound at = sym (found_at signs i bound at)
@@ -81,7 +81,7 @@ module _ (s : SignValue) where
       by_kind j d lt before after true t = ap is_eq (before j d (omega arith) (ltb-true j i t))
       by_kind j d lt before after false t = ap is_eq (after j d (ltb-false j i t) lt)
 
-  -- others in another order have the same
+  -- in another order the same names and prints are there
   pub moved : (all : List SignValue) (signs sorted : List Sign) → map sign_of signs ≡ all → IsPermutation signs sorted → has_sign (map sign_of sorted) s ≡ has_sign all s
   moved all signs sorted are same =
       sym (list_any-IsPermutation (λ (r : SignValue). bytes_eq r.0 s.0 && same_print r.1 s.1) (map sign_of signs) (map sign_of sorted) (IsPermutation-map sign_of signs sorted same))

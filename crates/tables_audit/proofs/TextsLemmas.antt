@@ -38,14 +38,14 @@ module _ {X : Type 0} (C : X → Type 0) where
   all_behind front more all = All-from_recursion C more (all_parts C front more (recursion_from_All C (front ++ more) all)).1
 
   module _ {P : Type 0} (front more : List X) (left : ℕ) (h : P ↔ (All C (front ++ more) × (left ≡ length (front ++ more)))) where
-    -- where each of the front holds, it is about the others, and as many less
+    -- if C holds of each of the front, the question is about the others, and their number
     pub same_behind : (count : ℕ) → All C front → count ≡ length front → count ≤ left → P ↔ (All C more × (left - count ≡ length more))
     same_behind count have is few = (
       λ p. let both = h.0 p in (all_behind front more both.0, omega (arith, both.1, length-append front more, is, few)),
       λ both. h.1 (All-append C front more have both.0, omega (arith, both.1, length-append front more, is, few)),
     )
 
-    -- some of the front does not hold
+    -- C does not hold of some of the front
     pub other_front : (All C front → ⊥) → IsTrue false ↔ P
     other_front none = (λ no. absurd (cc no), λ p. absurd (none (all_front front more (h.0 p).0)))
 
@@ -53,7 +53,7 @@ module _ {X : Type 0} (C : X → Type 0) where
     pub too_many : (count : ℕ) → count ≡ length front → left < count → IsTrue false ↔ P
     too_many count is over = (λ no. absurd (cc no), λ p. absurd (omega (arith, (h.0 p).1, length-append front more, is, over)))
 
--- all of a suite's texts are there where the first is, and the others
+-- all texts of a suite are there if the first is, and the others
 pub all_of_suite : {X : Type 0} (C : X → Type 0) (suite others : List X) (first : X) → suite ≡ first ∷ others → All C suite ↔ (C first × All C others)
 all_of_suite C suite others first whole = (
   λ all. let parts = recursion_from_All C (first ∷ others) (subst (All C) whole all) in (parts.0, All-from_recursion C others parts.1),
@@ -64,7 +64,7 @@ all_of_suite C suite others first whole = (
 pub none_more : {P X : Type 0} (C : X → Type 0) (left : ℕ) → (P ↔ (All C [] × (left ≡ 0))) → IsTrue (left == 0) ↔ P
 none_more C left h = (λ t. h.1 (All-nil C, eqb-true left 0 t), λ p. eq-eqb left 0 (h.0 p).1)
 
--- ---- the same rows in any order
+-- ---- rows in any order
 
 -- Texts at different paths that each are among as many rows are these.
 pub permuted_if : (rows : Numbered TextRow) (all : List PathText) → AllPairs PathsDiffer all → IsPermutation (texts_in rows) all ↔ (All (Contains (texts_in rows)) all × (length rows ≡ length all))
@@ -90,7 +90,7 @@ texts_of_next shelves from (s ∷ ss) [] i d a b = absurd (omega arith)
 texts_of_next shelves from (s ∷ ss) (e ∷ es) zero d a b = refl
 texts_of_next shelves from (s ∷ ss) (e ∷ es) (suc i) d a b = texts_of_next shelves from ss es i d (omega arith) (omega arith)
 
--- those of one suite, and then of the others
+-- the texts of one suite, and then those of the others
 pub texts_next : (config : ConfigValue) (shelves : ShelvesValue) (dates : List ℕ) (i d : ℕ) → i < length config.suites → i < length dates
     → texts_from shelves i (drop i (zip config.suites dates)) ≡ suite_texts_at config shelves i (get_or dates i d) ++ texts_from shelves (i + 1) (drop (i + 1) (zip config.suites dates))
 texts_next config shelves dates i d a b =

@@ -1,4 +1,4 @@
--- The pieces of a body that is not whole, one behind another.
+-- The pieces of a body that is not whole, one after another.
 use Rattle.std.proofs.Common.{◌≡◌, ℕ, ◌+◌, ◌-◌, ◌*◌, ◌%◌, ◌<◌, ◌≤◌, min, Bool, true, false, nat_eq, List, [], ◌∷◌, ◌++◌, drop, length, get_or, All, Option, None, Some, is_some, IsTrue, inl, inr, refl, sym, ap, ap₂, ◌∙◌, arith, true≢false}
 use Rattle.std.specs.Prelude.{◌↔◌}
 use Rattle.std.proofs.lemmas.Bool.{cases_lt, eq-eqb, eqb-true}
@@ -12,7 +12,8 @@ use Rattle.tables_meaning.proofs.ComingLemmas.{count_more, pieces_and_one}
 use Rattle.tables_audit.specs.Bodies.{AreInPieces, IsBehind, IsInPieces, bytes_in}
 use Rattle.tables_audit.proofs.BodiesLemmas.{bytes_more, is_before, next_is, piece_row, same_piece}
 
--- These are so many pieces, as those of a body of their bytes; `full` says whether the last one is, or there is none.
+-- These are `count` pieces, as those of a body of their bytes. `full` says whether the last one is full, or there is
+-- none.
 pub record AreSoFar (id count : ℕ) (full : Bool) (ps : List Piece) : Type 0 where
   pub long : count ≡ piece_count (bytes_in ps)
   pub aligned : full ≡ true → length (bytes_in ps) % 65536 ≡ 0
@@ -32,7 +33,7 @@ short_after size n aligned some small e = elim (cases_lt n 65536) [
   | inr from ↦ let is : n ≡ 65536 = omega (arith, small, from) in absurd (true≢false (sym (eq-eqb n 65536 is) ∙ e))
 ]
 
--- and one more behind full ones
+-- one more piece after full ones
 pub and_behind : (id count : ℕ) (ps : List Piece) (p : Piece) → p.body ≡ id → IsBehind count p → AreSoFar id count true ps
     → AreSoFar id (count + 1) (nat_eq (length p.bytes) 65536) (ps ++ p ∷ [])
 and_behind id count ps p of next h =
@@ -53,7 +54,7 @@ and_behind id count ps p of next h =
 size_at : (bytes : List ℕ) (n : ℕ) → length (piece_at bytes n) ≡ min 65536 (length bytes - 65536 * n)
 size_at bytes n = length-take 65536 (drop (65536 * n) bytes) ∙ ap (min 65536) (length-drop (65536 * n) bytes)
 
--- In a body of these bytes, a piece behind the first so many.
+-- In a body of these bytes, a piece after the first `count` pieces.
 module _ (id count : ℕ) (full : Bool) (bytes : List ℕ) (ps rest : List Piece) (p : Piece) (are : ps ++ p ∷ rest ≡ pieces_for id bytes) (h : AreSoFar id count full ps) where
   abbrev front : List ℕ
   front = bytes_in ps
@@ -88,7 +89,7 @@ module _ (id count : ℕ) (full : Bool) (bytes : List ℕ) (ps rest : List Piece
       let other = size_at bytes (n - 1) in
       omega (arith, some, same, one, other, below)
 
-  -- is behind full ones
+  -- the pieces before it are full
   pub behind_full : full ≡ true
   behind_full = by full refl
     where
@@ -96,7 +97,7 @@ module _ (id count : ℕ) (full : Bool) (bytes : List ℕ) (ps rest : List Piece
       by true e = refl
       by false e = absurd (none_short (h.short e))
 
-  -- and the next of them
+  -- it is the next of them
   pub is_next_behind : IsBehind count p
   unfolding pieces_for
   is_next_behind =
@@ -108,7 +109,7 @@ module _ (id count : ℕ) (full : Bool) (bytes : List ℕ) (ps rest : List Piece
         small = omega (arith, size);
       }
 
--- what has no value is none
+-- an option that is not Some is None
 pub none_if_not : {X : Type 0} (o : Option X) → is_some o ≡ false → o ≡ None
 none_if_not None e = refl
 none_if_not (Some x) e = absurd (true≢false e)

@@ -1,4 +1,4 @@
--- When the rows of uploads fit, told from what is tested of them.
+-- When the rows of uploads fit, as what is tested of them says.
 use Rattle.std.proofs.Common.{◌≡◌, ◌&&◌, not, ℕ, Bool, true, false, nat_eq, Option, Some, None, IfSome, IsTrue, List, map, All, Contains, sym, ap₂, subst, ◌∙◌, MatchBool}
 use Rattle.std.specs.List.{filter_map, list_any, range_with_len}
 use Rattle.std.proofs.lemmas.List.Elements.{All-weaker}

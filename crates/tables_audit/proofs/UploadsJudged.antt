@@ -1,4 +1,4 @@
--- The judged uploads: what their rows tell, place by place.
+-- The judged uploads: what their rows say, place by place.
 use Rattle.std.proofs.Common.{◌≡◌, ℕ, zero, suc, ◌+◌, ◌<◌, ◌≤◌, Bool, true, false, cond, nat_eq, nat_lt, Option, Some, None, option_map, slice_get, List, [], ◌∷◌, map, find, fold, length, get_or, All, Contains, refl, sym, ap, ap₂, subst, ◌∙◌, arith, true≢false}
 use Rattle.std.specs.List.{AllByRecursion, range_with_len}
 use Rattle.std.specs.Option.{option_and_then, option_map_or}
@@ -116,7 +116,7 @@ last_most uploads = bound_more uploads 0 (last_of uploads) (omega arith)
 
 -- ---- all places
 
--- a place that is above the last one is nobody's
+-- no upload has a place that is above the last one
 none_above : (bound place : ℕ) → bound < place → (xs : Numbered UploadRow) → AllByRecursion (IsBound bound) xs → find (is_placed place) (rows_of xs) ≡ None
 none_above bound place past [] all = refl
 none_above bound place past (x ∷ xs) all = step (is_placed place x.1) refl (none_above bound place past xs all.1)
@@ -166,7 +166,7 @@ module _ (uploads : Numbered UploadRow) (judged : List Judgement)
       let next : n + 1 ≡ 1 + n = omega arith in
       subst (λ m. judged_at uploads m ≡ slice_get judged n) next (judged_back uploads (n + 1) (slice_get judged n) (places n))
 
-  -- a place that someone has is one of theirs
+  -- a place that an upload has is one of those of the judged
   has_place : (n : ℕ) (u : UploadRow) → find (is_placed (n + 1)) (rows_of uploads) ≡ Some u → n < length judged
   has_place n u e = go (slice_get judged n) refl
     where

@@ -27,7 +27,7 @@ module _ {X : Type 0} (xs : Numbered X) (i : ℕ) (x : ℕ × X) (within : i < l
   pub all_fails : (P : X → Type 0) → (P x.1 → ⊥) → All P (rows_of xs) ↔ All P (rows_of (drop i xs)) → All P (rows_of xs) → ⊥
   all_fails P fails h all = fails (All-head P x.1 (rows_of (drop (i + 1) xs)) (subst (All P) rows_left (h.0 all)))
 
--- one that passes a test is left by it
+-- a filter leaves an element that passes its test
 pub passes_stays : {X : Type 0} (q : X → Bool) (xs : List X) (i : ℕ) (x : X) → i < length xs → x ≡ get_or xs i x → q x ≡ true → filter q xs ≡ [] → ⊥
 passes_stays q xs i x within is passes none =
     let parts : filter q xs ≡ filter q (take i xs) ++ x ∷ filter q (drop (i + 1) xs) =
@@ -58,7 +58,7 @@ same_end {Y} {Z} E G left ys next nil cons none within h = go (nat_eq next (leng
         let some : 0 < length (drop next ys) = omega (arith, length-drop next ys) in
         short (drop next ys) some (sym none ∙ h.0 q)
 
--- a value that is nothing stands among those of a range
+-- None is among the values of a range if the value at a place of it is None
 pub none_in_range : {X : Type 0} (f : ℕ → Option X) (last at : ℕ) → at < last → f (at + 1) ≡ None → Contains (map f (range_with_len 1 last)) None
 none_in_range f last at within e = (
   at,
@@ -66,7 +66,7 @@ none_in_range f last at within e = (
   get_or-map-range_with_len f 1 last at (at + 1) None within (omega arith) ∙ e,
 )
 
--- none of the values that are there is nothing
+-- None is not among values that are all Some
 pub none_among : {X : Type 0} (xs : List X) → Contains (map (λ (x : X). Some x) xs) None → ⊥
 none_among {X} xs has = All-contains (λ (o : Option X). o ≡ None → ⊥) (map (λ (x : X). Some x) xs) None (All-from_recursion (λ (o : Option X). o ≡ None → ⊥) (map (λ (x : X). Some x) xs) (there xs)) has refl
   where
@@ -93,7 +93,7 @@ slice_get-range from zero i h = absurd (omega arith)
 slice_get-range from (suc n) zero h = ap Some (omega arith)
 slice_get-range from (suc n) (suc i) h = slice_get-range (from + 1) n i (omega arith) ∙ ap Some (omega arith)
 
--- a list is told by its elements
+-- two lists with the same elements at all places are equal
 pub from_slices : {X : Type 0} (f : ℕ → Option X) (from : ℕ) (xs : List X) → ((n : ℕ) → f (from + n) ≡ slice_get xs n)
     → map f (range_with_len from (length xs)) ≡ map (λ (x : X). Some x) xs
 from_slices f from [] h = refl

@@ -1,4 +1,4 @@
--- Requests in the order of judging: lists of them that are one in some order.
+-- Requests in the order of judging: lists of them that have the same elements, in some order.
 use Rattle.std.proofs.Common.{◌≡◌, Bool, true, false, not, List, [], ◌∷◌, map, filter, length, MatchBool, IsPermutation, refl, sym, ap, ◌∙◌, arith}
 use Rattle.std.specs.Cmp.{IsTotalOrder}
 use Rattle.std.specs.Ordering.{is_eq}
@@ -27,7 +27,7 @@ request_order_total = on_total (λ (r : Request). r.0) judging_order_total
 pub waiting_order_total : IsTotalOrder waiting_order
 waiting_order_total = on_total (λ (w : Waiting). (w.0.0.name, w.0.1)) judging_order_total
 
--- lists of which the first has no ties are one in some order exactly if their sortings are one
+-- lists of which the first has no ties have the same elements exactly if their sortings are equal
 pub sorted_tells : (b : Bool) (xs ys : List Request) → IsAscending (λ r s. is_eq (request_order r s) ≡ false) xs
     → MatchBool b (sorted_by request_order xs ≡ sorted_by request_order ys) (sorted_by request_order xs ≡ sorted_by request_order ys → ⊥)
     → MatchBool b (IsPermutation xs ys) (IsPermutation xs ys → ⊥)
@@ -46,7 +46,7 @@ pub nothing : {X : Type 0} (xs : List X) → length xs ≡ 0 → xs ≡ []
 nothing [] e = refl
 nothing (x ∷ xs) e = absurd (omega arith)
 
--- where none waits, no row is without a place
+-- if no upload waits, no row is without a place
 pub none_asked : (b : Bool) (uploads : Numbered UploadRow) (wants : Numbered Want) (arrived : List Arrived) (awaited : List Awaited) → awaited ≡ []
     → MatchBool b (filter (λ x. not (has_place x.1)) uploads ≡ []) (filter (λ x. not (has_place x.1)) uploads ≡ [] → ⊥)
     → MatchBool b (AreAsked uploads wants arrived awaited) (AreAsked uploads wants arrived awaited → ⊥)

@@ -10,7 +10,7 @@ use Rattle.tables_audit.specs.Uploads.{Printed, Waiting, print_among, printed}
 use Rattle.tables_audit.specs.declared.uploads.arrived.Arrived.{Arrived}
 use Rattle.tables_audit.proofs.KeyedLemmas.{find_same}
 
--- a row of which nothing is told
+-- a row of which the function makes nothing
 pub none_at_row : {X Y : Type 0} (f : X → Option Y) (xs : Numbered X) (i : ℕ) (x : ℕ × X) → i < length xs → x ≡ get_or xs i x → f x.1 ≡ None → Contains (map f (rows_of xs)) None
 none_at_row f [] i x within is e = absurd (omega arith)
 none_at_row {X} f (y ∷ xs) zero x within is e = (0, omega arith, sym (ap (λ (z : ℕ × X). f z.1) is) ∙ e)
@@ -26,7 +26,7 @@ found_more h xs i x within is =
     ∙ ap (filter_map h) (map-append printed (take i xs) (x ∷ []))
     ∙ filter_map-append h (map printed (take i xs)) (printed x ∷ [])
 
--- the rows of a number tell the print of its body
+-- the print of a body depends on the rows of its number alone
 pub print_same : (id : ℕ) (part all : Numbered BodyRow) → filter (λ (x : ℕ × BodyRow). nat_eq x.0 id) part ≡ filter (λ (x : ℕ × BodyRow). nat_eq x.0 id) all → print_among part id ≡ print_among all id
 unfolding print_among
 print_same id part all e = ap (option_and_then (λ (x : ℕ × BodyRow). x.1.print)) (find_same (λ (x : ℕ × BodyRow). nat_eq x.0 id) part all e)

@@ -1,4 +1,4 @@
--- The uploads that wait for a verdict: as the rows tell them, and as what arrived does.
+-- The uploads that wait for a verdict, by the rows and by what arrived.
 use Rattle.std.proofs.Common.{◌≡◌, ℕ, Bool, true, false, not, ◌||◌, cond, if◌then◌else◌, nat_eq, Option, Some, None, option_map, IsTrue, List, [], ◌∷◌, map, filter, find, Contains, refl, sym, ap, ap₂, subst₂, ◌∙◌, true≢false, IsPermutation}
 use Rattle.std.specs.List.{AllByRecursion, list_any, filter_map, cons_option}
 use Rattle.std.specs.Option.{option_and_then}

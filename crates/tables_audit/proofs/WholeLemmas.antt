@@ -83,7 +83,7 @@ whole t config judged shown dates keys meta read bodies arrivals rest = record {
   in_range = rest.in_range;
 }
 
--- ---- and back
+-- ---- from the whole to the parts
 
 module _ (t : Tables) (config : ConfigValue) (judged : List Judgement) (shown : ShelvesValue) (dates : List ℕ) (h : IsBook t config judged shown dates) where
   pub bodies_fit : BodiesFit t
@@ -106,7 +106,7 @@ module _ (t : Tables) (config : ConfigValue) (judged : List Judgement) (shown : 
 pub same_as : (t : Tables) (config : ConfigValue) (shelves shown : ShelvesValue) (dates : List ℕ) → AreItems t config.suites shelves × AreSound shelves × AreReadable t → ShownFits t config shown dates → shown ≡ shelves
 same_as t config shelves shown dates h fits = same_shown t config.suites shown shelves fits.items h.0 fits.sound.at_home h.1.at_home
 
--- where what the rows show is not told by its records, or lacks its files or its texts, nothing fits
+-- if what the rows show is not as its records say, or lacks its files or its texts, nothing fits
 pub not_told : (t : Tables) (config : ConfigValue) (shelves shown : ShelvesValue) (dates : List ℕ) → AreItems t config.suites shelves × AreSound shelves × AreReadable t → ShownFits t config shown dates
     → (AreTold config.suites shelves → ⊥) → ⊥
 not_told t config shelves shown dates h fits none = none (subst (AreTold config.suites) (same_as t config shelves shown dates h fits) fits.told)
@@ -120,13 +120,13 @@ pub no_texts : (t : Tables) (config : ConfigValue) (shelves shown : ShelvesValue
 no_texts t config shelves shown dates h fits none =
     none (subst (λ s. IsPermutation (map (λ x. (x.path, x.body)) (rows_of t.texts)) (all_texts config s dates)) (same_as t config shelves shown dates h fits) fits.texts)
 
--- where the judged uploads may not have been delivered, nothing fits
+-- if the judged uploads may not have been delivered, nothing fits
 pub not_signed : (t : Tables) (config : ConfigValue) (found judged : List Judgement) (shown : ShelvesValue) (dates : List ℕ) → AreConstrained t → UploadsFit t found
     → RestFits t config judged shown dates → (AreSigned found → ⊥) → ⊥
 not_signed t config found judged shown dates keys fit rest none =
     none (subst AreSigned (same_judged t judged found (fit_uploads t judged keys rest.uploads) (fit_uploads t found keys fit)) rest.signed)
 
--- where nothing is shown with these dates, no dates will do
+-- if nothing is shown with these dates, no dates will do
 pub no_shown : (t : Tables) (config : ConfigValue) (judged : List Judgement) (shown : ShelvesValue) (dates others : List ℕ) → config_in config.text ≡ Ok config
     → RestFits t config judged shown others → IsPermutation (rows_of t.dates) (map date_row (zip config.suites dates)) → length dates ≡ length config.suites → ((s : ShelvesValue) → ShownFits t config s dates → ⊥) → ⊥
 no_shown t config judged shown dates others read rest rows long none =
@@ -134,7 +134,7 @@ no_shown t config judged shown dates others read rest rows long none =
     same_dates config.suites others dates (config_codenames config read) rest.dated long (IsPermutation-trans _ _ _ (IsPermutation-sym _ _ rest.date_rows) rows) in
     none shown (subst (ShownFits t config shown) same rest.shows)
 
--- where this configuration keeps no archive, no other does
+-- if this configuration keeps no archive, no other does
 pub no_other : (t : Tables) (config : ConfigValue) → rows_of t.meta ≡ record { version = VERSION; configuration = config.text } ∷ [] → config_in config.text ≡ Ok config
     → ((judged : List Judgement) (shown : ShelvesValue) (dates : List ℕ) → RestFits t config judged shown dates → ⊥) → KeepsNone t
 no_other t config meta read none other judged shown dates h =

@@ -21,7 +21,7 @@ use Rattle.tables_bodies.proofs.ArrivedLemmas.{received_once_stored}
 
 -- ---- a body that is stored
 
--- whether it is one piece
+-- whether the body is one piece
 pub none_behind : (t : Tables) (body : ℕ) (found : Option Piece) → found ≡ find (is_piece body 2) (rows_of t.pieces) → is_some found ≡ false → bytes_at t body 2 ≡ None
 none_behind t body None is none = sym (ap (option_map (λ (p : Piece). p.bytes)) is)
 none_behind t body (Some p) is none = cc
@@ -34,7 +34,7 @@ one_stored print bytes t stored one same found is =
     let both : stored ≡ found = let it : Some stored ≡ Some found = one ∙ is in cc in
     subst (λ n. IsOnePiece t n bytes) both same
 
--- ---- a new one
+-- ---- a body that is new
 
 -- the pieces of a body that has a byte, and no more than a piece may have
 one_piece : (id : ℕ) (bytes : List ℕ) → 0 < length bytes → length bytes ≤ 65536 → pieces_for id bytes ≡ record { body = id; number = 1; bytes = bytes } ∷ []

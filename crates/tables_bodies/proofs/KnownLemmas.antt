@@ -1,4 +1,4 @@
--- What becomes of a body that came where one of its print is there.
+-- What becomes of a body that came, if one of its print is there.
 use Rattle.std.proofs.Common.{◌≡◌, ℕ, true, Option, Some, None, IsTrue, refl}
 use Rattle.sqlite.specs.State.{State}
 use Rattle.sums.specs.declared.print.Print.{Print}

@@ -1,4 +1,4 @@
--- Where the body of each file that a change takes away has arrived, each body is used still, and a sweep takes none away.
+-- If the body of each file that a change takes away has arrived, each body is still used, and a sweep takes none away.
 use Rattle.std.proofs.Common.{◌≡◌, ◌≢◌, ℕ, ◌+◌, ◌<◌, ◌&&◌, Bool, true, false, not, if◌then◌else◌, nat_eq, bytes_eq, List, [], ◌∷◌, find, fold, length, drop, get_or, AllPairs, Contains, Option, Some, None, inl, inr, IsTrue, Result, Ok, Err, IfOk, OnErr, refl, sym, ap, ap₂, subst, ◌∙◌, arith}
 use Rattle.std.specs.Prelude.{⊤}
 use Rattle.std.proofs.Math.Logic.{∥∥₁_elim}
@@ -78,7 +78,7 @@ none_pass p (x ∷ xs) none = let parts = or_parts (p x) (list_any p xs) none in
 
 -- ---- what a change leaves of arrivals and files
 
--- What holds of arrivals and files and stays so where a file comes, or where a file goes whose path is one of these.
+-- What holds of arrivals and files, and stays so if a file comes, or if a file goes whose path is one of these.
 module _ (Q : Numbered ArrivalRow → Numbered File → Type 0) (May : List ℕ → Type 0)
     (comes : (arrivals : Numbered ArrivalRow) (files : Numbered File) (f : File) → Q arrivals files → Q arrivals (added files f))
     (goes : (arrivals : Numbered ArrivalRow) (files : Numbered File) (path : List ℕ) → May path → Q arrivals files → Q arrivals (without (λ x. is_file_at path x.1) files)) where
@@ -187,7 +187,7 @@ module _ (path : List ℕ) (id : ℕ) where
 abbrev takes_path : List ℕ → Step → Bool
 takes_path path step = list_any (λ f. bytes_eq f.path path) step.plan.files_removed
 
--- ---- each body is used still
+-- ---- each body is still used
 
 module _ (config : ConfigValue) (judged : ℕ) (change : Change) (t : Tables) (apart : AllPairs (λ f g. f.path ≢ g.path) (rows_of t.files))
     (arrived : have_all_arrived t change.steps ≡ true) where
@@ -281,7 +281,7 @@ all_finished : (t : Tables) → ∥ HasComing t [] ∥₁ → finished t ≡ t
 unfolding with_coming
 all_finished t coming = ∥∥₁_elim coming (tables_set _ _) (λ h. sym h.rows)
 
--- What is made with a sweep where it is needed, and else without one, is the change.
+-- What is made with a sweep if it is needed, and otherwise without one, is the change.
 pub made_as_needed : (db : Database) (config : ConfigValue) (prior : List Judgement) (shown : ShelvesValue) (dates : List ℕ) → KeepsArchive db config prior shown dates
     → (whole : Bool) → (whole ≡ true → ∥ HasComing (tables_in db) [] ∥₁) → (judged : ℕ) (change : Change)
     → with_made (needs_sweep (tables_in db) whole change.steps) config judged change (tables_in db) ≡ with_change config judged change (tables_in db)
@@ -299,7 +299,7 @@ made_as_needed db config prior shown dates keeps whole nothing judged change =
         (recursion_from_All (λ x. is_used t x.0 ≡ true) t.bodies kept.bodies.used) in
         swept_used after (subst (λ (bodies : Numbered BodyRow). AllByRecursion (λ x. is_used after x.0 ≡ true) bodies) (sym (bodies_left (with_written config judged change) (passes_written config judged change) t)) used)
 
--- ---- a look that the database serves for
+-- ---- a look at a database that serves
 
 module _ (a b c : State) (same : HasCleanDisk b → IsUnchanged a b) (settled : IsTrue a.is_open → a.now ≡ a.committed) where
   pub looked_undone : {E : Type 0} (P : Tables → Bool → Type 0) → HasCleanDisk b → (IsTrue a.is_open → ∥ IsArchive a.committed ∥₁) → (r : Result Bool E)

@@ -20,7 +20,7 @@ use Rattle.tables_meaning.proofs.FinishedLemmas.{itself}
 
 -- ---- bodies that nothing uses
 
--- of all bodies, those whose numbers are not among the used ones
+-- the unused bodies are those whose numbers are not among the used ones
 pub unused_are : (t : Tables) (used : List ℕ) → IsPermutation (used_in t) used
     → filter (λ id. not (list_any (λ n. nat_eq n id) used)) (map (λ x. x.0) t.bodies) ≡ unused_in t
 unfolding is_used
@@ -28,7 +28,7 @@ unused_are t used same =
     filter-map (λ id. not (list_any (λ n. nat_eq n id) used)) (λ (x : ℕ × BodyRow). x.0) t.bodies
     ∙ (λ i. map (λ (x : ℕ × BodyRow). x.0) (filter (λ (x : ℕ × BodyRow). not (sym (list_any-IsPermutation (λ n. nat_eq n x.0) (used_in t) used same) i)) t.bodies))
 
--- a test of a number beside one that it is another
+-- a test of a number, together with the test that it equals another
 at_number : (r : ℕ → Bool) (id n : ℕ) → (r n && nat_eq id n) ≡ (r id && nat_eq id n)
 at_number r id n = go (nat_eq id n) refl
   where
@@ -82,7 +82,7 @@ module _ (t : Tables) where
       taken_out (λ n (x : ℕ × Piece). is_of n x.1) (unused_in t) t.pieces
       ∙ (λ i. without (λ (p : ℕ × Piece). owned p.1 i) t.pieces)
 
-  -- one after another they go as at once
+  -- bodies that go one after another leave what they leave if they go at once
   pub swept_by_number : without_all (unused_in t) t ≡ swept t
   unfolding swept
   swept_by_number = removed_each (unused_in t) t ∙ (λ i. record t { bodies = bodies_left i; pieces = pieces_left i })

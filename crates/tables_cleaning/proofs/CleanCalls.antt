@@ -39,7 +39,7 @@ module _ (before after : Database) (config : ConfigValue) (moment : ℕ) (held :
   both : IsBook left config judged shown dates × (book_in config judged shown dates left ≡ at_moment moment (book_in config judged shown dates (finished rows_before)))
   both = cleaned_archive (finished rows_before) config judged shown dates moment (finished_numbered rows_before rises) archive.kept
 
-  -- all rows are finished then
+  -- all rows are finished afterwards
   all_whole : finished (tables_in after) ≡ tables_in after
   all_whole = ap finished rows ∙ kept_finished left both.0.bodies ∙ sym rows
 

@@ -1,4 +1,4 @@
--- The archive after a cleaning: what does not count at the moment is away, and the book is the one at the moment.
+-- The archive after a cleaning: what does not count at the moment is removed, and the book is the one at the moment.
 use Rattle.std.proofs.Common.{◌≡◌, ℕ, List, Option, refl, ◌∙◌}
 use Rattle.rules.specs.Values.{ConfigValue}
 use Rattle.suites.specs.Shelves.{ShelvesValue}
@@ -21,7 +21,7 @@ module _ (t : Tables) (config : ConfigValue) (judged : List Judgement) (shown : 
   abbrev left : Tables
   left = with_current seconds moment t
 
-  -- The rows without what does not count are those of an archive, but that some bodies may be unused.
+  -- The rows without what does not count are those of an archive, except that some bodies may be unused.
   pub current_unswept : IsUnswept left config judged shown dates
   unfolding with_current
   current_unswept = record {

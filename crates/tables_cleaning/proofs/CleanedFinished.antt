@@ -1,4 +1,5 @@
--- A cleaning goes past a body that is not whole, which goes with the unused ones: it makes the same of all rows as of the finished ones.
+-- A cleaning passes over a body that is not whole, which goes with the unused ones. It makes the same of all rows as of the finished
+-- ones.
 use Rattle.std.proofs.Common.{◌≡◌, ℕ, Bool, true, false, not, if◌then◌else◌, List, [], ◌∷◌, filter, find, fold, length, All, Option, Some, None, IsTrue, refl, sym, ap, subst, ◌∙◌}
 use Rattle.std.specs.List.{AllByRecursion}
 use Rattle.std.specs.Option.{option_map_or}
@@ -30,7 +31,7 @@ use Rattle.tables_meaning.proofs.SweptFinished.{swept_finished, use_whole}
 use Rattle.tables_cleaning.proofs.CleanedArchive.{current_unswept}
 use Rattle.tables_cleaning.proofs.CleanedRows.{gone_current}
 
--- ---- arrivals go past bodies that are not whole
+-- ---- arrivals pass over bodies that are not whole
 
 request_beside : (name : List ℕ) (print : Print) (u : Tables) (bodies : Numbered BodyRow) (pieces : Numbered Piece)
     → without_request name print (beside u bodies pieces) ≡ beside (without_request name print u) bodies pieces
@@ -90,7 +91,7 @@ module _ (t : Tables) (config : ConfigValue) (judged : List Judgement) (shown : 
   abbrev gone : Numbered ArrivalRow
   gone = ended_rows seconds moment t
 
-  -- the rows once they have gone, and the same of the finished rows
+  -- the rows once the arrivals have gone, and the finished rows once they have gone
   abbrev after : Tables
   after = all_gone t gone
 

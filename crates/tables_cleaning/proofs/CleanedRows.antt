@@ -69,7 +69,7 @@ without_each-is (x ∷ gone) left =
     ∙ filter_same (λ r. not (nat_eq r.0 x.0) && not (list_any (λ y. nat_eq r.0 y.0) gone)) (λ r. not (nat_eq r.0 x.0 || list_any (λ y. nat_eq r.0 y.0) gone))
     (λ r. either (nat_eq r.0 x.0) (list_any (λ y. nat_eq r.0 y.0) gone)) left
 
--- those that pass a test, gone by their numbers
+-- the rows that pass a test, gone by their numbers
 without_passing : (test : ℕ × ArrivalRow → Bool) (rows : Numbered ArrivalRow) → Rises rows → without_each rows (filter test rows) ≡ without test rows
 without_passing test rows up =
     without_each-is (filter test rows) rows
@@ -119,7 +119,7 @@ module _ (t : Tables) (stored : AreStored t) (arrived : AreArrivals t) (seconds 
       (λ x. swapped (ended x.1) (had t x name print) ∙ ap (λ b. b && ended x.1) (is_sign-turned (x.1.name, print_of (bytes_of t x.1.body)) (name, print))) t.arrivals
       ∙ sym (list_any-map (λ a. bears t name print a && ended a) (λ x. x.1) t.arrivals)
 
-  -- a name and a print that came have gone exactly where they are not current
+  -- a name and a print that came have gone exactly if they are not current
   gone_is : (name : List ℕ) (print : Print) → gone name print ≡ (has_come name print && not (cur name print))
   gone_is name print = go (has_come name print) refl
     where
@@ -153,7 +153,7 @@ module _ (t : Tables) (stored : AreStored t) (arrived : AreArrivals t) (seconds 
         (sym (list_any-filter (λ d. is_sign s (sign_of d)) unjudged (candidates (arrivals_in t))) ∙ asked) in
         sym (list_any-map (λ a. is_sign s (sign_at a)) (arrival_in t) (rows_of t.arrivals)) ∙ sign_arrived s (arrivals_in t) made
 
-    -- its verdict is out, or it has gone exactly where it is not current
+    -- an upload is judged, or it has gone exactly if it is not current
     same_end : (x : ℕ × UploadRow) → Contains t.uploads x → ends gone x ≡ has_ended seconds moment t x.1
     same_end x c = go (is_waiting x) refl
       where
@@ -164,7 +164,7 @@ module _ (t : Tables) (stored : AreStored t) (arrived : AreArrivals t) (seconds 
     all_same_end : AllByRecursion (λ x. ends gone x ≡ has_ended seconds moment t x.1) t.uploads
     all_same_end = recursion_from_All (λ x. ends gone x ≡ has_ended seconds moment t x.1) t.uploads (all_if (λ x. ends gone x ≡ has_ended seconds moment t x.1) t.uploads same_end)
 
-    -- a want is here exactly where its name and print came
+    -- a want is here exactly if its name and print came
     want_came : (w : Want) → Contains (rows_of t.wants) w → w.here ≡ has_come w.name w.print
     want_came w c =
         let owned = All-contains (λ v. list_any (waits_as v.upload) t.uploads ≡ true) (rows_of t.wants) w
@@ -237,7 +237,7 @@ module _ (t : Tables) (stored : AreStored t) (arrived : AreArrivals t) (seconds 
           gone_rows t up rows.apart (ended_rows seconds moment t) printed
           ∙ (λ i. record t { arrivals = without_passing (λ x. ended x.1) t.arrivals arrivals_up i; uploads = same_uploads i; wants = same_wants i })
 
--- THE STATEMENTS of a cleaning leave what it leaves at once.
+-- THE STATEMENTS of a cleaning leave what a cleaning leaves at once.
 pub with_cleaned-cleaned : (t : Tables) (config : ConfigValue) (judged : List Judgement) (shown : ShelvesValue) (dates : List ℕ) (moment : ℕ) → AreNumbered t → IsBook t config judged shown dates
     → with_cleaned (span config) moment t ≡ cleaned (span config) moment t
 unfolding with_cleaned cleaned

@@ -1,4 +1,4 @@
--- Which arrivals count at a moment, told by their rows and by their names and prints.
+-- Which arrivals count at a moment, by their rows and by their names and prints.
 use Rattle.std.proofs.Common.{◌≡◌, ◌≤◌, ℕ, Bool, true, false, not, ◌&&◌, List, map, filter, AllPairs, Contains, Option, Some, None, IsTrue, bytes_eq, nat_eq, refl, sym, ap, subst, ◌∙◌}
 use Rattle.std.specs.List.{list_any}
 use Rattle.std.specs.Option.{option_map_or}
@@ -74,7 +74,7 @@ module _ (t : Tables) (stored : AreStored t) (arrivals : AreArrivals t) (seconds
   unfolding is_there is_body_of arrivals_in
   there_by e = list_any-map (is_body_of e) (arrival_in t) (rows_of t.arrivals)
 
-  -- a listed file is there and counts exactly where it is there among those that count
+  -- a listed file is there and counts exactly if it is there among those that count
   pub current_there : (e : Entry) → cur e.name e.print ≡ is_there (current seconds moment (arrivals_in t)) e
   unfolding is_there is_body_of current arrivals_in
   current_there e =
@@ -124,7 +124,7 @@ module _ (t : Tables) (stored : AreStored t) (arrivals : AreArrivals t) (seconds
           ((bytes_eq-Decides y.name x.name).1 ((bears_is name print y q).0 ∙ sym (bears_is name print x p).0))
           (eq-eqb y.body x.body (same_number t stored y.body x.body print (with_print y cy q) (with_print x cx p)))
 
-  -- what some arrival of a name and print is, its one row is
+  -- what is true of some arrival of a name and print is true of its one row
   pub of_one_row : (test : ArrivalRow → Bool) (name : List ℕ) (print : Print) (a : ArrivalRow) → Contains (rows_of t.arrivals) a → bears t name print a ≡ true
       → list_any (λ x. bears t name print x && test x) (rows_of t.arrivals) ≡ test a
   of_one_row test name print a c h =
@@ -135,7 +135,7 @@ module _ (t : Tables) (stored : AreStored t) (arrivals : AreArrivals t) (seconds
       subst (λ y. test y ≡ true) (one_row name print x.0 a x.1 c parts.0 h) parts.1)
       (λ passes. any_true (λ x. bears t name print x && test x) (rows_of t.arrivals) a c (and_from (bears t name print a) (test a) h passes))
 
-  -- its name and print count exactly where the row does
+  -- its name and print count exactly if the row does
   pub own_counts : (name : List ℕ) (print : Print) (a : ArrivalRow) → Contains (rows_of t.arrivals) a → bears t name print a ≡ true → cur name print ≡ counting a
   own_counts name print a c h = current_by name print ∙ of_one_row counting name print a c h
 

@@ -1,4 +1,5 @@
--- The uploads that are left once the arrivals that do not count are away: what they ask for, and the other facts of their rows.
+-- The uploads that are left once the arrivals that do not count are removed: what they ask for, and the other facts of their
+-- rows.
 use Rattle.std.proofs.Common.{◌≡◌, ◌≢◌, ℕ, ◌+◌, Bool, true, false, not, ◌&&◌, cond, nat_eq, List, [], ◌∷◌, map, filter, find, Contains, Option, Some, None, is_some, IsTrue, refl, sym, ap, ap₂, ◌∙◌, true≢false}
 use Rattle.std.specs.List.{AllByRecursion, filter_map, list_any, cons_option}
 use Rattle.std.specs.Option.{option_map_or}
@@ -37,7 +38,7 @@ use Rattle.tables_cleaning.proofs.CurrentLemmas.{arrivals_current, bears_itself,
 
 -- ---- lists
 
--- What is made of some of the elements is some of what is made of all, where the tests agree.
+-- What is made of some of the elements is some of what is made of all, if the tests agree.
 candidates-filter : {X Y : Type 0} (f : X → Option Y) (p : X → Bool) (q : Y → Bool) (xs : List X)
     → AllByRecursion (λ x. (y : Y) → f x ≡ Some y → q y ≡ p x) xs → filter_map f (filter p xs) ≡ filter q (filter_map f xs)
 candidates-filter f p q [] h = refl
@@ -57,7 +58,7 @@ candidates-filter {X} {Y} f p q (x ∷ xs) h = by_kind (candidates-filter f p q 
 filter_turned : {X : Type 0} (p q : X → Bool) (xs : List X) → filter p (filter q xs) ≡ filter q (filter p xs)
 filter_turned p q xs = sym (filter_twice q p xs) ∙ filter_same (λ x. q x && p x) (λ x. p x && q x) (λ x. swapped (q x) (p x)) xs ∙ filter_twice p q xs
 
--- one that waits and has not ended is current
+-- an upload that waits and has not ended is current
 still : (j c : Bool) → (not (not j && not c) && not j) ≡ (not j && c)
 still true c = refl
 still false true = refl
@@ -65,7 +66,7 @@ still false false = refl
 
 -- ---- what is asked for
 
--- the entry, there still if its name and print pass
+-- the entry, which is still there if its name and print pass
 abbrev pub fresh_entry : (Sign → Bool) → List ℕ × Print × Bool → List ℕ × Print × Bool
 fresh_entry keep e = (e.0, e.1, e.2 && keep (e.0, e.1))
 
@@ -103,7 +104,7 @@ module _ (t : Tables) (seconds : Option ℕ) (moment : ℕ) where
   abbrev stays : Want → Bool
   stays w = not (has_gone w.upload)
 
-  -- a want is here where it counts
+  -- a want is here if it counts
   abbrev turn : Want → Want
   turn w = cond (not (cur w.name w.print)) (record w { here = false }) w
 
@@ -150,11 +151,11 @@ module _ (t : Tables) (seconds : Option ℕ) (moment : ℕ) where
       ∙ map_same (λ w. entry_in (turn w)) (λ w. fresh_entry keep (entry_in w)) entry_turned (filter (is_wanted_by id) ws)
       ∙ sym (map-map (fresh_entry keep) entry_in (filter (is_wanted_by id) ws))
 
-  -- one that is current has not ended
+  -- an upload that is current has not ended
   not_ended : (u : UploadRow) → cur u.name u.print ≡ true → ended u ≡ false
   not_ended u e = ap (λ c. not (has_place u) && not c) e ∙ and_right (not (has_place u)) false refl
 
-  -- one that has ended has no place
+  -- an upload that has ended has no place
   unplaced : (place : ℕ) (u : UploadRow) → ended u ≡ true → is_placed place u ≡ false
   unplaced place u e = go u.place e
     where
@@ -181,7 +182,7 @@ module _ (t : Tables) (seconds : Option ℕ) (moment : ℕ) where
     rows : AreRows t.uploads (rows_of t.wants) judged (requests all judged)
     rows = rows_from_uploads t judged are
 
-    -- ---- those that wait
+    -- ---- the uploads that wait
 
     waiting_left : filter is_waiting left ≡ filter (λ x. cur x.1.name x.1.print) (filter is_waiting t.uploads)
     waiting_left =
@@ -213,7 +214,7 @@ module _ (t : Tables) (seconds : Option ℕ) (moment : ℕ) where
             map_same (wanted some) (λ e. fresh_entry keep (wanted all e)) (λ e. ap (λ b. (e.name, e.print, b)) (there_then t stored arrived seconds moment e)) es
             ∙ sym (map-map (fresh_entry keep) (wanted all) es)
 
-    -- a candidate is current exactly where its arrival counts
+    -- a candidate is current exactly if its arrival counts
     abbrev IsTold : book.Arrival → Type 0
     IsTold a = (c : Candidate) → candidate_of a ≡ Some c → keep (sign_of c) ≡ counts seconds moment a
 

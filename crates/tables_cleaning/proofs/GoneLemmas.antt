@@ -26,7 +26,7 @@ use Rattle.tables_meaning.proofs.WantLemmas.{is_sign-Decides}
 
 -- ---- lists
 
--- without those that pass the one test, and then without those that pass the other
+-- a list without the elements that pass one test, and then without those that pass the other
 without_twice : {X : Type 0} (p q r : X → Bool) → ((x : X) → (not (p x) && not (q x)) ≡ not (r x)) → (xs : List X)
     → filter (λ x. not (q x)) (filter (λ x. not (p x)) xs) ≡ filter (λ x. not (r x)) xs
 without_twice p q r same xs = sym (filter_twice (λ x. not (p x)) (λ x. not (q x)) xs) ∙ filter_same (λ x. not (p x) && not (q x)) (λ x. not (r x)) same xs
@@ -41,7 +41,7 @@ any_or p q (x ∷ xs) = ap (λ b. (p x || q x) || b) (any_or p q xs) ∙ mixed (
     mixed false true false d = refl
     mixed false false c d = refl
 
--- where none passes none goes
+-- if no element passes, none goes
 none_go : {X : Type 0} (p : X → Bool) (xs : List X) → AllByRecursion (λ x. p x ≡ false) xs → filter (λ x. not (p x)) xs ≡ xs
 none_go p xs h = filter_all (λ x. not (p x)) xs (all_weaker (λ x. p x ≡ false) (λ x. not (p x) ≡ true) (λ x e. ap not e) xs h)
 
@@ -75,7 +75,7 @@ module _ (name : List ℕ) (print : Print) where
   abbrev is_it : ℕ × UploadRow → Bool
   is_it r = is_upload name print r.1
 
-  -- it has no verdict
+  -- the upload has no verdict
   abbrev goes : ℕ × UploadRow → Bool
   goes r = not (has_place r.1) && is_it r
 
@@ -107,7 +107,7 @@ module _ (name : List ℕ) (print : Print) where
     ones : AllByRecursion (λ r. is_it r ≡ true → r ≡ z) us
     ones = only_one is_it us z (once us apart) e
 
-    -- one that has a verdict stays
+    -- an upload that has a verdict stays
     judged_stays : has_place z.1 ≡ true → AllByRecursion (λ r. goes r ≡ false) us
     judged_stays placed = all_weaker (λ r. is_it r ≡ true → r ≡ z) (λ r. goes r ≡ false) (λ r h. each r h (is_it r) refl) us ones
       where
@@ -145,7 +145,7 @@ module _ (name : List ℕ) (print : Print) where
       wants_gone : (ws : Numbered Want) → without (λ w. is_wanted_by z.0 w.1) ws ≡ without (goes_with us) ws
       wants_gone ws = filter_same (λ w. not (is_wanted_by z.0 w.1)) (λ w. not (goes_with us w)) (λ w. ap not (wanted w)) ws
 
--- the upload is gone with what it wants, where it has no verdict
+-- the upload is gone with what it wants, if it has no verdict
 request_gone : (name : List ℕ) (print : Print) (u : Tables) → Rises u.uploads → AreApart name print u.uploads
     → without_request name print u ≡ record u { uploads = without (goes name print) u.uploads; wants = without (goes_with name print u.uploads) u.wants }
 unfolding without_request
@@ -173,7 +173,7 @@ request_gone name print u up apart = by (find (is_it name print) u.uploads) refl
         (none_passes (is_it name print) u.uploads e))
     by (Some z) e = judged z e (has_place z.1) refl
 
--- ---- the rows once some names and prints are away
+-- ---- the rows once some names and prints are removed
 
 abbrev pub Away : Type 0
 Away = List ℕ → Print → Bool
@@ -182,18 +182,19 @@ Away = List ℕ → Print → Bool
 abbrev pub had : Tables → ℕ × ArrivalRow → Away
 had t x name print = bytes_eq name x.1.name && same_print print (print_of (bytes_of t x.1.body))
 
--- the upload is one that is away, without a verdict
+-- the upload is one of these names and prints, without a verdict
 abbrev pub ends : Away → ℕ × UploadRow → Bool
 ends away r = not (has_place r.1) && away r.1.name r.1.print
 
 abbrev pub ends_with : Away → Numbered UploadRow → ℕ × Want → Bool
 ends_with away us w = list_any (λ r. nat_eq r.0 w.1.upload && ends away r) us
 
--- the wants of what is away
+-- the wants, with the flags off of these names and prints
 abbrev pub turned_off : Away → Numbered Want → Numbered Want
 turned_off away ws = changed (λ w. away w.1.name w.1.print) (λ w. record w { here = false }) ws
 
--- these uploads and their wants are gone, the flags of the other wants of what is away are off, and these arrivals are left
+-- these uploads and their wants are gone, the flags of the other wants of these names and prints are off, and these
+-- arrivals are left
 abbrev pub away_rows : Tables → Away → Numbered ArrivalRow → Tables
 away_rows t away left = record t { arrivals = left; uploads = without (ends away) t.uploads; wants = turned_off away (without (ends_with away t.uploads) t.wants) }
 
@@ -202,7 +203,7 @@ abbrev pub without_each : Numbered ArrivalRow → Numbered ArrivalRow → Number
 without_each left gone = fold (λ rows x. without (λ r. nat_eq r.0 x.0) rows) left gone
 
 module _ (t : Tables) (up : Rises t.uploads) (apart : IsAscending (λ x y. sign_in x.1 ≢ sign_in y.1) t.uploads) where
-  -- one more is away
+  -- one more name and print is removed
   abbrev more : Away → ℕ × ArrivalRow → Away
   more away x = λ name print. away name print || had t x name print
 

@@ -6,7 +6,7 @@ use Rattle.tables_meaning.specs.Reads.{Rests, wanting}
 use Rattle.tables_meaning.proofs.WantingLemmas.{wanting_behind}
 use Rattle.keep_tables.proofs.uploads.wanting_uploads.Given as goal
 
--- the uploads so far, and those behind them
+-- the uploads so far, and those after them
 abbrev pub invariant-loop : goal.invariant-loop
 invariant-loop g l = record {
   idle : l.fn.conn.in_transaction ≡ false → l.conn.in_transaction ≡ false;

@@ -5,7 +5,7 @@ use Rattle.texts.specs.Indices.{all_texts, texts_from}
 use Rattle.tables_audit.specs.TextRows.{texts_in}
 use Rattle.tables_audit.proofs.text_rows.are_texts.Given as goal
 
--- the rows are all texts exactly where those of the other suites are among them, as many as are left
+-- the rows are all texts exactly if those of the other suites are among them, as many as are left
 abbrev pub invariant-loop-position : goal.invariant-loop-position
 invariant-loop-position l = record {
   few : l.left ≤ length l.rows;

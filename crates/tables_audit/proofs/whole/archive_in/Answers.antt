@@ -7,7 +7,7 @@ use Rattle.tables_meaning.specs.Kept.{IsBook}
 use Rattle.tables_audit.proofs.WholeLemmas.{if_ok, if_some, no_other, whole}
 use Rattle.tables_audit.proofs.whole.archive_in.Goals as goal
 
--- src/opening.rt:94:1
+-- the rows are those of the archive that is found
 pub returns-clause-some : goal.returns-clause-some
 returns-clause-some c keys =
     let t = tables_with c.args.all.now in
@@ -20,7 +20,7 @@ returns-clause-some c keys =
     h)
     (c.held_of.ensures.some keys arrived.0)
 
--- src/opening.rt:94:1
+-- if no archive is found the rows are not those of one
 pub returns-clause-none : goal.returns-clause-none
 returns-clause-none c keys =
     let t = tables_with c.args.all.now in

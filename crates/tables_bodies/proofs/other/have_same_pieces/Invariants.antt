@@ -6,7 +6,7 @@ use Rattle.tables.specs.Rows.{Tables, Holds}
 use Rattle.tables_meaning.specs.Coming.{bytes_at}
 use Rattle.tables_bodies.proofs.other.have_same_pieces.Given as goal
 
--- the pieces so far are the same, and so is what is behind the last
+-- the pieces so far are the same, and so is what comes after the last
 abbrev pub invariant-loop-at : goal.invariant-loop-at
 invariant-loop-at g l = record {
   reference : l.tx.conn.ghost_name ≡ l.fn.tx.conn.ghost_name;

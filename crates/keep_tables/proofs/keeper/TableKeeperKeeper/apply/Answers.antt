@@ -20,7 +20,7 @@ use Rattle.keep_tables.proofs.UnderWayLemmas.{changed_under, undone_kept, undone
 use Rattle.tables_meaning.proofs.CallLemmas.{amends_turns, done_book, kept_here, shown_here, turn_left}
 use Rattle.keep_tables.proofs.keeper.TableKeeperKeeper.apply.Goals as goal
 
--- behind the room that is made the judgements are the same
+-- after the room is made the judgements are the same
 pub invariant_of-self-in-Break-branch-2 : goal.invariant_of-self-in-Break-branch-2
 invariant_of-self-in-Break-branch-2 g c = record {
   idle = c.args.self.now.idle;
