@@ -13,7 +13,7 @@ anew rows = enumerate_from first_number rows
 abbrev pub arrived_at : ℕ → ArrivalRow → ArrivalRow
 arrived_at moment a = record a { moment = moment }
 
--- The tables to which rows are copied have none.
+-- The tables to which rows are copied have no row.
 pub record IsBare (t : Tables) : Type 0 where
   pub bodies : t.bodies ≡ []
   pub pieces : t.pieces ≡ []

@@ -5,7 +5,7 @@ use Rattle.std.proofs.lemmas.Bool.{eqb-true}
 use Rattle.std.proofs.lemmas.List.{length-append, length-drop, length-take-le}
 use Rattle.std.proofs.Math.Nat.{add-mod_right}
 
--- one piece more
+-- one more piece
 pub piece_more : (body front rest : List ℕ) (n : ℕ) → body ≡ front ++ rest → body ≡ (front ++ take n rest) ++ drop n rest
 piece_more body front rest n is =
     is ∙ ap (λ l. front ++ l) (sym (take-append-drop n rest)) ∙ sym (append_assoc front (take n rest) (drop n rest))

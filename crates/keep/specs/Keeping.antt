@@ -18,7 +18,7 @@ use Rattle.keep.specs.declared.change.Judgement.{Judgement}
 use Rattle.keep.specs.declared.fault.KeepFault.{KeepFault}
 use Rattle.keep.specs.declared.fault.KeepFault.TheVariants.{OutOfMemory, Disk, Size, NoArchive, Configuration}
 
--- Of these bodies no two have the same print.
+-- No two of these bodies have the same print.
 abbrev pub NoCollision : List (List ℕ) → Type 0
 NoCollision bodies = (a b : List ℕ) → Contains bodies a → Contains bodies b → print_of a ≡ print_of b → a ≡ b
 

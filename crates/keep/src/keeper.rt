@@ -38,7 +38,7 @@ pub trait Keeper {
     /// The store of the keeper has so far returned whatever was written to it. What a call answers is said of such keepers.
     ghost is_clean: { Self → Type 0 };
 
-    /// No fault of the disk has shut the keeper. A shut one serves no more and doesn't come back.
+    /// No fault of the disk has shut the keeper. A keeper that is shut no longer serves and doesn't come back.
     ghost is_open: { Self → Type 0 };
 
     /// How many times the disk has failed or refused.
@@ -73,7 +73,7 @@ pub trait Keeper {
         ensures refused { OnErr result (coming self.new ≡ None) }
         ensures cause { IfErr result (MayAnswer may_fail) };
 
-    /// Takes the next piece of the body that was begun. After a refusal none is coming.
+    /// Takes the next piece of the body that was begun. After a refusal no body is coming.
     fn piece(&mut self, alloc: Global, bytes: &[u8]) -> Result<(), KeepFault>
         requires begun { is_clean self.now → is_open self.now → TakesPiece (coming self.now) bytes.now }
         ensures stays { Stays is_clean is_open faults book may_leave self.old self.new }

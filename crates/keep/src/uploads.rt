@@ -37,7 +37,7 @@ fn is_there(arrivals: &[Arrival], counting: Counting, entry: &Entry) -> bool
     has_current(arrivals, counting, entry.name.as_str(), entry.print)
 }
 
-/// How many of the listed files have not arrived, or count no more.
+/// How many of the listed files have not arrived, or no longer count.
 fn missing_count(arrivals: &[Arrival], counting: Counting, entries: &[Entry]) -> usize
     ensures { result ≡ length (filter (λ e. not (has_come (counted counting arrivals.now) e)) entries.now) }
 {

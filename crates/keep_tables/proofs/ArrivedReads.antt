@@ -97,7 +97,7 @@ module _ (t : Tables) (up : Rises t.bodies) (stored : AreStored (finished t)) (a
         (all_weaker (λ x. IsTrue (has_body whole x.1.body)) (λ x. (is_arrival name id x.1 ≡ is_arrival_of name print (its x)) × (bytes_of t x.1.body ≡ (its x).body)) (same_one id is) t.arrivals
         bodies_there)
 
-    -- ONE OF THEM
+    -- ONE BODY OF ALL THAT HAS ARRIVED
     pub bytes_are : found_bytes name print t ≡ option_map (λ a. a.body) (find (is_arrival_of name print) (arrivals_in whole))
     unfolding found_bytes
     bytes_are =

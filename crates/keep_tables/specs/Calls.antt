@@ -20,7 +20,7 @@ module _ {S T : Type 0} (store : Ghosts S) (connection : Held S) (result : Resul
   abbrev pub FaultLeaves : (State → Trees → Type 0) → Type 0
   FaultLeaves P = IfErr result (λ e. Survives (state store connection) (state store e.0) (P (state store connection)))
 
-  -- it is refused for this fault, and the connection is given back as it was
+  -- the call is refused with this fault, and the connection is given back as it was
   abbrev pub Refuses : KeepFault → Type 0
   Refuses fault = IsErrAnd result (λ e. (e.1 ≡ fault) × (e.0 ≡ connection))
 

@@ -55,7 +55,7 @@ module _ (before : Database) where
 abbrev pub Arrives : {T E : Type 0} → Result T E → Database → Database → Arrival → ConfigValue → List Judgement → ShelvesValue → List ℕ → Type 0
 Arrives result before after delivery config judged shown dates = OnOk result (Delivers before after config judged shown dates delivery × NothingComes after)
 
--- a success says whether such a delivery is new at its moment; `seconds` is for how long arrivals count, or nothing if
+-- a success says whether such a delivery is new at its moment; `seconds` says for how long arrivals count, or nothing if
 -- they count for good
 abbrev pub SaysNew : {E : Type 0} → Result Bool E → Option ℕ → Database → Arrival → ConfigValue → List Judgement → ShelvesValue → List ℕ → Type 0
 SaysNew result seconds before delivery config judged shown dates = seconds ≡ span config → IfOk result (λ new. new ≡ not (has_delivery before config judged shown dates delivery))
@@ -93,7 +93,7 @@ HasConfiguration config shelves dates before after = OverMoved before shelves co
 
 -- ---- a moment
 
--- P holds of whatever archive the database keeps; `seconds` is for how long arrivals count, or nothing if they count
+-- P holds of whatever archive the database keeps; `seconds` says for how long arrivals count, or nothing if they count
 -- for good
 abbrev pub OverSpan : Database → Option ℕ → (ConfigValue → List Judgement → ShelvesValue → List ℕ → Type 0) → Type 0
 OverSpan db seconds P = WithBook db (λ config judged shown dates. seconds ≡ span config → P config judged shown dates)

@@ -9,7 +9,7 @@ use Rattle.tables_meaning.specs.Archives.{book_in_database}
 use Rattle.tables_meaning.specs.Shown.{shown_in}
 use Rattle.keep_tables.specs.declared.keeper.TableKeeper.{TableKeeper}
 
--- its connection, as it shows
+-- the connection of a keeper, as it shows itself
 abbrev pub connection_of : {S : Type 0} {g : Ghosts S} → TableKeeper S g → State
 connection_of {S} {g} k = state g k.conn
 

@@ -10,7 +10,7 @@ use sqlite::{Alter, Connection, Error};
 use std::alloc::Global;
 use tables_bodies::clean;
 
-/// Takes away each arrival that does not count at the moment, and the rows of a body that is coming. `seconds` is for how
+/// Takes away each arrival that does not count at the moment, and the rows of a body that is coming. `seconds` says for how
 /// long arrivals count, or nothing if they count for good. Answers how many arrivals were taken away.
 pub(crate) fn clean_up<S: Alter>(
     alloc: Global,

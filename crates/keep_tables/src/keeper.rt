@@ -77,7 +77,7 @@ impl<S: Alter + Drop> TableKeeper<S> {
 
     /// A new archive of the configuration, in a database that has no table, no index and no view, made at the moment, in seconds
     /// since 1970-01-01 00:00:00 UTC. A fault gives the connection back, and then what was committed is as before. The fault is
-    /// `KeepFault::NoArchive` exactly if the database has an object already or a transaction has begun. A crash leaves what was
+    /// `KeepFault::NoArchive` exactly if the database has an object already or a transaction is open. A crash leaves what was
     /// there before or the whole archive.
     #[tactic(auto, unfolding(tables_meaning::specs::Kept::book_in))]
     pub fn create(

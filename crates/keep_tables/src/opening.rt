@@ -152,7 +152,7 @@ fn keeper_of<S: Alter + Drop>(
 impl<S: InOrder + Drop> TableKeeper<S> {
     /// The keeper over the tables of a database that keeps an archive, without the bodies that are not whole: an opening
     /// takes these away, with their pieces. A fault gives the connection back, and what was committed is as before. The fault
-    /// is `KeepFault::NoArchive` only if a transaction has begun or the database keeps no archive. Another fault comes only
+    /// is `KeepFault::NoArchive` only if a transaction is open or the database keeps no archive. Another fault comes only
     /// if memory is wanting, the store fails meanwhile, the connection was shut or has a limit on steps, or some body is not
     /// whole. A crash leaves what was there, or that without these bodies.
     pub fn open(

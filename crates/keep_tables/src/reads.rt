@@ -27,7 +27,7 @@ use tables::probe::probe;
 use tables::texts::select_text;
 use tables_bodies::file_body;
 
-/// The uploads that are due at the moment, in the order of judging. `seconds` is for how long arrivals count, or nothing if
+/// The uploads that are due at the moment, in the order of judging. `seconds` says for how long arrivals count, or nothing if
 /// they count for good.
 pub fn read_due<S: Alter>(
     alloc: Global,

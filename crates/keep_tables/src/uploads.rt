@@ -1,5 +1,5 @@
-//! The uploads that are not judged, found one by one and put in the order of judging: what they wait for, and which of them are due,
-//! as each of their entries has arrived.
+//! The uploads that are not judged, found one by one and put in the order of judging: what they wait for, and those that are due,
+//! whose entries have all arrived.
 
 ghost use Rattle.std.specs.Prelude.{◌≡◌, false, IfOk, length, filter, map, not, OnOk, zip, All, Ok, Some};
 ghost use Rattle.std.specs.List.{filter_map};

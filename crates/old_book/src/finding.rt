@@ -105,7 +105,7 @@ impl OldBook {
     ghost use Rattle.old_book.specs.Old.{IsOldBook};
     ghost use Rattle.old_book.specs.Settling.{settled, with_meta_row};
 
-    /// The book of an archive of an older layout, from its database. The fault is `KeepFault::NoArchive` only if a transaction has begun, or
+    /// The book of an archive of an older layout, from its database. The fault is `KeepFault::NoArchive` only if a transaction is open, or
     /// if the queries of no older layout show rows that keep an archive. The database is as before.
     pub fn read<S: Alter>(alloc: Global, from: &mut Connection<S>) -> Result<OldBook, KeepFault>
         ensures read { IfOk result (λ old. HasCleanDisk (state S.Store from.new) → (t : Tables) × IsOldBook (state S.Store from.old).now t old.held.config old.held.judged.items old.held.shelves old.held.dates.items

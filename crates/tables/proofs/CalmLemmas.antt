@@ -1,4 +1,4 @@
--- Beside other tables no foreign key acts on those of an archive.
+-- If a database has other tables too, no foreign key acts on those of an archive.
 use Rattle.std.proofs.Common.{◌≡◌, ◌<◌, ◌≤◌, ℕ, Bool, true, false, not, List, [], ◌∷◌, ◌++◌, length, find, flat_map, filter_map, Option, Some, None, refl, sym, ap, subst, ◌∙◌, arith, ◌==◌, inl, inr, eqb-true, ltb-true}
 use Rattle.std.specs.Prelude.{nat_lt, option_map, option_and_then}
 use Rattle.std.specs.List.{list_all, list_any}

@@ -38,7 +38,7 @@ fn is_small(pieces: &Pieces<'_>, id: u64) -> bool
     size_of(pieces, id) as u64 <= MOST_SIZE
 }
 
-/// Whether a body is the record of an upload, if the name is that of a .changes.
+/// Whether a body is the record of an upload. Only a body whose name is that of a .changes has to be one.
 fn is_record_if_named(
     alloc: Global,
     pieces: &Pieces<'_>,

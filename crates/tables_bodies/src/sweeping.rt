@@ -44,7 +44,7 @@ fn is_among(numbers: &[u64], id: u64) -> bool
     numbers.binary_search(&id).is_ok()
 }
 
-/// Those of the numbers that are not among others, which stand in rising order.
+/// The numbers that are not among others, which stand in rising order.
 fn without_others(alloc: Global, ids: &[u64], others: &[u64]) -> Result<Vec<u64>, AllocError>
     requires { IsNonDecreasing others.now }
     ensures { IfOk result (λ left. left.items ≡ filter (λ id. not (list_any (λ n. nat_eq n id) others.now)) ids.now) }

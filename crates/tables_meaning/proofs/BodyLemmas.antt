@@ -70,7 +70,7 @@ found p (y ∷ ys) x e =
 pub none_found : {X : Type 0} (p : X → Bool) (xs : List X) → find p xs ≡ None → (x : X) → Contains xs x → p x ≡ false
 none_found p xs none x h = false_from_ne_true (p x) (λ passes. false≢true (ap is_some (sym none) ∙ is_some_of_find p xs ∙ any_with p xs x h passes))
 
--- of elements that are apart, two that are not apart are the same
+-- two elements that are not apart are the same, if the elements of the list are apart
 pub apart_same : {X : Type 0} (R : X → X → Type 0) (xs : List X) → AllPairs R xs → (x y : X) → Contains xs x → Contains xs y → ¬ (R x y) → ¬ (R y x) → x ≡ y
 apart_same R xs apart x y hx hy one other =
     elim (cases_order hx.0 hy.0) [

@@ -83,7 +83,7 @@ module _ (t : Tables) where
   others_differ p x [] is h = tt
   others_differ p x (y ∷ ys) is h = (λ e. h.0 (is ∙ sym e), others_differ p x ys is h.1)
 
-  -- of the rows with the number of a body and those with its print, this is the one
+  -- the row with the number of a body and its print is this one
   same_number : (id : ℕ) (x : ℕ × BodyRow) (xs : Numbered BodyRow) → AllByRecursion IsWhole xs → AllByRecursion (λ y. x.1.print ≢ y.1.print) xs → x.1.print ≡ Some (print_of (bytes_of t id))
       → nat_eq x.0 id || list_any (λ y. nat_eq y.0 id) xs ≡ true → x.0 ≡ id
   same_number id x xs whole apart is there = go (nat_eq x.0 id) refl

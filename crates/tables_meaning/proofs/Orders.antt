@@ -46,7 +46,7 @@ module _ {X : Type 0} where
   one_order (x ∷ []) (y ∷ z ∷ ys) few same = absurd (omega (arith, length_permutation _ _ same))
   one_order (x ∷ w ∷ xs) ys few same = absurd (omega arith)
 
-  -- Of elements of which at most one passes, the same passes in each order.
+  -- If at most one element passes, the same passes in each order.
   pub passing_permuted : (p : X → Bool) (xs ys : List X) → length (filter p xs) ≤ 1 → IsPermutation xs ys → filter p ys ≡ filter p xs
   passing_permuted p xs ys few same = one_order (filter p xs) (filter p ys) few (IsPermutation-filter p xs ys same)
 

@@ -138,7 +138,7 @@ module _ (a b : State) where
   }
 
 module _ (a b c : State) (same : HasCleanDisk b → IsUnchanged a b) (settled : IsTrue a.is_open → a.now ≡ a.committed) where
-  -- one that serves has the rows that were committed
+  -- a database that serves has the rows that were committed
   pub now_archive : HasCleanDisk b → IsArchive a.committed → IsArchive b.now
   now_archive h is = let s = same h in subst IsArchive (sym (s.0.now_is ∙ settled s.0.was_open)) is
 

@@ -55,7 +55,7 @@ real_arrivals t arrivals = all_from IsRealArrival (rows_of t.arrivals) (λ a at.
 
 -- ---- the .changes that arrived
 
--- its name is a file name, and the record is that of its body
+-- the name of a .changes is a file name, and its record is that of its body
 record IsRead (c : Candidate) : Type 0 where
   name : is_file_name c.name ≡ true
   changes : changes_in c.body ≡ Ok c.changes

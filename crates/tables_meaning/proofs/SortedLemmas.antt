@@ -40,7 +40,7 @@ module _ {X : Type 0} (lt : X → X → Bool) (weak : IsStrictWeakOrder lt) wher
       apart true t = ap (λ b. not b && not (lt z x)) t
       apart false t = absurd (true≢false (sym below ∙ weak.chain x z y t all.0))
 
-  -- the first of two lists that rise, and tie alike, is none below the first of the other
+  -- the first of two lists that rise, and tie alike, is not below the first of the other
   first_not_below : (x y : X) (xs ys : List X) → Rise (y ∷ ys) → filter (ties lt x) (x ∷ xs) ≡ filter (ties lt x) (y ∷ ys) → lt x y ≡ false
   first_not_below x y xs ys up same = go (lt x y) refl
     where

@@ -130,7 +130,7 @@ placed_found m p (x ∷ uploads) apart h = go (is_placed m x.1) refl h (placed_f
     go false t e more = more e
 
 module _ (uploads : Numbered UploadRow) (wants : List Want) (verdicts : List Judgement) (requests : List Request) (are : AreRows uploads wants verdicts requests) (s : Sign) where
-  -- one that waits is there for each request
+  -- an upload that waits is there for each request
   pub any_waiting : list_any (λ x. is_waiting x && is_sign s (sign_in x.1)) uploads ≡ list_any (λ r. is_sign s r.0) requests
   any_waiting =
       sym (list_any-filter (λ x. is_sign s (sign_in x.1)) is_waiting uploads)
@@ -199,7 +199,7 @@ wants_marked name print wants id =
     ∙ map_same (λ w. entry_in (mark w)) (λ w. marked_entry (name, print) (entry_in w)) (entry_marked name print) (filter (is_wanted_by id) wants)
     ∙ sym (map-map (marked_entry (name, print)) entry_in (filter (is_wanted_by id) wants))
 
--- their order stays, which is by name
+-- the order of the entries stays, which is by name
 sorted_marked : (name : List ℕ) (print : Print) (wants : List Want) (id : ℕ)
     → sorted_by want_order (wants_of (map (marked_want name print) wants) id) ≡ map (marked_entry (name, print)) (sorted_by want_order (wants_of wants id))
 sorted_marked name print wants id = ap (sorted_by want_order) (wants_marked name print wants id) ∙ sort_by-map want_order (marked_entry (name, print)) (wants_of wants id)

@@ -176,8 +176,8 @@ pub record IsSigned (name : List ℕ) (print : Print) : Type 0 where
 abbrev pub AreSigned : List Judgement → Type 0
 AreSigned judged = All (λ j. IsSigned j.name j.print) judged
 
--- Those without a verdict are the .changes that arrived and are not judged, in some order, each with the entries that it
--- lists. The others are the judged ones, at places from 1 on. No two uploads have the same name and print.
+-- The uploads without a verdict are the .changes that arrived and are not judged, in some order, each with the entries
+-- that it lists. The others are the judged ones, at places from 1 on. No two uploads have the same name and print.
 pub record AreUploads (t : Tables) (judged : List Judgement) : Type 0 where
   pub waiting : IsPermutation (map (request_in t) (filter (λ x. not (has_place x.1)) t.uploads))
       (map (request_of (arrivals_in t)) (filter (λ c. not (is_judged judged c)) (candidates (arrivals_in t))))

@@ -6,7 +6,7 @@ use Rattle.tables_meaning.specs.Reads.{Rests}
 use Rattle.tables_counting.specs.Moments.{is_had}
 use Rattle.keep_tables.proofs.uploads.missing_among.Given as goal
 
--- those so far
+-- the entries so far
 abbrev pub invariant-loop-want : goal.invariant-loop-want
 invariant-loop-want g l = record {
   few : l.count ≤ l.want-index;

@@ -3,6 +3,6 @@ use Rattle.texts.specs.Release.{index_of}
 use Rattle.tables_matching.specs.Rows.{text_in}
 use Rattle.tables_audit.proofs.text_rows.indices_of.Given as goal
 
--- those of the texts so far
+-- the indices of the texts so far
 abbrev pub invariant-loop-entry : goal.invariant-loop-entry
 invariant-loop-entry l = l.indices.items ≡ map index_of (map text_in (take l.entry-index l.entries))

@@ -3,6 +3,6 @@ use Rattle.texts.specs.Places.{place_entry}
 use Rattle.tables_matching.specs.Rows.{text_in}
 use Rattle.tables_audit.proofs.text_rows.placed_entries.Given as goal
 
--- those of the places so far
+-- the indices of the places so far
 abbrev pub invariant-loop-place : goal.invariant-loop-place
 invariant-loop-place l = map text_in l.entries.items ≡ map (place_entry l.shelves l.position) (take l.place-index l.places)
