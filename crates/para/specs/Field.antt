@@ -1,8 +1,8 @@
--- Fields without where they lie in memory.
+-- Fields as values, without their places in memory.
 use Rattle.std.specs.Prelude.{ℕ, List, map}
 use Rattle.para.specs.declared.field.Field.{Field}
 
--- a field: its name, the first line of its value, and the lines that go on with it
+-- a field: its name, the first line of its value, and the lines that continue the value
 pub record FieldValue : Type 0 where
   pub name : List ℕ
   pub first : List ℕ

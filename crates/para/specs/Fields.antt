@@ -16,7 +16,7 @@ Fields = List FieldValue
 abbrev pub field_named : List ℕ → Fields → Option FieldValue
 field_named name p = find (λ f. str_eq_ignore_ascii_case f.name name) p
 
--- a line that begins a field, and the lines behind it that go on with the field
+-- the field of a line that begins it, and of the lines after it that continue it
 abbrev pub field_of : Line → List Line → FieldValue
 field_of line behind = trimmed (record { name = name_part line; first = value_part line; more = map tail (take_while begins_with_blank behind) })
 
@@ -25,7 +25,7 @@ abbrev pub fields_of : List Line → Fields
 fields_of [] = []
 fields_of (line ∷ ls) = if begins_with_blank line then fields_of ls else field_of line ls ∷ fields_of ls
 
--- the fault, or the answer where there is none
+-- the fault, or the answer if there is no fault
 abbrev pub unless_fault : {A : Type 0} → Option ParaFault → A → Result A ParaFault
 unless_fault None answer = Ok answer
 unless_fault (Some fault) answer = Err fault

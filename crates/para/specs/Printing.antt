@@ -4,12 +4,12 @@ use Rattle.std.specs.List.{flat_map}
 use Rattle.para.specs.Bytes.{Line}
 use Rattle.para.specs.Field.{FieldValue}
 
--- behind the colon, a space and the first line of the value, or nothing
+-- what stands after the colon: a space and the first line of the value, or nothing if that line is empty
 abbrev pub first_text : Line → List ℕ
 first_text [] = []
 first_text (b ∷ bs) = 32 ∷ b ∷ bs
 
--- a line that goes on with the value: a space and the line
+-- a line that continues the value: a space and the line
 abbrev pub more_text : Line → List ℕ
 more_text line = 32 ∷ (line ++ 10 ∷ [])
 

@@ -22,11 +22,11 @@ is_taken names name = list_any (λ n. str_eq_ignore_ascii_case n name) names
 abbrev pub AreLowered : BTreeSet (String Global) → List (List ℕ) → Type 0
 AreLowered set names = (name : List ℕ) → contains_text set (str_to_ascii_lowercase name) ≡ is_taken names name
 
--- Where there are many, the names that it keeps are those of the paragraph that did not end.
+-- If the reader has many fields, the names that it keeps are those of the paragraph that did not end.
 abbrev pub HasNames : Reader → Type 0
 HasNames r = r.has_many ≡ true → AreLowered r.names (names_of (state r))
 
--- A refusal is for want of memory, or that of the lines.
+-- A refusal is for want of memory, or it is the one that the lines give.
 abbrev pub IsRefused : ParaFault → Result (List (List FieldValue)) ParaFault → Type 0
 IsRefused OutOfMemory read = Unit {0}
 IsRefused e read = read ≡ Err e

@@ -20,7 +20,7 @@ abbrev pub tail : Line → Line
 tail [] = []
 tail (b ∷ bs) = bs
 
--- what stands behind the colon, without the blanks at the front
+-- what stands after the colon, without the blanks at the front
 abbrev pub value_part : Line → Line
 value_part line = skip_blanks (after_first is_colon line)
 
@@ -33,7 +33,7 @@ trim_last (line ∷ next ∷ more) = line ∷ trim_last (next ∷ more)
 abbrev pub trimmed : FieldValue → FieldValue
 trimmed f = record { name = f.name; first = (if is_nil f.more then trim_end f.first else f.first); more = trim_last f.more }
 
--- What is read so far: the paragraphs that ended, and in the one that did not, the fields that ended and the one that did not.
+-- What is read so far: the paragraphs that ended, then the fields that ended in the paragraph that did not, and the field that did not end.
 pub record State : Type 0 where
   pub done : List (List FieldValue)
   pub fields : List FieldValue
@@ -43,7 +43,7 @@ abbrev pub ended : List FieldValue → Option FieldValue → List FieldValue
 ended fields None = fields
 ended fields (Some f) = fields ++ trimmed f ∷ []
 
--- the paragraphs, with one of these fields if there are any
+-- the paragraphs, then a paragraph of these fields if there are any
 abbrev pub with_paragraph : List (List FieldValue) → List FieldValue → List (List FieldValue)
 with_paragraph done [] = done
 with_paragraph done (f ∷ fs) = done ++ (f ∷ fs) ∷ []
@@ -54,7 +54,7 @@ finished s = with_paragraph s.done (ended s.fields s.current)
 abbrev pub names_of : State → List (List ℕ)
 names_of s = map (λ f. f.name) (ended s.fields s.current)
 
--- Where no field is open, none ended.
+-- If no field is open, no field of the paragraph ended.
 abbrev pub IsStarted : State → Type 0
 IsStarted s = MatchOption s.current (s.fields ≡ []) (λ _. Unit {0})
 
@@ -62,7 +62,7 @@ abbrev pub continued : Line → Option FieldValue → Option FieldValue
 continued added None = None
 continued added (Some f) = Some (record f { more = f.more ++ added ∷ [] })
 
--- what is read when the field ends, and when the paragraph does
+-- what is read after the field ends, and after the paragraph ends
 abbrev pub after_field : State → State
 after_field s = record { done = s.done; fields = ended s.fields s.current; current = None }
 
@@ -80,7 +80,7 @@ abbrev pub unless : Option ParaFault → Result (List (List FieldValue)) ParaFau
 unless None read = read
 unless (Some fault) read = Err fault
 
--- what lines give that stand behind so many others
+-- what lines give that stand after `count` other lines
 abbrev pub reading : State → ℕ → List Line → Result (List (List FieldValue)) ParaFault
 reading s count [] = Ok (finished s)
 reading s count (line ∷ ls) = unless (line_fault (names_of s) (count + 1) line) (reading (after_line s line) (count + 1) ls)

@@ -4,7 +4,7 @@ use Rattle.std.specs.List.{slice_split, flat_map}
 use Rattle.para.specs.Bytes.{Line, is_blank, is_nil, is_empty}
 use Rattle.para.specs.Field.{FieldValue}
 
--- of a field with one line, that line
+-- the line of a field with one line, else nothing
 abbrev pub simple_value : FieldValue → Option (List ℕ)
 simple_value f = if is_nil f.more then Some f.first else None
 

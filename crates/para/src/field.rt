@@ -13,7 +13,7 @@ pub struct Field<'a> {
     pub name: &'a str,
     /// The first line of the value.
     pub first: &'a str,
-    /// The lines that go on with it, each without the blank before it.
+    /// The lines that continue the value, each without the blank before it.
     pub more: Vec<&'a str>,
 }
 

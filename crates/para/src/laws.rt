@@ -19,8 +19,8 @@ pub fn printed_again()
     ensures { (text : List ℕ) (ps : List (List FieldValue)) → Spells text ps → AllByRecursion (λ p. Spells (paragraph_text p) (p ∷ [])) ps }
 {}
 
-/// A text gives the fields of one paragraph exactly where it is within the limit and spells that
-/// paragraph, and a fault exactly where that is its fault. It then spells no paragraph.
+/// A text gives the fields of one paragraph if and only if it is within the limit and spells that
+/// paragraph. It gives a fault if and only if that is its fault, and then it does not spell one paragraph.
 pub fn one_paragraph()
     ensures ok { (text : List ℕ) (limit : ℕ) (p : Fields) → (fields_in text limit ≡ Ok p) ↔ ((length text ≤ limit) × Spells text (p ∷ [])) }
     ensures err { (text : List ℕ) (limit : ℕ) (e : ParaFault) → (fields_in text limit ≡ Err e) ↔ (one_fault text limit ≡ Some e) }
@@ -28,8 +28,8 @@ pub fn one_paragraph()
         (p : Fields) → length text ≤ limit → ¬ Spells text (p ∷ []) }
 {}
 
-/// A text gives paragraphs exactly where it is within the limit and spells those, one or more, and
-/// a fault exactly where that is its fault. It then spells none.
+/// A text gives one or more paragraphs if and only if it is within the limit and spells them. It
+/// gives a fault if and only if that is its fault, and then it spells no paragraphs.
 pub fn several_paragraphs()
     ensures ok { (text : List ℕ) (limit : ℕ) (ps : List Fields) → (paragraphs_in text limit ≡ Ok ps) ↔ ((length text ≤ limit) × (ps ≢ []) × Spells text ps) }
     ensures err { (text : List ℕ) (limit : ℕ) (e : ParaFault) → (paragraphs_in text limit ≡ Err e) ↔ (many_fault text limit ≡ Some e) }

@@ -1,6 +1,6 @@
 //! The text of a paragraph.
 //!
-//! The writers of fields and lines write what they are given: a newline inside a name or a line is the caller's.
+//! The writers of fields and lines write what they are given. The caller has to see that no name and no line holds a newline.
 
 ghost use Rattle.std.specs.Prelude.{◌≡◌, ◌≤◌, [], ◌∷◌, ◌++◌, OnOk, IfErr, Ok, length, take, map};
 ghost use Rattle.std.specs.List.{flat_map};
@@ -72,7 +72,7 @@ fn push_fields(fields: &[Field<'_>], out: &mut Vec<u8>) -> Result<(), AllocError
     Ok(())
 }
 
-/// Takes back what stands behind the first `len` bytes, where not all was written.
+/// Cuts the output to its first `len` bytes if not all was written.
 fn cut_unless_written(
     written: Result<(), AllocError>,
     len: usize,
@@ -88,7 +88,7 @@ fn cut_unless_written(
     Ok(written?)
 }
 
-/// Appends a line that goes on with a field: a space, the line and a newline (own rule of this
+/// Appends a line that continues a field: a space, the line and a newline (own rule of this
 /// archive). It is refused for want of memory alone, and the output is then as before.
 pub fn write_line(line: &str, out: &mut Vec<u8>) -> Result<(), ParaFault>
     ensures ok { OnOk result (out.new.items ≡ out.old.items ++ more_text line.now) }
@@ -99,8 +99,8 @@ pub fn write_line(line: &str, out: &mut Vec<u8>) -> Result<(), ParaFault>
     cut_unless_written(written, len, out)
 }
 
-/// Appends a field: its name, a colon, the first line of its value behind a space if it is not
-/// empty, a newline, and the lines that go on with it (own rule of this archive). It is refused for
+/// Appends a field: its name, a colon, the first line of its value after a space if it is not
+/// empty, a newline, and the lines that continue it (own rule of this archive). It is refused for
 /// want of memory alone, and the output is then as before.
 pub fn write_field(
     name: &str,

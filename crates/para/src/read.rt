@@ -17,7 +17,7 @@ use crate::reader::Reader;
 use std::alloc::Global;
 use std::str;
 
-/// The first line of a text, and what stands behind its newline, if it has one.
+/// The first line of a text, and what stands after its newline, if it has one.
 fn split_line(text: &str) -> (&str, Option<&str>)
     ensures lines { lines text.now ≡ result.0.now ∷ lines_of (option_map (λ rest. rest.now) result.1) }
     ensures shorter { IfSome result.1 (λ rest. length rest.now < length text.now) }
@@ -49,7 +49,7 @@ fn read_lines<'a>(alloc: Global, text: &'a str) -> Result<Vec<Paragraph<'a>>, Pa
 /// A text longer than `limit` bytes is refused first (P10), then one that is not UTF-8 (P1), then
 /// one with a line at fault (P2 to P7, with the number of the first such line), then one without a
 /// paragraph (P8). Own rules of this archive: more than one empty line may part two paragraphs, and
-/// a line of blanks alone and a control character are refused.
+/// a line that holds only blanks is refused, as is a control character.
 pub fn read_many<'a>(
     alloc: Global,
     text: &'a [u8],
@@ -60,9 +60,9 @@ pub fn read_many<'a>(
     // No text spells two lists of paragraphs, and one that spells some is read unless memory runs out.
     ensures only { (ps : List (List FieldValue)) → length text.now ≤ limit → ps ≢ [] → Spells text.now ps →
         MatchResult result (λ found. found.items ≡ ps) (λ fault. fault ≡ OutOfMemory) }
-    // Which fault it is.
+    // The fault of a refusal is that of the text, or `OutOfMemory`.
     ensures judged { IsJudged result (many_fault text.now limit) }
-    // The same, by what the text gives.
+    // The answer is what the text gives, unless memory runs out.
     ensures read { IfOk result (λ found. paragraphs_in text.now limit ≡ Ok found.items) }
     ensures refused { IfErr result (λ e. (e ≡ OutOfMemory) ⊎ (paragraphs_in text.now limit ≡ Err e)) }
 {
@@ -81,16 +81,16 @@ pub fn read_many<'a>(
 
 /// The paragraph of a text, exactly one (Debian Policy 5.1). Names and lines are slices of it.
 ///
-/// A text is refused as by `read_many`, and last where it has more than one paragraph (P9).
+/// A text is refused as by `read_many`, and last if it has more than one paragraph (P9).
 pub fn read_one<'a>(alloc: Global, text: &'a [u8], limit: usize) -> Result<Paragraph<'a>, ParaFault>
     // What is read is what the text spells.
     ensures spelled { IfOk result (λ found. (length text.now ≤ limit) × Spells text.now (found ∷ [])) }
     // No text spells two paragraphs in place of one, and one that spells one is read unless memory runs out.
     ensures only { (p : List FieldValue) → length text.now ≤ limit → Spells text.now (p ∷ []) →
         MatchResult result (λ found. found ≡ p) (λ fault. fault ≡ OutOfMemory) }
-    // Which fault it is.
+    // The fault of a refusal is that of the text, or `OutOfMemory`.
     ensures judged { IsJudged result (one_fault text.now limit) }
-    // The same, by what the text gives.
+    // The answer is what the text gives, unless memory runs out.
     ensures read { IfOk result (λ found. fields_in text.now limit ≡ Ok found) }
     ensures refused { IfErr result (λ e. (e ≡ OutOfMemory) ⊎ (fields_in text.now limit ≡ Err e)) }
 {

@@ -23,18 +23,18 @@ pub struct Reader<'a> {
     alloc: Global,
     /// The paragraphs that ended.
     paragraphs: Vec<Paragraph<'a>>,
-    /// In the paragraph that did not, the fields that ended.
+    /// The fields that ended, of the paragraph that did not end.
     fields: Vec<Field<'a>>,
-    /// The field that did not, with the blanks behind its last line.
+    /// The field that did not end, with the blanks after its last line.
     current: Option<Field<'a>>,
-    /// Whether there are so many of these that their names are looked up in order.
+    /// Whether there are so many fields that their names are looked up in `names`.
     has_many: bool,
-    /// The names of them all, in lower case, where there are many.
+    /// The names of all these fields in lower case, if there are many.
     names: BTreeSet<String>,
 }
 
-/// Of fewer fields than these each is compared with a new name. The names of more are looked up in order, so that a
-/// text of many fields is read as quickly.
+/// The number of fields from which on names are kept in a set. While there are fewer, a new name is compared with each;
+/// from there on it is looked up, so that a text of many fields is read as quickly.
 const FEW: usize = 16;
 
 /// The names of fields, in lower case.
@@ -48,7 +48,7 @@ fn lower_names(alloc: Global, fields: &[Field<'_>]) -> Result<BTreeSet<String>, 
     Ok(names)
 }
 
-/// Drops the blanks behind the last line of a value.
+/// Drops the blanks at the end of the last line of a value.
 fn trim_last_line(field: &mut Field<'_>)
     ensures { field_value field.new ≡ trimmed (field_value field.old) }
 {
@@ -77,7 +77,7 @@ impl<'a> Reader<'a> {
         }
     }
 
-    /// Takes the next line. Where the text is clean, it has no refused byte, and none is looked for.
+    /// Takes the next line. If the text is clean, the line has no refused byte, and none is looked for.
     pub fn line(&mut self, number: usize, line: &'a str, is_clean: bool) -> Result<(), ParaFault>
         requires clean { is_clean ≡ true → list_any is_refused line.now ≡ false }
         requires started { IsStarted (state self.old) }
@@ -134,7 +134,7 @@ impl<'a> Reader<'a> {
         Ok(())
     }
 
-    /// Says whether the name is new among the fields that ended, and keeps it where there are many.
+    /// Says whether the name is new among the fields that ended, and keeps it if there are many.
     fn take_name(&mut self, name: &str) -> Result<bool, AllocError>
         requires ended { (state self.old).current ≡ None }
         requires names { HasNames self.old }

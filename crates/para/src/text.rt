@@ -1,6 +1,6 @@
-//! A text and a list that contracts see without where they lie in memory.
+//! A text and a list that contracts see as values, without their places in memory.
 //!
-//! `Text` is a `String` seen as its bytes, `Listed<T>` a `Vec` seen as the list of its items. They are here since all crates use them.
+//! `Text` is a `String` seen as its bytes, `Listed<T>` a `Vec` seen as the list of its items. They are here because all crates use them.
 
 ghost use Rattle.std.specs.Prelude.{◌≡◌, IfOk, string_bytes};
 

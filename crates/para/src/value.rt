@@ -12,14 +12,14 @@ use crate::fault::ParaFault;
 use crate::field::Field;
 use std::alloc::{AllocError, Global};
 
-/// The first line, where no line follows it. No allocator can be reached here, so no memory is taken.
+/// The first line, if no line follows it. No allocator can be reached here, so no memory is taken.
 fn only_line<'a>(first: &'a str, more: &[&str]) -> Option<&'a str>
     ensures { option_map (λ line. line.now) result ≡ (if is_nil (map (λ line. line.now) more.now) then Some first.now else None) }
 {
     if more.is_empty() { Some(first) } else { None }
 }
 
-/// The value of a field that has one line, and nothing where it has more (Debian Policy 5.1).
+/// The value of a field that has one line, and `None` if it has more (Debian Policy 5.1).
 pub fn simple<'a>(field: &Field<'a>) -> Option<&'a str>
     ensures { option_map (λ value. value.now) result ≡ simple_value (field_value field.now) }
 {

@@ -1,4 +1,4 @@
--- Why a text is no record: each fault's number and its text.
+-- Why a text is not a record: each fault's number and its text.
 use Rattle.std.specs.Prelude.{ℕ, List, ◌++◌, codes}
 use Rattle.para.specs.Fault as paragraph
 use Rattle.vers.specs.Fault as version
@@ -13,7 +13,7 @@ use Rattle.records.specs.FieldNames.{name_of}
 use Rattle.records.specs.declared.fault.RecordFault.{RecordFault}
 use Rattle.records.specs.declared.fault.RecordFault.TheVariants.{OutOfMemory, Paragraph, Missing, NotOneLine, Format, Name, Version, Architecture, Distribution, Lists, OwnField}
 
--- the number of a fault; of several that apply to a text the one of lowest number is answered
+-- the number of a fault; if several apply to a text, the answer is the one of lowest number
 abbrev pub fault_number : RecordFault → ℕ
 fault_number OutOfMemory = 0
 fault_number (Paragraph fault) = 1
@@ -27,7 +27,7 @@ fault_number Distribution = 8
 fault_number (Lists fault) = 9
 fault_number OwnField = 10
 
--- a fault's text: its letter and its number; behind a space the fault of a part, or the name of the field that is missing
+-- a fault's text: its letter and its number, then after a space the fault of a part, or the name of the field that is missing
 abbrev pub fault_text : RecordFault → List ℕ
 fault_text OutOfMemory = codes "C0"
 fault_text (Paragraph fault) = codes "C1 " ++ paragraph.fault_text fault

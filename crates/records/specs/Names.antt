@@ -3,7 +3,7 @@ use Rattle.std.specs.Prelude.{ℕ, ◌==◌, nat_le, Bool, false, ◌&&◌, ◌|
 use Rattle.std.specs.Char.{is_ascii_digit, is_ascii_lowercase, is_ascii_alphanumeric}
 use Rattle.std.specs.List.{list_all}
 
--- the first byte passes; there is one
+-- there is a first byte, and it passes
 abbrev pub begins_with : (ℕ → Bool) → List ℕ → Bool
 begins_with test [] = false
 begins_with test (c ∷ cs) = test c
@@ -23,8 +23,8 @@ is_package_name name = nat_le 2 (length name) && begins_with is_lower_or_digit n
 abbrev pub is_architecture_byte : ℕ → Bool
 is_architecture_byte c = is_lower_or_digit c || c == 45
 
--- Policy 5.6.8: the name of an architecture, where `any` is a wildcard and no name; `all` and `source` are spelled
--- like one. That it has at most 40 bytes is a rule of this archive.
+-- Policy 5.6.8: the name of an architecture. `any` is a wildcard, not a name; `all` and `source` are spelled
+-- like names. That a name has at most 40 bytes is a rule of this archive.
 unfoldable pub is_architecture_name : List ℕ → Bool
 is_architecture_name name =
     nat_le (length name) 40 && begins_with is_ascii_lowercase name && list_all is_architecture_byte name

@@ -1,4 +1,4 @@
--- Which texts are a .changes, a .dsc or a sidecar, which record each is, and the first fault of one that is none.
+-- Which texts are a .changes, a .dsc or a sidecar, which record each is, and the first fault of a text that is not one.
 use Rattle.std.specs.Prelude.{◌≡◌, ◌≢◌, ◌≤◌, ℕ, nat_le, nat_eq, Bool, true, false, ◌&&◌, not, if◌then◌else◌, List, [], ◌∷◌, length, codes, bytes_eq, AllPairs, Contains, ◌⊎◌, Option, Some, None, Result, Ok, Err, is_some}
 use Rattle.std.specs.Option.{option_map, option_map_or}
 use Rattle.std.specs.List.{find, list_any, list_all, starts_with, ends_with, AllByRecursion, AllPass}
@@ -23,11 +23,11 @@ use Rattle.records.specs.declared.fault.RecordFault.TheVariants as faults
 
 -- ---- the values of fields
 
--- the field's first line; of an absent field no byte
+-- the field's first line, or the empty text if the field is absent
 unfoldable pub value : FieldName → Fields → List ℕ
 value name p = option_map_or (λ f. f.first) (field_named (name_of name) p) []
 
--- the words of the field; of an absent field none
+-- the words of the field, or no words if the field is absent
 unfoldable pub words : FieldName → Fields → List (List ℕ)
 words name p = option_map_or folded_value (field_named (name_of name) p) []
 
@@ -38,7 +38,7 @@ is_present p name = is_some (field_named (name_of name) p)
 unfoldable pub is_missing : Fields → FieldName → Bool
 is_missing p name = option_map_or (λ f. is_nil f.first && is_nil f.more) (field_named (name_of name) p) true
 
--- there, and going on behind its first line
+-- there, and going on after its first line
 unfoldable pub has_more_lines : Fields → FieldName → Bool
 has_more_lines p name = option_map_or (λ f. not (is_nil f.more)) (field_named (name_of name) p) false
 
@@ -62,7 +62,7 @@ first_of_words (word ∷ words) = word
 abbrev pub is_among : List (List ℕ) → List ℕ → Bool
 is_among names name = list_any (bytes_eq name) names
 
--- each differs from those behind it
+-- each differs from those after it
 abbrev pub are_different : List (List ℕ) → Bool
 are_different [] = true
 are_different (name ∷ names) = not (is_among names name) && are_different names
@@ -79,7 +79,7 @@ is_binary_architecture name = is_architecture_name name && not (bytes_eq name (c
 unfoldable pub person_of : Fields → List ℕ
 person_of p = if is_present p field.ChangedBy then value field.ChangedBy p else value field.Maintainer p
 
--- the source of a sidecar, which is the package where there is no field Source (Policy 5.6.1)
+-- the source of a sidecar, which is the package if there is no field Source (Policy 5.6.1)
 unfoldable pub sidecar_source : Fields → List (List ℕ)
 sidecar_source p = if is_present p field.Source then words field.Source p else value field.Package p ∷ []
 
@@ -260,7 +260,7 @@ abbrev pub unless : {V : Type 0} → Option RecordFault → V → Result V Recor
 unless None record_value = Ok record_value
 unless (Some fault) record_value = Err fault
 
--- of a text that spells no paragraph its fault, else what is made of the paragraph
+-- the fault of a text that spells no paragraph, else what is made of the paragraph
 abbrev pub of_fields : {V : Type 0} → (Fields → Result V RecordFault) → Result Fields ParaFault → Result V RecordFault
 of_fields read (Ok p) = read p
 of_fields read (Err fault) = Err (faults.Paragraph fault)
@@ -290,7 +290,7 @@ sidecar_in text = of_fields (λ p. unless (sidecar_fault p) (sidecar_of p)) (fie
 abbrev pub HasEach : List FieldName → Fields → Type 0
 HasEach names p = AllByRecursion (λ name. is_missing p name ≡ false) names
 
--- none of the fields goes on behind its first line
+-- none of the fields goes on after its first line
 abbrev pub AreSimple : List FieldName → Fields → Type 0
 AreSimple names p = AllByRecursion (λ name. has_more_lines p name ≡ false) names
 

@@ -84,7 +84,7 @@ const SIMPLE: [FieldName; 8] = [
     FieldName::ChangedBy,
 ];
 
-/// Refuses another format than 1.8 (Debian Policy 5.6.15).
+/// Refuses a format other than 1.8 (Debian Policy 5.6.15).
 #[tactic(auto, unfolding(crate::specs::Records::unknown_format))]
 fn check_format(paragraph: &Paragraph<'_>) -> Result<(), RecordFault>
     ensures { MatchResult result (λ _. unknown_format changes_formats paragraph.now ≡ None)
@@ -107,7 +107,7 @@ fn source_name<'a>(alloc: Global, paragraph: &Paragraph<'a>) -> Result<&'a str, 
     source_of(&words)
 }
 
-/// The distribution of the paragraph, which is exactly one.
+/// The distribution of the paragraph, which has exactly one.
 #[tactic(auto, unfolding(crate::specs::Records::bad_distribution))]
 fn distribution_of<'a>(paragraph: &Paragraph<'a>) -> Result<&'a str, RecordFault>
     ensures found { IfOk result (λ name. name.now ≡ value FieldName.Distribution paragraph.now) }
@@ -155,7 +155,7 @@ struct Listing {
     entries: Listed<Entry>,
 }
 
-/// What the paragraph lists, and the checks behind that of the version.
+/// What the paragraph lists. The checks after that of the version are made here.
 fn listing_of(alloc: Global, paragraph: &Paragraph<'_>) -> Result<Listing, RecordFault>
     ensures found { IfOk result (λ l. l ≡ record {
       architectures = words FieldName.Architecture paragraph.now;
@@ -178,7 +178,7 @@ fn listing_of(alloc: Global, paragraph: &Paragraph<'_>) -> Result<Listing, Recor
     })
 }
 
-/// The .changes of a paragraph that makes this version and this listing.
+/// The .changes of a paragraph with this version and this listing.
 fn made_of(
     alloc: Global,
     paragraph: &Paragraph<'_>,
@@ -229,7 +229,7 @@ fn changes_from(alloc: Global, paragraph: &Paragraph<'_>) -> Result<Changes, Rec
 impl Changes {
     /// Reads a .changes (Debian Policy 5.5): one paragraph of at most 1,048,576 bytes, in format 1.8, with the fields
     /// Format, Date, Source, Version, Architecture, Distribution, Maintainer, Changes, Checksums-Sha1, Checksums-Sha256
-    /// and Files, and one distribution. Of several faults the one of lowest number is answered.
+    /// and Files, and one distribution. If several faults apply, the answer is the one of lowest number.
     pub fn read(alloc: Global, text: &[u8]) -> Result<Changes, RecordFault>
         ensures read { IfOk result (λ c. changes_in text.now ≡ Ok c) }
         ensures refused { IfErr result
@@ -267,7 +267,7 @@ impl Changes {
         self.distribution.as_str()
     }
 
-    /// Who is responsible for the upload: its Changed-By, or its Maintainer where it has no such field.
+    /// Who is responsible for the upload: its Changed-By, or its Maintainer if it has no such field.
     pub fn person(&self) -> &str
         ensures { result.now ≡ self.now.person }
     {

@@ -8,7 +8,7 @@ use crate::fault::RecordFault;
 use crate::field_name::FieldName;
 use para::{Paragraph, simple};
 
-/// The first line of the field; of an absent one the empty text.
+/// The first line of the field, or the empty text if it is absent.
 #[tactic(auto, unfolding(crate::specs::Records::value))]
 pub fn value_of<'a>(paragraph: &Paragraph<'a>, name: FieldName) -> &'a str
     ensures { result.now ≡ value name paragraph.now }
@@ -69,7 +69,7 @@ fn any_is_there(paragraph: &Paragraph<'_>, names: &[FieldName]) -> bool
     names.iter().any(|name| is_there(paragraph, *name))
 }
 
-/// Refuses a paragraph that lacks a required field, by the first of them.
+/// Refuses a paragraph that lacks a required field, and names the first that is missing.
 #[tactic(auto, unfolding(crate::specs::Records::missing))]
 pub fn check_required(paragraph: &Paragraph<'_>, required: &[FieldName]) -> Result<(), RecordFault>
     ensures { MatchResult result (λ _. missing required.now paragraph.now ≡ None)
@@ -81,7 +81,7 @@ pub fn check_required(paragraph: &Paragraph<'_>, required: &[FieldName]) -> Resu
     }
 }
 
-/// Refuses a paragraph in which one of the fields goes on behind its first line.
+/// Refuses a paragraph in which one of the fields goes on after its first line.
 #[tactic(auto, unfolding(crate::specs::Records::not_simple))]
 pub fn check_simple(paragraph: &Paragraph<'_>, simple: &[FieldName]) -> Result<(), RecordFault>
     ensures { MatchResult result (λ _. not_simple simple.now paragraph.now ≡ None)

@@ -45,7 +45,7 @@ impl Model for Dsc {
     } };
 }
 
-/// The most bytes of a .dsc that is read, which are those of a .changes (own rule of this archive).
+/// The most bytes of a .dsc that is read, as many as of a .changes (own rule of this archive).
 pub const MOST_DSC: usize = MOST_CHANGES;
 
 /// The required fields, in the order in which the first that is missing is named.
@@ -70,7 +70,7 @@ const SIMPLE: [FieldName; 4] = [
 /// The fields that the archive writes itself.
 const OWN: [FieldName; 2] = [FieldName::Package, FieldName::Directory];
 
-/// Refuses another format than 1.0, 3.0 (native) and 3.0 (quilt) (Debian Policy 5.6.16).
+/// Refuses a format other than 1.0, 3.0 (native) and 3.0 (quilt) (Debian Policy 5.6.16).
 #[tactic(auto, unfolding(crate::specs::Records::unknown_format))]
 fn check_format(paragraph: &Paragraph<'_>) -> Result<(), RecordFault>
     ensures { MatchResult result (λ _. unknown_format dsc_formats paragraph.now ≡ None)
@@ -118,7 +118,7 @@ fn dsc_from(alloc: Global, paragraph: &Paragraph<'_>) -> Result<Dsc, RecordFault
 impl Dsc {
     /// Reads a .dsc (Debian Policy 5.4): one paragraph of at most 1,048,576 bytes, in format 1.0, 3.0 (native) or
     /// 3.0 (quilt), with the fields Format, Source, Version, Maintainer, Checksums-Sha1, Checksums-Sha256 and Files, and
-    /// without Package and Directory. Of several faults the one of lowest number is answered.
+    /// without Package and Directory. If several faults apply, the answer is the one of lowest number.
     pub fn read(alloc: Global, text: &[u8]) -> Result<Dsc, RecordFault>
         ensures read { IfOk result (λ d. dsc_in text.now ≡ Ok d) }
         ensures refused { IfErr result

@@ -1,4 +1,4 @@
-//! Why a text is no record.
+//! Why a text is not a record.
 
 ghost use Rattle.std.specs.Prelude.{◌≡◌, Some};
 ghost use Rattle.records.specs.declared.fault.RecordFault.TheVariants.{OutOfMemory};
@@ -12,22 +12,22 @@ use std::fmt;
 use sums::ListFault;
 use vers::VersionFault;
 
-/// Why a text is no record. Of several faults the first of these is answered.
+/// Why a text is not a record. If several faults apply, the answer is the first of these.
 #[derive(Clone, Copy, Debug, PartialEq, Eq)]
 pub enum RecordFault {
     /// No memory was left.
     OutOfMemory,
     /// The text is not one control paragraph within its limit (Debian Policy 5.1).
     Paragraph(ParaFault),
-    /// A required field is absent or empty; of several the first of the record's list.
+    /// A required field is absent or empty. If several are, this is the first in the record's list.
     Missing(FieldName),
-    /// A field that has one line by its definition goes on behind it.
+    /// A field that has one line by its definition has more lines.
     NotOneLine,
-    /// The format is none that this archive reads (Debian Policy 5.6.15, 5.6.16).
+    /// The format is not one that this archive reads (Debian Policy 5.6.15, 5.6.16).
     Format,
     /// A source or package name is not spelled as one (Debian Policy 5.6.1, 5.6.7).
     Name,
-    /// The version is none (Debian Policy 5.6.12).
+    /// The version is not valid (Debian Policy 5.6.12).
     Version(VersionFault),
     /// An architecture is not spelled as one, stands twice, or is not allowed here (Debian Policy 5.6.8).
     Architecture,

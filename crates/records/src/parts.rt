@@ -16,7 +16,7 @@ use std::collections::BTreeSet;
 use sums::{Entry, ListKind, read_lists};
 use vers::Version;
 
-/// The words of the field; of an absent one none.
+/// The words of the field, or no words if it is absent.
 #[tactic(auto, unfolding(crate::specs::Records::words))]
 pub fn words_of<'a>(
     alloc: Global,
@@ -40,7 +40,7 @@ fn is_in_parentheses(word: &str) -> bool
     bytes.len() >= 3 && bytes.starts_with(b"(") && bytes.ends_with(b")")
 }
 
-/// Refuses what is no source or package name.
+/// Refuses a text that is not a source or package name.
 #[tactic(auto, unfolding(crate::specs::Records::bad_name))]
 pub fn check_name(name: &str) -> Result<(), RecordFault>
     ensures { MatchResult result (λ _. bad_name name.now ≡ None) (λ e. bad_name name.now ≡ Some e) }
@@ -51,7 +51,7 @@ pub fn check_name(name: &str) -> Result<(), RecordFault>
     Err(RecordFault::Name)
 }
 
-/// The source name of words, behind which a version in parentheses may stand (Debian Policy 5.6.1).
+/// The source name in the words, which a version in parentheses may follow (Debian Policy 5.6.1).
 #[tactic(auto, unfolding(crate::specs::Records::bad_source))]
 pub fn source_of<'a>(words: &[&'a str]) -> Result<&'a str, RecordFault>
     ensures found { IfOk result (λ name. name.now ≡ first_of_words (map (λ word. word.now) words.now)) }

@@ -77,7 +77,7 @@ const OWN: [FieldName; 5] = [
     FieldName::Sha256,
 ];
 
-/// The words that name the source, the package's name where there is no field Source (Debian Policy 5.6.1).
+/// The words that name the source: the package's name if there is no field Source (Debian Policy 5.6.1).
 #[tactic(auto, unfolding(crate::specs::Records::sidecar_source))]
 fn source_words<'a>(alloc: Global, paragraph: &Paragraph<'a>) -> Result<Vec<&'a str>, RecordFault>
     ensures found { IfOk result (λ found. map (λ word. word.now) found.items ≡ sidecar_source paragraph.now) }
@@ -98,7 +98,7 @@ fn is_of_binary(name: &str) -> bool
     is_architecture(name) && name != "source"
 }
 
-/// Refuses another architecture than exactly one that is not `source` (Debian Policy 5.6.8).
+/// Refuses the paragraph unless it has exactly one architecture, other than `source` (Debian Policy 5.6.8).
 #[tactic(auto, unfolding(crate::specs::Records::bad_architecture))]
 fn check_architecture(paragraph: &Paragraph<'_>) -> Result<(), RecordFault>
     ensures { MatchResult result (λ _. bad_architecture paragraph.now ≡ None)
@@ -135,7 +135,7 @@ fn check_front(paragraph: &Paragraph<'_>) -> Result<(), RecordFault>
     check_name(value_of(paragraph, FieldName::Package))
 }
 
-/// The checks behind that of the version.
+/// The checks after that of the version.
 fn check_rest(paragraph: &Paragraph<'_>) -> Result<(), RecordFault>
     ensures { MatchResult result
         (λ _. first_of (bad_architecture paragraph.now ∷ has_own_field sidecar_own paragraph.now ∷ []) ≡ None)
@@ -181,7 +181,7 @@ fn sidecar_from(alloc: Global, paragraph: &Paragraph<'_>) -> Result<Sidecar, Rec
 impl Sidecar {
     /// Reads a sidecar (Debian Policy 5.3): one paragraph of at most 65,536 bytes, with the fields Package, Version,
     /// Architecture, Maintainer and Description, of one architecture that is not `source`, and without Filename, Size,
-    /// MD5sum, SHA1 and SHA256. Of several faults the one of lowest number is answered.
+    /// MD5sum, SHA1 and SHA256. If several faults apply, the answer is the one of lowest number.
     pub fn read(alloc: Global, text: &[u8]) -> Result<Sidecar, RecordFault>
         ensures read { IfOk result (λ s. sidecar_in text.now ≡ Ok s) }
         ensures refused { IfErr result

@@ -1,4 +1,4 @@
--- Which configuration a text is, one paragraph a suite, and the first fault of a text that is none.
+-- Which configuration a text is, one paragraph a suite, and the first fault of a text that is not a configuration.
 use Rattle.std.specs.Prelude.{◌≡◌, ◌≢◌, ◌≤◌, ◌<◌, ℕ, ◌++◌, nat_lt, Bool, true, false, ◌||◌, List, [], ◌∷◌, length, drop, get_or, slice_get, codes, map, Option, Some, None, IsSomeAnd, Result, Ok, Err}
 use Rattle.std.specs.List.{find, list_any, AllPairs}
 use Rattle.para.specs.Fields.{Fields, paragraphs_in}
@@ -12,13 +12,13 @@ use Rattle.rules.specs.declared.suite.Suite.{Suite}
 use Rattle.rules.specs.declared.fault.ConfigFault.{ConfigFault}
 use Rattle.rules.specs.declared.fault.ConfigFault.TheVariants as faults
 
--- of the names that suites claim, one suite after the other: some suite claims a name that one before it claims, or
+-- given the names that each suite claims: some suite claims a name that a suite before it claims, or
 -- that is among those claimed already
 abbrev pub claims_again : List (List ℕ) → List (List (List ℕ)) → Bool
 claims_again claimed [] = false
 claims_again claimed (names ∷ rest) = list_any (is_among claimed) names || claims_again (claimed ++ names) rest
 
--- a paragraph has a bad value, or one behind the first says how long arrivals count
+-- a paragraph has a bad value, or one after the first says how long arrivals count
 unfoldable pub have_bad_value : List Fields → Bool
 have_bad_value ps = list_any has_bad_value ps || list_any has_keep_days (drop 1 ps)
 
@@ -42,12 +42,12 @@ config_fault ps = find (applies ps) config_faults
 abbrev pub config_of : List ℕ → List Fields → ConfigValue
 config_of text ps = record { text = text; suites = map suite_of ps; keep_days = days (codes "KeepDays") (get_or ps 0 []) }
 
--- the fault, or the configuration where there is none
+-- the fault, or the configuration if there is no fault
 abbrev pub unless : Option ConfigFault → ConfigValue → Result ConfigValue ConfigFault
 unless None config = Ok config
 unless (Some fault) config = Err fault
 
--- of a text that spells no paragraphs its fault, else what is made of the paragraphs
+-- the fault of a text that spells no paragraphs, else what is made of the paragraphs
 abbrev pub of_paragraphs : List ℕ → Result (List Fields) ParaFault → Result ConfigValue ConfigFault
 of_paragraphs text (Ok ps) = unless (config_fault ps) (config_of text ps)
 of_paragraphs text (Err fault) = Err (faults.Paragraph fault)
@@ -69,7 +69,7 @@ pub record IsConfig (text : List ℕ) (config : ConfigValue) : Type 0 where
   pub faultless : config_fault paragraphs ≡ None
   pub value : config ≡ config_of text paragraphs
 
--- No two suites claim one distribution name.
+-- No two suites claim the same distribution name.
 abbrev pub ClaimApart : List Suite → Type 0
 ClaimApart suites = AllPairs (λ s t. (name : List ℕ) → claims name s ≡ true → claims name t ≡ true → ⊥) suites
 
@@ -77,7 +77,7 @@ ClaimApart suites = AllPairs (λ s t. (name : List ℕ) → claims name s ≡ tr
 abbrev pub ClaimsAt : List Suite → ℕ → List ℕ → Type 0
 ClaimsAt suites place name = IsSomeAnd (slice_get suites place) (λ s. claims name s ≡ true)
 
--- Two suites claim one distribution name: that at one place, and that at a later one.
+-- Two suites claim the same distribution name: the one at one place, and the one at a later place.
 pub record ClaimOneName (suites : List Suite) : Type 0 where
   pub name : List ℕ
   pub first : ℕ

@@ -1,4 +1,4 @@
--- Why a text is no configuration: each fault's number and its text.
+-- Why a text is not a configuration: each fault's number and its text.
 use Rattle.std.specs.Prelude.{ℕ, List, ◌++◌, codes}
 use Rattle.para.specs.Fault as paragraph
 use Rattle.para.specs.declared.fault.ParaFault.{ParaFault}
@@ -6,7 +6,7 @@ use Rattle.para.specs.declared.fault.ParaFault.TheVariants as para_faults
 use Rattle.rules.specs.declared.fault.ConfigFault.{ConfigFault}
 use Rattle.rules.specs.declared.fault.ConfigFault.TheVariants.{OutOfMemory, Paragraph, Missing, BadValue, ClaimedTwice, BadRule, Limits}
 
--- the number of a fault; of several that apply to a text the one of lowest number is answered
+-- the number of a fault; if several apply to a text, the answer is the one of lowest number
 abbrev pub fault_number : ConfigFault → ℕ
 fault_number OutOfMemory = 0
 fault_number (Paragraph fault) = 1
@@ -16,7 +16,7 @@ fault_number ClaimedTwice = 4
 fault_number BadRule = 5
 fault_number Limits = 6
 
--- a fault's text: its letter and its number; behind a space the fault of the paragraphs
+-- a fault's text: its letter and its number, then after a space the fault of the paragraphs
 abbrev pub fault_text : ConfigFault → List ℕ
 fault_text OutOfMemory = codes "F0"
 fault_text (Paragraph fault) = codes "F1 " ++ paragraph.fault_text fault

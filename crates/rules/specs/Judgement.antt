@@ -51,7 +51,7 @@ IsPlace config c place =
     (claiming c.distribution config.suites ≡ Some place.suite)
     × (option_and_then (λ s. position (bytes_eq (component c)) s.components) (suite_of config c) ≡ Some place.component)
 
--- ---- the same, where a function says which suites the elements of a list are
+-- ---- the verdicts and the place, if a function says which suites the elements of a list are
 
 -- the element that claims the distribution of the .changes
 unfoldable pub claimant : {S : Type 0} → (S → Suite) → List S → ChangesValue → Option S

@@ -19,11 +19,11 @@ use Rattle.rules.specs.declared.suite.Suite.{Suite}
 unfoldable pub first_line : List ℕ → Fields → Option (List ℕ)
 first_line name p = option_map (λ f. f.first) (field_named name p)
 
--- the words of the field; of an absent field none
+-- the words of the field, or no words if the field is absent
 unfoldable pub words : List ℕ → Fields → List (List ℕ)
 words name p = option_map_or folded_value (field_named name p) []
 
--- the lines of the field behind its first, if it is there
+-- the lines of the field after its first, if it is there
 unfoldable pub lines_behind : List ℕ → Fields → Option (List (List ℕ))
 lines_behind name p = option_map (λ f. f.more) (field_named name p)
 
@@ -103,11 +103,11 @@ has_good_names p =
     && are_names is_plain_name (words (codes "Components") p)
     && passes are_plain_words (codes "AlsoAcceptFor") p
 
--- Fields of one line have one, none is empty, the names are spelled as names, and no architecture or component stands twice.
+-- Some value is bad: a field of one line has more lines or is empty, a name is not spelled as one, or an architecture or component stands twice.
 unfoldable pub has_bad_value : Fields → Bool
 has_bad_value p = not (has_good_lines p && has_good_names p)
 
--- how long arrivals count is said in the first paragraph alone
+-- the paragraph says how long arrivals count, which only the first paragraph may do
 unfoldable pub has_keep_days : Fields → Bool
 has_keep_days p = is_some (field_named (codes "KeepDays") p)
 

@@ -20,7 +20,7 @@ claims distribution s = is_among (distributions s) distribution
 abbrev pub claiming : List ℕ → List Suite → Option ℕ
 claiming distribution suites = position (claims distribution) suites
 
--- the same, where a function says which suites the elements are
+-- the position of the element that claims a distribution, if a function says which suites the elements are
 abbrev pub claiming_among : {S : Type 0} → (S → Suite) → List ℕ → List S → Option ℕ
 claiming_among suite distribution suites = position (λ s. claims distribution (suite s)) suites
 
@@ -28,7 +28,7 @@ claiming_among suite distribution suites = position (λ s. claims distribution (
 unfoldable pub suite_named : List Suite → List ℕ → Option ℕ
 suite_named suites name = position (λ s. bytes_eq s.codename name) suites
 
--- An architecture that the suite keeps. Items of `all` are kept where there is an index for them.
+-- An architecture that the suite keeps. Items of `all` are kept if there is an index for them.
 unfoldable pub keeps_architecture : Suite → List ℕ → Bool
 keeps_architecture s name =
     if bytes_eq name (codes "all") then list_any (λ a. not (bytes_eq a (codes "source"))) s.architectures

@@ -8,7 +8,7 @@ use Rattle.rules.specs.declared.uploader.Rule.{Rule}
 use Rattle.rules.specs.declared.uploader.SourcePattern.{SourcePattern}
 use Rattle.rules.specs.declared.uploader.SourcePattern.TheVariants as pattern
 
--- the two parts of a line round its first ` by `, if it has one
+-- the two parts of a line before and after its first ` by `, if it has one
 abbrev pub divided : List ℕ → Option (List ℕ × List ℕ)
 divided [] = None
 divided (c ∷ rest) =
@@ -57,6 +57,6 @@ rule_of parts = record { source = pattern_of parts.0; person = parts.1 }
 abbrev pub is_rule_line : List ℕ → Bool
 is_rule_line line = is_some (rule_parts line)
 
--- the rules that lines are
+-- the rules of those lines that are uploader lines
 abbrev pub rules_in : List (List ℕ) → List Rule
 rules_in lines = filter_map (λ line. option_map rule_of (rule_parts line)) lines

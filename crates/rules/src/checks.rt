@@ -65,7 +65,7 @@ fn is_plain_line(field: &Field<'_>) -> bool
     field.more.is_empty() && is_plain(field.first)
 }
 
-/// Whether the field, where it is there, is one line that is not empty.
+/// Whether the field, if it is there, is one line that is not empty.
 #[tactic(auto, unfolding(crate::specs::Paragraphs::passes))]
 fn may_print(paragraph: &Paragraph<'_>, name: &str) -> bool
     ensures { result ≡ passes is_filled_line name.now paragraph.now }
@@ -76,7 +76,7 @@ fn may_print(paragraph: &Paragraph<'_>, name: &str) -> bool
     }
 }
 
-/// Whether the field, where it is there, is one line with a plain name.
+/// Whether the field, if it is there, is one line with a plain name.
 #[tactic(auto, unfolding(crate::specs::Paragraphs::passes))]
 fn may_name(paragraph: &Paragraph<'_>, name: &str) -> bool
     ensures { result ≡ passes is_plain_line name.now paragraph.now }
@@ -94,7 +94,7 @@ fn is_days_line(field: &Field<'_>) -> bool
     field.more.is_empty() && days_in(field.first).is_some()
 }
 
-/// Whether the field, where it is there, is one line with a number of days.
+/// Whether the field, if it is there, is one line with a number of days.
 #[tactic(auto, unfolding(crate::specs::Paragraphs::passes))]
 fn may_count(paragraph: &Paragraph<'_>, name: &str) -> bool
     ensures { result ≡ passes is_days_line name.now paragraph.now }
@@ -128,7 +128,7 @@ fn are_plain_words(alloc: Global, field: &Field<'_>) -> Result<bool, ConfigFault
     Ok(!words.is_empty() && are_plain(&words))
 }
 
-/// Whether the words of AlsoAcceptFor, where it is there, are one plain name or more.
+/// Whether the words of AlsoAcceptFor, if it is there, are one plain name or more.
 #[tactic(auto, unfolding(crate::specs::Paragraphs::passes))]
 fn accepts_plain_names(alloc: Global, paragraph: &Paragraph<'_>) -> Result<bool, ConfigFault>
     ensures found { IfOk result (λ accepts. accepts ≡ passes are_plain_words (codes "AlsoAcceptFor") paragraph.now) }
@@ -249,7 +249,7 @@ fn has_keep_days(paragraph: &Paragraph<'_>) -> bool
     paragraph.get("KeepDays").is_some()
 }
 
-/// Whether a paragraph behind the first says how long arrivals count.
+/// Whether a paragraph after the first says how long arrivals count.
 fn some_keeps_late(paragraphs: &[Paragraph<'_>]) -> bool
     ensures { result ≡ list_any has_keep_days (drop 1 paragraphs.now) }
 {
@@ -259,7 +259,7 @@ fn some_keeps_late(paragraphs: &[Paragraph<'_>]) -> bool
     }
 }
 
-/// Whether a paragraph has a bad value, or one behind the first says how long arrivals count.
+/// Whether a paragraph has a bad value, or one after the first says how long arrivals count.
 #[tactic(auto, unfolding(crate::specs::Configuration::have_bad_value))]
 fn have_bad_value(alloc: Global, paragraphs: &[Paragraph<'_>]) -> Result<bool, ConfigFault>
     ensures found { IfOk result (λ bad. bad ≡ have_bad_value paragraphs.now) }
@@ -320,7 +320,7 @@ fn claim_all<'a>(claimed: &mut BTreeSet<&'a str>, names: &[&'a str]) -> Result<(
     Ok(())
 }
 
-/// Whether two suites claim one distribution name.
+/// Whether two suites claim the same distribution name.
 fn two_claim_a_name(alloc: Global, paragraphs: &[Paragraph<'_>]) -> Result<bool, ConfigFault>
     ensures found { IfOk result (λ two. two ≡ claims_again [] (map names_claimed paragraphs.now)) }
     ensures refused { IfErr result (λ e. e ≡ ConfigFault.OutOfMemory) }
@@ -336,7 +336,7 @@ fn two_claim_a_name(alloc: Global, paragraphs: &[Paragraph<'_>]) -> Result<bool,
     Ok(false)
 }
 
-/// Refuses paragraphs to which a fault applies, by that of lowest number.
+/// Refuses paragraphs to which a fault applies, with the one of lowest number.
 #[tactic(auto, unfolding(crate::specs::Configuration::config_fault))]
 pub fn check(alloc: Global, paragraphs: &[Paragraph<'_>]) -> Result<(), ConfigFault>
     ensures accepted { IfOk result (λ _. config_fault paragraphs.now ≡ None) }

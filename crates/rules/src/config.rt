@@ -37,7 +37,7 @@ impl Model for Config {
     ghost invariant = { λ c. config_in c.text.items ≡ Ok (record { text = c.text.items; suites = c.suites; keep_days = c.keep_days }) };
 }
 
-/// The number of days for which what arrives counts, if the first paragraph has one.
+/// The number of days for which an arrival counts, if the first paragraph has one.
 fn first_keep_days(paragraphs: &[Paragraph<'_>]) -> Option<Days>
     ensures { result ≡ days (codes "KeepDays") (get_or paragraphs.now 0 []) }
 {
@@ -48,23 +48,23 @@ fn first_keep_days(paragraphs: &[Paragraph<'_>]) -> Option<Days>
 }
 
 impl Config {
-    /// Reads a configuration, of which it keeps a copy of the text (own rules of this archive): at most 1,048,576 bytes,
+    /// Reads a configuration, and keeps a copy of its text (own rules of this archive): at most 1,048,576 bytes,
     /// one control paragraph (Debian Policy 5.1) for each suite.
     ///
-    /// Of these refusals the first that applies, anywhere in the text, is the answer:
+    /// The answer is the first of these refusals that applies, anywhere in the text:
     /// - `Paragraph`: the text is too long, or is not one or more paragraphs;
     /// - `Missing`: a Codename, Architectures or Components is absent or without a word;
     /// - `BadValue`: a Codename or Suite is not one line with a plain name; an Origin, Label or Description is not one
     ///   line, or is empty; the words of Architectures are not architecture names other than `all`, or one stands twice;
     ///   those of Components are not plain names, or one stands twice; those of an AlsoAcceptFor are not one plain name
     ///   or more; a KeepDays or ValidDays is not one line with a number of days, 1 to 3650 without a leading zero; or a
-    ///   KeepDays stands in another paragraph than the first;
-    /// - `ClaimedTwice`: two suites claim one distribution name, as Codename, as Suite or in AlsoAcceptFor;
+    ///   KeepDays stands in a paragraph other than the first;
+    /// - `ClaimedTwice`: two suites claim the same distribution name, as Codename, as Suite or in AlsoAcceptFor;
     /// - `BadRule`: an Uploaders has text on its first line, or a line that is not `SOURCE by PERSON`;
     /// - `Limits`: there are more than 16 suites, or a suite has more than 16 architectures, 8 components or 256
     ///   uploader lines.
     ///
-    /// `OutOfMemory` may come in place of any other answer where memory is short.
+    /// `OutOfMemory` may come in place of any other answer if memory is short.
     pub fn read(alloc: Global, text: &[u8]) -> Result<Config, ConfigFault>
         ensures read { IfOk result (λ c. config_in text.now ≡ Ok c) }
         ensures refused { IfErr result (λ e. (e ≡ ConfigFault.OutOfMemory) ⊎ (config_in text.now ≡ Err e)) }
@@ -96,7 +96,7 @@ impl Config {
         self.suites.as_slice()
     }
 
-    /// For how many days what arrives counts; where there is none, for good.
+    /// The number of days for which an arrival counts; without a number it counts for good.
     pub fn keep_days(&self) -> Option<Days>
         ensures { result ≡ self.now.keep_days }
     {
@@ -104,7 +104,7 @@ impl Config {
     }
 
     /// The position of the suite that claims the distribution name as its Codename, its Suite or a word of its
-    /// AlsoAcceptFor; no two suites claim one name. No memory is taken.
+    /// AlsoAcceptFor; no two suites claim the same name. No memory is taken.
     pub fn suite_for(&self, distribution: &str) -> Option<usize>
         ensures { result ≡ claiming distribution.now self.now.suites }
     {

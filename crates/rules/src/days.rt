@@ -30,7 +30,7 @@ impl Model for Days {
 }
 
 impl Days {
-    /// The seconds of that many days.
+    /// The number of seconds in these days.
     pub fn seconds(self) -> u64
         ensures value { result ≡ self * 86400 }
         ensures bound { self ≤ 3650 }

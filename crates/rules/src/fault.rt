@@ -1,4 +1,4 @@
-//! Why a text is no configuration.
+//! Why a text is not a configuration.
 
 ghost use Rattle.std.specs.Prelude.{◌≡◌, Some};
 ghost use Rattle.rules.specs.declared.fault.ConfigFault.TheVariants.{OutOfMemory};
@@ -9,10 +9,10 @@ use std::alloc::{AllocError, AllocFailed};
 use std::error::Error;
 use std::fmt;
 
-/// Why a text is no configuration (own rules of this archive). Where several apply, anywhere in the text, the first of
-/// these is answered.
+/// Why a text is not a configuration (own rules of this archive). If several faults apply, anywhere in the text, the
+/// answer is the first of these.
 ///
-/// A fault is printed as the letter F and its number, `F4`, and behind that of the paragraphs what is wrong with them,
+/// A fault is printed as the letter F and its number, `F4`. `Paragraph` is followed by what is wrong with the paragraphs,
 /// `F1 P8`.
 #[derive(Clone, Copy, Debug, PartialEq, Eq)]
 pub enum ConfigFault {
@@ -22,10 +22,10 @@ pub enum ConfigFault {
     Paragraph(ParaFault),
     /// A suite lacks a required field, or has one without a word.
     Missing,
-    /// A value is not spelled as it has to be: a field of one line goes on or is empty, a name is bad, or an
+    /// A value is not spelled as it has to be: a field of one line has more lines or is empty, a name is bad, or an
     /// architecture or a component of a suite stands twice.
     BadValue,
-    /// Two suites claim one distribution name.
+    /// Two suites claim the same distribution name.
     ClaimedTwice,
     /// A line of Uploaders is not `SOURCE by PERSON`.
     BadRule,

@@ -13,7 +13,7 @@ use crate::verdict::Verdict;
 use crate::without_memory::{Judged, Judging, Sectioned, Spelled};
 use records::Changes;
 
-/// Where an upload goes.
+/// The suite and the component that an upload goes to.
 #[derive(Clone, Copy, Debug, PartialEq, Eq)]
 pub struct Place {
     /// The position of the suite in the configuration, from 0.

@@ -24,7 +24,7 @@ fn first_line<'a>(paragraph: &Paragraph<'a>, name: &str) -> Option<&'a str>
     }
 }
 
-/// The words of the field; of an absent one none.
+/// The words of the field, or no words if it is absent.
 #[tactic(auto, unfolding(crate::specs::Paragraphs::words))]
 pub fn words_of<'a>(
     alloc: Global,

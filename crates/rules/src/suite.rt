@@ -18,32 +18,32 @@ pub struct Suite {
     pub codename: Text,
     /// Another name, as `stable`.
     pub suite: Option<Text>,
-    /// Who the archive is of, for its Release.
+    /// The origin of the archive, for its Release.
     pub origin: Option<Text>,
-    /// What the archive is called, for its Release.
+    /// The name of the archive, for its Release.
     pub label: Option<Text>,
     /// What the suite is for, for its Release.
     pub description: Option<Text>,
-    /// The architectures, `source` among them where the suite has source packages.
+    /// The architectures, `source` among them if the suite has source packages.
     pub architectures: Listed<Text>,
     /// The components, as `main`.
     pub components: Listed<Text>,
     /// Further distribution names that uploads to the suite may have.
     pub also_accept_for: Listed<Text>,
-    /// Who may upload; where it is absent, everybody.
+    /// Who may upload. If it is absent, everybody may.
     pub uploaders: Option<Listed<Rule>>,
-    /// For how many days behind its date a Release is valid; where it is absent, for good.
+    /// The number of days after its date for which a Release is valid. If it is absent, a Release is valid for good.
     pub valid_days: Option<Days>,
 }
 
-/// Whether there is another architecture than `source`.
+/// Whether there is an architecture other than `source`.
 fn has_binary_architecture<N: Spelled>(names: &[N]) -> bool
     ensures { result ≡ list_any (λ a. not (bytes_eq (N.spelling a) (codes "source"))) names.now }
 {
     names.iter().any(|name| name.spelled() != "source")
 }
 
-/// Whether items of the architecture are kept where these are listed.
+/// Whether items of the architecture are kept by a suite that lists these architectures.
 fn is_kept<N: Spelled>(architectures: &[N], name: &str) -> bool
     ensures { result ≡ (if bytes_eq name.now (codes "all") then list_any (λ a. not (bytes_eq (N.spelling a) (codes "source"))) architectures.now
         else list_any (λ a. bytes_eq name.now (N.spelling a)) architectures.now) }
@@ -89,7 +89,7 @@ impl Suite {
     }
 
     /// Whether items of the architecture are kept: it is one of the suite's Architectures, `source` among them. Items of
-    /// `all` are kept where there is an architecture other than `source`, in whose index they stand.
+    /// `all` are kept if there is an architecture other than `source`, in whose index they stand.
     #[tactic(auto, unfolding(crate::specs::Suites::keeps_architecture))]
     pub fn keeps_architecture(&self, name: &str) -> bool
         ensures { result ≡ keeps_architecture self.now name.now }
@@ -165,7 +165,7 @@ pub fn position_of_named(suites: &[Suite], codename: &str) -> Option<usize>
         .position(|suite| suite.codename.as_str() == codename)
 }
 
-/// The component of a section (Debian Policy 2.4): what stands before its first slash, or `main` where it has none.
+/// The component of a section (Debian Policy 2.4): what stands before its first slash, or `main` if it has no slash.
 #[tactic(auto, unfolding(crate::specs::Suites::component_of))]
 pub fn component_of_section(section: &str) -> &str
     ensures { result.now ≡ component_of section.now }

@@ -18,7 +18,7 @@ use std::alloc::{AllocError, Global};
 pub enum SourcePattern {
     /// `*`: each source package.
     Any,
-    /// `FRONT*`: the source packages whose names begin so.
+    /// `FRONT*`: the source packages whose names begin with `FRONT`.
     Front(Text),
     /// The source package of this name.
     Name(Text),
@@ -75,7 +75,7 @@ fn some_allows<L: Allowing>(lines: &[L], source: &str, person: &str) -> bool
     lines.iter().any(|line| line_allows(line, source, person))
 }
 
-/// Whether the uploader lines allow an upload of the source package by the person. Where there is no such list, everybody
+/// Whether the uploader lines allow an upload of the source package by the person. If there is no such list, everybody
 /// may upload.
 pub fn lines_allow<L: Allowing>(uploaders: &Option<Listed<L>>, source: &str, person: &str) -> bool
     ensures { result ≡ option_map_or (list_any (λ line. rule_allows source.now person.now (L.as_rule line))) uploaders.now true }
@@ -86,7 +86,7 @@ pub fn lines_allow<L: Allowing>(uploaders: &Option<Listed<L>>, source: &str, per
     }
 }
 
-/// The parts of a line round its first ` by `.
+/// The parts of a line before and after its first ` by `.
 fn divide(line: &str) -> Option<(&str, &str)>
     ensures { option_map (λ parts. (parts.0.now, parts.1.now)) result ≡ divided line.now }
 {
@@ -163,7 +163,7 @@ fn is_person(text: &str) -> bool
     !text.is_empty() && !begins_with_blank(text) && !ends_with_blank(text)
 }
 
-/// Source and person of an uploader line; none where the line is not one.
+/// Source and person of an uploader line, or `None` if the line is not an uploader line.
 #[tactic(auto, unfolding(crate::specs::Uploaders::rule_parts))]
 pub fn rule_parts(line: &str) -> Option<(&str, &str)>
     ensures { option_map (λ parts. (parts.0.now, parts.1.now)) result ≡ rule_parts line.now }
@@ -203,7 +203,7 @@ fn rule_of(alloc: Global, source: &str, person: &str) -> Result<Rule, AllocError
     })
 }
 
-/// The rules that lines are. A line that is none is passed over.
+/// The rules of lines. A line that is not an uploader line is passed over.
 pub fn rules_of(alloc: Global, lines: &[&str]) -> Result<Listed<Rule>, AllocError>
     ensures { IfOk result (λ rules. rules ≡ rules_in (map (λ line. line.now) lines.now)) }
 {

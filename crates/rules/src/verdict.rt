@@ -3,7 +3,7 @@
 ghost use Rattle.std.specs.Prelude.{◌≡◌};
 ghost use Rattle.rules.specs.Verdicts.{number_of, verdict_numbered};
 
-/// What becomes of an upload; the lowest that applies is given (own rules of this archive).
+/// What becomes of an upload. If several verdicts apply, the answer is the lowest (own rules of this archive).
 #[derive(Clone, Copy, Debug, PartialEq, Eq)]
 pub enum Verdict {
     /// None of the others applies.
@@ -14,7 +14,7 @@ pub enum Verdict {
     ForeignArchitecture,
     /// No uploader line of the suite allows source and person.
     NotAllowed,
-    /// The components of the entries differ, or the suite does not have it.
+    /// The components of the entries differ, or the suite does not have the component.
     ForeignComponent,
     /// The listed files are not those that an upload has.
     BadListing,

@@ -1,5 +1,5 @@
-//! What is lent to be judged: names, entries, uploader lines, suites and uploads, each known by a trait alone. Where no more
-//! is known of a type, no allocator can be reached from it, so that what is over these traits takes no memory.
+//! What is lent to be judged: names, entries, uploader lines, suites and uploads, each known by a trait alone. If no more is
+//! known of a type, no allocator can be reached from it. So functions over these traits take no memory.
 
 ghost use Rattle.std.specs.Prelude.{◌≡◌, not, bytes_eq, position, ℕ, List};
 ghost use Rattle.std.specs.List.{list_any};

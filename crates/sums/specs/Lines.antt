@@ -20,7 +20,7 @@ is_space c = c == 32
 abbrev pub words : List ℕ → List (List ℕ)
 words line = slice_split is_space line
 
--- a word of a line, or nothing
+-- a word of a line, or an empty text if the line has fewer words
 abbrev pub word : List ℕ → ℕ → List ℕ
 word line i = slice_index_or (words line) i []
 
@@ -35,7 +35,7 @@ has_words form line = length (words line) == form.words && not (list_any (λ w. 
 abbrev pub is_lower_hex : ℕ → Bool
 is_lower_hex c = is_ascii_digit c || (nat_le 97 c && nat_le c 102)
 
--- a digest of so many bytes in lower-case hexadecimal
+-- a digest of `bytes` bytes in lower-case hexadecimal
 abbrev pub is_digest : ℕ → List ℕ → Bool
 is_digest bytes text = length text == 2 * bytes && list_all is_lower_hex text
 
@@ -57,7 +57,7 @@ size_word line = word line 1
 abbrev pub name_word : LineForm → List ℕ → List ℕ
 name_word form line = word line (form.words - 1)
 
--- what may be wrong with a line, each whatever the others are
+-- what may be wrong with a line, each by itself, whatever else is wrong
 abbrev pub has_bad_words : LineForm → List ℕ → Bool
 has_bad_words form line = not (has_words form line)
 

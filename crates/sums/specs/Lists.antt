@@ -30,7 +30,7 @@ sha256_name = codes "Checksums-Sha256"
 abbrev pub files_name : List ℕ
 files_name = codes "Files"
 
--- the lines of a field, none where it is absent
+-- the lines of a field, or no lines if it is absent
 abbrev pub lines_of_field : List FieldValue → List ℕ → List (List ℕ)
 lines_of_field paragraph name = unwrap_or (option_map (λ f. f.more) (field_named name paragraph)) []
 
@@ -58,12 +58,12 @@ abbrev pub files_line : ListKind → Entry → List ℕ
 files_line Dsc e = spelled (encode_lower e.print.md5 ∷ decimal e.print.size ∷ e.name ∷ [])
 files_line Changes e = spelled (encode_lower e.print.md5 ∷ decimal e.print.size ∷ e.section ∷ e.priority ∷ e.name ∷ [])
 
--- Section and priority stand in the `Files` of a .changes alone, where each is a word.
+-- Section and priority stand only in the `Files` of a .changes, and each is a word there.
 abbrev pub HasSection : ListKind → Entry → Type 0
 HasSection Dsc e = (e.section ≡ []) × (e.priority ≡ [])
 HasSection Changes e = (is_word e.section ≡ true) × (is_word e.priority ≡ true)
 
--- a digest of so many bytes
+-- a digest of `count` bytes
 pub record IsDigest (count : ℕ) (digest : List ℕ) : Type 0 where
   pub length : length digest ≡ count
   pub bytes : All (λ b. b < 256) digest
@@ -104,7 +104,7 @@ pub record Listed (lines : Lines) (kind : ListKind) (entries : List Entry) : Typ
   pub each : All (IsFile kind) entries
   pub count : (0 < length entries) × (length entries ≤ 256)
 
--- a list is there, and nothing stands behind the colon of its name
+-- a list is there, and nothing stands after the colon of its name
 abbrev pub IsList : Option FieldValue → Type 0
 IsList field = MatchOption field ⊥ (λ f. f.first ≡ [])
 
@@ -126,7 +126,7 @@ some_line is_bad kind lines = list_any (is_bad sha1_form) lines.sha1
 abbrev pub is_absent : List FieldValue → List ℕ → Bool
 is_absent paragraph name = is_none (field_named name paragraph)
 
--- a field is there with text behind its colon
+-- a field is there with text after its colon
 abbrev pub has_first : List FieldValue → List ℕ → Bool
 has_first paragraph name = unwrap_or (option_map (λ f. nat_lt 0 (length f.first)) (field_named name paragraph)) false
 

@@ -63,16 +63,16 @@ any_failed f = f.words || f.digest || f.size || f.name
 abbrev pub fault_of_failed : Failed → Option ListFault
 fault_of_failed f = if f.words then Some BadWords else if f.digest then Some BadDigest else if f.size then Some BadSize else if f.name then Some BadName else None
 
--- texts are split: the checks that failed are known, and where none did, all lines are kept
+-- texts are split: the checks that failed are known, and if no check failed, all lines are kept
 pub record IsSplit (before : Failed) (form : LineForm) (texts : List (List ℕ)) (after : Failed) (lines : List (List ℕ)) : Type 0 where
   pub failed : after ≡ with_lines before form texts
   pub kept : any_failed after ≡ false → lines ≡ texts
 
--- the lowest fault from the words of the lines on
+-- the lowest fault that applies, from `BadWords` on
 abbrev pub fault_of_lines : ListKind → Lines → Option ListFault
 fault_of_lines kind lines = find (applies_to_lines kind lines) (drop 2 faults)
 
--- the lowest fault from the names of the lists on
+-- the lowest fault that applies, from `NameTwice` on
 abbrev pub fault_of_names : ListKind → Lines → Option ListFault
 fault_of_names kind lines = find (applies_to_lines kind lines) (drop 6 faults)
 
@@ -89,7 +89,7 @@ abbrev pub is_size_of : NameAndSize → Option (List ℕ) → Bool
 is_size_of file None = false
 is_size_of file (Some size) = bytes_eq file.size size
 
--- the sizes of files of which no two have one name
+-- the sizes of files, of which no two have the same name
 pub record AreSizes (sizes : BTreeMap (Bor (List ℕ)) (Bor (List ℕ))) (files : List NameAndSize) : Type 0 where
   pub once : has_twice files ≡ false
   pub each : (name : List ℕ) → size_in sizes name ≡ size_named files name
@@ -98,24 +98,24 @@ pub record IsFileList (list : FileList) (files : List NameAndSize) : Type 0 wher
   pub files_are : map in_names list.files.items ≡ files
   pub sizes_are : AreSizes list.sizes files
 
--- the files of three lists, in none of which a name stands twice
+-- the files of three lists; no list has a name twice
 pub record AreFileLists (kind : ListKind) (lines : Lines) (lists : FileLists) : Type 0 where
   pub sha1 : IsFileList lists.sha1 (map (name_and_size sha1_form) lines.sha1)
   pub sha256 : IsFileList lists.sha256 (map (name_and_size sha256_form) lines.sha256)
   pub files : IsFileList lists.files (map (name_and_size (files_form kind)) lines.files)
   pub once : any_twice kind lines ≡ false
 
--- the three lists of a paragraph, each there with nothing behind its colon
+-- the three lists of a paragraph, each there with nothing after its colon
 pub record AreLists (kind : ListKind) (paragraph : List FieldValue) (lists : FoundLists) : Type 0 where
   pub lines : lines_found lists ≡ lines_of paragraph
   pub rest : fault kind paragraph ≡ fault_of_lines kind (lines_of paragraph)
 
--- the lines of lists, each split, of which none is wrong by itself
+-- the lines of lists, each split; no line is wrong by itself
 pub record AreSplit (kind : ListKind) (found : Lines) (lines : Lines) : Type 0 where
   pub same : lines ≡ found
   pub rest : fault_of_lines kind found ≡ fault_of_names kind found
 
--- the entries of lists without a fault from the words of their lines on
+-- the entries of lists to which no fault from `BadWords` on applies
 pub record AreEntries (kind : ListKind) (lines : Lines) (entries : List Entry) : Type 0 where
   pub faultless : fault_of_lines kind lines ≡ None
   pub entries_are : entries ≡ entries_of kind lines

@@ -1,6 +1,6 @@
 //! The names of files.
 //!
-//! A test of bytes looks at all of them and does not branch, so that many are tested at once.
+//! A test of bytes looks at all of them and does not branch, so that several bytes are tested at once.
 
 ghost use Rattle.std.specs.Prelude.{◌≡◌};
 ghost use Rattle.std.specs.List.{list_all};

@@ -6,7 +6,7 @@ ghost use Rattle.sums.specs.declared.entries.Entry.{Entry};
 ghost use Rattle.sums.specs.declared.entries.ListKind.{ListKind};
 ghost use Rattle.sums.specs.Lists.{ListedIn, lists_in};
 
-/// Lists are read as these entries exactly where the paragraph lists these. So a refusal says that it lists none.
+/// Lists are read as these entries if and only if the paragraph lists them. So a refusal says that it lists no entries.
 pub fn lists_are_read()
     ensures { (kind : ListKind) (p : List FieldValue) (es : List Entry) → (lists_in kind p ≡ Ok es) ↔ ListedIn p kind es }
 {}

@@ -1,6 +1,6 @@
 //! A line of a list: its words, and what each has to be.
 //!
-//! A test of bytes looks at all of them and does not branch, so that many are tested at once.
+//! A test of bytes looks at all of them and does not branch, so that several bytes are tested at once.
 
 ghost use Rattle.std.specs.Prelude.{◌≡◌, ◌==◌, ◌<◌, ◌&&◌, nat_lt, nat_le, slice_index, true, length, map, IfOk};
 ghost use Rattle.std.specs.Char.{is_ascii_digit};
@@ -60,7 +60,7 @@ impl<'a> Model for Line<'a> {
 }
 
 impl<'a> Line<'a> {
-    /// Splits a line, with room for so many words at once.
+    /// Splits a line, with room for `room` words at once.
     fn new(alloc: Global, room: usize, text: &'a str) -> Result<Line<'a>, AllocError>
         ensures { IfOk result (λ line. line ≡ text.now) }
     {
@@ -70,7 +70,7 @@ impl<'a> Line<'a> {
     }
 }
 
-/// A word of a line, or nothing where it has fewer.
+/// A word of a line, or an empty text if the line has fewer words.
 pub fn word<'a>(line: &Line<'a>, index: usize) -> &'a str
     ensures { result.now ≡ word line.now index }
 {
@@ -117,7 +117,7 @@ fn is_lower_hex(c: u8) -> bool
     c.is_ascii_digit() | (b'a'..=b'f').contains(&c)
 }
 
-/// Whether a word is a digest of so many bytes.
+/// Whether a word is a digest of `bytes` bytes.
 fn is_digest(bytes: usize, word: &str) -> bool
     ensures { result ≡ is_digest bytes word.now }
 {

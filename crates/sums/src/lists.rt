@@ -52,7 +52,7 @@ impl<'a> Drop for FileLists<'a> {
     }
 }
 
-/// The files of the three lists, in none of which a name stands twice.
+/// The files of the three lists. No list has a name twice.
 fn file_lists<'a>(alloc: Global, lists: Lists<'a>) -> Result<FileLists<'a>, ListFault>
     ensures { MatchResult result (AreFileLists lists.entry.kind (lines_in lists.entry)) (λ e. (e ≡ ListFault.OutOfMemory) ⊎ (fault_of_names lists.entry.kind (lines_in lists.entry) ≡ Some e)) }
 {
@@ -72,7 +72,7 @@ fn file_lists<'a>(alloc: Global, lists: Lists<'a>) -> Result<FileLists<'a>, List
     })
 }
 
-/// Whether the lists have not the same names with the same sizes.
+/// Whether the lists differ in their names, or in the size of a name.
 fn some_disagree(lists: &FileLists<'_>) -> bool
     ensures { (kind : ListKind) (lines : Lines) → AreFileLists kind lines lists.now → result ≡ any_disagree kind lines }
 {
@@ -86,7 +86,7 @@ fn is_bad_count(files: &[Line<'_>]) -> bool
     files.is_empty() || files.len() > MOST_FILES
 }
 
-/// What is wrong with the lists from the names of their files on.
+/// Checks the names, sizes and number of the files: the faults of the lists from `NameTwice` on.
 fn check_names(alloc: Global, lists: Lists<'_>) -> Result<(), ListFault>
     ensures { MatchResult result (λ _. fault_of_names lists.entry.kind (lines_in lists.entry) ≡ None) (λ e. (e ≡ ListFault.OutOfMemory) ⊎ (fault_of_names lists.entry.kind (lines_in lists.entry) ≡ Some e)) }
 {
@@ -100,7 +100,7 @@ fn check_names(alloc: Global, lists: Lists<'_>) -> Result<(), ListFault>
     Ok(())
 }
 
-/// Whether text stands behind the colon of one of the lists.
+/// Whether text stands after the colon of one of the lists.
 fn has_text(sha1: &Field<'_>, sha256: &Field<'_>, files: &Field<'_>) -> bool
     ensures { result ≡ (nat_lt 0 (length sha1.now.first.now) || nat_lt 0 (length sha256.now.first.now) || nat_lt 0 (length files.now.first.now)) }
 {
@@ -156,7 +156,7 @@ impl<'a> Drop for SplitLists<'a> {
     }
 }
 
-/// Splits the lines of the three lists, of which none is wrong by itself.
+/// Splits the lines of the three lists, and refuses a line that is wrong by itself.
 fn split_lists<'a>(
     alloc: Global,
     found: FoundLists<'a>,
@@ -175,7 +175,7 @@ fn split_lists<'a>(
     })
 }
 
-/// The entries of lists of whose lines none is wrong by itself.
+/// The entries of lists in which no line is wrong by itself.
 fn read_lines(alloc: Global, lists: Lists<'_>) -> Result<Vec<Entry>, ListFault>
     requires { fault_of_lines lists.kind (lines_in lists) ≡ fault_of_names lists.kind (lines_in lists) }
     ensures { MatchResult result (λ entries. AreEntries lists.entry.kind (lines_in lists.entry) entries.items) (λ e. (e ≡ ListFault.OutOfMemory) ⊎ (fault_of_lines lists.entry.kind (lines_in lists.entry) ≡ Some e)) }
@@ -186,10 +186,10 @@ fn read_lines(alloc: Global, lists: Lists<'_>) -> Result<Vec<Entry>, ListFault>
 
 /// The entries of the three lists of a record (Debian Policy 5.6.21, 5.6.24), in the order of `Files`.
 ///
-/// A list has nothing behind the colon of its name and then a line a file: digest, size and name, in the `Files` of a
-/// .changes MD5, size, section, priority and name. Own rules of this archive: single spaces and no tab, digests in lower-case
-/// hexadecimal of full length, sizes decimal without leading zeros and of at most 4194304, 1 to 256 files, each once in each
-/// list and with the same size in all. Of the faults that apply the one of lowest number is answered.
+/// A list has nothing after the colon of its name, and then a line for each file: digest, size and name, and in the `Files`
+/// of a .changes MD5, size, section, priority and name. Own rules of this archive: single spaces and no tab, digests in
+/// lower-case hexadecimal of full length, sizes decimal without leading zeros and of at most 4194304, 1 to 256 files, each
+/// once in each list and with the same size in all. If several faults apply, the answer is the one of lowest number.
 pub fn read_lists(
     alloc: Global,
     paragraph: &Paragraph<'_>,

@@ -54,7 +54,7 @@ fn sized_lines<'a>(
         .collect(alloc)
 }
 
-/// The sizes of the files by their names, or nothing where a name stands twice.
+/// The sizes of the files by their names, or nothing if a name stands twice.
 fn sizes_by_name<'a>(
     alloc: Global,
     files: &[SizedName<'a>],
@@ -70,7 +70,7 @@ fn sizes_by_name<'a>(
     Ok(Some(sizes))
 }
 
-/// The files of the lines of a list, or nothing where a name stands twice.
+/// The files of the lines of a list, or nothing if a name stands twice.
 pub fn file_list<'a>(
     alloc: Global,
     form: Form,
@@ -87,7 +87,7 @@ pub fn file_list<'a>(
     }
 }
 
-/// Whether that is the size of the file.
+/// Whether `sizes` has the size of the file at its name.
 fn has_size(sizes: &BTreeMap<&str, &str>, file: &SizedName<'_>) -> bool
     ensures { result ≡ is_size_of (in_names file.now) (size_in sizes.now file.now.name.now) }
 {
@@ -97,14 +97,14 @@ fn has_size(sizes: &BTreeMap<&str, &str>, file: &SizedName<'_>) -> bool
     }
 }
 
-/// Whether some file has another size there, or none.
+/// Whether some file has another size in `sizes`, or no size there.
 fn lacks(files: &[SizedName<'_>], sizes: &BTreeMap<&str, &str>) -> bool
     ensures { result ≡ list_any (λ file. not (is_size_of file (size_in sizes.now file.name))) (map in_names files.now) }
 {
     files.iter().any(|file| !has_size(sizes, file))
 }
 
-/// Whether one of two lists has a file that the other has not with that size.
+/// Whether one of two lists has a file that the other does not have with that size.
 pub fn disagree(left: &FileList<'_>, right: &FileList<'_>) -> bool
     ensures { (xs ys : List NameAndSize) → IsFileList left.now xs → IsFileList right.now ys → result ≡ disagree xs ys }
 {

@@ -8,7 +8,7 @@ use crate::order::{order_numbers, order_parts};
 use crate::parts::{Parts, split_epoch};
 use std::cmp::Ordering;
 
-/// The text behind its epoch and the first colon; the whole text where it has no colon.
+/// The text after its epoch and the first colon; the whole text if it has no colon.
 pub fn behind_epoch(text: &str) -> &str
     ensures { result.now ≡ without_epoch text.now }
 {
