@@ -13,7 +13,7 @@ pub record MayJoin (shelves : ShelvesValue) (items : List (ShelfKey × Item)) : 
   pub apart : AllPairs (λ a b. a.0 ≢ b.0) items
   pub agreed : AreAgreed (files_of (values shelves) ++ files_of (map (λ a. a.1) items))
 
--- of some items with their shelves, those that no shown item covers
+-- the items, each with its shelf, that no shown item covers
 abbrev pub arriving : {X : Type 0} → (X → List ℕ) → ShelvesWith X → List (ShelfKey × X) → List (ShelfKey × X)
 arriving version shelves items = filter (λ a. not (is_covered version shelves a)) items
 

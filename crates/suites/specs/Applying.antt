@@ -11,7 +11,7 @@ use Rattle.suites.specs.declared.plan.Reference.{Reference}
 use Rattle.suites.specs.declared.shelves.Arrivals.{Arrivals}
 use Rattle.suites.specs.declared.shelves.SharedFile.{SharedFile}
 
--- of what is put: on a shelf that shows nothing, or in the place of another item
+-- whether what is put comes to a shelf that shows nothing, or in the place of another item
 abbrev pub is_new : ShelvesValue → ShelfKey × Item → Bool
 is_new shelves e = not (contains_key shelves e.0)
 
@@ -23,7 +23,7 @@ pub record AreArrivals (shelves : ShelvesValue) (put : List (ShelfKey × Item)) 
   pub keys : arrivals.new_keys.items ≡ map (λ e. e.0) arrivals.new.items
   pub replacing : arrivals.replacing.items ≡ filter (is_replacing shelves) put
 
--- of what is dropped, the items on whose shelves nothing is put
+-- the dropped items on whose shelves nothing is put
 abbrev pub leaving : List (ShelfKey × Item) → List (ShelfKey × Item) → List (ShelfKey × Item)
 leaving put dropped = filter (λ e. not (is_some (find key_order e.0 put))) dropped
 
@@ -41,7 +41,7 @@ abbrev pub printed_as : Print → Option SharedFile → Option SharedFile
 printed_as print None = None
 printed_as print (Some file) = Some (record { print = print; references = file.references })
 
--- the same where the path is this one: by a reference, and by a file of an item
+-- what is kept at a path once a reference or a file of an item has come or gone: it changes only if the path is the same
 abbrev pub with_reference : List ℕ → Option SharedFile → Reference → Option SharedFile
 with_reference path shared r = cond (bytes_eq r.path path) (one_more r.print shared) shared
 

@@ -14,7 +14,7 @@ use Rattle.suites.specs.declared.shelves.SharedFile.{SharedFile}
 unfoldable pub count_at : List ℕ → List (List ℕ × Print) → ℕ
 count_at path files = length (filter (λ f. bytes_eq f.0 path) files)
 
--- the print at the path and the number of references; nothing where no item has a file there
+-- the print at the path and the number of references; nothing if no item has a file there
 unfoldable pub shared_at : List ℕ → List (List ℕ × Print) → Option SharedFile
 shared_at path files =
     option_map (λ print. record { print = print; references = count_at path files }) (find text_order path files)

@@ -22,7 +22,7 @@ pub record ItemWith (C : Type 0) : Type 0 where
   pub paragraph : List ℕ
   pub files : List (FileWith C)
 
--- the same file and item with other contents
+-- a file and an item with their contents replaced
 abbrev pub file_with : {C D : Type 0} → (C → D) → FileWith C → FileWith D
 file_with f file = record { path = file.path; contents = f file.contents }
 

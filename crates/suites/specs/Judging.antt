@@ -15,15 +15,15 @@ use Rattle.suites.specs.declared.verdict.Parts.{Parts}
 use Rattle.suites.specs.declared.verdict.Judged.{Judged}
 use Rattle.suites.specs.declared.verdict.Judged.TheVariants.{Accepted, Refused}
 
--- a listed file and its text, without where they lie in memory
+-- a listed file and its text as values, without their places in memory
 abbrev pub part_of : parts.Part → Part
 part_of p = (p.entry.now, p.text.now)
 
--- the text is no .dsc, or one that says other than the .changes
+-- the text is not a .dsc, or is one that says other than the .changes
 abbrev pub is_bad_dsc : ChangesValue → Part → Bool
 is_bad_dsc c part = match_ok (dsc_in part.1) (differs_from_dsc c part.0.name)
 
--- the text is no sidecar, or none that the .changes may have
+-- the text is not a sidecar, or is not one that the .changes may have
 abbrev pub is_bad_sidecar : ChangesValue → Part → Bool
 is_bad_sidecar c part = match_ok (sidecar_in part.1) (differs_from_sidecar c part.0.name)
 

@@ -14,7 +14,7 @@ use Rattle.suites.specs.declared.key.ShelfKey.{ShelfKey}
 abbrev pub place_in : List Suite → List Suite → ℕ → Option ℕ
 place_in old new n = option_and_then (λ s. suite_named new s.codename) (slice_get old n)
 
--- an item on its shelf in the suite of the same codename, where there is one
+-- an item on its shelf in the suite of the same codename, if there is such a suite
 abbrev pub moved_entry : List Suite → List Suite → ShelfKey × Item → Option (ShelfKey × Item)
 moved_entry old new e = option_map (λ n. (record e.0 { suite = n }, e.1)) (place_in old new e.0.suite)
 
@@ -26,6 +26,6 @@ moved old new shown = from_entries (filter_map (moved_entry old new) (entries sh
 unfoldable pub stays_kept : List Suite → List Suite → ShelfKey × Item → Bool
 stays_kept old new e = option_map_or (is_kept_by new) (moved_entry old new e) false
 
--- all that is shown is kept so
+-- all that is shown is kept in the suite of the same codename
 unfoldable pub all_stay : List Suite → List Suite → ShelvesValue → Bool
 all_stay old new shown = list_all (stays_kept old new) (entries shown)

@@ -20,7 +20,7 @@ use Rattle.suites.specs.declared.plan.Reference.{Reference}
 use Rattle.suites.specs.declared.item.Item.{Item}
 use Rattle.suites.specs.declared.key.ShelfKey.{ShelfKey}
 
--- what a verdict lets in: all where it is acceptance, else nothing
+-- what a verdict lets in: all if it is acceptance, else nothing
 abbrev pub admitted_if : {X : Type 0} → Verdict → List X → List X
 admitted_if Accepted items = items
 admitted_if _ items = []
@@ -58,7 +58,7 @@ copied config shelves from to source = flat_map
 unfoldable pub is_of_source : ℕ → List ℕ → ShelfKey × Item → Bool
 is_of_source from source a = nat_eq a.0.suite from && bytes_eq a.1.source source
 
--- the shelves on which they stand, in order
+-- the shelves on which the items of the source package stand, in order
 unfoldable pub shelves_of : ShelvesValue → ℕ → List ℕ → List ShelfKey
 shelves_of shelves from source = map (λ a. a.0) (filter (is_of_source from source) (entries shelves))
 
@@ -75,7 +75,7 @@ after_copy config shelves from to source = shown_after version_of shelves (copie
 unfoldable pub is_removed : {X : Type 0} → ℕ → List ℕ → ShelfKey × X → Bool
 is_removed suite name e = nat_eq e.0.suite suite && bytes_eq e.0.«package» name
 
--- those that the suite shows
+-- the items that a removal takes
 unfoldable pub removed : ShelvesValue → ℕ → List ℕ → List (ShelfKey × Item)
 removed shelves suite name = filter (is_removed suite name) (entries shelves)
 

@@ -8,15 +8,15 @@ use Rattle.suites.specs.Items.{FileWith, ItemWith}
 use Rattle.suites.specs.declared.item.Item.{Item}
 use Rattle.suites.specs.declared.item.PoolFile.{PoolFile}
 
--- A byte that goes on with a character (UTF-8).
+-- A byte that continues a character (UTF-8).
 abbrev pub is_continuation : ℕ → Bool
 is_continuation c = nat_le 128 c && nat_lt c 192
 
--- the first n bytes; the whole text where these would end within a character
+-- the first n bytes; the whole text if these would end within a character
 unfoldable pub front_of : ℕ → List ℕ → List ℕ
 front_of n text = if is_continuation (slice_index text n) then text else take n text
 
--- the folder of a source within its component: its first letter, or four letters of a library's
+-- the folder of a source within its component: the first letter of its name, or the first four letters of a library's name
 unfoldable pub prefix_of : List ℕ → List ℕ
 prefix_of source =
     if starts_with nat_eq source (codes "lib") && nat_lt 3 (length source) then front_of 4 source else front_of 1 source

@@ -29,22 +29,22 @@ pub record ListsExactly (files : List PoolFile) (contents : List ℕ → Option 
 abbrev pub references_at : ShelvesValue → List ℕ → ℕ
 references_at shelves path = count_at path (files_of (values shelves))
 
--- what the pool gains at a path: the file to which a reference comes, where none was
+-- what the pool gains at a path: the file to which a reference comes, if there was no reference
 unfoldable pub gained : ShelvesValue → List Reference → List ℕ → Option Print
 gained shelves put path = cond (nat_eq (references_at shelves path) 0) (find text_order path (map referred put)) None
 
--- what it loses: the file from which as many references go as there were, where none comes
+-- what the pool loses at a path: the file from which as many references go as there were, if no reference comes
 unfoldable pub lost : ShelvesValue → List Reference → List Reference → List ℕ → Option Print
 lost shelves put dropped path =
     if is_some (find text_order path (map referred put)) then None
     else cond (nat_le (references_at shelves path) (count_at path (map referred dropped))) (find text_order path (map referred dropped)) None
 
--- a file with one reference more, of this print where it had none; the number stays at the greatest
+-- a file with one more reference, or a file of this print if there was none; the number does not pass the greatest of 64 bits
 abbrev pub one_more : Option SharedFile → Print → SharedFile
 one_more None print = record { print = print; references = 1 }
 one_more (Some file) print = record { print = file.print; references = min (file.references + 1) 18446744073709551615 }
 
--- of files by their paths, those that pass the test
+-- the files, given by their paths, that pass the test
 abbrev pub files_where : (List ℕ → SharedFile → Bool) → List (String Global × SharedFile) → List PoolFile
 files_where test files = map (λ e. record { path = string_bytes e.0; print = e.1.print }) (filter (λ e. test (string_bytes e.0) e.1) files)
 

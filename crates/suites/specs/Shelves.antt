@@ -12,18 +12,18 @@ use Rattle.suites.specs.Pool.{PoolWith, pool_of, files_of, AreAgreed}
 use Rattle.suites.specs.declared.key.ShelfKey.{ShelfKey}
 use Rattle.suites.specs.declared.item.Item.{Item}
 
--- Two versions of items: the first is at least as great, or greater (Policy 5.6.12).
+-- Of two versions of items, the first is at least as great, or greater (Policy 5.6.12).
 unfoldable pub is_at_least : List ℕ → List ℕ → Bool
 is_at_least v w = not (is_lt (version_cmp v w))
 
 unfoldable pub is_above : List ℕ → List ℕ → Bool
 is_above v w = is_lt (version_cmp w v)
 
--- of items with their shelves: for the same shelf, and of a version at least as great
+-- of two items with their shelves, the first is for the same shelf, and of a version at least as great
 unfoldable pub covers : {X : Type 0} → (X → List ℕ) → ShelfKey × X → ShelfKey × X → Bool
 covers version a b = eq_by_cmp key_order a.0 b.0 && is_at_least (version a.1) (version b.1)
 
--- for the same shelf, and of a greater version
+-- of two items with their shelves, the first is for the same shelf, and of a greater version
 unfoldable pub beats : {X : Type 0} → (X → List ℕ) → ShelfKey × X → ShelfKey × X → Bool
 beats version a b = eq_by_cmp key_order a.0 b.0 && is_above (version a.1) (version b.1)
 
@@ -31,12 +31,12 @@ beats version a b = eq_by_cmp key_order a.0 b.0 && is_above (version a.1) (versi
 abbrev pub ShelvesWith : Type 0 → Type 0
 ShelvesWith X = FinMap key_order X
 
--- What the suites show, where these were admitted in this order: on each shelf the greatest version, and of equal ones
+-- What the suites show if these items were admitted in this order: on each shelf the greatest version, and of equal ones
 -- the first.
 unfoldable pub shown : {X : Type 0} → (X → List ℕ) → List (ShelfKey × X) → ShelvesWith X
 shown version admitted = from_entries (held (covers version) (beats version) admitted)
 
--- the same, where some were admitted before what is shown came about
+-- what the suites show if they show `shelves`, and these items are admitted then
 abbrev pub shown_after : {X : Type 0} → (X → List ℕ) → ShelvesWith X → List (ShelfKey × X) → ShelvesWith X
 shown_after version shelves admitted = shown version (entries shelves ++ admitted)
 

@@ -1,4 +1,4 @@
--- What records say of items: an item is as its paragraph tells it, and its suite keeps it.
+-- What records say of items: an item is as its paragraph says, and its suite keeps it.
 use Rattle.std.specs.Prelude.{◌≡◌, ℕ, Bool, true, false, ◌&&◌, List, [], ◌∷◌, ◌++◌, map, codes, slice_get, Ok, All}
 use Rattle.std.specs.Option.{option_map_or}
 use Rattle.std.specs.FinMap.{entries}
@@ -48,7 +48,7 @@ pub record IsBinaryOf (item : Item) (s : SidecarValue) : Type 0 where
   pub version : item.version ≡ s.version
   pub files : map (λ f. f.path) item.files ≡ path_in item (deb_file s) ∷ []
 
--- the item is as its paragraph tells it
+-- the item is as its paragraph says
 abbrev pub IsToldAs : Kind → Item → Type 0
 IsToldAs Source item = (d : DscValue) × IsSourceOf item d
 IsToldAs Binary item = (s : SidecarValue) × IsBinaryOf item s
@@ -60,7 +60,7 @@ IsTold item = IsToldAs item.kind item
 unfoldable pub is_kept_by : List Suite → ShelfKey × Item → Bool
 is_kept_by suites e = option_map_or (λ s. keeps_component s e.1.component && keeps_architecture s e.1.architecture) (slice_get suites e.0.suite) false
 
--- Each item that the suites show is as its paragraph tells it, and its suite keeps it.
+-- Each item that the suites show is as its paragraph says, and its suite keeps it.
 pub record AreTold (suites : List Suite) (shelves : ShelvesValue) : Type 0 where
   pub told : All (λ e. IsTold e.1) (entries shelves)
   pub kept : All (λ e. is_kept_by suites e ≡ true) (entries shelves)

@@ -38,7 +38,7 @@ pub record IsTextOf (p : Part) : Type 0 where
   pub body : has_text p.0.name ≡ true → print_of p.1 ≡ p.0.print
   pub none : has_text p.0.name ≡ false → p.1 ≡ []
 
--- a text for each entry, and no two entries of one name
+-- a text for each entry, and no two entries of the same name
 pub record IsUpload (u : UploadValue) : Type 0 where
   pub count : length u.texts ≡ length u.changes.entries
   pub names : AllPairs (λ a b. a.name ≢ b.name) u.changes.entries
@@ -68,7 +68,7 @@ package_file entries sidecar = entry_named (stem (codes ".control") sidecar ++ c
 
 -- Items by the contents of their files: `contents` has those of an entry, prints or bodies.
 module _ {C : Type 0} (contents : Entry → C) where
-  -- where an entry's file goes
+  -- an entry's file at its path in the pool
   abbrev pub file_at : ChangesValue → List ℕ → Entry → FileWith C
   file_at c component e = record { path = pool_path component c.source e.name; contents = contents e }
 

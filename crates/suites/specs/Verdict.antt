@@ -36,14 +36,14 @@ are_among names others = list_all (is_among others) names
 unfoldable pub has_source : ChangesValue → Bool
 has_source c = is_among c.architectures (codes "source")
 
--- how a file of an upload is named that is no source file
+-- the name is not that of a source file
 unfoldable pub is_package_part : List ℕ → Bool
 is_package_part name =
     has_suffix (codes ".dsc") name || has_suffix (codes ".deb") name || has_suffix (codes ".control") name
     || has_suffix (codes ".changes") name
 
--- 5. A .changes is listed; there is not one .dsc with `source` among the architectures, and none without; a
--- package file has no sidecar or the reverse; or a source file comes without `source`.
+-- 5. A .changes is listed; there is not exactly one .dsc although `source` is among the architectures, or one although it
+-- is not; a package file has no sidecar or the reverse; or a source file comes without `source`.
 unfoldable pub has_bad_listing : ChangesValue → Bool
 has_bad_listing c =
     nat_lt 0 (length (names_with (codes ".changes") c.entries))
@@ -68,7 +68,7 @@ differs_from_dsc c name d =
     || list_any (λ e. is_package_part e.name) d.entries
     || not (list_all (has_entry d.entries) (filter (λ e. not (is_package_part e.name)) c.entries))
 
--- the test at the record, or true where the text is none
+-- the test at the record, or true if the text is not a record
 abbrev pub match_ok : {V E : Type 0} → Result V E → (V → Bool) → Bool
 match_ok (Ok v) test = test v
 match_ok (Err e) test = true
@@ -76,7 +76,7 @@ match_ok (Err e) test = true
 unfoldable pub has_bad_dsc : UploadValue → Bool
 has_bad_dsc u = list_any (λ part. match_ok (dsc_in part.1) (differs_from_dsc u.changes part.0.name)) (dsc_parts u)
 
--- 7. A sidecar is none, is misnamed, is of an architecture or a source that the .changes does not have, or
+-- 7. A sidecar is not valid, is misnamed, is of an architecture or a source that the .changes does not have, or
 -- is the second of its package and architecture.
 unfoldable pub sidecar_file : SidecarValue → List ℕ
 sidecar_file s = s.name ++ codes "_" ++ without_epoch s.version ++ codes "_" ++ s.architecture ++ codes ".control"
@@ -89,7 +89,7 @@ differs_from_sidecar c name s =
 unfoldable pub is_same_package : SidecarValue → SidecarValue → Bool
 is_same_package s t = bytes_eq s.name t.name && bytes_eq s.architecture t.architecture
 
--- two of them have the same package and architecture
+-- two of the sidecars have the same package and architecture
 abbrev pub have_twins : List SidecarValue → Bool
 have_twins [] = false
 have_twins (s ∷ rest) = list_any (is_same_package s) rest || have_twins rest
@@ -99,11 +99,11 @@ has_bad_sidecar u =
     list_any (λ part. match_ok (sidecar_in part.1) (differs_from_sidecar u.changes part.0.name)) (sidecar_parts u)
     || have_twins (filter_map (λ part. result_ok (sidecar_in part.1)) (sidecar_parts u))
 
--- where an entry's file goes
+-- the path of an entry's file in the pool
 abbrev pub path_of : ChangesValue → Entry → List ℕ
 path_of c e = pool_path (component c) c.source e.name
 
--- What the verdict asks of contents: the print of some, whether two are the same, and those of an entry's file.
+-- What the verdict asks of contents: their print, whether two are the same, and the contents of an entry's file.
 pub record Telling (C : Type 0) : Type 0 where
   pub print : C → Print
   pub same : C → C → Bool
@@ -139,11 +139,11 @@ module _ {C : Type 0} (tell : Telling C) (files : PoolWith C) where
       ∷ (has_other_contents u, verdict.OtherContents)
       ∷ []
 
-  -- the verdict: that of the first row, of the verdicts 1 to 9, that applies; accepted where none does
+  -- the verdict: the first of the rows of the verdicts 1 to 9 that applies; accepted if no row does
   abbrev pub verdict_with : ConfigValue → UploadValue → Verdict
   verdict_with config u = first_row (rule_rows config u.changes ++ upload_rows u)
 
--- prints tell of themselves, and an entry has its own
+-- contents that are prints: each is its own print, and an entry has its print
 abbrev pub by_print : Telling Print
 by_print = record { print = λ p. p; same = same_print; of_entry = λ e. e.print }
 

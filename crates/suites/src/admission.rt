@@ -94,7 +94,7 @@ fn add_standing(
     }
 }
 
-/// Adds what comes and goes where an item comes to its shelf: nothing where a shown item covers it, else the item, and what
+/// Adds what comes and goes when an item comes to its shelf: nothing if a shown item covers it, else the item, and what
 /// stood there.
 fn add_arrival(
     alloc: Global,

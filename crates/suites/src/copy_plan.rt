@@ -130,8 +130,8 @@ fn kept_items(
     Ok(items)
 }
 
-/// What a copy changes of the shelves, as `plan_copy` says it, from the shelves on which the items of the source package stand
-/// in the suite `from`, in their order: no other shelf is looked at.
+/// What a copy changes of the shelves, as `plan_copy` says it. It is given the shelves on which the items of the source package
+/// stand in the suite `from`, in their order, and looks at no other shelf.
 pub fn plan_copy_of(
     alloc: Global,
     config: &Config,

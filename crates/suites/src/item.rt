@@ -86,7 +86,7 @@ fn names_of(alloc: Global, said: &Said<'_>) -> Result<Names, AllocError>
     })
 }
 
-/// The item that says this and has these files.
+/// The item that says `said` and has these files.
 pub fn item_with(
     alloc: Global,
     said: &Said<'_>,

@@ -18,7 +18,7 @@ use std::alloc::{AllocError, Global};
 use std::str;
 use sums::Entry;
 
-/// The .dsc of an upload, where it has one.
+/// The .dsc of an upload that has one.
 pub struct SourcePart<'a> {
     pub part: Part<'a>,
     pub dsc: Dsc,

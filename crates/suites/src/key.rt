@@ -1,4 +1,4 @@
-//! Where an item stands: its suite, and within it one shelf for each kind, package and architecture.
+//! Where an item stands: in its suite, and there on the shelf of its kind, package and architecture.
 
 ghost use Rattle.std.specs.Prelude.{◌≡◌, IfOk};
 ghost use Rattle.std.specs.Ordering.{as_partial_cmp, eq_by_cmp};
@@ -42,7 +42,7 @@ impl Kind {
     }
 }
 
-/// Where an item stands: one item a key is shown.
+/// Where an item stands. For each key at most one item is shown.
 pub struct ShelfKey {
     pub suite: usize,
     pub kind: Kind,

@@ -45,21 +45,21 @@ pub fn package_file<'a>(entries: &'a [Entry], sidecar: &str) -> Option<&'a Entry
         .find(|entry| is_joined(entry.name.as_str(), front, ".deb"))
 }
 
-/// Whether a name that has the first ending has a listed one of the same stem with the second.
+/// Whether a name with the first ending has a listed name of the same stem with the second. It holds for any other name.
 fn is_paired(entries: &[Entry], name: &str, ending: &str, other: &str) -> bool
     ensures { result ≡ (not (ends_in ending.now name.now) || is_among (stems other.now entries.now) (stem_of ending.now name.now)) }
 {
     !has_suffix(name, ending) || has_joined(entries, stem(name, ending), other)
 }
 
-/// Whether each listed name with the first ending has one of the same stem with the second.
+/// Whether each listed name with the first ending has a listed name of the same stem with the second.
 fn are_paired(entries: &[Entry], ending: &str, other: &str) -> bool
     ensures { result ≡ are_among (stems ending.now entries.now) (stems other.now entries.now) }
 {
     entries.iter().all(|entry| is_paired(entries, entry.name.as_str(), ending, other))
 }
 
-/// Whether a name is that of no source file: it ends in `.dsc`, `.deb`, `.control` or `.changes`.
+/// Whether a name is not that of a source file: it ends in `.dsc`, `.deb`, `.control` or `.changes`.
 #[tactic(auto, unfolding(crate::specs::Verdict::is_package_part))]
 pub fn is_package_part(name: &str) -> bool
     ensures { result ≡ is_package_part name.now }
@@ -107,8 +107,8 @@ fn has_package_parts_only(entries: &[Entry]) -> bool
         .all(|entry| is_package_part(entry.name.as_str()))
 }
 
-/// Whether a .changes lists what it may not: a .changes; more or fewer than one .dsc where `source` is among its
-/// architectures, or one where it is not; a package file without its sidecar or the reverse; or, without `source`, a
+/// Whether a .changes lists what it may not: a .changes; more or fewer than one .dsc if `source` is among its
+/// architectures, or any .dsc if it is not; a package file without its sidecar or the reverse; or, without `source`, a
 /// source file.
 #[tactic(auto, unfolding(crate::specs::Verdict::has_bad_listing))]
 pub fn has_bad_listing(changes: &Changes) -> bool

@@ -1,7 +1,7 @@
 //! Where files stand in the pool.
 //!
-//! The prefix of a source is cut in bytes. For a source that begins with another character than ASCII, which no source name does, a cut
-//! within a character takes the whole text.
+//! The prefix of a source is cut in bytes. If the cut falls within a character, the prefix is the whole text; that cannot happen to a
+//! source name, which is ASCII.
 
 ghost use Rattle.std.specs.Prelude.{◌≡◌, ◌&&◌, nat_eq, nat_lt, length, codes, IfOk, string_bytes};
 ghost use Rattle.std.specs.List.{starts_with};
@@ -9,7 +9,7 @@ ghost use Rattle.suites.specs.Pool.{front_of, prefix_of, directory_of, pool_path
 
 use std::alloc::{AllocError, Global};
 
-/// The first bytes of a text; the whole text where these would end within a character.
+/// The first bytes of a text; the whole text if these would end within a character.
 fn front(text: &str, length: usize) -> &str
     ensures { result.now ≡ front_of length text.now }
 {
@@ -27,7 +27,7 @@ fn is_library(source: &str) -> bool
     source.as_bytes().starts_with(b"lib") && source.len() > 3
 }
 
-/// The folder of a source within its component: its first letter, or four letters of a library's.
+/// The folder of a source within its component: the first letter of its name, or the first four letters of a library's name.
 #[tactic(auto, unfolding(crate::specs::Pool::prefix_of))]
 fn prefix(source: &str) -> &str
     ensures { result.now ≡ prefix_of source.now }
@@ -47,8 +47,8 @@ pub fn directory(alloc: Global, component: &str, source: &str) -> Result<String,
     format!(in alloc; "pool/{component}/{prefix}/{source}")
 }
 
-/// The path of a file of a source in the pool, `pool/COMPONENT/PREFIX/SOURCE/FILE`, where PREFIX is the first four
-/// characters of a source that begins with `lib` and is longer, else its first character. An own rule of this archive.
+/// The path of a file of a source in the pool, `pool/COMPONENT/PREFIX/SOURCE/FILE`. PREFIX is the first four
+/// characters of a source that begins with `lib` and is longer, else its first character (own rule of this archive).
 pub fn pool_path(
     alloc: Global,
     component: &str,

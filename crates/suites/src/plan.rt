@@ -1,7 +1,7 @@
 //! The plan of a change: exactly what differs before and after it.
 //!
-//! A plan changes a suite's date if it puts or drops an item. A law says that the shown items then differ, by shelf and the text of the
-//! version: an item is replaced only by one of a greater version.
+//! A plan changes a suite's date if it puts or drops an item. A law says that the shown items then differ in their shelves or in the
+//! texts of their versions: an item is replaced only by one of a greater version.
 
 ghost use Rattle.std.specs.Prelude.{◌≡◌, T, [], is_some};
 ghost use Rattle.std.specs.FinMap.{find, is_sorted};

@@ -21,7 +21,7 @@ pub struct FileChange {
     pub removed: Vec<PoolFile>,
 }
 
-/// A file with one reference more: of those before, if there are some, else of this one with this print.
+/// A file with one more reference: the one that was there, or else a file of this print with its first reference.
 fn with_one_more(file: Option<&SharedFile>, print: Print) -> SharedFile
     ensures { result ≡ one_more (option_copied file.entry) print }
 {
@@ -37,7 +37,7 @@ fn with_one_more(file: Option<&SharedFile>, print: Print) -> SharedFile
     }
 }
 
-/// Counts one reference more.
+/// Counts one more reference.
 fn count_reference(
     alloc: Global,
     files: &mut BTreeMap<String, SharedFile>,
@@ -135,7 +135,7 @@ fn removed_files(
     Ok(files)
 }
 
-/// The differences of the pool where these references come and go.
+/// What the pool gains and loses when these references come and go.
 pub fn pool_changes(
     alloc: Global,
     shelves: &Shelves,

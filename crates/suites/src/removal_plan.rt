@@ -73,7 +73,7 @@ pub fn plan_remove(
     ensures dropped { IfOk result (λ plan. plan.dropped ≡ removed shelves.now suite name.now) }
     ensures told { AreTold config.now.suites shelves.now → AreTold config.now.suites (after_removal shelves.now suite name.now) }
 {
-    // What records tell is said of the suites of the configuration.
+    // Only the clause `told` speaks of the configuration.
     let _ = config;
     // For the prover alone: the shelves are sound.
     shelves.agree();

@@ -2,9 +2,9 @@
 //!
 //! What all suites show is one map, in order, by suite, kind, package and architecture. Beside it is the pool: a map, in order, from a path
 //! to a print and how many items refer to it. References are counted in 64 bits. One more than these hold is refused like want of memory:
-//! no machine has so many, since each is an element of a list.
+//! no machine has that number of references, since each is an element of a list.
 //!
-//! What always holds of this type is known to a caller only from the clause of a call: `Shelves::agree`, with an empty body, is that call.
+//! A caller knows what always holds of this type only from the clause of a call: `Shelves::agree`, with an empty body, is that call.
 
 ghost use Rattle.std.specs.Prelude.{◌≡◌, ℕ, ◌<◌, T, List, [], ◌∷◌, OnOk, OnErr, IfOk, IfSome, None, true, bytes_eq, option_copied, map, fold, cond, All};
 ghost use Rattle.std.specs.BTreeMap.{IsOrdered, get_by_text};
@@ -63,7 +63,7 @@ impl Model for Shelves {
     ghost invariant = { λ s. AreSound (from_entries s.items.entries) × IsOrdered key_order s.items × Counts s.files (from_entries s.items.entries) };
 }
 
-/// Copies of what a plan puts: those for new shelves, with their keys once more, and those in the place of other items.
+/// Copies of what a plan puts: the items for new shelves, with their keys once more, and the items in the place of others.
 #[derive(Drop)]
 pub struct Arrivals {
     pub new_keys: Vec<ShelfKey>,
@@ -106,7 +106,7 @@ fn copied(alloc: Global, key: &ShelfKey, item: &Item) -> Result<(ShelfKey, Item)
     Ok((key.try_clone()?, item.try_clone(alloc)?))
 }
 
-/// Copies of what a plan puts where these items are shown.
+/// Copies of what a plan puts on shelves that show these items.
 fn copied_arrivals(
     alloc: Global,
     items: &BTreeMap<ShelfKey, Item>,
@@ -203,7 +203,7 @@ fn replace_items(items: &mut BTreeMap<ShelfKey, Item>, replacing: Vec<(ShelfKey,
     }
 }
 
-/// Takes the dropped items away, but for those whose shelves the plan puts others on.
+/// Takes the dropped items away, except those on whose shelves the plan puts others.
 fn drop_items(items: &mut BTreeMap<ShelfKey, Item>, plan: &Plan)
     requires in_order { T (is_sorted key_order plan.now.put) }
     requires ordered { IsOrdered key_order items.old }
@@ -217,7 +217,7 @@ fn drop_items(items: &mut BTreeMap<ShelfKey, Item>, plan: &Plan)
     }
 }
 
-/// Counts one more reference to the file at a path. More of them than a `u64` counts are too many for memory.
+/// Counts one more reference to the file at a path. More references than a `u64` counts are refused like want of memory.
 fn add_reference(
     alloc: Global,
     files: &mut BTreeMap<String, SharedFile>,
@@ -245,7 +245,7 @@ fn add_reference(
     Ok(())
 }
 
-/// Counts one reference less to the file at a path. The file goes with the last one.
+/// Counts one reference less to the file at a path. The file goes with its last reference.
 fn drop_reference(files: &mut BTreeMap<String, SharedFile>, path: &str)
     ensures { (q : List ℕ) → get_by_text files.new q ≡ cond (bytes_eq path.now q) (one_less (get_by_text files.old q)) (get_by_text files.old q) }
 {
@@ -259,7 +259,7 @@ fn drop_reference(files: &mut BTreeMap<String, SharedFile>, path: &str)
     files.remove(path);
 }
 
-/// Counts the references of dropped items no more.
+/// Stops counting the references of dropped items.
 fn drop_references(files: &mut BTreeMap<String, SharedFile>, dropped: &[Reference])
     ensures { (path : List ℕ) → get_by_text files.new path ≡ fold (without_reference path) (get_by_text files.old path) dropped.now }
 {
@@ -287,7 +287,7 @@ fn add_references(
     Ok(())
 }
 
-/// Counts the files of an item no more.
+/// Stops counting the files of an item.
 fn drop_files(files: &mut BTreeMap<String, SharedFile>, dropped: &[PoolFile])
     ensures { (path : List ℕ) → get_by_text files.new path ≡ fold (without_file path) (get_by_text files.old path) dropped.now }
 {
@@ -315,7 +315,7 @@ fn add_files(
     Ok(())
 }
 
-/// Gives a file that the pool gains its print. Where its path also goes, the print is another than before.
+/// Gives a file that the pool gains its print. This changes the print if the pool also loses the path.
 fn set_print(files: &mut BTreeMap<String, SharedFile>, added: &PoolFile)
     ensures { (path : List ℕ) → get_by_text files.new path ≡ with_print path (get_by_text files.old path) added.now }
 {
@@ -413,8 +413,8 @@ impl Shelves {
         }
     }
 
-    /// Puts an item on its shelf, which is empty, where its files may join the pool. Where memory runs out the shelves show
-    /// what they showed.
+    /// Puts an item on its shelf, which is empty. Its files must be such as may join the pool. If memory runs out, the
+    /// shelves show what they showed.
     pub fn put(&mut self, alloc: Global, key: ShelfKey, item: Item) -> Result<(), AllocError>
         requires home { IsAtHome (key, item) }
         requires free { get self.old key ≡ None }
@@ -432,7 +432,7 @@ impl Shelves {
         }
     }
 
-    /// Makes a plan that was made for these shelves. Where memory runs out they show what they showed.
+    /// Carries out a plan that was made for these shelves. If memory runs out, they show what they showed.
     pub fn apply(&mut self, alloc: Global, plan: &Plan) -> Result<(), AllocError>
         requires { (after : ShelvesValue) × IsStep self.old after plan.now }
         ensures ok { OnOk result (self.new ≡ applied self.old plan.now) }

@@ -10,7 +10,7 @@ use records::{Changes, Dsc, Sidecar};
 use std::alloc::{AllocError, Global};
 use sums::Entry;
 
-/// Whether a .dsc lists a file that the archive keeps by another way: a .dsc, a package file, a sidecar or a .changes.
+/// Whether a .dsc lists a file that is not a source file: a .dsc, a package file, a sidecar or a .changes.
 fn lists_package_part(entries: &[Entry]) -> bool
     ensures { result ≡ list_any (λ e. is_package_part_name e.name) entries.now }
 {
@@ -19,7 +19,7 @@ fn lists_package_part(entries: &[Entry]) -> bool
         .any(|entry| is_package_part(entry.name.as_str()))
 }
 
-/// Whether a file of a .changes is no source file, or listed by the .dsc with the same print.
+/// Whether a file of a .changes is not a source file, or is listed by the .dsc with the same print.
 fn is_known(listed: &[Entry], entry: &Entry) -> bool
     ensures { result ≡ (is_package_part_name entry.now.name || has_entry listed.now entry.now) }
 {
@@ -42,8 +42,8 @@ pub fn dsc_name(alloc: Global, dsc: &Dsc) -> Result<String, AllocError>
     format!(in alloc; "{source}_{version}.dsc")
 }
 
-/// Whether a .dsc of this name is not the one that the .changes is about: another source or version, a name that is
-/// not `SOURCE_VERSION.dsc` with the version without its epoch, or other files.
+/// Whether a .dsc of this name is not the one that the .changes is about: it has another source or version, a name that
+/// is not `SOURCE_VERSION.dsc` with the version without its epoch, or other files.
 #[tactic(auto, unfolding(crate::specs::Verdict::differs_from_dsc))]
 pub fn differs_from_dsc(
     alloc: Global,
@@ -84,8 +84,8 @@ pub fn deb_name(alloc: Global, sidecar: &Sidecar) -> Result<String, AllocError>
     format!(in alloc; "{package}_{version}_{architecture}.deb")
 }
 
-/// Whether a sidecar of this name is none that the .changes may have: another source, an architecture that the .changes
-/// lacks, or a name that is not `PACKAGE_VERSION_ARCHITECTURE.control` by its own fields.
+/// Whether a sidecar of this name is not one that the .changes may have: it has another source, an architecture that the
+/// .changes lacks, or a name that is not `PACKAGE_VERSION_ARCHITECTURE.control` by its own fields.
 #[tactic(auto, unfolding(crate::specs::Verdict::differs_from_sidecar))]
 pub fn differs_from_sidecar(
     alloc: Global,

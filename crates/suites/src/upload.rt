@@ -2,7 +2,7 @@
 //!
 //! An upload keeps the bodies of its .dsc and its sidecars. Of every other file it keeps the print alone.
 //!
-//! `Upload::lists_once`, with an empty body, tells the prover what always holds of an upload.
+//! From `Upload::lists_once`, which has an empty body, the prover knows what always holds of an upload.
 
 ghost use Rattle.std.specs.Prelude.{◌≡◌, IfOk, map, filter, zip, option_copied};
 ghost use Rattle.suites.specs.Upload.{IsUpload, has_suffix, has_text as keeps_text, entry_named as named_entry, parts_with};
@@ -20,7 +20,7 @@ pub struct Upload {
     name: Text,
     print: Print,
     changes: Changes,
-    /// A text for each listed file, in the order of the list: its body where it is a .dsc or a sidecar, else nothing.
+    /// A text for each listed file, in the order of the list: its body if it is a .dsc or a sidecar, else nothing.
     texts: Listed<Listed<u8>>,
 }
 
@@ -34,7 +34,7 @@ impl Model for Upload {
     ghost invariant = { λ u. IsUpload (record { name = u.name; print = u.print; changes = u.changes; texts = u.texts }) };
 }
 
-/// A listed file of an upload: its entry in the .changes, and its text where it is a .dsc or a sidecar.
+/// A listed file of an upload: its entry in the .changes, and its text if it is a .dsc or a sidecar.
 #[derive(Clone, Copy)]
 pub struct Part<'a> {
     pub entry: &'a Entry,
@@ -70,7 +70,7 @@ impl Upload {
         self.print
     }
 
-    /// Each listed file has its text, and no two have one name. For the prover alone: the law is the contract.
+    /// Each listed file has its text, and no two have the same name. For the prover alone: the law is the contract.
     pub fn lists_once(&self)
         ensures { IsUpload self.now }
     {

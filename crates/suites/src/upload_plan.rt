@@ -54,7 +54,7 @@ fn component_name<'a>(config: &'a Config, place: Place) -> &'a str
     }
 }
 
-/// What an upload changes of the shelves: its verdict, and where it is accepted the items that it gives its suite and
+/// What an upload changes of the shelves: its verdict, and if it is accepted, the items that it gives its suite and
 /// that are not covered there. The verdict is the lowest that applies.
 pub fn plan_upload(
     alloc: Global,
@@ -66,7 +66,7 @@ pub fn plan_upload(
     ensures step { IfOk result (IsStep shelves.now (after_upload config.now shelves.now upload.now)) }
     ensures told { AreTold config.now.suites shelves.now → AreTold config.now.suites (after_upload config.now shelves.now upload.now) }
 {
-    // For the prover alone: each listed file has its text, no two have one name, and the shelves are sound.
+    // For the prover alone: each listed file has its text, no two have the same name, and the shelves are sound.
     upload.lists_once();
     shelves.agree();
     let place = match judge(config, upload.changes()) {

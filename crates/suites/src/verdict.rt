@@ -46,7 +46,7 @@ pub enum Judged<'a> {
     Refused(Verdict),
 }
 
-/// The .dsc that a text is, or nothing where it is none.
+/// The .dsc that a text is, or nothing if it is not a .dsc.
 fn dsc_in(alloc: Global, text: &[u8]) -> Result<Option<Dsc>, AllocError>
     ensures { IfOk result (λ found. found ≡ result_ok (dsc_of_text text.now)) }
 {
@@ -57,7 +57,7 @@ fn dsc_in(alloc: Global, text: &[u8]) -> Result<Option<Dsc>, AllocError>
     }
 }
 
-/// The sidecar that a text is, or nothing where it is none.
+/// The sidecar that a text is, or nothing if it is not a sidecar.
 fn sidecar_in(alloc: Global, text: &[u8]) -> Result<Option<Sidecar>, AllocError>
     ensures { IfOk result (λ found. found ≡ result_ok (sidecar_of_text text.now)) }
 {
@@ -68,7 +68,7 @@ fn sidecar_in(alloc: Global, text: &[u8]) -> Result<Option<Sidecar>, AllocError>
     }
 }
 
-/// The .dsc of the upload, where this part is what the .changes is about.
+/// The .dsc of the upload, if this part is the one that the .changes is about.
 fn source_part<'a>(
     alloc: Global,
     changes: &Changes,
@@ -85,7 +85,7 @@ fn source_part<'a>(
     Ok(Some(SourcePart { part, dsc }))
 }
 
-/// A sidecar of the upload, where this part is one that the .changes may have.
+/// A sidecar of the upload, if this part is one that the .changes may have.
 fn binary_part<'a>(
     alloc: Global,
     changes: &Changes,
@@ -102,7 +102,7 @@ fn binary_part<'a>(
     Ok(Some(BinaryPart { part, sidecar }))
 }
 
-/// The sidecars that these parts are, or nothing where one of them is none that the .changes may have.
+/// The sidecars that these parts are, or nothing if one of them is not a sidecar that the .changes may have.
 fn binary_parts<'a>(
     alloc: Global,
     changes: &Changes,
@@ -274,7 +274,7 @@ fn some_path_is_taken(
     Ok(false)
 }
 
-/// The verdict that follows from the pool, which is for the component: a source file that is nowhere, or a path that
+/// The verdict that follows from the pool, for an upload to the component: a source file is nowhere, or a path
 /// holds other contents.
 fn pool_verdict(
     alloc: Global,

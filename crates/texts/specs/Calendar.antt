@@ -2,11 +2,11 @@
 use Rattle.std.specs.Prelude.{ℕ, zero, suc, ◌+◌, ◌-◌, ◌/◌, ◌%◌, ◌==◌, nat_lt, Bool, ◌&&◌, ◌||◌, not, if◌then◌else◌, List, [], ◌∷◌, ◌++◌, codes, get_or}
 use Rattle.std.specs.Fmt.{decimal}
 
--- the last moment that may be handed in, 2099-12-31 23:59:59 UTC
+-- the last moment that may be given, 2099-12-31 23:59:59 UTC
 abbrev pub latest : ℕ
 latest = 4102444799
 
--- every fourth year, but of the hundredth ones only every fourth
+-- every fourth year, except the hundredth ones that are not a four hundredth one
 abbrev pub is_leap : ℕ → Bool
 is_leap year = (year % 4 == 0) && (not (year % 100 == 0) || (year % 400 == 0))
 
@@ -14,13 +14,13 @@ is_leap year = (year % 4 == 0) && (not (year % 100 == 0) || (year % 400 == 0))
 abbrev pub year_length : ℕ → ℕ
 year_length year = if is_leap year then 366 else 365
 
--- the days of its months
+-- the days of the months of a year
 abbrev pub month_lengths : ℕ → List ℕ
 month_lengths year =
     31 ∷ (if is_leap year then 29 else 28) ∷ 31 ∷ 30 ∷ 31 ∷ 30 ∷ 31 ∷ 31 ∷ 30 ∷ 31 ∷ 30 ∷ 31 ∷ []
 
--- The year in which a day lies, and its place in that year from 0. The day is counted from 0, on from the first day of
--- the year at hand; no more than so many years are passed, and as many as there are days always do.
+-- The year in which a day lies, and its place in that year from 0. The day is counted from 0, from the first day of
+-- `year`. The first argument bounds how many years are passed; the number of the day is always enough.
 unfoldable pub year_and_day : ℕ → ℕ → ℕ → ℕ × ℕ
 year_and_day zero year day = (year, day)
 year_and_day (suc most) year day =
@@ -58,11 +58,11 @@ month_of day = (month_and_day (month_lengths (year_of day)) (year_and_day day 19
 unfoldable pub day_of : ℕ → ℕ
 day_of day = (month_and_day (month_lengths (year_of day)) (year_and_day day 1970 day).1).1 + 1
 
--- `01 Jan 1970`, of such a day
+-- a day of a month of a year, as `01 Jan 1970`
 unfoldable pub day_text : ℕ → ℕ → ℕ → List ℕ
 day_text year month day = two_digits day ++ codes " " ++ month_name month ++ codes " " ++ decimal year
 
--- `00:00:00`
+-- a time of day, as `00:00:00`
 unfoldable pub time_text : ℕ → ℕ → ℕ → List ℕ
 time_text hour minute second = two_digits hour ++ codes ":" ++ two_digits minute ++ codes ":" ++ two_digits second
 

@@ -23,7 +23,7 @@ unfoldable pub folder_texts : ShelvesValue → ℕ → Suite → ℕ → List Pa
 folder_texts shelves suite s date =
     (codes "Release", release_text s date (indices_of s shelves suite)) ∷ listed_texts s shelves suite
 
--- the same by their whole paths
+-- the texts of the suite at a position by their whole paths
 unfoldable pub suite_texts : ShelvesValue → ℕ → Suite → ℕ → List PathText
 suite_texts shelves suite s date = map (λ e. (suite_path s e.0, e.1)) (folder_texts shelves suite s date)
 

@@ -21,6 +21,6 @@ place_path place = index_path place.component place.architecture
 abbrev pub place_text : ShelvesValue → ℕ → Place → List ℕ
 place_text shelves suite place = listed_text shelves suite place.component place.architecture
 
--- the same text behind its path
+-- the path of the index at a place and its text
 abbrev pub place_entry : ShelvesValue → ℕ → Place → List ℕ × List ℕ
 place_entry shelves suite place = (place_path place, place_text shelves suite place)

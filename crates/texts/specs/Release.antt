@@ -13,7 +13,7 @@ use Rattle.texts.specs.declared.stanza.Digest.TheVariants.{Md5, Sha1, Sha256}
 use Rattle.texts.specs.Calendar.{date_text}
 use Rattle.texts.specs.Stanzas.{line_field, list_line, packages_text, sources_text}
 
--- the field, where there is a value for it
+-- the field, if there is a value for it
 unfoldable pub optional_field : List ℕ → Option (List ℕ) → Fields
 optional_field name value = map (line_field name) (option_to_list value)
 
@@ -32,7 +32,7 @@ is_source architecture = bytes_eq architecture (codes "source")
 unfoldable pub architectures_text : List (List ℕ) → List ℕ
 architectures_text architectures = join_with_byte 32 (filter (λ a. not (is_source a)) architectures)
 
--- until when a Release of the suite that last changed at the moment is valid, where the suite says for how long
+-- until when a Release of the suite that last changed at the moment is valid, if the suite says for how long
 unfoldable pub valid_until : Suite → ℕ → Fields
 valid_until s moment =
     map (λ days. line_field (codes "Valid-Until") (date_text (moment + days * 86400))) (option_to_list s.valid_days)
@@ -74,7 +74,7 @@ listed_text shelves suite component architecture =
     if is_source architecture then sources_text shelves suite component
     else packages_text shelves suite component architecture
 
--- the same text behind its path
+-- the path of an index and its text
 abbrev pub listed_entry : ShelvesValue → ℕ → List ℕ → List ℕ → List ℕ × List ℕ
 listed_entry shelves suite component architecture =
     (index_path component architecture, listed_text shelves suite component architecture)

@@ -19,7 +19,7 @@ use Rattle.indices.specs.Listed.{is_in_packages, is_in_sources}
 use Rattle.texts.specs.declared.stanza.Digest.{Digest}
 use Rattle.texts.specs.declared.stanza.Digest.TheVariants.{Md5, Sha1, Sha256}
 
--- the fields of the paragraph that a text spells, none where it spells none; the limit is that of a .dsc
+-- the fields of the paragraph that a text spells, none if it spells none; the limit is that of a .dsc
 unfoldable pub fields_of_text : List ℕ → Fields
 fields_of_text text = result_unwrap_or (fields_in text dsc_limit) []
 
@@ -85,7 +85,7 @@ source_lists files =
     ∷ list_field (codes "Checksums-Sha256") Sha256 files
     ∷ []
 
--- the same field under the name Package
+-- a field under the name Package
 abbrev pub as_package : FieldValue → FieldValue
 as_package f = record { name = codes "Package"; first = f.first; more = f.more }
 
@@ -99,7 +99,7 @@ unfoldable pub source_fields : Fields → Fields
 source_fields p = map as_package (filter (is_named (codes "Source")) p) ++ filter (λ f. not (is_placed f)) p
 
 -- The stanza of a source package: its .dsc, Source first and under the name Package, without its lists; then
--- where its files are, and the lists of all of them.
+-- the folder of its files, and the lists of all of them.
 unfoldable pub source_stanza : Item → List ℕ
 source_stanza item =
     paragraph_text (source_fields (fields_of_text item.paragraph)

@@ -92,7 +92,7 @@ fn package_stanza(alloc: Global, item: &Item) -> Result<Vec<u8>, AllocError>
     Ok(stanza)
 }
 
-/// Appends the stanza of an item that the index of the architecture lists, of another one nothing.
+/// Appends the stanza of an item if the index of the architecture lists it, else nothing.
 fn push_listed(
     alloc: Global,
     key: &ShelfKey,
@@ -133,7 +133,7 @@ pub fn push_packages(
 
 /// Appends the Packages of a suite's component and architecture, given by their positions in the configuration: a
 /// stanza for each shown package of that architecture or of `all`, in the order of the bytes of its name and then of
-/// its architecture. Where memory runs out the buffer is as before.
+/// its architecture. If memory runs out, the buffer is as before.
 pub fn packages(
     alloc: Global,
     config: &Config,

@@ -1,6 +1,6 @@
 //! Dates of Release.
 //!
-//! A date is written by counting days. A Valid-Until reaches to 2109-12-29, and 2100 has no 29 February.
+//! A date is written by counting days. A Valid-Until is at most 2109-12-29; 2100, which has no 29 February, is among the years.
 
 ghost use Rattle.std.specs.Prelude.{◌≡◌, ◌*◌, ◌≤◌, ◌<◌, ◌-◌, ◌/◌, ◌%◌, pos, IfOk, string_bytes};
 ghost use Rattle.jiff.specs.Words.{civil_nanos};
@@ -11,10 +11,10 @@ use jiff::civil::DateTime;
 use jiff::tz::Offset;
 use std::alloc::{AllocError, Global};
 
-/// The last moment that may be handed in, 2099-12-31 23:59:59 UTC.
+/// The last moment that may be given, 2099-12-31 23:59:59 UTC.
 pub const LATEST: u64 = 4_102_444_799;
 
-/// What a clock at UTC shows that many seconds after 1970-01-01 00:00:00 UTC.
+/// What a clock at UTC shows `moment` seconds after 1970-01-01 00:00:00 UTC.
 fn civil_time(moment: u64) -> DateTime
     requires { moment ≤ 4_417_804_799 }
     ensures { civil_nanos result ≡ pos (moment * 1_000_000_000) }
@@ -72,7 +72,7 @@ fn year(moment: u64, time: DateTime) -> u16
     time.year() as u16
 }
 
-/// The month of that moment, from 1.
+/// The month of a moment, from 1.
 fn month(moment: u64, time: DateTime) -> u8
     requires { civil_nanos time ≡ pos (moment * 1_000_000_000) }
     ensures within { (1 ≤ result) × (result ≤ 12) }
@@ -81,7 +81,7 @@ fn month(moment: u64, time: DateTime) -> u8
     time.month() as u8
 }
 
-/// The day of the month of that moment, from 1.
+/// The day of the month of a moment, from 1.
 fn day(moment: u64, time: DateTime) -> u8
     requires { civil_nanos time ≡ pos (moment * 1_000_000_000) }
     ensures within { result < 100 }
@@ -90,7 +90,7 @@ fn day(moment: u64, time: DateTime) -> u8
     time.day() as u8
 }
 
-/// The date of that moment.
+/// The date of a moment.
 fn day_text(alloc: Global, moment: u64, time: DateTime) -> Result<String, AllocError>
     requires { civil_nanos time ≡ pos (moment * 1_000_000_000) }
     ensures { IfOk result (λ text. string_bytes text ≡ day_text (year_of (moment / 86400)) (month_of (moment / 86400)) (day_of (moment / 86400))) }
@@ -100,7 +100,7 @@ fn day_text(alloc: Global, moment: u64, time: DateTime) -> Result<String, AllocE
     format!(in alloc; "{day:02} {month} {year}")
 }
 
-/// The time of day of that moment.
+/// The time of day of a second of the day.
 fn time_text(alloc: Global, second: u32) -> Result<String, AllocError>
     requires { second < 86400 }
     ensures { IfOk result (λ text. string_bytes text ≡ time_text (second / 3600) (second / 60 % 60) (second % 60)) }

@@ -103,7 +103,7 @@ fn suite_places(alloc: Global, suite: &Suite) -> Result<Listed<Place>, AllocErro
     )
 }
 
-/// The indices that the Release of a suite lists; it is the suite at the position.
+/// The indices that the Release of a suite lists, which is the suite at the position.
 fn listed_indices(
     alloc: Global,
     shelves: &Shelves,
@@ -189,7 +189,7 @@ fn rendered_release(
     release_text(alloc, suite, date, &indices)
 }
 
-/// The path of the folder of a suite, with a slash behind it.
+/// The path of the folder of a suite, with a slash after it.
 fn suite_folder(alloc: Global, codename: &str) -> Result<String, AllocError>
     ensures { IfOk result (λ path. string_bytes path ≡ codes "dists/" ++ codename.now ++ codes "/") }
 {
@@ -236,7 +236,7 @@ fn suite_text(
 }
 
 /// The text of the index at a path without a leading slash, rendered from what the suites show and the moments at which
-/// that last changed; nothing where the path is none of a configured suite, component and architecture.
+/// that last changed; nothing if the path is not that of a configured suite, component and architecture.
 pub fn index_text(
     alloc: Global,
     config: &Config,

@@ -7,7 +7,7 @@ ghost use Rattle.texts.specs.Places.{place_at, places_in};
 use para::{Listed, Text};
 use std::alloc::{AllocError, Global};
 
-/// What tells an index of a suite from its others.
+/// What distinguishes an index of a suite from its other indices.
 #[derive(Drop)]
 pub struct Place {
     pub component: Text,

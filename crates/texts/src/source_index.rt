@@ -84,7 +84,7 @@ fn push_paragraph(alloc: Global, text: &str, out: &mut Vec<u8>) -> Result<(), Al
     }
 }
 
-/// Appends where the files of a source are.
+/// Appends the field that says in which folder the files of a source are.
 fn push_directory(
     alloc: Global,
     component: &str,
@@ -152,8 +152,8 @@ fn push_lists(alloc: Global, files: &[PoolFile], out: &mut Vec<u8>) -> Result<()
     push_list(alloc, "Checksums-Sha256", Digest::Sha256, files, out)
 }
 
-/// The stanza of a source: its .dsc with Source first and under the name Package, without its lists; where its
-/// files are; the lists of the .dsc and its files; an empty line.
+/// The stanza of a source: its .dsc with Source first and under the name Package, without its lists; the folder of its
+/// files; the lists of the .dsc and its files; an empty line.
 #[tactic(auto, unfolding(crate::specs::Stanzas::source_stanza))]
 fn source_stanza(alloc: Global, item: &Item) -> Result<Vec<u8>, AllocError>
     ensures { IfOk result (λ stanza. stanza.items ≡ source_stanza item.now) }
@@ -171,7 +171,7 @@ fn source_stanza(alloc: Global, item: &Item) -> Result<Vec<u8>, AllocError>
     Ok(stanza)
 }
 
-/// Appends the stanza of an item that Sources lists, of another one nothing.
+/// Appends the stanza of an item if Sources lists it, else nothing.
 fn push_listed(
     alloc: Global,
     key: &ShelfKey,
@@ -208,7 +208,7 @@ pub fn push_sources(
 }
 
 /// Appends the Sources of a suite's component, given by their positions in the configuration: a stanza for each shown
-/// source, in the order of the bytes of its name. Where memory runs out the buffer is as before.
+/// source, in the order of the bytes of its name. If memory runs out, the buffer is as before.
 pub fn sources(
     alloc: Global,
     config: &Config,

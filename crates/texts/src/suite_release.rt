@@ -1,4 +1,4 @@
-//! Release: what a suite is, when it changed, until when that is valid, and the prints of its other indices.
+//! Release: what a suite is, when it changed, until when the Release is valid, and the prints of its other indices.
 
 ghost use Rattle.std.specs.Prelude.{◌≡◌, ◌≤◌, ◌<◌, ◌+◌, ◌*◌, ◌++◌, [], ◌∷◌, ◌||◌, not, OnOk, OnErr, IfOk, length, map, codes, string_bytes, if◌then◌else◌};
 ghost use Rattle.std.specs.List.{flat_map, join_with_byte};
@@ -15,7 +15,7 @@ use para::Text;
 use rules::{Config, Days, Suite};
 use std::alloc::{AllocError, Global};
 
-/// Appends the field where the configuration has a value for it.
+/// Appends the field if the configuration has a value for it.
 #[tactic(auto, unfolding(crate::specs::Release::optional_field))]
 fn push_optional(name: &str, value: &Option<Text>, out: &mut Vec<u8>) -> Result<(), AllocError>
     ensures { OnOk result (out.new.items ≡ out.old.items ++ paragraph_text (optional_field name.now value.now)) }
@@ -26,7 +26,7 @@ fn push_optional(name: &str, value: &Option<Text>, out: &mut Vec<u8>) -> Result<
     }
 }
 
-/// Appends a name, behind a space if another stands before it.
+/// Appends a name, after a space if another name stands before it.
 fn push_name(joined: &mut String, has_begun: bool, name: &str) -> Result<(), AllocError>
     ensures { OnOk result (string_bytes joined.new ≡ string_bytes joined.old ++ (if has_begun then 32 ∷ name.now else name.now)) }
 {
@@ -36,7 +36,7 @@ fn push_name(joined: &mut String, has_begun: bool, name: &str) -> Result<(), All
     joined.push_str(name)
 }
 
-/// Appends a name unless it is `source`, and tells whether some name has been appended.
+/// Appends a name unless it is `source`, and says whether some name has been appended.
 fn push_binary(joined: &mut String, has_begun: bool, name: &str) -> Result<bool, AllocError>
     ensures { IfOk result (λ begun. (begun ≡ (has_begun || not (is_source name.now))) × (string_bytes joined.new ≡ string_bytes joined.old ++ (if is_source name.now then [] else if has_begun then 32 ∷ name.now else name.now))) }
 {
@@ -128,7 +128,7 @@ fn push_end(alloc: Global, moment: u64, days: Days, out: &mut Vec<u8>) -> Result
     push_line_field("Valid-Until", date.as_str(), out)
 }
 
-/// Appends the field Valid-Until, where the suite says for how long its Release is valid.
+/// Appends the field Valid-Until, if the suite says for how long its Release is valid.
 #[tactic(auto, unfolding(crate::specs::Release::valid_until))]
 fn push_valid_until(
     alloc: Global,
@@ -200,8 +200,8 @@ pub fn release_text(
 
 /// Appends the Release of a suite, given by its position in the configuration, whose shown items last changed at the
 /// moment, in seconds since 1970-01-01 00:00:00 UTC; `indices` are its other texts, in the order of its components and
-/// in each of its architectures. Where the suite has ValidDays, Valid-Until is that many days behind the moment. Where
-/// memory runs out the buffer is as before.
+/// in each of its architectures. If the suite has ValidDays, Valid-Until is that number of days after the moment. If
+/// memory runs out, the buffer is as before.
 pub fn release(
     alloc: Global,
     config: &Config,
