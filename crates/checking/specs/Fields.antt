@@ -26,7 +26,7 @@ is_unknown_field f = not (is_known f.name)
 abbrev pub unknown_among : ℕ → Fields → List (ℕ × List ℕ)
 unknown_among number p = map (λ f. (number, f.name)) (filter is_unknown_field p)
 
--- the same of paragraphs, of which the first has this number
+-- the fields of paragraphs that are passed over; the first paragraph has this number
 abbrev pub unknown_behind : ℕ → List Fields → List (ℕ × List ℕ)
 unknown_behind number [] = []
 unknown_behind number (p ∷ ps) = unknown_among number p ++ unknown_behind (number + 1) ps

@@ -1,4 +1,4 @@
-//! The fields of a configuration that are passed over, since it has none of that name.
+//! The fields of a configuration that are passed over, because no field of a configuration has their names.
 
 ghost use Rattle.std.specs.Prelude.{◌≡◌, ◌++◌, ◌∷◌, ◌⊎◌, [], cond, not, IfOk, IfErr, IsErrAnd, List, map, Ok};
 ghost use Rattle.std.specs.Str.{str_eq_ignore_ascii_case};
@@ -110,9 +110,9 @@ fn unknown_of(alloc: Global, paragraphs: &[Paragraph<'_>]) -> Result<Vec<(usize,
     Ok(found)
 }
 
-/// The fields of a configuration that are passed over: those whose names, ASCII case ignored, are none that a configuration has. Each has
-/// the number of its paragraph, counted from 0, which is the suite's position, and its name as it is spelled. They are in the order of the
-/// text. Refused where the text is longer than a configuration may be, or is not one or more paragraphs, as `Config::read` does.
+/// The fields of a configuration that are passed over: those whose names, ASCII case ignored, are not names that a configuration has. Each
+/// has the number of its paragraph, counted from 0, which is the suite's position, and its name as it is spelled. They are in the order of
+/// the text. As by `Config::read`, a text is refused if it is longer than a configuration may be, or is not one or more paragraphs.
 pub fn unknown_fields(alloc: Global, text: &[u8]) -> Result<Vec<(usize, Text)>, ConfigFault>
     ensures found { IfOk result (λ found. (ps : List Fields) × (paragraphs_in text.now config_limit ≡ Ok ps) × (found.items ≡ unknown_behind 0 ps)) }
     ensures refused { IfErr result (λ e. (e ≡ ConfigFault.OutOfMemory) ⊎ IsErrAnd (paragraphs_in text.now config_limit) (λ fault. e ≡ of_paragraph fault)) }
@@ -138,7 +138,7 @@ fn is_in(letter: u8, name: &str) -> bool {
     false
 }
 
-/// How many letters of one name are not in the other, ASCII case ignored. So many edits at least lead from one to the other.
+/// How many letters of one name are not in the other, ASCII case ignored. At least this number of edits leads from one to the other.
 fn missing(known: &str, name: &str) -> usize {
     let mut count = 0usize;
     for letter in known.as_bytes() {
@@ -149,7 +149,7 @@ fn missing(known: &str, name: &str) -> usize {
     count
 }
 
-/// Whether a name may be fewer edits than these away from the other. This is asked first: most names are far from all others, and to
+/// Whether a name may be fewer than `edits` edits away from the other. This is asked first: most names are far from all others, and to
 /// count their edits takes far longer. The names of fields are ASCII, so their bytes are their characters.
 fn may_be_near(known: &str, name: &str, edits: usize) -> bool {
     if known.len().abs_diff(name.len()) >= edits {
@@ -159,7 +159,7 @@ fn may_be_near(known: &str, name: &str, edits: usize) -> bool {
 }
 
 /// The name of a field of a configuration that a name likely means: the nearest one, if it is at most three edits away, ASCII case ignored.
-/// An edit adds, takes away or changes one character. Of several that are as near it is the first in the order of the names in docs.
+/// An edit adds, removes or changes one character. If several are equally near, it is the first in the order of the names in docs.
 pub fn likely_name(alloc: Global, name: &str) -> Result<Option<&'static str>, AllocError> {
     let mut likely = None;
     let mut fewest = MOST_EDITS + 1;

@@ -8,7 +8,7 @@ use std::alloc::{AllocError, Global};
 /// How many seconds a day has.
 const DAY: u64 = 86_400;
 
-/// The files that an export writes into the folder of a suite. A component has a folder there, which can't be of such a name.
+/// The files that an export writes into the folder of a suite. A component has a folder there, which cannot have one of these names.
 const FILES_OF_TREE: [&str; 4] = ["Release", "Release.gpg", "InRelease", "index.html"];
 
 /// Appends a space and the text of each of these.
@@ -20,7 +20,7 @@ fn push_texts(line: &mut String, texts: &[Text]) -> Result<(), AllocError> {
     Ok(())
 }
 
-/// A line that begins so, with the text of each of these behind it.
+/// A line that begins with `begin`, then the text of each of these.
 fn listed_line(alloc: Global, begin: &str, texts: &[Text]) -> Result<String, AllocError> {
     let mut line = String::from_str(alloc, begin)?;
     push_texts(&mut line, texts)?;
@@ -110,7 +110,7 @@ fn is_named_as_file(component: &str) -> bool {
     false
 }
 
-/// Whether a suite has such a component.
+/// Whether a suite has a component with the name of a file of the tree.
 fn has_unwritable(suite: &Suite) -> bool {
     for component in suite.components.as_slice() {
         if is_named_as_file(component.as_str()) {
@@ -153,7 +153,7 @@ fn push_unwritable(
     Ok(())
 }
 
-/// The codename of the suite at a position, and the empty text where there is none.
+/// The codename of the suite at a position, or the empty text if there is no suite.
 fn codename_at(config: &Config, position: usize) -> &str {
     match config.suites().get(position) {
         Some(suite) => suite.codename.as_str(),
@@ -161,7 +161,7 @@ fn codename_at(config: &Config, position: usize) -> &str {
     }
 }
 
-/// `passed over NAME in CODENAME`, and `, did you mean KNOWN` behind it where a known name is near.
+/// `passed over NAME in CODENAME`, followed by `, did you mean KNOWN` if a known name is near.
 fn passed_line(alloc: Global, name: &str, codename: &str) -> Result<String, AllocError> {
     match likely_name(alloc, name)? {
         Some(known) => format!(in alloc; "passed over {name} in {codename}, did you mean {known}"),
@@ -180,10 +180,10 @@ fn passed_line(alloc: Global, name: &str, codename: &str) -> Result<String, Allo
 ///  release valid for good
 /// ```
 ///
-/// with a line for each rule on uploads, ` uploads * by anybody` where there is no such field, ` uploads nothing` where that has no line,
-/// and `for N days` where a Release is valid for so long. Then `files count for good`, or `for N days`; for each component that has the name
+/// with a line for each rule on uploads, ` uploads * by anybody` if there is no such field, ` uploads nothing` if the field has no line,
+/// and `for N days` if a Release is valid for that time. Then `files count for good`, or `for N days`; for each component that has the name
 /// of a file of the tree, `component NAME of CODENAME is named as a file of the tree: no export has it`; and for each field that is passed
-/// over, given with the position of its suite, `passed over NAME in CODENAME`, and `, did you mean KNOWN` where a known name is near.
+/// over, given with the position of its suite, `passed over NAME in CODENAME`, followed by `, did you mean KNOWN` if a known name is near.
 pub fn check_lines(
     alloc: Global,
     config: &Config,

@@ -14,11 +14,11 @@ use suites::{Shelves, Upload};
 /// Why an upload has its verdict.
 #[derive(Drop)]
 pub struct Answer {
-    /// The verdict that it would have today, where that is another.
+    /// The verdict that it would have today, if that is another.
     today: Option<Verdict>,
-    /// What is named, each by a word and a text behind it.
+    /// What is named, each as a word and a text after it.
     names: Vec<String>,
-    /// Whether files are gone from which the reason is found.
+    /// Whether the files from which the reason is found are gone.
     is_cleaned: bool,
 }
 
@@ -63,7 +63,7 @@ impl Answer {
         })
     }
 
-    /// The same of an upload whose files were cleaned: its verdict is told, and nothing is named.
+    /// The answer for an upload whose files were cleaned: its verdict is given, and nothing is named.
     pub fn cleaned(alloc: Global) -> Answer {
         Answer {
             today: None,
@@ -72,8 +72,8 @@ impl Answer {
         }
     }
 
-    /// What is meant by today's verdict, or else by the one that was given. Nothing is said where an upload that was refused would be
-    /// accepted: its packages were given to no suite.
+    /// What is meant by today's verdict, or else by the one that was given. Nothing is said if an upload that was refused would be
+    /// accepted today: its packages were given to no suite.
     fn means(&self, given: Verdict) -> Option<&'static str> {
         match self.today {
             Some(Verdict::Accepted) => None,
@@ -87,7 +87,7 @@ impl Answer {
         remedy(self.today.unwrap_or(given))
     }
 
-    /// Whether the items of an accepted upload are told: as lines they say what its verdict means.
+    /// Whether the items of an accepted upload are named. In the lines they stand for what its verdict means.
     fn has_items(&self, given: Verdict) -> bool {
         given == Verdict::Accepted && self.today.is_none() && !self.is_cleaned
     }
@@ -112,13 +112,13 @@ fn first_line(alloc: Global, judgement: &Judgement) -> Result<String, AllocError
     )
 }
 
-/// Adds a line behind the first, with a space in front.
+/// Adds a line after the first, with a space in front.
 fn push_below(alloc: Global, lines: &mut Vec<String>, text: &str) -> Result<(), AllocError> {
     lines.push(format!(in alloc; " {text}")?)?;
     Ok(())
 }
 
-/// The same where there is one.
+/// Adds a line after the first, with a space in front, if there is a text for it.
 fn push_some(alloc: Global, lines: &mut Vec<String>, text: Option<&str>) -> Result<(), AllocError> {
     if let Some(text) = text {
         push_below(alloc, lines, text)?;
@@ -126,7 +126,7 @@ fn push_some(alloc: Global, lines: &mut Vec<String>, text: Option<&str>) -> Resu
     Ok(())
 }
 
-/// Adds the line on the verdict of today, where that is another.
+/// Adds the line on the verdict of today, if that is another.
 fn push_today(
     alloc: Global,
     lines: &mut Vec<String>,
@@ -139,7 +139,7 @@ fn push_today(
     Ok(())
 }
 
-/// The lines on a judged upload: the verdict that it was given, and behind that, each with a space in front, today's if it is another, what
+/// The lines on a judged upload: the verdict that it was given, and after that, each with a space in front, today's if it is another, what
 /// that means, what is named, and what to do.
 pub fn answer_lines(
     alloc: Global,
@@ -169,7 +169,7 @@ fn name_value(alloc: Global, name: &str) -> Result<Value, AllocError> {
     json!(in alloc; [word, text])
 }
 
-/// The same of each.
+/// The word and the text of each name.
 fn names_value(alloc: Global, names: &[String]) -> Result<Value, AllocError> {
     let mut values = Vec::new(alloc);
     for name in names {
@@ -178,7 +178,7 @@ fn names_value(alloc: Global, names: &[String]) -> Result<Value, AllocError> {
     Ok(Value::Array(values))
 }
 
-/// A text, or null where there is none.
+/// A text, or null if there is none.
 fn text_value(alloc: Global, text: Option<&str>) -> Result<Value, AllocError> {
     match text {
         Some(text) => json!(in alloc; text),
@@ -186,7 +186,7 @@ fn text_value(alloc: Global, text: Option<&str>) -> Result<Value, AllocError> {
     }
 }
 
-/// The number of today's verdict, where that is another, or null.
+/// The number of today's verdict, if that is another, else null.
 fn today_value(today: Option<Verdict>) -> Value {
     match today {
         Some(verdict) => Value::from(verdict.number()),

@@ -27,7 +27,7 @@ fn is_of(item: &Item, version: &Version, print: Option<Print>) -> bool {
     }
 }
 
-/// `shown`, `instead VERSION` where another item is shown there, or `gone` where none is.
+/// `shown`, `instead VERSION` if another item is shown there, or `gone` if none is.
 fn state_of(
     alloc: Global,
     shelves: &Shelves,
@@ -75,7 +75,7 @@ fn key_of(
     })
 }
 
-/// The line of the source, whose .dsc is this text. There is none if that is no record.
+/// The line of the source whose .dsc is this text. There is no line if the text is not a record.
 fn source_line(
     alloc: Global,
     place: Place<'_>,
@@ -108,7 +108,7 @@ fn package_print(
     Ok(None)
 }
 
-/// The line of a package, whose sidecar is this text. There is none if that is no record.
+/// The line of a package whose sidecar is this text. There is no line if the text is not a record.
 fn package_line(
     alloc: Global,
     place: Place<'_>,
@@ -157,7 +157,7 @@ fn push_items(
     Ok(())
 }
 
-/// A line for each item of an accepted upload, the source first: `shown`, `instead VERSION` or `gone`, and behind that
+/// A line for each item of an accepted upload, the source first: `shown`, `instead VERSION` or `gone`, and after that
 /// `CODENAME PACKAGE VERSION ARCHITECTURE`.
 pub fn item_lines(
     alloc: Global,

@@ -1,4 +1,4 @@
-//! What the program prints of why an upload has its verdict, and of what one lacks that waits, as lines and as JSON.
+//! What the program prints of why an upload has its verdict, and of what a waiting upload lacks, as lines and as JSON.
 #![tactic(auto)]
 
 mod answer;

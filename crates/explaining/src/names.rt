@@ -5,7 +5,7 @@
 //! 2     architecture NAME, and suite CODENAME keeps NAME..
 //! 3     source NAME, person PERSON, and rule SOURCE by PERSON for each line that speaks of the source, or rule none
 //! 4     file NAME component NAME, not NAME; or component NAME, and suite CODENAME has NAME..
-//! 5     file NAME, and what it is or has not; or no .dsc with source
+//! 5     file NAME, and what it is or lacks; or no .dsc with source
 //! 6, 7  file NAME, and its fault or how it differs
 //! 8, 9  file NAME SIZE SHA256, place PATH, and there SIZE SHA256 or there nothing
 //! ```
@@ -48,7 +48,7 @@ fn push_taken_by(alloc: Global, lines: &mut Vec<String>, suite: &Suite) -> Resul
     Ok(())
 }
 
-/// Of verdict 1, the distribution, and those that suites take.
+/// Verdict 1: the distribution, and those that suites take.
 fn distribution_lines(
     alloc: Global,
     config: &Config,
@@ -78,7 +78,7 @@ fn suite_line(
     Ok(line)
 }
 
-/// Of verdict 2, the architecture, and those that the suite keeps.
+/// Verdict 2: the architecture, and those that the suite keeps.
 fn architecture_lines(
     alloc: Global,
     suite: Option<&Suite>,
@@ -118,7 +118,7 @@ fn rule_line(alloc: Global, rule: &Rule) -> Result<String, AllocError> {
     }
 }
 
-/// Adds the lines of these that speak of the source package, or one that says that none does.
+/// Adds a line for each of these rules that speaks of the source package, or one that says that none does.
 fn push_rules(
     alloc: Global,
     lines: &mut Vec<String>,
@@ -138,7 +138,7 @@ fn push_rules(
     Ok(())
 }
 
-/// Of verdict 3, the source package, the person, and what the suite says of uploads of that source.
+/// Verdict 3: the source package, the person, and what the suite says of uploads of that source.
 fn uploader_lines(
     alloc: Global,
     suite: Option<&Suite>,
@@ -156,7 +156,7 @@ fn uploader_lines(
     Ok(lines)
 }
 
-/// Of verdict 4, the file of another component than that of the upload.
+/// Verdict 4: the file of a component other than the upload's.
 fn other_component_lines(
     alloc: Global,
     file: &Text,
@@ -169,7 +169,7 @@ fn other_component_lines(
     Ok(lines)
 }
 
-/// Of verdict 4, the component that the suite does not have, and those that it has.
+/// Verdict 4: the component that the suite does not have, and those that it has.
 fn component_lines(
     alloc: Global,
     suite: Option<&Suite>,
@@ -197,7 +197,7 @@ fn listed_lines(alloc: Global, file: &Text, is: &str) -> Result<Vec<String>, All
     file_lines(alloc, file, worded(alloc, "is", is)?)
 }
 
-/// A .dsc too many, and what it is.
+/// A surplus .dsc, and what it is.
 fn surplus_lines(alloc: Global, file: &Text, is_second: bool) -> Result<Vec<String>, AllocError> {
     if is_second {
         listed_lines(alloc, file, "a second .dsc")
@@ -206,7 +206,7 @@ fn surplus_lines(alloc: Global, file: &Text, is_second: bool) -> Result<Vec<Stri
     }
 }
 
-/// A file with one of these endings, and that there is none of the same stem with the other.
+/// A file with one of these endings, and a line that says that there is no file of the same stem with the other.
 fn lone_lines(
     alloc: Global,
     file: &Text,
@@ -217,7 +217,7 @@ fn lone_lines(
     file_lines(alloc, file, format!(in alloc; "has no {stem}{other}")?)
 }
 
-/// That no .dsc is listed.
+/// A line that says that no .dsc is listed.
 fn no_dsc_lines(alloc: Global) -> Result<Vec<String>, AllocError> {
     let mut lines = Vec::new(alloc);
     lines.push(String::from_str(alloc, "no .dsc with source")?)?;
@@ -235,7 +235,7 @@ fn other_line(alloc: Global, word: &str, said: &Text, wanted: &str) -> Result<St
     format!(in alloc; "{word} {said}, not {wanted}")
 }
 
-/// That a .dsc does not list a file of the .changes, or lists it with another print.
+/// A line that says that a .dsc does not list a file of the .changes, or lists it with another print.
 fn lack_line(
     alloc: Global,
     file: &Text,
@@ -271,7 +271,7 @@ fn dsc_line(
     }
 }
 
-/// That a sidecar is of an architecture that the .changes does not have.
+/// A line that says that a sidecar is of an architecture that the .changes does not have.
 fn foreign_line(alloc: Global, architecture: &Text) -> Result<String, AllocError> {
     let architecture = architecture.as_str();
     format!(in alloc; "architecture {architecture} is not in the .changes")
@@ -290,7 +290,7 @@ fn sidecar_line(
     }
 }
 
-/// Two sidecars of one package and architecture: the second, and that it is.
+/// Two sidecars of the same package and architecture: the second, and a line that says that it is the second.
 fn twin_lines(
     alloc: Global,
     package: &Text,
@@ -304,7 +304,7 @@ fn twin_lines(
     file_lines(alloc, second, line)
 }
 
-/// Of verdicts 8 and 9, a file, its place in the pool, and what is there.
+/// Verdicts 8 and 9: a file, its place in the pool, and what is there.
 fn place_lines(
     alloc: Global,
     name: &Text,

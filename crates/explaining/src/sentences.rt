@@ -38,7 +38,7 @@ pub fn meaning(verdict: Verdict) -> &'static str {
     }
 }
 
-/// What to do about a verdict: behind an acceptance there is nothing.
+/// What to do about a verdict; nothing after an acceptance.
 pub fn remedy(verdict: Verdict) -> Option<&'static str> {
     match verdict {
         Verdict::Accepted => None,

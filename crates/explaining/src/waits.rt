@@ -1,4 +1,4 @@
-//! What an upload lacks that waits, as lines and as JSON.
+//! What a waiting upload lacks, as lines and as JSON.
 
 use crate::words::{file_line, upload_line};
 use inquiry::{Lack, WaitingUpload};
@@ -6,7 +6,7 @@ use serde_json::{Value, json};
 use std::alloc::{AllocError, Global};
 use sums::Print;
 
-/// Adds the lines on a listed file that is lacked: that it is, or that it came and counts no more, and what came in its place.
+/// Adds the lines on a listed file that an upload lacks: that it did not come, or came and no longer counts, and what came in its place.
 fn push_lack(alloc: Global, lines: &mut Vec<String>, lack: &Lack) -> Result<(), AllocError> {
     let name = lack.name.as_str();
     let word = if lack.is_ended { " ended" } else { " lacks" };
@@ -17,7 +17,7 @@ fn push_lack(alloc: Global, lines: &mut Vec<String>, lack: &Lack) -> Result<(), 
     Ok(())
 }
 
-/// The lines on an upload that waits, and what it lacks.
+/// The lines on an upload that waits, and on what it lacks.
 pub fn waiting_lines(
     alloc: Global,
     upload: &WaitingUpload,
@@ -41,7 +41,7 @@ fn file_value(alloc: Global, name: &str, print: &Print) -> Result<Value, AllocEr
     json!(in alloc; {"name": name, "size": size, "sha256": &digest})
 }
 
-/// The files that are lacked: those that came and count no more, or those that did not come.
+/// The files that an upload lacks: those that came and no longer count, or those that did not come.
 fn lacks_value(alloc: Global, lacks: &[Lack], is_ended: bool) -> Result<Value, AllocError> {
     let mut values = Vec::new(alloc);
     for lack in lacks {

@@ -3,7 +3,7 @@
 use std::alloc::{AllocError, Global};
 use sums::Print;
 
-/// A word, and a text behind it.
+/// A word, and a text after it.
 pub fn worded(alloc: Global, word: &str, text: &str) -> Result<String, AllocError> {
     format!(in alloc; "{word} {text}")
 }

@@ -1,4 +1,4 @@
--- What an upload lacks, told from what has arrived without its bytes.
+-- What an upload lacks, found from what has arrived without its bytes.
 use Rattle.std.specs.Prelude.{Bool, ◌&&◌, not, bytes_eq, List, filter, map}
 use Rattle.std.specs.List.{list_any}
 use Rattle.sums.specs.Prints.{same_print}
@@ -13,22 +13,22 @@ use Rattle.inquiry.specs.declared.lacking.Lack.{Lack}
 abbrev pub has_name : Entry → ArrivedFile → Bool
 has_name e f = bytes_eq f.name e.name
 
--- It is that file, by name and print.
+-- What has arrived is the listed file, by name and print.
 abbrev pub is_of : Entry → ArrivedFile → Bool
 is_of e f = bytes_eq f.name e.name && same_print f.print e.print
 
--- It is, and counts.
+-- What has arrived is the listed file, and counts.
 abbrev pub counts_as : Counting → Entry → ArrivedFile → Bool
 counts_as counting e f = counts_since counting.span counting.moment f.moment && is_of e f
 
--- It has that name and another print, and counts.
+-- What has arrived has the name of the listed file and another print, and counts.
 abbrev pub is_other : Counting → Entry → ArrivedFile → Bool
 is_other counting e f = counts_since counting.span counting.moment f.moment && (has_name e f && not (is_of e f))
 
 abbrev pub print_of : ArrivedFile → Print
 print_of f = f.print
 
--- the listed files of which nothing counts
+-- the listed files of which no arrival counts
 abbrev pub lacked : Counting → List ArrivedFile → List Entry → List Entry
 lacked counting arrived entries = filter (λ e. not (list_any (counts_as counting e) arrived)) entries
 

@@ -1,4 +1,4 @@
--- An upload as it is judged, told from what arrived.
+-- An upload as it is judged, found from what arrived.
 use Rattle.std.specs.Prelude.{ℕ, if◌then◌else◌, List, [], ◌∷◌, find, Option, Some}
 use Rattle.std.specs.Option.{option_and_then, option_map}
 use Rattle.std.specs.Result.{result_ok}
@@ -31,6 +31,6 @@ kept_texts arrivals (e ∷ es) = option_and_then (λ text. option_map (λ texts.
 abbrev pub upload_with : List ℕ → Print → ChangesValue → List (List ℕ) → UploadValue
 upload_with name print c texts = record { name = name; print = print; changes = c; texts = texts }
 
--- the upload of a .changes of this name and print, if all is there of which it is read
+-- the upload of a .changes of this name and print, if all that it is read from is there
 abbrev pub kept_upload : List Arrival → List ℕ → Print → Option UploadValue
 kept_upload arrivals name print = option_and_then (λ c. option_map (upload_with name print c) (kept_texts arrivals c.entries)) (changes_of arrivals name print)

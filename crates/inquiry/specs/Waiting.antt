@@ -1,4 +1,4 @@
--- The uploads that wait for a verdict, told from what has arrived without its bytes.
+-- The uploads that wait for a verdict, found from what has arrived without its bytes.
 use Rattle.std.specs.Prelude.{Bool, ◌&&◌, not, bytes_eq, List}
 use Rattle.std.specs.List.{list_any}
 use Rattle.sums.specs.FileNames.{is_changes_name}

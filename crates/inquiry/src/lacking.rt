@@ -9,8 +9,8 @@ use para::{Listed, Text};
 use std::alloc::{AllocError, Global};
 use sums::{Entry, Print};
 
-/// A listed file of which nothing counts that has arrived: its name and its print; whether it came, and counts no more; and the prints of
-/// the other contents that came under its name, and count.
+/// A listed file of which no arrival counts: its name and its print; whether it came and no longer counts; and the prints of the other
+/// contents that came under its name and count.
 #[derive(Drop)]
 pub struct Lack {
     pub name: Text,
@@ -29,7 +29,7 @@ fn is_of(entry: &Entry, file: &ArrivedFile) -> bool
     file.print == entry.print
 }
 
-/// Whether it is, and counts.
+/// Whether what has arrived is a listed file and counts.
 fn counts_as(counting: Counting, entry: &Entry, file: &ArrivedFile) -> bool
     ensures { result ≡ counts_as counting entry.now file.now }
 {
@@ -38,7 +38,7 @@ fn counts_as(counting: Counting, entry: &Entry, file: &ArrivedFile) -> bool
     counts && is_it
 }
 
-/// Whether a listed file has arrived, also where it counts no more.
+/// Whether a listed file has arrived, even if it no longer counts.
 fn has_come(arrived: &[ArrivedFile], entry: &Entry) -> bool
     ensures { result ≡ list_any (is_of entry.now) arrived.now }
 {
@@ -59,7 +59,7 @@ fn has_name(entry: &Entry, file: &ArrivedFile) -> bool
     file.name.as_str() == entry.name.as_str()
 }
 
-/// Whether it has that name and another print, and counts.
+/// Whether what has arrived has the name of a listed file and another print, and counts.
 fn is_other(counting: Counting, entry: &Entry, file: &ArrivedFile) -> bool
     ensures { result ≡ is_other counting entry.now file.now }
 {
@@ -87,7 +87,7 @@ fn others_of(
     Ok(Listed::from_vec(prints))
 }
 
-/// What is said of a listed file of which nothing counts.
+/// What is said of a listed file of which no arrival counts.
 fn lack_of(
     alloc: Global,
     arrived: &[ArrivedFile],
@@ -104,7 +104,7 @@ fn lack_of(
     })
 }
 
-/// The listed files of an upload of which nothing counts that has arrived, in the order of the list, each with what came in its place.
+/// The listed files of an upload of which no arrival counts, in the order of the list, each with what came in its place.
 pub fn lacks_of(
     alloc: Global,
     arrived: &[ArrivedFile],

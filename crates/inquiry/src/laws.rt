@@ -1,4 +1,4 @@
-//! That what an upload is said to lack is what `waiting` counts. For the prover alone: the law is its contract.
+//! What an upload is said to lack is what `waiting` counts. For the prover alone: the law is its contract.
 
 ghost use Rattle.std.specs.Prelude.{◌≡◌, List, map};
 ghost use Rattle.inquiry.specs.Lacking.{lacked};
@@ -6,7 +6,7 @@ ghost use Rattle.keep.specs.Book.{Candidate, arrived_file, current, missing};
 ghost use Rattle.keep.specs.declared.arrival.Arrival.{Arrival};
 ghost use Rattle.keep.specs.declared.arrival.Counting.{Counting};
 
-/// Of an upload the listed files of which nothing counts are exactly those that are missing among the arrivals that count.
+/// The listed files of an upload of which no arrival counts are exactly those that are missing among the arrivals that count.
 pub fn what_is_lacked_is_missing()
     ensures { (counting : Counting) (arrivals : List Arrival) (c : Candidate) → lacked counting (map arrived_file arrivals) c.changes.entries
         ≡ missing (current counting.span counting.moment arrivals) c }

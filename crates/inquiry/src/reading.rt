@@ -21,7 +21,7 @@ fn is_printed(bytes: &[u8], print: &Print) -> bool
     print_of(bytes) == *print
 }
 
-/// The body of a print that arrived under a name. What comes with another print, as from a disk that fails, is none.
+/// The body of a print that arrived under a name. A body that is read with another print, as from a failing disk, is not taken.
 fn body_of<K: Keeper>(
     alloc: Global,
     keeper: &mut K,
@@ -110,8 +110,8 @@ pub fn read_changes<K: Keeper>(
     }
 }
 
-/// An upload as it is judged, by the name and the print of its .changes, if this is there and each .dsc and sidecar that it lists. Also
-/// what counts no more is there, until it is taken away.
+/// An upload as it is judged, by the name and the print of its .changes, if this is there and each .dsc and sidecar that it lists. What
+/// no longer counts is there too, until it is removed.
 pub fn read_upload<K: Keeper>(
     alloc: Global,
     keeper: &mut K,

@@ -37,7 +37,7 @@ fn is_named(waiting: &[Waiting], file: &ArrivedFile) -> bool
     is_changes_name(file.name.as_str()) && is_name_of_one(waiting, file)
 }
 
-/// A copy.
+/// A copy of what has arrived.
 fn copied(file: &ArrivedFile) -> Result<ArrivedFile, AllocError>
     ensures { IfOk result (λ copy. copy ≡ file.now) }
 {
@@ -48,8 +48,8 @@ fn copied(file: &ArrivedFile) -> Result<ArrivedFile, AllocError>
     })
 }
 
-/// What has arrived under the names of uploads that wait, in its order. Where few wait these are few, and `waiting_uploads` of them takes
-/// little time, however much was judged.
+/// What has arrived under the names of uploads that wait, in its order. If few uploads wait, these files are few, and `waiting_uploads`
+/// of them takes little time, however much was judged.
 pub fn arrived_as_waiting(
     alloc: Global,
     arrived: &[ArrivedFile],
@@ -108,7 +108,7 @@ fn waiting_upload(file: &ArrivedFile) -> Result<WaitingUpload, AllocError>
     })
 }
 
-/// The uploads without a verdict whose .changes counts, in the order in which these came first, among all that has arrived.
+/// The uploads without a verdict whose .changes counts, among all that has arrived, in the order in which the .changes came first.
 pub fn waiting_uploads(
     alloc: Global,
     arrived: &[ArrivedFile],

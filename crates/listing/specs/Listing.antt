@@ -5,7 +5,7 @@ use Rattle.suites.specs.Shelves.{ShelvesValue}
 use Rattle.suites.specs.declared.item.Item.{Item}
 use Rattle.suites.specs.declared.key.ShelfKey.{ShelfKey}
 
--- a word, and behind a space those that follow
+-- a word, a space, and the words that follow
 abbrev pub before : List ℕ → List ℕ → List ℕ
 before word others = word ++ (codes " " ++ others)
 
@@ -13,7 +13,7 @@ before word others = word ++ (codes " " ++ others)
 abbrev pub line_of : Item → List ℕ
 line_of item = before item.«package» (before item.version (before item.architecture (before item.component item.source)))
 
--- that of what stands on a shelf
+-- the line of what stands on a shelf
 abbrev pub line_on : ShelfKey × Item → List ℕ
 line_on entry = line_of entry.1
 

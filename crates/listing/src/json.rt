@@ -50,7 +50,7 @@ fn item_value(alloc: Global, item: &Item) -> Result<Value, AllocError>
     })
 }
 
-/// Its text, on one line.
+/// The object of an item as text, on one line.
 fn item_json(alloc: Global, item: &Item) -> Result<String, AllocError>
     ensures { IfOk result (λ line. string_bytes line ≡ compact_text (item_data item.now)) }
 {
@@ -74,7 +74,7 @@ fn push_json_if(
 }
 
 /// An object for each item that a suite shows, which is a position in the configuration, in the order of the shelves. Keys: `package`,
-/// `version`, `architecture`, `component`, `source`, and `files`, where each file has `path`, `size` in bytes and `sha256`.
+/// `version`, `architecture`, `component`, `source`, and `files`, in which each file has `path`, `size` in bytes and `sha256`.
 pub fn shown_json(alloc: Global, shelves: &Shelves, suite: usize) -> Result<Vec<String>, AllocError>
     ensures { IfOk result (λ lines. map string_bytes lines.items ≡ map json_on (shown_in suite shelves.now)) }
 {
@@ -93,7 +93,7 @@ fn waiting_value(alloc: Global, waiting: &Waiting) -> Result<Value, AllocError>
     json!(in alloc; {"upload": name, "missing": missing})
 }
 
-/// The object of a judged upload. Keys: `upload`, the name of its .changes, and `verdict`, its number, which is 0 where it is accepted.
+/// The object of a judged upload. Keys: `upload`, the name of its .changes, and `verdict`, its number, which is 0 if it is accepted.
 fn judgement_value(alloc: Global, judgement: &Judgement) -> Result<Value, AllocError>
     ensures { IfOk result (λ value. view value ≡ judgement_data judgement.now) }
 {
@@ -112,7 +112,7 @@ pub fn waiting_json(alloc: Global, uploads: &[Waiting]) -> Result<Vec<String>, A
     Ok(lines)
 }
 
-/// An object for each judged upload: `upload`, the name of its .changes, and `verdict`, its number, which is 0 where it is accepted.
+/// An object for each judged upload: `upload`, the name of its .changes, and `verdict`, its number, which is 0 if it is accepted.
 pub fn verdict_json(alloc: Global, judged: &[Judgement]) -> Result<Vec<String>, AllocError>
     ensures { IfOk result (λ lines. map string_bytes lines.items ≡ map (λ judgement. compact_text (judgement_data judgement)) judged.now) }
 {

@@ -1,4 +1,4 @@
-//! What the program prints of what an archive shows and has judged, as lines: the items of a suite, and the same, uploads and verdicts as JSON.
+//! What the program prints of what an archive shows and has judged: the items of a suite as lines, and items, uploads and verdicts as JSON.
 #![tactic(auto)]
 
 mod json;

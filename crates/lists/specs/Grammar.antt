@@ -1,4 +1,5 @@
--- The grammar of a list of commands: a printer from what is asked for to its line, a fact that says what can be asked for, and the lists that are made of such lines.
+-- The grammar of a list of commands: a printer from what is asked for to its line, what can be asked for, and the lists that are made
+-- of such lines.
 use Rattle.std.specs.Prelude.{◌≡◌, ◌⊎◌, ℕ, ◌+◌, ◌<◌, false, List, [], ◌∷◌, ◌++◌, length, codes, IsUtf8}
 use Rattle.std.specs.List.{AllByRecursion, join_with_byte, list_any}
 use Rattle.para.specs.Bytes.{is_newline}
@@ -24,7 +25,7 @@ IsAskable request.Clean = Unit {0}
 IsAskable request.Waiting = Unit {0}
 IsAskable request.Verdicts = Unit {0}
 
--- the words that ask for it, the command first
+-- the words that ask for a request, the command first
 abbrev pub words_of : RequestBytes → List (List ℕ)
 words_of (request.Put path) = codes "put" ∷ path ∷ []
 words_of request.Run = codes "run" ∷ []
@@ -35,7 +36,7 @@ words_of request.Clean = codes "clean" ∷ []
 words_of request.Waiting = codes "waiting" ∷ []
 words_of request.Verdicts = codes "verdicts" ∷ []
 
--- its line: these words, with one space (32) between each two
+-- the line of a request: its words, with one space (32) between each two
 abbrev pub print_request : RequestBytes → List ℕ
 print_request r = join_with_byte 32 (words_of r)
 

@@ -11,11 +11,11 @@ use Rattle.lists.specs.declared.list.BatchFault.TheVariants.{Line}
 use Rattle.lists.specs.declared.request.Request.{Request}
 use Rattle.lists.specs.declared.request.Request.TheVariants as request
 
--- what a line asks for, without where its words lie in memory
+-- what a line asks for, with its words as values, without their places in memory
 abbrev pub RequestBytes : Type 0
 RequestBytes = Request (List ℕ) (List ℕ) (Unit {0})
 
--- the same of a request
+-- what a request of the program asks for, as values
 abbrev pub bytes_of : Request (Bor (List ℕ)) (Bor (List ℕ)) (Unit {0}) → RequestBytes
 bytes_of (request.Put path) = request.Put path.now
 bytes_of request.Run = request.Run
@@ -32,7 +32,7 @@ bytes_of request.Verdicts = request.Verdicts
 unfoldable pub is_one_word : List ℕ → Bool
 is_one_word text = not (length text == 0) && not (list_any is_space text)
 
--- what stands before the first space of a text, and behind it, where it has one
+-- what stands before the first space of a text, and what stands after it, if the text has a space
 unfoldable pub parted : List ℕ → Option (List ℕ × List ℕ)
 parted text = if list_any is_space text then Some (before_first is_space text, after_first is_space text) else None
 
@@ -58,7 +58,7 @@ promotion_of text = option_and_then (λ words. Some (request.Promote words.0 wor
 unfoldable pub removal_of : List ℕ → Option RequestBytes
 removal_of text = option_and_then (λ words. Some (request.Remove words.0 words.1)) (two_words text)
 
--- a command with what stands behind its space
+-- a command with what stands after its space
 unfoldable pub worded : List ℕ → List ℕ → Option RequestBytes
 worded command rest =
     if bytes_eq command (codes "put") then put_of rest
@@ -82,7 +82,7 @@ command_by (Some parts) line = worded parts.0 parts.1
 unfoldable pub command_of : List ℕ → Option RequestBytes
 command_of text = command_by (parted text) text
 
--- the command that bytes are, which are a text then
+-- the command that bytes are, if they are UTF-8 and a command
 unfoldable pub command_in : List ℕ → Option RequestBytes
 command_in line = if is_utf8 line then command_of line else None
 
@@ -101,11 +101,11 @@ asked line = if is_passed_over line then None else command_in line
 unfoldable pub is_bad : List ℕ → Bool
 is_bad line = not (is_passed_over line) && not (is_some (command_in line))
 
--- the pieces between the newlines of a list, of which the last is empty where the list ends in a newline
+-- the pieces between the newlines of a list; the last is empty if the list ends in a newline
 abbrev pub lines_in : List ℕ → List (List ℕ)
 lines_in list = slice_split is_newline list
 
--- the first bad one of lines that stand behind so many others, by its number
+-- the number of the first bad line among lines that stand after `count` others
 abbrev pub fault_behind : ℕ → List (List ℕ) → Option BatchFault
 fault_behind count [] = None
 fault_behind count (line ∷ more) = if is_bad line then Some (Line (count + 1)) else fault_behind (count + 1) more

@@ -28,7 +28,7 @@ impl From<AllocError> for BatchFault {
     }
 }
 
-/// What stands before the first space of a text, and behind it, where it has one.
+/// What stands before the first space of a text, and what stands after it, if the text has a space.
 fn parted(text: &str) -> Option<(&str, &str)>
     ensures { option_map (λ parts. (parts.0.now, parts.1.now)) result ≡ parted text.now }
 {
@@ -51,7 +51,7 @@ fn is_one_word(text: &str) -> bool
     !empty && !space
 }
 
-/// Two words with one space between, where a text is that.
+/// The two words of a text that is two words with one space between.
 #[tactic(auto, unfolding(crate::specs::Lists::two_words))]
 fn two_words(text: &str) -> Option<(&str, &str)>
     ensures { option_map (λ words. (words.0.now, words.1.now)) result ≡ two_words text.now }
@@ -112,7 +112,7 @@ fn removal_of(text: &str) -> Option<ListRequest<'_>>
     Some(Request::Remove { suite, name })
 }
 
-/// A command with what stands behind its space.
+/// A command with what stands after its space.
 #[tactic(auto, unfolding(crate::specs::Lists::worded))]
 fn worded<'a>(command: &str, rest: &'a str) -> Option<ListRequest<'a>>
     ensures { option_map bytes_of result ≡ worded command.now rest.now }
@@ -159,7 +159,7 @@ fn command_of(text: &str) -> Option<ListRequest<'_>>
     }
 }
 
-/// The command that bytes are, which are a text then.
+/// The command that bytes are, if they are UTF-8 and a command.
 fn command_in(line: &[u8]) -> Option<ListRequest<'_>>
     ensures { option_map bytes_of result ≡ command_in line.now }
 {
@@ -215,7 +215,7 @@ fn lines_of(alloc: Global, list: &[u8]) -> Result<Vec<&[u8]>, AllocError>
     list.split(|byte| *byte == b'\n').collect(alloc)
 }
 
-/// The first bad one of these lines, by its number.
+/// The number of the first of these lines that is bad.
 fn lines_fault(lines: &[&[u8]]) -> Option<BatchFault>
     ensures { result ≡ fault_behind 0 (map (λ line. line.now) lines.now) }
 {
@@ -240,7 +240,7 @@ fn requests_of<'a>(alloc: Global, lines: &[&'a [u8]]) -> Result<Vec<ListRequest<
     Ok(requests)
 }
 
-/// What these lines ask for, where none of them is bad.
+/// What these lines ask for, if none of them is bad.
 fn read_lines<'a>(alloc: Global, lines: &[&'a [u8]]) -> Result<Vec<ListRequest<'a>>, BatchFault>
     ensures good { IfOk result (λ _. fault_behind 0 (map (λ line. line.now) lines.now) ≡ None) }
     ensures read { IfOk result (λ requests. map bytes_of requests.items ≡ asked_by_lines (map (λ line. line.now) lines.now)) }
@@ -265,7 +265,7 @@ fn read_lines<'a>(alloc: Global, lines: &[&'a [u8]]) -> Result<Vec<ListRequest<'
 /// verdicts
 /// ```
 ///
-/// with one space between the words. PATH is all that stands behind `put` and its space, so that it may hold spaces; no
+/// with one space between the words. PATH is all that stands after `put` and its space, so that it may hold spaces; no
 /// other word may. A line that is empty or begins with `#` is passed over. A last line needs no newline. A list with any
 /// other line, or with a command that is not UTF-8, is refused with the number of the first of these lines, from 1.
 pub fn read_list<'a>(alloc: Global, list: &'a [u8]) -> Result<Vec<ListRequest<'a>>, BatchFault>

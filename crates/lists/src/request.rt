@@ -1,7 +1,7 @@
 //! What is asked of an archive.
 
-/// What is asked of an archive, the moment aside. `W` is a word of it: a text here, and its bytes in definitions. `P` is what is delivered
-/// and `S` of which sources a promotion is, since a command line says more there than a line of a list.
+/// What is asked of an archive, without the moment. `W` is the type of a word: a text here, and its bytes in definitions. `P` is the type
+/// of what is delivered, and `S` of the sources of a promotion, since a command line says more there than a line of a list.
 #[derive(Clone, Copy, Debug, Drop)]
 pub enum Request<W, P, S> {
     /// Delivers the files at paths, or the file at one.
@@ -10,11 +10,11 @@ pub enum Request<W, P, S> {
     Run,
     /// Copies a source's packages from a suite to another.
     Copy { from: W, to: W, source: W },
-    /// Copies several sources from a suite to another in one change: those that are named, or else all that it shows.
+    /// Copies several sources from a suite to another in one change: those that are named, or else all that the suite shows.
     Promote { from: W, to: W, sources: S },
     /// Removes all items of a package's name from a suite.
     Remove { suite: W, name: W },
-    /// Takes away the arrivals that do not count any more.
+    /// Removes the arrivals that no longer count.
     Clean,
     /// Lists the uploads that have no verdict.
     Waiting,

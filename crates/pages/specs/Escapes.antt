@@ -6,7 +6,7 @@ use Rattle.std.specs.List.{flat_map}
 abbrev pub is_markup : ℕ → Bool
 is_markup c = (c == 60) || (c == 62) || (c == 34) || (c == 39)
 
--- a byte that stands for itself: none of those, and no `&`
+-- a byte that stands for itself: any but those and `&`
 abbrev pub stands_for_itself : ℕ → Bool
 stands_for_itself c = not (c == 38) && (not (c == 60) && (not (c == 62) && (not (c == 34) && not (c == 39))))
 

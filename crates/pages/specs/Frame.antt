@@ -3,7 +3,7 @@ use Rattle.std.specs.Prelude.{ℕ, List, ◌++◌, codes}
 use Rattle.pages.specs.Escapes.{escaped}
 use Rattle.pages.specs.declared.frame.TheConstants.{START, POLICY_FRONT, VIEWPORT, ICON, BODY, END, POLICY, STYLE, SCRIPT}
 
--- the policy, which a browser goes by from here on
+-- the policy, which a browser follows from here on
 unfoldable pub policy_text : List ℕ
 policy_text = POLICY_FRONT.now ++ POLICY.now ++ codes "\">\n"
 
@@ -19,7 +19,7 @@ title_text title = codes "<title>" ++ escaped title ++ codes "</title>\n"
 unfoldable pub heading_text : List ℕ → List ℕ
 heading_text title = codes "<h1>" ++ escaped title ++ codes "</h1>\n"
 
--- what a page with a title begins with, up to that
+-- what a page with a title begins with, up to that title
 unfoldable pub front_text : List ℕ → List ℕ
 front_text title = START.now ++ policy_text ++ VIEWPORT.now ++ title_text title
 

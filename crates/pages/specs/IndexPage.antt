@@ -23,7 +23,7 @@ item_count shelves suite = length (filter (is_of suite) (entries shelves))
 unfoldable pub name_text : List ℕ → List ℕ
 name_text codename = codes "<h2>" ++ link [] (path_in codename (codes "index.html")) codename ++ codes "</h2>\n"
 
--- what a suite is for, where the configuration says it
+-- what a suite is for, if the configuration says it
 unfoldable pub description_text : Option (List ℕ) → List ℕ
 description_text description = option_map_or (λ text. codes "<p>" ++ escaped text ++ codes "</p>\n") description []
 
@@ -31,11 +31,11 @@ description_text description = option_map_or (λ text. codes "<p>" ++ escaped te
 unfoldable pub known_date : ℕ → List ℕ
 known_date date = LAST_CHANGED.now ++ escaped (date_text date)
 
--- the same, unless the moment is one that no Release may have
+-- the date of a moment, unless the moment is one that no Release may have
 unfoldable pub date_part : ℕ → List ℕ
 date_part date = if nat_lt latest date then [] else known_date date
 
--- the date of the suite at a position, where there is one
+-- the date of the suite at a position, if there is one
 unfoldable pub date_at : List ℕ → ℕ → List ℕ
 date_at dates suite = option_map_or date_part (slice_get dates suite) []
 
@@ -44,16 +44,16 @@ unfoldable pub state_text : ShelvesValue → List ℕ → ℕ → List ℕ
 state_text shelves dates suite =
     codes "<p>Items: " ++ escaped (decimal (item_count shelves suite)) ++ date_at dates suite ++ codes ".</p>\n"
 
--- by which key the Release of a suite is signed
+-- the option that says by which key the Release of a suite is signed
 unfoldable pub key_text : List ℕ → List ℕ
 key_text codename = KEYRINGS.now ++ escaped codename ++ codes ".gpg"
 
--- the option of apt's line: by which key the Release is signed, or that it is trusted without
+-- the option of apt's line: by which key the Release is signed, or that it is trusted without a key
 unfoldable pub options_text : List ℕ → Bool → List ℕ
 options_text codename is_signed =
     if is_signed then key_text codename else codes "trusted=yes"
 
--- a component behind a space
+-- a space and a component
 unfoldable pub component_text : List ℕ → List ℕ
 component_text component = codes " " ++ escaped component
 
@@ -69,7 +69,7 @@ unfoldable pub section : ShelvesValue → List ℕ → Bool → ℕ → Suite �
 section shelves dates is_signed position s =
     name_text s.codename ++ description_text s.description ++ state_text shelves dates position ++ apt_text s.codename s.components is_signed
 
--- the same of suites, of which the first is at this position
+-- what is said of suites, of which the first is at this position
 unfoldable pub sections_from : ShelvesValue → List ℕ → Bool → ℕ → List Suite → List ℕ
 sections_from shelves dates is_signed position [] = []
 sections_from shelves dates is_signed position (s ∷ rest) =

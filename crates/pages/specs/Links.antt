@@ -14,7 +14,7 @@ is_kept b = is_ascii_alphanumeric b || ((b == 45) || ((b == 46) || ((b == 95) ||
 abbrev pub address_byte : ℕ → List ℕ
 address_byte b = if is_kept b then b ∷ [] else percent_encode_byte b
 
--- The address of a path, behind a front such as `../../`.
+-- The address of a path, after a front such as `../../`.
 unfoldable pub address : List ℕ → List ℕ → List ℕ
 address front path = front ++ flat_map address_byte path
 

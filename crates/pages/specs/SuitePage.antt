@@ -32,7 +32,7 @@ is_of suite a = a.0.suite == suite
 unfoldable pub rows : ShelvesValue → ℕ → List ℕ
 rows shelves suite = flat_map (λ a. item_row a.1) (filter (is_of suite) (entries shelves))
 
--- the codename of the suite at a position, no text where there is none
+-- the codename of the suite at a position, or an empty text if there is no suite
 unfoldable pub codename_at : ConfigValue → ℕ → List ℕ
 codename_at config suite = option_map_or (λ s. s.codename) (slice_get config.suites suite) []
 

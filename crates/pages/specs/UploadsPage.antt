@@ -8,7 +8,7 @@ use Rattle.pages.specs.declared.uploads.TheConstants.{WAITING_HEAD, JUDGED_HEAD}
 use Rattle.pages.specs.declared.uploads.Lacking.{Lacking}
 use Rattle.pages.specs.declared.table.TheConstants.{TABLE_END}
 
--- the row of an upload that waits: its name, and which files lack
+-- the row of an upload that waits: its name, and which files it lacks
 unfoldable pub waiting_row : Lacking → List ℕ
 waiting_row w = codes "<tr>" ++ cell w.name ++ cell w.files ++ codes "</tr>\n"
 

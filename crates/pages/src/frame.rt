@@ -10,7 +10,7 @@ use std::alloc::AllocError;
 const STYLE: &str =
     ":root{color-scheme:light dark}body{font:16px/1.5 sans-serif;max-width:60em;margin:1em auto;padding:0 1em}table{border-collapse:collapse}th,td{text-align:left;vertical-align:top;padding:.2em .8em .2em 0;border-bottom:1px solid #8888}pre{padding:.5em;border:1px solid #8888}.wide{overflow-x:auto}";
 
-/// The one script of the pages, which writes the address of the page's folder wherever that is wanted.
+/// The one script of the pages, which writes the address of the page's folder wherever it is wanted.
 const SCRIPT: &str =
     "for(const e of document.querySelectorAll('.url'))e.textContent=new URL('.',location)";
 
@@ -24,10 +24,10 @@ const START: &str = "<!doctype html>\n<html lang=\"en\">\n<head>\n<meta charset=
 /// What stands in front of the policy.
 const POLICY_FRONT: &str = "<meta http-equiv=\"Content-Security-Policy\" content=\"";
 
-/// By this a page is as wide as the screen of a phone.
+/// This makes a page as wide as the screen of a phone.
 const VIEWPORT: &str = "<meta name=\"viewport\" content=\"width=device-width, initial-scale=1\">\n";
 
-/// By this no browser asks for an icon.
+/// This keeps browsers from asking for an icon.
 const ICON: &str = "<link rel=\"icon\" href=\"data:,\">\n";
 
 /// What stands between the style and the heading.
@@ -86,7 +86,7 @@ fn push_heading(title: &str, out: &mut String) -> Result<(), AllocError>
     push_markup("</h1>\n", out)
 }
 
-/// Appends what a page with a title begins with, up to that.
+/// Appends what a page with a title begins with, up to that title.
 #[tactic(auto, unfolding(crate::specs::Frame::front_text))]
 fn push_front(title: &str, out: &mut String) -> Result<(), AllocError>
     ensures { OnOk result (string_bytes out.new ≡ string_bytes out.old ++ front_text title.now) }

@@ -17,7 +17,7 @@ use texts::{LATEST, date_text, path_in};
 const HINT: &str =
     "<p>To use a suite, write its line into a file of <code>/etc/apt/sources.list.d</code> that ends in <code>.list</code>.</p>\n";
 
-/// Where the other page is.
+/// The link to the page of uploads.
 const UPLOADS_LINK: &str =
     "<p><a href=\"uploads.html\">Uploads</a>: what waits, and what was judged.</p>\n";
 
@@ -30,10 +30,10 @@ const KEYRINGS: &str = "signed-by=/usr/share/keyrings/";
 /// What the line for apt begins with.
 const DEB: &str = "<pre class=\"wide\">deb [";
 
-/// Where the script writes the address.
+/// The place where the script writes the address.
 const URL: &str = "] <span class=\"url\">URL/</span> ";
 
-/// The count, and one more if something counts. More than a `u64` counts are too many for memory.
+/// The count, and one more if something counts. A count beyond a `u64` is refused like want of memory.
 fn one_more_if(counts: bool, count: u64) -> Result<u64, AllocError>
     ensures { IfOk result (λ more. more ≡ (if counts then count + 1 else count)) }
 {
@@ -139,7 +139,7 @@ fn push_state(
     push_markup(".</p>\n", out)
 }
 
-/// Appends by which key the Release of a suite is signed.
+/// Appends the option that says by which key the Release of a suite is signed.
 #[tactic(auto, unfolding(crate::specs::IndexPage::key_text))]
 fn push_key(codename: &str, out: &mut String) -> Result<(), AllocError>
     ensures { OnOk result (string_bytes out.new ≡ string_bytes out.old ++ key_text codename.now) }
@@ -149,7 +149,7 @@ fn push_key(codename: &str, out: &mut String) -> Result<(), AllocError>
     push_markup(".gpg", out)
 }
 
-/// Appends the option of apt's line: by which key its Release is signed, or that it is trusted without.
+/// Appends the option of apt's line: by which key the suite's Release is signed, or that it is trusted without a key.
 #[tactic(auto, unfolding(crate::specs::IndexPage::options_text))]
 fn push_options(codename: &str, is_signed: bool, out: &mut String) -> Result<(), AllocError>
     ensures { OnOk result (string_bytes out.new ≡ string_bytes out.old ++ options_text codename.now is_signed) }
@@ -161,7 +161,7 @@ fn push_options(codename: &str, is_signed: bool, out: &mut String) -> Result<(),
     }
 }
 
-/// Appends a component behind a space.
+/// Appends a space and a component.
 #[tactic(auto, unfolding(crate::specs::IndexPage::component_text))]
 fn push_component(component: &str, out: &mut String) -> Result<(), AllocError>
     ensures { OnOk result (string_bytes out.new ≡ string_bytes out.old ++ component_text component.now) }

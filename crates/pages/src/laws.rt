@@ -10,9 +10,9 @@ ghost use Rattle.pages.specs.SuitePage.{suite_page};
 ghost use Rattle.pages.specs.UploadsPage.{uploads_page};
 ghost use Rattle.pages.specs.declared.uploads.Lacking.{Lacking};
 
-/// What is markup in a page hangs on no text that comes from outside: two pages have the same where they have as many rows of
-/// the same form. An item has a link if it has a file, a suite has a line more if it has a description, and the sentence of a
-/// verdict is a constant. Nothing is done: the law is the contract.
+/// The markup of a page does not depend on any text that comes from outside: two pages have the same markup if they have equally
+/// many rows of the same form. An item has a link if it has a file, a suite has one more line if it has a description, and the
+/// sentence of a verdict is a constant. Nothing is done: the law is the contract.
 pub fn texts_leave_the_markup()
     ensures suite { (config other : ConfigValue) (shelves others : ShelvesValue) (suite place : ℕ)
         → map has_file (shown shelves suite) ≡ map has_file (shown others place)

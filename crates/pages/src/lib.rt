@@ -1,7 +1,7 @@
 //! Pages for people, as HTML: what the suites show, what waits, and what was judged.
 //!
 //! A page is made of markup and of texts that come from outside. Markup goes in by `push_markup`, which takes constants alone, and a text
-//! by `push_text`, so nothing that it holds is markup. There is no third way in.
+//! by `push_text`, so that nothing in it is markup. There is no third way in.
 #![tactic(auto)]
 
 mod escape;

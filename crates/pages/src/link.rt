@@ -7,7 +7,7 @@ use crate::escape::{push_markup, push_text};
 use percent_encoding::{AsciiSet, NON_ALPHANUMERIC, ascii_set, utf8_percent_encode};
 use std::alloc::{AllocError, Global};
 
-/// The bytes of a path that an address has by their numbers: all but letters, digits, `-._~` (RFC 3986, 2.3) and the slash.
+/// The bytes of a path that an address spells by their numbers: all but letters, digits, `-._~` (RFC 3986, 2.3) and the slash.
 const NUMBERED: AsciiSet = ascii_set!(
     NON_ALPHANUMERIC
         .remove(b'-')
@@ -17,7 +17,7 @@ const NUMBERED: AsciiSet = ascii_set!(
         .remove(b'/')
 );
 
-/// The address of a path, behind a front such as `../../`.
+/// The address of a path, after a front such as `../../`.
 #[tactic(auto, using(crate::proofs::Addresses::percent_encode_is), unfolding(crate::specs::Links::address))]
 fn address(alloc: Global, front: &str, path: &str) -> Result<String, AllocError>
     ensures { IfOk result (λ text. string_bytes text ≡ address front.now path.now) }
@@ -27,7 +27,7 @@ fn address(alloc: Global, front: &str, path: &str) -> Result<String, AllocError>
     Ok(text)
 }
 
-/// Appends a text that is a link to a path, behind a front such as `../../`.
+/// Appends a text that is a link to a path, after a front such as `../../`.
 #[tactic(auto, unfolding(crate::specs::Links::link))]
 pub fn push_link(
     alloc: Global,

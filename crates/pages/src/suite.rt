@@ -42,7 +42,7 @@ fn push_row(alloc: Global, item: &Item, out: &mut String) -> Result<(), AllocErr
     push_markup("</tr>\n", out)
 }
 
-/// Appends the row of an item that the suite shows, of another one nothing.
+/// Appends the row of an item if the suite shows it, else nothing.
 fn push_shown(
     alloc: Global,
     key: &ShelfKey,
@@ -73,7 +73,7 @@ fn push_rows(
     Ok(())
 }
 
-/// The codename of the suite at a position, no text where there is none.
+/// The codename of the suite at a position, or an empty text if there is no suite.
 #[tactic(auto, unfolding(crate::specs::SuitePage::codename_at))]
 fn codename(config: &Config, suite: usize) -> &str
     ensures { result.now ≡ codename_at config.now suite }
@@ -86,7 +86,7 @@ fn codename(config: &Config, suite: usize) -> &str
 
 /// The page of the suite at a position of the configuration, which lies in the suite's folder: a row for each item that it
 /// shows, sources first, then packages, in the order of the bytes of name and architecture. The name is a link to the .dsc or
-/// the package file. Where there is no such suite it has no name and no rows. It is refused for want of memory alone.
+/// the package file. If there is no such suite, the page has no name and no rows. It is refused for want of memory alone.
 #[tactic(auto, unfolding(crate::specs::SuitePage::suite_page))]
 pub fn suite_page(
     alloc: Global,

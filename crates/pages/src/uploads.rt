@@ -12,7 +12,7 @@ use keep::Judgement;
 use para::Text;
 use std::alloc::{AllocError, Global};
 
-/// An upload that waits: the name of its .changes, and the names of the listed files that lack, with a blank between each two.
+/// An upload that waits: the name of its .changes, and the names of the listed files that it lacks, with a blank between each two.
 #[derive(Drop)]
 pub struct Lacking {
     pub name: Text,
@@ -27,7 +27,7 @@ const WAITING_HEAD: &str =
 const JUDGED_HEAD: &str =
     "</table></div>\n<h2>Judged, the latest first</h2>\n<div class=\"wide\"><table>\n<tr><th>Verdict</th><th>Upload</th><th>What it means</th></tr>\n";
 
-/// Appends the row of an upload that waits: its name, and which files lack.
+/// Appends the row of an upload that waits: its name, and which files it lacks.
 #[tactic(auto, unfolding(crate::specs::UploadsPage::waiting_row))]
 fn push_waiting(upload: &Lacking, out: &mut String) -> Result<(), AllocError>
     ensures { OnOk result (string_bytes out.new ≡ string_bytes out.old ++ waiting_row upload.now) }
@@ -72,7 +72,7 @@ fn push_all_judged(judged: &[Judgement], out: &mut String) -> Result<(), AllocEr
     Ok(())
 }
 
-/// The page of uploads: a row for each that waits, in their order, with the files that lack, and a row for each that was
+/// The page of uploads: a row for each that waits, in their order, with the files that it lacks, and a row for each that was
 /// judged, the latest first, with its verdict and what that means. It is refused for want of memory alone.
 #[tactic(auto, unfolding(crate::specs::UploadsPage::uploads_page))]
 pub fn uploads_page(

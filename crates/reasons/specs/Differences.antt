@@ -1,4 +1,4 @@
--- How a .dsc or a sidecar is not that of its .changes: the first part of its verdict's rule that applies.
+-- How a .dsc or a sidecar differs from what its .changes says: the first part of its verdict's rule that applies.
 use Rattle.std.specs.Prelude.{ℕ, not, List, [], ◌∷◌, bytes_eq, Option, option_map}
 use Rattle.std.specs.Bool.{then_some}
 use Rattle.records.specs.Records.{is_among}
@@ -12,7 +12,7 @@ use Rattle.reasons.specs.declared.differences.DscDifference.TheVariants as dsc
 use Rattle.reasons.specs.declared.differences.SidecarDifference.{SidecarDifference}
 use Rattle.reasons.specs.declared.differences.SidecarDifference.TheVariants as sidecar
 
--- a file that the .dsc lists and may not
+-- a file that the .dsc lists and may not list
 abbrev pub lists_part : Entry → DscDifference
 lists_part e = dsc.ListsPart e.name
 
@@ -20,7 +20,7 @@ lists_part e = dsc.ListsPart e.name
 abbrev pub lacked : DscValue → Entry → DscDifference
 lacked d e = dsc.LacksFile e.name e.print (option_map (λ listed. listed.print) (entry_named e.name d.entries))
 
--- 6. of a .dsc of this name
+-- 6. the first difference of a .dsc of this name
 abbrev pub dsc_difference : ChangesValue → List ℕ → DscValue → Option DscDifference
 dsc_difference c name d = first_some (
     then_some (not (bytes_eq d.source c.source)) (dsc.Source d.source)
@@ -30,7 +30,7 @@ dsc_difference c name d = first_some (
     ∷ option_map (lacked d) (unlisted_file c d)
     ∷ [])
 
--- 7. of a sidecar of this name
+-- 7. the first difference of a sidecar of this name
 abbrev pub sidecar_difference : ChangesValue → List ℕ → SidecarValue → Option SidecarDifference
 sidecar_difference c name s = first_some (
     option_map sidecar.Name (then_some (not (bytes_eq name (sidecar_file s))) (sidecar_file s))

@@ -1,4 +1,4 @@
--- What a verdict is about: the first architecture or file for which the test holds of which its rule says that it holds somewhere.
+-- What a verdict is about: the first architecture or file that passes the test by which its rule asks whether there is any.
 use Rattle.std.specs.Prelude.{ℕ, Bool, not, ◌&&◌, if◌then◌else◌, List, [], ◌∷◌, filter, find, bytes_eq, codes, Option, None, Some, slice_get}
 use Rattle.std.specs.List.{list_any}
 use Rattle.std.specs.Option.{option_or}
@@ -12,7 +12,7 @@ use Rattle.suites.specs.Shelves.{ShelvesValue, pool}
 use Rattle.suites.specs.Upload.{has_suffix, stem}
 use Rattle.suites.specs.Verdict.{by_print, has_entry, has_source, is_missing_file, is_package_part, is_same_package, is_taken, stems}
 
--- of several the first that is there
+-- the first of several that is there
 abbrev pub first_some : {X : Type 0} → List (Option X) → Option X
 first_some [] = None
 first_some (o ∷ os) = option_or o (first_some os)
@@ -29,15 +29,15 @@ other_component c = find (λ e. not (bytes_eq (component_of e.section) (componen
 abbrev pub listed_changes : ChangesValue → Option Entry
 listed_changes c = find (λ e. has_suffix (codes ".changes") e.name) c.entries
 
--- a .dsc too many: the second with `source` among the architectures, the first without
+-- a surplus .dsc: the second with `source` among the architectures, the first without
 abbrev pub surplus_dsc : ChangesValue → Option Entry
 surplus_dsc c = slice_get (filter (λ e. has_suffix (codes ".dsc") e.name) c.entries) (if has_source c then 1 else 0)
 
--- none, with `source` among the architectures
+-- 5. no .dsc, with `source` among the architectures
 unfoldable pub lacks_dsc : ChangesValue → Bool
 lacks_dsc c = has_source c && not (list_any (λ e. has_suffix (codes ".dsc") e.name) c.entries)
 
--- the name has the first ending, and none of the entries has the second in its place
+-- the name has the first ending, and no entry has the same name with the second in its place
 unfoldable pub is_lone : List ℕ → List ℕ → List Entry → Entry → Bool
 is_lone ending other entries e = has_suffix ending e.name && not (is_among (stems other entries) (stem ending e.name))
 
@@ -49,7 +49,7 @@ lone_file ending other entries = find (is_lone ending other entries) entries
 unfoldable pub source_file : ChangesValue → Option Entry
 source_file c = if has_source c then None else find (λ e. not (is_package_part e.name)) c.entries
 
--- 6. the first file that the .dsc lists and may not
+-- 6. the first file that the .dsc lists and may not list
 abbrev pub listed_part : DscValue → Option Entry
 listed_part d = find (λ e. is_package_part e.name) d.entries
 
@@ -60,12 +60,12 @@ is_unlisted d e = not (is_package_part e.name) && not (has_entry d.entries e)
 abbrev pub unlisted_file : ChangesValue → DscValue → Option Entry
 unlisted_file c d = find (is_unlisted d) c.entries
 
--- 7. a sidecar and the first behind it of the same package and architecture, if there is one, else what is found elsewhere
+-- 7. a sidecar and its twin, the first after it of the same package and architecture, if there is one, else what is found elsewhere
 abbrev pub beside : SidecarValue → Option SidecarValue → Option (SidecarValue × SidecarValue) → Option (SidecarValue × SidecarValue)
 beside s None elsewhere = elsewhere
 beside s (Some twin) elsewhere = Some (s, twin)
 
--- the first sidecar of which there is another, and that
+-- the first sidecar that has a twin, and the twin
 abbrev pub twins : List SidecarValue → Option (SidecarValue × SidecarValue)
 twins [] = None
 twins (s ∷ rest) = beside s (find (is_same_package s) rest) (twins rest)

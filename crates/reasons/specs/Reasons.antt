@@ -34,7 +34,7 @@ named_architecture c s = option_map named.Architecture (foreign_architecture c s
 abbrev pub named_uploader : ChangesValue → Named
 named_uploader c = named.Uploader c.source c.person
 
--- 4. a file of another component than that of the upload, or this, which the suite does not have
+-- 4. a file of a component other than the upload's, or the upload's component, which the suite does not have
 abbrev pub of_other_component : List ℕ → Entry → Named
 of_other_component upload e = named.OtherComponent e.name (component_of e.section) upload
 
@@ -52,7 +52,7 @@ lone_parts c =
     ∷ option_map (λ e. named.SourceFile e.name) (source_file c)
     ∷ []
 
--- and all of them
+-- 5. a listed file, or that there is no .dsc: all parts of its rule
 abbrev pub named_listing : ChangesValue → Option Named
 named_listing c = first_some (
     option_map (λ e. named.ListedChanges e.name) (listed_changes c)
@@ -65,7 +65,7 @@ abbrev pub named_dsc : ChangesValue → List ℕ → Result DscValue RecordFault
 named_dsc c file (Ok d) = option_map (named.Dsc file) (dsc_difference c file d)
 named_dsc c file (Err fault) = Some (named.UnreadDsc file fault)
 
--- the first of some parts of an upload of which there is something to say
+-- the first of some parts of an upload for which something is named
 abbrev pub dsc_among : ChangesValue → List Part → Option Named
 dsc_among c parts = first_some (map (λ part. named_dsc c part.0.name (dsc_in part.1)) parts)
 
@@ -81,11 +81,11 @@ sidecar_among c parts = first_some (map (λ part. named_sidecar c part.0.name (s
 abbrev pub sidecars_of : List Part → List SidecarValue
 sidecars_of parts = filter_map (λ part. result_ok (sidecar_in part.1)) parts
 
--- two of one package and architecture, each by the name that it has by its own fields
+-- two of the same package and architecture, each by the name that it has by its own fields
 abbrev pub of_twins : SidecarValue × SidecarValue → Named
 of_twins p = named.Twins p.0.name p.0.architecture (sidecar_file p.0) (sidecar_file p.1)
 
--- one that is wrong by itself, else two
+-- a sidecar that is wrong by itself, else two of the same package and architecture
 abbrev pub bad_among : ChangesValue → List Part → Option Named
 bad_among c parts = option_or (sidecar_among c parts) (option_map of_twins (twins (sidecars_of parts)))
 
@@ -93,7 +93,7 @@ bad_among c parts = option_or (sidecar_among c parts) (option_map of_twins (twin
 abbrev pub in_pool : ShelvesValue → ChangesValue → Entry → Named
 in_pool shelves c e = named.File e.name e.print (path_of c e) (get (pool shelves) (path_of c e))
 
--- 8. a file of a .dsc of this name, as it is read; a .dsc that is none lacks no file by name, and is itself named
+-- 8. a file of a .dsc of this name, as it is read; if the text is not a .dsc, the .dsc itself is named
 abbrev pub named_missing : ShelvesValue → ChangesValue → List ℕ → Result DscValue RecordFault → Option Named
 named_missing shelves c file (Ok d) = option_map (in_pool shelves c) (missing_file shelves c d)
 named_missing shelves c file (Err fault) = Some (named.UnreadDsc file fault)

@@ -6,7 +6,7 @@ use records::RecordFault;
 use rules::Verdict;
 use sums::Print;
 
-/// What a verdict is about. Of several parts of its rule that apply it is the first.
+/// What a verdict is about. If several parts of its rule apply, it is the first.
 #[derive(Drop)]
 pub enum Named {
     /// 1. The distribution, which no suite claims.
@@ -17,7 +17,7 @@ pub enum Named {
     Architecture {
         name: Text,
     },
-    /// 3. The source package, and the person whom no uploader line allows it.
+    /// 3. The source package, and the person, to whom no uploader line allows it.
     Uploader {
         source: Text,
         person: Text,
@@ -36,7 +36,7 @@ pub enum Named {
     ListedChanges {
         file: Text,
     },
-    /// 5. A .dsc too many: the second if `source` is among the architectures, else the first.
+    /// 5. A surplus .dsc: the second if `source` is among the architectures, else the first.
     SurplusDsc {
         file: Text,
         is_second: bool,
@@ -51,7 +51,7 @@ pub enum Named {
     LoneSidecar {
         file: Text,
     },
-    /// 5. The first source file, where `source` is not among the architectures.
+    /// 5. The first source file, if `source` is not among the architectures.
     SourceFile {
         file: Text,
     },
@@ -75,7 +75,7 @@ pub enum Named {
         file: Text,
         difference: SidecarDifference,
     },
-    /// 7. Two sidecars of one package and architecture, each by the name that it has by its own fields.
+    /// 7. Two sidecars of the same package and architecture, each by the name that it has by its own fields.
     Twins {
         package: Text,
         architecture: Text,

@@ -1,4 +1,4 @@
-//! How a .dsc or a sidecar is not that of its .changes, which verdicts 6 and 7 are about.
+//! How a .dsc or a sidecar differs from what its .changes says, which verdicts 6 and 7 are about.
 
 ghost use Rattle.std.specs.Prelude.{◌≡◌, not, [], ◌∷◌, bytes_eq, string_bytes, IfOk, option_map};
 ghost use Rattle.std.specs.Bool.{then_some};
@@ -19,11 +19,11 @@ use sums::{Entry, Print};
 /// How a .dsc is not the one that its .changes is about.
 #[derive(Drop)]
 pub enum DscDifference {
-    /// It says another source.
+    /// It names another source.
     Source {
         said: Text,
     },
-    /// It says another version.
+    /// It has another version.
     Version {
         said: Text,
     },
@@ -35,7 +35,7 @@ pub enum DscDifference {
     ListsPart {
         file: Text,
     },
-    /// It does not list a source file of the .changes with its print; with which it does, if it has a file of that name.
+    /// It does not list a source file of the .changes with its print. If it lists a file of that name, `listed` is its print.
     LacksFile {
         file: Text,
         print: Print,
@@ -43,18 +43,18 @@ pub enum DscDifference {
     },
 }
 
-/// How a sidecar is none that its .changes may have.
+/// Why a sidecar is not one that its .changes may have.
 #[derive(Drop)]
 pub enum SidecarDifference {
     /// By its own fields it has another name, `PACKAGE_VERSION_ARCHITECTURE.control` with the version without its epoch.
     Name { own: Text },
-    /// Its architecture is none of the .changes.
+    /// Its architecture is not among those of the .changes.
     Architecture { said: Text },
-    /// It says another source.
+    /// It names another source.
     Source { said: Text },
 }
 
-/// The name that a .dsc has by its own fields, if that is another.
+/// The name that a .dsc has by its own fields, if it differs from this name.
 fn other_dsc_name(alloc: Global, name: &str, dsc: &Dsc) -> Result<Option<Text>, AllocError>
     ensures { IfOk result (λ own. own ≡ then_some (not (bytes_eq name.now (dsc_file dsc.now))) (dsc_file dsc.now)) }
 {
@@ -75,7 +75,7 @@ fn print_named(entries: &[Entry], name: &str) -> Option<Print>
     }
 }
 
-/// That a .dsc does not list a file with its print.
+/// The difference that a .dsc does not list a file with its print.
 fn lacked(dsc: &Dsc, entry: &Entry) -> Result<DscDifference, AllocError>
     ensures { IfOk result (λ difference. difference ≡ lacked dsc.now entry.now) }
 {
@@ -86,7 +86,7 @@ fn lacked(dsc: &Dsc, entry: &Entry) -> Result<DscDifference, AllocError>
     })
 }
 
-/// The first file that a .dsc lists and may not, else the first that it does not list.
+/// The first file that a .dsc lists and may not list, else the first source file that it does not list.
 fn other_file(changes: &Changes, dsc: &Dsc) -> Result<Option<DscDifference>, AllocError>
     ensures { IfOk result (λ found. found ≡ first_some (option_map lists_part (listed_part dsc.now)
         ∷ option_map (lacked dsc.now) (unlisted_file changes.now dsc.now) ∷ [])) }
@@ -138,14 +138,14 @@ fn sidecar_name(alloc: Global, sidecar: &Sidecar) -> Result<String, AllocError>
     format!(in alloc; "{package}_{version}_{architecture}.control")
 }
 
-/// The same as a text that is kept.
+/// The name that a sidecar has by its own fields, as a text that is kept.
 pub fn own_name(alloc: Global, sidecar: &Sidecar) -> Result<Text, AllocError>
     ensures { IfOk result (λ own. own ≡ sidecar_file sidecar.now) }
 {
     Ok(Text::from_string(sidecar_name(alloc, sidecar)?))
 }
 
-/// The name that a sidecar has by its own fields, if that is another.
+/// The name that a sidecar has by its own fields, if it differs from this name.
 fn other_sidecar_name(
     alloc: Global,
     name: &str,

@@ -16,7 +16,7 @@ use std::alloc::{AllocError, Global};
 use suites::{Shelves, directory};
 use sums::{Entry, Print};
 
-/// Of verdict 2, the first architecture of a .changes that the suite does not keep.
+/// Verdict 2: the first architecture of a .changes that the suite does not keep.
 pub fn foreign_architecture<'a>(suite: &Suite, changes: &'a Changes) -> Option<&'a Text>
     ensures { option_copied result ≡ foreign_architecture changes.now suite.now }
 {
@@ -37,8 +37,8 @@ pub fn component(changes: &Changes) -> &str
     }
 }
 
-/// Of verdict 4, the first listed file of another component than that of the upload. Where there is none, that component is
-/// none of the suite's.
+/// Verdict 4: the first listed file of a component other than the upload's. If there is no such file, the suite does not have
+/// the upload's component.
 pub fn other_component(changes: &Changes) -> Option<&Entry>
     ensures { option_copied result ≡ other_component changes.now }
 {
@@ -46,7 +46,7 @@ pub fn other_component(changes: &Changes) -> Option<&Entry>
     changes.entries().iter().find(|entry| component_of_section(entry.section.as_str()) != upload)
 }
 
-/// Of verdict 6, the first file that a .dsc lists and may not: a .dsc, a package file, a sidecar or a .changes.
+/// Verdict 6: the first file that a .dsc lists and may not list: a .dsc, a package file, a sidecar or a .changes.
 pub fn listed_part(dsc: &Dsc) -> Option<&Entry>
     ensures { option_copied result ≡ listed_part dsc.now }
 {
@@ -55,7 +55,7 @@ pub fn listed_part(dsc: &Dsc) -> Option<&Entry>
         .find(|entry| is_package_part(entry.name.as_str()))
 }
 
-/// Whether a file is a source file, and the .dsc has none of its name and print.
+/// Whether a file is a source file, and the .dsc lists no file of its name and print.
 #[tactic(auto, unfolding(crate::specs::Named::is_unlisted))]
 fn is_unlisted(dsc: &Dsc, entry: &Entry) -> bool
     ensures { result ≡ is_unlisted dsc.now entry.now }
@@ -65,7 +65,7 @@ fn is_unlisted(dsc: &Dsc, entry: &Entry) -> bool
     !is_package_part && !is_listed
 }
 
-/// Of verdict 6, the first source file of a .changes that the .dsc does not list with that print.
+/// Verdict 6: the first source file of a .changes that the .dsc does not list with that print.
 pub fn unlisted_file<'a>(changes: &'a Changes, dsc: &Dsc) -> Option<&'a Entry>
     ensures { option_copied result ≡ unlisted_file changes.now dsc.now }
 {
@@ -75,7 +75,7 @@ pub fn unlisted_file<'a>(changes: &'a Changes, dsc: &Dsc) -> Option<&'a Entry>
         .find(|entry| is_unlisted(dsc, entry))
 }
 
-/// Where an entry's file goes.
+/// The path of an entry's file in the pool.
 #[tactic(auto, unfolding(suites::specs::Pool::pool_path))]
 pub fn pool_path(alloc: Global, changes: &Changes, entry: &Entry) -> Result<Text, AllocError>
     ensures { IfOk result (λ path. path ≡ path_of changes.now entry.now) }
@@ -118,7 +118,7 @@ fn is_missing(
     }
 }
 
-/// Of verdict 8, the first file of the .dsc that is neither in the .changes nor in the pool, at its path with that print.
+/// Verdict 8: the first file of the .dsc that is neither in the .changes nor in the pool, at its path with that print.
 pub fn missing_file<'a>(
     alloc: Global,
     shelves: &Shelves,
@@ -154,7 +154,7 @@ fn is_taken(
     }
 }
 
-/// Of verdict 9, the first listed file whose path in the pool has other contents.
+/// Verdict 9: the first listed file whose path in the pool has other contents.
 pub fn taken_entry<'a>(
     alloc: Global,
     shelves: &Shelves,

@@ -1,7 +1,7 @@
 //! Why an upload is refused: what its verdict is about, as an architecture or a file.
 //!
-//! Where there may be several, the first is found by the very test of which the verdict's rule says that it holds somewhere, so
-//! it is found exactly where the rule applies. Nothing here judges but `reason_of`, which asks `suites` for the verdict.
+//! If several may be named, the first is found by the same test by which the verdict's rule asks whether there is any. So
+//! one is found if and only if the rule applies. Nothing here judges except `reason_of`, which asks `suites` for the verdict.
 #![tactic(auto)]
 
 mod about;

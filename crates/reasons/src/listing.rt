@@ -30,7 +30,7 @@ fn dsc_at(entries: &[Entry], place: usize) -> Option<&Entry>
         .nth(place)
 }
 
-/// The second .dsc of a .changes that has `source` among its architectures, the first of one that has not.
+/// The second .dsc of a .changes that has `source` among its architectures, the first of any other.
 pub fn surplus_dsc(changes: &Changes) -> Option<&Entry>
     ensures { option_copied result ≡ surplus_dsc changes.now }
 {
@@ -58,7 +58,7 @@ pub fn lacks_dsc(changes: &Changes) -> bool
     has_source(changes) && !has_dsc(changes.entries())
 }
 
-/// Whether the name of an entry has the first ending, and no listed name has the second in its place.
+/// Whether the name of an entry has the first ending, and no listed name is the same with the second in its place.
 #[tactic(auto, unfolding(crate::specs::Named::is_lone))]
 fn is_lone(entries: &[Entry], entry: &Entry, ending: &str, other: &str) -> bool
     ensures { result ≡ is_lone ending.now other.now entries.now entry.now }
@@ -67,7 +67,7 @@ fn is_lone(entries: &[Entry], entry: &Entry, ending: &str, other: &str) -> bool
     has_suffix(name, ending) && !has_joined(entries, stem(name, ending), other)
 }
 
-/// The first listed file with the first ending that has none of the same stem with the second.
+/// The first listed file with the first ending for which no file of the same stem with the second is listed.
 fn lone_file<'a>(entries: &'a [Entry], ending: &str, other: &str) -> Option<&'a Entry>
     ensures { option_copied result ≡ lone_file ending.now other.now entries.now }
 {
@@ -99,7 +99,7 @@ fn first_source_file(entries: &[Entry]) -> Option<&Entry>
         .find(|entry| !is_package_part(entry.name.as_str()))
 }
 
-/// The first source file of a .changes that has not `source` among its architectures.
+/// The first source file of a .changes that does not have `source` among its architectures.
 #[tactic(auto, unfolding(crate::specs::Named::source_file))]
 pub fn source_file(changes: &Changes) -> Option<&Entry>
     ensures { option_copied result ≡ source_file changes.now }

@@ -40,7 +40,7 @@ pub fn has_joined(entries: &[Entry], front: &[u8], ending: &str) -> bool
         .any(|entry| is_joined(entry.name.as_str(), front, ending))
 }
 
-/// Whether a name is that of no source file: it ends in `.dsc`, `.deb`, `.control` or `.changes`.
+/// Whether a name is not that of a source file: it ends in `.dsc`, `.deb`, `.control` or `.changes`.
 #[tactic(auto, unfolding(suites::specs::Verdict::is_package_part))]
 pub fn is_package_part(name: &str) -> bool
     ensures { result ≡ is_package_part name.now }

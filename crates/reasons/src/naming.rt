@@ -1,4 +1,4 @@
-//! What the verdicts 1 to 5 are about, and 9: the .changes tells, with the configuration or the pool.
+//! What the verdicts 1 to 5 and 9 are about. It follows from the .changes, with the configuration or the pool.
 
 ghost use Rattle.std.specs.Prelude.{◌≡◌, Some, IfOk, option_copied, option_map, option_and_then};
 ghost use Rattle.rules.specs.Judgement.{suite_of};
@@ -27,7 +27,7 @@ fn suite_of<'a>(config: &'a Config, changes: &Changes) -> Option<&'a Suite>
     config.suites().get(position)
 }
 
-/// Of verdict 1, the distribution.
+/// Verdict 1: the distribution.
 pub fn distribution(alloc: Global, changes: &Changes) -> Result<Option<Named>, AllocError>
     ensures { IfOk result (λ found. found ≡ Some (named_distribution changes.now)) }
 {
@@ -35,7 +35,7 @@ pub fn distribution(alloc: Global, changes: &Changes) -> Result<Option<Named>, A
     Ok(Some(Named::Distribution { name }))
 }
 
-/// Of verdict 2, the first architecture that the suite does not keep.
+/// Verdict 2: the first architecture that the suite does not keep.
 pub fn architecture(config: &Config, changes: &Changes) -> Result<Option<Named>, AllocError>
     ensures { IfOk result (λ found. found ≡ option_and_then (named_architecture changes.now) (suite_of config.now changes.now)) }
 {
@@ -50,7 +50,7 @@ pub fn architecture(config: &Config, changes: &Changes) -> Result<Option<Named>,
     }
 }
 
-/// Of verdict 3, the source package and the person.
+/// Verdict 3: the source package and the person.
 pub fn uploader(alloc: Global, changes: &Changes) -> Result<Option<Named>, AllocError>
     ensures { IfOk result (λ found. found ≡ Some (named_uploader changes.now)) }
 {
@@ -59,7 +59,7 @@ pub fn uploader(alloc: Global, changes: &Changes) -> Result<Option<Named>, Alloc
     Ok(Some(Named::Uploader { source, person }))
 }
 
-/// That a file is of another component than the upload.
+/// The finding that a file is of a component other than the upload's.
 fn of_other_component(alloc: Global, upload: &str, entry: &Entry) -> Result<Named, AllocError>
     ensures { IfOk result (λ named. named ≡ of_other_component upload.now entry.now) }
 {
@@ -73,7 +73,7 @@ fn of_other_component(alloc: Global, upload: &str, entry: &Entry) -> Result<Name
     })
 }
 
-/// The first file of another component than that of the upload, else this, where the suite does not have it.
+/// The first file of a component other than the upload's, else the upload's component, if the suite does not have it.
 fn component_for(
     alloc: Global,
     suite: &Suite,
@@ -92,7 +92,7 @@ fn component_for(
     Ok(Some(Named::Component { name }))
 }
 
-/// Of verdict 4, a file or a component.
+/// Verdict 4: a file or a component.
 pub fn foreign_component(
     alloc: Global,
     config: &Config,
@@ -128,7 +128,7 @@ fn lone(changes: &Changes) -> Result<Option<Named>, AllocError>
     }
 }
 
-/// Of verdict 5, a listed file, or that there is no .dsc.
+/// Verdict 5: a listed file, or that there is no .dsc.
 pub fn listing(changes: &Changes) -> Result<Option<Named>, AllocError>
     ensures { IfOk result (λ found. found ≡ named_listing changes.now) }
 {
@@ -169,7 +169,7 @@ pub fn in_pool(
     })
 }
 
-/// Of verdict 9, the first file whose path in the pool has other contents.
+/// Verdict 9: the first file whose path in the pool has other contents.
 pub fn other_contents(
     alloc: Global,
     shelves: &Shelves,

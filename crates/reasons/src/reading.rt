@@ -39,7 +39,7 @@ fn sidecar_in(alloc: Global, text: &[u8]) -> Result<Result<Sidecar, RecordFault>
     }
 }
 
-/// Of verdict 6, what is to be said of a .dsc, which is this text.
+/// Verdict 6: what is wrong with a .dsc of this text.
 fn of_dsc(
     alloc: Global,
     changes: &Changes,
@@ -59,7 +59,7 @@ fn of_dsc(
     }
 }
 
-/// Of verdict 6, a .dsc of the upload.
+/// Verdict 6: a .dsc of the upload.
 pub fn bad_dsc(alloc: Global, upload: &Upload) -> Result<Option<Named>, AllocError>
     ensures { IfOk result (λ found. found ≡ dsc_among upload.now.changes (dsc_parts upload.now)) }
 {
@@ -72,7 +72,7 @@ pub fn bad_dsc(alloc: Global, upload: &Upload) -> Result<Option<Named>, AllocErr
     Ok(None)
 }
 
-/// Of verdict 7, what is to be said of a sidecar, which is this text, by itself.
+/// Verdict 7: what is wrong with a sidecar of this text by itself.
 fn of_sidecar(
     alloc: Global,
     changes: &Changes,
@@ -92,7 +92,7 @@ fn of_sidecar(
     }
 }
 
-/// Of verdict 7, a sidecar of the upload that is wrong by itself.
+/// Verdict 7: a sidecar of the upload that is wrong by itself.
 fn wrong_sidecar(alloc: Global, upload: &Upload) -> Result<Option<Named>, AllocError>
     ensures { IfOk result (λ found. found ≡ sidecar_among upload.now.changes (sidecar_parts upload.now)) }
 {
@@ -119,7 +119,7 @@ fn sidecars_of(alloc: Global, upload: &Upload) -> Result<Vec<Sidecar>, AllocErro
     Ok(sidecars)
 }
 
-/// That two sidecars are of one package and architecture, by the names that they have by their own fields.
+/// The finding that two sidecars are of the same package and architecture, with the names that they have by their own fields.
 fn of_twins(alloc: Global, first: &Sidecar, second: &Sidecar) -> Result<Named, AllocError>
     ensures { IfOk result (λ named. named ≡ of_twins (first.now, second.now)) }
 {
@@ -135,7 +135,7 @@ fn of_twins(alloc: Global, first: &Sidecar, second: &Sidecar) -> Result<Named, A
     })
 }
 
-/// Of verdict 7, two of some sidecars.
+/// Verdict 7: two of these sidecars that are of the same package and architecture.
 fn twins_among(alloc: Global, sidecars: &[Sidecar]) -> Result<Option<Named>, AllocError>
     ensures { IfOk result (λ found. found ≡ option_map of_twins (twins sidecars.now)) }
 {
@@ -145,7 +145,7 @@ fn twins_among(alloc: Global, sidecars: &[Sidecar]) -> Result<Option<Named>, All
     }
 }
 
-/// Of verdict 7, a sidecar of the upload that is wrong by itself, else two of one package and architecture.
+/// Verdict 7: a sidecar of the upload that is wrong by itself, else two of the same package and architecture.
 pub fn bad_sidecar(alloc: Global, upload: &Upload) -> Result<Option<Named>, AllocError>
     ensures { IfOk result (λ found. found ≡ bad_among upload.now.changes (sidecar_parts upload.now)) }
 {
@@ -156,7 +156,7 @@ pub fn bad_sidecar(alloc: Global, upload: &Upload) -> Result<Option<Named>, Allo
     twins_among(alloc, &sidecars)
 }
 
-/// Of verdict 8, a file of a .dsc, which is this text.
+/// Verdict 8: a file of a .dsc of this text.
 fn missing_of(
     alloc: Global,
     shelves: &Shelves,
@@ -181,7 +181,7 @@ fn missing_of(
     }
 }
 
-/// Of verdict 8, a file of a .dsc of the upload.
+/// Verdict 8: a file of a .dsc of the upload.
 pub fn missing(
     alloc: Global,
     shelves: &Shelves,

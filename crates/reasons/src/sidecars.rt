@@ -1,4 +1,4 @@
-//! What verdict 7 is about, where each sidecar by itself is right: two of one package and architecture.
+//! What verdict 7 is about if each sidecar by itself is right: two of the same package and architecture.
 
 ghost use Rattle.std.specs.Prelude.{◌≡◌, find, option_copied, option_map};
 ghost use Rattle.suites.specs.Verdict.{is_same_package};
@@ -21,7 +21,7 @@ fn twin<'a>(sidecar: &Sidecar, others: &'a [Sidecar]) -> Option<&'a Sidecar>
     others.iter().find(|other| is_same_package(sidecar, other))
 }
 
-/// The first of some sidecars that has the package and the architecture of a later one, and the first such.
+/// The first sidecar that has the package and the architecture of a later one, and the first such later one.
 pub fn twins(sidecars: &[Sidecar]) -> Option<(&Sidecar, &Sidecar)>
     ensures { option_map (λ p. (p.0.now, p.1.now)) result ≡ twins sidecars.now }
 {

@@ -6,7 +6,7 @@ use Rattle.std.specs.Fmt.{decimal}
 abbrev pub latest : ℕ
 latest = 4102444799
 
--- every fourth year, except the hundredth ones that are not a four hundredth one
+-- a multiple of 4, but not a multiple of 100 unless it is one of 400
 abbrev pub is_leap : ℕ → Bool
 is_leap year = (year % 4 == 0) && (not (year % 100 == 0) || (year % 400 == 0))
 

@@ -17,7 +17,7 @@ file_at e = record { path = e.0; print = e.1 }
 unfoldable pub pool_files : ShelvesValue → List PoolFile
 pool_files shelves = map file_at (entries (pool shelves))
 
--- the same of the program's map from paths
+-- the files of the program's map from paths
 abbrev pub files_in : BTreeMap (String Global) SharedFile → List PoolFile
 files_in files = map (λ e. record { path = string_bytes e.0; print = e.1.print }) files.entries
 

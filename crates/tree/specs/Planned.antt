@@ -6,7 +6,7 @@ use Rattle.tree.specs.Tree.{is_new, is_other, kept_back}
 use Rattle.tree.specs.declared.steps.Step.{Step}
 use Rattle.tree.specs.declared.steps.Step.TheVariants.{Place, Show, Remove}
 
--- what is new, what gets other contents, what the suites show, what goes
+-- first what is new, then what gets other contents, what the suites show, and what is removed
 abbrev pub planned : (List ℕ → Option Print) → List PoolFile → List ℕ → List (List ℕ) → List Step
 planned there files suites left =
     ((map Place (filter (is_new there) files) ++ map Place (filter (is_other there) files)) ++ map Show suites)

@@ -21,25 +21,25 @@ pub record IsWholeFor (first tree : Tree) : Type 0 where
   pub now : (suite : ℕ) (f : PoolFile) → Contains (tree.named suite) f → tree.pool f.path ≡ Some f.print
   pub before : (suite : ℕ) (f : PoolFile) → Contains (first.named suite) f → tree.pool f.path ≡ Some f.print
 
--- The same of files of whatever contents: a reader is never told that there is none.
+-- At each path that an index names some file is there, whatever its contents; so it is at each path named in the first tree.
 pub record IsFoundFor (first tree : Tree) : Type 0 where
   pub now : (suite : ℕ) (f : PoolFile) → Contains (tree.named suite) f → is_some (tree.pool f.path) ≡ true
   pub before : (suite : ℕ) (f : PoolFile) → Contains (first.named suite) f → is_some (tree.pool f.path) ≡ true
 
 -- ---- steps
 
--- the tree behind a step, where the new indices of suites name these files
+-- the tree after a step, if the new indices of suites name these files
 abbrev pub made : (ℕ → List PoolFile) → Tree → Step → Tree
 made new tree (Place f) = record { pool = λ path. if bytes_eq path f.path then Some f.print else tree.pool path; named = tree.named }
 made new tree (Show suite) = record { pool = tree.pool; named = λ s. if nat_eq s suite then new s else tree.named s }
 made new tree (Remove gone) = record { pool = λ path. if bytes_eq path gone then None else tree.pool path; named = tree.named }
 
--- the tree behind all of them
+-- the tree after all of the steps
 abbrev pub left_by : (ℕ → List PoolFile) → Tree → List Step → Tree
 left_by new tree [] = tree
 left_by new tree (step ∷ steps) = left_by new (made new tree step) steps
 
--- It is so before the first step, behind each, and so wherever an export is stopped.
+-- `P` holds before the first step and after each, and so wherever an export is stopped.
 abbrev pub AtEach : (ℕ → List PoolFile) → (Tree → Type 0) → Tree → List Step → Type 0
 AtEach new P tree [] = P tree
 AtEach new P tree (step ∷ steps) = P tree × AtEach new P (made new tree step) steps
@@ -50,7 +50,7 @@ AtEach new P tree (step ∷ steps) = P tree × AtEach new P (made new tree step)
 abbrev pub is_among : List PoolFile → List ℕ → Bool
 is_among files path = list_any (λ f. bytes_eq f.path path) files
 
--- what was left before, and is no file of the pool now
+-- what was left before and is not a file of the pool now
 abbrev pub kept_back : List PoolFile → List (List ℕ) → List (List ℕ)
 kept_back files left = filter (λ path. not (is_among files path)) left
 
@@ -60,7 +60,7 @@ pub record IsBegun (there : List ℕ → Option Print) (left : List (List ℕ)) 
   pub unnamed : (suite : ℕ) (f : PoolFile) → Contains (tree.named suite) f → Contains left f.path → ⊥
   pub whole : (suite : ℕ) (f : PoolFile) → Contains (tree.named suite) f → tree.pool f.path ≡ Some f.print
 
--- the new indices name files of the pool alone
+-- the new indices name only files of the pool
 abbrev pub AreShown : List PoolFile → (ℕ → List PoolFile) → Type 0
 AreShown files new = (suite : ℕ) (f : PoolFile) → Contains (new suite) f → Contains files f
 

@@ -29,10 +29,10 @@ fn in_order(
     Ok(new)
 }
 
-/// What an export does of the pool and the suites of these shelves, in this order: it writes the files of the pool of which
-/// nothing is known to be there, then those in whose place other contents are; has each of the suites, by its position in the
-/// configuration, show its new indices; and removes what was left before, and is no file of the pool. What the indices showed
-/// first, and show no more, stays until the next export.
+/// The steps of an export of the pool and the suites of these shelves. In this order it writes the files of the pool at whose
+/// paths nothing is known to be; writes those at whose paths other contents are known to be; has each of the suites, by its
+/// position in the configuration, show its new indices; and removes what was left before and is not a file of the pool. What
+/// the indices showed first and no longer show stays until the next export.
 ///
 /// `there` has the print of what is known to be there at each path, and `left` the paths that the export before left. It is
 /// refused for want of memory alone.
@@ -43,18 +43,18 @@ pub fn plan(
     suites: &[usize],
     left: &[Text],
 ) -> Result<Vec<Step>, AllocError>
-    // Which steps these are, in their order.
+    // These are the steps, in their order.
     ensures steps { IfOk result (λ steps. steps.items ≡ planned (get_by_text there.now) (pool_files shelves.now) suites.now left.now) }
     // At no moment does an index name a file that is not there.
     ensures whole { IfOk result (λ steps. KeepsWhole (get_by_text there.now) (pool_files shelves.now) left.now steps.items) }
-    // Wherever it is stopped, the next one may begin.
+    // Wherever the export is stopped, the next one may begin.
     ensures goes_on { IfOk result (λ steps. GoesOn (get_by_text there.now) (pool_files shelves.now) left.now steps.items) }
-    // Where a path gets other contents than an index names, some file is there at each moment all the same.
+    // Even if a path gets other contents than an index names, some file is there at each moment.
     ensures found { IfOk result (λ steps. KeepsFound (get_by_text there.now) (pool_files shelves.now) left.now steps.items) }
     // In the end each file of the pool is there, and these suites show what they are to show.
     ensures placed { IfOk result (λ steps. PlacesAll (get_by_text there.now) (pool_files shelves.now) left.now steps.items) }
     ensures shown { IfOk result (λ steps. ShowsAll suites.now steps.items) }
-    // What was left before is gone then, and what is neither that nor of the pool is never touched.
+    // In the end what was left before is gone. What was neither left before nor is of the pool is never touched.
     ensures gone { IfOk result (λ steps. RemovesLeft (pool_files shelves.now) left.now steps.items) }
     ensures rest { IfOk result (λ steps. TouchesNoOther (pool_files shelves.now) left.now steps.items) }
     // What is there is not written again.
@@ -68,7 +68,7 @@ pub fn plan(
     in_order(new, over, shown, removed)
 }
 
-/// The indices of the items that suites show name files of the pool alone, as `plan` asks. For the prover alone: the law is the
+/// The indices of the items that suites show name only files of the pool, as `plan` asks. For the prover alone: the law is the
 /// contract.
 pub fn suites_name_the_pool(shelves: &Shelves)
     ensures { AreShown (pool_files shelves.now) (named_by shelves.now) }

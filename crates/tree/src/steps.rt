@@ -1,4 +1,4 @@
-//! The steps of an export, a kind at a time.
+//! The steps of an export, one kind after the other.
 
 ghost use Rattle.std.specs.Prelude.{◌≡◌, map, filter, is_none, IfOk};
 ghost use Rattle.std.specs.BTreeMap.{get_by_text};
@@ -19,7 +19,7 @@ pub enum Step {
     Place(PoolFile),
     /// The suite at a position in the configuration shows its new folder of index texts: its link is renamed.
     Show(usize),
-    /// The file at a path goes, where the pool has none.
+    /// The file at a path is removed. The pool has no file there.
     Remove(Text),
 }
 
@@ -40,7 +40,7 @@ fn is_free(there: &BTreeMap<String, Print>, path: &str) -> bool
     there.get(path).is_none()
 }
 
-/// Whether other contents than a file's are known to be there.
+/// Whether contents other than a file's are known to be there.
 #[tactic(auto, unfolding(crate::specs::Tree::is_other))]
 fn is_other(there: &BTreeMap<String, Print>, path: &str, print: Print) -> bool
     ensures { result ≡ is_other (get_by_text there.now) (record { path = path.now; print = print }) }
@@ -68,7 +68,7 @@ pub fn files_of(shelves: &Shelves) -> &BTreeMap<String, SharedFile>
     files
 }
 
-/// The steps that write files of which nothing is known to be there.
+/// The steps that write the files at whose paths nothing is known to be.
 #[tactic(auto, unfolding(crate::specs::Tree::is_new))]
 pub fn placed_new(
     alloc: Global,
@@ -86,7 +86,7 @@ pub fn placed_new(
     Ok(steps)
 }
 
-/// The steps that write files in whose place other contents are known to be.
+/// The steps that write the files at whose paths other contents are known to be.
 pub fn placed_over(
     alloc: Global,
     there: &BTreeMap<String, Print>,
@@ -114,7 +114,7 @@ pub fn shown(alloc: Global, suites: &[usize]) -> Result<Vec<Step>, AllocError>
     Ok(steps)
 }
 
-/// The steps that remove what was left before, and is no file of the pool now.
+/// The steps that remove what was left before and is not a file of the pool now.
 pub fn removed(alloc: Global, shelves: &Shelves, left: &[Text]) -> Result<Vec<Step>, AllocError>
     ensures { IfOk result (λ steps. steps.items ≡ map Remove (kept_back (pool_files shelves.now) left.now)) }
 {

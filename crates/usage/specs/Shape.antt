@@ -46,7 +46,7 @@ at_rule = record (word_rule (codes "at")) { long = Some (codes "at"); value_name
 abbrev pub optional_at_rule : Rule
 optional_at_rule = record at_rule { required = false }
 
--- --NAME and a value behind it, which may be left out
+-- --NAME with a value after it, which may be left out
 abbrev pub option_rule : Text → Rule
 option_rule name = record (new_rule name) { long = Some name; value_names = 1; action = Some Set }
 
@@ -64,7 +64,7 @@ try_app = with_rule (new_app (codes "try")) path_rule
 abbrev pub compare_app : App
 compare_app = with_rule (with_rule (new_app (codes "compare")) (word_rule (codes "A"))) (word_rule (codes "B"))
 
--- a command on the archive of a database, and one that is handed a moment too
+-- a command on the archive of a database, and one that is also given a moment
 abbrev pub db_app : Text → App
 db_app name = with_rule (new_app name) db_rule
 
@@ -131,24 +131,24 @@ export_options =
 abbrev pub export_app : App
 export_app = with_rule export_options (word_rule (codes "DIR"))
 
--- the options of `serve` alone
+-- the options of `serve` up to `--signed`
 abbrev pub serve_options : App
 serve_options =
     with_rule (with_rule (with_rule (with_rule (timed_app (codes "serve")) (option_rule (codes "moments"))) (flag_rule (codes "log"))) (option_rule (codes "export")))
     (flag_rule (codes "signed"))
 
--- the same with `--unsigned`
+-- the options of `serve` up to `--unsigned`
 abbrev pub serve_unsigned : App
 serve_unsigned = with_rule serve_options (flag_rule (codes "unsigned"))
 
--- the same with `--by-hash` too
+-- the options of `serve` up to `--by-hash`
 abbrev pub serve_by_hash : App
 serve_by_hash = with_rule serve_unsigned (flag_rule (codes "by-hash"))
 
 abbrev pub serve_app : App
 serve_app = with_rule (with_rule serve_by_hash (word_rule (codes "ADDRESS"))) count_rule
 
--- `archive`, its name not among the words, with its version: one command is wanted, and where there are no words, help is given
+-- `archive` with its version. Its own name is not among the words that it reads. One command is required; without any word, help is printed.
 abbrev pub new_archive : App
 new_archive = record (new_app (codes "archive")) {
   top = record (new_app (codes "archive")).top {

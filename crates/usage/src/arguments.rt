@@ -1,7 +1,7 @@
 //! The arguments of the program's commands.
 //!
 //! clap promises for the program's own arguments that a required one is there, and not for those of a command. So each command asks for its
-//! values again. A line that lacked one would be refused (L2): tests know of none.
+//! values again. A line that lacked one would be refused (L2); tests have found no such line.
 
 ghost use Rattle.std.specs.Prelude.{◌≡◌, codes, false};
 ghost use Rattle.clap.specs.Words.{rule_of};
@@ -104,7 +104,7 @@ pub fn optional_at<'a>(alloc: Global, meaning: &'a str) -> Arg<'a>
         .help(meaning)
 }
 
-/// `--NAME`, a value behind it, and what that means. It may be left out.
+/// `--NAME` with a value after it, and what that means. It may be left out.
 pub fn option<'a>(alloc: Global, name: &'a str, value: &'a str, meaning: &'a str) -> Arg<'a>
     ensures rule { rule_of result ≡ option_rule name.now }
     ensures local { result.global ≡ false }
@@ -116,7 +116,7 @@ pub fn option<'a>(alloc: Global, name: &'a str, value: &'a str, meaning: &'a str
         .help(meaning)
 }
 
-/// `--moments MOMENTS`, a file whose numbers the moments of later connections are.
+/// `--moments MOMENTS`, a file whose numbers are the moments of later connections.
 pub fn moments<'a>(alloc: Global) -> Arg<'a>
     ensures rule { rule_of result ≡ option_rule (codes "moments") }
     ensures local { result.global ≡ false }
@@ -129,7 +129,7 @@ pub fn moments<'a>(alloc: Global) -> Arg<'a>
     )
 }
 
-/// `--export DIR`, a folder that is exported to behind each request that may change what suites show.
+/// `--export DIR`, a folder to export to after each request that may change what suites show.
 pub fn export<'a>(alloc: Global) -> Arg<'a>
     ensures rule { rule_of result ≡ option_rule (codes "export") }
     ensures local { result.global ≡ false }

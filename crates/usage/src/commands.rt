@@ -364,7 +364,7 @@ pub fn export_command<'a>(alloc: Global) -> Result<Command<'a>, AllocError>
     )
 }
 
-/// The command that serves, with its options alone.
+/// The command that serves, with its options up to `--signed`.
 fn serve_with_options<'a>(alloc: Global) -> Result<Command<'a>, AllocError>
     ensures { IfOk result (IsCommand serve_options) }
 {
@@ -379,7 +379,7 @@ fn serve_with_options<'a>(alloc: Global) -> Result<Command<'a>, AllocError>
     with_arg(command, signed(alloc))
 }
 
-/// The same with `--unsigned`.
+/// The command that serves, with its options up to `--unsigned`.
 fn serve_with_unsigned<'a>(alloc: Global) -> Result<Command<'a>, AllocError>
     ensures { IfOk result (IsCommand serve_unsigned) }
 {
@@ -387,7 +387,7 @@ fn serve_with_unsigned<'a>(alloc: Global) -> Result<Command<'a>, AllocError>
     with_arg(command, unsigned(alloc))
 }
 
-/// The same with `--by-hash` too.
+/// The command that serves, with its options up to `--by-hash`.
 fn serve_with_by_hash<'a>(alloc: Global) -> Result<Command<'a>, AllocError>
     ensures { IfOk result (IsCommand serve_by_hash) }
 {
